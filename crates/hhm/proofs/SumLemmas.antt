@@ -1,0 +1,105 @@
+-- What one more block of cells does to a sum.
+use Rattle.std.proofs.Common.{◌≡◌, ◌≢◌, ℕ, zero, suc, ◌+◌, ◌<◌, ◌≤◌, ◌^◌, List, [], ◌∷◌, ◌++◌, length, Option, Some, None, map, refl, sym, ◌∙◌, ap, arith, Bool, true, false, cond, ltb, ◌&&◌}
+use Rattle.std.proofs.lemmas.Bool.{ltb-false}
+use Rattle.mm_text.specs.Bounds.{IsWithin, AreWithin}
+use Rattle.mm_text.specs.declared.cell.Cell.{Cell}
+use Rattle.hyper_matrix.specs.Counts.{Counts, ewise_add, total}
+use Rattle.hyper_matrix.specs.Cells.{built_of, cell_total, entry_of, first_fault}
+use Rattle.std.specs.FinMap.{entries}
+use Rattle.hhm.specs.Sum.{cell_of, cells_in_order, matrix_text}
+use Rattle.mm_text.specs.Canonical.{canonical}
+use Rattle.hyper_matrix.proofs.BuildLaws.{built_joined, built_of-none, total-built_of}
+use Rattle.layer_cascade.specs.Cascade.{cascade, content}
+use Rattle.layer_cascade.specs.Layering.{Layering, IsLayering, no_layers}
+use Rattle.layer_cascade.proofs.KeptLemmas.{content-no_layers}
+use Rattle.hyper_matrix.specs.Matrix.{Matrix, matrix}
+use Rattle.hhm.specs.Running.{LayersSum}
+use Rattle.layer_cascade.proofs.CascadeLaws.{content-cascade}
+use Rattle.hyper_matrix.specs.declared.judge.BuildFault.{BuildFault}
+use Rattle.hyper_matrix.specs.declared.judge.BuildFault.TheVariants.{IndexOutOfRange, SumTooLarge}
+
+within_first : (r c : ℕ) (cell : Cell) (cells : List Cell) → AreWithin r c (cell ∷ cells) → IsWithin r c cell
+within_first r c cell cells h = h 0 cell (omega arith)
+
+within_rest : (r c : ℕ) (cell : Cell) (cells : List Cell) → AreWithin r c (cell ∷ cells) → AreWithin r c cells
+within_rest r c cell cells h k d l = h (suc k) d (omega arith)
+
+-- cells within the dimensions are no matrix only where their counts pass 64 bits
+pub fault_passes : (r c s : ℕ) (cells : List Cell) (fault : BuildFault) → AreWithin r c cells → first_fault r c s cells ≡ Some fault → 2 ^ 64 ≤ s + cell_total cells
+fault_passes r c s [] fault h e = absurd (cc)
+fault_passes r c s (x ∷ xs) fault h e =
+    step (fault_passes r c (s + x.count) xs fault (within_rest r c x xs h)) (ltb x.row r) (ltb x.col c) (ltb (s + x.count) (2 ^ 64)) refl refl refl e
+  where
+    step : (first_fault r c (s + x.count) xs ≡ Some fault → 2 ^ 64 ≤ s + x.count + cell_total xs) → (p q b : Bool) → ltb x.row r ≡ p → ltb x.col c ≡ q → ltb (s + x.count) (2 ^ 64) ≡ b → cond (p && q) (cond b (first_fault r c (s + x.count) xs) (Some SumTooLarge)) (Some IndexOutOfRange) ≡ Some fault → 2 ^ 64 ≤ s + (x.count + cell_total xs)
+    step rest true true true t u v e = omega (arith, rest e)
+    step rest true true false t u v e = omega (arith, ltb-false (s + x.count) (2 ^ 64) v)
+    step rest true false b t u v e = omega (arith, ltb-false x.col c u, (within_first r c x xs h).1)
+    step rest false q b t u v e = omega (arith, ltb-false x.row r t, (within_first r c x xs h).0)
+
+pub cell_total-append : (xs ys : List Cell) → cell_total (xs ++ ys) ≡ cell_total xs + cell_total ys
+cell_total-append [] ys = omega arith
+cell_total-append (x ∷ xs) ys = let h = cell_total-append xs ys in omega arith
+
+-- Behind these cells, a block that is no matrix passes 64 bits.
+pub block_passes : (layers : Layering) (fault : BuildFault) (block : List Cell) → first_fault layers.rows layers.cols 0 block ≡ Some fault →
+    (rows cols : ℕ) (cells : List Cell) → AreWithin rows cols block → LayersSum rows cols cells layers → 2 ^ 64 ≤ cell_total (cells ++ block)
+block_passes layers fault block e rows cols cells within sum =
+    let there : AreWithin layers.rows layers.cols block = rw (sum.rows_are, sum.cols_are) within in
+    let h = fault_passes layers.rows layers.cols 0 block fault there e in
+    omega (arith, h, cell_total-append cells block)
+
+-- Behind these cells, a block whose counts do not fit beside those of the layers passes 64 bits.
+pub totals_pass : (layers : Layering) (m : Matrix) (r c : ℕ) (block : List Cell) → m ≡ matrix r c (built_of block) → 2 ^ 64 ≤ total (content layers.layers) + total m.counts →
+    (rows cols : ℕ) (cells : List Cell) → AreWithin rows cols block → LayersSum rows cols cells layers → 2 ^ 64 ≤ cell_total (cells ++ block)
+totals_pass layers m r c block is passes rows cols cells within sum =
+    let one : total (content layers.layers) ≡ cell_total cells = ap total sum.sum_is ∙ total-built_of cells in
+    let two : total m.counts ≡ cell_total block = ap (λ (n : Matrix). total n.counts) is ∙ total-built_of block in
+    omega (arith, one, two, passes, cell_total-append cells block)
+
+-- A block was added.
+pub block_added : (layers after : Layering) (m : Matrix) (r c : ℕ) (block : List Cell) → IsLayering layers → m ≡ matrix r c (built_of block) →
+    after ≡ record layers { layers = cascade layers.layers layers.cuts m.counts } →
+    (rows cols : ℕ) (cells : List Cell) → AreWithin rows cols block → LayersSum rows cols cells layers → LayersSum rows cols (cells ++ block) after
+block_added layers after m r c block kept is added rows cols cells within sum = record {
+  rows_are = ap (λ (l : Layering). l.rows) added ∙ sum.rows_are;
+  cols_are = ap (λ (l : Layering). l.cols) added ∙ sum.cols_are;
+  sum_is = ap (λ (l : Layering). content l.layers) added
+      ∙ content-cascade layers.layers layers.cuts m.counts kept.count
+      ∙ ap (λ n. ewise_add n m.counts) sum.sum_is
+      ∙ ap (λ (n : Matrix). ewise_add (built_of cells) n.counts) is
+      ∙ sym (built_joined cells block);
+}
+
+-- Layers with nothing in them sum up no cells.
+pub no_cells : (r c : ℕ) (cuts : List ℕ) (layers : Layering) → layers ≡ no_layers r c cuts → LayersSum r c [] layers
+no_cells r c cuts layers is = record {
+  rows_are = ap (λ (l : Layering). l.rows) is;
+  cols_are = ap (λ (l : Layering). l.cols) is;
+  sum_is = ap (λ (l : Layering). content l.layers) is ∙ content-no_layers (length cuts + 1) ∙ built_of-none [] refl;
+}
+
+-- What has passed stays so.
+pub stays_passed : (cells block : List Cell) → 2 ^ 64 ≤ cell_total cells → 2 ^ 64 ≤ cell_total (cells ++ block)
+stays_passed cells block h = omega (arith, h, cell_total-append cells block)
+
+-- The sum of the layers is what their cells build, and its counts fit 64 bits together.
+pub layers_sum : (layers : Layering) (m : Matrix) → IsLayering layers → m ≡ matrix layers.rows layers.cols (content layers.layers) →
+    (rows cols : ℕ) (cells : List Cell) → LayersSum rows cols cells layers → (m ≡ matrix rows cols (built_of cells)) × (cell_total cells < 2 ^ 64)
+layers_sum layers m kept is rows cols cells sum = (
+  is ∙ ap (λ n. matrix n layers.cols (content layers.layers)) sum.rows_are ∙ ap (λ n. matrix rows n (content layers.layers)) sum.cols_are ∙ ap (matrix rows cols) sum.sum_is,
+  let total_is : total (content layers.layers) ≡ cell_total cells = ap total sum.sum_is ∙ total-built_of cells in omega (arith, total_is, kept.fits),
+)
+
+-- cells whose entries are those of a map are its cells in order
+pub ordered : (cells : List Cell) (counts : Counts) → map entry_of cells ≡ entries counts → cells ≡ cells_in_order counts
+ordered cells counts e = sym (back cells) ∙ ap (map cell_of) e
+  where
+    back : (xs : List Cell) → map cell_of (map entry_of xs) ≡ xs
+    back [] = refl
+    back (x ∷ xs) = ap (λ ys. x ∷ ys) (back xs)
+
+-- the canonical text of a matrix, by a list of its cells
+pub text_is : (m : Matrix) (r c : ℕ) (cells list : List Cell) → ◌≡◌ {A = ℕ × ℕ} (r, c) (m.rows, m.cols) → list ≡ cells → map entry_of cells ≡ entries m.counts → canonical r c list ≡ matrix_text m
+unfolding matrix_text
+text_is m r c cells list dims is order =
+    ap (λ (p : ℕ × ℕ). canonical p.0 p.1 list) dims ∙ ap (canonical m.rows m.cols) (is ∙ ordered cells m.counts order)

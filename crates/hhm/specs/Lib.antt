@@ -1,0 +1,5 @@
+pub mod Options
+pub mod Sum
+pub mod Running
+pub mod Faults
+pub mod Reading

@@ -1,0 +1,64 @@
+-- What `sum` makes of a text: the cells of its list, each with the sum of its counts, by row and then by column.
+use Rattle.std.specs.Prelude.{◌≡◌, ◌≢◌, ℕ, ◌+◌, ◌<◌, ◌≤◌, ◌^◌, List, map, length, Result}
+use Rattle.std.specs.FinMap.{entries}
+use Rattle.mm_text.specs.Canonical.{canonical}
+use Rattle.mm_text.specs.Streams.{Calls, bytes_of_calls, Explains}
+use Rattle.mm_text.specs.Texts.{Spells}
+use Rattle.mm_text.specs.declared.cell.Cell.{Cell}
+use Rattle.mm_text.specs.declared.fault.DeviceFault.{DeviceFault}
+use Rattle.mm_text.specs.declared.fault.MmKind.{MmKind}
+use Rattle.mm_text.specs.declared.fault.MmKind.TheVariants.{Read, Memory}
+use Rattle.mm_text.specs.declared.limits.TextLimits.{TextLimits}
+use Rattle.hyper_matrix.specs.Counts.{Place, Counts}
+use Rattle.hyper_matrix.specs.Matrix.{Matrix, matrix}
+use Rattle.hyper_matrix.specs.Cells.{built_of, cell_total}
+
+-- 2^40 bytes, and as many declared entries
+abbrev pub sum_limits : TextLimits
+sum_limits = record { max_bytes = 2 ^ 40; max_entries = 2 ^ 40 }
+
+abbrev pub cell_of : Place × ℕ → Cell
+cell_of entry = record { row = entry.0.0; col = entry.0.1; count = entry.1 }
+
+-- the cells of a matrix, by row and then by column
+abbrev pub cells_in_order : Counts → List Cell
+cells_in_order counts = map cell_of (entries counts)
+
+-- the canonical text of a matrix
+unfoldable pub matrix_text : Matrix → List ℕ
+matrix_text m = canonical m.rows m.cols (cells_in_order m.counts)
+
+-- the canonical text of the matrix that a list of cells builds
+abbrev pub sum_text : ℕ → ℕ → List Cell → List ℕ
+sum_text rows cols cells = matrix_text (matrix rows cols (built_of cells))
+
+-- These calls read a text to the source's end, none failed, and the text spells this list of cells.
+pub record ReadsText {S : Type 0} (gives : S → Result (List ℕ) DeviceFault → S → Type 0) (at_end : S → Type 0) (failures : S → ℕ) (s t : S) (rows cols : ℕ) (cells : List Cell) : Type 0 where
+  pub answers : List (Result (List ℕ) DeviceFault)
+  pub calls : Calls gives s answers t
+  pub reads : length answers ≤ 2 ^ 40 + 2
+  pub ended : at_end t
+  pub none_failed : failures t ≡ failures s
+  pub spells : Spells (bytes_of_calls answers) sum_limits rows cols cells
+
+-- The text that these calls read spells a list of cells whose counts fit 64 bits together.
+pub record SumsText {S : Type 0} (gives : S → Result (List ℕ) DeviceFault → S → Type 0) (at_end : S → Type 0) (failures : S → ℕ) (s t : S) (rows cols : ℕ) (cells : List Cell) : Type 0 where
+  pub reads_text : ReadsText gives at_end failures s t rows cols cells
+  pub fits : cell_total cells < 2 ^ 64
+
+-- The text that these calls read spells a list of cells whose counts do not.
+pub record SumPasses {S : Type 0} (gives : S → Result (List ℕ) DeviceFault → S → Type 0) (at_end : S → Type 0) (failures : S → ℕ) (s t : S) : Type 0 where
+  pub rows : ℕ
+  pub cols : ℕ
+  pub cells : List Cell
+  pub reads_text : ReadsText gives at_end failures s t rows cols cells
+  pub passes : 2 ^ 64 ≤ cell_total cells
+
+-- These calls read a text up to a fault of this kind and line: the text's first, or a read that failed.
+pub record StopsText {S : Type 0} (gives : S → Result (List ℕ) DeviceFault → S → Type 0) (at_end : S → Type 0) (failures : S → ℕ) (s t : S) (kind : MmKind) (line : ℕ) : Type 0 where
+  pub answers : List (Result (List ℕ) DeviceFault)
+  pub calls : Calls gives s answers t
+  pub reads : length answers ≤ 2 ^ 40 + 2
+  pub explains : Explains (bytes_of_calls answers) sum_limits (at_end t) (failures t ≡ failures s + 1) kind line
+  pub no_memory_fault : kind ≢ Memory
+  pub read_alone_fails : kind ≢ Read → failures t ≡ failures s

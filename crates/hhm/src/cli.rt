@@ -1,0 +1,54 @@
+//! The command line: the words of the program, as `clap` reads them.
+
+use clap::{Arg, Command};
+use std::alloc::{AllocError, Global};
+
+/// The cuts of `sum` where no `--cuts` is given.
+pub const DEFAULT_SUM_CUTS: &str = "4096";
+
+const ABOUT: &str = "Sums counted cells (row, column, count) into a hypersparse matrix, exactly";
+
+const SUM_ABOUT: &str =
+    "Sum a Matrix Market text from standard input, and write the canonical text of the sum";
+
+const SUM_HELP: &str = "\
+Reads one Matrix Market text (matrix coordinate, integer or unsigned-integer,
+general or symmetric) from standard input to its end, adds the counts of each
+cell, and writes the sum to standard output: a Matrix Market text with the cells
+by row and then by column. Counts and totals go up to 18446744073709551615.
+
+Nothing is written unless the whole text was read without a fault. A fault is
+one line on standard error:
+
+  hhm: settings: NAME              status 2
+  hhm: text: KIND at line N        status 3 (KIND Read: 4)
+  hhm: sum: SumTooLarge            status 3
+  hhm: output failed after N bytes status 4
+  hhm: memory                      status 5";
+
+const CUTS_HELP: &str =
+    "The cuts of the layers, rising, each 1 to 1099511627776, at most 7, with commas between; or none";
+
+fn sum_command<'a>(alloc: Global) -> Result<Command<'a>, AllocError> {
+    let cuts = Arg::new(alloc, "cuts")
+        .long("cuts")
+        .value_name("LIST")
+        .default_value(DEFAULT_SUM_CUTS)
+        .help(CUTS_HELP);
+    Command::new(alloc, "sum")
+        .about(SUM_ABOUT)
+        .after_help(SUM_HELP)
+        .arg(cuts)
+}
+
+/// The command line of the program.
+pub fn command<'a>(alloc: Global) -> Result<Command<'a>, AllocError> {
+    let sum = sum_command(alloc)?;
+    Command::new(alloc, "hhm")
+        .bin_name("hhm")?
+        .version("0.1.0")
+        .about(ABOUT)
+        .subcommand_required(true)
+        .arg_required_else_help(true)
+        .subcommand(sum)
+}

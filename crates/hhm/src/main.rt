@@ -1,0 +1,79 @@
+//! `hhm`: sums counted cells (row, column, count) into hypersparse matrices, exactly.
+//!
+//! The program reads the words of its command line, runs what they ask for over standard input and output, and says a
+//! fault in one line on standard error. What a sum is, and that it is what is written, stands in `sum`.
+#![tactic(auto)]
+
+mod cli;
+mod fault;
+mod numbers;
+mod report;
+mod running_sum;
+mod sum;
+
+use crate::numbers::read_list;
+use crate::report::Fault;
+use crate::sum::run_sum;
+use clap::error::ErrorKind;
+use clap::{ArgMatches, Error};
+use mm_text::{Counted, write_all};
+use std::alloc::AllocError;
+use std::env;
+use std::process::ExitCode;
+
+fn main(rt: HostRuntime) -> ExitCode {
+    match run(&rt) {
+        Ok(code) => code,
+        Err(fault) => {
+            let _ = eprintln!(rt; "hhm: {fault}");
+            fault.exit_code()
+        }
+    }
+}
+
+/// Reads the command line, and does what it asks for.
+fn run(rt: &HostRuntime) -> Result<ExitCode, Fault> {
+    let alloc = rt.alloc();
+    let Ok(args) = env::args(rt) else {
+        let _ = eprintln!(rt; "error: the command line is not UTF-8, or too large");
+        return Ok(ExitCode::from(2));
+    };
+    let words: Vec<String> = args.collect(alloc)?;
+    let command = cli::command(alloc)?;
+    match command.try_get_matches_from(words.as_slice()) {
+        Ok(matches) => run_matches(rt, &matches),
+        Err(error) => tell(rt, &error),
+    }
+}
+
+/// Does what a command line that was read asks for.
+fn run_matches(rt: &HostRuntime, matches: &ArgMatches) -> Result<ExitCode, Fault> {
+    if let Some(sum) = matches.subcommand_matches("sum") {
+        let list = sum.get_str("cuts").unwrap_or(cli::DEFAULT_SUM_CUTS);
+        run_sum_word(rt, list)?;
+    }
+    Ok(ExitCode::SUCCESS)
+}
+
+/// Sums the text on standard input, and writes the sum to standard output.
+fn run_sum_word(rt: &HostRuntime, list: &str) -> Result<(), Fault> {
+    let cuts = read_list(rt.alloc(), list)?;
+    let mut input = Counted::new(rt.stdin());
+    let mut output = Counted::new(rt.stdout());
+    run_sum(rt.alloc(), &mut input, &mut output, &cuts)?;
+    Ok(())
+}
+
+/// Prints what `clap` has to say: help and the version to standard output, a mistake to standard error.
+fn tell(rt: &HostRuntime, error: &Error) -> Result<ExitCode, Fault> {
+    if error.kind() == ErrorKind::OutOfMemory {
+        return Err(Fault::from(AllocError));
+    }
+    if error.use_stderr() {
+        let _ = rt.eprint(error);
+        return Ok(ExitCode::from(2));
+    }
+    let text = error.to_string(rt.alloc())?;
+    write_all(&mut Counted::new(rt.stdout()), text.as_bytes())?;
+    Ok(ExitCode::SUCCESS)
+}

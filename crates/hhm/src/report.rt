@@ -1,0 +1,89 @@
+//! What the program says of a fault, and the status that it ends with.
+
+use crate::fault::SumFault;
+use crate::numbers::ListFault;
+use mm_text::{MmFault, MmKind, WriteFault};
+use std::alloc::AllocError;
+use std::fmt;
+use std::process::ExitCode;
+
+/// Why the program ends without success.
+#[derive(Clone, Copy, Debug, PartialEq, Eq)]
+pub enum Fault {
+    /// A number or a list of an option doesn't have its form.
+    BadNumber,
+    /// `sum` wrote no sum, or not all of it.
+    Sum(SumFault),
+}
+
+impl From<SumFault> for Fault {
+    fn from(fault: SumFault) -> Fault {
+        Fault::Sum(fault)
+    }
+}
+
+impl From<ListFault> for Fault {
+    fn from(fault: ListFault) -> Fault {
+        match fault {
+            ListFault::BadNumber => Fault::BadNumber,
+            ListFault::Memory => Fault::Sum(SumFault::Memory),
+        }
+    }
+}
+
+impl From<AllocError> for Fault {
+    fn from(_: AllocError) -> Fault {
+        Fault::Sum(SumFault::Memory)
+    }
+}
+
+impl From<WriteFault> for Fault {
+    fn from(fault: WriteFault) -> Fault {
+        Fault::Sum(SumFault::Output(fault))
+    }
+}
+
+/// The line that stands behind `hhm: ` on standard error.
+impl fmt::Display for Fault {
+    fn fmt<W: fmt::Write>(&self, f: &mut fmt::Formatter<W>) -> fmt::Result {
+        match *self {
+            Fault::BadNumber => write!(f, "settings: BadNumber"),
+            Fault::Sum(SumFault::BadCuts) => write!(f, "settings: BadCuts"),
+            Fault::Sum(SumFault::Text(MmFault { kind, line })) => {
+                write!(f, "text: {kind:?} at line {line}")
+            }
+            Fault::Sum(SumFault::SumTooLarge) => write!(f, "sum: SumTooLarge"),
+            Fault::Sum(SumFault::Memory) => write!(f, "memory"),
+            Fault::Sum(SumFault::Output(WriteFault { written })) => {
+                write!(f, "output failed after {written} bytes")
+            }
+        }
+    }
+}
+
+impl Fault {
+    /// The status: 2 for settings, 3 for what the text says, 4 for a device, 5 for memory.
+    pub fn status(self) -> u8 {
+        match self {
+            Fault::BadNumber => 2,
+            Fault::Sum(SumFault::BadCuts) => 2,
+            Fault::Sum(
+                SumFault::Text(
+                    MmFault {
+                        kind: MmKind::Read,
+                        ..
+                    },
+                ),
+            ) => 4,
+            Fault::Sum(SumFault::Text(_)) => 3,
+            Fault::Sum(SumFault::SumTooLarge) => 3,
+            Fault::Sum(SumFault::Output(_)) => 4,
+            Fault::Sum(SumFault::Memory) => 5,
+        }
+    }
+
+    /// The status as the process ends with it.
+    pub fn exit_code(self) -> ExitCode {
+        ExitCode::from(self.status())
+    }
+}

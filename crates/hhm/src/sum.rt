@@ -1,0 +1,167 @@
+//! `sum`: reads a text, adds its cells into layers block by block, and writes the canonical text of the sum.
+//!
+//! The list of the text's cells is never held: memory goes to the layers and to one block. The time is that of one pass
+//! over the text, of the additions that the cuts ask for, and of one pass over the sum.
+ghost use Rattle.std.specs.Prelude.{◌≡◌, ℕ, ◌+◌, ◌<◌, ◌≤◌, ◌^◌, List, ◌⊎◌, ◌↔◌, OnOk, IfOk, IfErr, Err, Some, []};
+ghost use Rattle.mm_text.specs.declared.size.Size.{Size};
+ghost use Rattle.mm_text.specs.Writing.{HasTaken, HasStopped};
+ghost use Rattle.mm_text.specs.declared.cell.Cell.{Cell};
+ghost use Rattle.mm_text.specs.declared.fault.MmFault.{MmFault};
+ghost use Rattle.mm_text.specs.declared.fault.WriteFault.{WriteFault};
+ghost use Rattle.layer_cascade.specs.Cuts.{AreCuts};
+ghost use Rattle.hhm.specs.Faults.{IsOutput};
+ghost use Rattle.hhm.specs.Reading.{IsSized, IsSumming, HasSummed, Excuses};
+ghost use Rattle.hhm.specs.Running.{IsSumOf};
+ghost use Rattle.mm_text.specs.Readings.{size_of};
+ghost use Rattle.hhm.specs.Sum.{sum_text, matrix_text, StopsText, SumsText, SumPasses};
+
+use crate::fault::SumFault;
+use crate::running_sum::RunningSum;
+use hyper_matrix::Hyper;
+use layer_cascade::are_cuts;
+use mm_text::{Cell, Sink, Source, TextLimits, TextReader, write_matrix};
+use std::alloc::{AllocError, Global};
+
+/// The most cells of the list that go into the layers at once.
+const BLOCK: usize = 4096;
+
+/// What a text may take.
+const LIMITS: TextLimits = TextLimits {
+    max_bytes: 1 << 40,
+    max_entries: 1 << 40,
+};
+
+// Adds the block that was read last, reads the next in its place, and so on to the text's end. Gives the sum of all.
+fn sum_blocks<R: Source>(
+    alloc: Global,
+    r: &mut R,
+    reader: &mut TextReader,
+    block: &mut Vec<Cell>,
+    first: RunningSum,
+) -> Result<RunningSum, SumFault>
+    requires { R.failure_count r.old + 1 < 2 ^ 64 }
+    ensures ok { IfOk result (λ sum. (s : R) (size : Size) →
+        IsSumming R.read_gives R.at_end R.failure_count s r.old reader.old size first block.old.items →
+        HasSummed R.read_gives R.at_end R.failure_count s r.new size sum) }
+    ensures err { IfErr result (λ fault. (s : R) (size : Size) →
+        IsSumming R.read_gives R.at_end R.failure_count s r.old reader.old size first block.old.items →
+        Excuses R.read_gives R.at_end R.failure_count s r.new fault) }
+{
+    let mut sum = first;
+    'text: for _ in 0..u64::MAX {
+        sum = sum.add(alloc, block)?;
+        block.clear();
+        match reader.read_block(r, block, BLOCK) {
+            Ok(true) => {}
+            Ok(false) => {
+                let all = sum.add(alloc, block)?;
+                return Ok(all);
+            }
+            Err(fault) => return Err(SumFault::from(fault)),
+        }
+    }
+    // Not reached: no text has so many blocks.
+    Err(SumFault::Memory)
+}
+
+// The sum of no cells, in the dimensions of the size line that was read.
+fn empty_sum(alloc: Global, reader: &TextReader, cuts: &[u64]) -> Result<RunningSum, SumFault>
+    requires sized { IsSized reader.now }
+    requires cuts { AreCuts cuts.now }
+    ensures ok { IfOk result (λ sum. (size : Size) → size_of reader.now ≡ Some size → IsSumOf size.rows size.cols [] sum) }
+    ensures err { IfErr result (λ fault. fault ≡ SumFault.Memory) }
+{
+    let Some(size) = reader.size() else {
+        unreachable!()
+    };
+    match RunningSum::new(alloc, size.rows, size.cols, cuts) {
+        Ok(sum) => Ok(sum),
+        Err(_) => Err(SumFault::Memory),
+    }
+}
+
+// Reads a text to its end, and gives the sum of its cells.
+fn read_running<R: Source>(alloc: Global, r: &mut R, cuts: &[u64]) -> Result<RunningSum, SumFault>
+    requires failures { R.failure_count r.old + 1 < 2 ^ 64 }
+    requires cuts { AreCuts cuts.now }
+    ensures ok { IfOk result (λ sum. (size : Size) × HasSummed R.read_gives R.at_end R.failure_count r.old r.new size sum) }
+    ensures err { IfErr result (λ fault. Excuses R.read_gives R.at_end R.failure_count r.old r.new fault) }
+{
+    let mut reader = TextReader::new(alloc, LIMITS)?;
+    let mut block = Vec::with_capacity(alloc, BLOCK)?;
+    match reader.read_block(r, &mut block, BLOCK) {
+        Ok(true) => {
+            let none = empty_sum(alloc, &reader, cuts)?;
+            sum_blocks(alloc, r, &mut reader, &mut block, none)
+        }
+        Ok(false) => {
+            let none = empty_sum(alloc, &reader, cuts)?;
+            let sum = none.add(alloc, &block)?;
+            Ok(sum)
+        }
+        Err(fault) => Err(SumFault::from(fault)),
+    }
+}
+
+// Writes the canonical text of a matrix.
+fn write_sum<W: Sink>(alloc: Global, w: &mut W, m: &Hyper) -> Result<(), SumFault>
+    requires { W.failure_count w.old + 1 < 2 ^ 64 }
+    ensures ok { OnOk result (HasTaken W.write_takes W.failure_count w.old w.new (matrix_text m.now)) }
+    ensures output { (fault : WriteFault) → result ≡ Err (SumFault.Output fault) →
+        HasStopped W.write_takes W.failure_count w.old w.new (matrix_text m.now) fault.written }
+    ensures other { IfErr result (λ fault. IsOutput fault ⊎ ((fault ≡ SumFault.Memory) × (w.new ≡ w.old))) }
+{
+    let (rows, cols) = m.dims();
+    let cells = m.cells(alloc)?;
+    match write_matrix(w, rows, cols, &cells) {
+        Ok(()) => Ok(()),
+        Err(fault) => Err(SumFault::Output(fault)),
+    }
+}
+
+/// Sums the cells of a Matrix Market text, and writes the canonical text of the sum.
+///
+/// The cells of the text's list go into layers with these cuts (none to seven, rising, each 1 to 2^40 entries), in blocks of
+/// at most 4,096; then the sum of the layers is written, its cells by row and then by column. The cuts decide time and
+/// memory, and never what is written.
+///
+/// # Errors
+///
+/// In this order: `BadCuts` before anything is read; at its place in the text, `Text`; `SumTooLarge` once the text was read
+/// to its end without a fault; `Memory` where memory ran out; `Output` where the sink failed or took nothing. Only `Output`
+/// leaves anything written: the first bytes of the canonical text, as many as it says. What was read has been read.
+///
+/// A text may have at most 2^40 bytes and declare at most 2^40 entries. `r` and `w` must have failed less than
+/// 2^64 - 1 times before. `w` is not flushed.
+pub fn run_sum<R: Source, W: Sink>(
+    alloc: Global,
+    r: &mut R,
+    w: &mut W,
+    cuts: &[u64],
+) -> Result<(), SumFault>
+    requires reads { R.failure_count r.old + 1 < 2 ^ 64 }
+    requires writes { W.failure_count w.old + 1 < 2 ^ 64 }
+
+    // The text was read to its end and spells a list that fits; what was written is the canonical text of its sum.
+    ensures ok { OnOk result ((rows cols : ℕ) × (cells : List Cell) × SumsText R.read_gives R.at_end R.failure_count r.old r.new rows cols cells
+        × HasTaken W.write_takes W.failure_count w.old w.new (sum_text rows cols cells)) }
+
+    ensures cuts { (result ≡ Err SumFault.BadCuts) ↔ (AreCuts cuts.now → ⊥) }
+    ensures unread { result ≡ Err SumFault.BadCuts → r.new ≡ r.old }
+    ensures text { (fault : MmFault) → result ≡ Err (SumFault.Text fault) →
+        StopsText R.read_gives R.at_end R.failure_count r.old r.new fault.kind fault.line }
+    ensures too_large { result ≡ Err SumFault.SumTooLarge → SumPasses R.read_gives R.at_end R.failure_count r.old r.new }
+    ensures output { (fault : WriteFault) → result ≡ Err (SumFault.Output fault) →
+        (rows cols : ℕ) × (cells : List Cell) × SumsText R.read_gives R.at_end R.failure_count r.old r.new rows cols cells
+        × HasStopped W.write_takes W.failure_count w.old w.new (sum_text rows cols cells) fault.written }
+    ensures unwritten { IfErr result (λ fault. IsOutput fault ⊎ (w.new ≡ w.old)) }
+{
+    if !are_cuts(cuts) {
+        return Err(SumFault::BadCuts);
+    }
+    let sum = read_running(alloc, r, cuts)?;
+    match sum.into_matrix(alloc) {
+        Ok(m) => write_sum(alloc, w, &m),
+        Err(fault) => Err(fault),
+    }
+}

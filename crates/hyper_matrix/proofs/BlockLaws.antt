@@ -1,0 +1,59 @@
+-- Cells in blocks: what a push adds, and what stands from a block on.
+use Rattle.std.proofs.Common.{◌≡◌, ℕ, zero, suc, ◌+◌, ◌<◌, ◌≤◌, List, [], ◌∷◌, ◌++◌, length, get_or, take, drop, sym, ◌∙◌, ap, subst, refl, arith, append_assoc}
+use Rattle.std.specs.declared.sync.Arc.{Arc}
+use Rattle.std.specs.Arc.{arc_value}
+use Rattle.std.proofs.lemmas.List.{append-nil, take_more}
+use Rattle.hyper_matrix.specs.Counts.{Place, count_sum}
+use Rattle.hyper_matrix.specs.Rows.{Rows, AreRising, cells_of}
+use Rattle.hyper_matrix.specs.Blocks.{all_cells, block_cells, IsBlock, AreBlocks, Grows}
+
+pub sum-append : (xs ys : List (Place × ℕ)) → count_sum (xs ++ ys) ≡ count_sum xs + count_sum ys
+sum-append [] ys = omega arith
+sum-append (x ∷ xs) ys = omega (arith, sum-append xs ys)
+
+module _ {Z : Type 0} where
+  pub all_cells-append : (a b : List (Arc Rows Z)) → all_cells (a ++ b) ≡ all_cells a ++ all_cells b
+  all_cells-append [] b = refl
+  all_cells-append (x ∷ a) b = ap (λ (r : List (Place × ℕ)). cells_of (arc_value x) ++ r) (all_cells-append a b) ∙ sym (append_assoc (cells_of (arc_value x)) (all_cells a) (all_cells b))
+
+  blocks-append : (a : List (Arc Rows Z)) (x : Arc Rows Z) → AreBlocks a → IsBlock (arc_value x) → AreBlocks (a ++ x ∷ [])
+  blocks-append [] x f h = (h, tt)
+  blocks-append (y ∷ a) x f h = (f.0, blocks-append a x f.1 h)
+
+  -- one block more
+  pub grows_by : (old new : List (Arc Rows Z)) (block : Arc Rows Z) (rows : Rows) → AreBlocks old → new ≡ old ++ block ∷ [] → arc_value block ≡ rows → IsBlock rows → Grows old new (cells_of rows)
+  grows_by old new block rows f is value one = record {
+    blocks = subst AreBlocks (sym is) (blocks-append old block f (subst IsBlock (sym value) one));
+    told = ap all_cells is ∙ all_cells-append old (block ∷ []) ∙ ap (λ (r : List (Place × ℕ)). all_cells old ++ r) (append-nil (cells_of (arc_value block)) ∙ ap cells_of value);
+  }
+
+  -- none more
+  pub grows_none : (old : List (Arc Rows Z)) (rows : Rows) → AreBlocks old → length rows ≤ 0 → Grows old old (cells_of rows)
+  grows_none old [] f h = record { blocks = f; told = sym (append-nil (all_cells old)) }
+  grows_none old (x ∷ rows) f h = absurd (omega arith)
+
+  pub block_at : (blocks : List (Arc Rows Z)) (i : ℕ) (d : Arc Rows Z) → AreBlocks blocks → i < length blocks → IsBlock (arc_value (get_or blocks i d))
+  block_at [] i d f h = absurd (omega arith)
+  block_at (x ∷ blocks) zero d f h = f.0
+  block_at (x ∷ blocks) (suc i) d f h = block_at blocks i d f.1 (omega arith)
+
+  pub block_cells_at : (blocks : List (Arc Rows Z)) (i : ℕ) (d : Arc Rows Z) → i < length blocks → block_cells blocks i ≡ cells_of (arc_value (get_or blocks i d))
+  block_cells_at [] i d h = absurd (omega arith)
+  block_cells_at (x ∷ blocks) zero d h = refl
+  block_cells_at (x ∷ blocks) (suc i) d h = block_cells_at blocks i d (omega arith)
+
+  -- the cells from block i on are those of block i and of what comes behind it
+  pub cells_from : (blocks : List (Arc Rows Z)) (i : ℕ) → i < length blocks → all_cells (drop i blocks) ≡ block_cells blocks i ++ all_cells (drop (i + 1) blocks)
+  cells_from [] i h = absurd (omega arith)
+  cells_from (x ∷ blocks) zero h = ap (λ n. cells_of (arc_value x) ++ all_cells (drop n (x ∷ blocks))) {x = 1} {y = 0 + 1} refl
+  cells_from (x ∷ blocks) (suc i) h = cells_from blocks i (omega arith) ∙ ap (λ n. block_cells blocks i ++ all_cells (drop n (x ∷ blocks))) {x = suc (i + 1)} {y = suc i + 1} (omega arith)
+
+  pub block_sum : (blocks : List (Arc Rows Z)) (i : ℕ) → count_sum (block_cells blocks i) ≤ count_sum (all_cells blocks)
+  block_sum [] i = omega arith
+  block_sum (x ∷ blocks) zero = omega (arith, sum-append (cells_of (arc_value x)) (all_cells blocks))
+  block_sum (x ∷ blocks) (suc i) = omega (arith, sum-append (cells_of (arc_value x)) (all_cells blocks), block_sum blocks i)
+
+  -- the cells of one block more
+  pub one_block_more : (blocks : List (Arc Rows Z)) (i : ℕ) (d : Arc Rows Z) (cells : List (Place × ℕ)) → i < length blocks → cells ≡ cells_of (arc_value (get_or blocks i d)) → all_cells (take (i + 1) blocks) ≡ all_cells (take i blocks) ++ cells
+  one_block_more blocks i d cells h is =
+      ap all_cells (take_more blocks i d h) ∙ all_cells-append (take i blocks) (get_or blocks i d ∷ []) ∙ ap (λ (r : List (Place × ℕ)). all_cells (take i blocks) ++ r) (append-nil (cells_of (arc_value (get_or blocks i d))) ∙ sym is)

@@ -1,0 +1,17 @@
+pub mod CountLaws
+pub mod MergeLaws
+pub mod RowLaws
+pub mod CellLaws
+pub mod MatrixLaws
+pub mod BlockLaws
+pub mod BuildLaws
+pub mod SortLaws
+pub mod PlaceLaws
+pub mod OrderLaws
+pub mod CutLaws
+pub mod SumLaws
+pub mod RowEndLaws
+pub mod LookupLaws
+pub mod FindLaws
+pub mod RowOfLaws
+pub mod QueryLaws

@@ -1,0 +1,25 @@
+use Rattle.std.proofs.Common.{ℕ, List, ◌++◌, subst, sym, ap, ◌∙◌, arith, drop, length}
+use Rattle.std.proofs.lemmas.List.{append-nil}
+use Rattle.hyper_matrix.specs.Counts.{Place}
+use Rattle.hyper_matrix.specs.Rows.{AreRising}
+use Rattle.hyper_matrix.specs.Blocks.{all_cells}
+use Rattle.hyper_matrix.proofs.CutLaws.{whole_ends, whole_rows, cut_rising, no_cells}
+use Rattle.hyper_matrix.proofs.cut.push_blocks.Goals as goal
+
+pub cut-init : goal.cut-init
+cut-init c = record {
+  within = omega arith;
+  ends = whole_ends c.parts.result.0.now c.parts.result.1.now c.parts.ensures.well;
+  blocks = c.requires.blocks;
+  told = ap (λ (r : List (Place × ℕ)). all_cells c.args.out.now.items ++ r) (whole_rows c.parts.result.0.now c.parts.result.1.now c.args.rows.now c.parts.ensures.rows);
+}
+
+pub push_block-requires-clause-rising : goal.push_block-requires-clause-rising
+push_block-requires-clause-rising c =
+    subst AreRising (sym c.in_ok-block.ensures) (cut_rising c.parts.result.0.now c.parts.result.1.now c.cut.row c.cut.from c.row_ending-last.result c.min-to.result (subst AreRising (sym c.parts.ensures.rows) c.requires.rising) c.row_ending-last.ensures)
+
+pub returns : goal.returns
+returns c = record {
+  blocks = c.cut.invariant.blocks;
+  told = sym (append-nil (all_cells c.cut.out.items)) ∙ ap (λ (r : List (Place × ℕ)). all_cells c.cut.out.items ++ r) (sym (no_cells c.cut.from (drop c.cut.row c.parts.result.0.now) c.parts.result.1.now c.cut.invariant.ends c.cut-test.false)) ∙ c.cut.invariant.told;
+}

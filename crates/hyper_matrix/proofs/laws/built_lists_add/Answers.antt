@@ -1,0 +1,5 @@
+use Rattle.hyper_matrix.proofs.BuildLaws.{built_joined}
+use Rattle.hyper_matrix.proofs.laws.built_lists_add.Goals as goal
+
+pub returns : goal.returns
+returns c = built_joined

@@ -1,0 +1,5 @@
+use Rattle.hyper_matrix.proofs.BuildLaws.{built_names}
+use Rattle.hyper_matrix.proofs.laws.built_names_places.Goals as goal
+
+pub returns : goal.returns
+returns c = built_names

@@ -1,0 +1,5 @@
+use Rattle.hyper_matrix.proofs.BuildLaws.{built_counts}
+use Rattle.hyper_matrix.proofs.laws.built_sums_counts.Goals as goal
+
+pub returns : goal.returns
+returns c = built_counts

@@ -1,0 +1,5 @@
+use Rattle.hyper_matrix.proofs.BuildLaws.{total-built_of}
+use Rattle.hyper_matrix.proofs.laws.built_total.Goals as goal
+
+pub returns : goal.returns
+returns c = total-built_of

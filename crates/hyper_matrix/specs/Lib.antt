@@ -1,0 +1,10 @@
+pub mod Counts
+pub mod Merged
+pub mod Rows
+pub mod Matrix
+pub mod Blocks
+pub mod Shared
+pub mod Cells
+pub mod Places
+pub mod Lookup
+pub mod RowOf

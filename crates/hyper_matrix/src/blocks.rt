@@ -1,0 +1,188 @@
+//! Cells in blocks of bounded size, each a run of compressed nonempty rows that is shared and never changed.
+//!
+//! A sum goes through the blocks of one matrix in order and gives each the cells of the other that lie below the next
+//! block's first place. A block that gets none is shared: a pointer, where flat rows would be written anew. Any other
+//! is added up into new rows, and cut in two or more if these passed `MOST`. So a small matrix joins a large one for the
+//! price of the blocks that it touches and a pointer for each other. A sum takes no entry away, so blocks never crumble.
+//! The other matrix comes as a list of cells: any part of it is a slice, also one that begins inside a row.
+ghost use Rattle.std.specs.Prelude.{◌≡◌, ℕ, [], ◌+◌, ◌-◌, ◌<◌, ◌≤◌, ◌^◌, ◌++◌, T, OnOk, IfOk, length, slice_range, drop, map};
+ghost use Rattle.std.specs.FinMap.{is_sorted};
+ghost use Rattle.std.specs.Arc.{arc_value};
+ghost use Rattle.std.specs.Ordering.{is_lt};
+ghost use Rattle.hyper_matrix.specs.Counts.{place_cmp, count_sum, built, ewise_add};
+ghost use Rattle.hyper_matrix.specs.Rows.{Rows, AreRising, cells_of};
+ghost use Rattle.hyper_matrix.specs.Blocks.{all_cells, block_cells, IsBlock, AreBlocks, Grows, GrowsBySum, ends_from};
+ghost use Rattle.hyper_matrix.specs.Places.{Less, AllPlaces, Precede, BeginsFrom};
+ghost use Rattle.hyper_matrix.specs.Cells.{entry_of, place_of, cell_total};
+
+use crate::build::rows_of_sorted;
+use crate::cut::push_blocks;
+use crate::rows::Rows;
+use mm_text::Cell;
+use std::alloc::{AllocError, Global};
+use std::sync::Arc;
+
+/// The most cells in a block. Measured: where 4,096 random cells join 8 million, 256 takes a tenth of the time of flat
+/// rows, 4,096 a third; smaller blocks cost pointers.
+pub const MOST: usize = 256;
+
+/// Appends a block, unless it is empty.
+pub fn push_block(alloc: Global, out: &mut Vec<Arc<Rows>>, rows: Rows) -> Result<(), AllocError>
+    requires blocks { AreBlocks out.old.items }
+    requires rising { AreRising rows }
+    ensures { OnOk result (Grows out.old.items out.new.items (cells_of rows)) }
+{
+    if rows.row_count() > 0 {
+        let block = Arc::new(alloc, rows)?;
+        out.push(block)?;
+    }
+    Ok(())
+}
+
+// Appends a block that another matrix has too.
+fn push_shared(out: &mut Vec<Arc<Rows>>, block: &Arc<Rows>) -> Result<(), AllocError>
+    requires blocks { AreBlocks out.old.items }
+    requires other { IsBlock (arc_value block.now) }
+    ensures { OnOk result (Grows out.old.items out.new.items (cells_of (arc_value block.now))) }
+{
+    let block = Arc::try_clone(block)?;
+    out.push(block)?;
+    Ok(())
+}
+
+// Appends the sum of a block and cells.
+fn push_sum(
+    alloc: Global,
+    out: &mut Vec<Arc<Rows>>,
+    block: &Arc<Rows>,
+    cells: &[Cell],
+) -> Result<(), AllocError>
+    requires blocks { AreBlocks out.old.items }
+    requires other { IsBlock (arc_value block.now) }
+    requires sorted { T (is_sorted place_cmp (cells_of (arc_value block.now))) }
+    requires cells { T (is_sorted place_cmp (map entry_of cells.now)) }
+    requires fits { count_sum (cells_of (arc_value block.now)) + cell_total cells.now < 2 ^ 64 }
+    ensures { OnOk result (GrowsBySum out.old.items out.new.items (cells_of (arc_value block.now)) (map entry_of cells.now)) }
+{
+    if cells.len() == 0 {
+        push_shared(out, block)?;
+        return Ok(());
+    }
+    let piece = rows_of_sorted(alloc, cells)?;
+    let sum = block.add(alloc, &piece)?;
+    if sum.entry_count() <= MOST {
+        push_block(alloc, out, sum)?;
+        return Ok(());
+    }
+    push_blocks(alloc, out, &sum)?;
+    Ok(())
+}
+
+// Whether a cell stands before this place.
+fn is_below(cell: Cell, row: u64, col: u64) -> bool
+    ensures { result ≡ is_lt (place_cmp (place_of cell) (row, col)) }
+{
+    cell.row < row || (cell.row == row && cell.col < col)
+}
+
+// The end of the cells from `from` on that stand before this place.
+fn end_below(cells: &[Cell], from: usize, row: u64, col: u64) -> usize
+    requires { from ≤ length cells.now }
+    ensures range { (from ≤ result) × (result ≤ length cells.now) }
+    ensures below { AllPlaces (λ p. Less p (row, col)) (map entry_of (slice_range cells.now from result)) }
+    ensures rest { BeginsFrom (row, col) (map entry_of (drop result cells.now)) }
+{
+    let mut end = from;
+    'seek: while end < cells.len() && is_below(cells[end], row, col) {
+        end += 1;
+    }
+    end
+}
+
+// The end of the cells from j on that belong to block i: those that stand before the next block.
+fn end_of_block(blocks: &[Arc<Rows>], i: usize, cells: &[Cell], j: usize) -> usize
+    requires blocks { AreBlocks blocks.now }
+    requires sorted { T (is_sorted place_cmp (all_cells (drop i blocks.now))) }
+    requires cells { T (is_sorted place_cmp (map entry_of (drop j cells.now))) }
+    requires here { i < length blocks.now }
+    requires within { j ≤ length cells.now }
+    ensures range { (j ≤ result) × (result ≤ length cells.now) }
+    ensures left { Precede (map entry_of (slice_range cells.now j result)) (all_cells (drop (i + 1) blocks.now)) }
+    ensures right { Precede (block_cells blocks.now i) (map entry_of (drop result cells.now)) }
+    ensures last { i + 1 ≡ length blocks.now → result ≡ length cells.now }
+{
+    if i + 1 < blocks.len() {
+        let next = &blocks[i + 1];
+        let (row, col) = next.first();
+        end_below(cells, j, row, col)
+    } else {
+        cells.len()
+    }
+}
+
+/// The sum of blocks and cells, in blocks. A block that no cell belongs to is shared.
+pub fn sum_blocks(
+    alloc: Global,
+    blocks: &[Arc<Rows>],
+    cells: &[Cell],
+) -> Result<Vec<Arc<Rows>>, AllocError>
+    requires blocks { AreBlocks blocks.now }
+    requires some { 0 < length blocks.now }
+    requires sorted { T (is_sorted place_cmp (all_cells blocks.now)) }
+    requires cells { T (is_sorted place_cmp (map entry_of cells.now)) }
+    requires fits { count_sum (all_cells blocks.now) + cell_total cells.now < 2 ^ 64 }
+    ensures blocks { IfOk result (λ out. AreBlocks out.items) }
+    ensures sorted { IfOk result (λ out. T (is_sorted place_cmp (all_cells out.items))) }
+    ensures sums { IfOk result (λ out. built (all_cells out.items) ≡ ewise_add (built (all_cells blocks.now)) (built (map entry_of cells.now))) }
+{
+    let mut out = Vec::with_capacity(alloc, blocks.len())?;
+    let mut i = 0;
+    let mut j = 0;
+    'steps: while i < blocks.len() {
+        let end = end_of_block(blocks, i, cells, j);
+        push_sum(alloc, &mut out, &blocks[i], &cells[j..end])?;
+        j = end;
+        i += 1;
+    }
+    Ok(out)
+}
+
+/// The number of cells up to each block, from the front. More cells than 64 bits can count would need more memory than
+/// there is, and stand for a want of it.
+pub fn count_ends(alloc: Global, blocks: &[Arc<Rows>]) -> Result<Vec<u64>, AllocError>
+    ensures { IfOk result (λ ends. ends.items ≡ ends_from 0 blocks.now) }
+{
+    let mut ends = Vec::with_capacity(alloc, blocks.len())?;
+    let mut at = 0u64;
+    for block in blocks {
+        let end = at
+            .checked_add(block.entry_count() as u64)
+            .ok_or(AllocError)?;
+        ends.push(end)?;
+        at = end;
+    }
+    Ok(ends)
+}
+
+/// The same blocks once more, shared.
+pub fn share_all(alloc: Global, blocks: &[Arc<Rows>]) -> Result<Vec<Arc<Rows>>, AllocError>
+    requires { AreBlocks blocks.now }
+    ensures blocks { IfOk result (λ shared. AreBlocks shared.items) }
+    ensures same { IfOk result (λ shared. all_cells shared.items ≡ all_cells blocks.now) }
+{
+    let mut shared = Vec::with_capacity(alloc, blocks.len())?;
+    for block in blocks {
+        push_shared(&mut shared, block)?;
+    }
+    Ok(shared)
+}
+
+/// Appends the cells of all blocks, by row and then by column.
+pub fn push_all_cells(out: &mut Vec<Cell>, blocks: &[Arc<Rows>]) -> Result<(), AllocError>
+    ensures { OnOk result (map entry_of out.new.items ≡ map entry_of out.old.items ++ all_cells blocks.now) }
+{
+    for block in blocks {
+        block.push_cells(out)?;
+    }
+    Ok(())
+}

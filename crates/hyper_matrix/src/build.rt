@@ -1,0 +1,131 @@
+//! Rows from lists of cells, as `GrB_Matrix_build` with plus as `dup`.
+//!
+//! A list that is in order is read where it stands, and any other is copied and sorted in place first, by row and then
+//! by column. The sort needn't keep the order of equal places, since their counts are added up. One pass then makes the
+//! rows: a pending cell takes up the counts of its place, and is pushed when the next place comes, so that no entry is
+//! written twice. The time is that of the sort, n log n, or of two passes over a list in order.
+ghost use Rattle.std.specs.Prelude.{◌≡◌, ℕ, [], ◌<◌, ◌^◌, ◌++◌, OnOk, IfOk, IsPermutation, IsSortedByKey, IsTrue, length};
+ghost use Rattle.hyper_matrix.specs.Counts.{place_cmp, built};
+ghost use Rattle.hyper_matrix.specs.Rows.{AreRows, InOrder, rows_of, cells_of};
+ghost use Rattle.hyper_matrix.specs.Cells.{place_of, Follows, NeverFall, cell_total, built_of};
+
+use crate::rows::Rows;
+use mm_text::Cell;
+use std::alloc::{AllocError, Global};
+
+// Sorts cells by row, and then by column.
+fn sort_cells(cells: &mut [Cell])
+    ensures permutation { IsPermutation cells.old cells.new }
+    ensures sorted { NeverFall cells.new }
+{
+    cells.sort_unstable_by_key(|cell| (cell.row, cell.col));
+}
+
+// Rows of sorted cells, with the counts of equal places added up.
+fn push_cells(
+    heads: &mut Vec<(u64, usize)>,
+    entries: &mut Vec<(u64, u64)>,
+    cells: &[Cell],
+) -> Result<(), AllocError>
+    requires no_heads { heads.old.items ≡ [] }
+    requires no_entries { entries.old.items ≡ [] }
+    requires some { 0 < length cells.now }
+    requires sorted { NeverFall cells.now }
+    requires fits { cell_total cells.now < 2 ^ 64 }
+    ensures well { OnOk result (AreRows heads.new.items entries.new.items) }
+    ensures order { OnOk result (InOrder (rows_of heads.new.items entries.new.items)) }
+    ensures told { OnOk result (built (cells_of (rows_of heads.new.items entries.new.items)) ≡ built_of cells.now) }
+{
+    let mut row = cells[0].row;
+    let mut col = cells[0].col;
+    let mut count = cells[0].count;
+    let mut i = 1;
+    'steps: while i < cells.len() {
+        let cell = cells[i];
+        if cell.row != row {
+            entries.push((col, count))?;
+            let end = entries.len();
+            heads.push((row, end))?;
+            row = cell.row;
+            col = cell.col;
+            count = cell.count;
+            i += 1;
+        } else if cell.col != col {
+            entries.push((col, count))?;
+            col = cell.col;
+            count = cell.count;
+            i += 1;
+        } else {
+            count += cell.count;
+            i += 1;
+        }
+    }
+    entries.push((col, count))?;
+    let end = entries.len();
+    heads.push((row, end))?;
+    Ok(())
+}
+
+// The counts of all cells together.
+pub fn total_of(cells: &[Cell]) -> u64
+    requires { cell_total cells.now < 2 ^ 64 }
+    ensures { result ≡ cell_total cells.now }
+{
+    let mut sum = 0;
+    for cell in cells {
+        sum += cell.count;
+    }
+    sum
+}
+
+// Whether the second cell's place is not below the first's.
+fn follows(last: Cell, next: Cell) -> bool
+    ensures { IsTrue result → Follows last next }
+{
+    last.row < next.row || (last.row == next.row && last.col <= next.col)
+}
+
+// Whether no cell's place is below the one before.
+fn is_in_order(cells: &[Cell]) -> bool
+    ensures { IsTrue result → NeverFall cells.now }
+{
+    let mut i = 1;
+    'pairs: while i < cells.len() {
+        if !follows(cells[i - 1], cells[i]) {
+            return false;
+        }
+        i += 1;
+    }
+    true
+}
+
+/// The rows of a list of cells that is in order.
+pub fn rows_of_sorted(alloc: Global, cells: &[Cell]) -> Result<Rows, AllocError>
+    requires some { 0 < length cells.now }
+    requires sorted { NeverFall cells.now }
+    requires fits { cell_total cells.now < 2 ^ 64 }
+    ensures order { IfOk result InOrder }
+    ensures told { IfOk result (λ rows. built (cells_of rows) ≡ built_of cells.now) }
+{
+    let mut heads = Vec::with_capacity(alloc, cells.len())?;
+    let mut entries = Vec::with_capacity(alloc, cells.len())?;
+    push_cells(&mut heads, &mut entries, cells)?;
+    Ok(Rows::from_parts(heads, entries))
+}
+
+// The rows of a list of cells. A list that is in order is read where it stands.
+pub fn rows_of_cells(alloc: Global, cells: &[Cell]) -> Result<Rows, AllocError>
+    requires some { 0 < length cells.now }
+    requires fits { cell_total cells.now < 2 ^ 64 }
+    ensures order { IfOk result InOrder }
+    ensures told { IfOk result (λ rows. built (cells_of rows) ≡ built_of cells.now) }
+{
+    if is_in_order(cells) {
+        let rows = rows_of_sorted(alloc, cells)?;
+        return Ok(rows);
+    }
+    let mut sorted = Vec::from_slice(alloc, cells)?;
+    sort_cells(&mut sorted);
+    let rows = rows_of_sorted(alloc, &sorted)?;
+    Ok(rows)
+}

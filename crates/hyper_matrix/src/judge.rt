@@ -1,0 +1,33 @@
+//! The judgement of a list of cells, before anything is made of it: one pass that takes no memory.
+ghost use Rattle.std.specs.Prelude.{◌≡◌, ℕ, ◌<◌, ◌^◌};
+ghost use Rattle.hyper_matrix.specs.Cells.{first_fault};
+
+use mm_text::Cell;
+
+/// Why a list of cells makes no matrix.
+#[derive(Clone, Copy, Debug, PartialEq, Eq)]
+pub enum BuildFault {
+    /// Memory was refused. The list itself has no fault.
+    Memory,
+    /// A cell's row or column is not within the dimensions.
+    IndexOutOfRange,
+    /// The counts up to a cell come to 2^64 or more.
+    SumTooLarge,
+}
+
+/// The fault of the first cell that has one: at each cell its place, and then the running total.
+pub fn judge_cells(rows: u64, cols: u64, cells: &[Cell]) -> Option<BuildFault>
+    ensures { result ≡ first_fault rows cols 0 cells.now }
+{
+    let mut sum = 0u64;
+    for cell in cells {
+        if cell.row >= rows || cell.col >= cols {
+            return Some(BuildFault::IndexOutOfRange);
+        }
+        match sum.checked_add(cell.count) {
+            Some(more) => sum = more,
+            None => return Some(BuildFault::SumTooLarge),
+        }
+    }
+    None
+}

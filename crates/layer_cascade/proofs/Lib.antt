@@ -1,0 +1,5 @@
+pub mod CascadeLaws
+pub mod CutLemmas
+pub mod LayerLemmas
+pub mod KeptLemmas
+pub mod RowLemmas

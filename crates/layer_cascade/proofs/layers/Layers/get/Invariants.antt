@@ -1,0 +1,12 @@
+use Rattle.std.proofs.Common.{◌≡◌, ◌≤◌, ◌⊎◌, None, take}
+use Rattle.std.specs.FinMap.{get}
+use Rattle.hyper_matrix.specs.Counts.{place_cmp}
+use Rattle.layer_cascade.specs.Cascade.{content}
+use Rattle.layer_cascade.specs.Shared.{values, all_counts}
+use Rattle.layer_cascade.proofs.layers.Layers.get.Given as goal
+
+abbrev pub invariant-counts : goal.invariant-counts
+invariant-counts l = record {
+  found : l.count ≡ get (content (take l.layer-index (all_counts (values l.layer-items)))) (l.row, l.col);
+  outside : (l.self.rows ≤ l.row) ⊎ (l.self.cols ≤ l.col) → l.count ≡ None;
+}

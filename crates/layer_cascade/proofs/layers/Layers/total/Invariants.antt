@@ -1,0 +1,8 @@
+use Rattle.std.proofs.Common.{◌≡◌, take}
+use Rattle.hyper_matrix.specs.Counts.{total}
+use Rattle.layer_cascade.specs.Cascade.{content}
+use Rattle.layer_cascade.specs.Shared.{values, all_counts}
+use Rattle.layer_cascade.proofs.layers.Layers.total.Given as goal
+
+abbrev pub invariant-totals : goal.invariant-totals
+invariant-totals l = l.sum ≡ total (content (take l.layer-index (all_counts (values l.layer-items))))

@@ -1,0 +1,5 @@
+pub mod Cascade
+pub mod Cuts
+pub mod Layering
+pub mod Shared
+pub mod Columns

@@ -1,0 +1,281 @@
+//! The layers, the two steps of an addition, and the look-ups in the sum of all layers.
+//!
+//! Layer 1 is the smallest and is merged at nearly every addition; a layer further up is merged only where the ones below it have
+//! outgrown their cuts. With cuts that grow by a constant factor an entry is so merged a few times for each layer, where one large
+//! matrix would be written anew for each addition.
+//!
+//! Each layer is shared and never changed in place, so a plan takes over the layers that it leaves by a pointer, and to commit it is to
+//! exchange pointers. A look-up asks each layer and puts the answers together; only `Layers::sum` builds the sum.
+ghost use Rattle.std.specs.Prelude.{◌≡◌, ℕ, ◌+◌, ◌<◌, ◌≤◌, ◌^◌, ◌⊎◌, ◌↔◌, IfOk, IfSome};
+ghost use Rattle.std.specs.FinMap.{get, len};
+ghost use Rattle.mm_text.specs.Bounds.{IsDimension};
+ghost use Rattle.hyper_matrix.specs.Counts.{Place, total};
+ghost use Rattle.hyper_matrix.specs.Matrix.{matrix};
+ghost use Rattle.layer_cascade.specs.Cascade.{cascade, content};
+ghost use Rattle.layer_cascade.specs.Cuts.{AreCuts};
+ghost use Rattle.hyper_matrix.specs.RowOf.{row_of};
+ghost use Rattle.layer_cascade.specs.Columns.{FirstColumn};
+ghost use Rattle.layer_cascade.specs.Layering.{IsLayering, no_layers, entries_of_layer};
+
+use crate::cuts::are_cuts;
+use crate::fault::CascadeFault;
+use crate::lookup::{column_from, earlier, plus};
+use crate::settle::{added, push_copies, settle, settled_layers};
+use hyper_matrix::{Hyper, RowSum};
+use std::alloc::{AllocError, Global};
+use std::marker::Model;
+use std::sync::{Arc, ArcSlice};
+
+/// From 1 to 8 layers of matrices of the same dimensions, and a cut for each layer but the last: the most entries that it may have
+/// between additions.
+///
+/// Contracts see the dimensions, each from 1 to 2^60, the cuts, and the list of what each layer holds, the first layer first. The cuts
+/// are kept at any time, and the total of all layers is below 2^64.
+#[derive(Drop)]
+pub struct Layers {
+    rows: u64,
+    cols: u64,
+    cuts: ArcSlice<u64>,
+    // The empty matrix, shared by all layers that hold nothing.
+    empty: Arc<Hyper>,
+    layers: Vec<Arc<Hyper>>,
+}
+
+impl Model for Layers {
+    ghost use Rattle.layer_cascade.specs.Layering.{Layering, layering, coded_layering};
+    ghost use Rattle.layer_cascade.specs.Shared.{values, all_counts, KeepsLayers};
+    ghost use Rattle.std.specs.Arc.{arc_value, arc_slice_items};
+
+    ghost Value = { Layering };
+
+    ghost coded = { coded_layering };
+
+    ghost view = { λ a. layering a.rows a.cols (arc_slice_items a.cuts) (all_counts (values a.layers.items)) };
+
+    ghost invariant = { λ a. KeepsLayers a.rows a.cols (arc_slice_items a.cuts) (values a.layers.items) (arc_value a.empty) };
+}
+
+/// An addition that has been worked out, and that `Layers::commit` makes.
+///
+/// Contracts see it as the layers that it leaves. It owns what is new in them, and shares the rest with the layers that it was made
+/// from. To drop it is to give the addition up.
+#[derive(Drop)]
+pub struct Plan {
+    after: Layers,
+}
+
+impl Model for Plan {
+    ghost use Rattle.layer_cascade.specs.Layering.{Layering, coded_layering};
+
+    ghost Value = { Layering };
+
+    ghost coded = { coded_layering };
+
+    ghost view = { λ a. a.after };
+}
+
+// Empty layers with these cuts.
+fn empty_layers(alloc: Global, rows: u64, cols: u64, cuts: &[u64]) -> Result<Layers, AllocError>
+    requires rows { IsDimension rows }
+    requires cols { IsDimension cols }
+    requires cuts { AreCuts cuts.now }
+    ensures { IfOk result (λ layers. layers ≡ no_layers rows cols cuts.now) }
+{
+    let empty = Arc::new(alloc, Hyper::new(alloc, rows, cols))?;
+    let mut layers = Vec::with_capacity(alloc, cuts.len() + 1)?;
+    push_copies(&mut layers, &empty, cuts.len() + 1)?;
+    let cuts = ArcSlice::from_slice(alloc, cuts)?;
+    Ok(Layers {
+        rows,
+        cols,
+        cuts,
+        empty,
+        layers,
+    })
+}
+
+impl Layers {
+    /// Empty layers, one more than there are cuts, for matrices with these numbers of rows and columns, each from 1 to 2^60. The
+    /// first cut is that of layer 1. Takes memory for the layers alone.
+    ///
+    /// # Errors
+    ///
+    /// - `BadCuts`: there are more than 7 cuts, a cut is outside 1 to 2^40, or one isn't greater than the one before it. This is
+    ///   judged first, before any growth.
+    /// - `Memory`: a growth was refused.
+    pub fn new(alloc: Global, rows: u64, cols: u64, cuts: &[u64]) -> Result<Layers, CascadeFault>
+        requires rows { IsDimension rows }
+        requires cols { IsDimension cols }
+        ensures ok { IfOk result (λ layers. layers ≡ no_layers rows cols cuts.now) }
+        ensures cuts { (result ≡ Err CascadeFault.BadCuts) ↔ (AreCuts cuts.now → ⊥) }
+    {
+        if !are_cuts(cuts) {
+            return Err(CascadeFault::BadCuts);
+        }
+        let layers = empty_layers(alloc, rows, cols, cuts)?;
+        Ok(layers)
+    }
+
+    /// The numbers of rows and of columns, each from 1 to 2^60. Constant time.
+    pub fn dims(&self) -> (u64, u64)
+        ensures value { result ≡ (self.now.rows, self.now.cols) }
+        ensures kept { IsLayering self.now }
+    {
+        (self.rows, self.cols)
+    }
+
+    /// The cuts, in entries, that of layer 1 first: at most 7, from 1 to 2^40, each greater than the one before it. Constant time.
+    pub fn cuts(&self) -> &[u64]
+        ensures value { result.now ≡ self.now.cuts }
+        ensures kept { IsLayering self.now }
+    {
+        self.cuts.as_slice()
+    }
+
+    /// Works out the addition of `m`, and makes all its growth. The layers are as before, also on an error.
+    ///
+    /// `m` with the layers from 1 up to the first one that can hold them within its cut becomes that layer, and the layers below it
+    /// are empty: each cascades into the next (Kepner, Davis and others, 2020). The caller sees to it that the dimensions are equal
+    /// and that both totals together stay below 2^64.
+    ///
+    /// Takes the time and memory of the sums up to that layer, in which blocks that meet no other are shared. The layers above it
+    /// aren't read.
+    ///
+    /// # Errors
+    ///
+    /// A growth was refused.
+    pub fn plan(&self, alloc: Global, m: &Hyper) -> Result<Plan, AllocError>
+        requires rows { m.now.rows ≡ self.now.rows }
+        requires cols { m.now.cols ≡ self.now.cols }
+        requires fits { total (content self.now.layers) + total m.now.counts < 2 ^ 64 }
+        ensures { IfOk result (λ plan. plan ≡ record self.now { layers = cascade self.now.layers self.now.cuts m.now.counts }) }
+    {
+        let settled = settle(alloc, &self.layers, &self.cuts, m)?;
+        let layers = settled_layers(alloc, &self.layers, &self.empty, settled)?;
+        let cuts = self.cuts.clone()?;
+        let empty = Arc::try_clone(&self.empty)?;
+        let after = Layers {
+            rows: self.rows,
+            cols: self.cols,
+            cuts,
+            empty,
+            layers,
+        };
+        Ok(Plan { after })
+    }
+
+    /// Puts the planned layers in place of these. It can't fail and takes no memory; what nobody else shares of the old layers is
+    /// freed.
+    ///
+    /// The plan is to be of these layers as they are now. One that was made before another addition would undo that.
+    pub fn commit(&mut self, plan: Plan)
+        ensures { self.new ≡ plan }
+    {
+        *self = plan.after;
+    }
+
+    /// The sum of all layers, as a matrix of its own that shares blocks with them. Takes the time and memory of adding the layers up,
+    /// from the first to the last.
+    ///
+    /// # Errors
+    ///
+    /// A growth was refused. The layers are as before in any case.
+    pub fn sum(&self, alloc: Global) -> Result<Hyper, AllocError>
+        ensures sum { IfOk result (λ m. m ≡ matrix self.now.rows self.now.cols (content self.now.layers)) }
+        ensures kept { IsLayering self.now }
+    {
+        let mut sum = Hyper::new(alloc, self.rows, self.cols);
+        'layers: for layer in &self.layers {
+            sum = added(alloc, sum, layer)?;
+        }
+        Ok(sum)
+    }
+
+    /// The sum of all counts of all layers, below 2^64. No memory, constant time for each layer.
+    pub fn total(&self) -> u64
+        ensures value { result ≡ total (content self.now.layers) }
+        ensures fits { total (content self.now.layers) < 2 ^ 64 }
+    {
+        let mut sum = 0;
+        'totals: for layer in &self.layers {
+            sum += layer.total();
+        }
+        sum
+    }
+
+    /// The number of entries of layer `i`, counted from 1; `None` for 0 and past the last layer. Constant time.
+    pub fn layer_entries(&self, i: usize) -> Option<u64>
+        ensures { result ≡ entries_of_layer self.now.layers i }
+    {
+        let place = i.checked_sub(1)?;
+        let layer = self.layers.get(place)?;
+        Some(layer.entries())
+    }
+}
+
+impl Layers {
+    /// The count at a place of the sum of all layers, or `None` if no layer has an entry there. Rows and columns count from 0; a place
+    /// out of range has none. No memory, a bisection in each layer.
+    pub fn get(&self, row: u64, col: u64) -> Option<u64>
+        ensures value { result ≡ get (content self.now.layers) (row, col) }
+        ensures outside { (self.now.rows ≤ row) ⊎ (self.now.cols ≤ col) → result ≡ None }
+    {
+        let mut count = None;
+        'counts: for layer in &self.layers {
+            count = plus(count, layer.get(row, col));
+        }
+        count
+    }
+
+    /// The entries of a row, counted from 0, of the sum of all layers: how many columns have one, and the sum of their counts. Zeros
+    /// for a row out of range. No memory; a bisection in each layer for each of these columns.
+    pub fn row_total(&self, row: u64) -> RowSum
+        ensures entries { result.entries ≡ len (row_of (content self.now.layers) row) }
+        ensures total { result.total ≡ total (row_of (content self.now.layers) row) }
+        ensures outside { self.now.rows ≤ row → (result.entries ≡ 0) × (result.total ≡ 0) }
+    {
+        RowSum {
+            entries: self.row_entries(row),
+            total: self.row_counts(row),
+        }
+    }
+
+    // The counts of a row together.
+    fn row_counts(&self, row: u64) -> u64
+        ensures value { result ≡ total (row_of (content self.now.layers) row) }
+        ensures outside { self.now.rows ≤ row → result ≡ 0 }
+    {
+        let mut sum = 0;
+        'rows: for layer in &self.layers {
+            sum += layer.row_total(row).total;
+        }
+        sum
+    }
+
+    // The number of columns with an entry in a row.
+    fn row_entries(&self, row: u64) -> u64
+        ensures value { result ≡ len (row_of (content self.now.layers) row) }
+        ensures outside { self.now.rows ≤ row → result ≡ 0 }
+    {
+        let mut entries = 0;
+        let mut from = 0;
+        'columns: while let Some(col) = self.first_column(row, from) {
+            entries += 1;
+            from = col + 1;
+        }
+        entries
+    }
+
+    // The first column with an entry in a row, at column `from` or behind it.
+    fn first_column(&self, row: u64, from: u64) -> Option<u64>
+        ensures first { FirstColumn (content self.now.layers) row from result }
+        ensures within { IfSome result (λ col. (row < self.now.rows) × (col < self.now.cols)) }
+        ensures narrow { self.now.cols ≤ 2 ^ 60 }
+    {
+        let mut first = None;
+        'firsts: for layer in &self.layers {
+            first = earlier(first, column_from(layer, row, from));
+        }
+        first
+    }
+}

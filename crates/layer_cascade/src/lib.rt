@@ -1,0 +1,24 @@
+//! Hierarchical hypersparse matrices: layers of matrices with cuts.
+//!
+//! A sum of many small matrices is dear when each is added into one large matrix, which is then written anew each time. Here a matrix is
+//! added into the first of up to eight layers; a layer that then has more entries than its cut is added into the next and cleared. So most
+//! additions touch small layers alone, and what was added is the sum of all layers at any time (Kepner, Davis and others, 2020,
+//! "75,000,000,000 Streaming Inserts/Second Using Hierarchical Hypersparse GraphBLAS Matrices").
+//!
+//! An addition has two steps: `Layers::plan` makes all growth and changes nothing, and `Layers::commit` puts the planned layers in place
+//! and cannot fail.
+#![tactic(auto)]
+
+mod cuts;
+mod fault;
+mod laws;
+mod layers;
+mod lookup;
+mod settle;
+#[cfg(test)]
+mod tests;
+
+pub use cuts::are_cuts;
+pub use fault::CascadeFault;
+pub use laws::{cascades_add, cascades_add_all, cascades_keep_cuts, cascades_settle};
+pub use layers::{Layers, Plan};

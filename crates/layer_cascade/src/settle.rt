@@ -1,0 +1,105 @@
+//! Where a matrix that is added to layers comes to rest, and what the layers are then.
+ghost use Rattle.std.specs.Prelude.{◌≡◌, ℕ, suc, ◌+◌, ◌<◌, ◌^◌, ◌++◌, ◌∷◌, IfOk, OnOk, length, drop, replicate};
+ghost use Rattle.std.specs.Arc.{arc_value};
+ghost use Rattle.hyper_matrix.specs.Counts.{ewise_add, total};
+ghost use Rattle.hyper_matrix.specs.Matrix.{matrix};
+ghost use Rattle.layer_cascade.specs.Cascade.{content, with_first, RestsAt};
+ghost use Rattle.layer_cascade.specs.Shared.{values, all_counts, HaveDims};
+
+use hyper_matrix::Hyper;
+use std::alloc::{AllocError, Global};
+use std::sync::Arc;
+
+/// Where a matrix comes to rest.
+#[derive(Drop)]
+pub struct Settled {
+    /// The layer, counted from 0.
+    pub place: usize,
+    /// The matrix with all layers up to that place.
+    pub sum: Hyper,
+}
+
+/// The sum of two matrices. It shares blocks with both, and where the second is empty it is the first.
+pub fn added(alloc: Global, sum: Hyper, layer: &Hyper) -> Result<Hyper, AllocError>
+    requires rows { sum.rows ≡ layer.now.rows }
+    requires cols { sum.cols ≡ layer.now.cols }
+    requires fits { total sum.counts + total layer.now.counts < 2 ^ 64 }
+    ensures { IfOk result (λ m. m ≡ record sum { counts = ewise_add sum.counts layer.now.counts }) }
+{
+    if layer.entries() == 0 {
+        return Ok(sum);
+    }
+    let sum = sum.ewise_add(alloc, layer)?;
+    Ok(sum)
+}
+
+/// Finds where m comes to rest. Only the layers up to that place are read.
+pub fn settle(
+    alloc: Global,
+    layers: &[Arc<Hyper>],
+    cuts: &[u64],
+    m: &Hyper,
+) -> Result<Settled, AllocError>
+    requires count { length layers.now ≡ length cuts.now + 1 }
+    requires dims { HaveDims m.now.rows m.now.cols (values layers.now) }
+    requires fits { total (content (all_counts (values layers.now))) + total m.now.counts < 2 ^ 64 }
+    ensures place { IfOk result (λ s. RestsAt (all_counts (values layers.now)) cuts.now m.now.counts s.place) }
+    ensures sum { IfOk result (λ s. s.sum ≡ matrix m.now.rows m.now.cols (with_first (all_counts (values layers.now)) m.now.counts s.place)) }
+{
+    let own = m.copy(alloc)?;
+    let mut sum = added(alloc, own, &layers[0])?;
+    'places: for (place, cut) in cuts.iter().enumerate() {
+        if sum.entries() <= *cut {
+            return Ok(Settled { place, sum });
+        }
+        sum = added(alloc, sum, &layers[place + 1])?;
+    }
+    Ok(Settled {
+        place: cuts.len(),
+        sum,
+    })
+}
+
+/// Appends n layers that share one matrix.
+pub fn push_copies(
+    out: &mut Vec<Arc<Hyper>>,
+    layer: &Arc<Hyper>,
+    n: usize,
+) -> Result<(), AllocError>
+    ensures { OnOk result (values out.new.items ≡ values out.old.items ++ replicate n (arc_value layer.now)) }
+{
+    'copies: for _i in 0..n {
+        let copy = Arc::try_clone(layer)?;
+        out.push(copy)?;
+    }
+    Ok(())
+}
+
+// Appends layers that share their matrices with these.
+fn push_layers(out: &mut Vec<Arc<Hyper>>, layers: &[Arc<Hyper>]) -> Result<(), AllocError>
+    ensures { OnOk result (values out.new.items ≡ values out.old.items ++ values layers.now) }
+{
+    'layers: for layer in layers {
+        let copy = Arc::try_clone(layer)?;
+        out.push(copy)?;
+    }
+    Ok(())
+}
+
+/// The layers once a matrix has come to rest: empty below its place, and shared above.
+pub fn settled_layers(
+    alloc: Global,
+    layers: &[Arc<Hyper>],
+    empty: &Arc<Hyper>,
+    settled: Settled,
+) -> Result<Vec<Arc<Hyper>>, AllocError>
+    requires { settled.place < length layers.now }
+    ensures { IfOk result (λ after. values after.items ≡ replicate settled.place (arc_value empty.now) ++ settled.sum ∷ values (drop (suc settled.place) layers.now)) }
+{
+    let mut after = Vec::with_capacity(alloc, layers.len())?;
+    push_copies(&mut after, empty, settled.place)?;
+    let sum = Arc::new(alloc, settled.sum)?;
+    after.push(sum)?;
+    push_layers(&mut after, &layers[settled.place + 1..])?;
+    Ok(after)
+}

@@ -1,0 +1,13 @@
+pub mod SpellsFacts
+pub mod EveryText
+pub mod DecimalLines
+pub mod CanonicalText
+pub mod TextCuts
+pub mod FaultPlaces
+pub mod FaultKinds
+pub mod GrammarWords
+pub mod GrammarNumbers
+pub mod GrammarLines
+pub mod GrammarBanner
+pub mod GrammarTexts
+pub mod SameCells

@@ -1,0 +1,21 @@
+//! Laws of the definitions of texts: what holds of every text, whatever reads or writes it.
+//!
+//! `mm_text` says by `specs/` what a text spells and which of its faults is the first. Here stand the laws that a reader
+//! of those definitions would want to see: that every text spells exactly one file or has exactly one first fault, that
+//! lines, words and numbers have the form that the format gives them, and that a canonical text spells its list. Each law
+//! is a function without parameters and with an empty body, whose `ensures` is the statement.
+#![tactic(auto)]
+
+mod grammar_laws;
+mod text_laws;
+
+pub use grammar_laws::{
+    line_ends_and_skipped_lines_say_nothing, lines_make_the_text,
+    spelled_texts_are_coordinate_texts, taken_lines_have_their_form, words_stand_between_blanks,
+    words_write_numbers,
+};
+pub use text_laws::{
+    canonical_texts_spell_their_cells, every_text_spells_or_has_a_fault, faults_are_of_the_text,
+    faults_stand_on_counted_lines, first_faults_stay, spelled_cells_are_within,
+    wider_limits_spell_the_same,
+};

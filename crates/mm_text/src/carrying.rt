@@ -1,0 +1,143 @@
+//! Joins the lines that two pieces of a text share.
+//!
+//! What was read of the present line is carried until its LF comes. A line that is too long shows it at once, and of
+//! a comment, which may have any length, no more is carried than its first byte. So what is carried fits in a buffer
+//! of `CARRY` bytes, which is made once.
+ghost use Rattle.std.specs.Prelude.{◌≡◌, ℕ, ◌+◌, ◌<◌, ◌≤◌, ◌^◌, ◌++◌, ◌∷◌, [], ◌==◌, not, ◌&&◌, List, OnOk, IfErr, IfOk, length, vec_len, vec_capacity, true, false, take, drop};
+ghost use Rattle.mm_text.specs.Lines.{is_comment, IsLine};
+ghost use Rattle.mm_text.specs.Stages.{IsCarried, cut_kind, AddsLine, EndsCarried, Keeps, LineFault, Advances};
+ghost use Rattle.mm_text.specs.Streams.{Shows};
+ghost use Rattle.mm_text.specs.declared.cell.Cell.{Cell};
+
+use crate::cell::Cell;
+use crate::fault::{MmFault, MmKind};
+use crate::limits::TextLimits;
+use crate::reading::{MAX_LINE, Reading, content_of, is_comment_line};
+
+/// The most bytes that are carried: a line of full length, and a CR that may end it.
+pub const CARRY: usize = 1025;
+
+/// Whether the line that begins with these bytes is a comment, if it isn't the first.
+fn is_comment_front(carry: &[u8], bytes: &[u8]) -> bool
+    ensures { result ≡ is_comment (carry.now ++ bytes.now) }
+{
+    if carry.is_empty() {
+        return is_comment_line(bytes);
+    }
+    is_comment_line(carry)
+}
+
+/// Whether the present line, of which this much is there, is a comment.
+fn is_comment_here(reading: &Reading, carry: &[u8], bytes: &[u8]) -> bool
+    ensures { result ≡ (not (reading.now.lines == 0) && is_comment (carry.now ++ bytes.now)) }
+{
+    reading.lines != 0 && is_comment_front(carry, bytes)
+}
+
+/// Carries no more than the mark of a comment.
+fn carry_mark(carry: &mut Vec<u8>)
+    requires { CARRY ≤ vec_capacity carry.old }
+    ensures items { carry.new.items ≡ 37 ∷ [] }
+    ensures capacity { CARRY ≤ vec_capacity carry.new }
+{
+    carry.clear();
+    carry.push_reserved(b'%');
+}
+
+/// Carries these bytes too, if the line isn't too long with them.
+fn carry_bytes(carry: &mut Vec<u8>, bytes: &[u8]) -> bool
+    requires { CARRY ≤ vec_capacity carry.old }
+    ensures carried { result ≡ true → carry.new.items ≡ carry.old.items ++ bytes.now }
+    ensures over { result ≡ false → CARRY < length carry.old.items + length bytes.now }
+    ensures capacity { CARRY ≤ vec_capacity carry.new }
+{
+    if bytes.len() > CARRY.saturating_sub(carry.len()) {
+        return false;
+    }
+    // There is room: this call takes no memory and can't fail.
+    carry.extend_from_slice(bytes).is_ok()
+}
+
+/// Takes bytes of the present line, none of which ends it.
+pub fn carry_on(reading: &Reading, carry: &mut Vec<u8>, bytes: &[u8]) -> Result<(), MmFault>
+    requires lines { reading.now.lines + 1 < 2 ^ 64 }
+    requires capacity { CARRY ≤ vec_capacity carry.old }
+    ensures capacity { CARRY ≤ vec_capacity carry.new }
+    ensures ok { OnOk result ((rest : List ℕ) → IsCarried reading.now.lines rest carry.old.items →
+        IsCarried reading.now.lines (rest ++ bytes.now) carry.new.items × (cut_kind (reading.now.lines == 0) (rest ++ bytes.now) ≡ MmKind.TooLong)) }
+    ensures kind { IfErr result (λ f. f.kind ≡ MmKind.LineTooLong) }
+    ensures line { IfErr result (λ f. f.line ≡ reading.now.lines + 1) }
+    ensures err { IfErr result (λ f. (rest : List ℕ) → IsCarried reading.now.lines rest carry.old.items →
+        cut_kind (reading.now.lines == 0) (rest ++ bytes.now) ≡ MmKind.LineTooLong) }
+{
+    if is_comment_here(reading, carry.as_slice(), bytes) {
+        carry_mark(carry);
+        return Ok(());
+    }
+    if !carry_bytes(carry, bytes) {
+        return Err(reading.fault_here(MmKind::LineTooLong));
+    }
+    if content_of(carry.as_slice()).len() > MAX_LINE {
+        return Err(reading.fault_here(MmKind::LineTooLong));
+    }
+    Ok(())
+}
+
+/// Judges the line that is carried, of which these bytes are the end.
+pub fn end_carried(
+    reading: &mut Reading,
+    carry: &mut Vec<u8>,
+    limits: TextLimits,
+    bytes: &[u8],
+    block: &mut Vec<Cell>,
+) -> Result<(), MmFault>
+    requires lines { reading.old.lines + 1 < 2 ^ 64 }
+    requires capacity { CARRY ≤ vec_capacity carry.old }
+    ensures capacity { CARRY ≤ vec_capacity carry.new }
+    ensures carry { OnOk result (carry.new.items ≡ []) }
+    ensures count { OnOk result (reading.new.lines ≡ reading.old.lines + 1) }
+    ensures bound { reading.new.lines ≤ reading.old.lines + 1 }
+    ensures ok { OnOk result (AddsLine limits (EndsCarried reading.old.lines carry.old.items bytes.now)
+        reading.old.stage reading.old.lines block.old.items reading.new.stage reading.new.lines block.new.items) }
+    ensures line { IfErr result (λ f. f.line ≡ reading.old.lines + 1) }
+    ensures err { IfErr result (λ f. (rest : List ℕ) (done : List (List ℕ)) (given : List Cell) → IsCarried reading.old.lines rest carry.old.items →
+        Keeps limits done reading.old.stage given reading.old.lines → LineFault limits done (rest ++ bytes.now) f.kind) }
+{
+    if is_comment_here(reading, carry.as_slice(), bytes) {
+        reading.skip_line();
+        carry.clear();
+        return Ok(());
+    }
+    if !carry_bytes(carry, bytes) {
+        return Err(reading.fault_here(MmKind::LineTooLong));
+    }
+    reading.end_line(limits, carry.as_slice(), block)?;
+    carry.clear();
+    Ok(())
+}
+
+/// Judges the line that ends with these bytes. Where nothing is carried, it is judged in its place.
+pub fn end_in_place(
+    reading: &mut Reading,
+    carry: &mut Vec<u8>,
+    limits: TextLimits,
+    bytes: &[u8],
+    block: &mut Vec<Cell>,
+) -> Result<(), MmFault>
+    requires lines { reading.old.lines + 1 < 2 ^ 64 }
+    requires capacity { CARRY ≤ vec_capacity carry.old }
+    ensures capacity { CARRY ≤ vec_capacity carry.new }
+    ensures carry { OnOk result (carry.new.items ≡ []) }
+    ensures count { OnOk result (reading.new.lines ≡ reading.old.lines + 1) }
+    ensures bound { reading.new.lines ≤ reading.old.lines + 1 }
+    ensures ok { OnOk result (AddsLine limits (EndsCarried reading.old.lines carry.old.items bytes.now)
+        reading.old.stage reading.old.lines block.old.items reading.new.stage reading.new.lines block.new.items) }
+    ensures line { IfErr result (λ f. f.line ≡ reading.old.lines + 1) }
+    ensures err { IfErr result (λ f. (rest : List ℕ) (done : List (List ℕ)) (given : List Cell) → IsCarried reading.old.lines rest carry.old.items →
+        Keeps limits done reading.old.stage given reading.old.lines → LineFault limits done (rest ++ bytes.now) f.kind) }
+{
+    if carry.is_empty() {
+        return reading.end_line(limits, bytes, block);
+    }
+    end_carried(reading, carry, limits, bytes, block)
+}

@@ -1,0 +1,40 @@
+//! What can be wrong with a text, and with a device.
+
+/// What is wrong with a text, or with the reading of it.
+#[derive(Clone, Copy, Debug, PartialEq, Eq)]
+pub enum MmKind {
+    Read,
+    Memory,
+    BadBanner,
+    Unsupported,
+    LineTooLong,
+    BadSize,
+    BadDimension,
+    NotSquare,
+    TooManyEntries,
+    BadEntry,
+    Negative,
+    NumberTooLarge,
+    IndexOutOfRange,
+    TooFewEntries,
+    ExtraText,
+    TooLong,
+}
+
+/// A fault, and the line on which it stands. Lines count from 1.
+#[derive(Clone, Copy, Debug, PartialEq, Eq)]
+pub struct MmFault {
+    pub kind: MmKind,
+    pub line: u64,
+}
+
+/// A call of a device failed.
+#[derive(Clone, Copy, Debug, PartialEq, Eq)]
+pub struct DeviceFault;
+
+/// Not all of a text was written: its first `written` bytes were taken, and then the sink failed, or took none of the
+/// bytes that it was offered.
+#[derive(Clone, Copy, Debug, PartialEq, Eq)]
+pub struct WriteFault {
+    pub written: u128,
+}

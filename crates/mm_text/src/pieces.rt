@@ -1,0 +1,130 @@
+//! Judges the lines of one piece of a text.
+//!
+//! Lines are cut at LF by `memchr`. One that stands whole in the piece is judged there and copied nowhere.
+ghost use Rattle.std.specs.Prelude.{◌≡◌, ℕ, ◌+◌, ◌<◌, ◌≤◌, ◌^◌, List, OnOk, IfErr, IfOk, IfSome, IfNone, length, vec_len, vec_capacity, slice_index, take, drop, Some};
+ghost use Rattle.mm_text.specs.Lines.{IsLine};
+ghost use Rattle.mm_text.specs.Stages.{Advances, Holds, EndsLast, EndsText};
+ghost use Rattle.mm_text.specs.Streams.{Shows, Explains};
+ghost use Rattle.mm_text.specs.declared.cell.Cell.{Cell};
+
+use crate::carrying::{CARRY, end_carried, end_in_place};
+use crate::cell::Cell;
+use crate::fault::MmFault;
+use crate::limits::TextLimits;
+use crate::reading::Reading;
+use memchr::memchr;
+
+/// Where the first LF stands.
+fn line_end(bytes: &[u8]) -> Option<usize>
+    ensures some { IfSome result (λ n. (n < length bytes.now) × IsLine (take n bytes.now) × (slice_index bytes.now n ≡ 10)) }
+    ensures none { IfNone result (IsLine bytes.now) }
+{
+    memchr(b'\n', bytes)
+}
+
+/// Judges the first line that ends in these bytes, and gives how many bytes it took, its LF included.
+fn take_line(
+    reading: &mut Reading,
+    carry: &mut Vec<u8>,
+    limits: TextLimits,
+    bytes: &[u8],
+    block: &mut Vec<Cell>,
+) -> Result<usize, MmFault>
+    requires lines { reading.old.lines + 1 < 2 ^ 64 }
+    requires capacity { CARRY ≤ vec_capacity carry.old }
+    ensures capacity { CARRY ≤ vec_capacity carry.new }
+    ensures within { IfOk result (λ n. n ≤ length bytes.now) }
+    ensures count { IfOk result (λ n. reading.new.lines ≤ reading.old.lines + n) }
+    ensures bound { reading.new.lines ≤ reading.old.lines + length bytes.now }
+    ensures room { OnOk result (length block.new.items ≤ length block.old.items + 2) }
+    ensures none { IfOk result (λ n. n ≡ 0 → IsLine bytes.now) }
+    ensures ok { IfOk result (λ n. Advances limits (take n bytes.now) carry.old.items reading.old.stage reading.old.lines block.old.items
+        carry.new.items reading.new.stage reading.new.lines block.new.items) }
+    ensures err { IfErr result (λ f. Shows limits bytes.now carry.old.items reading.old.stage reading.old.lines f.kind f.line) }
+{
+    match line_end(bytes) {
+        None => Ok(0),
+        Some(len) => {
+            end_in_place(reading, carry, limits, &bytes[..len], block)?;
+            Ok(len + 1)
+        }
+    }
+}
+
+/// Judges the lines that end in these bytes as long as the block has room for two cells, and gives how many bytes
+/// they took.
+pub fn take_lines(
+    reading: &mut Reading,
+    carry: &mut Vec<u8>,
+    limits: TextLimits,
+    bytes: &[u8],
+    block: &mut Vec<Cell>,
+    most: usize,
+) -> Result<usize, MmFault>
+    requires lines { reading.old.lines + length bytes.now + 1 < 2 ^ 64 }
+    requires capacity { CARRY ≤ vec_capacity carry.old }
+    requires room { length block.old.items ≤ most }
+    ensures capacity { CARRY ≤ vec_capacity carry.new }
+    ensures within { IfOk result (λ n. n ≤ length bytes.now) }
+    ensures count { IfOk result (λ n. reading.new.lines ≤ reading.old.lines + n) }
+    ensures bound { reading.new.lines ≤ reading.old.lines + length bytes.now }
+    ensures room { OnOk result (length block.new.items ≤ most) }
+    ensures rest { IfOk result (λ n. length block.new.items + 1 < most → IsLine (drop n bytes.now)) }
+    ensures ok { IfOk result (λ n. Advances limits (take n bytes.now) carry.old.items reading.old.stage reading.old.lines block.old.items
+        carry.new.items reading.new.stage reading.new.lines block.new.items) }
+    ensures err { IfErr result (λ f. Shows limits bytes.now carry.old.items reading.old.stage reading.old.lines f.kind f.line) }
+{
+    let mut start = 0;
+    'lines: while most - block.len() > 1 {
+        let taken = take_line(reading, carry, limits, &bytes[start..], block)?;
+        if taken == 0 {
+            return Ok(start);
+        }
+        start += taken;
+    }
+    Ok(start)
+}
+
+/// Judges what is carried as the last line, where the text has ended.
+fn end_last(
+    reading: &mut Reading,
+    carry: &mut Vec<u8>,
+    limits: TextLimits,
+    block: &mut Vec<Cell>,
+) -> Result<(), MmFault>
+    requires lines { reading.old.lines + 1 < 2 ^ 64 }
+    requires capacity { CARRY ≤ vec_capacity carry.old }
+    ensures capacity { CARRY ≤ vec_capacity carry.new }
+    ensures bound { reading.new.lines ≤ reading.old.lines + 1 }
+    ensures ok { OnOk result (EndsLast limits carry.old.items reading.old.stage reading.old.lines block.old.items reading.new.stage reading.new.lines block.new.items) }
+    ensures err { IfErr result (λ f. (text : List ℕ) (given : List Cell) →
+        Holds limits text carry.old.items reading.old.stage given reading.old.lines → Explains text limits (Unit {0}) ⊥ f.kind f.line) }
+{
+    if carry.is_empty() {
+        return Ok(());
+    }
+    end_carried(reading, carry, limits, &[], block)
+}
+
+/// Judges the end of the text: its last line, if that has no LF, and then what is missing.
+pub fn end_text(
+    reading: &mut Reading,
+    carry: &mut Vec<u8>,
+    limits: TextLimits,
+    block: &mut Vec<Cell>,
+) -> Result<(), MmFault>
+    requires lines { reading.old.lines + 1 < 2 ^ 64 }
+    requires capacity { CARRY ≤ vec_capacity carry.old }
+    ensures capacity { CARRY ≤ vec_capacity carry.new }
+    ensures bound { reading.new.lines ≤ reading.old.lines + 1 }
+    ensures ok { OnOk result (EndsText limits carry.old.items reading.old.stage reading.old.lines block.old.items reading.new.stage block.new.items) }
+    ensures err { IfErr result (λ f. (text : List ℕ) (given : List Cell) →
+        Holds limits text carry.old.items reading.old.stage given reading.old.lines → Explains text limits (Unit {0}) ⊥ f.kind f.line) }
+{
+    let line = reading.lines + 1;
+    end_last(reading, carry, limits, block)?;
+    match reading.end_size() {
+        Ok(_) => Ok(()),
+        Err(kind) => Err(MmFault { kind, line }),
+    }
+}

@@ -1,0 +1,228 @@
+//! Writes matrices as canonical texts in the Matrix Market coordinate format (NIST) with field `integer` and symmetry
+//! `general`: the banner, the size line, and one line for each cell in the order given.
+//!
+//! Lines are formatted into a buffer in the writer itself, which is handed on when another line might not fit. So a
+//! text is written in one pass with no memory, and a sink that takes what it is offered gets about 16 KiB a call: a
+//! call for each line would cost more than the formatting.
+ghost use Rattle.std.specs.Prelude.{◌≡◌, ℕ, ◌+◌, ◌-◌, ◌*◌, ◌<◌, ◌≤◌, ◌^◌, List, [], ◌++◌, length, drop, IfOk, OnOk, IfErr};
+ghost use Rattle.arrayvec.specs.ArrayString.{array_string_len};
+ghost use Rattle.mm_text.specs.Bounds.{IsDimension, AreWithin};
+ghost use Rattle.mm_text.specs.Canonical.{numbers_line, canonical_head, entry_line, entry_lines, canonical};
+ghost use Rattle.mm_text.specs.Writing.{HasTaken, HasStopped, HasWritten};
+
+use crate::cell::Cell;
+use crate::devices::Sink;
+use crate::fault::WriteFault;
+use arrayvec::ArrayString;
+use std::marker::Model;
+
+/// The bytes of the buffer. More would take room on the stack and save few calls.
+const CAPACITY: usize = 16_384;
+
+/// The longest line: three numbers of at most 20 digits, two spaces and LF.
+const LINE: usize = 63;
+
+const BANNER: &str = "%%MatrixMarket matrix coordinate integer general\n";
+
+/// Writes all of `bytes` to `w`, in as many calls as it takes. No byte is no call.
+///
+/// At an Err `written` counts from the front of `bytes`, and no call was made after the one that failed or took nothing.
+/// Takes no memory, and does not flush.
+pub fn write_all<W: Sink>(w: &mut W, bytes: &[u8]) -> Result<(), WriteFault>
+    requires { W.failure_count w.old + 1 < 2 ^ 64 }
+    ensures ok { OnOk result (HasTaken W.write_takes W.failure_count w.old w.new bytes.now) }
+    ensures err { IfErr result (λ f. HasStopped W.write_takes W.failure_count w.old w.new bytes.now f.written) }
+{
+    let mut done = 0;
+    while done < bytes.len() {
+        let fault = WriteFault {
+            written: done as u128,
+        };
+        match w.write(&bytes[done..]) {
+            Ok(0) => return Err(fault),
+            Ok(count) => done += count,
+            Err(_) => return Err(fault),
+        }
+    }
+    Ok(())
+}
+
+/// Appends a line of three numbers.
+fn push_line(buffer: &mut ArrayString<CAPACITY>, first: u64, second: u64, third: u64)
+    requires { array_string_len buffer.old + 63 ≤ 16384 }
+    ensures bytes { buffer.new.bytes ≡ buffer.old.bytes ++ numbers_line first second third }
+    ensures short { array_string_len buffer.new ≤ array_string_len buffer.old + 63 }
+{
+    let mut digits = itoa::Buffer::new();
+    buffer.push_str(digits.format(first));
+    buffer.push_str(" ");
+    buffer.push_str(digits.format(second));
+    buffer.push_str(" ");
+    buffer.push_str(digits.format(third));
+    buffer.push_str("\n");
+}
+
+/// A text on its way to a sink, for cells that come in blocks: `new`, `write_cells` for each block, and `finish`.
+///
+/// Every call is to be given the same sink. The writer holds a buffer of 16,384 bytes in itself and takes no memory.
+/// After a call that answered Err it is of no more use, and what it still held is lost. Contracts see it as a
+/// `WriterState`: the bytes that the sink took, those that are pending, and how many entry lines are still to come.
+#[derive(Drop)]
+pub struct TextWriter {
+    buffer: ArrayString<CAPACITY>,
+    taken: u128,
+    left: u64,
+}
+
+impl Model for TextWriter {
+    ghost use Rattle.std.specs.Prelude.{ℕ, ◌+◌, ◌*◌, ◌<◌, ◌^◌, length};
+    ghost use Rattle.mm_text.specs.Writing.{WriterState};
+
+    ghost Value = { WriterState };
+
+    ghost view = { λ w. record { taken = w.taken; pending = w.buffer.bytes; left = w.left } };
+
+    ghost invariant = { λ w. w.taken + length w.buffer.bytes + 63 * w.left < 2 ^ 80 };
+}
+
+impl TextWriter {
+    /// A text of `entries` entry lines, of which nothing was handed on yet: banner and size line are pending.
+    pub fn new(rows: u64, cols: u64, entries: u64) -> TextWriter
+        requires rows { IsDimension rows }
+        requires cols { IsDimension cols }
+        ensures taken { result.taken ≡ 0 }
+        ensures pending { result.pending ≡ canonical_head rows cols entries }
+        ensures left { result.left ≡ entries }
+    {
+        let mut buffer = ArrayString::new();
+        buffer.push_str(BANNER);
+        push_line(&mut buffer, rows, cols, entries);
+        TextWriter {
+            buffer,
+            taken: 0,
+            left: entries,
+        }
+    }
+
+    /// Hands on all that is pending.
+    fn flush<W: Sink>(&mut self, w: &mut W) -> Result<(), WriteFault>
+        requires { W.failure_count w.old + 1 < 2 ^ 64 }
+        ensures left { OnOk result (self.new.left ≡ self.old.left) }
+        ensures pending { OnOk result (self.new.pending ≡ []) }
+        ensures ok { OnOk result ((s : W) (text : List ℕ) →
+            HasWritten W.write_takes W.failure_count s w.old text self.old →
+            HasWritten W.write_takes W.failure_count s w.new text self.new) }
+        ensures err { IfErr result (λ f. (s : W) (text : List ℕ) →
+            HasWritten W.write_takes W.failure_count s w.old text self.old →
+            HasStopped W.write_takes W.failure_count s w.new text f.written) }
+        ensures failures { OnOk result (W.failure_count w.new ≡ W.failure_count w.old) }
+    {
+        let bytes = self.buffer.as_str().as_bytes();
+        let taken = self.taken;
+        let count = bytes.len() as u128;
+        if let Err(fault) = write_all(w, bytes) {
+            return Err(WriteFault {
+                written: taken + fault.written,
+            });
+        }
+        self.taken = taken + count;
+        self.buffer.clear();
+        Ok(())
+    }
+
+    /// Appends the line of one cell.
+    fn push_cell(&mut self, cell: Cell)
+        requires row { cell.row < 2 ^ 60 }
+        requires col { cell.col < 2 ^ 60 }
+        requires declared { 0 < self.old.left }
+        requires room { length self.old.pending + 63 ≤ 16384 }
+        ensures taken { self.new.taken ≡ self.old.taken }
+        ensures pending { self.new.pending ≡ self.old.pending ++ entry_line cell }
+        ensures left { self.new.left + 1 ≡ self.old.left }
+    {
+        push_line(&mut self.buffer, cell.row + 1, cell.col + 1, cell.count);
+        self.left -= 1;
+    }
+
+    /// Hands on what is pending, unless there is room for another line.
+    fn make_room<W: Sink>(&mut self, w: &mut W) -> Result<(), WriteFault>
+        requires { W.failure_count w.old + 1 < 2 ^ 64 }
+        ensures left { OnOk result (self.new.left ≡ self.old.left) }
+        ensures room { OnOk result (length self.new.pending + 63 ≤ 16384) }
+        ensures ok { OnOk result ((s : W) (text : List ℕ) →
+            HasWritten W.write_takes W.failure_count s w.old text self.old →
+            HasWritten W.write_takes W.failure_count s w.new text self.new) }
+        ensures err { IfErr result (λ f. (s : W) (text : List ℕ) →
+            HasWritten W.write_takes W.failure_count s w.old text self.old →
+            HasStopped W.write_takes W.failure_count s w.new text f.written) }
+        ensures failures { OnOk result (W.failure_count w.new ≡ W.failure_count w.old) }
+    {
+        if self.buffer.remaining_capacity() < LINE {
+            return self.flush(w);
+        }
+        Ok(())
+    }
+
+    /// Appends a line for each of the cells, in this order: row and column counted from 1, and the count.
+    ///
+    /// At an Err `written` counts from the first byte of the text, and takes in what earlier calls wrote. Takes time in
+    /// proportion to the bytes.
+    pub fn write_cells<W: Sink>(&mut self, w: &mut W, cells: &[Cell]) -> Result<(), WriteFault>
+        requires ready { W.failure_count w.old + 1 < 2 ^ 64 }
+        requires within { AreWithin (2 ^ 60) (2 ^ 60) cells.now }
+        requires declared { length cells.now ≤ self.old.left }
+        ensures left { OnOk result (self.new.left + length cells.now ≡ self.old.left) }
+        ensures ok { OnOk result ((s : W) (text : List ℕ) →
+            HasWritten W.write_takes W.failure_count s w.old text self.old →
+            HasWritten W.write_takes W.failure_count s w.new (text ++ entry_lines cells.now) self.new) }
+        ensures err { IfErr result (λ f. (s : W) (text : List ℕ) →
+            HasWritten W.write_takes W.failure_count s w.old text self.old →
+            HasStopped W.write_takes W.failure_count s w.new (text ++ entry_lines cells.now) f.written) }
+        ensures failures { OnOk result (W.failure_count w.new ≡ W.failure_count w.old) }
+    {
+        for cell in cells {
+            self.make_room(w)?;
+            self.push_cell(*cell);
+        }
+        Ok(())
+    }
+
+    /// Hands on what is pending, once all lines were appended. The sink isn't flushed.
+    ///
+    /// At an Err `written` counts from the first byte of the text.
+    pub fn finish<W: Sink>(mut self, w: &mut W) -> Result<(), WriteFault>
+        requires ready { W.failure_count w.old + 1 < 2 ^ 64 }
+        requires whole { self.left ≡ 0 }
+        ensures ok { OnOk result ((s : W) (text : List ℕ) →
+            HasWritten W.write_takes W.failure_count s w.old text self →
+            HasTaken W.write_takes W.failure_count s w.new text) }
+        ensures err { IfErr result (λ f. (s : W) (text : List ℕ) →
+            HasWritten W.write_takes W.failure_count s w.old text self →
+            HasStopped W.write_takes W.failure_count s w.new text f.written) }
+        ensures failures { OnOk result (W.failure_count w.new ≡ W.failure_count w.old) }
+    {
+        self.flush(w)
+    }
+}
+
+/// Writes the canonical text of a matrix of `rows` by `cols` with these cells, which are neither sorted nor added.
+///
+/// Cells count from 0, and the text from 1. At an Err `written` counts from the first byte of the text. Takes time in
+/// proportion to the bytes and no memory, and does not flush.
+pub fn write_matrix<W: Sink>(
+    w: &mut W,
+    rows: u64,
+    cols: u64,
+    cells: &[Cell],
+) -> Result<(), WriteFault>
+    requires ready { W.failure_count w.old + 1 < 2 ^ 64 }
+    requires rows { IsDimension rows }
+    requires cols { IsDimension cols }
+    requires within { AreWithin rows cols cells.now }
+    ensures ok { OnOk result (HasTaken W.write_takes W.failure_count w.old w.new (canonical rows cols cells.now)) }
+    ensures err { IfErr result (λ f. HasStopped W.write_takes W.failure_count w.old w.new (canonical rows cols cells.now) f.written) }
+{
+    let mut writer = TextWriter::new(rows, cols, cells.len() as u64);
+    writer.write_cells(w, cells)?;
+    writer.finish(w)
+}
