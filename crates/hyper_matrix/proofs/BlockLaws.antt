@@ -4,7 +4,7 @@ use Rattle.std.specs.declared.sync.Arc.{Arc}
 use Rattle.std.specs.Arc.{arc_value}
 use Rattle.std.proofs.lemmas.List.{append-nil, take_more}
 use Rattle.hyper_matrix.specs.Counts.{Place, count_sum}
-use Rattle.hyper_matrix.specs.Rows.{Rows, AreRising, cells_of}
+use Rattle.hyper_matrix.specs.Rows.{Rows, cells_of}
 use Rattle.hyper_matrix.specs.Blocks.{all_cells, block_cells, IsBlock, AreBlocks, Grows}
 
 pub sum-append : (xs ys : List (Place × ℕ)) → count_sum (xs ++ ys) ≡ count_sum xs + count_sum ys

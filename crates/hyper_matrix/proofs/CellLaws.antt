@@ -3,7 +3,7 @@ use Rattle.std.proofs.Common.{◌≡◌, ℕ, ◌+◌, ◌<◌, ◌≤◌, ◌�
 use Rattle.std.specs.Option.{option_and_then}
 use Rattle.std.specs.Ordering.{nat_cmp, eq_by_cmp, is_eq, is_lt, ordering_then}
 use Rattle.std.specs.Cmp.{unsigned_tied, nat_cmp_is}
-use Rattle.std.specs.FinMap.{find, get, get-from_entries, from_entries, entries, empty, is_sorted, from_sorted, get-from_sorted, entries-from_sorted}
+use Rattle.std.specs.FinMap.{find, get, get-from_entries, from_entries, entries, empty, is_sorted}
 use Rattle.std.specs.FinMap.Entries.{below_all}
 use Rattle.std.proofs.lemmas.Bool.{cases_order, cases_eq, eq-eqb, ne_eqb}
 use Rattle.std.proofs.lemmas.Option.{none-some, same_Some}

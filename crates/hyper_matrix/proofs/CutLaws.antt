@@ -1,12 +1,12 @@
 -- Rows cut in two, and the order of what is cut.
-use Rattle.std.proofs.Common.{◌≡◌, ◌≢◌, ℕ, zero, suc, ◌+◌, ◌-◌, ◌<◌, ◌≤◌, ◌^◌, List, [], ◌∷◌, ◌++◌, length, get_or, take, drop, map, sym, ◌∙◌, ap, subst, refl, arith, append_assoc, length-append, length-take, length-drop}
+use Rattle.std.proofs.Common.{◌≡◌, ◌≢◌, ℕ, zero, suc, ◌+◌, ◌-◌, ◌<◌, ◌≤◌, ◌^◌, List, [], ◌∷◌, ◌++◌, length, get_or, take, drop, sym, ◌∙◌, ap, subst, refl, arith, append_assoc, length-take, length-drop}
 use Rattle.std.specs.List.{slice_range}
 use Rattle.std.proofs.Math.Seq.{take-add}
-use Rattle.std.proofs.lemmas.List.{drop_more, drop-drop, drop_all, map-append, append-nil, get_or-drop}
+use Rattle.std.proofs.lemmas.List.{drop_more, drop-drop, map-append, append-nil, get_or-drop}
 use Rattle.hyper_matrix.specs.Counts.{Place}
 use Rattle.hyper_matrix.specs.Rows.{Entries, Rows, rows_from, rows_of, EndsAt, AreRows, start_from, cells_of, at_places, heads_moved, Fit, KeysAbove, AreRising}
 use Rattle.hyper_matrix.specs.Blocks.{EndsIn, cut_heads}
-use Rattle.hyper_matrix.proofs.RowLaws.{ends-append, ends-take, ends-drop, ends_le, ends_within, start-get, moved_rows, moved_ends}
+use Rattle.hyper_matrix.proofs.RowLaws.{ends-append, ends-take, ends-drop, ends_le, ends_within, moved_rows, moved_ends}
 
 -- two parts, one behind the other
 pub two_parts : {X : Type 0} (xs : List X) (i j k : ℕ) → i ≤ j → j ≤ k → slice_range xs i k ≡ slice_range xs i j ++ slice_range xs j k

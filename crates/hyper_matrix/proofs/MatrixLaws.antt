@@ -1,8 +1,8 @@
 -- What the matrix's fields come to.
-use Rattle.std.proofs.Common.{T, ◌≡◌, ℕ, zero, suc, ◌+◌, ◌<◌, ◌^◌, List, [], ◌∷◌, ◌++◌, map, length, length-append, get_or, ◌-◌, sym, ◌∙◌, ap, subst, refl, arith, append_assoc}
+use Rattle.std.proofs.Common.{T, ◌≡◌, ℕ, zero, suc, ◌+◌, ◌<◌, List, [], ◌∷◌, map, length, length-append, get_or, ◌-◌, sym, ◌∙◌, ap, subst, refl, arith}
 use Rattle.std.specs.List.{AllByRecursion}
 use Rattle.std.proofs.lemmas.List.{append-nil}
-use Rattle.std.specs.FinMap.{entries, from_entries, is_sorted, empty, len}
+use Rattle.std.specs.FinMap.{entries, is_sorted, empty, len}
 use Rattle.std.specs.declared.sync.Arc.{Arc}
 use Rattle.std.specs.Arc.{arc_value}
 use Rattle.mm_text.specs.Bounds.{IsDimension, AreWithin}
@@ -13,7 +13,7 @@ use Rattle.hyper_matrix.specs.Cells.{entry_of}
 use Rattle.mm_text.specs.declared.cell.Cell.{Cell}
 use Rattle.hyper_matrix.specs.Blocks.{all_cells, AreBlocks, ends_from}
 use Rattle.hyper_matrix.specs.Shared.{shared_counts, LiesWithin, Holds, Keeps}
-use Rattle.hyper_matrix.proofs.CountLaws.{total-ewise_add, total-empty, ewise_add_comm, ewise_add-empty}
+use Rattle.hyper_matrix.proofs.CountLaws.{total-ewise_add, ewise_add_comm, ewise_add-empty}
 use Rattle.hyper_matrix.proofs.PlaceLaws.{built-in_order, entries-in_order, total-in_order, len-in_order, places_of_sum}
 
 pub keeps_none : {Z : Type 0} (r c : ℕ) (blocks : List (Arc Rows Z)) (ends : List ℕ) → IsDimension r → IsDimension c → blocks ≡ [] → ends ≡ [] → Keeps r c 0 blocks ends

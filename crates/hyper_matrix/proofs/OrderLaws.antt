@@ -1,11 +1,9 @@
 -- The order of places in lists of cells: where two lists in order make one, and what a cut at a place leaves in order.
-use Rattle.std.proofs.Common.{◌≡◌, ℕ, zero, suc, ◌+◌, ◌-◌, ◌<◌, ◌≤◌, ◌⊎◌, ◌&&◌, Bool, true, false, T, List, [], ◌∷◌, ◌++◌, length, get_or, take, drop, map, Ordering, sym, ◌∙◌, ap, subst, refl, inl, inr, arith, append_assoc}
-use Rattle.std.specs.List.{slice_range}
-use Rattle.std.specs.Ordering.{is_lt, nat_cmp, ordering_then}
+use Rattle.std.proofs.Common.{◌≡◌, ℕ, zero, suc, ◌+◌, ◌<◌, ◌⊎◌, false, T, List, [], ◌∷◌, ◌++◌, get_or, map, sym, ◌∙◌, ap, subst, inl, inr, arith}
+use Rattle.std.specs.Ordering.{is_lt}
 use Rattle.std.specs.FinMap.{is_sorted, from_entries}
 use Rattle.std.specs.FinMap.Entries.{below_all}
 use Rattle.std.proofs.lemmas.Bool.{cases_order, false≢true}
-use Rattle.std.proofs.lemmas.List.{drop_all, append-nil}
 use Rattle.hyper_matrix.specs.Counts.{Place, place_cmp, Counts, built, ewise_add}
 use Rattle.hyper_matrix.specs.Rows.{Rows, Entries, KeysAbove, AreRising, ColumnsRise, cells_of, at_places}
 use Rattle.hyper_matrix.specs.Places.{Less, AllPlaces, Precede, IsFirst, BeginsFrom}

@@ -1,13 +1,12 @@
 -- Lists of cells in order, the maps that they stand for, and what holds of all their places.
-use Rattle.std.proofs.Common.{◌≡◌, ℕ, ◌+◌, ◌<◌, ◌≤◌, ◌⊎◌, Bool, true, false, cond, T, List, [], ◌∷◌, ◌++◌, length, map, Option, Some, None, Ordering, sym, ◌∙◌, ap, subst, refl, inl, inr, arith}
+use Rattle.std.proofs.Common.{◌≡◌, ℕ, ◌⊎◌, Bool, true, false, cond, T, List, [], ◌∷◌, length, Option, Some, None, sym, ◌∙◌, ap, subst, refl, inl, inr}
 use Rattle.hyper_matrix.specs.Places.{AllPlaces}
-use Rattle.std.specs.Ordering.{eq_by_cmp, is_eq, is_lt}
-use Rattle.std.specs.FinMap.{find, get, get-from_entries, from_entries, entries, len, len-entries, empty, is_sorted, from_sorted, get-from_sorted, entries-from_sorted}
+use Rattle.std.specs.Ordering.{eq_by_cmp}
+use Rattle.std.specs.FinMap.{find, get, get-from_entries, from_entries, entries, len, len-entries, is_sorted, from_sorted, get-from_sorted, entries-from_sorted}
 use Rattle.std.specs.Cmp.{eq_by_cmp_equiv}
-use Rattle.std.proofs.lemmas.Bool.{false≢true}
 use Rattle.std.proofs.lemmas.Option.{none-some}
 use Rattle.hyper_matrix.specs.Counts.{Place, place_cmp, Counts, plus, ewise_add, built, total, count_sum}
-use Rattle.hyper_matrix.proofs.CountLaws.{places_total, exact_places, same_counts, get-ewise_add, get-built, gathered, gathered-rising, tied}
+use Rattle.hyper_matrix.proofs.CountLaws.{places_total, same_counts, get-ewise_add, get-built, gathered, gathered-rising, tied}
 
 -- a list in order is the entries of its map
 pub entries-in_order : (es : List (Place × ℕ)) → T (is_sorted place_cmp es) → entries (from_entries {R = place_cmp} es) ≡ es

@@ -5,9 +5,9 @@ use Rattle.std.specs.FinMap.{is_sorted, empty}
 use Rattle.std.specs.declared.sync.Arc.{Arc}
 use Rattle.std.specs.Arc.{arc_value}
 use Rattle.std.proofs.lemmas.List.{map-append, take-append-drop}
-use Rattle.hyper_matrix.specs.Counts.{Place, place_cmp, Counts, built, ewise_add, total, count_sum}
+use Rattle.hyper_matrix.specs.Counts.{Place, place_cmp, Counts, built, ewise_add, total}
 use Rattle.hyper_matrix.specs.Rows.{Rows, InOrder, cells_of, counts_of, sum_rows, rows_total, AreRising}
-use Rattle.hyper_matrix.specs.Blocks.{all_cells, block_cells, IsBlock, AreBlocks, Grows, GrowsBySum}
+use Rattle.hyper_matrix.specs.Blocks.{all_cells, block_cells, IsBlock, Grows, GrowsBySum}
 use Rattle.hyper_matrix.specs.Places.{Less, AllPlaces, Precede, IsFirst, BeginsFrom}
 use Rattle.hyper_matrix.specs.Cells.{entry_of, built_of, cell_total}
 use Rattle.mm_text.specs.declared.cell.Cell.{Cell}
@@ -16,7 +16,7 @@ use Rattle.hyper_matrix.proofs.CellLaws.{counts_of-sum_rows, in_order-sum_rows, 
 use Rattle.hyper_matrix.proofs.BuildLaws.{counts_of-built, total-built_of}
 use Rattle.hyper_matrix.proofs.MergeLaws.{split_at}
 use Rattle.hyper_matrix.proofs.BlockLaws.{cells_from, block_cells_at}
-use Rattle.hyper_matrix.proofs.OrderLaws.{all_map, sorted_front, sorted_back, precedes, before_first, before_begin, below_first, columns_rise, next_left, next_right, next_sum}
+use Rattle.hyper_matrix.proofs.OrderLaws.{all_map, precedes, before_first, before_begin, below_first, columns_rise, next_left, next_right, next_sum}
 
 pub built-nil : built [] ≡ empty
 unfolding built

@@ -1,5 +1,5 @@
 //! The public matrix: its dimensions, its blocks of compressed nonempty rows, and what is kept beside them.
-ghost use Rattle.std.specs.Prelude.{◌≡◌, ℕ, ◌+◌, ◌<◌, ◌≤◌, ◌^◌, IfOk, Option, ◌↔◌, map};
+ghost use Rattle.std.specs.Prelude.{◌≡◌, ℕ, ◌+◌, ◌<◌, ◌≤◌, ◌^◌, IfOk, IsOk, Option, ◌↔◌, map, length};
 ghost use Rattle.std.specs.FinMap.{empty, entries, len};
 ghost use Rattle.mm_text.specs.Bounds.{IsDimension, AreWithin};
 ghost use Rattle.hyper_matrix.specs.Counts.{ewise_add, total};
@@ -152,7 +152,7 @@ impl Hyper {
     /// # Errors
     ///
     /// `IndexOutOfRange` and `SumTooLarge` tell the first cell's fault, and stand exactly where the list has one.
-    /// `Memory` stands only where the list has none, and memory was refused.
+    /// `Memory` stands only where the list has none and isn't empty, and memory was refused.
     pub fn build(alloc: Global, rows: u64, cols: u64, cells: &[Cell]) -> Result<Hyper, BuildFault>
         requires rows { IsDimension rows }
         requires cols { IsDimension cols }
@@ -160,6 +160,7 @@ impl Hyper {
         ensures index { (result ≡ Err BuildFault.IndexOutOfRange) ↔ (first_fault rows cols 0 cells.now ≡ Some BuildFault.IndexOutOfRange) }
         ensures sum { (result ≡ Err BuildFault.SumTooLarge) ↔ (first_fault rows cols 0 cells.now ≡ Some BuildFault.SumTooLarge) }
         ensures memory { (result ≡ Err BuildFault.Memory) → (first_fault rows cols 0 cells.now ≡ None) }
+        ensures none { length cells.now ≡ 0 → IsOk result }
     {
         match judge_cells(rows, cols, cells) {
             Some(fault) => Err(fault),
@@ -219,7 +220,8 @@ fn build_judged(alloc: Global, rows: u64, cols: u64, cells: &[Cell]) -> Result<H
     requires rows { IsDimension rows }
     requires cols { IsDimension cols }
     requires judged { first_fault rows cols 0 cells.now ≡ None }
-    ensures { IfOk result (λ m. m ≡ matrix rows cols (built_of cells.now)) }
+    ensures value { IfOk result (λ m. m ≡ matrix rows cols (built_of cells.now)) }
+    ensures none { length cells.now ≡ 0 → IsOk result }
 {
     if cells.len() == 0 {
         return Ok(Hyper::new(alloc, rows, cols));

@@ -1,10 +1,10 @@
 -- The laws of the cascade.
-use Rattle.std.proofs.Common.{◌≡◌, ℕ, zero, suc, ◌+◌, ◌<◌, ◌≤◌, ◌⊎◌, Bool, true, false, cond, leb, List, [], ◌∷◌, length, ◌++◌, take, drop, replicate, get_or, sym, ◌∙◌, ap, subst, refl, inl, inr, arith}
+use Rattle.std.proofs.Common.{◌≡◌, ℕ, zero, suc, ◌+◌, ◌<◌, ◌≤◌, Bool, true, false, cond, leb, List, [], ◌∷◌, length, ◌++◌, take, drop, replicate, get_or, sym, ◌∙◌, ap, subst, refl, inl, inr, arith}
 use Rattle.std.specs.FinMap.{empty, len, len-empty}
 use Rattle.std.proofs.lemmas.Bool.{leb-true, leb-false, le-leb}
-use Rattle.hyper_matrix.specs.Counts.{Counts, place_cmp, ewise_add, total}
-use Rattle.hyper_matrix.proofs.CountLaws.{ewise_add_comm, ewise_add_assoc, ewise_add-empty, total-ewise_add, total-empty}
-use Rattle.layer_cascade.specs.Cascade.{content, cascade, cascades, KeepsCuts, with_first, CanHold, RestsAt, settled, Settles}
+use Rattle.hyper_matrix.specs.Counts.{Counts, place_cmp, ewise_add}
+use Rattle.hyper_matrix.proofs.CountLaws.{ewise_add_comm, ewise_add_assoc, ewise_add-empty}
+use Rattle.layer_cascade.specs.Cascade.{content, cascade, cascades, KeepsCuts, with_first, CanHold, EndsAt, layers_after, CascadesTo}
 
 -- m added to the first of two is m added to their sum
 moved : (m a b : Counts) → ewise_add (ewise_add m a) b ≡ ewise_add (ewise_add a b) m
@@ -71,45 +71,45 @@ module _ (layer : Counts) (layers : List Counts) (cut : ℕ) (cuts : List ℕ) (
   held_first k (inl last) = absurd (omega arith)
   held_first k (inr fits) = subst (λ s. len s ≤ cut) (first_here layer layers m) fits
 
-  rests_next : (j : ℕ) → RestsAt (layer ∷ layers) (cut ∷ cuts) m (suc j) → RestsAt layers cuts (ewise_add m layer) j
-  rests_next j (inside, holds, least) = (omega arith, hold_next j holds, (λ i h held. least (suc i) (omega arith) (hold_back i held)))
+  ends_next : (j : ℕ) → EndsAt (layer ∷ layers) (cut ∷ cuts) m (suc j) → EndsAt layers cuts (ewise_add m layer) j
+  ends_next j (inside, holds, least) = (omega arith, hold_next j holds, (λ i h held. least (suc i) (omega arith) (hold_back i held)))
 
-  rests_back : (j : ℕ) → cut < len (ewise_add m layer) → length layers ≡ length cuts + 1 → RestsAt layers cuts (ewise_add m layer) j → RestsAt (layer ∷ layers) (cut ∷ cuts) m (suc j)
-  rests_back j more k (inside, holds, least) = (omega arith, hold_back j holds, below)
+  ends_back : (j : ℕ) → cut < len (ewise_add m layer) → length layers ≡ length cuts + 1 → EndsAt layers cuts (ewise_add m layer) j → EndsAt (layer ∷ layers) (cut ∷ cuts) m (suc j)
+  ends_back j more k (inside, holds, least) = (omega arith, hold_back j holds, below)
     where
       below : (i : ℕ) → i < suc j → CanHold (layer ∷ layers) (cut ∷ cuts) m i → ⊥
       below zero h held = absurd (omega (arith, held_first k held))
       below (suc i) h held = least i (omega arith) (hold_next i held)
 
-  settled_next : (j : ℕ) → empty ∷ settled layers (ewise_add m layer) j ≡ settled (layer ∷ layers) m (suc j)
-  settled_next j = ap (λ s. empty ∷ (replicate j empty ++ s ∷ drop (suc j) layers)) (sym (first_next layer layers m j))
+  layers_after_next : (j : ℕ) → empty ∷ layers_after layers (ewise_add m layer) j ≡ layers_after (layer ∷ layers) m (suc j)
+  layers_after_next j = ap (λ s. empty ∷ (replicate j empty ++ s ∷ drop (suc j) layers)) (sym (first_next layer layers m j))
 
 -- the place determines what the cascade leaves
-pub settled-cascade : (layers : List Counts) (cuts : List ℕ) (m : Counts) (j : ℕ) → length layers ≡ length cuts + 1 → RestsAt layers cuts m j → cascade layers cuts m ≡ settled layers m j
-settled-cascade [] cuts m j k r = absurd (omega arith)
-settled-cascade (layer ∷ layers) [] m zero k r = ap (λ s. s ∷ layers) (sym (first_here layer layers m))
-settled-cascade (layer ∷ layers) [] m (suc j) k r = absurd (omega (arith, r.0))
-settled-cascade (layer ∷ layers) (cut ∷ cuts) m zero k r =
+pub layers_after-cascade : (layers : List Counts) (cuts : List ℕ) (m : Counts) (j : ℕ) → length layers ≡ length cuts + 1 → EndsAt layers cuts m j → cascade layers cuts m ≡ layers_after layers m j
+layers_after-cascade [] cuts m j k r = absurd (omega arith)
+layers_after-cascade (layer ∷ layers) [] m zero k r = ap (λ s. s ∷ layers) (sym (first_here layer layers m))
+layers_after-cascade (layer ∷ layers) [] m (suc j) k r = absurd (omega (arith, r.0))
+layers_after-cascade (layer ∷ layers) (cut ∷ cuts) m zero k r =
     ap (λ b. cond b (ewise_add m layer ∷ layers) (empty ∷ cascade layers cuts (ewise_add m layer))) (le-leb _ _ (held_first layer layers cut cuts m (omega arith) r.1))
     ∙ ap (λ s. s ∷ layers) (sym (first_here layer layers m))
-settled-cascade (layer ∷ layers) (cut ∷ cuts) m (suc j) k r = step (settled-cascade layers cuts (ewise_add m layer) j (omega arith) (rests_next layer layers cut cuts m j r)) (leb (len (ewise_add m layer)) cut) refl
+layers_after-cascade (layer ∷ layers) (cut ∷ cuts) m (suc j) k r = step (layers_after-cascade layers cuts (ewise_add m layer) j (omega arith) (ends_next layer layers cut cuts m j r)) (leb (len (ewise_add m layer)) cut) refl
   where
-    step : cascade layers cuts (ewise_add m layer) ≡ settled layers (ewise_add m layer) j → (b : Bool) → leb (len (ewise_add m layer)) cut ≡ b → cond b (ewise_add m layer ∷ layers) (empty ∷ cascade layers cuts (ewise_add m layer)) ≡ settled (layer ∷ layers) m (suc j)
+    step : cascade layers cuts (ewise_add m layer) ≡ layers_after layers (ewise_add m layer) j → (b : Bool) → leb (len (ewise_add m layer)) cut ≡ b → cond b (ewise_add m layer ∷ layers) (empty ∷ cascade layers cuts (ewise_add m layer)) ≡ layers_after (layer ∷ layers) m (suc j)
     step later true e = absurd (r.2 0 (omega arith) (hold_first layer layers cut cuts m (leb-true _ _ e)))
-    step later false e = ap (λ s. empty ∷ s) later ∙ settled_next layer layers cut cuts m j
+    step later false e = ap (λ s. empty ∷ s) later ∙ layers_after_next layer layers cut cuts m j
 
--- there is a place to rest
-pub rests : (layers : List Counts) (cuts : List ℕ) (m : Counts) → length layers ≡ length cuts + 1 → (j : ℕ) × RestsAt layers cuts m j
-rests [] cuts m k = absurd (omega arith)
-rests (layer ∷ layers) [] m k = (0, (omega arith, inl (omega arith), (λ i h held. absurd (omega arith))))
-rests (layer ∷ layers) (cut ∷ cuts) m k = step (rests layers cuts (ewise_add m layer) (omega arith)) (leb (len (ewise_add m layer)) cut) refl
+-- there is a place where it ends
+pub ends_somewhere : (layers : List Counts) (cuts : List ℕ) (m : Counts) → length layers ≡ length cuts + 1 → (j : ℕ) × EndsAt layers cuts m j
+ends_somewhere [] cuts m k = absurd (omega arith)
+ends_somewhere (layer ∷ layers) [] m k = (0, (omega arith, inl (omega arith), (λ i h held. absurd (omega arith))))
+ends_somewhere (layer ∷ layers) (cut ∷ cuts) m k = step (ends_somewhere layers cuts (ewise_add m layer) (omega arith)) (leb (len (ewise_add m layer)) cut) refl
   where
-    step : (j : ℕ) × RestsAt layers cuts (ewise_add m layer) j → (b : Bool) → leb (len (ewise_add m layer)) cut ≡ b → (j : ℕ) × RestsAt (layer ∷ layers) (cut ∷ cuts) m j
+    step : (j : ℕ) × EndsAt layers cuts (ewise_add m layer) j → (b : Bool) → leb (len (ewise_add m layer)) cut ≡ b → (j : ℕ) × EndsAt (layer ∷ layers) (cut ∷ cuts) m j
     step later true e = (0, (omega arith, hold_first layer layers cut cuts m (leb-true _ _ e), (λ i h held. absurd (omega arith))))
-    step later false e = (suc later.0, rests_back layer layers cut cuts m later.0 (leb-false _ _ e) (omega arith) later.1)
+    step later false e = (suc later.0, ends_back layer layers cut cuts m later.0 (leb-false _ _ e) (omega arith) later.1)
 
-pub settles-cascade : (layers : List Counts) (cuts : List ℕ) (m : Counts) (after : List Counts) → length layers ≡ length cuts + 1 → (Settles layers cuts m after → after ≡ cascade layers cuts m) × (after ≡ cascade layers cuts m → Settles layers cuts m after)
-settles-cascade layers cuts m after k = (
-  (λ s. s.1.1 ∙ sym (settled-cascade layers cuts m s.0 k s.1.0)),
-  (λ is. let at = rests layers cuts m k in (at.0, (at.1, is ∙ settled-cascade layers cuts m at.0 k at.1))),
+pub cascades_to-cascade : (layers : List Counts) (cuts : List ℕ) (m : Counts) (after : List Counts) → length layers ≡ length cuts + 1 → (CascadesTo layers cuts m after → after ≡ cascade layers cuts m) × (after ≡ cascade layers cuts m → CascadesTo layers cuts m after)
+cascades_to-cascade layers cuts m after k = (
+  (λ s. s.1.1 ∙ sym (layers_after-cascade layers cuts m s.0 k s.1.0)),
+  (λ is. let at = ends_somewhere layers cuts m k in (at.0, (at.1, is ∙ layers_after-cascade layers cuts m at.0 k at.1))),
 )

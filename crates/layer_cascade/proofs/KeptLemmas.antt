@@ -1,18 +1,18 @@
 -- Layers that are made keep what layers are to keep: the empty ones, and those after an addition.
-use Rattle.std.proofs.Common.{◌≡◌, ℕ, zero, suc, ◌+◌, ◌<◌, ◌≤◌, ◌^◌, List, [], ◌∷◌, ◌++◌, length, drop, replicate, map, sym, ◌∙◌, ap, subst, refl, arith}
-use Rattle.std.specs.FinMap.{empty, len, len-empty}
-use Rattle.std.proofs.lemmas.List.{map-append, length-map, length-replicate, drop-map}
+use Rattle.std.proofs.Common.{◌≡◌, ℕ, zero, suc, ◌+◌, ◌<◌, ◌^◌, List, [], ◌∷◌, ◌++◌, length, drop, replicate, sym, ◌∙◌, ap, subst, refl, arith}
+use Rattle.std.specs.FinMap.{empty, len-empty}
+use Rattle.std.proofs.lemmas.List.{map-append, length-replicate, drop-map}
 use Rattle.mm_text.specs.Bounds.{IsDimension}
 use Rattle.hyper_matrix.specs.Counts.{Counts, place_cmp, ewise_add, total}
 use Rattle.hyper_matrix.specs.Matrix.{Matrix, matrix}
 use Rattle.hyper_matrix.proofs.CountLaws.{ewise_add-empty, total-ewise_add, total-empty}
-use Rattle.layer_cascade.specs.Cascade.{content, cascade, with_first, KeepsCuts, RestsAt, settled}
+use Rattle.layer_cascade.specs.Cascade.{content, cascade, with_first, KeepsCuts, EndsAt, layers_after}
 use Rattle.layer_cascade.specs.Cuts.{AreCuts}
 use Rattle.layer_cascade.specs.Layering.{Layering, layering, no_layers, IsLayering}
 use Rattle.std.specs.declared.sync.Arc.{Arc}
 use Rattle.std.specs.Arc.{arc_value}
 use Rattle.layer_cascade.specs.Shared.{values, all_counts, HaveDims, KeepsLayers}
-use Rattle.layer_cascade.proofs.CascadeLaws.{content-cascade, cuts-cascade, length-cascade, settled-cascade}
+use Rattle.layer_cascade.proofs.CascadeLaws.{content-cascade, cuts-cascade, length-cascade, layers_after-cascade}
 use Rattle.layer_cascade.proofs.LayerLemmas.{dims-append, dims-replicate, dims-drop}
 
 pub counts-replicate : (n : ℕ) (m : Matrix) → all_counts (replicate n m) ≡ replicate n m.counts
@@ -53,8 +53,8 @@ module _ (r c : ℕ) (cuts cuts' : List ℕ) (layers : List Matrix) (none : Matr
   }
 
 -- the layers after an addition
-module _ (r c : ℕ) (cuts cuts' : List ℕ) (layers after : List Matrix) (none none' m sum : Matrix) (j : ℕ) (keeps : KeepsLayers r c cuts layers none) (rests : RestsAt (all_counts layers) cuts m.counts j) (sum_is : sum ≡ matrix m.rows m.cols (with_first (all_counts layers) m.counts j)) (made : after ≡ replicate j none ++ sum ∷ drop (suc j) layers) (same : cuts' ≡ cuts) where
-  after_counts : all_counts after ≡ settled (all_counts layers) m.counts j
+module _ (r c : ℕ) (cuts cuts' : List ℕ) (layers after : List Matrix) (none none' m sum : Matrix) (j : ℕ) (keeps : KeepsLayers r c cuts layers none) (ends : EndsAt (all_counts layers) cuts m.counts j) (sum_is : sum ≡ matrix m.rows m.cols (with_first (all_counts layers) m.counts j)) (made : after ≡ replicate j none ++ sum ∷ drop (suc j) layers) (same : cuts' ≡ cuts) where
+  after_counts : all_counts after ≡ layers_after (all_counts layers) m.counts j
   after_counts =
       let counts : Matrix → Counts = λ m. m.counts in
       ap all_counts made ∙ map-append counts (replicate j none) (sum ∷ drop (suc j) layers)
@@ -63,7 +63,7 @@ module _ (r c : ℕ) (cuts cuts' : List ℕ) (layers after : List Matrix) (none 
       ∙ ap (λ s. replicate j empty ++ with_first (all_counts layers) m.counts j ∷ s) (sym (drop-map counts (suc j) layers))
 
   pub after_layers : layering r c cuts' (all_counts after) ≡ layering r c cuts (cascade (all_counts layers) cuts m.counts)
-  after_layers = ap (λ k. layering r c k (all_counts after)) same ∙ ap (λ s. layering r c cuts s) (after_counts ∙ sym (settled-cascade (all_counts layers) cuts m.counts j keeps.told.count rests))
+  after_layers = ap (λ k. layering r c k (all_counts after)) same ∙ ap (λ s. layering r c cuts s) (after_counts ∙ sym (layers_after-cascade (all_counts layers) cuts m.counts j keeps.told.count ends))
 
   is_after : total (content (all_counts layers)) + total m.counts < 2 ^ 64 → IsLayering (layering r c cuts (cascade (all_counts layers) cuts m.counts))
   is_after fits = record {
@@ -85,9 +85,9 @@ module _ (r c : ℕ) (cuts cuts' : List ℕ) (layers after : List Matrix) (none 
   }
 
 -- what the plan of an addition is made of, at the lists that are read behind references
-module _ {Z : Type 0} (r c : ℕ) (cuts cuts' cuts-2 : List ℕ) (layers layers-2 layers-3 after : List (Arc Matrix Z)) (none none' m sum : Matrix) (j : ℕ) (keeps : KeepsLayers r c cuts (values layers) none) (rests : RestsAt (all_counts (values layers-2)) cuts-2 m.counts j) (sum_is : sum ≡ matrix m.rows m.cols (with_first (all_counts (values layers-2)) m.counts j)) (made : values after ≡ replicate j none ++ sum ∷ values (drop (suc j) layers-3)) (same : cuts' ≡ cuts) (read : layers-2 ≡ layers) (read_cuts : cuts-2 ≡ cuts) (read_again : layers-3 ≡ layers) where
-  rests_there : RestsAt (all_counts (values layers)) cuts m.counts j
-  rests_there = subst (λ k. RestsAt (all_counts (values layers)) k m.counts j) read_cuts (subst (λ s. RestsAt (all_counts (values s)) cuts-2 m.counts j) read rests)
+module _ {Z : Type 0} (r c : ℕ) (cuts cuts' cuts-2 : List ℕ) (layers layers-2 layers-3 after : List (Arc Matrix Z)) (none none' m sum : Matrix) (j : ℕ) (keeps : KeepsLayers r c cuts (values layers) none) (ends : EndsAt (all_counts (values layers-2)) cuts-2 m.counts j) (sum_is : sum ≡ matrix m.rows m.cols (with_first (all_counts (values layers-2)) m.counts j)) (made : values after ≡ replicate j none ++ sum ∷ values (drop (suc j) layers-3)) (same : cuts' ≡ cuts) (read : layers-2 ≡ layers) (read_cuts : cuts-2 ≡ cuts) (read_again : layers-3 ≡ layers) where
+  ends_there : EndsAt (all_counts (values layers)) cuts m.counts j
+  ends_there = subst (λ k. EndsAt (all_counts (values layers)) k m.counts j) read_cuts (subst (λ s. EndsAt (all_counts (values s)) cuts-2 m.counts j) read ends)
 
   sum_there : sum ≡ matrix m.rows m.cols (with_first (all_counts (values layers)) m.counts j)
   sum_there = sum_is ∙ ap (λ s. matrix m.rows m.cols (with_first (all_counts (values s)) m.counts j)) read
@@ -97,10 +97,10 @@ module _ {Z : Type 0} (r c : ℕ) (cuts cuts' cuts-2 : List ℕ) (layers layers-
 
   pub planned_layers : (v : Layering) → layering r c cuts (all_counts (values layers)) ≡ v → layering r c cuts' (all_counts (values after)) ≡ layering v.rows v.cols v.cuts (cascade v.layers v.cuts m.counts)
   planned_layers v view =
-      after_layers r c cuts cuts' (values layers) (values after) none none' m sum j keeps rests_there sum_there made_there same
+      after_layers r c cuts cuts' (values layers) (values after) none none' m sum j keeps ends_there sum_there made_there same
       ∙ ap (λ (w : Layering). layering w.rows w.cols w.cuts (cascade w.layers w.cuts m.counts)) view
 
   pub keeps_planned : (v : Layering) → layering r c cuts (all_counts (values layers)) ≡ v → m.rows ≡ v.rows → m.cols ≡ v.cols → total (content v.layers) + total m.counts < 2 ^ 64 → none' ≡ none → KeepsLayers r c cuts' (values after) none'
   keeps_planned v view rows cols fits empty_one =
-      keeps_after r c cuts cuts' (values layers) (values after) none none' m sum j keeps rests_there sum_there made_there same
+      keeps_after r c cuts cuts' (values layers) (values after) none none' m sum j keeps ends_there sum_there made_there same
       (rows ∙ sym (ap (λ (w : Layering). w.rows) view)) (cols ∙ sym (ap (λ (w : Layering). w.cols) view)) (omega (arith, ap (λ (w : Layering). total (content w.layers)) view)) empty_one

@@ -1,12 +1,12 @@
 -- What the stored layers come to, and what their content is place by place.
-use Rattle.std.proofs.Common.{◌≡◌, ℕ, zero, suc, ◌+◌, ◌<◌, ◌≤◌, ◌^◌, List, [], ◌∷◌, ◌++◌, length, take, drop, replicate, get_or, map, sym, ◌∙◌, ap, subst, refl, inl, inr, arith, append_assoc}
+use Rattle.std.proofs.Common.{◌≡◌, ℕ, zero, suc, ◌+◌, ◌<◌, ◌≤◌, List, [], ◌∷◌, ◌++◌, length, take, drop, replicate, get_or, sym, ◌∙◌, ap, subst, refl, inl, inr, arith, append_assoc}
 use Rattle.std.specs.declared.sync.Arc.{Arc}
 use Rattle.std.specs.Arc.{arc_value}
-use Rattle.std.specs.FinMap.{empty, len, empty_of_len}
-use Rattle.std.proofs.lemmas.List.{take_more, length-map, map-append, drop-map, take_all}
+use Rattle.std.specs.FinMap.{len, empty_of_len}
+use Rattle.std.proofs.lemmas.List.{take_more, length-map, map-append, take_all}
 use Rattle.hyper_matrix.specs.Counts.{Counts, ewise_add, total}
 use Rattle.hyper_matrix.specs.Matrix.{Matrix, matrix}
-use Rattle.hyper_matrix.proofs.CountLaws.{ewise_add_comm, ewise_add_assoc, ewise_add-empty, total-ewise_add, total-empty}
+use Rattle.hyper_matrix.proofs.CountLaws.{ewise_add_assoc, ewise_add-empty, total-ewise_add, total-empty}
 use Rattle.layer_cascade.specs.Cascade.{content, with_first, CanHold}
 use Rattle.layer_cascade.specs.Layering.{Layering, layering}
 use Rattle.layer_cascade.specs.Shared.{values, all_counts, HaveDims}

@@ -1,14 +1,14 @@
 -- The rows of a sum, and a row's columns counted one after another.
-use Rattle.std.proofs.Common.{◌≡◌, ℕ, zero, suc, ◌+◌, ◌-◌, ◌<◌, ◌≤◌, ◌⊎◌, Bool, true, false, cond, T, eqb, ltb, ◌&&◌, not, is_some, List, [], ◌∷◌, Option, Some, None, min, sym, ◌∙◌, ap, subst, refl, inl, inr, arith}
+use Rattle.std.proofs.Common.{◌≡◌, ℕ, ◌+◌, ◌<◌, ◌≤◌, ◌⊎◌, Bool, true, false, cond, eqb, ltb, ◌&&◌, not, is_some, List, [], ◌∷◌, Option, Some, None, min, sym, ◌∙◌, ap, subst, refl, inl, inr, arith}
 use Rattle.std.specs.Prelude.{unwrap_or, IfSome}
 use Rattle.std.specs.Ordering.{eq_by_cmp}
-use Rattle.std.specs.FinMap.{empty, get, insert, len, entries, find, contains_key, retain_keys, get-empty, get-insert, get-entries, get-retain_keys, len-insert, len-empty}
-use Rattle.std.proofs.lemmas.Bool.{false≢true, cases_order, lt-ltb, le-ltb, eqb-true, eq-eqb, ne_eqb}
+use Rattle.std.specs.FinMap.{empty, get, insert, len, entries, find, retain_keys, get-empty, get-insert, get-entries, get-retain_keys, len-insert, len-empty}
+use Rattle.std.proofs.lemmas.Bool.{cases_order, lt-ltb, le-ltb, eqb-true, eq-eqb, ne_eqb}
 use Rattle.hyper_matrix.specs.Counts.{Place, place_cmp, Counts, ewise_add, plus, total, count_sum}
-use Rattle.hyper_matrix.proofs.CountLaws.{same_counts, exact_places, places_total, get-ewise_add, plus-none, total-ewise_add, total-empty}
+use Rattle.hyper_matrix.proofs.CountLaws.{same_counts, exact_places, places_total, get-ewise_add, plus-none, total-ewise_add}
 use Rattle.hyper_matrix.proofs.CellLaws.{same_place}
-use Rattle.hyper_matrix.specs.RowOf.{row_of, IsFree, HasNoneFrom, IsFirst}
-use Rattle.layer_cascade.specs.Columns.{IsFirstColumn, FirstColumn, earlier}
+use Rattle.hyper_matrix.specs.RowOf.{row_of, IsFree, HasNoneFrom}
+use Rattle.layer_cascade.specs.Columns.{FirstColumn, earlier}
 
 module _ (m : Counts) (keep : Place → Bool) where
   get-kept : (q : Place) → get (retain_keys m keep) q ≡ cond (keep q) (get m q) None

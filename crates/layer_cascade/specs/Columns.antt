@@ -1,5 +1,5 @@
 -- The columns of one row.
-use Rattle.std.specs.Prelude.{◌≡◌, ℕ, ◌<◌, ◌≤◌, Option, Some, None, min}
+use Rattle.std.specs.Prelude.{◌≡◌, ℕ, ◌≤◌, Option, Some, None, min}
 use Rattle.std.specs.FinMap.{get}
 use Rattle.hyper_matrix.specs.Counts.{Counts}
 use Rattle.hyper_matrix.specs.RowOf.{IsFree, HasNoneFrom}

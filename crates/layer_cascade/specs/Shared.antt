@@ -5,7 +5,7 @@ use Rattle.std.specs.Arc.{arc_value}
 use Rattle.std.specs.FinMap.{empty}
 use Rattle.hyper_matrix.specs.Counts.{Counts}
 use Rattle.hyper_matrix.specs.Matrix.{Matrix, matrix}
-use Rattle.layer_cascade.specs.Layering.{Layering, layering, IsLayering}
+use Rattle.layer_cascade.specs.Layering.{layering, IsLayering}
 
 -- the matrices behind a list of shared ones
 abbrev pub values : {Z : Type 0} → List (Arc Matrix Z) → List Matrix

@@ -9,7 +9,7 @@
 ghost use Rattle.std.specs.Prelude.{◌≡◌, ℕ, ◌+◌, ◌<◌, ◌≤◌, ◌^◌, ◌⊎◌, ◌↔◌, IfOk, IfSome};
 ghost use Rattle.std.specs.FinMap.{get, len};
 ghost use Rattle.mm_text.specs.Bounds.{IsDimension};
-ghost use Rattle.hyper_matrix.specs.Counts.{Place, total};
+ghost use Rattle.hyper_matrix.specs.Counts.{total};
 ghost use Rattle.hyper_matrix.specs.Matrix.{matrix};
 ghost use Rattle.layer_cascade.specs.Cascade.{cascade, content};
 ghost use Rattle.layer_cascade.specs.Cuts.{AreCuts};
@@ -17,10 +17,10 @@ ghost use Rattle.hyper_matrix.specs.RowOf.{row_of};
 ghost use Rattle.layer_cascade.specs.Columns.{FirstColumn};
 ghost use Rattle.layer_cascade.specs.Layering.{IsLayering, no_layers, entries_of_layer};
 
+use crate::addition::{added, cascade_end, layers_after, push_copies};
 use crate::cuts::are_cuts;
 use crate::fault::CascadeFault;
 use crate::lookup::{column_from, earlier, plus};
-use crate::settle::{added, push_copies, settle, settled_layers};
 use hyper_matrix::{Hyper, RowSum};
 use std::alloc::{AllocError, Global};
 use std::marker::Model;
@@ -150,8 +150,8 @@ impl Layers {
         requires fits { total (content self.now.layers) + total m.now.counts < 2 ^ 64 }
         ensures { IfOk result (λ plan. plan ≡ record self.now { layers = cascade self.now.layers self.now.cuts m.now.counts }) }
     {
-        let settled = settle(alloc, &self.layers, &self.cuts, m)?;
-        let layers = settled_layers(alloc, &self.layers, &self.empty, settled)?;
+        let end = cascade_end(alloc, &self.layers, &self.cuts, m)?;
+        let layers = layers_after(alloc, &self.layers, &self.empty, end)?;
         let cuts = self.cuts.clone()?;
         let empty = Arc::try_clone(&self.empty)?;
         let after = Layers {

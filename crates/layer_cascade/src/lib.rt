@@ -9,16 +9,16 @@
 //! and cannot fail.
 #![tactic(auto)]
 
+mod addition;
 mod cuts;
 mod fault;
 mod laws;
 mod layers;
 mod lookup;
-mod settle;
 #[cfg(test)]
 mod tests;
 
 pub use cuts::are_cuts;
 pub use fault::CascadeFault;
-pub use laws::{cascades_add, cascades_add_all, cascades_keep_cuts, cascades_settle};
+pub use laws::{cascades_add, cascades_add_all, cascades_end_once, cascades_keep_cuts};
 pub use layers::{Layers, Plan};

@@ -1,18 +1,16 @@
 -- Bytes that were judged behind a text: what is held then, or the fault that they show.
-use Rattle.std.proofs.Common.{inl, inr, ◌≡◌, ℕ, ◌+◌, ◌<◌, ◌≤◌, Bool, true, false, not, ◌||◌, ◌&&◌, cond, List, [], ◌∷◌, ◌++◌, length, take, drop, refl, sym, ◌∙◌, ap, subst, arith, append_assoc, length-append}
+use Rattle.std.proofs.Common.{inl, inr, ◌≡◌, ℕ, ◌+◌, ◌<◌, ◌≤◌, Bool, true, false, not, ◌||◌, ◌&&◌, cond, List, [], ◌∷◌, ◌++◌, length, take, refl, sym, ◌∙◌, ap, subst, arith, append_assoc, length-append}
 use Rattle.std.proofs.lemmas.List.{append-nil, take_all}
 use Rattle.std.proofs.lemmas.Bool.{cases_lt}
 use Rattle.std.proofs.lemmas.Bool.Decides.{nat_tests}
-use Rattle.std.specs.Prelude.{nat_eq, nat_lt, count_by, Some}
-use Rattle.std.specs.List.{AllByRecursion}
+use Rattle.std.specs.Prelude.{nat_eq, nat_lt, count_by}
 use Rattle.mm_text.specs.Lines.{lines_of, joined, bytes_of, line_at, is_line_feed, is_limited, is_comment, content, IsLine}
 use Rattle.mm_text.specs.Texts.{NoFaultWithin, Spells}
-use Rattle.mm_text.specs.Stages.{Keeps, LineFault, TakesLines, IsCarried, EndsCarried, Holds, AddsLine, Advances, cut_kind, declared_size, lack_at}
+use Rattle.mm_text.specs.Stages.{Keeps, LineFault, IsCarried, EndsCarried, Holds, AddsLine, Advances, cut_kind}
 use Rattle.mm_text.specs.Streams.{Explains, Shows, IsReadFault}
 use Rattle.mm_text.specs.declared.fault.MmKind.{MmKind}
-use Rattle.mm_text.specs.declared.fault.MmKind.TheVariants.{Read, LineTooLong, TooLong}
+use Rattle.mm_text.specs.declared.fault.MmKind.TheVariants.{LineTooLong, TooLong}
 use Rattle.mm_text.specs.declared.cell.Cell.{Cell}
-use Rattle.mm_text.specs.declared.size.Size.{Size}
 use Rattle.mm_text.specs.declared.limits.TextLimits.{TextLimits}
 use Rattle.mm_text.specs.declared.stages.Stage.{Stage}
 use Rattle.mm_text.specs.declared.stages.Stage.TheVariants.{AtBanner}
@@ -21,9 +19,7 @@ use Rattle.mm_text.proofs.Cuts.{lines_of-joined, lines_of-line, length-joined, j
 use Rattle.mm_text.proofs.KeepLemmas.{limited_is}
 use Rattle.mm_text.proofs.CutOffLemmas.{count_lines, continues, overrun_longer, limited_longer, first_cut}
 use Rattle.mm_text.proofs.FeedLemmas.{both_lines}
-use Rattle.mm_text.proofs.PlainLemmas.{plain_lack}
-use Rattle.mm_text.proofs.EndLemmas.{lack_is, spells_all}
-use Rattle.mm_text.proofs.ExplainLemmas.{told, explains_plain, explains_line, none_before}
+use Rattle.mm_text.proofs.ExplainLemmas.{told, explains_line, none_before}
 
 no_line : IsLine []
 no_line = record { no_feed = λ k d l. absurd (omega arith) }

@@ -1,13 +1,13 @@
 -- The dimensions of a text, and its cells within them.
-use Rattle.std.proofs.Common.{inl, inr, ◌≡◌, ℕ, zero, suc, ◌+◌, ◌-◌, ◌<◌, ◌≤◌, ◌^◌, ◌||◌, ◌&&◌, ◌⊎◌, Bool, true, false, not, cond, List, [], ◌∷◌, ◌++◌, length, drop, refl, sym, ◌∙◌, ap, subst, arith}
+use Rattle.std.proofs.Common.{◌≡◌, ℕ, zero, suc, ◌-◌, ◌<◌, ◌||◌, ◌&&◌, Bool, true, false, not, cond, List, [], ◌∷◌, drop, refl, subst, arith}
 use Rattle.std.proofs.lemmas.Bool.Decides.{nat_tests}
 use Rattle.std.proofs.lemmas.List.Elements.{All-append}
-use Rattle.std.specs.Prelude.{Option, Some, None, Result, Ok, Err, nat_lt, nat_le, nat_eq, map, flat_map, All, slice_index_or}
+use Rattle.std.specs.Prelude.{Result, Ok, Err, nat_lt, nat_eq, map, flat_map}
 use Rattle.mm_text.specs.Bounds.{IsDimension, IsWithin, AreWithin}
 use Rattle.mm_text.specs.Judging.{◌>>=◌, refuse_if, is_dimension, number, size, index, entry, cells_of}
 use Rattle.mm_text.specs.Texts.{Spells}
 use Rattle.mm_text.specs.Stages.{StageIs, declared_size}
-use Rattle.mm_text.specs.Readings.{SizedCells, AreSized}
+use Rattle.mm_text.specs.Readings.{AreSized}
 use Rattle.mm_text.specs.declared.fault.MmKind.{MmKind}
 use Rattle.mm_text.specs.declared.cell.Cell.{Cell}
 use Rattle.mm_text.specs.declared.size.Size.{Size}

@@ -1,11 +1,10 @@
 -- The carried front of a line, and what it says of the line.
-use Rattle.std.proofs.Common.{inl, inr, ◌≡◌, ℕ, ◌+◌, ◌<◌, ◌≤◌, Bool, true, false, not, ◌||◌, ◌&&◌, ◌⊎◌, cond, List, [], ◌∷◌, ◌++◌, length, refl, sym, ◌∙◌, ap, subst, arith, append_assoc, length-append}
+use Rattle.std.proofs.Common.{inl, inr, ◌≡◌, ℕ, ◌+◌, ◌<◌, ◌≤◌, Bool, true, false, not, ◌||◌, ◌&&◌, List, [], ◌∷◌, ◌++◌, length, refl, sym, ◌∙◌, ap, arith, length-append}
 use Rattle.std.proofs.lemmas.Bool.Decides.{nat_tests}
 use Rattle.std.proofs.lemmas.List.{append-nil}
 use Rattle.std.specs.Prelude.{nat_eq, nat_lt, Ok, None}
-use Rattle.mm_text.specs.Lines.{is_limited, is_comment, content}
-use Rattle.mm_text.specs.Stages.{IsCarried, EndsCarried, cut_kind, judged, AddsLine, Keeps, LineFault, IsOverlong}
-use Rattle.mm_text.specs.declared.fault.MmKind.{MmKind}
+use Rattle.mm_text.specs.Lines.{is_comment, content}
+use Rattle.mm_text.specs.Stages.{IsCarried, EndsCarried, cut_kind, judged, AddsLine, Keeps, IsOverlong}
 use Rattle.mm_text.specs.declared.fault.MmKind.TheVariants.{LineTooLong, TooLong}
 use Rattle.mm_text.specs.declared.cell.Cell.{Cell}
 use Rattle.mm_text.specs.declared.limits.TextLimits.{TextLimits}

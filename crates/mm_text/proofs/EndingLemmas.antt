@@ -1,8 +1,8 @@
 -- The end of a text: its last line, and what is missing.
-use Rattle.std.proofs.Common.{inl, inr, ◌≡◌, ℕ, ◌+◌, ◌<◌, ◌≤◌, true, List, [], ◌∷◌, ◌++◌, length, refl, sym, ◌∙◌, ap, subst, arith}
+use Rattle.std.proofs.Common.{inl, inr, ◌≡◌, ℕ, ◌+◌, ◌<◌, ◌≤◌, List, [], ◌∷◌, ◌++◌, length, sym, ◌∙◌, ap, subst, arith}
 use Rattle.std.proofs.lemmas.List.{append-nil}
 use Rattle.std.specs.Prelude.{Some}
-use Rattle.mm_text.specs.Lines.{lines_of, joined, bytes_of, line_at, is_comment, counted}
+use Rattle.mm_text.specs.Lines.{lines_of, joined, line_at, counted}
 use Rattle.mm_text.specs.Stages.{Keeps, LineFault, IsCarried, EndsCarried, Holds, AddsLine, EndsLast, EndsText, lack_at, declared_size}
 use Rattle.mm_text.specs.Streams.{Explains}
 use Rattle.mm_text.specs.declared.fault.MmKind.{MmKind}

@@ -4,11 +4,11 @@ use Rattle.std.proofs.lemmas.Bool.Decides.{nat_tests}
 use Rattle.std.proofs.lemmas.Bool.{cases_lt}
 use Rattle.std.specs.Prelude.{Option, Some, None, Result, Ok, Err, nat_lt, nat_eq}
 use Rattle.mm_text.specs.Lines.{counted, counts, is_limited, content, is_comment, is_skipped}
-use Rattle.mm_text.specs.Judging.{◌>>=◌, banner, size, entry, cells_of}
+use Rattle.mm_text.specs.Judging.{◌>>=◌, entry}
 use Rattle.mm_text.specs.declared.size.Size.{Size}
 use Rattle.mm_text.specs.declared.stages.Stage.TheVariants.{AtBanner, AtSize, AtEntries}
 use Rattle.std.proofs.lemmas.List.{append-nil}
-use Rattle.mm_text.specs.Stages.{step, judged, added, Keeps, LineFault, AddsLine, IsUnstored, declared_size, after_entry, is_symmetric}
+use Rattle.mm_text.specs.Stages.{step, judged, added, Keeps, LineFault, AddsLine, declared_size, after_entry, is_symmetric}
 use Rattle.mm_text.proofs.StageLemmas.{bind_err, bind_ok, step_err, step_ok, step_right}
 use Rattle.mm_text.proofs.Clean.{clean_more}
 use Rattle.mm_text.proofs.Cuts.{counted-push_yes, counted-push_no}

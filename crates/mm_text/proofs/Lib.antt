@@ -5,7 +5,6 @@ pub mod NumberLemmas
 pub mod StageLemmas
 pub mod KeepLemmas
 pub mod CarryLemmas
-pub mod TakeLemmas
 pub mod PlainLemmas
 pub mod EndLemmas
 pub mod CutOffLemmas

@@ -1,10 +1,10 @@
 -- The words of a line never bear the fault Read or Memory.
-use Rattle.std.proofs.Common.{◌≡◌, ℕ, ◌^◌, ◌||◌, ◌&&◌, Bool, true, false, not, cond, List, [], ◌∷◌, length, drop, refl}
+use Rattle.std.proofs.Common.{◌≡◌, ℕ, ◌^◌, ◌||◌, ◌&&◌, Bool, true, false, not, cond, List, [], ◌∷◌, length, drop}
 use Rattle.std.specs.Prelude.{Option, Some, None, Result, Ok, Err, nat_lt, nat_eq, slice_index, codes}
 use Rattle.mm_text.specs.Lines.{is_blank}
 use Rattle.mm_text.specs.Words.{words, word, has_word, number_of, is_negative}
 use Rattle.mm_text.specs.Judging.{◌>>=◌, refuse_if, is_one_of, is_dimension, keyword, mark, object, format, field, symmetry, banner, number, size, index, entry, fault_of}
-use Rattle.mm_text.specs.Texts.{fault_behind, lack_of}
+use Rattle.mm_text.specs.Texts.{fault_behind}
 use Rattle.mm_text.specs.Stages.{lack_at}
 use Rattle.mm_text.specs.declared.fault.MmKind.{MmKind}
 use Rattle.mm_text.specs.declared.fault.MmKind.TheVariants.{Read, Memory, BadBanner, Unsupported, BadSize, BadDimension, NotSquare, TooManyEntries, BadEntry, Negative, NumberTooLarge, IndexOutOfRange, ExtraText, TooFewEntries}

@@ -1,11 +1,10 @@
 -- What a reader has read, after each of its steps.
-use Rattle.std.proofs.Common.{inl, inr, ◌≡◌, ℕ, zero, suc, ◌+◌, ◌-◌, ◌<◌, ◌≤◌, ◌⊎◌, List, [], ◌∷◌, ◌++◌, length, take, drop, refl, sym, ◌∙◌, ap, subst, arith, append_assoc, length-append, length-take, length-drop}
-use Rattle.std.proofs.lemmas.List.{append-nil, take-append-drop, drop-take, drop-drop, take-take, take_all}
+use Rattle.std.proofs.Common.{inl, inr, ◌≡◌, ℕ, zero, suc, ◌+◌, ◌-◌, ◌<◌, ◌≤◌, ◌⊎◌, List, [], ◌∷◌, ◌++◌, length, take, drop, refl, sym, ◌∙◌, ap, arith, append_assoc, length-append, length-take, length-drop}
+use Rattle.std.proofs.lemmas.List.{append-nil, take-append-drop, drop-take, drop-drop, take-take}
 use Rattle.std.specs.Prelude.{Result, Ok, Err, Some}
-use Rattle.mm_text.specs.Texts.{Spells}
 use Rattle.mm_text.specs.Stages.{Holds, Advances, EndsText, declared_size}
-use Rattle.mm_text.specs.Streams.{Calls, bytes_of_calls, Explains, Shows}
-use Rattle.mm_text.specs.Readings.{HasRead, pending, size_of, TakesPending, Fills, Finishes, ShowsRead, GoesOn, Ends, Stops, SpelledBy, ExplainedBy}
+use Rattle.mm_text.specs.Streams.{bytes_of_calls, Explains, Shows}
+use Rattle.mm_text.specs.Readings.{HasRead, pending, size_of, TakesPending, Fills, Finishes, ShowsRead, GoesOn, Ends, Stops}
 use Rattle.mm_text.specs.declared.fault.DeviceFault.{DeviceFault}
 use Rattle.mm_text.specs.declared.fault.MmKind.{MmKind}
 use Rattle.mm_text.specs.declared.fault.MmKind.TheVariants.{Read, TooLong}

@@ -1,5 +1,5 @@
 -- What the reader keeps of the lines that it has read, and how one more changes it.
-use Rattle.std.specs.Prelude.{◌≡◌, ◌≢◌, ◌⊎◌, slice_index, ℕ, ◌+◌, ◌<◌, ◌≤◌, Bool, true, false, not, ◌&&◌, ◌||◌, nat_lt, nat_eq, if◌then◌else◌, List, [], ◌∷◌, ◌++◌, length, map, flat_map, Option, Some, None, Result, Ok, Err}
+use Rattle.std.specs.Prelude.{◌≡◌, ◌⊎◌, ℕ, ◌+◌, ◌<◌, ◌≤◌, Bool, true, false, not, ◌&&◌, ◌||◌, nat_lt, nat_eq, if◌then◌else◌, List, [], ◌∷◌, ◌++◌, length, map, flat_map, Option, Some, None, Result, Ok, Err}
 use Rattle.mm_text.specs.Lines.{lines_of, content, counts, is_limited, counted, is_comment, is_skipped, IsLine, joined}
 use Rattle.std.specs.List.{AllByRecursion}
 use Rattle.mm_text.specs.Judging.{◌>>=◌, banner, size, entry, cells_of}
@@ -139,10 +139,6 @@ lack_at (AtEntries symmetric s seen) = if nat_lt seen s.entries then Some TooFew
 abbrev pub cut_kind : Bool → List ℕ → MmKind
 cut_kind is_first rest = if (is_first || not (is_comment rest)) && nat_lt 1024 (length (content rest)) then LineTooLong else TooLong
 
--- the first i bytes have no LF
-abbrev pub NoFeedBelow : List ℕ → ℕ → Type 0
-NoFeedBelow bytes i = (k : ℕ) → k < i → slice_index bytes k ≢ 10
-
 -- What is carried of the present line: all of it, or no more than shows that it is a comment.
 abbrev pub IsCarried : ℕ → List ℕ → List ℕ → Type 0
 IsCarried count rest carry = (carry ≡ rest) ⊎ ((0 < count) × (is_comment rest ≡ true) × (is_comment carry ≡ true))
@@ -156,7 +152,7 @@ pub record Holds (limits : TextLimits) (text carry : List ℕ) (stage : Stage) (
   pub fits : length text ≤ limits.max_bytes
   pub short : cut_kind (nat_eq count 0) rest ≡ TooLong
 
--- Line behind which a carried front and these bytes stand.
+-- The line ends with these bytes, behind what is carried of it.
 abbrev pub EndsCarried : ℕ → List ℕ → List ℕ → List ℕ → Type 0
 EndsCarried count carry front line = (rest : List ℕ) × IsCarried count rest carry × (line ≡ rest ++ front)
 

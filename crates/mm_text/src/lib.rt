@@ -30,6 +30,10 @@ mod writer;
 mod writer_tests;
 
 pub use cell::Cell;
+pub use device_laws::{
+    calls_are_bounded_by_bytes, known_bytes_are_moved, script_gives_its_pieces,
+    script_keeps_what_it_takes, script_read_is_determined,
+};
 pub use devices::{Counted, Sink, Source};
 pub use fault::{DeviceFault, MmFault, MmKind, WriteFault};
 pub use file::MmFile;
@@ -38,11 +42,7 @@ pub use limits::TextLimits;
 pub use read::read_matrix;
 pub use reader::TextReader;
 pub use reading::Reading;
+pub use script::Script;
 pub use size::Size;
 pub use stages::Stage;
-pub use script::Script;
 pub use writer::{TextWriter, write_all, write_matrix};
-pub use device_laws::{
-    calls_are_bounded_by_bytes, known_bytes_are_moved, script_gives_its_pieces,
-    script_keeps_what_it_takes, script_read_is_determined,
-};

@@ -1,11 +1,11 @@
-use Rattle.std.proofs.Common.{◌≡◌, ◌+◌, ◌<◌, T, [], length, drop, map, get_or, subst, sym, ap, ◌∙◌, arith}
+use Rattle.std.proofs.Common.{◌+◌, T, length, drop, map, subst, sym, ap, ◌∙◌, arith}
 use Rattle.std.specs.Arc.{arc_value}
 use Rattle.std.specs.List.{slice_range}
 use Rattle.std.specs.FinMap.{is_sorted}
 use Rattle.std.proofs.lemmas.List.{drop_all}
 use Rattle.hyper_matrix.specs.Counts.{place_cmp}
 use Rattle.hyper_matrix.specs.Rows.{cells_of}
-use Rattle.hyper_matrix.specs.Blocks.{all_cells, block_cells, IsBlock}
+use Rattle.hyper_matrix.specs.Blocks.{all_cells, block_cells}
 use Rattle.hyper_matrix.specs.Cells.{entry_of}
 use Rattle.hyper_matrix.specs.Places.{Precede, IsFirst}
 use Rattle.hyper_matrix.proofs.BlockLaws.{block_at, cells_from}

@@ -1,5 +1,3 @@
-use Rattle.std.proofs.Common.{subst, sym}
-use Rattle.std.specs.Arc.{arc_value}
 use Rattle.hyper_matrix.proofs.BlockLaws.{grows_by}
 use Rattle.hyper_matrix.proofs.blocks.push_shared.Goals as goal
 

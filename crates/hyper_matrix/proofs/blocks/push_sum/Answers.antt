@@ -1,4 +1,4 @@
-use Rattle.std.proofs.Common.{ap, subst, sym, ◌∙◌, arith}
+use Rattle.std.proofs.Common.{ap, ◌∙◌, arith}
 use Rattle.std.specs.Arc.{arc_value}
 use Rattle.hyper_matrix.specs.Rows.{Rows, rows_total, sum_rows}
 use Rattle.hyper_matrix.proofs.CellLaws.{sum_of_cells}

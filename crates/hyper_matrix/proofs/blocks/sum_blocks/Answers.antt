@@ -1,4 +1,4 @@
-use Rattle.std.proofs.Common.{ℕ, ◌≡◌, ◌++◌, ◌+◌, ◌<◌, ◌≤◌, T, List, [], length, drop, map, subst, sym, ap, ◌∙◌, refl, arith}
+use Rattle.std.proofs.Common.{ℕ, ◌≡◌, ◌++◌, ◌+◌, T, List, [], length, drop, map, subst, sym, ap, ◌∙◌, refl, arith}
 use Rattle.std.specs.Arc.{arc_value}
 use Rattle.std.specs.List.{slice_range}
 use Rattle.std.specs.FinMap.{is_sorted}
@@ -6,7 +6,7 @@ use Rattle.std.proofs.lemmas.List.{drop_all}
 use Rattle.hyper_matrix.specs.Counts.{Place, place_cmp, count_sum, built, ewise_add}
 use Rattle.hyper_matrix.specs.Rows.{cells_of}
 use Rattle.hyper_matrix.specs.Blocks.{all_cells, block_cells, IsBlock}
-use Rattle.hyper_matrix.specs.Cells.{entry_of, cell_total}
+use Rattle.hyper_matrix.specs.Cells.{entry_of}
 use Rattle.hyper_matrix.proofs.BlockLaws.{block_at, block_cells_at, cells_from, block_sum}
 use Rattle.hyper_matrix.proofs.OrderLaws.{sorted_front, sorted_back}
 use Rattle.hyper_matrix.proofs.SumLaws.{nothing_first, nothing_last, split_cells, sum_step, part_total}

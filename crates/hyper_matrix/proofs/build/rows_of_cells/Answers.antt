@@ -1,6 +1,6 @@
-use Rattle.std.proofs.Common.{◌≡◌, ◌∙◌, ap, length, sym, subst, arith}
+use Rattle.std.proofs.Common.{◌≡◌, ◌∙◌, ap, length, arith}
 use Rattle.std.proofs.lemmas.List.{take_at}
-use Rattle.hyper_matrix.specs.Cells.{cell_total, built_of, NeverFall}
+use Rattle.hyper_matrix.specs.Cells.{cell_total, built_of}
 use Rattle.hyper_matrix.proofs.BuildLaws.{built_of-permutation, cell_total-permutation}
 use Rattle.hyper_matrix.proofs.build.rows_of_cells.Goals as goal
 

@@ -1,4 +1,4 @@
-use Rattle.std.proofs.Common.{◌≡◌, ◌∙◌, ap}
+use Rattle.std.proofs.Common.{◌∙◌, ap}
 use Rattle.hyper_matrix.specs.Counts.{built}
 use Rattle.hyper_matrix.specs.Rows.{Rows, cells_of}
 use Rattle.hyper_matrix.proofs.build.rows_of_sorted.Goals as goal

@@ -1,4 +1,4 @@
-use Rattle.std.proofs.Common.{ℕ, List, ◌++◌, subst, sym, ap, ◌∙◌, arith, drop, length}
+use Rattle.std.proofs.Common.{ℕ, List, ◌++◌, subst, sym, ap, ◌∙◌, arith, drop}
 use Rattle.std.proofs.lemmas.List.{append-nil}
 use Rattle.hyper_matrix.specs.Counts.{Place}
 use Rattle.hyper_matrix.specs.Rows.{AreRising}

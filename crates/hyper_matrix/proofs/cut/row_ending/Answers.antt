@@ -1,8 +1,8 @@
 use Rattle.std.proofs.Common.{◌≡◌, ◌+◌, ◌-◌, ◌<◌, suc, length, length-drop, get_or, drop, subst, sym, ap, ◌∙◌, arith, ℕ}
 use Rattle.std.proofs.lemmas.List.{get_or-drop}
 use Rattle.hyper_matrix.specs.Rows.{start_from}
-use Rattle.hyper_matrix.proofs.RowLaws.{start-get, start-zero}
-use Rattle.hyper_matrix.proofs.CutLaws.{head_behind, head_here}
+use Rattle.hyper_matrix.proofs.RowLaws.{start-get}
+use Rattle.hyper_matrix.proofs.CutLaws.{head_behind}
 use Rattle.hyper_matrix.proofs.cut.row_ending.Goals as goal
 
 pub seek-preserved : goal.seek-preserved

@@ -4,7 +4,7 @@ use Rattle.hyper_matrix.specs.Counts.{Place, place_cmp, total, count_sum, built,
 use Rattle.hyper_matrix.specs.Blocks.{all_cells}
 use Rattle.hyper_matrix.specs.Shared.{shared_counts}
 use Rattle.hyper_matrix.specs.Cells.{entry_of}
-use Rattle.hyper_matrix.specs.Matrix.{Matrix, matrix}
+use Rattle.hyper_matrix.specs.Matrix.{Matrix}
 use Rattle.hyper_matrix.proofs.BuildLaws.{entries_total}
 use Rattle.hyper_matrix.proofs.MatrixLaws.{holds_sum, counts_sum, cells_read, kept_total, sum_is, no_blocks, with_empty, turned_sum}
 use Rattle.hyper_matrix.proofs.hyper.add_to.Goals as goal

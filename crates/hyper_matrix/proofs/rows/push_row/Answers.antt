@@ -1,4 +1,4 @@
-use Rattle.std.proofs.Common.{rules, map, ap, ◌∙◌, ◌++◌, ◌≡◌, List, ℕ, [], ◌∷◌, refl}
+use Rattle.std.proofs.Common.{rules, map, ap, ◌∙◌, ◌++◌, ◌≡◌, ℕ, [], ◌∷◌, refl}
 use Rattle.std.proofs.lemmas.List.{map-append}
 use Rattle.std.proofs.lemmas.Iterator.{YieldsList-from_map, YieldsList-from_slice}
 use Rattle.std.proofs.lemmas.Iterator.Consumers.{YieldsList-at}

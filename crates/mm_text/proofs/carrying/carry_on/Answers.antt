@@ -1,4 +1,4 @@
-use Rattle.std.proofs.Common.{arith, inl, refl, ap, sym, ◌∙◌, length, ◌++◌, ◌≡◌, ◌<◌, ◌≤◌, true}
+use Rattle.std.proofs.Common.{arith, inl, refl, ap, sym, ◌∙◌, length, ◌++◌, ◌≡◌}
 use Rattle.mm_text.specs.Lines.{content}
 use Rattle.mm_text.proofs.CarryLemmas.{carried_all, cut_long, cut_short}
 use Rattle.mm_text.proofs.carrying.carry_on.Goals as goal

@@ -1,7 +1,6 @@
-use Rattle.std.proofs.Common.{◌≡◌, ◌++◌, ◌∷◌, [], ◌+◌, take, drop, get_or, eq-eqb, sym, ◌∙◌, ap}
+use Rattle.std.proofs.Common.{◌≡◌, ◌++◌, ◌∷◌, [], ◌+◌, take, drop, get_or, eq-eqb, ◌∙◌, ap}
 use Rattle.std.proofs.lemmas.Result.{err_from_is_err_and}
 use Rattle.std.proofs.lemmas.List.{take_more}
-use Rattle.mm_text.specs.Stages.{Advances}
 use Rattle.mm_text.proofs.FeedLemmas.{piece_cut}
 use Rattle.mm_text.proofs.AdvanceLemmas.{advances_none, advances_line, shows_line}
 use Rattle.mm_text.proofs.pieces.take_line.Goals as goal

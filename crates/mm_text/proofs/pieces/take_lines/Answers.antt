@@ -1,7 +1,6 @@
-use Rattle.std.proofs.Common.{arith, ◌≡◌, ◌++◌, ◌+◌, ◌-◌, length, take, drop, sym, ◌∙◌, ap, refl, List, ℕ, [], length-take, length-drop}
+use Rattle.std.proofs.Common.{arith, ◌≡◌, ◌++◌, ◌+◌, ◌-◌, length, take, drop, sym, ◌∙◌, refl, List, ℕ, [], length-take, length-drop}
 use Rattle.std.proofs.lemmas.Result.{err_from_is_err_and}
 use Rattle.std.proofs.lemmas.List.{take-append-drop, append-nil, take_rest, take-take, drop-take}
-use Rattle.mm_text.specs.Stages.{Advances}
 use Rattle.mm_text.proofs.AdvanceLemmas.{advances_none, advances_append, shows_later}
 use Rattle.mm_text.proofs.pieces.take_lines.Goals as goal
 

@@ -1,6 +1,5 @@
-use Rattle.std.proofs.Common.{refl, sym, ◌≡◌, false, not}
-use Rattle.std.proofs.lemmas.Bool.Decides.{nat_tests}
-use Rattle.mm_text.proofs.WholeLemmas.{whole_block, whole_bounds, whole_fault, memory_at_start}
+use Rattle.std.proofs.Common.{◌≡◌, false}
+use Rattle.mm_text.proofs.WholeLemmas.{whole_block, whole_bounds}
 use Rattle.mm_text.proofs.read.read_matrix.Goals as goal
 
 pub invariant_of-result : goal.invariant_of-result

@@ -1,4 +1,3 @@
-use Rattle.std.proofs.Common.{sym, arith, ◌∙◌}
 use Rattle.hyper_matrix.proofs.BuildLaws.{no_memory_fault}
 use Rattle.hyper_matrix.proofs.hyper.Hyper.build.Goals as goal
 

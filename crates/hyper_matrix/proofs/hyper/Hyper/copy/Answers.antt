@@ -1,4 +1,4 @@
-use Rattle.std.proofs.Common.{sym, ap, ◌∙◌}
+use Rattle.std.proofs.Common.{ap, ◌∙◌}
 use Rattle.std.specs.FinMap.{from_entries}
 use Rattle.hyper_matrix.specs.Matrix.{matrix}
 use Rattle.hyper_matrix.specs.Blocks.{all_cells}

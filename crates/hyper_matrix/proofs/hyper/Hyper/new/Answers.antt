@@ -1,4 +1,4 @@
-use Rattle.std.proofs.Common.{ap, ◌∙◌}
+use Rattle.std.proofs.Common.{ap}
 use Rattle.hyper_matrix.specs.Matrix.{matrix}
 use Rattle.hyper_matrix.specs.Shared.{shared_counts}
 use Rattle.hyper_matrix.proofs.MatrixLaws.{keeps_none}

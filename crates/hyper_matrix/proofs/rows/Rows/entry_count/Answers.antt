@@ -1,4 +1,4 @@
-use Rattle.std.proofs.Common.{◌∙◌, ap, sym, length, arith}
+use Rattle.std.proofs.Common.{ap, length, arith}
 use Rattle.hyper_matrix.specs.Rows.{cells_of}
 use Rattle.hyper_matrix.proofs.RowLaws.{length-cells_of}
 use Rattle.hyper_matrix.proofs.rows.Rows.entry_count.Goals as goal

@@ -1,10 +1,9 @@
-use Rattle.std.proofs.Common.{◌≡◌, ◌<◌, IfSome, take, sym, subst, ap, ◌∙◌, arith}
+use Rattle.std.proofs.Common.{◌<◌, IfSome, take, sym, subst, arith}
 use Rattle.std.specs.FinMap.{get-empty}
 use Rattle.hyper_matrix.specs.Counts.{place_cmp, ewise_add}
 use Rattle.layer_cascade.specs.Cascade.{content}
-use Rattle.layer_cascade.specs.Layering.{Layering}
 use Rattle.layer_cascade.specs.Columns.{FirstColumn}
-use Rattle.layer_cascade.specs.Shared.{values, all_counts, HaveDims}
+use Rattle.layer_cascade.specs.Shared.{values, all_counts}
 use Rattle.layer_cascade.proofs.LayerLemmas.{sum_more, seen_dims}
 use Rattle.layer_cascade.proofs.RowLemmas.{first_of_sum, both_within}
 use Rattle.layer_cascade.proofs.layers.Layers.first_column.Goals as goal

@@ -1,4 +1,4 @@
-use Rattle.std.proofs.Common.{◌≡◌, ◌<◌, IfSome, take}
+use Rattle.std.proofs.Common.{◌<◌, IfSome, take}
 use Rattle.layer_cascade.specs.Cascade.{content}
 use Rattle.layer_cascade.specs.Columns.{FirstColumn}
 use Rattle.layer_cascade.specs.Shared.{values, all_counts}

@@ -1,6 +1,5 @@
 use Rattle.std.proofs.Common.{◌≡◌, ◌≤◌, ◌⊎◌, None, take}
 use Rattle.std.specs.FinMap.{get}
-use Rattle.hyper_matrix.specs.Counts.{place_cmp}
 use Rattle.layer_cascade.specs.Cascade.{content}
 use Rattle.layer_cascade.specs.Shared.{values, all_counts}
 use Rattle.layer_cascade.proofs.layers.Layers.get.Given as goal

@@ -1,4 +1,4 @@
-use Rattle.std.proofs.Common.{arith, refl, ◌≡◌, ◌≤◌, length, take, sym, ap, ◌∙◌, length-take}
+use Rattle.std.proofs.Common.{arith, refl, ◌≡◌, length, take, length-take}
 use Rattle.mm_text.proofs.ReaderLemmas.{fills, shows_failure}
 use Rattle.mm_text.proofs.reader.TextReader.fill.Goals as goal
 

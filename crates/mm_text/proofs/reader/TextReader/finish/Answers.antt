@@ -1,4 +1,3 @@
-use Rattle.std.proofs.Common.{refl}
 use Rattle.std.proofs.lemmas.Result.{on_ok_weaker, IfErr-weaker}
 use Rattle.mm_text.proofs.ReaderLemmas.{finishes, shows_end}
 use Rattle.mm_text.proofs.reader.TextReader.finish.Goals as goal

@@ -1,4 +1,4 @@
-use Rattle.std.proofs.Common.{arith, refl}
+use Rattle.std.proofs.Common.{refl}
 use Rattle.mm_text.proofs.ReaderLemmas.{has_read_none}
 use Rattle.mm_text.proofs.reader.TextReader.new.Goals as goal
 

@@ -1,6 +1,5 @@
-use Rattle.std.proofs.Common.{arith, refl, ◌≡◌, ◌<◌, ◌+◌, length, sym, ap, ◌∙◌}
+use Rattle.std.proofs.Common.{arith, refl, ◌<◌, ◌+◌, ap, ◌∙◌}
 use Rattle.std.proofs.lemmas.Result.{err_from_is_err_and}
-use Rattle.mm_text.specs.declared.fault.MmKind.TheVariants.{Read}
 use Rattle.mm_text.proofs.ReaderLemmas.{goes_none, goes_take, goes_fill, ends_fill, stops_here, stops_failed, stops_end, same_size}
 use Rattle.mm_text.proofs.reader.TextReader.read_block.Goals as goal
 

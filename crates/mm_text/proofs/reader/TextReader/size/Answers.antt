@@ -1,6 +1,6 @@
-use Rattle.std.proofs.Common.{refl, ap, sym, ◌∙◌}
+use Rattle.std.proofs.Common.{ap, sym}
 use Rattle.mm_text.specs.Stages.{declared_size}
-use Rattle.mm_text.specs.Readings.{size_of, AreSized}
+use Rattle.mm_text.specs.Readings.{size_of}
 use Rattle.mm_text.proofs.BoundLemmas.{stage_sized}
 use Rattle.mm_text.proofs.reader.TextReader.size.Goals as goal
 

@@ -1,4 +1,4 @@
-use Rattle.std.proofs.Common.{arith, refl, ◌≡◌, ◌-◌, drop, length-take, length, sym, ap, ◌∙◌}
+use Rattle.std.proofs.Common.{arith, refl, ◌-◌, drop, length-take}
 use Rattle.std.proofs.lemmas.Result.{err_from_is_err_and}
 use Rattle.mm_text.proofs.ReaderLemmas.{takes_pending, shows_pending, pending_rest}
 use Rattle.mm_text.proofs.reader.TextReader.take_whole.Goals as goal

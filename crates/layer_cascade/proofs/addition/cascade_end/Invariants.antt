@@ -2,7 +2,7 @@ use Rattle.std.proofs.Common.{◌≡◌, ℕ, ◌<◌}
 use Rattle.hyper_matrix.specs.Matrix.{matrix}
 use Rattle.layer_cascade.specs.Cascade.{with_first, CanHold}
 use Rattle.layer_cascade.specs.Shared.{values, all_counts}
-use Rattle.layer_cascade.proofs.settle.settle.Given as goal
+use Rattle.layer_cascade.proofs.addition.cascade_end.Given as goal
 
 abbrev pub invariant-places : goal.invariant-places
 invariant-places l = record {

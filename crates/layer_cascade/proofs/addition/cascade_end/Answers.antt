@@ -1,11 +1,11 @@
-use Rattle.std.proofs.Common.{◌≡◌, ◌+◌, sym, ap, ◌∙◌, arith, below_more}
+use Rattle.std.proofs.Common.{◌+◌, sym, ap, ◌∙◌, arith, below_more}
 use Rattle.std.specs.FinMap.{len}
 use Rattle.hyper_matrix.specs.Counts.{total}
 use Rattle.hyper_matrix.specs.Matrix.{Matrix, matrix}
 use Rattle.layer_cascade.specs.Cascade.{with_first}
 use Rattle.layer_cascade.specs.Shared.{values, all_counts}
 use Rattle.layer_cascade.proofs.LayerLemmas.{layer_counts, layer_dims, length-counts, with_start, with_next, next_fits, total-layer, sum_at, not_here}
-use Rattle.layer_cascade.proofs.settle.settle.Goals as goal
+use Rattle.layer_cascade.proofs.addition.cascade_end.Goals as goal
 
 pub added-requires-clause-fits : goal.added-requires-clause-fits
 added-requires-clause-fits c =

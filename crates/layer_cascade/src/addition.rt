@@ -1,18 +1,21 @@
-//! Where a matrix that is added to layers comes to rest, and what the layers are then.
+//! The addition of a matrix to layers: where its cascade ends, and what the layers are then.
+//!
+//! The sum is carried from layer to layer: at each it takes the layer in, and stays there if it has at most the cut of entries. So
+//! each layer up to the end is read once, and none above it. All growth is made here, and nothing is changed.
 ghost use Rattle.std.specs.Prelude.{◌≡◌, ℕ, suc, ◌+◌, ◌<◌, ◌^◌, ◌++◌, ◌∷◌, IfOk, OnOk, length, drop, replicate};
 ghost use Rattle.std.specs.Arc.{arc_value};
 ghost use Rattle.hyper_matrix.specs.Counts.{ewise_add, total};
 ghost use Rattle.hyper_matrix.specs.Matrix.{matrix};
-ghost use Rattle.layer_cascade.specs.Cascade.{content, with_first, RestsAt};
+ghost use Rattle.layer_cascade.specs.Cascade.{content, with_first, EndsAt};
 ghost use Rattle.layer_cascade.specs.Shared.{values, all_counts, HaveDims};
 
 use hyper_matrix::Hyper;
 use std::alloc::{AllocError, Global};
 use std::sync::Arc;
 
-/// Where a matrix comes to rest.
+/// Where the cascade of a matrix ends.
 #[derive(Drop)]
-pub struct Settled {
+pub struct CascadeEnd {
     /// The layer, counted from 0.
     pub place: usize,
     /// The matrix with all layers up to that place.
@@ -33,28 +36,28 @@ pub fn added(alloc: Global, sum: Hyper, layer: &Hyper) -> Result<Hyper, AllocErr
     Ok(sum)
 }
 
-/// Finds where m comes to rest. Only the layers up to that place are read.
-pub fn settle(
+/// Finds where the cascade of m ends. Only the layers up to that place are read.
+pub fn cascade_end(
     alloc: Global,
     layers: &[Arc<Hyper>],
     cuts: &[u64],
     m: &Hyper,
-) -> Result<Settled, AllocError>
+) -> Result<CascadeEnd, AllocError>
     requires count { length layers.now ≡ length cuts.now + 1 }
     requires dims { HaveDims m.now.rows m.now.cols (values layers.now) }
     requires fits { total (content (all_counts (values layers.now))) + total m.now.counts < 2 ^ 64 }
-    ensures place { IfOk result (λ s. RestsAt (all_counts (values layers.now)) cuts.now m.now.counts s.place) }
+    ensures place { IfOk result (λ s. EndsAt (all_counts (values layers.now)) cuts.now m.now.counts s.place) }
     ensures sum { IfOk result (λ s. s.sum ≡ matrix m.now.rows m.now.cols (with_first (all_counts (values layers.now)) m.now.counts s.place)) }
 {
     let own = m.copy(alloc)?;
     let mut sum = added(alloc, own, &layers[0])?;
     'places: for (place, cut) in cuts.iter().enumerate() {
         if sum.entries() <= *cut {
-            return Ok(Settled { place, sum });
+            return Ok(CascadeEnd { place, sum });
         }
         sum = added(alloc, sum, &layers[place + 1])?;
     }
-    Ok(Settled {
+    Ok(CascadeEnd {
         place: cuts.len(),
         sum,
     })
@@ -86,20 +89,20 @@ fn push_layers(out: &mut Vec<Arc<Hyper>>, layers: &[Arc<Hyper>]) -> Result<(), A
     Ok(())
 }
 
-/// The layers once a matrix has come to rest: empty below its place, and shared above.
-pub fn settled_layers(
+/// The layers after an addition: empty below the place where it ends, and shared above.
+pub fn layers_after(
     alloc: Global,
     layers: &[Arc<Hyper>],
     empty: &Arc<Hyper>,
-    settled: Settled,
+    end: CascadeEnd,
 ) -> Result<Vec<Arc<Hyper>>, AllocError>
-    requires { settled.place < length layers.now }
-    ensures { IfOk result (λ after. values after.items ≡ replicate settled.place (arc_value empty.now) ++ settled.sum ∷ values (drop (suc settled.place) layers.now)) }
+    requires { end.place < length layers.now }
+    ensures { IfOk result (λ after. values after.items ≡ replicate end.place (arc_value empty.now) ++ end.sum ∷ values (drop (suc end.place) layers.now)) }
 {
     let mut after = Vec::with_capacity(alloc, layers.len())?;
-    push_copies(&mut after, empty, settled.place)?;
-    let sum = Arc::new(alloc, settled.sum)?;
+    push_copies(&mut after, empty, end.place)?;
+    let sum = Arc::new(alloc, end.sum)?;
     after.push(sum)?;
-    push_layers(&mut after, &layers[settled.place + 1..])?;
+    push_layers(&mut after, &layers[end.place + 1..])?;
     Ok(after)
 }

@@ -1,0 +1,254 @@
+//! A text with its answer, and the ways to read it.
+use mm_text::{Cell, MmFault, MmFile, MmKind, Script, TextLimits, read_matrix};
+use std::alloc::{AllocError, Global};
+use std::process::Abort;
+
+pub const GENERAL: &str = "%%MatrixMarket matrix coordinate integer general\n";
+
+pub const SYMMETRIC: &str = "%%MatrixMarket matrix coordinate integer symmetric\n";
+
+/// Limits that no short text comes near.
+pub const WIDE: TextLimits = TextLimits {
+    max_bytes: 1_000_000,
+    max_entries: 1_000_000,
+};
+
+/// What may stand behind a faulty line, which is the last or not.
+pub const FAULTY_LINE_ENDS: [&str; 5] = ["", "\r", "\n", "\r\n", "\n1 1 1\n"];
+
+/// What may stand behind the last entry line.
+pub const LAST_LINE_ENDS: [&str; 5] = ["", "\r", "\n", "\r\n", "\n% note\n\n"];
+
+/// What reading a text must give.
+#[derive(Clone, Copy, Debug)]
+pub enum Expected {
+    /// Rows, columns, and the cells in order: row and column, counted from 0, and count.
+    File(u64, u64, &'static [(u64, u64, u64)]),
+    /// What is wrong, and the line on which it stands.
+    Fault(MmKind, u64),
+}
+
+impl Expected {
+    fn is_met_by(self, answer: &Result<MmFile, MmFault>) -> bool {
+        match (self, answer) {
+            (Expected::File(rows, cols, cells), Ok(file)) => {
+                file.rows == rows && file.cols == cols && are_equal(cells, file.cells.as_slice())
+            }
+            (Expected::Fault(kind, line), Err(fault)) => *fault == MmFault { kind, line },
+            _ => false,
+        }
+    }
+}
+
+fn are_equal(expected: &[(u64, u64, u64)], cells: &[Cell]) -> bool {
+    expected.len() == cells.len()
+        && expected.iter().zip(cells).all(|(&(row, col, count), cell)| *cell
+            == Cell { row, col, count })
+}
+
+/// How a text is cut into the pieces that reads give.
+#[derive(Clone, Copy, Debug)]
+pub enum Cut {
+    Nowhere,
+    /// Into two pieces, of which the first has so many bytes.
+    At(usize),
+    /// Behind each byte.
+    Everywhere,
+}
+
+impl Cut {
+    fn pieces(self, alloc: Global, text: &[u8]) -> Result<Vec<Vec<u8>>, AllocError> {
+        match self {
+            Cut::Nowhere => Ok(vec![in alloc; text.to_vec(alloc)?]?),
+            Cut::At(place) => {
+                let (front, rest) = text.split_at(place.min(text.len()));
+                Ok(vec![in alloc; front.to_vec(alloc)?, rest.to_vec(alloc)?]?)
+            }
+            Cut::Everywhere => single_bytes(alloc, text),
+        }
+    }
+}
+
+fn single_bytes(alloc: Global, text: &[u8]) -> Result<Vec<Vec<u8>>, AllocError> {
+    let mut pieces = Vec::with_capacity(alloc, text.len())?;
+    for byte in text {
+        pieces.push([*byte].to_vec(alloc)?)?;
+    }
+    Ok(pieces)
+}
+
+/// A text, and what reading it within the limits must give.
+#[derive(Drop)]
+pub struct Case<'a> {
+    /// What a failed assertion calls the text: the part that tells it from others, or what it is about.
+    pub name: &'a str,
+    pub text: Vec<u8>,
+    pub limits: TextLimits,
+    pub expected: Expected,
+}
+
+impl<'a> Case<'a> {
+    /// The text of three parts, within wide limits. The second names it.
+    pub fn new(
+        alloc: Global,
+        front: &str,
+        name: &'a str,
+        end: &str,
+        expected: Expected,
+    ) -> Result<Case<'a>, AllocError> {
+        let mut text = front.as_bytes().to_vec(alloc)?;
+        text.extend_from_slice(name.as_bytes())?;
+        text.extend_from_slice(end.as_bytes())?;
+        Ok(Case {
+            name,
+            text,
+            limits: WIDE,
+            expected,
+        })
+    }
+
+    /// The text of these parts behind a front, within wide limits.
+    pub fn of_parts(
+        alloc: Global,
+        name: &'a str,
+        front: &str,
+        parts: &[(&str, usize)],
+        expected: Expected,
+    ) -> Result<Case<'a>, AllocError> {
+        Ok(Case {
+            name,
+            text: joined(alloc, front, parts)?,
+            limits: WIDE,
+            expected,
+        })
+    }
+
+    /// Reads the text in each way: whole, byte by byte, and in two pieces, cut at each place.
+    pub fn check(&self, rt: &impl Abort, alloc: Global) -> Result<(), AllocError> {
+        self.check_cut(rt, alloc, Cut::Nowhere)?;
+        self.check_cut(rt, alloc, Cut::Everywhere)?;
+        for place in 0..=self.text.len() {
+            self.check_cut(rt, alloc, Cut::At(place))?;
+        }
+        Ok(())
+    }
+
+    /// Reads the text in these pieces, with no more reads than the limits allow.
+    pub fn check_cut(&self, rt: &impl Abort, alloc: Global, cut: Cut) -> Result<(), AllocError> {
+        let most_reads = self.limits.max_bytes.checked_add(2);
+        let answer = self.read(rt, alloc, cut, most_reads)?;
+        assert!(rt;
+            self.expected.is_met_by(&answer),
+            "{:?} within {:?}, {cut:?}: not {:?}",
+            self.name,
+            self.limits,
+            self.expected
+        );
+        Ok(())
+    }
+
+    /// Lets each read fail in turn, of single bytes and of two pieces. The answer shows in byte `shown`, counted from
+    /// 1, where the text's end is one byte more: whatever fails before it is `Read`. Each piece has to fit in one read.
+    pub fn check_failing_reads(
+        &self,
+        rt: &impl Abort,
+        alloc: Global,
+        shown: usize,
+    ) -> Result<(), AllocError> {
+        let len = self.text.len();
+        let at_end = self.expected_behind(len, shown);
+        for given in 0..=shown {
+            let expected = self.expected_behind(given, shown);
+            self.check_failing_read(rt, alloc, Cut::Everywhere, given, expected)?;
+            if 0 < given && given < len {
+                self.check_failing_read(rt, alloc, Cut::At(given), 1, expected)?;
+                self.check_failing_read(rt, alloc, Cut::At(given), 2, at_end)?;
+            }
+        }
+        Ok(())
+    }
+
+    /// Lets the read of this number fail, counted from 0.
+    fn check_failing_read(
+        &self,
+        rt: &impl Abort,
+        alloc: Global,
+        cut: Cut,
+        number: usize,
+        expected: Expected,
+    ) -> Result<(), AllocError> {
+        let answer = self.read(rt, alloc, cut, Some(number as u64))?;
+        assert!(rt;
+            expected.is_met_by(&answer),
+            "{:?}, {cut:?}, read {number} fails: not {expected:?}",
+            self.name
+        );
+        Ok(())
+    }
+
+    /// What a source must give that fails behind so many bytes.
+    fn expected_behind(&self, given: usize, shown: usize) -> Expected {
+        if given >= shown {
+            return self.expected;
+        }
+        let front = self.text.iter().take(given);
+        let line_feeds = front.filter(|byte| **byte == b'\n').count() as u64;
+        Expected::Fault(MmKind::Read, line_feeds.saturating_add(1))
+    }
+
+    /// Reads the text from a source of which the read of this number and all later ones fail.
+    pub fn read(
+        &self,
+        rt: &impl Abort,
+        alloc: Global,
+        cut: Cut,
+        fail_read: Option<u64>,
+    ) -> Result<Result<MmFile, MmFault>, AllocError> {
+        assert!(rt; self.limits.max_bytes <= 1 << 63);
+        let pieces = cut.pieces(alloc, self.text.as_slice())?;
+        let mut source = Script::new(alloc, pieces, fail_read, None);
+        Ok(read_matrix(alloc, &mut source, self.limits))
+    }
+}
+
+/// A text in parts, each with how many times it stands there.
+pub type Parts = &'static [(&'static str, usize)];
+
+/// The text of these parts, behind a front.
+fn joined(alloc: Global, front: &str, parts: &[(&str, usize)]) -> Result<Vec<u8>, AllocError> {
+    let mut text = front.as_bytes().to_vec(alloc)?;
+    for (part, count) in parts {
+        for _ in 0..*count {
+            text.extend_from_slice(part.as_bytes())?;
+        }
+    }
+    Ok(text)
+}
+
+/// Checks each text of a table, behind a front that all have.
+pub fn check_all(
+    rt: &impl Abort,
+    alloc: Global,
+    front: &str,
+    table: &[(&str, Expected)],
+) -> Result<(), AllocError> {
+    for (rest, expected) in table {
+        Case::new(alloc, front, rest, "", *expected)?.check(rt, alloc)?;
+    }
+    Ok(())
+}
+
+/// Checks the text with each of the ends behind its last line.
+pub fn check_line(
+    rt: &impl Abort,
+    alloc: Global,
+    front: &str,
+    line: &str,
+    ends: &[&str],
+    expected: Expected,
+) -> Result<(), AllocError> {
+    for end in ends {
+        Case::new(alloc, front, line, end, expected)?.check(rt, alloc)?;
+    }
+    Ok(())
+}
