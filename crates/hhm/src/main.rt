@@ -7,9 +7,15 @@
 mod cli;
 mod fault;
 mod numbers;
+#[cfg(test)]
+mod option_tests;
 mod report;
+#[cfg(test)]
+mod report_tests;
 mod running_sum;
 mod sum;
+#[cfg(test)]
+mod sum_tests;
 
 use crate::numbers::read_list;
 use crate::report::Fault;

@@ -28,20 +28,8 @@ pub enum RunningSum {
     Passed,
 }
 
-// Adds a matrix into layers.
-fn add_matrix(alloc: Global, layers: &mut Layers, m: &Hyper) -> Result<(), AllocError>
-    requires rows { m.now.rows ≡ layers.old.rows }
-    requires cols { m.now.cols ≡ layers.old.cols }
-    requires fits { total (content layers.old.layers) + total m.now.counts < 2 ^ 64 }
-    ensures { OnOk result (layers.new ≡ record layers.old { layers = cascade layers.old.layers layers.old.cuts m.now.counts }) }
-{
-    let plan = layers.plan(alloc, m)?;
-    layers.commit(plan);
-    Ok(())
-}
-
 // Adds a block of cells into layers.
-fn add_block(alloc: Global, mut layers: Layers, block: &[Cell]) -> Result<RunningSum, AllocError>
+fn add_block(alloc: Global, layers: Layers, block: &[Cell]) -> Result<RunningSum, AllocError>
     ensures { IfOk result (λ next. (rows cols : ℕ) (cells : List Cell) → AreWithin rows cols block.now →
         LayersSum rows cols cells layers → IsSumOf rows cols (cells ++ block.now) next) }
 {
@@ -56,7 +44,7 @@ fn add_block(alloc: Global, mut layers: Layers, block: &[Cell]) -> Result<Runnin
     if layers.total().checked_add(m.total()).is_none() {
         return Ok(RunningSum::Passed);
     }
-    add_matrix(alloc, &mut layers, &m)?;
+    let layers = layers.add(alloc, m)?;
     Ok(RunningSum::Fits(layers))
 }
 
@@ -97,7 +85,7 @@ impl RunningSum {
     {
         match self {
             RunningSum::Passed => Err(SumFault::SumTooLarge),
-            RunningSum::Fits(layers) => match layers.sum(alloc) {
+            RunningSum::Fits(layers) => match layers.into_sum(alloc) {
                 Ok(m) => Ok(m),
                 Err(_) => Err(SumFault::Memory),
             },

@@ -7,7 +7,7 @@ use Rattle.std.specs.Arc.{arc_value}
 use Rattle.std.proofs.lemmas.List.{map-append, take-append-drop}
 use Rattle.hyper_matrix.specs.Counts.{Place, place_cmp, Counts, built, ewise_add, total}
 use Rattle.hyper_matrix.specs.Rows.{Rows, InOrder, cells_of, counts_of, sum_rows, rows_total, AreRising}
-use Rattle.hyper_matrix.specs.Blocks.{all_cells, block_cells, IsBlock, Grows, GrowsBySum}
+use Rattle.hyper_matrix.specs.Blocks.{all_cells, IsBlock, Grows, GrowsBySum}
 use Rattle.hyper_matrix.specs.Places.{Less, AllPlaces, Precede, IsFirst, BeginsFrom}
 use Rattle.hyper_matrix.specs.Cells.{entry_of, built_of, cell_total}
 use Rattle.mm_text.specs.declared.cell.Cell.{Cell}
@@ -15,7 +15,6 @@ use Rattle.hyper_matrix.proofs.CountLaws.{ewise_add_comm, ewise_add-empty, total
 use Rattle.hyper_matrix.proofs.CellLaws.{counts_of-sum_rows, in_order-sum_rows, sorted_rows, sum_of_cells}
 use Rattle.hyper_matrix.proofs.BuildLaws.{counts_of-built, total-built_of}
 use Rattle.hyper_matrix.proofs.MergeLaws.{split_at}
-use Rattle.hyper_matrix.proofs.BlockLaws.{cells_from, block_cells_at}
 use Rattle.hyper_matrix.proofs.OrderLaws.{all_map, precedes, before_first, before_begin, below_first, columns_rise, next_left, next_right, next_sum}
 
 pub built-nil : built [] ≡ empty
@@ -53,33 +52,32 @@ pub sum_rising : (block piece sum : Rows) → IsBlock block → T (is_sorted pla
 sum_rising block piece sum b sorted order is = subst AreRising (sym is) (in_order-sum_rows block piece (in_block block b sorted) order).numbers
 
 module _ {Z : Type 0} where
-  -- where block i begins, the cells from it on begin
-  pub first_from : (blocks : List (Arc Rows Z)) (i : ℕ) (d : Arc Rows Z) (k : Place) → i < length blocks → IsFirst k (cells_of (arc_value (get_or blocks i d))) → IsFirst k (all_cells (drop i blocks))
-  first_from blocks i d k h first =
-      subst (IsFirst k) (sym (cells_from blocks i h)) (first_front k (block_cells blocks i) (all_cells (drop (i + 1) blocks)) (subst (IsFirst k) (sym (block_cells_at blocks i d h)) first))
+  -- where the first block begins, all of them begin
+  pub first_of_blocks : (blocks : List (Arc Rows Z)) (d : Arc Rows Z) (k : Place) → 0 < length blocks → IsFirst k (cells_of (arc_value (get_or blocks 0 d))) → IsFirst k (all_cells blocks)
+  first_of_blocks [] d k h first = absurd (omega arith)
+  first_of_blocks (block ∷ blocks) d k h first = first_front k (cells_of (arc_value block)) (all_cells blocks) first
 
-  -- block i and its cells are added up and go over to what is done
-  pub sum_step : (blocks : List (Arc Rows Z)) (cells : List Cell) (i j e : ℕ) (out new : List (Arc Rows Z)) (xs ys : List (Place × ℕ)) → i < length blocks → j ≤ e → xs ≡ block_cells blocks i → ys ≡ map entry_of (slice_range cells j e) → T (is_sorted place_cmp (all_cells out ++ all_cells (drop i blocks))) → T (is_sorted place_cmp (all_cells out ++ map entry_of (drop j cells))) → Precede (map entry_of (slice_range cells j e)) (all_cells (drop (i + 1) blocks)) → Precede (block_cells blocks i) (map entry_of (drop e cells)) → GrowsBySum out new xs ys → T (is_sorted place_cmp (all_cells new ++ all_cells (drop (i + 1) blocks))) × (T (is_sorted place_cmp (all_cells new ++ map entry_of (drop e cells))) × (ewise_add (built (all_cells new)) (ewise_add (built (all_cells (drop (i + 1) blocks))) (built (map entry_of (drop e cells)))) ≡ ewise_add (built (all_cells out)) (ewise_add (built (all_cells (drop i blocks))) (built (map entry_of (drop j cells))))))
-  sum_step blocks cells i j e out new xs ys h g is_block is_piece front other cut_left cut_right grows =
+  -- the first block and its cells are added up and go over to what is done
+  pub sum_step : (old rest : List (Arc Rows Z)) (block : Arc Rows Z) (cells : List Cell) (j e : ℕ) (out new : List (Arc Rows Z)) → old ≡ block ∷ rest → j ≤ e → T (is_sorted place_cmp (all_cells out ++ all_cells old)) → T (is_sorted place_cmp (all_cells out ++ map entry_of (drop j cells))) → Precede (map entry_of (slice_range cells j e)) (all_cells rest) → Precede (cells_of (arc_value block)) (map entry_of (drop e cells)) → GrowsBySum out new (cells_of (arc_value block)) (map entry_of (slice_range cells j e)) → T (is_sorted place_cmp (all_cells new ++ all_cells rest)) × (T (is_sorted place_cmp (all_cells new ++ map entry_of (drop e cells))) × (ewise_add (built (all_cells new)) (ewise_add (built (all_cells rest)) (built (map entry_of (drop e cells)))) ≡ ewise_add (built (all_cells out)) (ewise_add (built (all_cells old)) (built (map entry_of (drop j cells))))))
+  sum_step old rest block cells j e out new is g front other cut_left cut_right grows =
       let done = all_cells out in
-      let a = block_cells blocks i in
+      let a = cells_of (arc_value block) in
       let p = map entry_of (slice_range cells j e) in
-      let left = all_cells (drop (i + 1) blocks) in
+      let left = all_cells rest in
       let right = map entry_of (drop e cells) in
       let s = grows.cells in
-      let here : all_cells (drop i blocks) ≡ a ++ left = cells_from blocks i h in
+      let here : all_cells old ≡ a ++ left = ap all_cells is in
       let there : map entry_of (drop j cells) ≡ p ++ right = split_cells cells j e g in
       let front' : T (is_sorted place_cmp (done ++ (a ++ left))) = subst (λ (r : List (Place × ℕ)). T (is_sorted place_cmp (done ++ r))) here front in
       let other' : T (is_sorted place_cmp (done ++ (p ++ right))) = subst (λ (r : List (Place × ℕ)). T (is_sorted place_cmp (done ++ r))) there other in
-      let sums : built s ≡ ewise_add (built a) (built p) = grows.sums ∙ ap (λ (r : List (Place × ℕ)). ewise_add (built r) (built ys)) is_block ∙ ap (λ (r : List (Place × ℕ)). ewise_add (built a) (built r)) is_piece in
       let told : all_cells new ≡ done ++ s = grows.grows.told in (
-        subst (λ (r : List (Place × ℕ)). T (is_sorted place_cmp (r ++ left))) (sym told) (next_left done a p left right s front' other' grows.sorted sums cut_left),
+        subst (λ (r : List (Place × ℕ)). T (is_sorted place_cmp (r ++ left))) (sym told) (next_left done a p left right s front' other' grows.sorted grows.sums cut_left),
         (
-          subst (λ (r : List (Place × ℕ)). T (is_sorted place_cmp (r ++ right))) (sym told) (next_right done a p left right s front' other' grows.sorted sums cut_right),
+          subst (λ (r : List (Place × ℕ)). T (is_sorted place_cmp (r ++ right))) (sym told) (next_right done a p left right s front' other' grows.sorted grows.sums cut_right),
           ap (λ (r : List (Place × ℕ)). ewise_add (built r) (ewise_add (built left) (built right))) told
-              ∙ next_sum done a p left right s front' other' grows.sorted sums
+              ∙ next_sum done a p left right s front' other' grows.sorted grows.sums
               ∙ ap (λ (r : List (Place × ℕ)). ewise_add (built done) (ewise_add (built r) (built (p ++ right)))) (sym here)
-              ∙ ap (λ (r : List (Place × ℕ)). ewise_add (built done) (ewise_add (built (all_cells (drop i blocks))) (built r))) (sym there),
+              ∙ ap (λ (r : List (Place × ℕ)). ewise_add (built done) (ewise_add (built (all_cells old)) (built r))) (sym there),
         ),
       )
 

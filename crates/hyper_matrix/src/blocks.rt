@@ -5,11 +5,11 @@
 //! is added up into new rows, and cut in two or more if these passed `MOST`. So a small matrix joins a large one for the
 //! price of the blocks that it touches and a pointer for each other. A sum takes no entry away, so blocks never crumble.
 //! The other matrix comes as a list of cells: any part of it is a slice, also one that begins inside a row.
-ghost use Rattle.std.specs.Prelude.{◌≡◌, ℕ, [], ◌+◌, ◌-◌, ◌<◌, ◌≤◌, ◌^◌, ◌++◌, T, OnOk, IfOk, length, slice_range, drop, map};
+ghost use Rattle.std.specs.Prelude.{◌≡◌, ℕ, List, [], ◌+◌, ◌-◌, ◌<◌, ◌≤◌, ◌^◌, ◌++◌, T, OnOk, IfOk, length, slice_range, drop, map};
 ghost use Rattle.std.specs.FinMap.{is_sorted};
 ghost use Rattle.std.specs.Arc.{arc_value};
 ghost use Rattle.std.specs.Ordering.{is_lt};
-ghost use Rattle.hyper_matrix.specs.Counts.{place_cmp, count_sum, built, ewise_add};
+ghost use Rattle.hyper_matrix.specs.Counts.{Place, place_cmp, count_sum, built, ewise_add};
 ghost use Rattle.hyper_matrix.specs.Rows.{Rows, AreRising, cells_of};
 ghost use Rattle.hyper_matrix.specs.Blocks.{all_cells, block_cells, IsBlock, AreBlocks, Grows, GrowsBySum, ends_from};
 ghost use Rattle.hyper_matrix.specs.Places.{Less, AllPlaces, Precede, BeginsFrom};
@@ -20,6 +20,7 @@ use crate::cut::push_blocks;
 use crate::rows::Rows;
 use mm_text::Cell;
 use std::alloc::{AllocError, Global};
+use std::collections::VecDeque;
 use std::sync::Arc;
 
 /// The most cells in a block. Measured: where 4,096 random cells join 8 million, 256 takes a tenth of the time of flat
@@ -50,22 +51,23 @@ fn push_shared(out: &mut Vec<Arc<Rows>>, block: &Arc<Rows>) -> Result<(), AllocE
     Ok(())
 }
 
-// Appends the sum of a block and cells.
+// Appends the sum of a block and cells. A block that gets none goes over as it is; any other is let go once its sum
+// stands, so that the next sum takes its memory again, if nobody else has it.
 fn push_sum(
     alloc: Global,
     out: &mut Vec<Arc<Rows>>,
-    block: &Arc<Rows>,
+    block: Arc<Rows>,
     cells: &[Cell],
 ) -> Result<(), AllocError>
     requires blocks { AreBlocks out.old.items }
-    requires other { IsBlock (arc_value block.now) }
-    requires sorted { T (is_sorted place_cmp (cells_of (arc_value block.now))) }
+    requires other { IsBlock (arc_value block) }
+    requires sorted { T (is_sorted place_cmp (cells_of (arc_value block))) }
     requires cells { T (is_sorted place_cmp (map entry_of cells.now)) }
-    requires fits { count_sum (cells_of (arc_value block.now)) + cell_total cells.now < 2 ^ 64 }
-    ensures { OnOk result (GrowsBySum out.old.items out.new.items (cells_of (arc_value block.now)) (map entry_of cells.now)) }
+    requires fits { count_sum (cells_of (arc_value block)) + cell_total cells.now < 2 ^ 64 }
+    ensures { OnOk result (GrowsBySum out.old.items out.new.items (cells_of (arc_value block)) (map entry_of cells.now)) }
 {
     if cells.len() == 0 {
-        push_shared(out, block)?;
+        out.push(block)?;
         return Ok(());
     }
     let piece = rows_of_sorted(alloc, cells)?;
@@ -99,50 +101,48 @@ fn end_below(cells: &[Cell], from: usize, row: u64, col: u64) -> usize
     end
 }
 
-// The end of the cells from j on that belong to block i: those that stand before the next block.
-fn end_of_block(blocks: &[Arc<Rows>], i: usize, cells: &[Cell], j: usize) -> usize
-    requires blocks { AreBlocks blocks.now }
-    requires sorted { T (is_sorted place_cmp (all_cells (drop i blocks.now))) }
+// The end of the cells from j on that stand before these blocks.
+fn end_before(blocks: &VecDeque<Arc<Rows>>, cells: &[Cell], j: usize) -> usize
+    requires blocks { AreBlocks blocks.now.items }
+    requires sorted { T (is_sorted place_cmp (all_cells blocks.now.items)) }
     requires cells { T (is_sorted place_cmp (map entry_of (drop j cells.now))) }
-    requires here { i < length blocks.now }
     requires within { j ≤ length cells.now }
     ensures range { (j ≤ result) × (result ≤ length cells.now) }
-    ensures left { Precede (map entry_of (slice_range cells.now j result)) (all_cells (drop (i + 1) blocks.now)) }
-    ensures right { Precede (block_cells blocks.now i) (map entry_of (drop result cells.now)) }
-    ensures last { i + 1 ≡ length blocks.now → result ≡ length cells.now }
+    ensures left { Precede (map entry_of (slice_range cells.now j result)) (all_cells blocks.now.items) }
+    ensures right { (before : List (Place × ℕ)) → T (is_sorted place_cmp (before ++ all_cells blocks.now.items)) → Precede before (map entry_of (drop result cells.now)) }
+    ensures last { blocks.now.items ≡ [] → result ≡ length cells.now }
 {
-    if i + 1 < blocks.len() {
-        let next = &blocks[i + 1];
-        let (row, col) = next.first();
-        end_below(cells, j, row, col)
-    } else {
-        cells.len()
+    match blocks.front() {
+        Some(next) => {
+            let (row, col) = next.first();
+            end_below(cells, j, row, col)
+        }
+        None => cells.len(),
     }
 }
 
-/// The sum of blocks and cells, in blocks. A block that no cell belongs to is shared.
+/// The sum of blocks and cells, in blocks. A block that no cell belongs to goes over as it is.
 pub fn sum_blocks(
     alloc: Global,
-    blocks: &[Arc<Rows>],
+    blocks: Vec<Arc<Rows>>,
     cells: &[Cell],
 ) -> Result<Vec<Arc<Rows>>, AllocError>
-    requires blocks { AreBlocks blocks.now }
-    requires some { 0 < length blocks.now }
-    requires sorted { T (is_sorted place_cmp (all_cells blocks.now)) }
+    requires blocks { AreBlocks blocks.items }
+    requires some { 0 < length blocks.items }
+    requires sorted { T (is_sorted place_cmp (all_cells blocks.items)) }
     requires cells { T (is_sorted place_cmp (map entry_of cells.now)) }
-    requires fits { count_sum (all_cells blocks.now) + cell_total cells.now < 2 ^ 64 }
+    requires fits { count_sum (all_cells blocks.items) + cell_total cells.now < 2 ^ 64 }
     ensures blocks { IfOk result (λ out. AreBlocks out.items) }
     ensures sorted { IfOk result (λ out. T (is_sorted place_cmp (all_cells out.items))) }
-    ensures sums { IfOk result (λ out. built (all_cells out.items) ≡ ewise_add (built (all_cells blocks.now)) (built (map entry_of cells.now))) }
+    ensures sums { IfOk result (λ out. built (all_cells out.items) ≡ ewise_add (built (all_cells blocks.items)) (built (map entry_of cells.now))) }
 {
     let mut out = Vec::with_capacity(alloc, blocks.len())?;
-    let mut i = 0;
+    let mut rest = VecDeque::from(blocks);
     let mut j = 0;
-    'steps: while i < blocks.len() {
-        let end = end_of_block(blocks, i, cells, j);
-        push_sum(alloc, &mut out, &blocks[i], &cells[j..end])?;
+    'steps: while let Some(block) = rest.pop_front() {
+        let end = end_before(&rest, cells, j);
+        push_sum(alloc, &mut out, block, &cells[j..end])?;
         j = end;
-        i += 1;
     }
     Ok(out)
 }

@@ -115,6 +115,29 @@ impl Hyper {
         Ok(sum)
     }
 
+    /// The sum of two matrices, as `ewise_add`, made from their own memory.
+    ///
+    /// Of the matrix with more blocks each block into whose range the other puts nothing is moved, and each other block
+    /// is freed as soon as its sum stands, so that the next sum takes its memory; a block that some other matrix shares
+    /// stays there as it was. The time is that of a pointer for each block and of a copy of the blocks that are touched.
+    ///
+    /// # Errors
+    ///
+    /// Memory was refused. Both matrices are gone then.
+    pub fn into_sum(self, alloc: Global, other: Hyper) -> Result<Hyper, AllocError>
+        requires rows { self.rows ≡ other.rows }
+        requires cols { self.cols ≡ other.cols }
+        requires fits { total self.counts + total other.counts < 2 ^ 64 }
+        ensures { IfOk result (λ sum. sum ≡ record self { counts = ewise_add self.counts other.counts }) }
+    {
+        if self.blocks.len() < other.blocks.len() {
+            let sum = move_to(alloc, other, &self)?;
+            return Ok(sum);
+        }
+        let sum = move_to(alloc, self, &other)?;
+        Ok(sum)
+    }
+
     /// The cells by row and then by column, in a list of their own with no room to spare. Each lies within the
     /// dimensions.
     ///
@@ -193,7 +216,33 @@ fn assemble(
     })
 }
 
-// The sum, by the blocks of the first.
+// The sum of the matrix of these blocks, which are given away, and another.
+fn sum_of(
+    alloc: Global,
+    rows: u64,
+    cols: u64,
+    sum: u64,
+    blocks: Vec<Arc<Rows>>,
+    small: &Hyper,
+) -> Result<Hyper, AllocError>
+    requires holds { Holds rows cols sum blocks.items }
+    requires rows { rows ≡ small.now.rows }
+    requires cols { cols ≡ small.now.cols }
+    requires fits { total (shared_counts blocks.items) + total small.now.counts < 2 ^ 64 }
+    ensures { IfOk result (λ m. m ≡ matrix rows cols (ewise_add (shared_counts blocks.items) small.now.counts)) }
+{
+    if blocks.len() == 0 {
+        let m = small.copy(alloc)?;
+        return Ok(m);
+    }
+    let sum = sum + small.sum;
+    let cells = small.cells(alloc)?;
+    let blocks = sum_blocks(alloc, blocks, &cells)?;
+    let m = assemble(alloc, rows, cols, sum, blocks)?;
+    Ok(m)
+}
+
+// The sum, by the blocks of the first, which it shares.
 fn add_to(alloc: Global, large: &Hyper, small: &Hyper) -> Result<Hyper, AllocError>
     requires rows { large.now.rows ≡ small.now.rows }
     requires cols { large.now.cols ≡ small.now.cols }
@@ -204,14 +253,29 @@ fn add_to(alloc: Global, large: &Hyper, small: &Hyper) -> Result<Hyper, AllocErr
         let m = large.copy(alloc)?;
         return Ok(m);
     }
-    if large.blocks.len() == 0 {
-        let m = small.copy(alloc)?;
-        return Ok(m);
+    let blocks = share_all(alloc, &large.blocks)?;
+    let m = sum_of(alloc, large.rows, large.cols, large.sum, blocks, small)?;
+    Ok(m)
+}
+
+// The sum, by the blocks of the first, which it takes over.
+fn move_to(alloc: Global, large: Hyper, small: &Hyper) -> Result<Hyper, AllocError>
+    requires rows { large.rows ≡ small.now.rows }
+    requires cols { large.cols ≡ small.now.cols }
+    requires fits { total large.counts + total small.now.counts < 2 ^ 64 }
+    ensures { IfOk result (λ sum. sum ≡ record large { counts = ewise_add large.counts small.now.counts }) }
+{
+    if small.blocks.len() == 0 {
+        return Ok(large);
     }
-    let cells = small.cells(alloc)?;
-    let blocks = sum_blocks(alloc, &large.blocks, &cells)?;
-    let sum = large.sum + small.sum;
-    let m = assemble(alloc, large.rows, large.cols, sum, blocks)?;
+    let m = sum_of(
+        alloc,
+        large.rows,
+        large.cols,
+        large.sum,
+        large.blocks,
+        small,
+    )?;
     Ok(m)
 }
 

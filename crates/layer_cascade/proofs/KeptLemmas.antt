@@ -52,6 +52,24 @@ module _ (r c : ℕ) (cuts cuts' : List ℕ) (layers : List Matrix) (none : Matr
     none = empty_one;
   }
 
+-- what an addition leaves are layers
+is_added : (r c : ℕ) (cuts : List ℕ) (layers : List Counts) (m : Counts) → IsLayering (layering r c cuts layers) → total (content layers) + total m < 2 ^ 64 → IsLayering (layering r c cuts (cascade layers cuts m))
+is_added r c cuts layers m told fits = record {
+  rows = told.rows;
+  cols = told.cols;
+  cuts = told.cuts;
+  count = length-cascade layers cuts m ∙ told.count;
+  kept = cuts-cascade layers cuts m told.kept;
+  fits = omega (arith, ap total (content-cascade layers cuts m told.count), total-ewise_add (content layers) m);
+}
+
+pub keeps_added : (r c : ℕ) (cuts : List ℕ) (layers after : List Matrix) (none m : Matrix) (v : Layering) → KeepsLayers r c cuts layers none → layering r c cuts (all_counts layers) ≡ v → total (content v.layers) + total m.counts < 2 ^ 64 → m.rows ≡ v.rows → m.cols ≡ v.cols → all_counts after ≡ cascade (all_counts layers) cuts m.counts → HaveDims m.rows m.cols after → KeepsLayers r c cuts after none
+keeps_added r c cuts layers after none m v keeps view fits rows cols told dims = record {
+  told = subst (λ l. IsLayering (layering r c cuts l)) (sym told) (is_added r c cuts (all_counts layers) m.counts keeps.told (omega (arith, fits, ap (λ (w : Layering). total (content w.layers)) view)));
+  dims = subst (λ k. HaveDims r k after) (cols ∙ sym (ap (λ (w : Layering). w.cols) view)) (subst (λ k. HaveDims k m.cols after) (rows ∙ sym (ap (λ (w : Layering). w.rows) view)) dims);
+  none = keeps.none;
+}
+
 -- the layers after an addition
 module _ (r c : ℕ) (cuts cuts' : List ℕ) (layers after : List Matrix) (none none' m sum : Matrix) (j : ℕ) (keeps : KeepsLayers r c cuts layers none) (ends : EndsAt (all_counts layers) cuts m.counts j) (sum_is : sum ≡ matrix m.rows m.cols (with_first (all_counts layers) m.counts j)) (made : after ≡ replicate j none ++ sum ∷ drop (suc j) layers) (same : cuts' ≡ cuts) where
   after_counts : all_counts after ≡ layers_after (all_counts layers) m.counts j
@@ -65,19 +83,9 @@ module _ (r c : ℕ) (cuts cuts' : List ℕ) (layers after : List Matrix) (none 
   pub after_layers : layering r c cuts' (all_counts after) ≡ layering r c cuts (cascade (all_counts layers) cuts m.counts)
   after_layers = ap (λ k. layering r c k (all_counts after)) same ∙ ap (λ s. layering r c cuts s) (after_counts ∙ sym (layers_after-cascade (all_counts layers) cuts m.counts j keeps.told.count ends))
 
-  is_after : total (content (all_counts layers)) + total m.counts < 2 ^ 64 → IsLayering (layering r c cuts (cascade (all_counts layers) cuts m.counts))
-  is_after fits = record {
-    rows = keeps.told.rows;
-    cols = keeps.told.cols;
-    cuts = keeps.told.cuts;
-    count = length-cascade (all_counts layers) cuts m.counts ∙ keeps.told.count;
-    kept = cuts-cascade (all_counts layers) cuts m.counts keeps.told.kept;
-    fits = omega (arith, ap total (content-cascade (all_counts layers) cuts m.counts keeps.told.count), total-ewise_add (content (all_counts layers)) m.counts);
-  }
-
   pub keeps_after : m.rows ≡ r → m.cols ≡ c → total (content (all_counts layers)) + total m.counts < 2 ^ 64 → none' ≡ none → KeepsLayers r c cuts' after none'
   keeps_after rows cols fits empty_one = record {
-    told = subst IsLayering (sym after_layers) (is_after fits);
+    told = subst IsLayering (sym after_layers) (is_added r c cuts (all_counts layers) m.counts keeps.told fits);
     dims = subst (HaveDims r c) (sym made) (dims-append r c (replicate j none) (sum ∷ drop (suc j) layers)
         (dims-replicate r c j none (ap (λ (x : Matrix). x.rows) keeps.none) (ap (λ (x : Matrix). x.cols) keeps.none))
         (ap (λ (x : Matrix). x.rows) sum_is ∙ rows, ap (λ (x : Matrix). x.cols) sum_is ∙ cols, dims-drop r c (suc j) layers keeps.dims));

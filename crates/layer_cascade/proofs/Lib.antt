@@ -3,3 +3,4 @@ pub mod CutLemmas
 pub mod LayerLemmas
 pub mod KeptLemmas
 pub mod RowLemmas
+pub mod CarryLemmas

@@ -4,13 +4,16 @@
 //! each layer up to the end is read once, and none above it. All growth is made here, and nothing is changed.
 ghost use Rattle.std.specs.Prelude.{◌≡◌, ℕ, suc, ◌+◌, ◌<◌, ◌^◌, ◌++◌, ◌∷◌, IfOk, OnOk, length, drop, replicate};
 ghost use Rattle.std.specs.Arc.{arc_value};
+ghost use Rattle.std.specs.FinMap.{empty as no_counts};
+ghost use Rattle.mm_text.specs.Bounds.{IsDimension};
 ghost use Rattle.hyper_matrix.specs.Counts.{ewise_add, total};
 ghost use Rattle.hyper_matrix.specs.Matrix.{matrix};
-ghost use Rattle.layer_cascade.specs.Cascade.{content, with_first, EndsAt};
+ghost use Rattle.layer_cascade.specs.Cascade.{content, cascade, with_first, EndsAt};
 ghost use Rattle.layer_cascade.specs.Shared.{values, all_counts, HaveDims};
 
 use hyper_matrix::Hyper;
 use std::alloc::{AllocError, Global};
+use std::collections::VecDeque;
 use std::sync::Arc;
 
 /// Where the cascade of a matrix ends.
@@ -105,4 +108,79 @@ pub fn layers_after(
     after.push(sum)?;
     push_layers(&mut after, &layers[end.place + 1..])?;
     Ok(after)
+}
+
+// The sum of a matrix and a layer, both given away. A layer that somebody else shares stays there as it was.
+fn with_layer(alloc: Global, sum: Hyper, layer: Arc<Hyper>) -> Result<Hyper, AllocError>
+    requires rows { sum.rows ≡ (arc_value layer).rows }
+    requires cols { sum.cols ≡ (arc_value layer).cols }
+    requires fits { total sum.counts + total (arc_value layer).counts < 2 ^ 64 }
+    ensures { IfOk result (λ m. m ≡ record sum { counts = ewise_add sum.counts (arc_value layer).counts }) }
+{
+    match Arc::try_unwrap(layer) {
+        Ok(layer) => {
+            let sum = sum.into_sum(alloc, layer)?;
+            Ok(sum)
+        }
+        Err(shared) => {
+            let layer = shared.copy(alloc)?;
+            let sum = sum.into_sum(alloc, layer)?;
+            Ok(sum)
+        }
+    }
+}
+
+/// The layers once m was added to them, made from their own memory: the cascade goes from layer to layer, leaves each that
+/// can't hold the sum empty, and moves those above its end.
+pub fn cascaded(
+    alloc: Global,
+    layers: Vec<Arc<Hyper>>,
+    cuts: &[u64],
+    empty: &Arc<Hyper>,
+    m: Hyper,
+) -> Result<Vec<Arc<Hyper>>, AllocError>
+    requires count { length layers.items ≡ length cuts.now + 1 }
+    requires dims { HaveDims m.rows m.cols (values layers.items) }
+    requires none { arc_value empty.now ≡ matrix m.rows m.cols no_counts }
+    requires fits { total (content (all_counts (values layers.items))) + total m.counts < 2 ^ 64 }
+    ensures counts { IfOk result (λ after. all_counts (values after.items) ≡ cascade (all_counts (values layers.items)) cuts.now m.counts) }
+    ensures dims { IfOk result (λ after. HaveDims m.rows m.cols (values after.items)) }
+{
+    let mut after = Vec::with_capacity(alloc, layers.len())?;
+    let mut rest = VecDeque::from(layers);
+    let mut sum = m;
+    'carry: while let Some(layer) = rest.pop_front() {
+        sum = with_layer(alloc, sum, layer)?;
+        if rest.is_empty() || sum.entries() <= cuts[after.len()] {
+            let sum = Arc::new(alloc, sum)?;
+            after.push(sum)?;
+            let mut above = Vec::from(rest);
+            after.append(&mut above)?;
+            return Ok(after);
+        }
+        let none = Arc::try_clone(empty)?;
+        after.push(none)?;
+    }
+    Ok(after)
+}
+
+/// The sum of all layers, each given away.
+pub fn sum_of_layers(
+    alloc: Global,
+    rows: u64,
+    cols: u64,
+    layers: Vec<Arc<Hyper>>,
+) -> Result<Hyper, AllocError>
+    requires rows { IsDimension rows }
+    requires cols { IsDimension cols }
+    requires dims { HaveDims rows cols (values layers.items) }
+    requires fits { total (content (all_counts (values layers.items))) < 2 ^ 64 }
+    ensures { IfOk result (λ m. m ≡ matrix rows cols (content (all_counts (values layers.items)))) }
+{
+    let mut sum = Hyper::new(alloc, rows, cols);
+    let mut rest = VecDeque::from(layers);
+    'moved: while let Some(layer) = rest.pop_front() {
+        sum = with_layer(alloc, sum, layer)?;
+    }
+    Ok(sum)
 }

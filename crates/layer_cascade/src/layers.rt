@@ -17,7 +17,7 @@ ghost use Rattle.hyper_matrix.specs.RowOf.{row_of};
 ghost use Rattle.layer_cascade.specs.Columns.{FirstColumn};
 ghost use Rattle.layer_cascade.specs.Layering.{IsLayering, no_layers, entries_of_layer};
 
-use crate::addition::{added, cascade_end, layers_after, push_copies};
+use crate::addition::{added, cascade_end, cascaded, layers_after, push_copies, sum_of_layers};
 use crate::cuts::are_cuts;
 use crate::fault::CascadeFault;
 use crate::lookup::{column_from, earlier, plus};
@@ -172,6 +172,44 @@ impl Layers {
         ensures { self.new ≡ plan }
     {
         *self = plan.after;
+    }
+
+    /// The layers with `m` added, as `plan` and `commit` leave them, made from their own memory.
+    ///
+    /// Nothing is changed that somebody else shares: a layer, or a block of one. What nobody else has is moved, and freed as the
+    /// cascade goes on. Takes the time of the sums up to the layer where it ends, which for blocks that meet no other is that of a
+    /// pointer.
+    ///
+    /// # Errors
+    ///
+    /// A growth was refused. The layers and the matrix are gone then.
+    pub fn add(self, alloc: Global, m: Hyper) -> Result<Layers, AllocError>
+        requires rows { m.rows ≡ self.rows }
+        requires cols { m.cols ≡ self.cols }
+        requires fits { total (content self.layers) + total m.counts < 2 ^ 64 }
+        ensures { IfOk result (λ after. after ≡ record self { layers = cascade self.layers self.cuts m.counts }) }
+    {
+        let layers = cascaded(alloc, self.layers, &self.cuts, &self.empty, m)?;
+        Ok(Layers {
+            rows: self.rows,
+            cols: self.cols,
+            cuts: self.cuts,
+            empty: self.empty,
+            layers,
+        })
+    }
+
+    /// The sum of all layers, as `sum`, made from their own memory: the layers are gone.
+    ///
+    /// # Errors
+    ///
+    /// A growth was refused. The layers are gone then too.
+    pub fn into_sum(self, alloc: Global) -> Result<Hyper, AllocError>
+        ensures sum { IfOk result (λ m. m ≡ matrix self.rows self.cols (content self.layers)) }
+        ensures kept { IsLayering self }
+    {
+        let sum = sum_of_layers(alloc, self.rows, self.cols, self.layers)?;
+        Ok(sum)
     }
 
     /// The sum of all layers, as a matrix of its own that shares blocks with them. Takes the time and memory of adding the layers up,

@@ -22,3 +22,6 @@ pub mod StreamLemmas
 pub mod SinkLemmas
 pub mod ScriptLemmas
 pub mod KnownLemmas
+pub mod DigitLemmas
+pub mod EntryLemmas
+pub mod TakenLemmas

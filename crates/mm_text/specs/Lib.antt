@@ -9,3 +9,4 @@ pub mod Readings
 pub mod Canonical
 pub mod Writing
 pub mod Scripts
+pub mod Plain

@@ -16,6 +16,7 @@ mod judging;
 mod laws;
 mod limits;
 mod pieces;
+mod plain;
 mod read;
 mod reader;
 mod reading;

@@ -1,16 +1,18 @@
 //! Judges the lines of one piece of a text.
 //!
 //! Lines are cut at LF by `memchr`. One that stands whole in the piece is judged there and copied nowhere.
-ghost use Rattle.std.specs.Prelude.{◌≡◌, ℕ, ◌+◌, ◌<◌, ◌≤◌, ◌^◌, List, OnOk, IfErr, IfOk, IfSome, IfNone, length, vec_len, vec_capacity, slice_index, take, drop, Some};
+ghost use Rattle.std.specs.Prelude.{◌≡◌, ℕ, ◌+◌, ◌*◌, ◌<◌, ◌≤◌, ◌^◌, List, OnOk, IfErr, IfOk, IfSome, IfNone, length, vec_len, vec_capacity, slice_index, take, drop, Some};
 ghost use Rattle.mm_text.specs.Lines.{IsLine};
 ghost use Rattle.mm_text.specs.Stages.{Advances, Holds, EndsLast, EndsText};
 ghost use Rattle.mm_text.specs.Streams.{Shows, Explains};
+ghost use Rattle.mm_text.specs.declared.limits.TextLimits.{TextLimits};
 ghost use Rattle.mm_text.specs.declared.cell.Cell.{Cell};
 
 use crate::carrying::{CARRY, end_carried, end_in_place};
 use crate::cell::Cell;
 use crate::fault::MmFault;
 use crate::limits::TextLimits;
+use crate::plain::take_entries;
 use crate::reading::Reading;
 use memchr::memchr;
 
@@ -51,6 +53,63 @@ fn take_line(
     }
 }
 
+/// Takes the plain lines with which these bytes begin, where no front of a line is carried, and gives how many bytes
+/// they took.
+fn take_plain_lines(
+    reading: &mut Reading,
+    carry: &[u8],
+    bytes: &[u8],
+    block: &mut Vec<Cell>,
+    most: usize,
+) -> Result<usize, MmFault>
+    requires lines { reading.old.lines + length bytes.now + 1 < 2 ^ 64 }
+    requires room { length block.old.items ≤ most }
+    ensures within { IfOk result (λ n. n ≤ length bytes.now) }
+    ensures count { IfOk result (λ n. reading.new.lines ≤ reading.old.lines + n) }
+    ensures bound { reading.new.lines ≤ reading.old.lines + length bytes.now }
+    ensures room { OnOk result (length block.new.items ≤ most) }
+    ensures few { IfOk result (λ n. length block.new.items ≤ length block.old.items + 2 * n) }
+    ensures ok { IfOk result (λ n. (limits : TextLimits) → Advances limits (take n bytes.now) carry.now reading.old.stage reading.old.lines block.old.items
+        carry.now reading.new.stage reading.new.lines block.new.items) }
+    ensures err { IfErr result (λ f. (limits : TextLimits) → Shows limits bytes.now carry.now reading.old.stage reading.old.lines f.kind f.line) }
+{
+    if carry.is_empty() {
+        take_entries(reading, bytes, block, most)
+    } else {
+        Ok(0)
+    }
+}
+
+/// Takes the plain lines with which these bytes begin, or else the first line that ends in them, and gives how many
+/// bytes were taken.
+fn take_next(
+    reading: &mut Reading,
+    carry: &mut Vec<u8>,
+    limits: TextLimits,
+    bytes: &[u8],
+    block: &mut Vec<Cell>,
+    most: usize,
+) -> Result<usize, MmFault>
+    requires lines { reading.old.lines + length bytes.now + 1 < 2 ^ 64 }
+    requires capacity { CARRY ≤ vec_capacity carry.old }
+    requires room { length block.old.items + 2 ≤ most }
+    ensures capacity { CARRY ≤ vec_capacity carry.new }
+    ensures within { IfOk result (λ n. n ≤ length bytes.now) }
+    ensures count { IfOk result (λ n. reading.new.lines ≤ reading.old.lines + n) }
+    ensures bound { reading.new.lines ≤ reading.old.lines + length bytes.now }
+    ensures room { OnOk result (length block.new.items ≤ most) }
+    ensures none { IfOk result (λ n. n ≡ 0 → IsLine bytes.now) }
+    ensures ok { IfOk result (λ n. Advances limits (take n bytes.now) carry.old.items reading.old.stage reading.old.lines block.old.items
+        carry.new.items reading.new.stage reading.new.lines block.new.items) }
+    ensures err { IfErr result (λ f. Shows limits bytes.now carry.old.items reading.old.stage reading.old.lines f.kind f.line) }
+{
+    let taken = take_plain_lines(reading, carry.as_slice(), bytes, block, most)?;
+    if taken > 0 {
+        return Ok(taken);
+    }
+    take_line(reading, carry, limits, bytes, block)
+}
+
 /// Judges the lines that end in these bytes as long as the block has room for two cells, and gives how many bytes
 /// they took.
 pub fn take_lines(
@@ -76,7 +135,7 @@ pub fn take_lines(
 {
     let mut start = 0;
     'lines: while most - block.len() > 1 {
-        let taken = take_line(reading, carry, limits, &bytes[start..], block)?;
+        let taken = take_next(reading, carry, limits, &bytes[start..], block, most)?;
         if taken == 0 {
             return Ok(start);
         }

@@ -14,4 +14,4 @@ pub returns-then-is_none : goal.returns-then-is_none
 returns-then-is_none c = totals_pass c.args.layers c.in-Ok.m _ _ c.args.block.now c.in-Ok.ensures.ok (search rules)
 
 pub returns : goal.returns
-returns c = block_added c.args.layers _ c.in-Ok.m _ _ c.args.block.now c.dims-rows.ensures.kept c.in-Ok.ensures.ok c.in_ok-add_matrix.ensures
+returns c = block_added c.args.layers _ c.in-Ok.m _ _ c.args.block.now c.dims-rows.ensures.kept c.in-Ok.ensures.ok c.in_ok-layers.ensures

@@ -1,41 +1,6 @@
-use Rattle.std.proofs.Common.{◌≡◌, T, List, ℕ, map, sym, subst, ap, ◌∙◌, arith}
-use Rattle.std.specs.FinMap.{is_sorted}
-use Rattle.hyper_matrix.specs.Counts.{Place, place_cmp, total, count_sum, built, ewise_add}
-use Rattle.hyper_matrix.specs.Blocks.{all_cells}
-use Rattle.hyper_matrix.specs.Shared.{shared_counts}
-use Rattle.hyper_matrix.specs.Cells.{entry_of}
-use Rattle.hyper_matrix.specs.Matrix.{Matrix}
-use Rattle.hyper_matrix.proofs.BuildLaws.{entries_total}
-use Rattle.hyper_matrix.proofs.MatrixLaws.{holds_sum, counts_sum, cells_read, kept_total, sum_is, no_blocks, with_empty, turned_sum}
+use Rattle.std.proofs.Common.{arith}
+use Rattle.hyper_matrix.proofs.MatrixLaws.{no_blocks, with_empty}
 use Rattle.hyper_matrix.proofs.hyper.add_to.Goals as goal
 
 pub returns-then-len-eq0 : goal.returns-then-len-eq0
 returns-then-len-eq0 c = with_empty c.args.large.now c.args.small.now _ c.in_ok-m.ensures (no_blocks _ _ c.small.inside.blocks.items _ c.small.view_is (omega arith))
-
-pub returns-then-len-eq0-2 : goal.returns-then-len-eq0-2
-returns-then-len-eq0-2 c = turned_sum c.args.large.now c.args.small.now _ c.requires.rows c.requires.cols (with_empty c.args.small.now c.args.large.now _ c.in_ok-m-2.ensures (no_blocks _ _ c.large.inside.blocks.items _ c.large.view_is (omega arith)))
-
-pub sum_blocks-requires-clause-cells : goal.sum_blocks-requires-clause-cells
-sum_blocks-requires-clause-cells c =
-    let read = ap (map entry_of) c.deref-2.ensures.value ∙ cells_read _ _ _ _ _ c.small.inside.blocks.items c.args.small.now c.in_ok-cells.cells.items c.small.invariant.holds c.small.view_is c.in_ok-cells.ensures.order in
-    subst (λ (r : List (Place × ℕ)). T (is_sorted place_cmp r)) (sym read) c.small.invariant.holds.sorted
-
-pub sum_blocks-requires-clause-fits : goal.sum_blocks-requires-clause-fits
-sum_blocks-requires-clause-fits c =
-    let read = ap (map entry_of) c.deref-2.ensures.value ∙ cells_read _ _ _ _ _ c.small.inside.blocks.items c.args.small.now c.in_ok-cells.cells.items c.small.invariant.holds c.small.view_is c.in_ok-cells.ensures.order in
-    omega (arith, kept_total _ _ _ _ c.large.invariant.holds, kept_total _ _ _ _ c.small.invariant.holds, c.large.invariant.holds.kept, c.small.invariant.holds.kept, ap (λ (m : Matrix). total m.counts) c.large.view_is, ap (λ (m : Matrix). total m.counts) c.small.view_is, c.requires.fits, ap count_sum read, entries_total c.deref-2.result.now, ap (λ b. count_sum (all_cells b)) c.deref.ensures.value)
-
-pub overflow_add-sum : goal.overflow_add-sum
-overflow_add-sum c = omega (arith, kept_total _ _ _ _ c.large.invariant.holds, kept_total _ _ _ _ c.small.invariant.holds, ap (λ (m : Matrix). total m.counts) c.large.view_is, ap (λ (m : Matrix). total m.counts) c.small.view_is, c.requires.fits)
-
-pub assemble-requires : goal.assemble-requires
-assemble-requires c =
-    let read : map entry_of c.deref-2.result.now ≡ all_cells c.small.inside.blocks.items = ap (map entry_of) c.deref-2.ensures.value ∙ cells_read _ _ _ _ _ c.small.inside.blocks.items c.args.small.now c.in_ok-cells.cells.items c.small.invariant.holds c.small.view_is c.in_ok-cells.ensures.order in
-    let sums : shared_counts c.in_ok-blocks.blocks.items ≡ ewise_add (shared_counts c.large.inside.blocks.items) (shared_counts c.small.inside.blocks.items) = counts_sum _ _ _ _ _ _ c.large.inside.blocks.items c.small.inside.blocks.items c.in_ok-blocks.blocks.items (map entry_of c.deref-2.result.now) c.large.invariant.holds c.small.invariant.holds c.in_ok-blocks.ensures.sorted read (c.in_ok-blocks.ensures.sums ∙ ap (λ b. ewise_add (built (all_cells b)) (built (map entry_of c.deref-2.result.now))) c.deref.ensures.value) in
-    holds_sum _ _ _ _ _ _ c.large.inside.blocks.items c.small.inside.blocks.items c.in_ok-blocks.blocks.items (ap (λ (m : Matrix). m.rows) c.small.view_is ∙ sym c.requires.rows ∙ sym (ap (λ (m : Matrix). m.rows) c.large.view_is)) (ap (λ (m : Matrix). m.cols) c.small.view_is ∙ sym c.requires.cols ∙ sym (ap (λ (m : Matrix). m.cols) c.large.view_is)) c.large.invariant.holds c.small.invariant.holds c.in_ok-blocks.ensures.blocks c.in_ok-blocks.ensures.sorted sums
-
-pub returns : goal.returns
-returns c =
-    let read : map entry_of c.deref-2.result.now ≡ all_cells c.small.inside.blocks.items = ap (map entry_of) c.deref-2.ensures.value ∙ cells_read _ _ _ _ _ c.small.inside.blocks.items c.args.small.now c.in_ok-cells.cells.items c.small.invariant.holds c.small.view_is c.in_ok-cells.ensures.order in
-    let sums : shared_counts c.in_ok-blocks.blocks.items ≡ ewise_add (shared_counts c.large.inside.blocks.items) (shared_counts c.small.inside.blocks.items) = counts_sum _ _ _ _ _ _ c.large.inside.blocks.items c.small.inside.blocks.items c.in_ok-blocks.blocks.items (map entry_of c.deref-2.result.now) c.large.invariant.holds c.small.invariant.holds c.in_ok-blocks.ensures.sorted read (c.in_ok-blocks.ensures.sums ∙ ap (λ b. ewise_add (built (all_cells b)) (built (map entry_of c.deref-2.result.now))) c.deref.ensures.value) in
-    c.in_ok-m-3.ensures ∙ sum_is _ _ _ _ _ _ _ _ _ c.large.view_is c.small.view_is sums

@@ -43,7 +43,7 @@ lines-preserved c =
     record {
       within = let i = c.lines.invariant.within in omega (arith, length-take (length c.args.bytes.now - c.lines.start) (drop c.lines.start c.args.bytes.now), length-drop c.lines.start c.args.bytes.now);
       count = let h = c.in_ok-taken.ensures.count in let i = c.lines.invariant.count in omega arith;
-      capacity = c.take_line.ensures.capacity;
+      capacity = c.take_next.ensures.capacity;
       room = let r = c.in_ok-taken.ensures.room in let t = c.lines-test.true in let l = c.len.ensures in omega arith;
       advances = rw cut (advances_append c.args.limits (take c.lines.start c.args.bytes.now) (take c.in_ok-taken.taken (drop c.lines.start c.args.bytes.now)) c.args.carry.now.items _ _ _ _ _ _ _ _ _ _ _ c.lines.invariant.advances a);
     }

@@ -1,0 +1,134 @@
+//! Takes entry lines of the plainest form: digits, a blank, digits, a blank, digits, LF.
+//!
+//! Nearly all lines of a large text are such. Each is read in one pass, which finds its numbers and its LF at once, and
+//! the reader's state stays in local variables for as many of them as stand in a row. All other lines are left to the
+//! judge that knows every form and every fault.
+ghost use Rattle.std.specs.Prelude.{◌≡◌, ℕ, ◌+◌, ◌*◌, ◌<◌, ◌≤◌, ◌^◌, [], length, take, IfOk, IfErr, IfSome, OnOk, vec_len};
+ghost use Rattle.mm_text.specs.Plain.{BeginsWithDigits, BeginsWithIndex, BeginsWithCount, BeginsWithEntry};
+ghost use Rattle.mm_text.specs.Stages.{Advances};
+ghost use Rattle.mm_text.specs.Streams.{Shows};
+ghost use Rattle.mm_text.specs.declared.limits.TextLimits.{TextLimits};
+
+use crate::cell::Cell;
+use crate::fault::{MmFault, MmKind};
+use crate::reading::Reading;
+use crate::size::Size;
+use crate::stages::{Stage, push_cells};
+use crate::words::is_blank_byte;
+use std::cmp;
+
+/// So many digits write a number of 64 bits, whatever they are.
+const MAX_DIGITS: usize = 19;
+
+/// The number that the first digits write, at most `MAX_DIGITS` of them, and what follows them.
+fn plain_number(bytes: &[u8]) -> (u64, &[u8])
+    ensures { BeginsWithDigits bytes.now result.0 result.1.now }
+{
+    let front = &bytes[..cmp::min(bytes.len(), MAX_DIGITS)];
+    let mut value = 0u64;
+    for (i, byte) in front.iter().enumerate() {
+        if !byte.is_ascii_digit() {
+            return (value, &bytes[i..]);
+        }
+        value = value * 10 + u64::from(*byte - b'0');
+    }
+    (value, &bytes[front.len()..])
+}
+
+/// The index that digits before a blank write, counted from 0, and what follows the blank.
+fn plain_index(limit: u64, bytes: &[u8]) -> Option<(u64, &[u8])>
+    ensures { IfSome result (λ p. BeginsWithIndex limit bytes.now p.0 p.1.now) }
+{
+    let (n, rest) = plain_number(bytes);
+    if n == 0 || limit < n {
+        return None;
+    }
+    match rest {
+        [blank, rest @ ..] => {
+            if is_blank_byte(*blank) {
+                Some((n - 1, rest))
+            } else {
+                None
+            }
+        }
+        [] => None,
+    }
+}
+
+/// The count that digits before an LF write, and what follows the LF.
+fn plain_count(bytes: &[u8]) -> Option<(u64, &[u8])>
+    ensures { IfSome result (λ p. BeginsWithCount bytes.now p.0 p.1.now) }
+{
+    let (n, rest) = plain_number(bytes);
+    if rest.len() == bytes.len() {
+        return None;
+    }
+    match rest {
+        [b'\n', rest @ ..] => Some((n, rest)),
+        _ => None,
+    }
+}
+
+/// The entry that the first line is, and how many bytes that line has with its LF.
+///
+/// None says nothing of the line.
+fn plain_entry(rows: u64, cols: u64, bytes: &[u8]) -> Option<(Cell, usize)>
+    ensures { IfSome result (λ p. BeginsWithEntry rows cols bytes.now p.0 p.1) }
+{
+    let (row, rest) = plain_index(rows, bytes)?;
+    let (col, rest) = plain_index(cols, rest)?;
+    let (count, rest) = plain_count(rest)?;
+    Some((Cell { row, col, count }, bytes.len() - rest.len()))
+}
+
+/// Takes the plain lines with which the bytes begin, as long as entries are due and the block has room for two cells,
+/// and gives how many bytes they took.
+pub fn take_entries(
+    reading: &mut Reading,
+    bytes: &[u8],
+    block: &mut Vec<Cell>,
+    most: usize,
+) -> Result<usize, MmFault>
+    requires lines { reading.old.lines + length bytes.now + 1 < 2 ^ 64 }
+    requires room { length block.old.items ≤ most }
+    ensures within { IfOk result (λ n. n ≤ length bytes.now) }
+    ensures count { IfOk result (λ n. reading.new.lines ≤ reading.old.lines + n) }
+    ensures bound { reading.new.lines ≤ reading.old.lines + length bytes.now }
+    ensures room { OnOk result (length block.new.items ≤ most) }
+    ensures few { IfOk result (λ n. length block.new.items ≤ length block.old.items + 2 * n) }
+    ensures ok { IfOk result (λ n. (limits : TextLimits) → Advances limits (take n bytes.now) [] reading.old.stage reading.old.lines block.old.items
+        [] reading.new.stage reading.new.lines block.new.items) }
+    ensures err { IfErr result (λ f. (limits : TextLimits) → Shows limits bytes.now [] reading.old.stage reading.old.lines f.kind f.line) }
+{
+    let Stage::AtEntries {
+        symmetric,
+        size,
+        mut seen,
+    } = reading.stage
+    else {
+        return Ok(0);
+    };
+    let mut lines = reading.lines;
+    let mut start = 0;
+    'entries: while seen < size.entries && most - block.len() > 1 {
+        let Some((cell, len)) = plain_entry(size.rows, size.cols, &bytes[start..]) else {
+            break;
+        };
+        if push_cells(block, symmetric, cell).is_err() {
+            return Err(MmFault {
+                kind: MmKind::Memory,
+                line: lines + 1,
+            });
+        }
+        start += len;
+        seen += 1;
+        lines += 1;
+    }
+    reading.stage = Stage::AtEntries {
+        symmetric,
+        size,
+        seen,
+    };
+    reading.lines = lines;
+    Ok(start)
+}
