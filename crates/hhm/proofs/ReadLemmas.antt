@@ -1,12 +1,12 @@
 -- What reading and adding one more block does to a sum of a text.
-use Rattle.std.proofs.Common.{◌≡◌, ◌≢◌, ℕ, ◌+◌, ◌≤◌, List, [], ◌++◌, length, Option, Some, Result, Ok, Err, refl, sym, ◌∙◌, ap, subst, arith, append_assoc, get_or}
+use Rattle.std.proofs.Common.{◌≡◌, ◌≢◌, ℕ, ◌+◌, ◌≤◌, List, [], ◌++◌, length, Option, Some, Result, Ok, Err, refl, sym, ◌∙◌, ap, subst, arith, get_or}
 use Rattle.std.proofs.lemmas.List.{get_or-append-add, length-append}
 use Rattle.mm_text.specs.Bounds.{IsWithin, AreWithin}
 use Rattle.mm_text.specs.Readings.{size_of, HasRead, SpelledBy, GoesOn, Ends, Stops, SizedCells, AreSized}
 use Rattle.mm_text.proofs.BoundLemmas.{stage_sized, spells_bounds}
-use Rattle.mm_text.specs.Streams.{Calls, bytes_of_calls, Explains}
+use Rattle.mm_text.specs.Streams.{bytes_of_calls, Explains}
 use Rattle.mm_text.specs.Texts.{Spells}
-use Rattle.mm_text.proofs.StreamLemmas.{calls-append, bytes_of_calls-append}
+use Rattle.mm_text.proofs.StreamLemmas.{calls-append}
 use Rattle.mm_text.specs.declared.cell.Cell.{Cell}
 use Rattle.mm_text.specs.declared.fault.DeviceFault.{DeviceFault}
 use Rattle.mm_text.specs.declared.fault.MmFault.{MmFault}
@@ -18,7 +18,7 @@ use Rattle.mm_text.specs.declared.size.Size.{Size}
 use Rattle.hhm.specs.Faults.{fault_of_kind, fault_of_text}
 use Rattle.hhm.specs.declared.fault.SumFault.{SumFault}
 use Rattle.hhm.specs.declared.fault.SumFault.TheVariants.{Text, Memory}
-use Rattle.hhm.specs.Sum.{sum_limits, ReadsText, StopsText}
+use Rattle.hhm.specs.Sum.{sum_limits}
 use Rattle.hhm.specs.Running.{IsSumOf}
 use Rattle.hhm.specs.Reading.{IsSized, IsSumming, HasSummed, Excuses}
 use Rattle.mm_text.specs.Stages.{declared_size}

@@ -3,3 +3,4 @@ pub mod Sum
 pub mod Running
 pub mod Faults
 pub mod Reading
+pub mod Reports

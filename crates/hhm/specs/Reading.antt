@@ -1,7 +1,7 @@
 -- How far a text was summed: what the source gave, what the reader handed out, and what of that was added.
-use Rattle.std.specs.Prelude.{◌≡◌, ℕ, ◌+◌, ◌≤◌, Bool, true, false, List, ◌++◌, length, Option, Some, Result}
+use Rattle.std.specs.Prelude.{◌≡◌, ℕ, List, ◌++◌, Some, Result}
 use Rattle.mm_text.specs.Bounds.{IsDimension}
-use Rattle.mm_text.specs.Readings.{size_of, HasRead, SpelledBy}
+use Rattle.mm_text.specs.Readings.{size_of, HasRead}
 use Rattle.mm_text.specs.Streams.{Calls}
 use Rattle.mm_text.specs.declared.cell.Cell.{Cell}
 use Rattle.mm_text.specs.declared.fault.DeviceFault.{DeviceFault}

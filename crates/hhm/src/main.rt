@@ -5,6 +5,8 @@
 #![tactic(auto)]
 
 mod cli;
+#[cfg(test)]
+mod cli_tests;
 mod fault;
 mod numbers;
 #[cfg(test)]
@@ -24,8 +26,8 @@ use clap::error::ErrorKind;
 use clap::{ArgMatches, Error};
 use mm_text::{Counted, write_all};
 use std::alloc::AllocError;
-use std::env;
 use std::process::ExitCode;
+use std::{env, io};
 
 fn main(rt: HostRuntime) -> ExitCode {
     match run(&rt) {
@@ -40,9 +42,15 @@ fn main(rt: HostRuntime) -> ExitCode {
 /// Reads the command line, and does what it asks for.
 fn run(rt: &HostRuntime) -> Result<ExitCode, Fault> {
     let alloc = rt.alloc();
-    let Ok(args) = env::args(rt) else {
-        let _ = eprintln!(rt; "error: the command line is not UTF-8, or too large");
-        return Ok(ExitCode::from(2));
+    let args = match env::args(rt) {
+        Ok(args) => args,
+        Err(error) if error.kind() == io::ErrorKind::OutOfMemory => {
+            return Err(Fault::from(AllocError));
+        }
+        Err(_) => {
+            let _ = eprintln!(rt; "error: the command line is not UTF-8");
+            return Ok(ExitCode::from(2));
+        }
     };
     let words: Vec<String> = args.collect(alloc)?;
     let command = cli::command(alloc)?;

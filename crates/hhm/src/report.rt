@@ -1,4 +1,8 @@
 //! What the program says of a fault, and the status that it ends with.
+ghost use Rattle.std.specs.Prelude.{◌≡◌};
+ghost use Rattle.hhm.specs.Reports.{fault_of_list, fault_status};
+ghost use Rattle.hhm.specs.declared.fault.SumFault.TheVariants.{Memory, Output};
+ghost use Rattle.hhm.specs.declared.report.Fault.TheVariants.{Sum};
 
 use crate::fault::SumFault;
 use crate::numbers::ListFault;
@@ -17,12 +21,16 @@ pub enum Fault {
 }
 
 impl From<SumFault> for Fault {
+    ghost from_gives = { λ fault e. e ≡ Sum fault };
+
     fn from(fault: SumFault) -> Fault {
         Fault::Sum(fault)
     }
 }
 
 impl From<ListFault> for Fault {
+    ghost from_gives = { λ fault e. e ≡ fault_of_list fault };
+
     fn from(fault: ListFault) -> Fault {
         match fault {
             ListFault::BadNumber => Fault::BadNumber,
@@ -32,12 +40,16 @@ impl From<ListFault> for Fault {
 }
 
 impl From<AllocError> for Fault {
+    ghost from_gives = { λ _ e. e ≡ Sum Memory };
+
     fn from(_: AllocError) -> Fault {
         Fault::Sum(SumFault::Memory)
     }
 }
 
 impl From<WriteFault> for Fault {
+    ghost from_gives = { λ fault e. e ≡ Sum (Output fault) };
+
     fn from(fault: WriteFault) -> Fault {
         Fault::Sum(SumFault::Output(fault))
     }
@@ -63,7 +75,9 @@ impl fmt::Display for Fault {
 
 impl Fault {
     /// The status: 2 for settings, 3 for what the text says, 4 for a device, 5 for memory.
-    pub fn status(self) -> u8 {
+    pub fn status(self) -> u8
+        ensures { result ≡ fault_status self }
+    {
         match self {
             Fault::BadNumber => 2,
             Fault::Sum(SumFault::BadCuts) => 2,

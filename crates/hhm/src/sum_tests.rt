@@ -70,10 +70,7 @@ fn check(
             match want {
                 Ok(sum) => {
                     assert_eq!(rt; outcome, Ok(()), "pieces of {most}");
-                    assert!(rt;
-                        sink.written() == sum.as_bytes(),
-                        "pieces of {most}"
-                    );
+                    assert!(rt; sink.written() == sum.as_bytes(), "pieces of {most}");
                 }
                 Err(fault) => {
                     assert_eq!(rt; outcome, Err(fault), "pieces of {most}");

@@ -1,11 +1,11 @@
 -- Cells in blocks: what a push adds, and what stands from a block on.
-use Rattle.std.proofs.Common.{◌≡◌, ℕ, zero, suc, ◌+◌, ◌<◌, ◌≤◌, List, [], ◌∷◌, ◌++◌, length, get_or, take, drop, sym, ◌∙◌, ap, subst, refl, arith, append_assoc}
+use Rattle.std.proofs.Common.{◌≡◌, ℕ, zero, suc, ◌+◌, ◌<◌, ◌≤◌, List, [], ◌∷◌, ◌++◌, length, get_or, take, sym, ◌∙◌, ap, subst, refl, arith, append_assoc}
 use Rattle.std.specs.declared.sync.Arc.{Arc}
 use Rattle.std.specs.Arc.{arc_value}
 use Rattle.std.proofs.lemmas.List.{append-nil, take_more}
 use Rattle.hyper_matrix.specs.Counts.{Place, count_sum}
 use Rattle.hyper_matrix.specs.Rows.{Rows, cells_of}
-use Rattle.hyper_matrix.specs.Blocks.{all_cells, block_cells, IsBlock, AreBlocks, Grows}
+use Rattle.hyper_matrix.specs.Blocks.{all_cells, IsBlock, AreBlocks, Grows}
 
 pub sum-append : (xs ys : List (Place × ℕ)) → count_sum (xs ++ ys) ≡ count_sum xs + count_sum ys
 sum-append [] ys = omega arith
@@ -36,22 +36,6 @@ module _ {Z : Type 0} where
   block_at [] i d f h = absurd (omega arith)
   block_at (x ∷ blocks) zero d f h = f.0
   block_at (x ∷ blocks) (suc i) d f h = block_at blocks i d f.1 (omega arith)
-
-  pub block_cells_at : (blocks : List (Arc Rows Z)) (i : ℕ) (d : Arc Rows Z) → i < length blocks → block_cells blocks i ≡ cells_of (arc_value (get_or blocks i d))
-  block_cells_at [] i d h = absurd (omega arith)
-  block_cells_at (x ∷ blocks) zero d h = refl
-  block_cells_at (x ∷ blocks) (suc i) d h = block_cells_at blocks i d (omega arith)
-
-  -- the cells from block i on are those of block i and of what comes behind it
-  pub cells_from : (blocks : List (Arc Rows Z)) (i : ℕ) → i < length blocks → all_cells (drop i blocks) ≡ block_cells blocks i ++ all_cells (drop (i + 1) blocks)
-  cells_from [] i h = absurd (omega arith)
-  cells_from (x ∷ blocks) zero h = ap (λ n. cells_of (arc_value x) ++ all_cells (drop n (x ∷ blocks))) {x = 1} {y = 0 + 1} refl
-  cells_from (x ∷ blocks) (suc i) h = cells_from blocks i (omega arith) ∙ ap (λ n. block_cells blocks i ++ all_cells (drop n (x ∷ blocks))) {x = suc (i + 1)} {y = suc i + 1} (omega arith)
-
-  pub block_sum : (blocks : List (Arc Rows Z)) (i : ℕ) → count_sum (block_cells blocks i) ≤ count_sum (all_cells blocks)
-  block_sum [] i = omega arith
-  block_sum (x ∷ blocks) zero = omega (arith, sum-append (cells_of (arc_value x)) (all_cells blocks))
-  block_sum (x ∷ blocks) (suc i) = omega (arith, sum-append (cells_of (arc_value x)) (all_cells blocks), block_sum blocks i)
 
   -- the cells of one block more
   pub one_block_more : (blocks : List (Arc Rows Z)) (i : ℕ) (d : Arc Rows Z) (cells : List (Place × ℕ)) → i < length blocks → cells ≡ cells_of (arc_value (get_or blocks i d)) → all_cells (take (i + 1) blocks) ≡ all_cells (take i blocks) ++ cells

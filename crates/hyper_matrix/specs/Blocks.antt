@@ -1,5 +1,5 @@
 -- Rows in blocks that are shared and never changed.
-use Rattle.std.specs.Prelude.{◌≡◌, ℕ, zero, suc, ◌+◌, ◌-◌, ◌<◌, ◌≤◌, T, List, [], ◌∷◌, ◌++◌, length, drop, slice_index_or, slice_range}
+use Rattle.std.specs.Prelude.{◌≡◌, ℕ, ◌+◌, ◌-◌, ◌<◌, ◌≤◌, T, List, [], ◌∷◌, ◌++◌, length, drop, slice_index_or, slice_range}
 use Rattle.std.specs.FinMap.{is_sorted}
 use Rattle.std.specs.declared.sync.Arc.{Arc}
 use Rattle.std.specs.Arc.{arc_value}
@@ -31,12 +31,6 @@ pub record GrowsBySum {Z : Type 0} (old new : List (Arc Rows Z)) (xs ys : List (
   pub grows : Grows old new cells
   pub sorted : T (is_sorted place_cmp cells)
   pub sums : built cells ≡ ewise_add (built xs) (built ys)
-
--- the cells of block i
-abbrev pub block_cells : {Z : Type 0} → List (Arc Rows Z) → ℕ → List (Place × ℕ)
-block_cells [] i = []
-block_cells (block ∷ blocks) zero = cells_of (arc_value block)
-block_cells (block ∷ blocks) (suc i) = block_cells blocks i
 
 -- how many cells the blocks hold up to each, with `at` cells before the first
 abbrev pub ends_from : {Z : Type 0} → ℕ → List (Arc Rows Z) → List ℕ

@@ -1,8 +1,9 @@
 //! Cells in blocks of bounded size, each a run of compressed nonempty rows that is shared and never changed.
 //!
 //! A sum goes through the blocks of one matrix in order and gives each the cells of the other that lie below the next
-//! block's first place. A block that gets none is shared: a pointer, where flat rows would be written anew. Any other
-//! is added up into new rows, and cut in two or more if these passed `MOST`. So a small matrix joins a large one for the
+//! block's first place. A block that gets none goes over as it is: a pointer, where flat rows would be written anew. Any
+//! other is added up into new rows, and cut in two or more if these passed `MOST`. The blocks are given away: a matrix that
+//! stays shares its blocks first, and one that is given away too has each freed as soon as its sum stands. So a small matrix joins a large one for the
 //! price of the blocks that it touches and a pointer for each other. A sum takes no entry away, so blocks never crumble.
 //! The other matrix comes as a list of cells: any part of it is a slice, also one that begins inside a row.
 ghost use Rattle.std.specs.Prelude.{◌≡◌, ℕ, List, [], ◌+◌, ◌-◌, ◌<◌, ◌≤◌, ◌^◌, ◌++◌, T, OnOk, IfOk, length, slice_range, drop, map};
@@ -11,7 +12,7 @@ ghost use Rattle.std.specs.Arc.{arc_value};
 ghost use Rattle.std.specs.Ordering.{is_lt};
 ghost use Rattle.hyper_matrix.specs.Counts.{Place, place_cmp, count_sum, built, ewise_add};
 ghost use Rattle.hyper_matrix.specs.Rows.{Rows, AreRising, cells_of};
-ghost use Rattle.hyper_matrix.specs.Blocks.{all_cells, block_cells, IsBlock, AreBlocks, Grows, GrowsBySum, ends_from};
+ghost use Rattle.hyper_matrix.specs.Blocks.{all_cells, IsBlock, AreBlocks, Grows, GrowsBySum, ends_from};
 ghost use Rattle.hyper_matrix.specs.Places.{Less, AllPlaces, Precede, BeginsFrom};
 ghost use Rattle.hyper_matrix.specs.Cells.{entry_of, place_of, cell_total};
 

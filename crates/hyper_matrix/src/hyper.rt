@@ -26,7 +26,7 @@ use std::sync::Arc;
 /// below 2^64.
 ///
 /// The cells lie in blocks of some hundred, which other matrices may share and nobody changes. An entry takes 16
-/// bytes, a nonempty row 16 more, and a block about 130.
+/// bytes, each nonempty row another 16, and a block about 130.
 #[derive(Drop)]
 pub struct Hyper {
     rows: u64,

@@ -58,11 +58,24 @@ fn made(outcome: Result<Hyper, BuildFault>) -> Result<Hyper, AllocError> {
     }
 }
 
-// Whether two lists' matrices, added either way round, have these cells.
+// Whether two lists' matrices, added either way round, have these cells: from copies that share all blocks, lent, and
+// given away.
 fn adds_up(alloc: Global, xs: &[Cell], ys: &[Cell], want: &[Cell]) -> Result<bool, AllocError> {
     let a = made(Hyper::build(alloc, SIDE, SIDE, xs))?;
     let b = made(Hyper::build(alloc, SIDE, SIDE, ys))?;
-    Ok(sum_has(alloc, &a, &b, want)? && sum_has(alloc, &b, &a, want)?)
+    let shared = moved_sum_has(alloc, a.copy(alloc)?, b.copy(alloc)?, want)?
+        && moved_sum_has(alloc, b.copy(alloc)?, a.copy(alloc)?, want)?;
+    let lent = sum_has(alloc, &a, &b, want)? && sum_has(alloc, &b, &a, want)?;
+    Ok(shared && lent && moved_sum_has(alloc, a, b, want)?)
+}
+
+fn moved_sum_has(alloc: Global, a: Hyper, b: Hyper, want: &[Cell]) -> Result<bool, AllocError> {
+    let fits = a.total().checked_add(b.total()).is_some();
+    if a.dims() == b.dims() && fits {
+        let sum = a.into_sum(alloc, b)?;
+        return has(alloc, &sum, want);
+    }
+    Ok(false)
 }
 
 fn sum_has(alloc: Global, a: &Hyper, b: &Hyper, want: &[Cell]) -> Result<bool, AllocError> {

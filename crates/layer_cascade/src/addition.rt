@@ -117,17 +117,12 @@ fn with_layer(alloc: Global, sum: Hyper, layer: Arc<Hyper>) -> Result<Hyper, All
     requires fits { total sum.counts + total (arc_value layer).counts < 2 ^ 64 }
     ensures { IfOk result (λ m. m ≡ record sum { counts = ewise_add sum.counts (arc_value layer).counts }) }
 {
-    match Arc::try_unwrap(layer) {
-        Ok(layer) => {
-            let sum = sum.into_sum(alloc, layer)?;
-            Ok(sum)
-        }
-        Err(shared) => {
-            let layer = shared.copy(alloc)?;
-            let sum = sum.into_sum(alloc, layer)?;
-            Ok(sum)
-        }
-    }
+    let layer = match Arc::try_unwrap(layer) {
+        Ok(layer) => layer,
+        Err(shared) => shared.copy(alloc)?,
+    };
+    let sum = sum.into_sum(alloc, layer)?;
+    Ok(sum)
 }
 
 /// The layers once m was added to them, made from their own memory: the cascade goes from layer to layer, leaves each that

@@ -5,7 +5,8 @@
 //! matrix would be written anew for each addition.
 //!
 //! Each layer is shared and never changed in place, so a plan takes over the layers that it leaves by a pointer, and to commit it is to
-//! exchange pointers. A look-up asks each layer and puts the answers together; only `Layers::sum` builds the sum.
+//! exchange pointers. `Layers::add` makes both steps at once from layers that are given away, and copies nothing that nobody else has.
+//! A look-up asks each layer and puts the answers together; only `Layers::sum` and `Layers::into_sum` build the sum.
 ghost use Rattle.std.specs.Prelude.{◌≡◌, ℕ, ◌+◌, ◌<◌, ◌≤◌, ◌^◌, ◌⊎◌, ◌↔◌, IfOk, IfSome};
 ghost use Rattle.std.specs.FinMap.{get, len};
 ghost use Rattle.mm_text.specs.Bounds.{IsDimension};

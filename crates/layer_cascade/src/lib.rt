@@ -6,7 +6,7 @@
 //! "75,000,000,000 Streaming Inserts/Second Using Hierarchical Hypersparse GraphBLAS Matrices").
 //!
 //! An addition has two steps: `Layers::plan` makes all growth and changes nothing, and `Layers::commit` puts the planned layers in place
-//! and cannot fail.
+//! and cannot fail. Where nobody else reads the layers, `Layers::add` takes them and their memory, and gives them back with the matrix.
 #![tactic(auto)]
 
 mod addition;

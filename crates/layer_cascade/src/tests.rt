@@ -209,6 +209,65 @@ mod tests {
         true
     }
 
+    // The layers with a matrix that fits, given away.
+    fn moved(alloc: Global, layers: Layers, m: Hyper) -> Result<Layers, AllocError> {
+        let fits = layers.total().checked_add(m.total()).is_some();
+        if layers.dims() == m.dims() && fits {
+            let after = layers.add(alloc, m)?;
+            return Ok(after);
+        }
+        Ok(layers)
+    }
+
+    // Whether two layers have the same entries in each layer, and the same sum.
+    fn are_same(alloc: Global, a: &Layers, b: &Layers) -> Result<bool, AllocError> {
+        for i in 1..9usize {
+            if a.layer_entries(i) != b.layer_entries(i) {
+                return Ok(false);
+            }
+        }
+        let sum = a.sum(alloc)?.cells(alloc)?;
+        let other = b.sum(alloc)?.cells(alloc)?;
+        Ok(sum.as_slice() == other.as_slice() && a.total() == b.total())
+    }
+
+    // An addition to layers that are given away leaves what a plan leaves: where the plan shares the layers, and where
+    // nobody does.
+    fn moved_as_planned(alloc: Global, cuts: &[u64]) -> Result<bool, Fail> {
+        let mut stream = Stream { state: 3 };
+        let mut layers = Layers::new(alloc, 9, 9, cuts)?;
+        let mut alone = Layers::new(alloc, 9, 9, cuts)?;
+        let mut planned_layers = Layers::new(alloc, 9, 9, cuts)?;
+        for _ in 0..20 {
+            let m = stream.matrix(alloc)?;
+            let plan = planned(alloc, &layers, &m)?.ok_or("no plan")?;
+            layers = moved(alloc, layers, m.copy(alloc)?)?;
+            alone = moved(alloc, alone, m)?;
+            planned_layers.commit(plan);
+            if !are_same(alloc, &layers, &planned_layers)? || !are_same(alloc, &alone, &layers)? {
+                return Ok(false);
+            }
+        }
+        let cells = planned_layers.sum(alloc)?.cells(alloc)?;
+        let shared = layers.into_sum(alloc)?.cells(alloc)?;
+        let own = alone.into_sum(alloc)?.cells(alloc)?;
+        Ok(
+            cells.len() > 50
+                && shared.as_slice() == cells.as_slice()
+                && own.as_slice() == cells.as_slice(),
+        )
+    }
+
+    #[test]
+    fn layers_given_away_agree_with_plans(rt: HostRuntime) -> Result<(), Fail> {
+        let alloc = rt.alloc();
+        assert!(rt; moved_as_planned(alloc, &[])?);
+        assert!(rt; moved_as_planned(alloc, &[1])?);
+        assert!(rt; moved_as_planned(alloc, &[20])?);
+        assert!(rt; moved_as_planned(alloc, &[4, 5, 10, 11, 20, 40, 60])?);
+        Ok(())
+    }
+
     // The layers hold what one matrix holds to which all is added.
     fn agrees(alloc: Global, cuts: &[u64]) -> Result<bool, Fail> {
         let mut stream = Stream { state: 7 };

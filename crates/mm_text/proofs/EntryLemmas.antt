@@ -1,7 +1,9 @@
 -- A line of three numerals with a blank between: its bytes, its words, and the entry that it is.
-use Rattle.std.proofs.Common.{◌≡◌, ℕ, ◌+◌, ◌-◌, ◌<◌, ◌≤◌, Bool, true, false, ◌||◌, List, [], ◌∷◌, ◌++◌, length, drop, get_or, refl, sym, ◌∙◌, ap, arith, append_assoc, length-append}
+use Rattle.std.proofs.Common.{inl, inr, ◌⊎◌, ◌≡◌, ℕ, ◌+◌, ◌-◌, ◌<◌, ◌≤◌, Bool, true, false, ◌||◌, List, [], ◌∷◌, ◌++◌, length, drop, get_or, refl, sym, ◌∙◌, ap, arith, append_assoc, length-append}
 use Rattle.std.proofs.lemmas.Bool.Decides.{nat_tests}
-use Rattle.std.proofs.lemmas.List.{get_or_append_left, drop_more}
+use Rattle.std.proofs.lemmas.List.{get_or_append_left, drop_more, append-nil}
+use Rattle.std.proofs.Math.Seq.{take-append_seam, get_or-append_seam}
+use Rattle.mm_text.proofs.FeedLemmas.{both_lines}
 use Rattle.std.proofs.lemmas.List.Folds.{list_all-append, list_all_at}
 use Rattle.std.proofs.lemmas.List.Elements.{All-from_get_or}
 use Rattle.std.specs.Prelude.{Ok, nat_eq, All}
@@ -13,9 +15,16 @@ use Rattle.mm_text.specs.Words.{words}
 use Rattle.mm_text.specs.Judging.{index, entry}
 use Rattle.mm_text.specs.Plain.{IsShortNumeral, BeginsWithDigits, BeginsWithIndex, BeginsWithCount, BeginsWithEntry, IsEntry}
 use Rattle.mm_text.specs.declared.fault.MmKind.TheVariants.{BadEntry}
+use Rattle.mm_text.specs.declared.cell.Cell.{Cell}
 use Rattle.mm_text.proofs.NumberLemmas.{all_at}
 use Rattle.mm_text.proofs.WordLemmas.{words_word, words_one}
 use Rattle.mm_text.proofs.DigitLemmas.{numeral_some, numeral_number, numeral_not_negative, numeral_index}
+
+-- an entry whose line has no CR at its end
+pub record IsPlainEntry (rows cols : ℕ) (line : List ℕ) (cell : Cell) : Type 0 where
+  pub is_entry : IsEntry rows cols line cell
+  pub same : content line ≡ line
+  pub some : 0 < length line
 
 -- a digit or a blank
 abbrev is_plain : ℕ → Bool
@@ -100,6 +109,10 @@ module _ (a b c : List ℕ) (s t : ℕ) (x : IsShortNumeral a) (y : IsShortNumer
       entry_of : entry rows cols (content (a ++ s ∷ (b ++ t ∷ c))) ≡ Ok (record { row = row; col = col; count = digits_value 10 c })
       entry_of = rw (plain_content, three_words) (rw (r, l) (rw (numeral_not_negative c z zs, numeral_number BadEntry c z zs) refl))
 
+  pub plain_entry_facts : (rows cols row col : ℕ) → index rows a ≡ Ok row → index cols b ≡ Ok col →
+      IsPlainEntry rows cols (a ++ s ∷ (b ++ t ∷ c)) (record { row = row; col = col; count = digits_value 10 c })
+  plain_entry_facts rows cols row col r l = record { is_entry = plain_entry rows cols row col r l; same = plain_content; some = omega (arith, size_is, xs) }
+
 -- digits and a blank, where the number is in range
 pub begins_with_index : (limit : ℕ) (bytes rest more : List ℕ) (n : ℕ) → BeginsWithDigits bytes n rest → 0 < n → n ≤ limit →
     0 < length rest → is_blank (get_or rest 0 0) ≡ true → more ≡ drop 1 rest → BeginsWithIndex limit bytes (n - 1) more
@@ -116,21 +129,46 @@ begins_with_index limit bytes rest more n x above within some blank more_is =
       index_is = numeral_index limit x.word x.numeral positive (omega arith) ∙ ap (λ i. Ok (i - 1)) v;
     }
 
+content_push : (w : List ℕ) → content (w ++ 13 ∷ []) ≡ w
+content_push w =
+    let n : length (w ++ 13 ∷ []) - 1 ≡ length w = omega (arith, length-append w (13 ∷ [])) in
+    let g : get_or (w ++ 13 ∷ []) (length w) 0 ≡ 13 = get_or-append_seam w 13 [] 0 in
+    rw n (rw g (take-append_seam w (13 ∷ [])))
+
+-- a CR at the end changes nothing
+ended_entry : (rows cols : ℕ) (body ending : List ℕ) (cell : Cell) → (ending ≡ []) ⊎ (ending ≡ 13 ∷ []) → IsPlainEntry rows cols body cell → IsEntry rows cols (body ++ ending) cell
+ended_entry rows cols body ending cell e x = elim e [
+  | inl none ↦ rw (none, append-nil body) x.is_entry
+  | inr cr ↦ rw cr (record {
+    is_line = both_lines body (13 ∷ []) x.is_entry.is_line (record { no_feed = All-from_get_or (λ k. is_line_feed k ≡ false) (13 ∷ []) 0 (λ i l. let z : i ≡ 0 = omega arith in rw z refl) });
+    counted =
+        let p = content_push body in
+        let some = x.some in
+        let f : get_or (body ++ 13 ∷ []) 0 0 ≡ get_or body 0 0 = get_or_append_left body (13 ∷ []) 0 0 some in
+        let c = x.same in
+        let k = rw c at x.is_entry.counted in
+        rw (p, f) k;
+    short = let c = ap length (content_push body ∙ sym x.same) in let s = x.is_entry.short in omega arith;
+    entry_is = ap (entry rows cols) (content_push body ∙ sym x.same) ∙ x.is_entry.entry_is;
+  })
+]
+
 -- what the three parts of a plain line say together
 pub begins_with_entry : (rows cols : ℕ) (bytes second third rest : List ℕ) (row col count size : ℕ) →
     BeginsWithIndex rows bytes row second → BeginsWithIndex cols second col third → BeginsWithCount third count rest → size ≡ length bytes - length rest →
     BeginsWithEntry rows cols bytes (record { row = row; col = col; count = count }) size
 begins_with_entry rows cols bytes second third rest row col count size x y z e =
     let p = x.whole in let q = y.whole in let r = z.whole in
-    let whole : bytes ≡ (x.word ++ x.blank ∷ (y.word ++ y.blank ∷ z.word)) ++ 10 ∷ rest =
-    p ∙ ap (λ l. x.word ++ x.blank ∷ l) (q ∙ ap (λ l. y.word ++ y.blank ∷ l) r) ∙ regroup x.word y.word z.word rest x.blank y.blank in
+    let whole : bytes ≡ ((x.word ++ x.blank ∷ (y.word ++ y.blank ∷ z.word)) ++ z.ending) ++ 10 ∷ rest =
+    p ∙ ap (λ l. x.word ++ x.blank ∷ l) (q ∙ ap (λ l. y.word ++ y.blank ∷ l) r) ∙ regroup x.word y.word z.word z.ending rest x.blank y.blank in
     record {
-      line = x.word ++ x.blank ∷ (y.word ++ y.blank ∷ z.word);
+      line = (x.word ++ x.blank ∷ (y.word ++ y.blank ∷ z.word)) ++ z.ending;
       rest = rest;
       whole = whole;
-      is_entry = rw (← z.value) (plain_entry x.word y.word z.word x.blank y.blank x.numeral y.numeral z.numeral x.some y.some z.some x.is_blank_too y.is_blank_too rows cols row col x.index_is y.index_is);
-      size_is = let l = ap length whole in omega (arith, length-append (x.word ++ x.blank ∷ (y.word ++ y.blank ∷ z.word)) (10 ∷ rest));
+      is_entry = ended_entry rows cols (x.word ++ x.blank ∷ (y.word ++ y.blank ∷ z.word)) z.ending _ z.ending_is
+          (rw (← z.value) (plain_entry_facts x.word y.word z.word x.blank y.blank x.numeral y.numeral z.numeral x.some y.some z.some x.is_blank_too y.is_blank_too rows cols row col x.index_is y.index_is));
+      size_is = let l = ap length whole in omega (arith, length-append ((x.word ++ x.blank ∷ (y.word ++ y.blank ∷ z.word)) ++ z.ending) (10 ∷ rest));
     }
   where
-    regroup : (a b c d : List ℕ) (s t : ℕ) → a ++ s ∷ (b ++ t ∷ (c ++ 10 ∷ d)) ≡ (a ++ s ∷ (b ++ t ∷ c)) ++ 10 ∷ d
-    regroup a b c d s t = simp append_assoc
+    regroup : (a b c e d : List ℕ) (s t : ℕ) → a ++ s ∷ (b ++ t ∷ (c ++ (e ++ 10 ∷ d))) ≡ ((a ++ s ∷ (b ++ t ∷ c)) ++ e) ++ 10 ∷ d
+    regroup a b c e d s t = simp append_assoc

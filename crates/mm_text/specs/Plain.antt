@@ -1,5 +1,5 @@
--- Lines of the plainest form: digits, a blank, digits, a blank, digits, LF.
-use Rattle.std.specs.Prelude.{◌≡◌, ℕ, ◌+◌, ◌<◌, ◌≤◌, true, false, List, ◌∷◌, ◌++◌, length, Ok}
+-- Lines of the plainest form: digits, a blank, digits, a blank, digits, LF or CR LF.
+use Rattle.std.specs.Prelude.{◌≡◌, ◌⊎◌, ℕ, ◌+◌, ◌<◌, ◌≤◌, true, false, List, [], ◌∷◌, ◌++◌, length, Ok}
 use Rattle.std.specs.List.{list_all}
 use Rattle.std.specs.Char.{is_ascii_digit}
 use Rattle.std.specs.Str.Parse.{digits_value}
@@ -29,10 +29,12 @@ pub record BeginsWithIndex (limit : ℕ) (bytes : List ℕ) (i : ℕ) (rest : Li
   pub is_blank_too : is_blank blank ≡ true
   pub index_is : index limit word ≡ Ok i
 
--- The bytes begin with a word that writes a count, and LF, and go on like this.
+-- The bytes begin with a word that writes a count, then LF or CR LF, and go on like this.
 pub record BeginsWithCount (bytes : List ℕ) (n : ℕ) (rest : List ℕ) : Type 0 where
   pub word : List ℕ
-  pub whole : bytes ≡ word ++ 10 ∷ rest
+  pub ending : List ℕ
+  pub ending_is : (ending ≡ []) ⊎ (ending ≡ 13 ∷ [])
+  pub whole : bytes ≡ word ++ (ending ++ 10 ∷ rest)
   pub numeral : IsShortNumeral word
   pub some : 0 < length word
   pub value : digits_value 10 word ≡ n

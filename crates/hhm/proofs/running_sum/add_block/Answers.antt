@@ -1,5 +1,4 @@
-use Rattle.std.proofs.Common.{◌≡◌, Some, ℕ, refl, rules, arith}
-use Rattle.hyper_matrix.specs.Cells.{first_fault}
+use Rattle.std.proofs.Common.{rules}
 use Rattle.hyper_matrix.specs.declared.judge.BuildFault.TheVariants.{IndexOutOfRange, SumTooLarge}
 use Rattle.hhm.proofs.SumLemmas.{block_passes, totals_pass, block_added}
 use Rattle.hhm.proofs.running_sum.add_block.Goals as goal

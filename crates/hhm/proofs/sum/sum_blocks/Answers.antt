@@ -1,4 +1,4 @@
-use Rattle.std.proofs.Common.{◌≡◌, ◌∙◌, sym, Bool, List, subst}
+use Rattle.std.proofs.Common.{◌∙◌, sym, Bool, List, subst}
 use Rattle.mm_text.specs.Readings.{ReadsBlock}
 use Rattle.mm_text.specs.declared.cell.Cell.{Cell}
 use Rattle.hhm.specs.Reading.{Excuses}

@@ -1,0 +1,31 @@
+-- What the program tells: the fault that a list's fault is, and the status that it ends with, which is 2 for settings,
+-- 3 for what the text says, 4 for a device and 5 for memory.
+use Rattle.std.specs.Prelude.{ℕ}
+use Rattle.mm_text.specs.declared.fault.MmKind.{MmKind}
+use Rattle.mm_text.specs.declared.fault.MmKind.TheVariants as kind
+use Rattle.hhm.specs.declared.fault.SumFault.{SumFault}
+use Rattle.hhm.specs.declared.fault.SumFault.TheVariants.{BadCuts, Text, SumTooLarge, Memory, Output}
+use Rattle.hhm.specs.declared.numbers.ListFault.{ListFault}
+use Rattle.hhm.specs.declared.numbers.ListFault.TheVariants as list
+use Rattle.hhm.specs.declared.report.Fault.{Fault}
+use Rattle.hhm.specs.declared.report.Fault.TheVariants.{BadNumber, Sum}
+
+abbrev pub fault_of_list : ListFault → Fault
+fault_of_list list.BadNumber = BadNumber
+fault_of_list list.Memory = Sum Memory
+
+-- a read that failed is the device's fault, and all else the text's
+abbrev pub text_status : MmKind → ℕ
+text_status kind.Read = 4
+text_status _ = 3
+
+abbrev pub sum_status : SumFault → ℕ
+sum_status BadCuts = 2
+sum_status (Text fault) = text_status fault.kind
+sum_status SumTooLarge = 3
+sum_status (Output fault) = 4
+sum_status Memory = 5
+
+abbrev pub fault_status : Fault → ℕ
+fault_status BadNumber = 2
+fault_status (Sum fault) = sum_status fault
