@@ -19,7 +19,7 @@ use crate::fault::SumFault;
 use crate::running_sum::RunningSum;
 use hyper_matrix::Hyper;
 use layer_cascade::are_cuts;
-use mm_text::{Cell, Sink, Source, TextLimits, TextReader, write_matrix};
+use mm_text::{Cell, Sink, Source, TextLimits, TextReader, TextWriter, WriteFault};
 use std::alloc::{AllocError, Global};
 
 /// The most cells of the list that go into the layers at once.
@@ -103,20 +103,18 @@ fn read_running<R: Source>(alloc: Global, r: &mut R, cuts: &[u64]) -> Result<Run
     }
 }
 
-// Writes the canonical text of a matrix.
-fn write_sum<W: Sink>(alloc: Global, w: &mut W, m: &Hyper) -> Result<(), SumFault>
+// Writes the canonical text of a matrix, cell by cell from its blocks. It takes no memory.
+fn write_sum<W: Sink>(w: &mut W, m: &Hyper) -> Result<(), WriteFault>
     requires { W.failure_count w.old + 1 < 2 ^ 64 }
     ensures ok { OnOk result (HasTaken W.write_takes W.failure_count w.old w.new (matrix_text m.now)) }
-    ensures output { (fault : WriteFault) → result ≡ Err (SumFault.Output fault) →
-        HasStopped W.write_takes W.failure_count w.old w.new (matrix_text m.now) fault.written }
-    ensures other { IfErr result (λ fault. IsOutput fault ⊎ ((fault ≡ SumFault.Memory) × (w.new ≡ w.old))) }
+    ensures err { IfErr result (λ fault. HasStopped W.write_takes W.failure_count w.old w.new (matrix_text m.now) fault.written) }
 {
     let (rows, cols) = m.dims();
-    let cells = m.cells(alloc)?;
-    match write_matrix(w, rows, cols, &cells) {
-        Ok(()) => Ok(()),
-        Err(fault) => Err(SumFault::Output(fault)),
+    let mut writer = TextWriter::new(rows, cols, m.entries());
+    for cell in m.iter() {
+        writer.write_cell(w, cell)?;
     }
+    writer.finish(w)
 }
 
 /// Sums the cells of a Matrix Market text, and writes the canonical text of the sum.
@@ -161,7 +159,10 @@ pub fn run_sum<R: Source, W: Sink>(
     }
     let sum = read_running(alloc, r, cuts)?;
     match sum.into_matrix(alloc) {
-        Ok(m) => write_sum(alloc, w, &m),
+        Ok(m) => match write_sum(w, &m) {
+            Ok(()) => Ok(()),
+            Err(fault) => Err(SumFault::Output(fault)),
+        },
         Err(fault) => Err(fault),
     }
 }

@@ -14,7 +14,6 @@ use Rattle.mm_text.specs.declared.cell.Cell.{Cell}
 use Rattle.std.specs.FinMap.{get, get-from_entries, empty, is_sorted}
 use Rattle.std.specs.List.{AllByRecursion}
 use Rattle.mm_text.specs.Bounds.{IsDimension}
-use Rattle.std.specs.declared.sync.Arc.{Arc}
 use Rattle.hyper_matrix.specs.Rows.{Rows, InOrder, cells_of, counts_of}
 use Rattle.hyper_matrix.specs.Blocks.{all_cells, Grows}
 use Rattle.hyper_matrix.specs.Shared.{shared_counts, LiesWithin, Holds}
@@ -109,9 +108,9 @@ judged_within r c s (x ∷ xs) e = step (judged_within r c (s + x.count) xs) (lt
     step rest false q b t u e = cc
 
 -- blocks that hold the rows of a list of cells
-pub holds_built : {Z : Type 0} (r c : ℕ) (blocks none : List (Arc Rows Z)) (run : Rows) (cells : List Cell) (sum : ℕ) → IsDimension r → IsDimension c → first_fault r c 0 cells ≡ None → none ≡ [] → InOrder run → built (cells_of run) ≡ built_of cells → Grows none blocks (cells_of run) → sum ≡ cell_total cells → Holds r c sum blocks × (shared_counts blocks ≡ built_of cells)
-holds_built {Z} r c blocks none run cells sum is_rows is_cols judged no_blocks order told grows is =
-    let all : all_cells blocks ≡ cells_of run = grows.told ∙ ap (λ (b : List (Arc Rows Z)). all_cells b ++ cells_of run) no_blocks in
+pub holds_built : (r c : ℕ) (blocks none : List Rows) (run : Rows) (cells : List Cell) (sum : ℕ) → IsDimension r → IsDimension c → first_fault r c 0 cells ≡ None → none ≡ [] → InOrder run → built (cells_of run) ≡ built_of cells → Grows none blocks (cells_of run) → sum ≡ cell_total cells → Holds r c sum blocks × (shared_counts blocks ≡ built_of cells)
+holds_built r c blocks none run cells sum is_rows is_cols judged no_blocks order told grows is =
+    let all : all_cells blocks ≡ cells_of run = grows.told ∙ ap (λ (b : List Rows). all_cells b ++ cells_of run) no_blocks in
     let sorted : T (is_sorted place_cmp (all_cells blocks)) = rw all (sorted_rows run order.numbers order.columns) in
     let stands : shared_counts blocks ≡ built_of cells = sym (built-in_order (all_cells blocks) sorted) ∙ ap built all ∙ told in (
       record {

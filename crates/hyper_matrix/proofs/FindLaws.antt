@@ -1,7 +1,5 @@
 -- Look-ups in blocks whose cells are sorted, and what they say of the map that the cells stand for.
 use Rattle.std.proofs.Common.{◌≡◌, ℕ, zero, suc, ◌+◌, ◌-◌, ◌<◌, ◌≤◌, ◌⊎◌, Bool, true, false, cond, T, List, [], ◌∷◌, ◌++◌, length, get_or, take, drop, Some, None, Ordering, sym, ◌∙◌, ap, subst, refl, inl, inr, arith, append_assoc, length-append}
-use Rattle.std.specs.declared.sync.Arc.{Arc}
-use Rattle.std.specs.Arc.{arc_value}
 use Rattle.std.specs.List.{slice_get, slice_index}
 use Rattle.std.specs.Ordering.{is_eq, eq_by_cmp}
 use Rattle.std.specs.FinMap.{find, get, is_sorted, get-from_entries}
@@ -23,58 +21,57 @@ use Rattle.hyper_matrix.proofs.LookupLaws.{AllBefore, EndsIn, ends-append, ends_
 pub block_ends : (rows : Rows) → RowsFull rows → 0 < length rows → EndsIn (cells_of rows) (block_end rows)
 block_ends rows f h = subst (λ (r : Rows). EndsIn (cells_of r) (block_end rows)) (take_all (length rows - 1 + 1) rows (omega arith)) (rows_end rows (length rows - 1) f (omega arith))
 
-module _ {Z : Type 0} where
-  pub all_cells-append : (xs ys : List (Arc Rows Z)) → all_cells (xs ++ ys) ≡ all_cells xs ++ all_cells ys
-  all_cells-append [] ys = refl
-  all_cells-append (x ∷ xs) ys = ap (λ (l : List (Place × ℕ)). cells_of (arc_value x) ++ l) (all_cells-append xs ys) ∙ sym (append_assoc (cells_of (arc_value x)) (all_cells xs) (all_cells ys))
+pub all_cells-append : (xs ys : List Rows) → all_cells (xs ++ ys) ≡ all_cells xs ++ all_cells ys
+all_cells-append [] ys = refl
+all_cells-append (x ∷ xs) ys = ap (λ (l : List (Place × ℕ)). cells_of x ++ l) (all_cells-append xs ys) ∙ sym (append_assoc (cells_of x) (all_cells xs) (all_cells ys))
 
-  pub blocks_at : (blocks : List (Arc Rows Z)) (i : ℕ) → all_cells blocks ≡ all_cells (take i blocks) ++ all_cells (drop i blocks)
-  blocks_at blocks i = ap all_cells (sym (take-append-drop i blocks)) ∙ all_cells-append (take i blocks) (drop i blocks)
+pub blocks_at : (blocks : List Rows) (i : ℕ) → all_cells blocks ≡ all_cells (take i blocks) ++ all_cells (drop i blocks)
+blocks_at blocks i = ap all_cells (sym (take-append-drop i blocks)) ∙ all_cells-append (take i blocks) (drop i blocks)
 
-  pub block_behind : (blocks : List (Arc Rows Z)) (i : ℕ) → i < length blocks → all_cells (drop i blocks) ≡ cells_of (rows_at blocks i) ++ all_cells (drop (i + 1) blocks)
-  block_behind [] i h = absurd (omega arith)
-  block_behind (x ∷ blocks) zero h = refl
-  block_behind (x ∷ blocks) (suc i) h = block_behind blocks i (omega arith) ∙ ap (λ n. cells_of (rows_at blocks i) ++ all_cells (drop n (x ∷ blocks))) {x = suc (i + 1)} {y = suc i + 1} (omega arith)
+pub block_behind : (blocks : List Rows) (i : ℕ) → i < length blocks → all_cells (drop i blocks) ≡ cells_of (rows_at blocks i) ++ all_cells (drop (i + 1) blocks)
+block_behind [] i h = absurd (omega arith)
+block_behind (x ∷ blocks) zero h = refl
+block_behind (x ∷ blocks) (suc i) h = block_behind blocks i (omega arith) ∙ ap (λ n. cells_of (rows_at blocks i) ++ all_cells (drop n (x ∷ blocks))) {x = suc (i + 1)} {y = suc i + 1} (omega arith)
 
-  pub blocks_to : (blocks : List (Arc Rows Z)) (i : ℕ) → i < length blocks → all_cells (take (i + 1) blocks) ≡ all_cells (take i blocks) ++ cells_of (rows_at blocks i)
-  blocks_to [] i h = absurd (omega arith)
-  blocks_to (x ∷ blocks) zero h = append-nil (cells_of (arc_value x))
-  blocks_to (x ∷ blocks) (suc i) h = ap (λ n. all_cells (take n (x ∷ blocks))) {x = suc i + 1} {y = suc (i + 1)} (omega arith) ∙ ap (λ (l : List (Place × ℕ)). cells_of (arc_value x) ++ l) (blocks_to blocks i (omega arith)) ∙ sym (append_assoc (cells_of (arc_value x)) (all_cells (take i blocks)) (cells_of (rows_at blocks i)))
+pub blocks_to : (blocks : List Rows) (i : ℕ) → i < length blocks → all_cells (take (i + 1) blocks) ≡ all_cells (take i blocks) ++ cells_of (rows_at blocks i)
+blocks_to [] i h = absurd (omega arith)
+blocks_to (x ∷ blocks) zero h = append-nil (cells_of x)
+blocks_to (x ∷ blocks) (suc i) h = ap (λ n. all_cells (take n (x ∷ blocks))) {x = suc i + 1} {y = suc (i + 1)} (omega arith) ∙ ap (λ (l : List (Place × ℕ)). cells_of x ++ l) (blocks_to blocks i (omega arith)) ∙ sym (append_assoc (cells_of x) (all_cells (take i blocks)) (cells_of (rows_at blocks i)))
 
-  rows_read : (blocks : List (Arc Rows Z)) (i : ℕ) (d : Arc Rows Z) → i < length blocks → rows_at blocks i ≡ arc_value (get_or blocks i d)
-  rows_read [] i d h = absurd (omega arith)
-  rows_read (x ∷ blocks) zero d h = refl
-  rows_read (x ∷ blocks) (suc i) d h = rows_read blocks i d (omega arith)
+rows_read : (blocks : List Rows) (i : ℕ) (d : Rows) → i < length blocks → rows_at blocks i ≡ (get_or blocks i d)
+rows_read [] i d h = absurd (omega arith)
+rows_read (x ∷ blocks) zero d h = refl
+rows_read (x ∷ blocks) (suc i) d h = rows_read blocks i d (omega arith)
 
-  pub full_block : (blocks : List (Arc Rows Z)) (i : ℕ) → HaveRows blocks → i < length blocks → 0 < length (rows_at blocks i)
-  full_block [] i f h = absurd (omega arith)
-  full_block (x ∷ blocks) zero f h = f.0
-  full_block (x ∷ blocks) (suc i) f h = full_block blocks i f.1 (omega arith)
+pub full_block : (blocks : List Rows) (i : ℕ) → HaveRows blocks → i < length blocks → 0 < length (rows_at blocks i)
+full_block [] i f h = absurd (omega arith)
+full_block (x ∷ blocks) zero f h = f.0
+full_block (x ∷ blocks) (suc i) f h = full_block blocks i f.1 (omega arith)
 
-  pub block_sorted : (blocks : List (Arc Rows Z)) (i : ℕ) → T (is_sorted place_cmp (all_cells blocks)) → i < length blocks → T (is_sorted place_cmp (cells_of (rows_at blocks i)))
-  block_sorted blocks i sorted h =
-      sorted_left (cells_of (rows_at blocks i)) (all_cells (drop (i + 1) blocks)) (sorted_right (all_cells (take i blocks)) _ (subst (λ (l : List (Place × ℕ)). T (is_sorted place_cmp l)) (blocks_at blocks i ∙ ap (λ (l : List (Place × ℕ)). all_cells (take i blocks) ++ l) (block_behind blocks i h)) sorted))
+pub block_sorted : (blocks : List Rows) (i : ℕ) → T (is_sorted place_cmp (all_cells blocks)) → i < length blocks → T (is_sorted place_cmp (cells_of (rows_at blocks i)))
+block_sorted blocks i sorted h =
+    sorted_left (cells_of (rows_at blocks i)) (all_cells (drop (i + 1) blocks)) (sorted_right (all_cells (take i blocks)) _ (subst (λ (l : List (Place × ℕ)). T (is_sorted place_cmp l)) (blocks_at blocks i ∙ ap (λ (l : List (Place × ℕ)). all_cells (take i blocks) ++ l) (block_behind blocks i h)) sorted))
 
-  -- the blocks that end before a place hold only cells before it
-  pub blocks_before : (blocks : List (Arc Rows Z)) (q : Place) (i : ℕ) → T (is_sorted place_cmp (all_cells blocks)) → HaveRows blocks → (0 < i → RowsFull (rows_at blocks (i - 1))) → TurnsAt (λ k. is_before (block_end (rows_at blocks k)) q) (length blocks) i → AllBefore q (all_cells (take i blocks))
-  blocks_before blocks q zero sorted f full t = tt
-  blocks_before blocks q (suc i) sorted f full t =
-      let n = suc i - 1 in
-      let lt : n < length blocks = omega (arith, t.within) in
-      let block = rows_at blocks n in
-      let here = sorted_left (all_cells (take (n + 1) blocks)) (all_cells (drop (n + 1) blocks)) (subst (λ (l : List (Place × ℕ)). T (is_sorted place_cmp l)) (blocks_at blocks (n + 1)) sorted) in
-      let ends : EndsIn (all_cells (take (n + 1) blocks)) (block_end block) = subst (λ (l : List (Place × ℕ)). EndsIn l (block_end block)) (sym (blocks_to blocks n lt)) (ends-append (all_cells (take n blocks)) (cells_of block) (block_end block) (block_ends block (full (omega arith)) (full_block blocks n f lt))) in
-      subst (λ (k : ℕ). AllBefore q (all_cells (take k blocks))) {x = n + 1} {y = suc i} (omega arith) (ends_before _ _ q ends here (t.before (omega arith)))
+-- the blocks that end before a place hold only cells before it
+pub blocks_before : (blocks : List Rows) (q : Place) (i : ℕ) → T (is_sorted place_cmp (all_cells blocks)) → HaveRows blocks → (0 < i → RowsFull (rows_at blocks (i - 1))) → TurnsAt (λ k. is_before (block_end (rows_at blocks k)) q) (length blocks) i → AllBefore q (all_cells (take i blocks))
+blocks_before blocks q zero sorted f full t = tt
+blocks_before blocks q (suc i) sorted f full t =
+    let n = suc i - 1 in
+    let lt : n < length blocks = omega (arith, t.within) in
+    let block = rows_at blocks n in
+    let here = sorted_left (all_cells (take (n + 1) blocks)) (all_cells (drop (n + 1) blocks)) (subst (λ (l : List (Place × ℕ)). T (is_sorted place_cmp l)) (blocks_at blocks (n + 1)) sorted) in
+    let ends : EndsIn (all_cells (take (n + 1) blocks)) (block_end block) = subst (λ (l : List (Place × ℕ)). EndsIn l (block_end block)) (sym (blocks_to blocks n lt)) (ends-append (all_cells (take n blocks)) (cells_of block) (block_end block) (block_ends block (full (omega arith)) (full_block blocks n f lt))) in
+    subst (λ (k : ℕ). AllBefore q (all_cells (take k blocks))) {x = n + 1} {y = suc i} (omega arith) (ends_before _ _ q ends here (t.before (omega arith)))
 
-  pub first_in_blocks : (blocks : List (Arc Rows Z)) (q : Place) (i : ℕ) → T (is_sorted place_cmp (all_cells blocks)) → HaveRows blocks → (0 < i → RowsFull (rows_at blocks (i - 1))) → TurnsAt (λ k. is_before (block_end (rows_at blocks k)) q) (length blocks) i → i < length blocks → RowsFull (rows_at blocks i) → first_from q (all_cells blocks) ≡ first_from q (cells_of (rows_at blocks i))
-  first_in_blocks blocks q i sorted f full t lt here =
-      ap (first_from q) (blocks_at blocks i) ∙ passed q (all_cells (take i blocks)) (all_cells (drop i blocks)) (blocks_before blocks q i sorted f full t)
-      ∙ ap (first_from q) (block_behind blocks i lt)
-      ∙ ends_reached q (cells_of (rows_at blocks i)) (all_cells (drop (i + 1) blocks)) (block_end (rows_at blocks i)) (block_ends (rows_at blocks i) here (full_block blocks i f lt)) (t.behind lt)
+pub first_in_blocks : (blocks : List Rows) (q : Place) (i : ℕ) → T (is_sorted place_cmp (all_cells blocks)) → HaveRows blocks → (0 < i → RowsFull (rows_at blocks (i - 1))) → TurnsAt (λ k. is_before (block_end (rows_at blocks k)) q) (length blocks) i → i < length blocks → RowsFull (rows_at blocks i) → first_from q (all_cells blocks) ≡ first_from q (cells_of (rows_at blocks i))
+first_in_blocks blocks q i sorted f full t lt here =
+    ap (first_from q) (blocks_at blocks i) ∙ passed q (all_cells (take i blocks)) (all_cells (drop i blocks)) (blocks_before blocks q i sorted f full t)
+    ∙ ap (first_from q) (block_behind blocks i lt)
+    ∙ ends_reached q (cells_of (rows_at blocks i)) (all_cells (drop (i + 1) blocks)) (block_end (rows_at blocks i)) (block_ends (rows_at blocks i) here (full_block blocks i f lt)) (t.behind lt)
 
-  pub first_past_blocks : (blocks : List (Arc Rows Z)) (q : Place) (i : ℕ) → T (is_sorted place_cmp (all_cells blocks)) → HaveRows blocks → (0 < i → RowsFull (rows_at blocks (i - 1))) → TurnsAt (λ k. is_before (block_end (rows_at blocks k)) q) (length blocks) i → length blocks ≤ i → first_from q (all_cells blocks) ≡ None
-  first_past_blocks blocks q i sorted f full t le =
-      ap (first_from q) (blocks_at blocks i) ∙ passed q (all_cells (take i blocks)) (all_cells (drop i blocks)) (blocks_before blocks q i sorted f full t) ∙ ap (λ (l : List (Arc Rows Z)). first_from q (all_cells l)) (drop_all i blocks le)
+pub first_past_blocks : (blocks : List Rows) (q : Place) (i : ℕ) → T (is_sorted place_cmp (all_cells blocks)) → HaveRows blocks → (0 < i → RowsFull (rows_at blocks (i - 1))) → TurnsAt (λ k. is_before (block_end (rows_at blocks k)) q) (length blocks) i → length blocks ≤ i → first_from q (all_cells blocks) ≡ None
+first_past_blocks blocks q i sorted f full t le =
+    ap (first_from q) (blocks_at blocks i) ∙ passed q (all_cells (take i blocks)) (all_cells (drop i blocks)) (blocks_before blocks q i sorted f full t) ∙ ap (λ (l : List Rows). first_from q (all_cells l)) (drop_all i blocks le)
 
 pub is_equal : (r : Ordering) → is_eq r ≡ true → r ≡ Ordering.Equal
 is_equal Ordering.Less e = absurd (false≢true e)
@@ -204,18 +201,18 @@ module _ (es : List (Place × ℕ)) (sorted : T (is_sorted place_cmp es)) where
   none_at_all r from none = λ c low. held (r, c) ∙ find_none (r, from) es sorted (sym none) (r, c) (not_before_same r c from low)
 
 -- a block as it is read, and where it ends
-pub block_read : {Z : Type 0} (blocks : List (Arc Rows Z)) (i : ℕ) (block : Arc Rows Z) (rows : Rows) → i < length blocks → rows ≡ arc_value block → block ≡ get_or blocks i block → rows ≡ rows_at blocks i
-block_read blocks i block rows lt is at = is ∙ ap arc_value at ∙ sym (rows_read blocks i block lt)
+pub block_read : (blocks : List Rows) (i : ℕ) (block rows : Rows) → i < length blocks → rows ≡ block → block ≡ get_or blocks i block → rows ≡ rows_at blocks i
+block_read blocks i block rows lt is at = is ∙ at ∙ sym (rows_read blocks i block lt)
 
-pub end_tested : {Z : Type 0} (blocks : List (Arc Rows Z)) (i j : ℕ) (rows : Rows) (p q : Place) (t v : Bool) → i ≡ j → rows ≡ rows_at blocks i → p ≡ block_end rows → t ≡ is_before p q → t ≡ v → is_before (block_end (rows_at blocks j)) q ≡ v
+pub end_tested : (blocks : List Rows) (i j : ℕ) (rows : Rows) (p q : Place) (t v : Bool) → i ≡ j → rows ≡ rows_at blocks i → p ≡ block_end rows → t ≡ is_before p q → t ≡ v → is_before (block_end (rows_at blocks j)) q ≡ v
 end_tested blocks i j rows p q t v same is ends test value = ap (λ k. is_before (block_end (rows_at blocks k)) q) (sym same) ∙ ap (λ (r : Rows). is_before (block_end r) q) (sym is) ∙ ap (λ (e : Place). is_before e q) (sym ends) ∙ sym test ∙ value
 
-pub full_read : {Z : Type 0} (blocks : List (Arc Rows Z)) (i j : ℕ) (rows : Rows) → i ≡ j → rows ≡ rows_at blocks i → RowsFull rows → RowsFull (rows_at blocks j)
+pub full_read : (blocks : List Rows) (i j : ℕ) (rows : Rows) → i ≡ j → rows ≡ rows_at blocks i → RowsFull rows → RowsFull (rows_at blocks j)
 full_read blocks i j rows same is f = subst (λ k. RowsFull (rows_at blocks k)) same (subst RowsFull is f)
 
 -- the sum of a row over the blocks
 
-module _ {Z : Type 0} (blocks : List (Arc Rows Z)) (i : ℕ) (lt : i < length blocks) where
+module _ (blocks : List Rows) (i : ℕ) (lt : i < length blocks) where
   pub block_fits : (length (cells_of (rows_at blocks i)) ≤ length (all_cells blocks)) × (count_sum (cells_of (rows_at blocks i)) ≤ count_sum (all_cells blocks))
   block_fits =
       let whole : all_cells blocks ≡ all_cells (take i blocks) ++ (cells_of (rows_at blocks i) ++ all_cells (drop (i + 1) blocks)) = blocks_at blocks i ∙ ap (λ (l : List (Place × ℕ)). all_cells (take i blocks) ++ l) (block_behind blocks i lt) in
@@ -237,10 +234,10 @@ none_in_block r [] rest b sorted = absurd b
 none_in_block r ((s, []) ∷ rows) rest b sorted = absurd (omega (arith, b.1))
 none_in_block r ((s, e ∷ es) ∷ rows) rest b sorted = none_behind r ((s, e.0), e.1) ((at_places s es ++ cells_of rows) ++ rest) sorted b.0
 
-module _ {Z : Type 0} (blocks : List (Arc Rows Z)) (r i entries total : ℕ) (sorted : T (is_sorted place_cmp (all_cells blocks))) (s : IsRowSum r (all_cells (take i blocks)) entries total) where
+module _ (blocks : List Rows) (r i entries total : ℕ) (sorted : T (is_sorted place_cmp (all_cells blocks))) (s : IsRowSum r (all_cells (take i blocks)) entries total) where
   -- no block is left
   pub blocks_summed : length blocks ≤ i → IsRowSum r (all_cells blocks) entries total
-  blocks_summed le = subst (λ (b : List (Arc Rows Z)). IsRowSum r (all_cells b) entries total) (take_all i blocks le) s
+  blocks_summed le = subst (λ (b : List Rows). IsRowSum r (all_cells b) entries total) (take_all i blocks le) s
 
   -- the next block begins behind the row
   pub blocks_summed_until : i < length blocks → BeginsBehind r (rows_at blocks i) → IsRowSum r (all_cells blocks) entries total
@@ -260,30 +257,29 @@ begins_not r (row ∷ rows) d b = (omega arith, b.0)
 
 -- the cells by their number, over the blocks
 
-module _ {Z : Type 0} where
-  pub length-ends : (at : ℕ) (blocks : List (Arc Rows Z)) → length (ends_from at blocks) ≡ length blocks
-  length-ends at [] = refl
-  length-ends at (x ∷ blocks) = ap suc (length-ends (at + length (cells_of (arc_value x))) blocks)
+pub length-ends : (at : ℕ) (blocks : List Rows) → length (ends_from at blocks) ≡ length blocks
+length-ends at [] = refl
+length-ends at (x ∷ blocks) = ap suc (length-ends (at + length (cells_of x)) blocks)
 
-  end_at : (at : ℕ) (blocks : List (Arc Rows Z)) (i : ℕ) → i < length blocks → slice_index (ends_from at blocks) i ≡ at + length (all_cells (take (i + 1) blocks))
-  end_at at [] i h = absurd (omega arith)
-  end_at at (x ∷ blocks) zero h = ap (λ n. at + n) (ap length (sym (append-nil (cells_of (arc_value x)))))
-  end_at at (x ∷ blocks) (suc i) h =
-      end_at (at + length (cells_of (arc_value x))) blocks i (omega arith)
-      ∙ omega (arith, length-append (cells_of (arc_value x)) (all_cells (take (i + 1) blocks)), ap (λ n. length (all_cells (take n (x ∷ blocks)))) {x = suc i + 1} {y = suc (i + 1)} (omega arith))
+end_at : (at : ℕ) (blocks : List Rows) (i : ℕ) → i < length blocks → slice_index (ends_from at blocks) i ≡ at + length (all_cells (take (i + 1) blocks))
+end_at at [] i h = absurd (omega arith)
+end_at at (x ∷ blocks) zero h = ap (λ n. at + n) (ap length (sym (append-nil (cells_of x))))
+end_at at (x ∷ blocks) (suc i) h =
+    end_at (at + length (cells_of x)) blocks i (omega arith)
+    ∙ omega (arith, length-append (cells_of x) (all_cells (take (i + 1) blocks)), ap (λ n. length (all_cells (take n (x ∷ blocks)))) {x = suc i + 1} {y = suc (i + 1)} (omega arith))
 
-  pub start_at : (blocks : List (Arc Rows Z)) (i : ℕ) → i ≤ length blocks → start_of_block (ends_from 0 blocks) i ≡ length (all_cells (take i blocks))
-  start_at blocks zero h = refl
-  start_at blocks (suc i) h = end_at 0 blocks i (omega arith) ∙ omega (arith, ap (λ n. length (all_cells (take n blocks))) {x = suc i} {y = i + 1} (omega arith))
+pub start_at : (blocks : List Rows) (i : ℕ) → i ≤ length blocks → start_of_block (ends_from 0 blocks) i ≡ length (all_cells (take i blocks))
+start_at blocks zero h = refl
+start_at blocks (suc i) h = end_at 0 blocks i (omega arith) ∙ omega (arith, ap (λ n. length (all_cells (take n blocks))) {x = suc i} {y = i + 1} (omega arith))
 
 -- the block that holds cell i
-pub record BlockOfCell {Z : Type 0} (blocks : List (Arc Rows Z)) (i at start : ℕ) : Type 0 where
+pub record BlockOfCell (blocks : List Rows) (i at start : ℕ) : Type 0 where
   pub within : at < length blocks
   pub begins : start ≡ length (all_cells (take at blocks))
   pub from : start ≤ i
   pub ends : i - start < length (cells_of (rows_at blocks at))
 
-module _ {Z : Type 0} (blocks : List (Arc Rows Z)) (ends : List ℕ) (i at : ℕ) (told : ends ≡ ends_from 0 blocks) (t : TurnsAt (λ k. nat_le (slice_index ends k) i) (length ends) at) where
+module _ (blocks : List Rows) (ends : List ℕ) (i at : ℕ) (told : ends ≡ ends_from 0 blocks) (t : TurnsAt (λ k. nat_le (slice_index ends k) i) (length ends) at) where
   count_ends : length ends ≡ length blocks
   count_ends = ap length told ∙ length-ends 0 blocks
 
@@ -308,13 +304,13 @@ module _ {Z : Type 0} (blocks : List (Arc Rows Z)) (ends : List ℕ) (i at : ℕ
       }
 
   pub past_blocks : length ends ≤ at → None ≡ slice_get (all_cells blocks) i
-  past_blocks le = sym (slice_get_past (all_cells blocks) i (omega (arith, start_le_cell, ap (λ (b : List (Arc Rows Z)). length (all_cells b)) (take_all at blocks (omega (arith, count_ends))))))
+  past_blocks le = sym (slice_get_past (all_cells blocks) i (omega (arith, start_le_cell, ap (λ (b : List Rows). length (all_cells b)) (take_all at blocks (omega (arith, count_ends))))))
 
-pub cell_in_block : {Z : Type 0} (blocks : List (Arc Rows Z)) (i at start : ℕ) (rows : Rows) (e : Place × ℕ) → BlockOfCell blocks i at start → rows ≡ rows_at blocks at → Some e ≡ slice_get (cells_of rows) (i - start) → Some e ≡ slice_get (all_cells blocks) i
+pub cell_in_block : (blocks : List Rows) (i at start : ℕ) (rows : Rows) (e : Place × ℕ) → BlockOfCell blocks i at start → rows ≡ rows_at blocks at → Some e ≡ slice_get (cells_of rows) (i - start) → Some e ≡ slice_get (all_cells blocks) i
 cell_in_block blocks i at start rows e h is found =
     let whole : all_cells blocks ≡ all_cells (take at blocks) ++ (cells_of (rows_at blocks at) ++ all_cells (drop (at + 1) blocks)) = blocks_at blocks at ∙ ap (λ (l : List (Place × ℕ)). all_cells (take at blocks) ++ l) (block_behind blocks at h.within) in
     found ∙ ap (λ (r : Rows). slice_get (cells_of r) (i - start)) is
     ∙ sym (get_piece (all_cells blocks) (all_cells (take at blocks)) (cells_of (rows_at blocks at)) (all_cells (drop (at + 1) blocks)) i start whole h.begins h.from h.ends)
 
-pub sum_read : {Z : Type 0} (blocks : List (Arc Rows Z)) (i r m n : ℕ) (rows : Rows) → rows ≡ rows_at blocks i → IsRowSum r (cells_of rows) m n → IsRowSum r (cells_of (rows_at blocks i)) m n
+pub sum_read : (blocks : List Rows) (i r m n : ℕ) (rows : Rows) → rows ≡ rows_at blocks i → IsRowSum r (cells_of rows) m n → IsRowSum r (cells_of (rows_at blocks i)) m n
 sum_read blocks i r m n rows is s = subst (λ (rows : Rows). IsRowSum r (cells_of rows) m n) is s

@@ -15,3 +15,4 @@ pub mod LookupLaws
 pub mod FindLaws
 pub mod RowOfLaws
 pub mod QueryLaws
+pub mod WalkLaws

@@ -3,8 +3,6 @@ use Rattle.std.proofs.Common.{T, ◌≡◌, ℕ, zero, suc, ◌+◌, ◌<◌, Li
 use Rattle.std.specs.List.{AllByRecursion}
 use Rattle.std.proofs.lemmas.List.{append-nil}
 use Rattle.std.specs.FinMap.{entries, is_sorted, empty, len}
-use Rattle.std.specs.declared.sync.Arc.{Arc}
-use Rattle.std.specs.Arc.{arc_value}
 use Rattle.mm_text.specs.Bounds.{IsDimension, AreWithin}
 use Rattle.hyper_matrix.specs.Counts.{Place, place_cmp, Counts, total, built, ewise_add, count_sum}
 use Rattle.hyper_matrix.specs.Rows.{Rows, cells_of}
@@ -16,66 +14,65 @@ use Rattle.hyper_matrix.specs.Shared.{shared_counts, LiesWithin, Holds, Keeps}
 use Rattle.hyper_matrix.proofs.CountLaws.{total-ewise_add, ewise_add_comm, ewise_add-empty}
 use Rattle.hyper_matrix.proofs.PlaceLaws.{built-in_order, entries-in_order, total-in_order, len-in_order, places_of_sum}
 
-pub keeps_none : {Z : Type 0} (r c : ℕ) (blocks : List (Arc Rows Z)) (ends : List ℕ) → IsDimension r → IsDimension c → blocks ≡ [] → ends ≡ [] → Keeps r c 0 blocks ends
-keeps_none {Z} r c blocks ends is_rows is_cols none no_ends =
-    subst (λ (b : List (Arc Rows Z)). Keeps r c 0 b ends) (sym none) (record {
+pub keeps_none : (r c : ℕ) (blocks : List Rows) (ends : List ℕ) → IsDimension r → IsDimension c → blocks ≡ [] → ends ≡ [] → Keeps r c 0 blocks ends
+keeps_none r c blocks ends is_rows is_cols none no_ends =
+    subst (λ (b : List Rows). Keeps r c 0 b ends) (sym none) (record {
       holds = record { is_rows = is_rows; is_cols = is_cols; are_blocks = tt; sorted = tt; within = tt; kept = refl };
       told = no_ends;
     })
 
-pub keeps_with : {Z : Type 0} (r c s : ℕ) (blocks blocks' : List (Arc Rows Z)) (ends : List ℕ) → Holds r c s blocks → blocks' ≡ blocks → ends ≡ ends_from 0 blocks' → Keeps r c s blocks ends
+pub keeps_with : (r c s : ℕ) (blocks blocks' : List Rows) (ends : List ℕ) → Holds r c s blocks → blocks' ≡ blocks → ends ≡ ends_from 0 blocks' → Keeps r c s blocks ends
 keeps_with r c s blocks blocks' ends h same told = record { holds = h; told = told ∙ ap (ends_from 0) same }
 
 -- the kept numbers are those of the map
-pub kept_total : {Z : Type 0} (r c s : ℕ) (blocks : List (Arc Rows Z)) → Holds r c s blocks → s ≡ total (shared_counts blocks)
+pub kept_total : (r c s : ℕ) (blocks : List Rows) → Holds r c s blocks → s ≡ total (shared_counts blocks)
 kept_total r c s blocks h = h.kept ∙ sym (total-in_order (all_cells blocks) h.sorted)
 
-module _ {Z : Type 0} where
-  pub same_values : (a b : List (Arc Rows Z)) (r c s : ℕ) → Holds r c s a → AreBlocks b → all_cells b ≡ all_cells a → Holds r c s b
-  same_values a b r c s h blocks same = record { is_rows = h.is_rows; is_cols = h.is_cols; are_blocks = blocks; sorted = rw same h.sorted; within = rw same h.within; kept = h.kept ∙ ap count_sum (sym same) }
+pub same_values : (a b : List Rows) (r c s : ℕ) → Holds r c s a → AreBlocks b → all_cells b ≡ all_cells a → Holds r c s b
+same_values a b r c s h blocks same = record { is_rows = h.is_rows; is_cols = h.is_cols; are_blocks = blocks; sorted = rw same h.sorted; within = rw same h.within; kept = h.kept ∙ ap count_sum (sym same) }
 
-  -- cells read from blocks are theirs
-  pub cells_read : (r c s r' c' : ℕ) (blocks : List (Arc Rows Z)) (m : Matrix) (cells : List Cell) → Holds r c s blocks → matrix r' c' (shared_counts blocks) ≡ m → map entry_of cells ≡ entries m.counts → map entry_of cells ≡ all_cells blocks
-  cells_read r c s r' c' blocks m cells h is told = told ∙ ap (λ (x : Matrix). entries x.counts) (sym is) ∙ entries-in_order (all_cells blocks) h.sorted
+-- cells read from blocks are theirs
+pub cells_read : (r c s r' c' : ℕ) (blocks : List Rows) (m : Matrix) (cells : List Cell) → Holds r c s blocks → matrix r' c' (shared_counts blocks) ≡ m → map entry_of cells ≡ entries m.counts → map entry_of cells ≡ all_cells blocks
+cells_read r c s r' c' blocks m cells h is told = told ∙ ap (λ (x : Matrix). entries x.counts) (sym is) ∙ entries-in_order (all_cells blocks) h.sorted
 
-  -- the cells in all blocks, and the last of the ends
-  pub end_of : (at : ℕ) (block : Arc Rows Z) (blocks : List (Arc Rows Z)) (d : ℕ) → get_or (ends_from at (block ∷ blocks)) (length (ends_from at (block ∷ blocks)) - 1) d ≡ at + length (all_cells (block ∷ blocks))
-  end_of at block [] d =
-      let e = at + length (cells_of (arc_value block)) in
-      ap (λ k. get_or (e ∷ []) k d) {x = length (e ∷ []) - 1} {y = 0} (omega arith) ∙ ap (λ n. at + n) (sym (ap length (append-nil (cells_of (arc_value block)))))
-  end_of at block (x ∷ blocks) d =
-      let e = at + length (cells_of (arc_value block)) in
-      let es = ends_from e (x ∷ blocks) in
-      ap (λ k. get_or (e ∷ es) k d) {x = length (e ∷ es) - 1} {y = suc (length es - 1)} (omega arith) ∙ end_of e x blocks d ∙ omega (arith, length-append (cells_of (arc_value block)) (all_cells (x ∷ blocks)))
+-- the cells in all blocks, and the last of the ends
+pub end_of : (at : ℕ) (block : Rows) (blocks : List Rows) (d : ℕ) → get_or (ends_from at (block ∷ blocks)) (length (ends_from at (block ∷ blocks)) - 1) d ≡ at + length (all_cells (block ∷ blocks))
+end_of at block [] d =
+    let e = at + length (cells_of block) in
+    ap (λ k. get_or (e ∷ []) k d) {x = length (e ∷ []) - 1} {y = 0} (omega arith) ∙ ap (λ n. at + n) (sym (ap length (append-nil (cells_of block))))
+end_of at block (x ∷ blocks) d =
+    let e = at + length (cells_of block) in
+    let es = ends_from e (x ∷ blocks) in
+    ap (λ k. get_or (e ∷ es) k d) {x = length (e ∷ es) - 1} {y = suc (length es - 1)} (omega arith) ∙ end_of e x blocks d ∙ omega (arith, length-append (cells_of block) (all_cells (x ∷ blocks)))
 
-  pub last_end : (r c s : ℕ) (blocks : List (Arc Rows Z)) (ends : List ℕ) (d : ℕ) → Keeps r c s blocks ends → 0 < length ends → get_or ends (length ends - 1) d ≡ len (shared_counts blocks)
-  last_end r c s [] ends d k h = absurd (omega (arith, ap length k.told))
-  last_end r c s (x ∷ blocks) ends d k h = ap (λ (e : List ℕ). get_or e (length e - 1) d) k.told ∙ end_of 0 x blocks d ∙ omega (arith, len-in_order (all_cells (x ∷ blocks)) k.holds.sorted)
+pub last_end : (r c s : ℕ) (blocks : List Rows) (ends : List ℕ) (d : ℕ) → Keeps r c s blocks ends → 0 < length ends → get_or ends (length ends - 1) d ≡ len (shared_counts blocks)
+last_end r c s [] ends d k h = absurd (omega (arith, ap length k.told))
+last_end r c s (x ∷ blocks) ends d k h = ap (λ (e : List ℕ). get_or e (length e - 1) d) k.told ∙ end_of 0 x blocks d ∙ omega (arith, len-in_order (all_cells (x ∷ blocks)) k.holds.sorted)
 
-  pub no_end : (r c s : ℕ) (blocks : List (Arc Rows Z)) (ends : List ℕ) → Keeps r c s blocks ends → length ends ≡ 0 → 0 ≡ len (shared_counts blocks)
-  no_end r c s [] ends k h = sym (len-in_order [] tt)
-  no_end r c s (x ∷ blocks) ends k h = absurd (omega (arith, ap length k.told))
+pub no_end : (r c s : ℕ) (blocks : List Rows) (ends : List ℕ) → Keeps r c s blocks ends → length ends ≡ 0 → 0 ≡ len (shared_counts blocks)
+no_end r c s [] ends k h = sym (len-in_order [] tt)
+no_end r c s (x ∷ blocks) ends k h = absurd (omega (arith, ap length k.told))
 
-  pub counts_sum : (r c m r' c' n : ℕ) (a b s : List (Arc Rows Z)) (cells : List (Place × ℕ)) → Holds r c m a → Holds r' c' n b → T (is_sorted place_cmp (all_cells s)) → cells ≡ all_cells b → built (all_cells s) ≡ ewise_add (built (all_cells a)) (built cells) → shared_counts s ≡ ewise_add (shared_counts a) (shared_counts b)
-  counts_sum r c m r' c' n a b s cells x y sorted read sums =
-      sym (built-in_order (all_cells s) sorted) ∙ sums ∙ ap (λ l. ewise_add (built (all_cells a)) (built l)) read
-      ∙ ap (λ l. ewise_add l (built (all_cells b))) (built-in_order (all_cells a) x.sorted) ∙ ap (ewise_add (shared_counts a)) (built-in_order (all_cells b) y.sorted)
+pub counts_sum : (r c m r' c' n : ℕ) (a b s : List Rows) (cells : List (Place × ℕ)) → Holds r c m a → Holds r' c' n b → T (is_sorted place_cmp (all_cells s)) → cells ≡ all_cells b → built (all_cells s) ≡ ewise_add (built (all_cells a)) (built cells) → shared_counts s ≡ ewise_add (shared_counts a) (shared_counts b)
+counts_sum r c m r' c' n a b s cells x y sorted read sums =
+    sym (built-in_order (all_cells s) sorted) ∙ sums ∙ ap (λ l. ewise_add (built (all_cells a)) (built l)) read
+    ∙ ap (λ l. ewise_add l (built (all_cells b))) (built-in_order (all_cells a) x.sorted) ∙ ap (ewise_add (shared_counts a)) (built-in_order (all_cells b) y.sorted)
 
-  -- the sum of two matrices' blocks
-  pub holds_sum : (r c m r' c' n : ℕ) (a b s : List (Arc Rows Z)) → r' ≡ r → c' ≡ c → Holds r c m a → Holds r' c' n b → AreBlocks s → T (is_sorted place_cmp (all_cells s)) → shared_counts s ≡ ewise_add (shared_counts a) (shared_counts b) → Holds r c (m + n) s
-  holds_sum r c m r' c' n a b s same_r same_c x y blocks sorted sums = record {
-    is_rows = x.is_rows;
-    is_cols = x.is_cols;
-    are_blocks = blocks;
-    sorted = sorted;
-    within = places_of_sum (λ q. (q.0 < r) × (q.1 < c)) (all_cells s) (all_cells a) (all_cells b) sums x.within (subst (λ k. AllByRecursion (LiesWithin r k) (all_cells b)) same_c (subst (λ k. AllByRecursion (LiesWithin k c') (all_cells b)) same_r y.within));
-    kept = omega (arith, kept_total r c m a x, kept_total r' c' n b y, total-ewise_add (shared_counts a) (shared_counts b), ap total sums, total-in_order (all_cells s) sorted);
-  }
+-- the sum of two matrices' blocks
+pub holds_sum : (r c m r' c' n : ℕ) (a b s : List Rows) → r' ≡ r → c' ≡ c → Holds r c m a → Holds r' c' n b → AreBlocks s → T (is_sorted place_cmp (all_cells s)) → shared_counts s ≡ ewise_add (shared_counts a) (shared_counts b) → Holds r c (m + n) s
+holds_sum r c m r' c' n a b s same_r same_c x y blocks sorted sums = record {
+  is_rows = x.is_rows;
+  is_cols = x.is_cols;
+  are_blocks = blocks;
+  sorted = sorted;
+  within = places_of_sum (λ q. (q.0 < r) × (q.1 < c)) (all_cells s) (all_cells a) (all_cells b) sums x.within (subst (λ k. AllByRecursion (LiesWithin r k) (all_cells b)) same_c (subst (λ k. AllByRecursion (LiesWithin k c') (all_cells b)) same_r y.within));
+  kept = omega (arith, kept_total r c m a x, kept_total r' c' n b y, total-ewise_add (shared_counts a) (shared_counts b), ap total sums, total-in_order (all_cells s) sorted);
+}
 
-  -- no blocks hold nothing
-  pub no_blocks : (r c : ℕ) (blocks : List (Arc Rows Z)) (m : Matrix) → matrix r c (shared_counts blocks) ≡ m → length blocks ≡ 0 → m.counts ≡ empty
-  no_blocks r c [] m is h = sym (ap (λ (x : Matrix). x.counts) is)
-  no_blocks r c (x ∷ blocks) m is h = absurd (omega arith)
+-- no blocks hold nothing
+pub no_blocks : (r c : ℕ) (blocks : List Rows) (m : Matrix) → matrix r c (shared_counts blocks) ≡ m → length blocks ≡ 0 → m.counts ≡ empty
+no_blocks r c [] m is h = sym (ap (λ (x : Matrix). x.counts) is)
+no_blocks r c (x ∷ blocks) m is h = absurd (omega arith)
 
 -- a matrix and an empty one
 pub with_empty : (x y s : Matrix) → s ≡ x → y.counts ≡ empty → s ≡ matrix x.rows x.cols (ewise_add x.counts y.counts)

@@ -1,5 +1,5 @@
 -- How `merged` steps, and what it finds.
-use Rattle.std.proofs.Common.{◌≡◌, ℕ, zero, suc, ◌+◌, ◌-◌, ◌<◌, ◌≤◌, cond, ltb, List, [], ◌∷◌, ◌++◌, length, get_or, take, drop, ◌⊎◌, append_assoc, sym, ◌∙◌, ap, subst, refl, inl, inr, arith}
+use Rattle.std.proofs.Common.{◌≡◌, ℕ, zero, suc, ◌+◌, ◌-◌, ◌<◌, ◌≤◌, cond, ltb, List, [], ◌∷◌, ◌++◌, length, get_or, drop, ◌⊎◌, append_assoc, sym, ◌∙◌, ap, subst, refl, inl, inr, arith}
 use Rattle.std.proofs.lemmas.Bool.{lt-ltb, le-ltb, cases_order}
 use Rattle.std.proofs.lemmas.List.{drop_more, drop_all, append-nil, take-append-drop, drop-drop}
 use Rattle.hyper_matrix.specs.Counts.{count_sum}
@@ -53,16 +53,6 @@ module _ {X : Type 0} (f : X → X → X) where
   merged_run_right (y ∷ run) x xs ys h = merged_greater x y xs (run ++ ys) h.0 ∙ ap (λ (r : List (ℕ × X)). y ∷ r) (merged_run_right run x xs ys h.1)
 
   -- the same where the lists are taken from a place on
-  pub merged_less_at : (xs ys : List (ℕ × X)) (i j : ℕ) (d : ℕ × X) → i < length xs → j < length ys → (get_or xs i d).0 < (get_or ys j d).0 → merged f (drop i xs) (drop j ys) ≡ get_or xs i d ∷ merged f (drop (i + 1) xs) (drop j ys)
-  merged_less_at xs ys i j d hi hj h =
-      ap (λ (a : List (ℕ × X)). merged f a (drop j ys)) (drop_more xs i d hi)
-      ∙ subst (λ (b : List (ℕ × X)). merged f (get_or xs i d ∷ drop (i + 1) xs) b ≡ get_or xs i d ∷ merged f (drop (i + 1) xs) b) (sym (drop_more ys j d hj)) (merged_less (get_or xs i d) (get_or ys j d) (drop (i + 1) xs) (drop (j + 1) ys) h)
-
-  pub merged_greater_at : (xs ys : List (ℕ × X)) (i j : ℕ) (d : ℕ × X) → i < length xs → j < length ys → (get_or ys j d).0 < (get_or xs i d).0 → merged f (drop i xs) (drop j ys) ≡ get_or ys j d ∷ merged f (drop i xs) (drop (j + 1) ys)
-  merged_greater_at xs ys i j d hi hj h =
-      ap (λ (b : List (ℕ × X)). merged f (drop i xs) b) (drop_more ys j d hj)
-      ∙ subst (λ (a : List (ℕ × X)). merged f a (get_or ys j d ∷ drop (j + 1) ys) ≡ get_or ys j d ∷ merged f a (drop (j + 1) ys)) (sym (drop_more xs i d hi)) (merged_greater (get_or xs i d) (get_or ys j d) (drop (i + 1) xs) (drop (j + 1) ys) h)
-
   pub merged_same_at : (xs ys : List (ℕ × X)) (i j : ℕ) (d : ℕ × X) → i < length xs → j < length ys → (get_or xs i d).0 ≡ (get_or ys j d).0 → merged f (drop i xs) (drop j ys) ≡ ((get_or xs i d).0, f (get_or xs i d).1 (get_or ys j d).1) ∷ merged f (drop (i + 1) xs) (drop (j + 1) ys)
   merged_same_at xs ys i j d hi hj h =
       ap (λ (a : List (ℕ × X)). merged f a (drop j ys)) (drop_more xs i d hi)
@@ -104,22 +94,17 @@ told_ends out one two a b p q s r first second is_p is_q ends told =
 pub split_at : {X : Type 0} (xs : List X) (i e : ℕ) → i ≤ e → drop i xs ≡ slice_range xs i e ++ drop e xs
 split_at xs i e h = sym (take-append-drop (e - i) (drop i xs)) ∙ ap (λ r. slice_range xs i e ++ r) (drop-drop (e - i) i xs ∙ ap (λ n. drop n xs) (omega arith))
 
-pub first_of_part : {X : Type 0} (xs : List X) (i e : ℕ) (d : X) → i < e → i < length xs → slice_range xs i e ≡ get_or xs i d ∷ slice_range xs (i + 1) e
-first_of_part xs i e d h k = ap (take (e - i)) (drop_more xs i d k) ∙ ap (λ n. take n (get_or xs i d ∷ drop (i + 1) xs)) {x = e - i} {y = suc (e - (i + 1))} (omega arith)
-
 module _ {X : Type 0} (f : X → X → X) where
   -- the keys of one list from i to e, all below the other's next, are taken over together
-  pub merged_run_at : (xs ys : List (ℕ × X)) (i e j : ℕ) (d : ℕ × X) → i < e → e ≤ length xs → j < length ys → (get_or xs i d).0 < (get_or ys j d).0 → KeysBelow (get_or ys j d).0 (slice_range xs (i + 1) e) → merged f (drop i xs) (drop j ys) ≡ slice_range xs i e ++ merged f (drop e xs) (drop j ys)
-  merged_run_at xs ys i e j d h k m first below =
-      let all : KeysBelow (get_or ys j d).0 (slice_range xs i e) = subst (KeysBelow (get_or ys j d).0) (sym (first_of_part xs i e d h (omega arith))) (first, below) in
+  pub merged_run_at : (xs ys : List (ℕ × X)) (i e j : ℕ) (d : ℕ × X) → i < e → e ≤ length xs → j < length ys → KeysBelow (get_or ys j d).0 (slice_range xs i e) → merged f (drop i xs) (drop j ys) ≡ slice_range xs i e ++ merged f (drop e xs) (drop j ys)
+  merged_run_at xs ys i e j d h k m below =
       ap (λ (a : List (ℕ × X)). merged f a (drop j ys)) (split_at xs i e (omega arith))
-      ∙ subst (λ (b : List (ℕ × X)). merged f (slice_range xs i e ++ drop e xs) b ≡ slice_range xs i e ++ merged f (drop e xs) b) (sym (drop_more ys j d m)) (merged_run f (slice_range xs i e) (drop e xs) (get_or ys j d) (drop (j + 1) ys) all)
+      ∙ subst (λ (b : List (ℕ × X)). merged f (slice_range xs i e ++ drop e xs) b ≡ slice_range xs i e ++ merged f (drop e xs) b) (sym (drop_more ys j d m)) (merged_run f (slice_range xs i e) (drop e xs) (get_or ys j d) (drop (j + 1) ys) below)
 
-  pub merged_run_right_at : (xs ys : List (ℕ × X)) (i j e : ℕ) (d : ℕ × X) → j < e → e ≤ length ys → i < length xs → (get_or ys j d).0 < (get_or xs i d).0 → KeysBelow (get_or xs i d).0 (slice_range ys (j + 1) e) → merged f (drop i xs) (drop j ys) ≡ slice_range ys j e ++ merged f (drop i xs) (drop e ys)
-  merged_run_right_at xs ys i j e d h k m first below =
-      let all : KeysBelow (get_or xs i d).0 (slice_range ys j e) = subst (KeysBelow (get_or xs i d).0) (sym (first_of_part ys j e d h (omega arith))) (first, below) in
+  pub merged_run_right_at : (xs ys : List (ℕ × X)) (i j e : ℕ) (d : ℕ × X) → j < e → e ≤ length ys → i < length xs → KeysBelow (get_or xs i d).0 (slice_range ys j e) → merged f (drop i xs) (drop j ys) ≡ slice_range ys j e ++ merged f (drop i xs) (drop e ys)
+  merged_run_right_at xs ys i j e d h k m below =
       ap (λ (b : List (ℕ × X)). merged f (drop i xs) b) (split_at ys j e (omega arith))
-      ∙ subst (λ (a : List (ℕ × X)). merged f a (slice_range ys j e ++ drop e ys) ≡ slice_range ys j e ++ merged f a (drop e ys)) (sym (drop_more xs i d m)) (merged_run_right f (slice_range ys j e) (get_or xs i d) (drop (i + 1) xs) (drop e ys) all)
+      ∙ subst (λ (a : List (ℕ × X)). merged f a (slice_range ys j e ++ drop e ys) ≡ slice_range ys j e ++ merged f a (drop e ys)) (sym (drop_more xs i d m)) (merged_run_right f (slice_range ys j e) (get_or xs i d) (drop (i + 1) xs) (drop e ys) below)
 
 -- no row's counts are above the total
 pub row_le_total : (rows : Rows) (i : ℕ) (d : ℕ × Entries) → i < length rows → count_sum (get_or rows i d).1 ≤ rows_total rows

@@ -2,7 +2,6 @@
 use Rattle.std.proofs.Common.{◌≡◌, ℕ, zero, suc, ◌<◌, ◌≤◌, ◌⊎◌, true, false, cond, eqb, T, List, [], ◌∷◌, length, Option, Some, None, sym, ◌∙◌, ap, subst, refl, inl, inr, arith}
 use Rattle.std.specs.List.{slice_get, AllByRecursion}
 use Rattle.std.specs.FinMap.{entries, len, len-entries, is_sorted, find, get, get-from_entries, get-empty, empty}
-use Rattle.std.specs.declared.sync.Arc.{Arc}
 use Rattle.hyper_matrix.specs.Counts.{Place, Counts, place_cmp, count_sum, total}
 use Rattle.hyper_matrix.specs.Matrix.{Matrix, matrix}
 use Rattle.hyper_matrix.specs.Rows.{Rows}
@@ -22,7 +21,7 @@ use Rattle.hyper_matrix.proofs.CountLaws.{places_total, exact_places, same_count
 use Rattle.hyper_matrix.proofs.FindLaws.{is_equal}
 use Rattle.hyper_matrix.proofs.RowOfLaws.{get-row_of, entries-map_of, len-row_of, total-row_of}
 
-pub have_rows : {Z : Type 0} (blocks : List (Arc Rows Z)) → AreBlocks blocks → HaveRows blocks
+pub have_rows : (blocks : List Rows) → AreBlocks blocks → HaveRows blocks
 have_rows [] h = tt
 have_rows (block ∷ blocks) h = (h.0.some, have_rows blocks h.1)
 
@@ -40,13 +39,13 @@ listed_within rows cols zero e (x ∷ es) h is = subst (λ (y : Place × ℕ). (
 listed_within rows cols (suc i) e (x ∷ es) h is = listed_within rows cols i e es h.1 is
 
 -- a matrix's blocks as they are read, with its view
-module _ {Z : Type 0} (read blocks : List (Arc Rows Z)) (rows cols : ℕ) (m : Matrix) (is : read ≡ blocks) (view : matrix rows cols (map_of (all_cells blocks)) ≡ m) where
+module _ (read blocks : List Rows) (rows cols : ℕ) (m : Matrix) (is : read ≡ blocks) (view : matrix rows cols (map_of (all_cells blocks)) ≡ m) where
   pub counts_are : map_of (all_cells read) ≡ m.counts
-  counts_are = ap (λ (b : List (Arc Rows Z)). map_of (all_cells b)) is ∙ ap (λ (x : Matrix). x.counts) view
+  counts_are = ap (λ (b : List Rows). map_of (all_cells b)) is ∙ ap (λ (x : Matrix). x.counts) view
 
   module _ (sorted : T (is_sorted place_cmp (all_cells blocks))) where
     read_sorted : T (is_sorted place_cmp (all_cells read))
-    read_sorted = subst (λ (b : List (Arc Rows Z)). T (is_sorted place_cmp (all_cells b))) (sym is) sorted
+    read_sorted = subst (λ (b : List Rows). T (is_sorted place_cmp (all_cells b))) (sym is) sorted
 
     pub entries_are : entries m.counts ≡ all_cells read
     entries_are = ap entries (sym counts_are) ∙ entries-map_of (all_cells read) read_sorted
@@ -68,7 +67,7 @@ module _ {Z : Type 0} (read blocks : List (Arc Rows Z)) (rows cols : ℕ) (m : M
     cell_is o i e = e ∙ ap (λ (l : List (Place × ℕ)). slice_get l i) (sym entries_are)
 
 -- the cells of a matrix lie within its dimensions
-module _ {Z : Type 0} (blocks : List (Arc Rows Z)) (rows cols : ℕ) (m : Matrix) (view : matrix rows cols (map_of (all_cells blocks)) ≡ m) (sorted : T (is_sorted place_cmp (all_cells blocks))) (within : AllByRecursion (LiesWithin rows cols) (all_cells blocks)) where
+module _ (blocks : List Rows) (rows cols : ℕ) (m : Matrix) (view : matrix rows cols (map_of (all_cells blocks)) ≡ m) (sorted : T (is_sorted place_cmp (all_cells blocks))) (within : AllByRecursion (LiesWithin rows cols) (all_cells blocks)) where
   in_matrix : (p : Place) → (p.0 < rows) × (p.1 < cols) → (p.0 < m.rows) × (p.1 < m.cols)
   in_matrix p h = (omega (arith, h.0, ap (λ (x : Matrix). x.rows) view), omega (arith, h.1, ap (λ (x : Matrix). x.cols) view))
 

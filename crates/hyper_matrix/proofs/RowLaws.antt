@@ -6,6 +6,23 @@ use Rattle.hyper_matrix.specs.Counts.{Place}
 use Rattle.hyper_matrix.specs.Rows.{Entries, Rows, rows_from, EndsAt, start_from, rows_of, AreRows, start_of, heads_moved, Appends, Fit, KeysBelow, cells_of, at_places}
 use Rattle.hyper_matrix.specs.Places.{IsFirst}
 
+-- the first of a part, and what comes behind it
+pub first_of_part : {X : Type 0} (xs : List X) (i e : ℕ) (d : X) → i < e → i < length xs → slice_range xs i e ≡ get_or xs i d ∷ slice_range xs (i + 1) e
+first_of_part xs i e d h k = ap (take (e - i)) (drop_more xs i d k) ∙ ap (λ n. take n (get_or xs i d ∷ drop (i + 1) xs)) {x = e - i} {y = suc (e - (i + 1))} (omega arith)
+
+pub part_of_one : {X : Type 0} (xs : List X) (i : ℕ) (d : X) → i < length xs → slice_range xs i (i + 1) ≡ get_or xs i d ∷ []
+part_of_one xs i d k = first_of_part xs i (i + 1) d (omega arith) k ∙ ap (λ n. get_or xs i d ∷ take n (drop (i + 1) xs)) {x = i + 1 - (i + 1)} {y = 0} (omega arith)
+
+-- row i alone
+pub row_at : (rows : Rows) (i n : ℕ) (es : Entries) → i < length rows → n ≡ (get_or rows i (0, [])).0 → es ≡ (get_or rows i (0, [])).1 → (n, es) ∷ [] ≡ slice_range rows i (i + 1)
+row_at rows i n es h is_number is_entries = rw (is_number, is_entries) (sym (part_of_one rows i (0, []) h))
+
+-- a list of one
+pub one_item : {X : Type 0} (xs : List X) (d : X) → length xs ≡ 1 → xs ≡ get_or xs 0 d ∷ []
+one_item [] d h = absurd (omega arith)
+one_item (x ∷ []) d h = refl
+one_item (x ∷ (y ∷ xs)) d h = absurd (omega arith)
+
 pub start-get : (at : ℕ) (hs : List (ℕ × ℕ)) (i : ℕ) (d : ℕ × ℕ) → i < length hs → start_from at hs (suc i) ≡ (get_or hs i d).1
 start-get at [] i d h = absurd (omega arith)
 start-get at (x ∷ hs) zero d h = zero_case x.1 hs
@@ -204,6 +221,31 @@ pub KeysBelow-push : {X : Type 0} (k : ℕ) (xs : List (ℕ × X)) (x : ℕ × X
 KeysBelow-push k [] x h b = (b, tt)
 KeysBelow-push k (y ∷ xs) x h b = (h.0, KeysBelow-push k xs x h.1 b)
 
+-- a run from i on, where its first key and those behind it are below k
+pub KeysBelow-run : {X : Type 0} (k : ℕ) (xs : List (ℕ × X)) (i e : ℕ) (d : ℕ × X) → i < e → i < length xs → (get_or xs i d).0 < k → KeysBelow k (slice_range xs (i + 1) e) → KeysBelow k (slice_range xs i e)
+KeysBelow-run k xs i e d h l first below = subst (KeysBelow k) (sym (first_of_part xs i e d h l)) (first, below)
+
+-- the first alone
+pub KeysBelow-one : {X : Type 0} (k : ℕ) (xs : List (ℕ × X)) (i : ℕ) (d : ℕ × X) → i < length xs → (get_or xs i d).0 < k → KeysBelow k (slice_range xs i (i + 1))
+KeysBelow-one k xs i d l first = subst (KeysBelow k) (sym (part_of_one xs i d l)) (first, tt)
+
+-- rows have the keys of their heads
+pub KeysBelow-rows_from : (k at : ℕ) (hs : List (ℕ × ℕ)) (es : Entries) → KeysBelow k hs → KeysBelow k (rows_from at hs es)
+KeysBelow-rows_from k at [] es h = tt
+KeysBelow-rows_from k at (x ∷ hs) es h = (h.0, KeysBelow-rows_from k x.1 hs es h.1)
+
+pub KeysBelow-rows_of : (k : ℕ) (hs : List (ℕ × ℕ)) (es : Entries) (i j : ℕ) → i ≤ length hs → KeysBelow k (slice_range hs i j) → KeysBelow k (slice_range (rows_of hs es) i j)
+unfolding rows_of
+KeysBelow-rows_of k hs es i j h below =
+    subst (KeysBelow k) (sym (ap (take (j - i)) (rows_from-drop 0 hs es i h) ∙ rows_from-take (start_from 0 hs i) (drop i hs) es (j - i))) (KeysBelow-rows_from k (start_from 0 hs i) (take (j - i) (drop i hs)) es below)
+
+-- heads that lie where they lay
+pub heads_unmoved : (first : ℕ) (hs : List (ℕ × ℕ)) → ((k : ℕ) (d : ℕ × ℕ) → k < length hs → first ≤ (get_or hs k d).1) → heads_moved first first hs ≡ hs
+heads_unmoved first [] h = refl
+heads_unmoved first (x ∷ hs) h =
+    ap (λ n. (x.0, n) ∷ heads_moved first first hs) {x = x.1 - first + first} {y = x.1} (omega (arith, h 0 x (omega arith)))
+    ∙ ap (λ (r : List (ℕ × ℕ)). x ∷ r) (heads_unmoved first hs (λ k d m. h (suc k) d (omega arith)))
+
 -- the cells are as many as the entries
 length-cells_from : (at : ℕ) (hs : List (ℕ × ℕ)) (es : Entries) (n : ℕ) → EndsAt at hs n → n ≤ length es → at + length (cells_of (rows_from at hs es)) ≡ n
 length-cells_from at [] es n e h = omega (arith, e)
@@ -237,3 +279,11 @@ first_cell (x ∷ hs) (e ∷ es) d well h = (omega arith, first_in x.1 well.0)
   where
     first_in : (end : ℕ) → 0 < end → IsFirst (x.0, e.0) (at_places x.0 (slice_range (e ∷ es) 0 end) ++ cells_of (rows_from x.1 hs (e ∷ es)))
     first_in end h = subst (λ n. IsFirst (x.0, e.0) (at_places x.0 (take n (e ∷ es)) ++ cells_of (rows_from x.1 hs (e ∷ es)))) {x = suc (end - 1)} {y = end - 0} (omega arith) refl
+
+-- heads and entries that have nothing in them
+pub empty_parts : (hs : List (ℕ × ℕ)) (es : Entries) → hs ≡ [] → es ≡ [] → AreRows hs es × (rows_of hs es ≡ [])
+empty_parts hs es no_heads no_entries = (rw (no_heads, no_entries) no_rows, rw (no_heads, no_entries) rows_of-nil)
+
+-- what was appended to nothing is all
+pub appended_to_none : (hs : List (ℕ × ℕ)) (es : Entries) (hs' : List (ℕ × ℕ)) (es' : Entries) (rows : Rows) → hs ≡ [] → es ≡ [] → Appends hs es hs' es' rows → rows_of hs' es' ≡ rows
+appended_to_none hs es hs' es' rows no_heads no_entries appends = appends.told ∙ ap (λ r. r ++ rows) (empty_parts hs es no_heads no_entries).1

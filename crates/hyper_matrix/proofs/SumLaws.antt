@@ -1,20 +1,21 @@
 -- The sum of blocks and cells, a block at a time.
-use Rattle.std.proofs.Common.{◌≡◌, ℕ, ◌+◌, ◌<◌, ◌≤◌, T, List, [], ◌∷◌, ◌++◌, length, get_or, take, drop, map, sym, ◌∙◌, ap, subst, refl, arith}
+use Rattle.std.proofs.Common.{◌≡◌, ℕ, ◌+◌, ◌<◌, ◌≤◌, T, List, [], ◌∷◌, ◌++◌, length, get_or, take, drop, map, sym, ◌∙◌, ap, subst, refl, inl, inr, arith}
 use Rattle.std.specs.List.{slice_range}
 use Rattle.std.specs.FinMap.{is_sorted, empty}
-use Rattle.std.specs.declared.sync.Arc.{Arc}
-use Rattle.std.specs.Arc.{arc_value}
+use Rattle.std.proofs.lemmas.Bool.{cases_order}
 use Rattle.std.proofs.lemmas.List.{map-append, take-append-drop}
-use Rattle.hyper_matrix.specs.Counts.{Place, place_cmp, Counts, built, ewise_add, total}
-use Rattle.hyper_matrix.specs.Rows.{Rows, InOrder, cells_of, counts_of, sum_rows, rows_total, AreRising}
+use Rattle.hyper_matrix.specs.Counts.{count_sum, Place, place_cmp, Counts, built, ewise_add, total}
+use Rattle.hyper_matrix.specs.Rows.{Rows, InOrder, cells_of, counts_of, sum_entries, sum_rows, rows_total, AreRising}
+use Rattle.hyper_matrix.specs.Merged.{merged}
 use Rattle.hyper_matrix.specs.Blocks.{all_cells, IsBlock, Grows, GrowsBySum}
 use Rattle.hyper_matrix.specs.Places.{Less, AllPlaces, Precede, IsFirst, BeginsFrom}
 use Rattle.hyper_matrix.specs.Cells.{entry_of, built_of, cell_total}
 use Rattle.mm_text.specs.declared.cell.Cell.{Cell}
-use Rattle.hyper_matrix.proofs.CountLaws.{ewise_add_comm, ewise_add-empty, total-built}
-use Rattle.hyper_matrix.proofs.CellLaws.{counts_of-sum_rows, in_order-sum_rows, sorted_rows, sum_of_cells}
+use Rattle.hyper_matrix.proofs.BlockLaws.{all_cells-append}
+use Rattle.hyper_matrix.proofs.CountLaws.{ewise_add_assoc, built-append, total-ewise_add, ewise_add_comm, ewise_add-empty, total-built, total-ewise_add}
+use Rattle.hyper_matrix.proofs.CellLaws.{counts_of-sum_rows, in_order-sum_rows, sorted_rows, sum_of_cells, total-counts_of}
 use Rattle.hyper_matrix.proofs.BuildLaws.{counts_of-built, total-built_of}
-use Rattle.hyper_matrix.proofs.MergeLaws.{split_at}
+use Rattle.hyper_matrix.proofs.MergeLaws.{split_at, merged-nil, merged_less, merged_greater, merged_same}
 use Rattle.hyper_matrix.proofs.OrderLaws.{all_map, precedes, before_first, before_begin, below_first, columns_rise, next_left, next_right, next_sum}
 
 pub built-nil : built [] ≡ empty
@@ -51,53 +52,76 @@ in_block block b sorted = record { numbers = b.numbers; columns = columns_rise b
 pub sum_rising : (block piece sum : Rows) → IsBlock block → T (is_sorted place_cmp (cells_of block)) → InOrder piece → sum ≡ sum_rows block piece → AreRising sum
 sum_rising block piece sum b sorted order is = subst AreRising (sym is) (in_order-sum_rows block piece (in_block block b sorted) order).numbers
 
-module _ {Z : Type 0} where
-  -- where the first block begins, all of them begin
-  pub first_of_blocks : (blocks : List (Arc Rows Z)) (d : Arc Rows Z) (k : Place) → 0 < length blocks → IsFirst k (cells_of (arc_value (get_or blocks 0 d))) → IsFirst k (all_cells blocks)
-  first_of_blocks [] d k h first = absurd (omega arith)
-  first_of_blocks (block ∷ blocks) d k h first = first_front k (cells_of (arc_value block)) (all_cells blocks) first
+-- a sum of rows has rows where the first has
+some_merged : {X : Type 0} (f : X → X → X) (x : ℕ × X) (xs ys : List (ℕ × X)) → 0 < length (merged f (x ∷ xs) ys)
+some_merged f x xs [] = subst (λ r. 0 < length r) (sym (merged-nil f (x ∷ xs))) (omega arith)
+some_merged f x xs (y ∷ ys) = elim (cases_order x.0 y.0) [
+  | inl same ↦ subst (λ r. 0 < length r) (sym (merged_same f x y xs ys same)) (omega arith)
+  | inr (inl less) ↦ subst (λ r. 0 < length r) (sym (merged_less f x y xs ys less)) (omega arith)
+  | inr (inr more) ↦ subst (λ r. 0 < length r) (sym (merged_greater f x y xs ys more)) (omega arith)
+]
 
-  -- the first block and its cells are added up and go over to what is done
-  pub sum_step : (old rest : List (Arc Rows Z)) (block : Arc Rows Z) (cells : List Cell) (j e : ℕ) (out new : List (Arc Rows Z)) → old ≡ block ∷ rest → j ≤ e → T (is_sorted place_cmp (all_cells out ++ all_cells old)) → T (is_sorted place_cmp (all_cells out ++ map entry_of (drop j cells))) → Precede (map entry_of (slice_range cells j e)) (all_cells rest) → Precede (cells_of (arc_value block)) (map entry_of (drop e cells)) → GrowsBySum out new (cells_of (arc_value block)) (map entry_of (slice_range cells j e)) → T (is_sorted place_cmp (all_cells new ++ all_cells rest)) × (T (is_sorted place_cmp (all_cells new ++ map entry_of (drop e cells))) × (ewise_add (built (all_cells new)) (ewise_add (built (all_cells rest)) (built (map entry_of (drop e cells)))) ≡ ewise_add (built (all_cells out)) (ewise_add (built (all_cells old)) (built (map entry_of (drop j cells))))))
-  sum_step old rest block cells j e out new is g front other cut_left cut_right grows =
-      let done = all_cells out in
-      let a = cells_of (arc_value block) in
-      let p = map entry_of (slice_range cells j e) in
-      let left = all_cells rest in
-      let right = map entry_of (drop e cells) in
-      let s = grows.cells in
-      let here : all_cells old ≡ a ++ left = ap all_cells is in
-      let there : map entry_of (drop j cells) ≡ p ++ right = split_cells cells j e g in
-      let front' : T (is_sorted place_cmp (done ++ (a ++ left))) = subst (λ (r : List (Place × ℕ)). T (is_sorted place_cmp (done ++ r))) here front in
-      let other' : T (is_sorted place_cmp (done ++ (p ++ right))) = subst (λ (r : List (Place × ℕ)). T (is_sorted place_cmp (done ++ r))) there other in
-      let told : all_cells new ≡ done ++ s = grows.grows.told in (
-        subst (λ (r : List (Place × ℕ)). T (is_sorted place_cmp (r ++ left))) (sym told) (next_left done a p left right s front' other' grows.sorted grows.sums cut_left),
-        (
-          subst (λ (r : List (Place × ℕ)). T (is_sorted place_cmp (r ++ right))) (sym told) (next_right done a p left right s front' other' grows.sorted grows.sums cut_right),
-          ap (λ (r : List (Place × ℕ)). ewise_add (built r) (ewise_add (built left) (built right))) told
-              ∙ next_sum done a p left right s front' other' grows.sorted grows.sums
-              ∙ ap (λ (r : List (Place × ℕ)). ewise_add (built done) (ewise_add (built r) (built (p ++ right)))) (sym here)
-              ∙ ap (λ (r : List (Place × ℕ)). ewise_add (built done) (ewise_add (built (all_cells old)) (built r))) (sym there),
-        ),
-      )
+pub sum_some : (block piece sum : Rows) → 0 < length block → sum ≡ sum_rows block piece → 0 < length sum
+sum_some [] piece sum some is = absurd (omega arith)
+sum_some (x ∷ block) piece sum some is = subst (λ (r : Rows). 0 < length r) (sym is) (some_merged sum_entries x block piece)
 
-  -- the rows of a block's sum with cells were added behind
-  pub grows_sum : (old new : List (Arc Rows Z)) (block piece sum : Rows) (cells : List Cell) → IsBlock block → T (is_sorted place_cmp (cells_of block)) → InOrder piece → built (cells_of piece) ≡ built_of cells → sum ≡ sum_rows block piece → Grows old new (cells_of sum) → GrowsBySum old new (cells_of block) (map entry_of cells)
-  grows_sum old new block piece sum cells b sorted order told is grows =
-      let first = in_block block b sorted in
-      let all : InOrder sum = subst InOrder (sym is) (in_order-sum_rows block piece first order) in
-      record {
-        cells = cells_of sum;
-        grows = grows;
-        sorted = sorted_rows sum all.numbers all.columns;
-        sums = sym (counts_of-built sum all) ∙ ap counts_of is ∙ counts_of-sum_rows block piece first order
-            ∙ ap (λ (m : Counts). ewise_add m (counts_of piece)) (counts_of-built block first) ∙ ap (ewise_add (built (cells_of block))) (counts_of-built piece order ∙ told);
-      }
+-- where no rows are added, the rows stay
+pub sum_none : (rows none sum : Rows) → none ≡ [] → sum ≡ sum_rows rows none → sum ≡ rows
+sum_none rows none sum empty is = is ∙ ap (sum_rows rows) empty ∙ merged-nil sum_entries rows
 
-  -- a block alone
-  pub grows_shared : (old new : List (Arc Rows Z)) (block : Rows) (cells : List Cell) → T (is_sorted place_cmp (cells_of block)) → length cells ≡ 0 → Grows old new (cells_of block) → GrowsBySum old new (cells_of block) (map entry_of cells)
-  grows_shared old new block [] sorted none grows = record { cells = cells_of block; grows = grows; sorted = sorted; sums = sym (nothing_last (built (cells_of block))) }
-  grows_shared old new block (x ∷ cells) sorted none grows = absurd (omega arith)
+-- the totals of a block and of other rows make that of their sum
+pub sum_total : (block piece sum : Rows) → IsBlock block → T (is_sorted place_cmp (cells_of block)) → InOrder piece → sum ≡ sum_rows block piece → rows_total sum ≡ rows_total block + rows_total piece
+sum_total block piece sum b sorted order is =
+    let first = in_block block b sorted in
+    ap rows_total is ∙ sym (total-counts_of (sum_rows block piece) (in_order-sum_rows block piece first order)) ∙ ap total (counts_of-sum_rows block piece first order)
+    ∙ total-ewise_add (counts_of block) (counts_of piece) ∙ omega (arith, total-counts_of block first, total-counts_of piece order)
+
+-- where the first block begins, all of them begin
+pub first_of_blocks : (blocks : List Rows) (d : Rows) (k : Place) → 0 < length blocks → IsFirst k (cells_of (get_or blocks 0 d)) → IsFirst k (all_cells blocks)
+first_of_blocks [] d k h first = absurd (omega arith)
+first_of_blocks (block ∷ blocks) d k h first = first_front k (cells_of block) (all_cells blocks) first
+
+-- the first block and its cells are added up and go over to what is done
+pub sum_step : (old rest : List Rows) (block : Rows) (cells : List Cell) (j e : ℕ) (out new : List Rows) → old ≡ block ∷ rest → j ≤ e → T (is_sorted place_cmp (all_cells out ++ all_cells old)) → T (is_sorted place_cmp (all_cells out ++ map entry_of (drop j cells))) → Precede (map entry_of (slice_range cells j e)) (all_cells rest) → Precede (cells_of block) (map entry_of (drop e cells)) → GrowsBySum out new (cells_of block) (map entry_of (slice_range cells j e)) → T (is_sorted place_cmp (all_cells new ++ all_cells rest)) × (T (is_sorted place_cmp (all_cells new ++ map entry_of (drop e cells))) × (ewise_add (built (all_cells new)) (ewise_add (built (all_cells rest)) (built (map entry_of (drop e cells)))) ≡ ewise_add (built (all_cells out)) (ewise_add (built (all_cells old)) (built (map entry_of (drop j cells))))))
+sum_step old rest block cells j e out new is g front other cut_left cut_right grows =
+    let done = all_cells out in
+    let a = cells_of block in
+    let p = map entry_of (slice_range cells j e) in
+    let left = all_cells rest in
+    let right = map entry_of (drop e cells) in
+    let s = grows.cells in
+    let here : all_cells old ≡ a ++ left = ap all_cells is in
+    let there : map entry_of (drop j cells) ≡ p ++ right = split_cells cells j e g in
+    let front' : T (is_sorted place_cmp (done ++ (a ++ left))) = subst (λ (r : List (Place × ℕ)). T (is_sorted place_cmp (done ++ r))) here front in
+    let other' : T (is_sorted place_cmp (done ++ (p ++ right))) = subst (λ (r : List (Place × ℕ)). T (is_sorted place_cmp (done ++ r))) there other in
+    let told : all_cells new ≡ done ++ s = grows.grows.told in (
+      subst (λ (r : List (Place × ℕ)). T (is_sorted place_cmp (r ++ left))) (sym told) (next_left done a p left right s front' other' grows.sorted grows.sums cut_left),
+      (
+        subst (λ (r : List (Place × ℕ)). T (is_sorted place_cmp (r ++ right))) (sym told) (next_right done a p left right s front' other' grows.sorted grows.sums cut_right),
+        ap (λ (r : List (Place × ℕ)). ewise_add (built r) (ewise_add (built left) (built right))) told
+            ∙ next_sum done a p left right s front' other' grows.sorted grows.sums
+            ∙ ap (λ (r : List (Place × ℕ)). ewise_add (built done) (ewise_add (built r) (built (p ++ right)))) (sym here)
+            ∙ ap (λ (r : List (Place × ℕ)). ewise_add (built done) (ewise_add (built (all_cells old)) (built r))) (sym there),
+      ),
+    )
+
+-- the rows of a block's sum with cells were added behind
+pub grows_sum : (old new : List Rows) (block piece sum : Rows) (cells : List Cell) → IsBlock block → T (is_sorted place_cmp (cells_of block)) → InOrder piece → built (cells_of piece) ≡ built_of cells → sum ≡ sum_rows block piece → Grows old new (cells_of sum) → GrowsBySum old new (cells_of block) (map entry_of cells)
+grows_sum old new block piece sum cells b sorted order told is grows =
+    let first = in_block block b sorted in
+    let all : InOrder sum = subst InOrder (sym is) (in_order-sum_rows block piece first order) in
+    record {
+      cells = cells_of sum;
+      grows = grows;
+      sorted = sorted_rows sum all.numbers all.columns;
+      sums = sym (counts_of-built sum all) ∙ ap counts_of is ∙ counts_of-sum_rows block piece first order
+          ∙ ap (λ (m : Counts). ewise_add m (counts_of piece)) (counts_of-built block first) ∙ ap (ewise_add (built (cells_of block))) (counts_of-built piece order ∙ told);
+    }
+
+-- a block alone
+pub grows_shared : (old new : List Rows) (block : Rows) (cells : List Cell) → T (is_sorted place_cmp (cells_of block)) → length cells ≡ 0 → Grows old new (cells_of block) → GrowsBySum old new (cells_of block) (map entry_of cells)
+grows_shared old new block [] sorted none grows = record { cells = cells_of block; grows = grows; sorted = sorted; sums = sym (nothing_last (built (cells_of block))) }
+grows_shared old new block (x ∷ cells) sorted none grows = absurd (omega arith)
 
 -- the totals of a block and of the rows of cells
 pub piece_total : (piece : Rows) (cells : List Cell) → built (cells_of piece) ≡ built_of cells → rows_total piece ≡ cell_total cells
@@ -111,3 +135,25 @@ part_total cells j e h =
     total-append : (xs ys : List Cell) → cell_total (xs ++ ys) ≡ cell_total xs + cell_total ys
     total-append [] ys = omega arith
     total-append (x ∷ xs) ys = omega (arith, total-append xs ys)
+
+-- the cells of the blocks from one on are those up to another and those from there on
+pub part_cells : (blocks : List Rows) (i e : ℕ) → i ≤ e → all_cells (drop i blocks) ≡ all_cells (slice_range blocks i e) ++ all_cells (drop e blocks)
+part_cells blocks i e h = ap all_cells (split_at blocks i e h) ∙ all_cells-append (slice_range blocks i e) (drop e blocks)
+
+-- a part is added, and the rest is left
+pub part_step : (sum next part rest left : List (Place × ℕ)) → left ≡ part ++ rest → built next ≡ ewise_add (built sum) (built part) → ewise_add (built next) (built rest) ≡ ewise_add (built sum) (built left)
+part_step sum next part rest left is sums =
+    ap (λ (m : Counts). ewise_add m (built rest)) sums ∙ ewise_add_assoc (built sum) (built part) (built rest) ∙ ap (ewise_add (built sum)) (sym (built-append part rest))
+    ∙ ap (λ (es : List (Place × ℕ)). ewise_add (built sum) (built es)) (sym is)
+
+pub part_count : (sum next part : List (Place × ℕ)) → built next ≡ ewise_add (built sum) (built part) → count_sum next ≡ count_sum sum + count_sum part
+part_count sum next part sums = omega (arith, total-built next, ap total sums, total-ewise_add (built sum) (built part), total-built sum, total-built part)
+
+-- blocks with cells are blocks
+pub some_blocks : (blocks : List Rows) → 0 < length (all_cells blocks) → 0 < length blocks
+some_blocks [] h = absurd (omega arith)
+some_blocks (block ∷ blocks) h = omega arith
+
+-- cells that are listed behind none
+pub listed : (seen items old : List Cell) (part : List (Place × ℕ)) → seen ≡ items → map entry_of items ≡ map entry_of old ++ part → old ≡ [] → map entry_of seen ≡ part
+listed seen items old part is told none = ap (map entry_of) is ∙ told ∙ ap (λ (cells : List Cell). map entry_of cells ++ part) none

@@ -8,8 +8,6 @@ use Rattle.std.specs.Prelude.{◌≡◌, ℕ, zero, suc, slice_index, ◌-◌, �
 use Rattle.std.specs.List.{filter}
 use Rattle.std.specs.Ordering.{is_lt}
 use Rattle.std.specs.FinMap.{from_entries}
-use Rattle.std.specs.declared.sync.Arc.{Arc}
-use Rattle.std.specs.Arc.{arc_value}
 use Rattle.hyper_matrix.specs.Counts.{Place, Counts, place_cmp, count_sum}
 use Rattle.hyper_matrix.specs.Rows.{Entries, Rows, at_places}
 
@@ -19,14 +17,14 @@ RowsFull [] = Unit {0}
 RowsFull (row ∷ rows) = (0 < length row.1) × RowsFull rows
 
 -- each block has a row
-abbrev pub HaveRows : {Z : Type 0} → List (Arc Rows Z) → Type 0
+abbrev pub HaveRows : List Rows → Type 0
 HaveRows [] = Unit {0}
-HaveRows (block ∷ blocks) = (0 < length (arc_value block)) × HaveRows blocks
+HaveRows (block ∷ blocks) = (0 < length block) × HaveRows blocks
 
 -- the rows of block i
-abbrev pub rows_at : {Z : Type 0} → List (Arc Rows Z) → ℕ → Rows
+abbrev pub rows_at : List Rows → ℕ → Rows
 rows_at [] i = []
-rows_at (block ∷ blocks) zero = arc_value block
+rows_at (block ∷ blocks) zero = block
 rows_at (block ∷ blocks) (suc i) = rows_at blocks i
 
 abbrev pub is_before : Place → Place → Bool

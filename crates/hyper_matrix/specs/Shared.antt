@@ -2,14 +2,13 @@
 use Rattle.std.specs.Prelude.{◌≡◌, ◌<◌, ℕ, List, T}
 use Rattle.std.specs.List.{AllByRecursion}
 use Rattle.std.specs.FinMap.{from_entries, is_sorted}
-use Rattle.std.specs.declared.sync.Arc.{Arc}
 use Rattle.mm_text.specs.Bounds.{IsDimension}
 use Rattle.hyper_matrix.specs.Counts.{Place, place_cmp, Counts, count_sum}
 use Rattle.hyper_matrix.specs.Rows.{Rows}
 use Rattle.hyper_matrix.specs.Blocks.{all_cells, AreBlocks, ends_from}
 
 -- the finite map that blocks stand for
-abbrev pub shared_counts : {Z : Type 0} → List (Arc Rows Z) → Counts
+abbrev pub shared_counts : List Rows → Counts
 shared_counts blocks = from_entries (all_cells blocks)
 
 -- an entry at a place within these dimensions
@@ -17,7 +16,7 @@ abbrev pub LiesWithin : ℕ → ℕ → Place × ℕ → Type 0
 LiesWithin rows cols e = (e.0.0 < rows) × (e.0.1 < cols)
 
 -- blocks as a matrix of these dimensions and this total keeps them
-pub record Holds {Z : Type 0} (rows cols sum : ℕ) (blocks : List (Arc Rows Z)) : Type 0 where
+pub record Holds (rows cols sum : ℕ) (blocks : List Rows) : Type 0 where
   pub is_rows : IsDimension rows
   pub is_cols : IsDimension cols
   pub are_blocks : AreBlocks blocks
@@ -26,6 +25,6 @@ pub record Holds {Z : Type 0} (rows cols sum : ℕ) (blocks : List (Arc Rows Z))
   pub kept : sum ≡ count_sum (all_cells blocks)
 
 -- the same, with the number of cells up to each block beside them
-pub record Keeps {Z : Type 0} (rows cols sum : ℕ) (blocks : List (Arc Rows Z)) (ends : List ℕ) : Type 0 where
+pub record Keeps (rows cols sum : ℕ) (blocks : List Rows) (ends : List ℕ) : Type 0 where
   pub holds : Holds rows cols sum blocks
   pub told : ends ≡ ends_from 0 blocks

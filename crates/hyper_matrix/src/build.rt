@@ -99,6 +99,25 @@ fn is_in_order(cells: &[Cell]) -> bool
     true
 }
 
+impl Rows {
+    /// Puts the rows of a list of cells that is in order in place of these, in their memory where it suffices. On an error
+    /// what is left is not said.
+    pub fn set_sorted(&mut self, alloc: Global, cells: &[Cell]) -> Result<(), AllocError>
+        requires some { 0 < length cells.now }
+        requires sorted { NeverFall cells.now }
+        requires fits { cell_total cells.now < 2 ^ 64 }
+        ensures order { OnOk result (InOrder self.new) }
+        ensures told { OnOk result (built (cells_of self.new) ≡ built_of cells.now) }
+    {
+        let (mut heads, mut entries) = self.take_memory(alloc);
+        heads.reserve_exact(cells.len())?;
+        entries.reserve_exact(cells.len())?;
+        push_cells(&mut heads, &mut entries, cells)?;
+        *self = Rows::from_parts(heads, entries);
+        Ok(())
+    }
+}
+
 /// The rows of a list of cells that is in order.
 pub fn rows_of_sorted(alloc: Global, cells: &[Cell]) -> Result<Rows, AllocError>
     requires some { 0 < length cells.now }
@@ -107,10 +126,9 @@ pub fn rows_of_sorted(alloc: Global, cells: &[Cell]) -> Result<Rows, AllocError>
     ensures order { IfOk result InOrder }
     ensures told { IfOk result (λ rows. built (cells_of rows) ≡ built_of cells.now) }
 {
-    let mut heads = Vec::with_capacity(alloc, cells.len())?;
-    let mut entries = Vec::with_capacity(alloc, cells.len())?;
-    push_cells(&mut heads, &mut entries, cells)?;
-    Ok(Rows::from_parts(heads, entries))
+    let mut rows = Rows::new(alloc);
+    rows.set_sorted(alloc, cells)?;
+    Ok(rows)
 }
 
 // The rows of a list of cells. A list that is in order is read where it stands.

@@ -2,15 +2,16 @@
 //!
 //! A cut may lie inside a row: the block before it ends with a part of the row, and the block behind it begins with the
 //! rest, under the same number. So a row of ten million columns takes as many blocks as ten million rows. Each block
-//! copies its entries and its heads once, one slice of each.
+//! copies its entries and its heads once, one slice of each, the entries to memory with room for `MOST`: a sum can be made there
+//! later, and never needs more.
 ghost use Rattle.std.specs.Prelude.{◌≡◌, ℕ, ◌+◌, ◌-◌, ◌<◌, ◌≤◌, ◌^◌, ◌++◌, OnOk, IfOk, length, drop};
 ghost use Rattle.hyper_matrix.specs.Rows.{AreRising, EndsAt, rows_from, cells_of};
 ghost use Rattle.hyper_matrix.specs.Blocks.{AreBlocks, Grows, EndsIn, cut_heads};
 
-use crate::blocks::{MOST, push_block};
+use crate::block::{Block, MOST};
+use crate::blocks::push_block;
 use crate::rows::{Rows, push_heads};
 use std::alloc::{AllocError, Global};
-use std::sync::Arc;
 
 // The row in which the cell before `to` stands, where row `row` begins at `from`.
 fn row_ending(
@@ -51,7 +52,8 @@ fn part(
     let mut part_heads = Vec::with_capacity(alloc, last - row + 1)?;
     push_heads(&mut part_heads, &heads[row..last], from, 0)?;
     part_heads.push((heads[last].0, to - from))?;
-    let part_entries = Vec::from_slice(alloc, &entries[from..to])?;
+    let mut part_entries = Vec::with_capacity(alloc, MOST)?;
+    part_entries.extend_from_slice(&entries[from..to])?;
     Ok(Rows::from_parts(part_heads, part_entries))
 }
 
@@ -73,7 +75,7 @@ fn row_behind(
 }
 
 /// Appends the cells of `rows` in blocks of at most `MOST` cells, and as many in each but for one or two.
-pub fn push_blocks(alloc: Global, out: &mut Vec<Arc<Rows>>, rows: &Rows) -> Result<(), AllocError>
+pub fn push_blocks(alloc: Global, out: &mut Vec<Block>, rows: &Rows) -> Result<(), AllocError>
     requires blocks { AreBlocks out.old.items }
     requires rising { AreRising rows.now }
     ensures { OnOk result (Grows out.old.items out.new.items (cells_of rows.now)) }

@@ -10,11 +10,11 @@ ghost use Rattle.hyper_matrix.specs.Cells.{entry_of};
 ghost use Rattle.hyper_matrix.specs.Lookup.{TurnsAt, is_before, first_from, block_end, BeginsBehind, IsRowSum, start_of_block, map_of, RowsFull, HaveRows, rows_at};
 ghost use Rattle.hyper_matrix.specs.RowOf.{IsFirst, HasNoneFrom};
 
+use crate::block::Block;
 use crate::lookup;
 use crate::row_sum::{Entry, RowSum};
 use crate::rows::Rows;
 use mm_text::Cell;
-use std::sync::Arc;
 
 // Where a block ends: the place of its last entry.
 fn block_end(rows: &Rows) -> (u64, u64)
@@ -26,7 +26,7 @@ fn block_end(rows: &Rows) -> (u64, u64)
 }
 
 // How many blocks end before the place.
-fn blocks_before(blocks: &[Arc<Rows>], place: (u64, u64)) -> usize
+fn blocks_before(blocks: &[Block], place: (u64, u64)) -> usize
     requires { HaveRows blocks.now }
     ensures turn { TurnsAt (λ k. is_before (block_end (rows_at blocks.now k)) place) (length blocks.now) result }
     ensures full_before { 0 < result → RowsFull (rows_at blocks.now (result - 1)) }
@@ -36,7 +36,7 @@ fn blocks_before(blocks: &[Arc<Rows>], place: (u64, u64)) -> usize
     let mut high = blocks.len();
     'halve: while low < high {
         let middle = low + (high - low) / 2;
-        if lookup::is_before(block_end(&blocks[middle]), place) {
+        if lookup::is_before(block_end(blocks[middle].rows()), place) {
             low = middle + 1;
         } else {
             high = middle;
@@ -46,7 +46,7 @@ fn blocks_before(blocks: &[Arc<Rows>], place: (u64, u64)) -> usize
 }
 
 /// The first cell at the place or behind it.
-pub fn first_from(blocks: &[Arc<Rows>], place: (u64, u64)) -> Option<Cell>
+pub fn first_from(blocks: &[Block], place: (u64, u64)) -> Option<Cell>
     requires full { HaveRows blocks.now }
     requires sorted { T (is_sorted place_cmp (all_cells blocks.now)) }
     ensures { option_map entry_of result ≡ first_from place (all_cells blocks.now) }
@@ -55,11 +55,11 @@ pub fn first_from(blocks: &[Arc<Rows>], place: (u64, u64)) -> Option<Cell>
     if i == blocks.len() {
         return None;
     }
-    lookup::first_from(&blocks[i], place)
+    lookup::first_from(blocks[i].rows(), place)
 }
 
 /// The count at a place.
-pub fn get(blocks: &[Arc<Rows>], row: u64, col: u64) -> Option<u64>
+pub fn get(blocks: &[Block], row: u64, col: u64) -> Option<u64>
     requires full { HaveRows blocks.now }
     requires sorted { T (is_sorted place_cmp (all_cells blocks.now)) }
     ensures { result ≡ get (map_of (all_cells blocks.now)) (row, col) }
@@ -75,7 +75,7 @@ pub fn get(blocks: &[Arc<Rows>], row: u64, col: u64) -> Option<u64>
 }
 
 /// The first entry of a row at a column or behind it.
-pub fn first_in_row(blocks: &[Arc<Rows>], row: u64, from: u64) -> Option<Entry>
+pub fn first_in_row(blocks: &[Block], row: u64, from: u64) -> Option<Entry>
     requires full { HaveRows blocks.now }
     requires sorted { T (is_sorted place_cmp (all_cells blocks.now)) }
     ensures { MatchOption result (HasNoneFrom (map_of (all_cells blocks.now)) row from) (IsFirst (map_of (all_cells blocks.now)) row from) }
@@ -101,7 +101,7 @@ fn begins_behind(rows: &Rows, row: u64) -> bool
 }
 
 /// The entries of a row, counted and summed up.
-pub fn row_total(blocks: &[Arc<Rows>], row: u64) -> RowSum
+pub fn row_total(blocks: &[Block], row: u64) -> RowSum
     requires full { HaveRows blocks.now }
     requires sorted { T (is_sorted place_cmp (all_cells blocks.now)) }
     requires entries { length (all_cells blocks.now) < 2 ^ 64 }
@@ -111,8 +111,8 @@ pub fn row_total(blocks: &[Arc<Rows>], row: u64) -> RowSum
     let mut entries = 0u64;
     let mut total = 0u64;
     let mut i = blocks_before(blocks, (row, 0));
-    'sum: while i < blocks.len() && !begins_behind(&blocks[i], row) {
-        let sum = lookup::row_sum(&blocks[i], row);
+    'sum: while i < blocks.len() && !begins_behind(blocks[i].rows(), row) {
+        let sum = lookup::row_sum(blocks[i].rows(), row);
         entries += sum.entries;
         total += sum.total;
         i += 1;
@@ -146,7 +146,7 @@ fn end_before(ends: &[u64], i: usize) -> u64
 }
 
 /// The i-th cell from 0, by row and then column. `ends` has for each block the number of cells up to its end.
-pub fn cell_at(blocks: &[Arc<Rows>], ends: &[u64], i: u64) -> Option<Cell>
+pub fn cell_at(blocks: &[Block], ends: &[u64], i: u64) -> Option<Cell>
     requires { ends.now ≡ ends_from 0 blocks.now }
     ensures { option_map entry_of result ≡ slice_get (all_cells blocks.now) i }
 {
@@ -155,5 +155,5 @@ pub fn cell_at(blocks: &[Arc<Rows>], ends: &[u64], i: u64) -> Option<Cell>
         return None;
     }
     let within = i - end_before(ends, at);
-    Some(lookup::cell_at(&blocks[at], within as usize))
+    Some(lookup::cell_at(blocks[at].rows(), within as usize))
 }

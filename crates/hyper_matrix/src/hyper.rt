@@ -7,17 +7,17 @@ ghost use Rattle.hyper_matrix.specs.Matrix.{matrix};
 ghost use Rattle.hyper_matrix.specs.Shared.{shared_counts, Holds};
 ghost use Rattle.hyper_matrix.specs.Cells.{cell_total, built_of, first_fault, entry_of};
 
+mod iter;
 mod queries;
 
-use crate::blocks::{count_ends, push_all_cells, share_all, sum_blocks};
+use crate::block::Block;
+use crate::blocks::{count_ends, push_all_cells, share_all, sum_all};
 use crate::build::{rows_of_cells, total_of};
 use crate::cut::push_blocks;
 use crate::judge::{BuildFault, judge_cells};
-use crate::rows::Rows;
 use mm_text::Cell;
 use std::alloc::{AllocError, Global};
 use std::marker::Model;
-use std::sync::Arc;
 
 /// A hypersparse matrix of counts: `GrB_Matrix` of GraphBLAS C API 2.0 over UINT64 and plus.
 ///
@@ -25,14 +25,15 @@ use std::sync::Arc;
 /// to counts. A stored zero is in the map. Every place lies within the dimensions, and the total of all counts is
 /// below 2^64.
 ///
-/// The cells lie in blocks of some hundred, which other matrices may share and nobody changes. An entry takes 16
-/// bytes, each nonempty row another 16, and a block about 130.
+/// The cells lie in blocks of up to 256, mostly of more than half of that. Other matrices may share a block, and nobody
+/// changes one that is shared. Each has room for 256 entries of 16 bytes, 4 KiB, takes another 16 bytes for each of its
+/// nonempty rows, and about 150 beside: so a cell takes 17 to 65 bytes, and a matrix with few cells 4 KiB.
 #[derive(Drop)]
 pub struct Hyper {
     rows: u64,
     cols: u64,
     sum: u64,
-    blocks: Vec<Arc<Rows>>,
+    blocks: Vec<Block>,
     ends: Vec<u64>,
 }
 
@@ -118,8 +119,9 @@ impl Hyper {
     /// The sum of two matrices, as `ewise_add`, made from their own memory.
     ///
     /// Of the matrix with more blocks each block into whose range the other puts nothing is moved, and each other block
-    /// is freed as soon as its sum stands, so that the next sum takes its memory; a block that some other matrix shares
-    /// stays there as it was. The time is that of a pointer for each block and of a copy of the blocks that are touched.
+    /// is added up in the memory that it or the block before it had: none is taken, unless the sum passes 256 cells and is
+    /// cut. A block that some other matrix shares stays there as it was, and its sum takes memory of its own. The time is
+    /// that of a pointer for each block and of a copy of the blocks that are touched.
     ///
     /// # Errors
     ///
@@ -201,7 +203,7 @@ fn assemble(
     rows: u64,
     cols: u64,
     sum: u64,
-    blocks: Vec<Arc<Rows>>,
+    blocks: Vec<Block>,
 ) -> Result<Hyper, AllocError>
     requires { Holds rows cols sum blocks.items }
     ensures { IfOk result (λ m. m ≡ matrix rows cols (shared_counts blocks.items)) }
@@ -222,7 +224,7 @@ fn sum_of(
     rows: u64,
     cols: u64,
     sum: u64,
-    blocks: Vec<Arc<Rows>>,
+    blocks: Vec<Block>,
     small: &Hyper,
 ) -> Result<Hyper, AllocError>
     requires holds { Holds rows cols sum blocks.items }
@@ -236,8 +238,7 @@ fn sum_of(
         return Ok(m);
     }
     let sum = sum + small.sum;
-    let cells = small.cells(alloc)?;
-    let blocks = sum_blocks(alloc, blocks, &cells)?;
+    let blocks = sum_all(alloc, blocks, &small.blocks)?;
     let m = assemble(alloc, rows, cols, sum, blocks)?;
     Ok(m)
 }

@@ -6,11 +6,15 @@
 //! cell than many short ones (`cut`).
 #![tactic(auto)]
 
+mod block;
 mod blocks;
 mod build;
+mod cells;
 mod cut;
 mod find;
 mod hyper;
+#[cfg(test)]
+mod iter_tests;
 mod judge;
 mod laws;
 mod lookup;
@@ -23,6 +27,7 @@ mod rows;
 #[cfg(test)]
 mod tests;
 
+pub use cells::Cells;
 pub use hyper::Hyper;
 pub use judge::BuildFault;
 pub use laws::{

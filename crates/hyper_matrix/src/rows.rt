@@ -4,20 +4,21 @@
 //! column and a count. A head keeps the end and not the start, so that a row pushed behind touches nothing before it.
 //! Columns and counts stand side by side: one copy moves both.
 //!
-//! The sum is a merge by row number. Rows that stand in one run alone are copied together, one slice of heads and one of
-//! entries; a row that stands in both is merged by column. So the time is that of a copy of both runs, and a compare for
-//! each row and for each entry of a row in both.
+//! The sum is a merge by row number. Three rows or more that stand in one run alone are copied together, one slice of
+//! heads and one of entries; a row that stands in both is merged by column. So the time is that of a copy of both runs,
+//! and a compare for each row and for each entry of a row in both.
 ghost use Rattle.hyper_matrix.specs.Lookup.{RowsFull};
 ghost use Rattle.std.specs.Prelude.{◌≡◌, ℕ, [], ◌+◌, ◌-◌, ◌<◌, ◌≤◌, ◌^◌, ◌++◌, OnOk, IfOk, length, slice_index_or, slice_range, All, ◌∷◌, drop, map, take};
 ghost use Rattle.hyper_matrix.specs.Counts.{count_sum};
-ghost use Rattle.hyper_matrix.specs.Rows.{AreRows, Appends, rows_of, start_of, sum_rows, rows_total, KeysBelow, heads_moved, Fit, sum_entries, HeadFrom, cells_of, at_places};
+ghost use Rattle.hyper_matrix.specs.Rows.{AreRows, Appends, rows_of, start_of, sum_rows, rows_total, KeysBelow, heads_moved, Fit, sum_entries, cells_of, at_places};
 ghost use Rattle.hyper_matrix.specs.Cells.{entry_of};
 ghost use Rattle.hyper_matrix.specs.Places.{IsFirst};
 
-use crate::merge::merge_entries;
+use crate::merge::{end_below, merge_entries};
 use mm_text::Cell;
 use std::alloc::{AllocError, Global};
 use std::marker::Model;
+use std::mem;
 
 /// Rows by number, none of them empty, each with its entries by column.
 ///
@@ -55,7 +56,7 @@ fn end_row(heads: &mut Vec<(u64, usize)>, row: u64, end: usize) -> Result<(), Al
     Ok(())
 }
 
-// Appends heads, moved to where their entries now lie.
+// Appends heads, moved to where their entries now lie. Heads that stay where they were are copied as they stand.
 pub fn push_heads(
     heads: &mut Vec<(u64, usize)>,
     from: &[(u64, usize)],
@@ -65,6 +66,10 @@ pub fn push_heads(
     requires { All (λ h. Fit first base h.1) from.now }
     ensures { OnOk result (heads.new.items ≡ heads.old.items ++ heads_moved first base from.now) }
 {
+    if first == base {
+        heads.extend_from_slice(from)?;
+        return Ok(());
+    }
     heads.extend(from.iter().map(|h| (h.0, h.1 - first + base)))?;
     Ok(())
 }
@@ -156,20 +161,6 @@ fn push_row(out: &mut Vec<Cell>, row: u64, entries: &[(u64, u64)]) -> Result<(),
     Ok(())
 }
 
-// The end of the rows from `from` on that are below `row`.
-fn end_below(rows: &Rows, from: usize, row: u64) -> usize
-    requires { from ≤ length rows.now }
-    ensures range { (from ≤ result) × (result ≤ length rows.now) }
-    ensures below { KeysBelow row (slice_range rows.now from result) }
-    ensures rest { HeadFrom row (drop result rows.now) }
-{
-    let mut end = from;
-    'seek: while end < rows.row_count() && rows.row(end) < row {
-        end += 1;
-    }
-    end
-}
-
 // Appends rows i to j of `from`.
 pub fn push_rows(
     heads: &mut Vec<(u64, usize)>,
@@ -185,6 +176,64 @@ pub fn push_rows(
 {
     push_run(heads, entries, &from.heads, &from.entries, i, j)?;
     Ok(())
+}
+
+// Appends a row.
+#[inline(always)]
+fn push_one(
+    heads: &mut Vec<(u64, usize)>,
+    entries: &mut Vec<(u64, u64)>,
+    row: u64,
+    from: &[(u64, u64)],
+) -> Result<(), AllocError>
+    requires well { AreRows heads.old.items entries.old.items }
+    requires some { 0 < length from.now }
+    ensures { OnOk result (Appends heads.old.items entries.old.items heads.new.items entries.new.items ((row, from.now) ∷ [])) }
+{
+    if from.len() == 1 {
+        entries.push(from[0])?;
+    } else {
+        entries.extend_from_slice(from)?;
+    }
+    let end = entries.len();
+    end_row(heads, row, end)?;
+    Ok(())
+}
+
+// The end of the rows from `from` on that are below `row`.
+#[inline(always)]
+fn rows_below(rows: &Rows, from: usize, row: u64) -> usize
+    requires { from ≤ length rows.now }
+    ensures range { (from ≤ result) × (result ≤ length rows.now) }
+    ensures below { KeysBelow row (slice_range rows.now from result) }
+{
+    end_below(&rows.heads, from, row)
+}
+
+// Appends rows from i on that are below `row`, and gives their end: all of them where there are three or more, and else
+// the first alone, since a copy costs more than two pushes.
+#[inline(always)]
+fn push_rows_below(
+    heads: &mut Vec<(u64, usize)>,
+    entries: &mut Vec<(u64, u64)>,
+    from: &Rows,
+    i: usize,
+    row: u64,
+) -> Result<usize, AllocError>
+    requires well { AreRows heads.old.items entries.old.items }
+    requires within { i < length from.now }
+    requires first { (slice_index_or from.now i (0, [])).0 < row }
+    ensures range { IfOk result (λ end. (i < end) × (end ≤ length from.now)) }
+    ensures below { IfOk result (λ end. KeysBelow row (slice_range from.now i end)) }
+    ensures told { IfOk result (λ end. Appends heads.old.items entries.old.items heads.new.items entries.new.items (slice_range from.now i end)) }
+{
+    if from.row_count() - i > 2 && from.row(i + 2) < row {
+        let end = rows_below(from, i + 1, row);
+        push_rows(heads, entries, from, i, end)?;
+        return Ok(end);
+    }
+    push_one(heads, entries, from.row(i), from.entries(i))?;
+    Ok(i + 1)
 }
 
 // Appends a row, the sum of two.
@@ -206,7 +255,7 @@ fn push_sum(
     Ok(())
 }
 
-// Appends the sum of two runs of rows: rows that stand in one run alone are copied together.
+// Appends the sum of two runs of rows.
 fn push_sums(
     heads: &mut Vec<(u64, usize)>,
     entries: &mut Vec<(u64, u64)>,
@@ -223,13 +272,9 @@ fn push_sums(
         let row = a.row(i);
         let other = b.row(j);
         if row < other {
-            let end = end_below(a, i + 1, other);
-            push_rows(heads, entries, a, i, end)?;
-            i = end;
+            i = push_rows_below(heads, entries, a, i, other)?;
         } else if other < row {
-            let end = end_below(b, j + 1, row);
-            push_rows(heads, entries, b, j, end)?;
-            j = end;
+            j = push_rows_below(heads, entries, b, j, row)?;
         } else {
             push_sum(heads, entries, row, a.entries(i), b.entries(j))?;
             i += 1;
@@ -242,6 +287,39 @@ fn push_sums(
 }
 
 impl Rows {
+    /// No rows. Takes no memory.
+    pub fn new(alloc: Global) -> Rows
+        ensures { result ≡ [] }
+    {
+        let heads = Vec::new(alloc);
+        let entries = Vec::new(alloc);
+        Rows { heads, entries }
+    }
+
+    /// No rows, with room for so many cells (rows and entries) before memory is taken again.
+    pub fn with_room(alloc: Global, cells: usize) -> Result<Rows, AllocError>
+        ensures { IfOk result (λ rows. rows ≡ []) }
+    {
+        let heads = Vec::with_capacity(alloc, cells)?;
+        let entries = Vec::with_capacity(alloc, cells)?;
+        Ok(Rows { heads, entries })
+    }
+
+    /// Leaves no rows, and hands out the memory that they had, to be filled anew.
+    pub fn take_memory(&mut self, alloc: Global) -> (Vec<(u64, usize)>, Vec<(u64, u64)>)
+        ensures heads { result.0.items ≡ [] }
+        ensures entries { result.1.items ≡ [] }
+        ensures rest { self.new ≡ [] }
+    {
+        let Rows {
+            mut heads,
+            mut entries,
+        } = mem::replace(self, Rows::new(alloc));
+        heads.clear();
+        entries.clear();
+        (heads, entries)
+    }
+
     /// The number of rows.
     pub fn row_count(&self) -> usize
         ensures count { result ≡ length self.now }
@@ -275,21 +353,28 @@ impl Rows {
         row_entries(&self.heads, &self.entries, i)
     }
 
+    /// Puts the sum of two runs in place of these rows, in their memory where it suffices, and else in memory for
+    /// both. On an error what is left is not said.
+    pub fn set_sum(&mut self, alloc: Global, a: &Rows, b: &Rows) -> Result<(), AllocError>
+        requires { rows_total a.now + rows_total b.now < 2 ^ 64 }
+        ensures { OnOk result (self.new ≡ sum_rows a.now b.now) }
+    {
+        let (mut heads, mut entries) = self.take_memory(alloc);
+        heads.reserve_exact(a.heads.len().saturating_add(b.heads.len()))?;
+        entries.reserve_exact(a.entries.len().saturating_add(b.entries.len()))?;
+        push_sums(&mut heads, &mut entries, a, b)?;
+        *self = Rows { heads, entries };
+        Ok(())
+    }
+
     /// The sum of two runs, in memory for both.
     pub fn add(&self, alloc: Global, other: &Rows) -> Result<Rows, AllocError>
         requires { rows_total self.now + rows_total other.now < 2 ^ 64 }
         ensures { IfOk result (λ rows. rows ≡ sum_rows self.now other.now) }
     {
-        let mut heads = Vec::with_capacity(
-            alloc,
-            self.heads.len().saturating_add(other.heads.len()),
-        )?;
-        let mut entries = Vec::with_capacity(
-            alloc,
-            self.entries.len().saturating_add(other.entries.len()),
-        )?;
-        push_sums(&mut heads, &mut entries, self, other)?;
-        Ok(Rows { heads, entries })
+        let mut sum = Rows::new(alloc);
+        sum.set_sum(alloc, self, other)?;
+        Ok(sum)
     }
 
     /// The number of cells.

@@ -34,14 +34,15 @@ fn has(alloc: Global, m: &Hyper, want: &[Cell]) -> Result<bool, AllocError> {
     if cells.len() != want.len() || m.entries() != want.len() as u64 {
         return Ok(false);
     }
+    let mut walk = m.iter();
     let mut total = 0u64;
     for i in 0..want.len() {
-        if i >= cells.len() || cells[i] != want[i] {
+        if i >= cells.len() || cells[i] != want[i] || walk.next() != Some(want[i]) {
             return Ok(false);
         }
         total = total.saturating_add(want[i].count);
     }
-    Ok(m.total() == total)
+    Ok(m.total() == total && walk.next().is_none())
 }
 
 fn fault_of(outcome: Result<Hyper, BuildFault>) -> Option<BuildFault> {
@@ -194,6 +195,37 @@ fn sums_over_blocks(rt: HostRuntime) -> Result<(), Fail> {
         let twos = grid(alloc, shape, 2, 0)?;
         let want = grid(alloc, shape, 3, 1)?;
         assert!(rt; adds_up(alloc, &ones, &twos, &want)?, "{} cells", shape.0);
+    }
+    Ok(())
+}
+
+// Whether a sum has these cells. Where it is refused memory, both matrices are to have their cells still, and the sum is to come
+// out the next time.
+fn outlasts_refusal(
+    alloc: Global,
+    (a, xs): (&Hyper, &[Cell]),
+    (b, ys): (&Hyper, &[Cell]),
+    want: &[Cell],
+) -> Result<bool, AllocError> {
+    match sum_of(alloc, a, b) {
+        Ok(Some(sum)) => has(alloc, &sum, want),
+        Ok(None) => Ok(false),
+        Err(_) => Ok(has(alloc, a, xs)? && has(alloc, b, ys)? && sum_has(alloc, a, b, want)?),
+    }
+}
+
+// `rt try --test --fail-alloc 1..` refuses each growth in turn, those of the sums among them.
+#[test]
+fn refused_sums(rt: HostRuntime) -> Result<(), Fail> {
+    let alloc = rt.alloc();
+    for shape in [(600, 1, 97), (600, 700, 2), (600, 10, 1)] {
+        let ones = grid(alloc, shape, 1, 1)?;
+        let twos = grid(alloc, shape, 2, 0)?;
+        let want = grid(alloc, shape, 3, 1)?;
+        let a = made(Hyper::build(alloc, SIDE, SIDE, &ones))?;
+        let b = made(Hyper::build(alloc, SIDE, SIDE, &twos))?;
+        assert!(rt; outlasts_refusal(alloc, (&a, &ones), (&b, &twos), &want)?);
+        assert!(rt; outlasts_refusal(alloc, (&b, &twos), (&a, &ones), &want)?);
     }
     Ok(())
 }

@@ -23,5 +23,6 @@ pub mod SinkLemmas
 pub mod ScriptLemmas
 pub mod KnownLemmas
 pub mod DigitLemmas
+pub mod EightLemmas
 pub mod EntryLemmas
 pub mod TakenLemmas

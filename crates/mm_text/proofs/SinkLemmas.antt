@@ -173,10 +173,14 @@ pub on_ok_both : {T E P Q R : Type 0} (r : Result T E) → (P → Q → R) → O
 on_ok_both (Ok x) f p q = f p q
 on_ok_both (Err e) f p q = tt
 
--- one line more
-pub written_next : {S : Type 0} (step : S → Result (List ℕ) DeviceFault → S → Type 0) (failures : S → ℕ) (s t : S) (text : List ℕ) (cells : List Cell) (i : ℕ) (d : Cell) (old new : WriterState) →
-    HasWritten step failures s t (text ++ entry_lines (take i cells)) old → i < length cells → new.taken ≡ old.taken → new.pending ≡ old.pending ++ entry_line (get_or cells i d) →
-    HasWritten step failures s t (text ++ entry_lines (take (i + 1) cells)) new
-written_next step failures s t text cells i d old new a within taken pending =
-    subst (λ v. HasWritten step failures s t v new) (entry_lines_more text cells i d within)
-    (written_more step failures s t (text ++ entry_lines (take i cells)) (entry_line (get_or cells i d)) old new a taken pending)
+-- one line more, or a stop within it
+pub written_next : {S : Type 0} (step : S → Result (List ℕ) DeviceFault → S → Type 0) (failures : S → ℕ) (s t : S) (text : List ℕ) (cells : List Cell) (i : ℕ) (d : Cell) (writer : WriterState) → i < length cells →
+    HasWritten step failures s t ((text ++ entry_lines (take i cells)) ++ entry_line (get_or cells i d)) writer → HasWritten step failures s t (text ++ entry_lines (take (i + 1) cells)) writer
+written_next step failures s t text cells i d writer within a = subst (λ v. HasWritten step failures s t v writer) (entry_lines_more text cells i d within) a
+
+pub stopped_within : {S : Type 0} (step : S → Result (List ℕ) DeviceFault → S → Type 0) (failures : S → ℕ) (s t : S) (text : List ℕ) (cells : List Cell) (i : ℕ) (d : Cell) (n : ℕ) → i < length cells →
+    HasStopped step failures s t ((text ++ entry_lines (take i cells)) ++ entry_line (get_or cells i d)) n → HasStopped step failures s t (text ++ entry_lines cells) n
+stopped_within step failures s t text cells i d n within a =
+    subst (λ v. HasStopped step failures s t v n) (entry_lines_cut text cells (i + 1))
+    (has_stopped_longer step failures s t _ (entry_lines (drop (i + 1) cells)) n
+    (subst (λ v. HasStopped step failures s t v n) (entry_lines_more text cells i d within) a))

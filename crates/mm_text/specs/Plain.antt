@@ -2,7 +2,7 @@
 use Rattle.std.specs.Prelude.{◌≡◌, ◌⊎◌, ℕ, ◌+◌, ◌<◌, ◌≤◌, true, false, List, [], ◌∷◌, ◌++◌, length, Ok}
 use Rattle.std.specs.List.{list_all}
 use Rattle.std.specs.Char.{is_ascii_digit}
-use Rattle.std.specs.Str.Parse.{digits_value}
+use Rattle.std.specs.Str.Parse.{digits_value, digits_value_after}
 use Rattle.mm_text.specs.Lines.{is_blank, is_skipped, content, IsLine}
 use Rattle.mm_text.specs.Judging.{index, entry}
 use Rattle.mm_text.specs.declared.cell.Cell.{Cell}
@@ -17,6 +17,22 @@ pub record BeginsWithDigits (bytes : List ℕ) (n : ℕ) (rest : List ℕ) : Typ
   pub word : List ℕ
   pub whole : bytes ≡ word ++ rest
   pub numeral : IsShortNumeral word
+  pub value : digits_value 10 word ≡ n
+
+-- The bytes begin with at most so many digits, which with a number before them write n, and go on like this.
+pub record GoesOnWithDigits (most start : ℕ) (bytes : List ℕ) (n : ℕ) (rest : List ℕ) : Type 0 where
+  pub word : List ℕ
+  pub whole : bytes ≡ word ++ rest
+  pub digits : list_all is_ascii_digit word ≡ true
+  pub short : length word ≤ most
+  pub value : digits_value_after 10 start word ≡ n
+
+-- The bytes begin with eight digits, which write n, and go on like this.
+pub record BeginsWithEight (bytes : List ℕ) (n : ℕ) (rest : List ℕ) : Type 0 where
+  pub word : List ℕ
+  pub whole : bytes ≡ word ++ rest
+  pub digits : list_all is_ascii_digit word ≡ true
+  pub eight : length word ≡ 8
   pub value : digits_value 10 word ≡ n
 
 -- The bytes begin with a word that writes an index, counted here from 0, and a blank, and go on like this.

@@ -1,5 +1,5 @@
 -- What a text spells, and its first fault.
-use Rattle.std.specs.Prelude.{◌≡◌, ℕ, ◌+◌, ◌*◌, ◌<◌, ◌≤◌, Bool, true, List, [], ◌∷◌, ◌++◌, length, map, flat_map, nat_lt, if◌then◌else◌, Option, Some, Ok, Err, codes, decimal}
+use Rattle.std.specs.Prelude.{◌≡◌, ℕ, ◌+◌, ◌*◌, ◌<◌, ◌≤◌, Bool, true, List, [], ◌∷◌, ◌++◌, length, map, flat_map, nat_lt, if◌then◌else◌, Option, Some, Ok, Err}
 pub use Rattle.mm_text.specs.Canonical.{numbers_line, canonical}
 use Rattle.mm_text.specs.Lines.{lines_of, bytes_of, line_at, content, counts, is_limited, counted, OverrunsAt}
 use Rattle.mm_text.specs.Judging.{◌>>=◌, refuse_if, banner, size, entry, cells_of, fault_of}

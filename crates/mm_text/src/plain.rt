@@ -4,8 +4,13 @@
 //! the reader's state stays in local variables for as many of them as stand in a row: a third of the time that cutting
 //! each line at its LF, then at its blanks, takes. All other lines, and each fault, are left to the judge that knows
 //! every form.
+//!
+//! An index is read by eight digits, as a word, and then digit by digit: where it has 18, a line takes two thirds of
+//! the time that digit by digit takes. A count is read digit by digit, since most have few.
 ghost use Rattle.std.specs.Prelude.{◌≡◌, ℕ, ◌+◌, ◌*◌, ◌<◌, ◌≤◌, ◌^◌, [], length, take, IfOk, IfErr, IfSome, OnOk, vec_len};
-ghost use Rattle.mm_text.specs.Plain.{BeginsWithDigits, BeginsWithIndex, BeginsWithCount, BeginsWithEntry};
+ghost use Rattle.std.specs.Int.{w64, to_le_bytes};
+ghost use Rattle.std.specs.Int.Digits.{AllBelowBase, number_from_digits};
+ghost use Rattle.mm_text.specs.Plain.{GoesOnWithDigits, BeginsWithEight, BeginsWithDigits, BeginsWithIndex, BeginsWithCount, BeginsWithEntry};
 ghost use Rattle.mm_text.specs.Stages.{Advances};
 ghost use Rattle.mm_text.specs.Streams.{Shows};
 ghost use Rattle.mm_text.specs.declared.limits.TextLimits.{TextLimits};
@@ -21,12 +26,45 @@ use std::cmp;
 /// So many digits write a number of 64 bits, whatever they are.
 const MAX_DIGITS: usize = 19;
 
-/// The number that the first digits write, at most `MAX_DIGITS` of them, and what follows them.
-fn plain_number(bytes: &[u8]) -> (u64, &[u8])
-    ensures { BeginsWithDigits bytes.now result.0 result.1.now }
+/// So many digits are read at once, one a byte of a word.
+const WORD_DIGITS: usize = 8;
+
+/// The number that eight digits write, of which each byte of the word holds one, the first the lowest.
+///
+/// Neighbours are joined, all of the word at once: digits to pairs, pairs to fours, and the two fours.
+fn eight_value(digits: u64) -> u64
+    requires { AllBelowBase 10 (to_le_bytes w64 digits) }
+    ensures { result ≡ number_from_digits 10 (to_le_bytes w64 digits) }
 {
-    let front = &bytes[..cmp::min(bytes.len(), MAX_DIGITS)];
-    let mut value = 0u64;
+    let pairs = (digits * 10 + (digits >> 8)) & 0x00ff_00ff_00ff_00ff;
+    let fours = (pairs * 100 + (pairs >> 16)) & 0x0000_ffff_0000_ffff;
+    (fours * 10_000 + (fours >> 32)) & 0xffff_ffff
+}
+
+/// The number that the first eight bytes write, and what follows them, if all of these are digits.
+///
+/// A byte that is not below 10 has one of its upper four bits set, or gets one from adding 6.
+fn eight_digits(bytes: &[u8]) -> Option<(u64, &[u8])>
+    ensures { IfSome result (λ p. BeginsWithEight bytes.now p.0 p.1.now) }
+{
+    let (front, rest) = bytes.split_first_chunk::<WORD_DIGITS>()?;
+    let digits = u64::from_le_bytes(*front).wrapping_sub(0x3030_3030_3030_3030);
+    if (digits | digits.wrapping_add(0x0606_0606_0606_0606)) & 0xf0f0_f0f0_f0f0_f0f0 != 0 {
+        return None;
+    }
+    Some((eight_value(digits), rest))
+}
+
+/// The number that `value` and the first digits after it write, at most so many of them, and what follows them.
+///
+/// Inlined, since each caller knows how many, so that no loop is left.
+#[inline(always)]
+fn more_digits(most: usize, value: u64, bytes: &[u8]) -> (u64, &[u8])
+    requires { (value + 1) * 10 ^ most ≤ 10 ^ 19 }
+    ensures { GoesOnWithDigits most value bytes.now result.0 result.1.now }
+{
+    let front = &bytes[..cmp::min(bytes.len(), most)];
+    let mut value = value;
     for (i, byte) in front.iter().enumerate() {
         if !byte.is_ascii_digit() {
             return (value, &bytes[i..]);
@@ -36,7 +74,32 @@ fn plain_number(bytes: &[u8]) -> (u64, &[u8])
     (value, &bytes[front.len()..])
 }
 
+/// The number that the first digits write, at most `MAX_DIGITS` of them, and what follows them, read digit by digit.
+///
+/// The fastest where they are fewer than eight.
+fn short_number(bytes: &[u8]) -> (u64, &[u8])
+    ensures { BeginsWithDigits bytes.now result.0 result.1.now }
+{
+    more_digits(MAX_DIGITS, 0, bytes)
+}
+
+/// The same, read by eight digits where so many stand: at most two words, then at most 11 or 3 digits one by one.
+fn plain_number(bytes: &[u8]) -> (u64, &[u8])
+    ensures { BeginsWithDigits bytes.now result.0 result.1.now }
+{
+    let Some((high, rest)) = eight_digits(bytes) else {
+        return short_number(bytes);
+    };
+    let Some((low, rest)) = eight_digits(rest) else {
+        return more_digits(MAX_DIGITS - WORD_DIGITS, high, rest);
+    };
+    more_digits(MAX_DIGITS - 2 * WORD_DIGITS, high * 100_000_000 + low, rest)
+}
+
 /// The index that digits before a blank write, counted from 0, and what follows the blank.
+///
+/// Inlined, since a call for each of a line's two indices takes a fifth of the time of reading it.
+#[inline(always)]
 fn plain_index(limit: u64, bytes: &[u8]) -> Option<(u64, &[u8])>
     ensures { IfSome result (λ p. BeginsWithIndex limit bytes.now p.0 p.1.now) }
 {
@@ -60,7 +123,7 @@ fn plain_index(limit: u64, bytes: &[u8]) -> Option<(u64, &[u8])>
 fn plain_count(bytes: &[u8]) -> Option<(u64, &[u8])>
     ensures { IfSome result (λ p. BeginsWithCount bytes.now p.0 p.1.now) }
 {
-    let (n, rest) = plain_number(bytes);
+    let (n, rest) = short_number(bytes);
     if rest.len() == bytes.len() {
         return None;
     }
@@ -171,6 +234,38 @@ mod tests {
                 24
             )
         );
+        assert!(rt; is_taken(b"00000001 0000000123 12345678\n", (0, 122, 12_345_678), 29));
+        assert!(rt;
+            is_taken(
+                b"0000000000000002 123456789012345678 90\n",
+                (1, 123_456_789_012_345_677, 90),
+                39
+            )
+        );
+        assert!(rt;
+            is_taken(
+                b"0000000000000000003 1000000000000000000 1\n",
+                (2, 999_999_999_999_999_999, 1),
+                42
+            )
+        );
+        for (text, col) in [
+            ("1 8 0\n", 8),
+            ("1 87 0\n", 87),
+            ("1 876 0\n", 876),
+            ("1 8765 0\n", 8765),
+            ("1 87654 0\n", 87654),
+            ("1 876543 0\n", 876543),
+            ("1 8765432 0\n", 8765432),
+            ("1 87654321 0\n", 87654321),
+            ("1 876543219 0\n", 876543219),
+            ("1 876543219876543 0\n", 876543219876543),
+            ("1 8765432198765432 0\n", 8765432198765432),
+            ("1 87654321987654321 0\n", 87654321987654321),
+            ("1 876543219876543219 0\n", 876543219876543219),
+        ] {
+            assert!(rt; is_taken(text.as_bytes(), (0, col - 1, 0), text.len()));
+        }
         for left in [
             "",
             "\n",
@@ -191,6 +286,14 @@ mod tests {
             "1 1 00000000000000000001\n",
             "%1 1 1\n",
             "1,1 1\n",
+            "1 1234567: 1\n",
+            "1 /2345678 1\n",
+            "1 123:5678 1\n",
+            "1 1234é78 1\n",
+            "1 123456781234?678 1\n",
+            "1 00000000000000000001 1\n",
+            "12345678",
+            "1234567812345678",
         ] {
             assert!(rt; plain_entry(3, 1 << 60, left.as_bytes()).is_none());
         }

@@ -6,7 +6,7 @@
 //! call for each line would cost more than the formatting.
 ghost use Rattle.std.specs.Prelude.{◌≡◌, ℕ, ◌+◌, ◌-◌, ◌*◌, ◌<◌, ◌≤◌, ◌^◌, List, [], ◌++◌, length, drop, IfOk, OnOk, IfErr};
 ghost use Rattle.arrayvec.specs.ArrayString.{array_string_len};
-ghost use Rattle.mm_text.specs.Bounds.{IsDimension, AreWithin};
+ghost use Rattle.mm_text.specs.Bounds.{IsDimension, IsWithin, AreWithin};
 ghost use Rattle.mm_text.specs.Canonical.{numbers_line, canonical_head, entry_line, entry_lines, canonical};
 ghost use Rattle.mm_text.specs.Writing.{HasTaken, HasStopped, HasWritten};
 
@@ -62,7 +62,8 @@ fn push_line(buffer: &mut ArrayString<CAPACITY>, first: u64, second: u64, third:
     buffer.push_str("\n");
 }
 
-/// A text on its way to a sink, for cells that come in blocks: `new`, `write_cells` for each block, and `finish`.
+/// A text on its way to a sink, for cells that come one after the other or in blocks: `new`, `write_cell` for each cell or
+/// `write_cells` for each block, and `finish`.
 ///
 /// Every call is to be given the same sink. The writer holds a buffer of 16,384 bytes in itself and takes no memory.
 /// After a call that answered Err it is of no more use, and what it still held is lost. Contracts see it as a
@@ -163,6 +164,28 @@ impl TextWriter {
         Ok(())
     }
 
+    /// Appends the line of one cell: row and column counted from 1, and the count.
+    ///
+    /// At an Err `written` counts from the first byte of the text, and takes in what earlier calls wrote. Takes time in
+    /// proportion to the bytes, and calls the sink only where the buffer has no room for another line.
+    pub fn write_cell<W: Sink>(&mut self, w: &mut W, cell: Cell) -> Result<(), WriteFault>
+        requires ready { W.failure_count w.old + 1 < 2 ^ 64 }
+        requires within { IsWithin (2 ^ 60) (2 ^ 60) cell }
+        requires declared { 0 < self.old.left }
+        ensures left { OnOk result (self.new.left + 1 ≡ self.old.left) }
+        ensures ok { OnOk result ((s : W) (text : List ℕ) →
+            HasWritten W.write_takes W.failure_count s w.old text self.old →
+            HasWritten W.write_takes W.failure_count s w.new (text ++ entry_line cell) self.new) }
+        ensures err { IfErr result (λ f. (s : W) (text : List ℕ) →
+            HasWritten W.write_takes W.failure_count s w.old text self.old →
+            HasStopped W.write_takes W.failure_count s w.new (text ++ entry_line cell) f.written) }
+        ensures failures { OnOk result (W.failure_count w.new ≡ W.failure_count w.old) }
+    {
+        self.make_room(w)?;
+        self.push_cell(cell);
+        Ok(())
+    }
+
     /// Appends a line for each of the cells, in this order: row and column counted from 1, and the count.
     ///
     /// At an Err `written` counts from the first byte of the text, and takes in what earlier calls wrote. Takes time in
@@ -181,8 +204,7 @@ impl TextWriter {
         ensures failures { OnOk result (W.failure_count w.new ≡ W.failure_count w.old) }
     {
         for cell in cells {
-            self.make_room(w)?;
-            self.push_cell(*cell);
+            self.write_cell(w, *cell)?;
         }
         Ok(())
     }

@@ -133,9 +133,12 @@ mod tests {
         assert!(rt; are_within(LARGEST, LARGEST, &block));
         assert_eq!(rt; writer.write_cells(&mut counted, &block), Ok(()));
         assert_eq!(rt; writer.write_cells(&mut counted, &[]), Ok(()));
-        let last = [cell(1, 1, 3)];
-        assert!(rt; are_within(LARGEST, LARGEST, &last));
-        assert_eq!(rt; writer.write_cells(&mut counted, &last), Ok(()));
+        let last = Cell {
+            row: 1,
+            col: 1,
+            count: 3,
+        };
+        assert_eq!(rt; writer.write_cell(&mut counted, last), Ok(()));
         assert_eq!(rt; writer.finish(&mut counted), Ok(()));
         let want = format!(in rt.alloc(); "{BANNER}2 2 3\n1 1 1\n1 2 2\n2 2 3\n")?;
         assert!(rt; counted.into_inner().as_slice() == want.as_bytes());

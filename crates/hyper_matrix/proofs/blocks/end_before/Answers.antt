@@ -1,5 +1,4 @@
-use Rattle.std.proofs.Common.{T, length, drop, map, subst, sym, ap, ◌∙◌, ◌≡◌, [], arith}
-use Rattle.std.specs.Arc.{arc_value}
+use Rattle.std.proofs.Common.{T, length, drop, map, subst, sym, ap, ◌≡◌, [], arith}
 use Rattle.std.specs.List.{slice_range}
 use Rattle.std.specs.FinMap.{is_sorted}
 use Rattle.std.proofs.lemmas.List.{drop_all}
@@ -15,7 +14,7 @@ use Rattle.hyper_matrix.proofs.blocks.end_before.Goals as goal
 first_place : (c : goal.After-end_below) → IsFirst (c.first-row.result.0, c.first-row.result.1) (all_cells c.args.blocks.now.items)
 first_place c =
     first_of_blocks c.args.blocks.now.items c.in-Some.next.now _ (omega (arith, c.in-Some.ensures.item.3.0))
-    (subst (λ r. IsFirst (c.first-row.result.0, c.first-row.result.1) (cells_of r)) (c.deref.ensures ∙ ap arc_value c.in-Some.ensures.lookup) c.first-row.ensures)
+    (subst (λ r. IsFirst (c.first-row.result.0, c.first-row.result.1) (cells_of r)) c.in-Some.ensures.lookup c.first-row.ensures)
 
 pub returns-in-Some-clause-left : goal.returns-in-Some-clause-left
 returns-in-Some-clause-left c = ends_left _ (all_cells c.args.blocks.now.items) _ (first_place c) c.requires.sorted c.end_below.ensures.below

@@ -1,29 +1,40 @@
 use Rattle.std.proofs.Common.{ap, ◌∙◌, refl, arith}
-use Rattle.std.specs.Arc.{arc_value}
 use Rattle.hyper_matrix.specs.Rows.{Rows, rows_total, sum_rows}
 use Rattle.hyper_matrix.proofs.BlockLaws.{grows_by}
 use Rattle.hyper_matrix.proofs.CellLaws.{sum_of_cells}
 use Rattle.hyper_matrix.proofs.OrderLaws.{never_fall}
-use Rattle.hyper_matrix.proofs.SumLaws.{grows_sum, grows_shared, sum_rising, piece_total}
+use Rattle.hyper_matrix.proofs.SumLaws.{grows_sum, grows_shared, sum_rising, sum_some, sum_total, piece_total}
 use Rattle.hyper_matrix.proofs.blocks.push_sum.Goals as goal
 
-pub returns-then-cells-eq0 : goal.returns-then-cells-eq0
-returns-then-cells-eq0 c = grows_shared c.args.out.now.items c.push.new.self.items (arc_value c.args.block) c.args.cells.now c.requires.sorted (omega arith) (grows_by _ _ _ _ c.requires.blocks c.in_ok-push.ensures.items refl c.requires.other)
+pub returns-then-cells-eq0-clause-sum : goal.returns-then-cells-eq0-clause-sum
+returns-then-cells-eq0-clause-sum c = grows_shared c.args.out.now.items c.push.new.self.items c.args.block c.args.cells.now c.requires.sorted (omega arith) (grows_by _ _ _ _ c.requires.blocks c.in_ok-push.ensures.items refl c.requires.other)
 
-pub rows_of_sorted-requires-clause-sorted : goal.rows_of_sorted-requires-clause-sorted
-rows_of_sorted-requires-clause-sorted c = never_fall c.args.cells.now c.requires.cells
+pub set_sorted-requires-clause-sorted : goal.set_sorted-requires-clause-sorted
+set_sorted-requires-clause-sorted c = never_fall c.args.cells.now c.requires.cells
 
-pub add-requires : goal.add-requires
-add-requires c = omega (arith, ap rows_total c.deref.ensures, sum_of_cells (arc_value c.args.block), piece_total c.in_ok-piece.piece c.args.cells.now c.in_ok-piece.ensures.told, c.requires.fits)
+pub set_sum-requires : goal.set_sum-requires
+set_sum-requires c = omega (arith, ap rows_total c.rows.ensures, sum_of_cells c.args.block, piece_total c.set_sorted.new.self c.args.cells.now c.in_ok-set_sorted.ensures.told, c.requires.fits)
 
-pub push_block-requires-clause-rising : goal.push_block-requires-clause-rising
-push_block-requires-clause-rising c = sum_rising (arc_value c.args.block) c.in_ok-piece.piece c.in_ok-sum.sum c.requires.other c.requires.sorted c.in_ok-piece.ensures.order (c.in_ok-sum.ensures ∙ ap (λ (r : Rows). sum_rows r c.in_ok-piece.piece) c.deref.ensures)
+pub push_changed-requires-clause-some : goal.push_changed-requires-clause-some
+push_changed-requires-clause-some c = sum_some c.args.block c.set_sorted.new.self _ c.requires.other.some (c.in_ok-set_sum.ensures ∙ ap (λ (r : Rows). sum_rows r c.set_sorted.new.self) c.rows.ensures)
 
-pub returns-then-entry_count-le-MOST : goal.returns-then-entry_count-le-MOST
-returns-then-entry_count-le-MOST c = grows_sum c.args.out.now.items c.push_block.new.out.items (arc_value c.args.block) c.in_ok-piece.piece c.in_ok-sum.sum c.args.cells.now c.requires.other c.requires.sorted c.in_ok-piece.ensures.order c.in_ok-piece.ensures.told (c.in_ok-sum.ensures ∙ ap (λ (r : Rows). sum_rows r c.in_ok-piece.piece) c.deref.ensures) c.in_ok-push_block.ensures
+pub push_changed-requires-clause-rising : goal.push_changed-requires-clause-rising
+push_changed-requires-clause-rising c = sum_rising c.args.block c.set_sorted.new.self _ c.requires.other c.requires.sorted c.in_ok-set_sorted.ensures.order (c.in_ok-set_sum.ensures ∙ ap (λ (r : Rows). sum_rows r c.set_sorted.new.self) c.rows.ensures)
 
-pub push_blocks-requires-clause-rising : goal.push_blocks-requires-clause-rising
-push_blocks-requires-clause-rising c = sum_rising (arc_value c.args.block) c.in_ok-piece.piece c.in_ok-sum.sum c.requires.other c.requires.sorted c.in_ok-piece.ensures.order (c.in_ok-sum.ensures ∙ ap (λ (r : Rows). sum_rows r c.in_ok-piece.piece) c.deref.ensures)
+pub returns-then-saturating_add-le-MOST-clause-sum : goal.returns-then-saturating_add-le-MOST-clause-sum
+returns-then-saturating_add-le-MOST-clause-sum c = grows_sum c.args.out.now.items c.push_changed.new.out.items c.args.block c.set_sorted.new.self c.set_sum.new.self c.args.cells.now c.requires.other c.requires.sorted c.in_ok-set_sorted.ensures.order c.in_ok-set_sorted.ensures.told (c.in_ok-set_sum.ensures ∙ ap (λ (r : Rows). sum_rows r c.set_sorted.new.self) c.rows.ensures) c.in_ok-push_changed.ensures.grows
 
-pub returns : goal.returns
-returns c = grows_sum c.args.out.now.items c.push_blocks.new.out.items (arc_value c.args.block) c.in_ok-piece.piece c.in_ok-sum.sum c.args.cells.now c.requires.other c.requires.sorted c.in_ok-piece.ensures.order c.in_ok-piece.ensures.told (c.in_ok-sum.ensures ∙ ap (λ (r : Rows). sum_rows r c.in_ok-piece.piece) c.deref.ensures) c.in_ok-push_blocks.ensures
+pub set_sum-requires-2 : goal.set_sum-requires-2
+set_sum-requires-2 c = omega (arith, ap rows_total c.rows-2.ensures, sum_of_cells c.args.block, piece_total c.set_sorted.new.self c.args.cells.now c.in_ok-set_sorted.ensures.told, c.requires.fits)
+
+pub push_large-requires-clause-some : goal.push_large-requires-clause-some
+push_large-requires-clause-some c = sum_some c.args.block c.set_sorted.new.self _ c.requires.other.some (c.in_ok-set_sum-2.ensures ∙ ap (λ (r : Rows). sum_rows r c.set_sorted.new.self) c.rows-2.ensures)
+
+pub push_large-requires-clause-rising : goal.push_large-requires-clause-rising
+push_large-requires-clause-rising c = sum_rising c.args.block c.set_sorted.new.self _ c.requires.other c.requires.sorted c.in_ok-set_sorted.ensures.order (c.in_ok-set_sum-2.ensures ∙ ap (λ (r : Rows). sum_rows r c.set_sorted.new.self) c.rows-2.ensures)
+
+pub push_large-requires-clause-fits : goal.push_large-requires-clause-fits
+push_large-requires-clause-fits c = omega (arith, sum_total c.args.block c.set_sorted.new.self _ c.requires.other c.requires.sorted c.in_ok-set_sorted.ensures.order (c.in_ok-set_sum-2.ensures ∙ ap (λ (r : Rows). sum_rows r c.set_sorted.new.self) c.rows-2.ensures), sum_of_cells c.args.block, piece_total c.set_sorted.new.self c.args.cells.now c.in_ok-set_sorted.ensures.told, c.requires.fits)
+
+pub returns-clause-sum : goal.returns-clause-sum
+returns-clause-sum c = grows_sum c.args.out.now.items c.push_large.new.out.items c.args.block c.set_sorted.new.self c.set_sum-2.new.self c.args.cells.now c.requires.other c.requires.sorted c.in_ok-set_sorted.ensures.order c.in_ok-set_sorted.ensures.told (c.in_ok-set_sum-2.ensures ∙ ap (λ (r : Rows). sum_rows r c.set_sorted.new.self) c.rows-2.ensures) c.in_ok-push_large.ensures.grows

@@ -1,4 +1,4 @@
-use Rattle.std.proofs.Common.{◌≡◌, ◌≤◌, ◌++◌, T, [], length, drop, map}
+use Rattle.std.proofs.Common.{◌≡◌, ◌<◌, ◌≤◌, ◌++◌, T, [], length, drop, map}
 use Rattle.std.specs.FinMap.{is_sorted}
 use Rattle.hyper_matrix.specs.Counts.{place_cmp, count_sum, built, ewise_add}
 use Rattle.hyper_matrix.specs.Blocks.{all_cells, AreBlocks}
@@ -14,6 +14,7 @@ invariant-steps l = record {
   other : T (is_sorted place_cmp (all_cells l.out.items ++ map entry_of (drop l.j l.cells)));
   sums : ewise_add (built (all_cells l.out.items)) (ewise_add (built (all_cells l.rest.items)) (built (map entry_of (drop l.j l.cells)))) ≡ ewise_add (built (all_cells l.fn.blocks.items)) (built (map entry_of l.cells));
   bound : count_sum (all_cells l.rest.items) ≤ count_sum (all_cells l.fn.blocks.items);
+  some : l.rest.items ≡ [] → 0 < length l.out.items;
   last : l.rest.items ≡ [] → l.j ≡ length l.cells;
 }
 

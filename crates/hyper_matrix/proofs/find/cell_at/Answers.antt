@@ -10,14 +10,17 @@ returns-then-at-ends c = past_blocks c.args.blocks.now c.args.ends.now c.args.i 
 pub bounds-blocks-at : goal.bounds-blocks-at
 bounds-blocks-at c = (block_of_cell c.args.blocks.now c.args.ends.now c.args.i c.blocks_until-at.result c.requires c.blocks_until-at.ensures c.end_before.result (omega arith) c.end_before.ensures).within
 
+pub offset_bounds-blocks-at : goal.offset_bounds-blocks-at
+offset_bounds-blocks-at c = omega (arith, (block_of_cell c.args.blocks.now c.args.ends.now c.args.i c.blocks_until-at.result c.requires c.blocks_until-at.ensures c.end_before.result (omega arith) c.end_before.ensures).within)
+
 pub cell_at-requires : goal.cell_at-requires
 cell_at-requires c =
     let h = block_of_cell c.args.blocks.now c.args.ends.now c.args.i c.blocks_until-at.result c.requires c.blocks_until-at.ensures c.end_before.result (omega arith) c.end_before.ensures in
-    let here = block_read c.args.blocks.now c.blocks_until-at.result c.index-blocks-at.result c.deref.result.now h.within c.deref.ensures c.index-blocks-at.is in
+    let here = block_read c.args.blocks.now c.blocks_until-at.result c.index-blocks-at.result c.rows.result.now h.within c.rows.ensures c.index-blocks-at.is in
     omega (arith, h.ends, ap (λ (r : Rows). length (cells_of r)) here)
 
 pub returns : goal.returns
 returns c =
     let h = block_of_cell c.args.blocks.now c.args.ends.now c.args.i c.blocks_until-at.result c.requires c.blocks_until-at.ensures c.end_before.result (omega arith) c.end_before.ensures in
-    let here = block_read c.args.blocks.now c.blocks_until-at.result c.index-blocks-at.result c.deref.result.now h.within c.deref.ensures c.index-blocks-at.is in
-    cell_in_block c.args.blocks.now c.args.i c.blocks_until-at.result c.end_before.result c.deref.result.now (entry_of c.cell_at.result) h here c.cell_at.ensures
+    let here = block_read c.args.blocks.now c.blocks_until-at.result c.index-blocks-at.result c.rows.result.now h.within c.rows.ensures c.index-blocks-at.is in
+    cell_in_block c.args.blocks.now c.args.i c.blocks_until-at.result c.end_before.result c.rows.result.now (entry_of c.cell_at.result) h here c.cell_at.ensures

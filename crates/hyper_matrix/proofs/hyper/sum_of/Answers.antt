@@ -1,12 +1,11 @@
-use Rattle.std.proofs.Common.{◌≡◌, T, List, ℕ, map, sym, subst, ap, ◌∙◌, refl, arith}
+use Rattle.std.proofs.Common.{◌≡◌, T, List, sym, subst, ap, ◌∙◌, refl, arith}
 use Rattle.std.specs.FinMap.{is_sorted}
-use Rattle.hyper_matrix.specs.Counts.{Place, place_cmp, total, count_sum, ewise_add}
+use Rattle.hyper_matrix.specs.Counts.{place_cmp, total, count_sum, ewise_add}
+use Rattle.hyper_matrix.specs.Rows.{Rows}
 use Rattle.hyper_matrix.specs.Blocks.{all_cells}
 use Rattle.hyper_matrix.specs.Shared.{shared_counts}
-use Rattle.hyper_matrix.specs.Cells.{entry_of}
 use Rattle.hyper_matrix.specs.Matrix.{Matrix, matrix}
-use Rattle.hyper_matrix.proofs.BuildLaws.{entries_total}
-use Rattle.hyper_matrix.proofs.MatrixLaws.{holds_sum, counts_sum, cells_read, kept_total, sum_is, no_blocks, with_empty, turned_sum}
+use Rattle.hyper_matrix.proofs.MatrixLaws.{holds_sum, counts_sum, kept_total, sum_is, no_blocks, with_empty, turned_sum}
 use Rattle.hyper_matrix.proofs.hyper.sum_of.Goals as goal
 
 pub returns-then-len-eq0 : goal.returns-then-len-eq0
@@ -17,24 +16,18 @@ returns-then-len-eq0 c =
 pub overflow_add-sum : goal.overflow_add-sum
 overflow_add-sum c = omega (arith, kept_total _ _ _ _ c.requires.holds, kept_total _ _ _ _ c.small.invariant.holds, ap (λ (m : Matrix). total m.counts) c.small.view_is, c.requires.fits)
 
-pub sum_blocks-requires-clause-cells : goal.sum_blocks-requires-clause-cells
-sum_blocks-requires-clause-cells c =
-    let read = ap (map entry_of) c.deref.ensures.value ∙ cells_read _ _ _ _ _ c.small.inside.blocks.items c.args.small.now c.in_ok-cells.cells.items c.small.invariant.holds c.small.view_is c.in_ok-cells.ensures.order in
-    subst (λ (r : List (Place × ℕ)). T (is_sorted place_cmp r)) (sym read) c.small.invariant.holds.sorted
-
-pub sum_blocks-requires-clause-fits : goal.sum_blocks-requires-clause-fits
-sum_blocks-requires-clause-fits c =
-    let read = ap (map entry_of) c.deref.ensures.value ∙ cells_read _ _ _ _ _ c.small.inside.blocks.items c.args.small.now c.in_ok-cells.cells.items c.small.invariant.holds c.small.view_is c.in_ok-cells.ensures.order in
-    omega (arith, kept_total _ _ _ _ c.requires.holds, kept_total _ _ _ _ c.small.invariant.holds, c.requires.holds.kept, c.small.invariant.holds.kept, ap (λ (m : Matrix). total m.counts) c.small.view_is, c.requires.fits, ap count_sum read, entries_total c.deref.result.now)
-
 pub assemble-requires : goal.assemble-requires
 assemble-requires c =
-    let read : map entry_of c.deref.result.now ≡ all_cells c.small.inside.blocks.items = ap (map entry_of) c.deref.ensures.value ∙ cells_read _ _ _ _ _ c.small.inside.blocks.items c.args.small.now c.in_ok-cells.cells.items c.small.invariant.holds c.small.view_is c.in_ok-cells.ensures.order in
-    let sums : shared_counts c.in_ok-blocks.blocks.items ≡ ewise_add (shared_counts c.args.blocks.items) (shared_counts c.small.inside.blocks.items) = counts_sum _ _ _ _ _ _ c.args.blocks.items c.small.inside.blocks.items c.in_ok-blocks.blocks.items (map entry_of c.deref.result.now) c.requires.holds c.small.invariant.holds c.in_ok-blocks.ensures.sorted read c.in_ok-blocks.ensures.sums in
+    let sums : shared_counts c.in_ok-blocks.blocks.items ≡ ewise_add (shared_counts c.args.blocks.items) (shared_counts c.small.inside.blocks.items) = counts_sum _ _ _ _ _ _ c.args.blocks.items c.small.inside.blocks.items c.in_ok-blocks.blocks.items (all_cells c.deref.result.now) c.requires.holds c.small.invariant.holds c.in_ok-blocks.ensures.sorted (ap all_cells c.deref.ensures.value) c.in_ok-blocks.ensures.sums in
     holds_sum _ _ _ _ _ _ c.args.blocks.items c.small.inside.blocks.items c.in_ok-blocks.blocks.items (ap (λ (m : Matrix). m.rows) c.small.view_is ∙ sym c.requires.rows) (ap (λ (m : Matrix). m.cols) c.small.view_is ∙ sym c.requires.cols) c.requires.holds c.small.invariant.holds c.in_ok-blocks.ensures.blocks c.in_ok-blocks.ensures.sorted sums
 
 pub returns : goal.returns
 returns c =
-    let read : map entry_of c.deref.result.now ≡ all_cells c.small.inside.blocks.items = ap (map entry_of) c.deref.ensures.value ∙ cells_read _ _ _ _ _ c.small.inside.blocks.items c.args.small.now c.in_ok-cells.cells.items c.small.invariant.holds c.small.view_is c.in_ok-cells.ensures.order in
-    let sums : shared_counts c.in_ok-blocks.blocks.items ≡ ewise_add (shared_counts c.args.blocks.items) (shared_counts c.small.inside.blocks.items) = counts_sum _ _ _ _ _ _ c.args.blocks.items c.small.inside.blocks.items c.in_ok-blocks.blocks.items (map entry_of c.deref.result.now) c.requires.holds c.small.invariant.holds c.in_ok-blocks.ensures.sorted read c.in_ok-blocks.ensures.sums in
+    let sums : shared_counts c.in_ok-blocks.blocks.items ≡ ewise_add (shared_counts c.args.blocks.items) (shared_counts c.small.inside.blocks.items) = counts_sum _ _ _ _ _ _ c.args.blocks.items c.small.inside.blocks.items c.in_ok-blocks.blocks.items (all_cells c.deref.result.now) c.requires.holds c.small.invariant.holds c.in_ok-blocks.ensures.sorted (ap all_cells c.deref.ensures.value) c.in_ok-blocks.ensures.sums in
     c.in_ok-m-2.ensures ∙ sum_is _ _ _ _ _ _ _ (matrix c.args.rows c.args.cols (shared_counts c.args.blocks.items)) _ refl c.small.view_is sums
+
+pub sum_all-requires-clause-others : goal.sum_all-requires-clause-others
+sum_all-requires-clause-others c = subst (λ (b : List Rows). T (is_sorted place_cmp (all_cells b))) (sym c.deref.ensures.value) c.small.invariant.holds.sorted
+
+pub sum_all-requires-clause-fits : goal.sum_all-requires-clause-fits
+sum_all-requires-clause-fits c = omega (arith, kept_total _ _ _ _ c.requires.holds, kept_total _ _ _ _ c.small.invariant.holds, c.requires.holds.kept, c.small.invariant.holds.kept, ap (λ (m : Matrix). total m.counts) c.small.view_is, c.requires.fits, ap (λ (b : List Rows). count_sum (all_cells b)) c.deref.ensures.value)

@@ -8,20 +8,20 @@ use Rattle.hyper_matrix.proofs.rows.push_sums.Goals.{then-steps-test+else-j-row_
 
 pub steps-preserved-then-row-other : goal.steps-preserved-then-row-other
 steps-preserved-then-row-other c = record {
-  left = omega (arith, c.end_below-end.ensures.range.1);
+  left = c.in_ok-i.ensures.range.1;
   right = omega arith;
-  well = c.in_ok-push_rows.ensures.well;
-  told = told_run _ _ _ _ _ _ c.in_ok-push_rows.ensures.told
-      (merged_run_at sum_entries c.args.a.now c.args.b.now c.steps.i c.end_below-end.result c.steps.j (0, []) (omega (arith, c.end_below-end.ensures.range.0)) c.end_below-end.ensures.range.1 (omega arith) (omega arith) (rw (← c.row-other.ensures) c.end_below-end.ensures.below)) c.steps.invariant.told;
+  well = c.in_ok-i.ensures.told.well;
+  told = told_run _ _ _ _ _ _ c.in_ok-i.ensures.told.told
+      (merged_run_at sum_entries c.args.a.now c.args.b.now c.steps.i c.in_ok-i.i c.steps.j (0, []) c.in_ok-i.ensures.range.0 c.in_ok-i.ensures.range.1 (omega arith) (rw (← c.row-other.ensures) c.in_ok-i.ensures.below)) c.steps.invariant.told;
 }
 
 pub steps-preserved-then-other-row : goal.steps-preserved-then-other-row
 steps-preserved-then-other-row c = record {
   left = omega arith;
-  right = omega (arith, c.end_below-end-then-other-row.ensures.range.1);
-  well = c.in_ok-push_rows-2.ensures.well;
-  told = told_run _ _ _ _ _ _ c.in_ok-push_rows-2.ensures.told
-      (merged_run_right_at sum_entries c.args.a.now c.args.b.now c.steps.i c.steps.j c.end_below-end-then-other-row.result (0, []) (omega (arith, c.end_below-end-then-other-row.ensures.range.0)) c.end_below-end-then-other-row.ensures.range.1 (omega arith) (omega arith) (rw (← c.row-row.ensures) c.end_below-end-then-other-row.ensures.below)) c.steps.invariant.told;
+  right = c.in_ok-j.ensures.range.1;
+  well = c.in_ok-j.ensures.told.well;
+  told = told_run _ _ _ _ _ _ c.in_ok-j.ensures.told.told
+      (merged_run_right_at sum_entries c.args.a.now c.args.b.now c.steps.i c.steps.j c.in_ok-j.j (0, []) c.in_ok-j.ensures.range.0 c.in_ok-j.ensures.range.1 (omega arith) (rw (← c.row-row.ensures) c.in_ok-j.ensures.below)) c.steps.invariant.told;
 }
 
 pub push_sum-requires-clause-fits : goal.push_sum-requires-clause-fits
@@ -40,8 +40,8 @@ pub returns : goal.returns
 returns c =
     let over : (length c.args.a.now ≤ c.steps.i) ⊎ (length c.args.b.now ≤ c.steps.j) = elim c.steps-test.branch [ then-steps-test+else-j-row_count w ↦ inr (omega arith) | else-steps-test w ↦ inl (omega arith) ] in
     record {
-      well = c.in_ok-push_rows-4.ensures.well;
-      told = told_ends _ _ _ _ _ _ _ _ _ c.in_ok-push_rows-3.ensures.told c.in_ok-push_rows-4.ensures.told
+      well = c.in_ok-push_rows-2.ensures.well;
+      told = told_ends _ _ _ _ _ _ _ _ _ c.in_ok-push_rows.ensures.told c.in_ok-push_rows-2.ensures.told
           (between_to_end c.args.a.now c.steps.i c.row_count-2.result (omega arith)) (between_to_end c.args.b.now c.steps.j c.row_count-3.result (omega arith))
           (merged_ends sum_entries c.args.a.now c.args.b.now c.steps.i c.steps.j over) c.steps.invariant.told;
     }

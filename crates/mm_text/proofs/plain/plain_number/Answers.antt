@@ -1,33 +1,30 @@
-use Rattle.std.proofs.Common.{◌≤◌, length, take, arith, sym, ◌∙◌, length-take, rules}
-use Rattle.mm_text.proofs.DigitLemmas.{digits_more, number_more}
+use Rattle.std.proofs.Common.{arith}
+use Rattle.mm_text.proofs.DigitLemmas.{eight_less, eight_more, digits_alone}
 use Rattle.mm_text.proofs.plain.plain_number.Goals as goal
 
-pub overflow_mul-value : goal.overflow_mul-value
-overflow_mul-value c =
-    let most : c.min.result ≤ 19 = search rules in
-    let few : length (take c.min.result c.args.bytes.now) ≤ 19 = omega (arith, length-take c.min.result c.args.bytes.now) in
-    let m = number_more (take c.min.result c.args.bytes.now) c.loop-i.i c.loop-i.invariant.digits c.loop-i-test.true few (sym c.is_ascii_digit.ensures.value ∙ c.if-not-is_ascii_digit.false) in
-    let v = c.loop-i.invariant.value in
-    omega (arith, m.2, v)
+pub more_digits-requires : goal.more_digits-requires
+more_digits-requires c = let h = eight_less _ _ _ c.in-Some.ensures in omega (arith, h)
 
-pub overflow_add-value : goal.overflow_add-value
-overflow_add-value c =
-    let most : c.min.result ≤ 19 = search rules in
-    let few : length (take c.min.result c.args.bytes.now) ≤ 19 = omega (arith, length-take c.min.result c.args.bytes.now) in
-    let m = number_more (take c.min.result c.args.bytes.now) c.loop-i.i c.loop-i.invariant.digits c.loop-i-test.true few (sym c.is_ascii_digit.ensures.value ∙ c.if-not-is_ascii_digit.false) in
-    let v = c.loop-i.invariant.value in
-    let n = c.from.ensures in
-    omega (arith, m.0, m.1, m.2, v, n)
+pub returns-in_default-eight_digits : goal.returns-in_default-eight_digits
+returns-in_default-eight_digits c =
+    digits_alone c.args.bytes.now _ _ (eight_more 11 0 c.in-Some.high c.args.bytes.now _ _ c.in-Some.high _ c.in-Some.ensures (omega arith) c.more_digits.ensures)
 
-pub loop-i-preserved : goal.loop-i-preserved
-loop-i-preserved c =
-    let most : c.min.result ≤ 19 = search rules in
-    let few : length (take c.min.result c.args.bytes.now) ≤ 19 = omega (arith, length-take c.min.result c.args.bytes.now) in
-    let digit = sym c.is_ascii_digit.ensures.value ∙ c.if-not-is_ascii_digit.false in
-    let m = number_more (take c.min.result c.args.bytes.now) c.loop-i.i c.loop-i.invariant.digits c.loop-i-test.true few digit in
-    let v = c.loop-i.invariant.value in
-    let n = c.from.ensures in
-    record {
-      digits = digits_more (take c.min.result c.args.bytes.now) c.loop-i.i c.loop-i.invariant.digits c.loop-i-test.true digit;
-      value = rw (v, n) (sym m.3);
-    }
+pub overflow_mul-high : goal.overflow_mul-high
+overflow_mul-high c = let h = eight_less _ _ _ c.in-Some.ensures in omega (arith, h)
+
+pub overflow_add-high : goal.overflow_add-high
+overflow_add-high c =
+    let h = eight_less _ _ _ c.in-Some.ensures in
+    let l = eight_less _ _ _ c.in-Some-eight_digits.ensures in
+    omega (arith, h, l)
+
+pub more_digits-requires-2 : goal.more_digits-requires-2
+more_digits-requires-2 c =
+    let h = eight_less _ _ _ c.in-Some.ensures in
+    let l = eight_less _ _ _ c.in-Some-eight_digits.ensures in
+    omega (arith, h, l)
+
+pub returns : goal.returns
+returns c =
+    let low = eight_more 3 c.in-Some.high _ c.in-Some.rest.now _ _ c.in-Some-eight_digits.low _ c.in-Some-eight_digits.ensures (omega arith) c.more_digits-2.ensures in
+    digits_alone c.args.bytes.now _ _ (eight_more 11 0 c.in-Some.high c.args.bytes.now _ _ c.in-Some.high _ c.in-Some.ensures (omega arith) low)

@@ -1,0 +1,129 @@
+//! A block: a run of rows that matrices may share, with its first place and its number of cells beside the pointer.
+//!
+//! Rows that are shared are never changed. Those that have one owner can be exchanged for others, which takes no memory.
+ghost use Rattle.std.specs.Prelude.{◌≡◌, ℕ, ◌<◌, IfOk, OnOk, IsTrue, IsFalse, [], length};
+ghost use Rattle.std.specs.Arc.{arc_value};
+ghost use Rattle.hyper_matrix.specs.Rows.{cells_of};
+ghost use Rattle.hyper_matrix.specs.Places.{IsFirst};
+
+use crate::rows::Rows;
+use std::alloc::{AllocError, Global};
+use std::marker::Model;
+use std::mem;
+use std::sync::Arc;
+
+/// The most cells in a block. Measured: where 4,096 random cells join 8 million, 256 takes a tenth of the time of flat
+/// rows, 4,096 a third; smaller blocks cost pointers.
+pub const MOST: usize = 256;
+
+/// Rows that may be shared.
+///
+/// Contracts see the rows. What is kept beside the pointer tells a sum that doesn't touch the block all that it needs, so
+/// that nothing behind the pointer is read.
+#[derive(Drop)]
+pub struct Block {
+    row: u64,
+    col: u64,
+    count: usize,
+    rows: Arc<Rows>,
+}
+
+impl Model for Block {
+    ghost use Rattle.std.specs.Prelude.{◌≡◌, length};
+    ghost use Rattle.std.specs.Arc.{arc_value};
+    ghost use Rattle.hyper_matrix.specs.Rows.{Rows, cells_of};
+    ghost use Rattle.hyper_matrix.specs.Places.{IsFirst};
+
+    ghost Value = { Rows };
+
+    ghost view = { λ b. arc_value b.rows };
+
+    ghost invariant = { λ b. IsFirst (b.row, b.col) (cells_of (arc_value b.rows)) × (b.count ≡ length (cells_of (arc_value b.rows))) };
+}
+
+// Exchanges the rows, unless somebody else has them too.
+fn exchange(shared: &mut Arc<Rows>, rows: &mut Rows) -> bool
+    ensures alone { IsTrue result → arc_value shared.new ≡ rows.old }
+    ensures shared { IsFalse result → (arc_value shared.new ≡ arc_value shared.old) × (rows.new ≡ rows.old) }
+{
+    match Arc::get_mut(shared) {
+        Some(own) => {
+            mem::swap(own, rows);
+            true
+        }
+        None => false,
+    }
+}
+
+impl Block {
+    /// A block of these rows, which nobody shares yet.
+    pub fn new(alloc: Global, rows: Rows) -> Result<Block, AllocError>
+        requires { 0 < length rows }
+        ensures { IfOk result (λ block. block ≡ rows) }
+    {
+        let (row, col) = rows.first();
+        let count = rows.entry_count();
+        let rows = Arc::new(alloc, rows)?;
+        Ok(Block {
+            row,
+            col,
+            count,
+            rows,
+        })
+    }
+
+    /// Puts rows in place of the block's own.
+    ///
+    /// Where nobody shares the block the two are exchanged: `rows` has the old rows then, and with them their memory, and
+    /// nothing is allocated. Otherwise the old rows stay with those that have them, and `rows` gets new room for `MOST`
+    /// cells.
+    pub fn put(&mut self, alloc: Global, rows: &mut Rows) -> Result<(), AllocError>
+        requires { 0 < length rows.old }
+        ensures { OnOk result (self.new ≡ rows.old) }
+    {
+        let (row, col) = rows.first();
+        let count = rows.entry_count();
+        if !exchange(&mut self.rows, rows) {
+            let room = Rows::with_room(alloc, MOST)?;
+            self.rows = Arc::new(alloc, mem::replace(rows, room))?;
+        }
+        self.row = row;
+        self.col = col;
+        self.count = count;
+        Ok(())
+    }
+
+    /// The same block once more. The two share the rows.
+    pub fn share(&self) -> Result<Block, AllocError>
+        ensures { IfOk result (λ block. block ≡ self.now) }
+    {
+        let rows = Arc::try_clone(&self.rows)?;
+        Ok(Block {
+            row: self.row,
+            col: self.col,
+            count: self.count,
+            rows,
+        })
+    }
+
+    /// The place of the first cell.
+    pub fn first(&self) -> (u64, u64)
+        ensures { IsFirst result (cells_of self.now) }
+    {
+        (self.row, self.col)
+    }
+
+    /// The number of cells.
+    pub fn cell_count(&self) -> usize
+        ensures { result ≡ length (cells_of self.now) }
+    {
+        self.count
+    }
+
+    /// The rows, to be read.
+    pub fn rows(&self) -> &Rows
+        ensures { result.now ≡ self.now }
+    {
+        &self.rows
+    }
+}
