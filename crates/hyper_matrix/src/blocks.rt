@@ -3,7 +3,8 @@
 //! A sum goes through the blocks of one matrix in order and gives each the cells of the other that lie below the next
 //! block's first place. A block that gets none goes over as it is, by what is kept beside its pointer: nothing behind that
 //! is read. Any other is added up in spare rows, and the block and the spare rows exchange theirs, so that the next sum is
-//! made in the memory that the block had. So a block that nobody shares takes no memory for a sum of up to `MOST` cells. A
+//! made in the memory that the block had. So a block that nobody shares takes memory for a sum of up to `MOST` cells only
+//! where its rows are more than that memory has room for. A
 //! block that is shared stays as it was where it is shared, and the sum takes memory of its own; a sum of more cells is cut
 //! into new blocks (`cut`), and the old one is freed.
 //!
