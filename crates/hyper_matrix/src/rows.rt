@@ -367,16 +367,6 @@ impl Rows {
         Ok(())
     }
 
-    /// The sum of two runs, in memory for both.
-    pub fn add(&self, alloc: Global, other: &Rows) -> Result<Rows, AllocError>
-        requires { rows_total self.now + rows_total other.now < 2 ^ 64 }
-        ensures { IfOk result (λ rows. rows ≡ sum_rows self.now other.now) }
-    {
-        let mut sum = Rows::new(alloc);
-        sum.set_sum(alloc, self, other)?;
-        Ok(sum)
-    }
-
     /// The number of cells.
     pub fn entry_count(&self) -> usize
         ensures { result ≡ length (cells_of self.now) }
