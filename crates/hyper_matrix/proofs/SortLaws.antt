@@ -5,7 +5,8 @@ use Rattle.std.proofs.lemmas.Bool.{cases_order, cases_lt}
 use Rattle.std.proofs.lemmas.List.{append-nil, drop-append-le, drop_all, map-append, take_more, take_all, get_or_default}
 use Rattle.hyper_matrix.specs.Counts.{Place, Counts, place_cmp, plus, built, ewise_add}
 use Rattle.hyper_matrix.specs.Rows.{Entries, Rows, EndsAt, InOrder, AreRows, rows_of, rows_from, KeysBelow, KeysAbove, AreRising, ColumnsRise, cells_of, at_places}
-use Rattle.hyper_matrix.specs.Cells.{entry_of, built_of, cell_total, IsOpen, Follows, NeverFall}
+use Rattle.hyper_matrix.specs.Cells.{entry_of, built_of, cell_total, IsOpen}
+use Rattle.cell_sort.specs.Order.{NeverFall}
 use Rattle.mm_text.specs.declared.cell.Cell.{Cell}
 use Rattle.hyper_matrix.proofs.CountLaws.{gathered, gathered-append, get-built, same_counts, built-append}
 use Rattle.hyper_matrix.proofs.CellLaws.{less_place}
@@ -196,13 +197,3 @@ all_done cells hs es base row col count i hs' es' end le state is_entries is_end
 pub first_open : (cells : List Cell) (hs : List (ℕ × ℕ)) (es : Entries) (d : Cell) → hs ≡ [] → es ≡ [] → 0 < length cells → (x : ℕ) × IsOpen hs es x (get_or cells 0 d).row (get_or cells 0 d).col (get_or cells 0 d).count (take 1 cells)
 first_open [] hs es d is_heads is_entries h = absurd (omega arith)
 first_open (cell ∷ cells) hs es d is_heads is_entries h = (0, rw (is_heads, is_entries) (open_first cell))
-
--- one pair more is in order
-pub pairs_more : (cells : List Cell) (i : ℕ) (e : Cell) → 1 ≤ i → i < length cells → Follows (get_or cells (i - 1) e) (get_or cells i e) → ((k : ℕ) (d : Cell) → k + 1 < i → k + 1 < length cells → Follows (get_or cells k d) (get_or cells (k + 1) d)) → (k : ℕ) (d : Cell) → k + 1 < i + 1 → k + 1 < length cells → Follows (get_or cells k d) (get_or cells (k + 1) d)
-pairs_more cells i e pos lt here rest k d h m = elim (cases_lt (k + 1) i) [
-  | inl less ↦ rest k d less m
-  | inr last ↦
-      let first : get_or cells (i - 1) e ≡ get_or cells k d = ap (λ n. get_or cells n e) {x = i - 1} {y = k} (omega arith) ∙ get_or_default cells k e d (omega arith) in
-      let second : get_or cells i e ≡ get_or cells (k + 1) d = ap (λ n. get_or cells n e) {x = i} {y = k + 1} (omega arith) ∙ get_or_default cells (k + 1) e d m in
-      subst (λ x. Follows x (get_or cells (k + 1) d)) first (subst (Follows (get_or cells (i - 1) e)) second here)
-]

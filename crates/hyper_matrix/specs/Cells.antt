@@ -1,5 +1,5 @@
 -- Lists of cells as a caller gives them.
-use Rattle.std.specs.Prelude.{Bool, ◌==◌, ◌≡◌, ◌<◌, ◌≤◌, ◌⊎◌, ◌∷◌, length, slice_index_or, ◌++◌, drop, ℕ, ◌+◌, ◌^◌, ◌&&◌, List, [], ◌∷◌, map, Option, Some, None, if◌then◌else◌, nat_lt}
+use Rattle.std.specs.Prelude.{Bool, ◌==◌, ◌≡◌, ◌≤◌, ◌∷◌, length, ◌++◌, drop, ℕ, ◌+◌, ◌^◌, ◌&&◌, List, [], ◌∷◌, map, Option, Some, None, if◌then◌else◌, nat_lt}
 use Rattle.std.specs.List.{filter}
 use Rattle.hyper_matrix.specs.Counts.{Place, Counts, built}
 use Rattle.hyper_matrix.specs.Rows.{Entries, EndsAt, InOrder, rows_of, KeysBelow, AreRising, cells_of, at_places}
@@ -24,14 +24,6 @@ first_fault rows cols sum (cell ∷ cells) =
 
 abbrev pub place_of : Cell → Place
 place_of cell = (cell.row, cell.col)
-
--- the second cell's place is not below the first's
-abbrev pub Follows : Cell → Cell → Type 0
-Follows c d = (c.row < d.row) ⊎ ((c.row ≡ d.row) × (c.col ≤ d.col))
-
--- no cell's place is below the one before
-abbrev pub NeverFall : List Cell → Type 0
-NeverFall cells = (k : ℕ) (d : Cell) → k + 1 < length cells → Follows (slice_index_or cells k d) (slice_index_or cells (k + 1) d)
 
 -- the counts of a list together
 abbrev pub cell_total : List Cell → ℕ

@@ -1,6 +1,7 @@
 //! A block: a run of rows that matrices may share, with its first place and its number of cells beside the pointer.
 //!
-//! Rows that are shared are never changed. Those that have one owner can be exchanged for others, which takes no memory.
+//! Rows that are shared are never changed. Those that have one owner can be exchanged for others, which takes no
+//! memory.
 ghost use Rattle.std.specs.Prelude.{◌≡◌, ℕ, ◌<◌, IfOk, OnOk, IsTrue, IsFalse, [], length};
 ghost use Rattle.std.specs.Arc.{arc_value};
 ghost use Rattle.hyper_matrix.specs.Rows.{cells_of};
@@ -13,13 +14,14 @@ use std::mem;
 use std::sync::Arc;
 
 /// The most cells in a block. Measured: where 4,096 random cells join 8 million, 256 takes a tenth of the time of flat
-/// rows, 4,096 a third. 64, 96, 128 and 512 were tried too: smaller blocks cost the cache misses that they save in copies.
+/// rows, 4,096 a third. 64, 96, 128 and 512 were tried too: smaller blocks cost the cache misses that they save in
+/// copies.
 pub const MOST: usize = 256;
 
 /// Rows that may be shared.
 ///
-/// Contracts see the rows. What is kept beside the pointer tells a sum that doesn't touch the block all that it needs, so
-/// that nothing behind the pointer is read.
+/// Contracts see the rows. What is kept beside the pointer tells a sum that doesn't touch the block all that it needs,
+/// so that nothing behind the pointer is read.
 #[derive(Drop)]
 pub struct Block {
     row: u64,
@@ -74,9 +76,9 @@ impl Block {
 
     /// Puts rows in place of the block's own.
     ///
-    /// Where nobody shares the block the two are exchanged: `rows` has the old rows then, and with them their memory, and
-    /// nothing is allocated. Otherwise the old rows stay with those that have them, and `rows` gets new room for `MOST`
-    /// cells.
+    /// Where nobody shares the block the two are exchanged: `rows` has the old rows then, and with them their memory,
+    /// and nothing is allocated. Otherwise the old rows stay with those that have them, and `rows` gets new room for
+    /// `MOST` cells.
     pub fn put(&mut self, alloc: Global, rows: &mut Rows) -> Result<(), AllocError>
         requires { 0 < length rows.old }
         ensures { OnOk result (self.new ≡ rows.old) }

@@ -1,16 +1,16 @@
 //! Cells in blocks of bounded size, each a run of compressed nonempty rows that matrices may share (`block`).
 //!
 //! A sum goes through the blocks of one matrix in order and gives each the cells of the other that lie below the next
-//! block's first place. A block that gets none goes over as it is, by what is kept beside its pointer: nothing behind that
-//! is read. Any other is added up in spare rows, and the block and the spare rows exchange theirs, so that the next sum is
-//! made in the memory that the block had. So a block that nobody shares takes memory for a sum of up to `MOST` cells only
-//! where its rows are more than that memory has room for. A
-//! block that is shared stays as it was where it is shared, and the sum takes memory of its own; a sum of more cells is cut
-//! into new blocks (`cut`), and the old one is freed.
+//! block's first place. A block that gets none goes over as it is, by what is kept beside its pointer: nothing behind
+//! that is read. Any other is added up in spare rows, and the block and the spare rows exchange theirs, so that the
+//! next sum is made in the memory that the block had. So a block that nobody shares takes memory for a sum of up to
+//! `MOST` cells only where its rows are more than that memory has room for. A block that is shared stays as it was
+//! where it is shared, and the sum takes memory of its own; a sum of more cells is cut into new blocks (`cut`), and the
+//! old one is freed.
 //!
-//! So a small matrix joins a large one for the price of the blocks that it touches and of a pointer for each other. A sum
-//! takes no entry away, so blocks never crumble. The other matrix comes as a list of cells: any part of it is a slice, also
-//! one that begins inside a row.
+//! So a small matrix joins a large one for the price of the blocks that it touches and of a pointer for each other. A
+//! sum takes no entry away, so blocks never crumble. The other matrix comes as a list of cells: any part of it is a
+//! slice, also one that begins inside a row.
 ghost use Rattle.std.specs.Prelude.{◌≡◌, ℕ, List, [], ◌+◌, ◌-◌, ◌<◌, ◌≤◌, ◌^◌, ◌++◌, T, OnOk, IfOk, length, slice_range, drop, map};
 ghost use Rattle.std.specs.FinMap.{is_sorted};
 ghost use Rattle.std.specs.Ordering.{is_lt};
@@ -27,8 +27,8 @@ use mm_text::Cell;
 use std::alloc::{AllocError, Global};
 use std::collections::VecDeque;
 
-/// So many blocks of one matrix are added to another at once, as a list of their cells: some 100,000, 24 bytes each. Each
-/// part takes another walk over the other matrix's blocks.
+/// So many blocks of one matrix are added to another at once, as a list of their cells: some 100,000, 24 bytes each.
+/// Each part takes another walk over the other matrix's blocks.
 const PART: usize = 512;
 
 /// Appends a block, unless it is empty.
@@ -55,8 +55,8 @@ fn push_shared(out: &mut Vec<Block>, block: &Block) -> Result<(), AllocError>
     Ok(())
 }
 
-// The memory that the sums of one call are made in, one after the other: the rows of the cells that fall into a block, and
-// the sum. One that may pass `MOST` cells is made in `large`, since the memory of `sum` becomes a block's.
+// The memory that the sums of one call are made in, one after the other: the rows of the cells that fall into a block,
+// and the sum. One that may pass `MOST` cells is made in `large`, since the memory of `sum` becomes a block's.
 #[derive(Drop)]
 struct Spare {
     piece: Rows,
@@ -95,8 +95,8 @@ fn push_changed(
     Ok(())
 }
 
-// Appends rows that may be more than a block has room for. If they aren't, they are the block's, copied to `sum` first, so
-// that the block doesn't get memory that is too large for it.
+// Appends rows that may be more than a block has room for. If they aren't, they are the block's, copied to `sum` first,
+// so that the block doesn't get memory that is too large for it.
 fn push_large(
     alloc: Global,
     out: &mut Vec<Block>,
@@ -216,7 +216,8 @@ fn sum_blocks(alloc: Global, blocks: Vec<Block>, cells: &[Cell]) -> Result<Vec<B
     Ok(out)
 }
 
-/// The sum of blocks and others, in blocks. The others' cells are listed a part at a time, in memory that stays in reach.
+/// The sum of blocks and others, in blocks. The others' cells are listed a part at a time, in memory that stays in
+/// reach.
 pub fn sum_all(
     alloc: Global,
     blocks: Vec<Block>,

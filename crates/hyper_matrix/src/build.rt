@@ -1,25 +1,19 @@
 //! Rows from lists of cells, as `GrB_Matrix_build` with plus as `dup`.
 //!
-//! A list that is in order is read where it stands, and any other is copied and sorted in place first, by row and then
-//! by column. The sort needn't keep the order of equal places, since their counts are added up. One pass then makes the
-//! rows: a pending cell takes up the counts of its place, and is pushed when the next place comes, so that no entry is
-//! written twice. The time is that of the sort, n log n, or of two passes over a list in order.
-ghost use Rattle.std.specs.Prelude.{◌≡◌, ℕ, [], ◌<◌, ◌^◌, ◌++◌, OnOk, IfOk, IsPermutation, IsSortedByKey, IsTrue, length};
-ghost use Rattle.hyper_matrix.specs.Counts.{place_cmp, built};
+//! A list that is in order is read where it stands, and any other is sorted first, by row and then by column, in a list
+//! of its own (`cell_sort`). The sort needn't keep the order of equal places, since their counts are added up. One pass
+//! then makes the rows: a pending cell takes up the counts of its place, and is pushed when the next place comes, so
+//! that no entry is written twice. The time is that of the sort, or of two passes over a list in order.
+ghost use Rattle.std.specs.Prelude.{◌≡◌, ℕ, [], ◌<◌, ◌^◌, ◌++◌, OnOk, IfOk, length};
+ghost use Rattle.hyper_matrix.specs.Counts.{built};
 ghost use Rattle.hyper_matrix.specs.Rows.{AreRows, InOrder, rows_of, cells_of};
-ghost use Rattle.hyper_matrix.specs.Cells.{place_of, Follows, NeverFall, cell_total, built_of};
+ghost use Rattle.hyper_matrix.specs.Cells.{cell_total, built_of};
+ghost use Rattle.cell_sort.specs.Order.{NeverFall};
 
 use crate::rows::Rows;
+use cell_sort::{is_in_order, sorted};
 use mm_text::Cell;
 use std::alloc::{AllocError, Global};
-
-// Sorts cells by row, and then by column.
-fn sort_cells(cells: &mut [Cell])
-    ensures permutation { IsPermutation cells.old cells.new }
-    ensures sorted { NeverFall cells.new }
-{
-    cells.sort_unstable_by_key(|cell| (cell.row, cell.col));
-}
 
 // Rows of sorted cells, with the counts of equal places added up.
 fn push_cells(
@@ -78,30 +72,9 @@ pub fn total_of(cells: &[Cell]) -> u64
     sum
 }
 
-// Whether the second cell's place is not below the first's.
-fn follows(last: Cell, next: Cell) -> bool
-    ensures { IsTrue result → Follows last next }
-{
-    last.row < next.row || (last.row == next.row && last.col <= next.col)
-}
-
-// Whether no cell's place is below the one before.
-fn is_in_order(cells: &[Cell]) -> bool
-    ensures { IsTrue result → NeverFall cells.now }
-{
-    let mut i = 1;
-    'pairs: while i < cells.len() {
-        if !follows(cells[i - 1], cells[i]) {
-            return false;
-        }
-        i += 1;
-    }
-    true
-}
-
 impl Rows {
-    /// Puts the rows of a list of cells that is in order in place of these, in their memory where it suffices. On an error
-    /// what is left is not said.
+    /// Puts the rows of a list of cells that is in order in place of these, in their memory where it suffices. On an
+    /// error what is left is not said.
     pub fn set_sorted(&mut self, alloc: Global, cells: &[Cell]) -> Result<(), AllocError>
         requires some { 0 < length cells.now }
         requires sorted { NeverFall cells.now }
@@ -142,8 +115,7 @@ pub fn rows_of_cells(alloc: Global, cells: &[Cell]) -> Result<Rows, AllocError>
         let rows = rows_of_sorted(alloc, cells)?;
         return Ok(rows);
     }
-    let mut sorted = Vec::from_slice(alloc, cells)?;
-    sort_cells(&mut sorted);
-    let rows = rows_of_sorted(alloc, &sorted)?;
+    let list = sorted(alloc, cells)?;
+    let rows = rows_of_sorted(alloc, &list)?;
     Ok(rows)
 }

@@ -2,8 +2,8 @@
 //!
 //! A cut may lie inside a row: the block before it ends with a part of the row, and the block behind it begins with the
 //! rest, under the same number. So a row of ten million columns takes as many blocks as ten million rows. Each block
-//! copies its entries and its heads once, one slice of each, the entries to memory with room for `MOST`: a sum can be made there
-//! later, and never needs more.
+//! copies its entries and its heads once, one slice of each, the entries to memory with room for `MOST`: a sum can be
+//! made there later, and never needs more.
 ghost use Rattle.std.specs.Prelude.{◌≡◌, ℕ, ◌+◌, ◌-◌, ◌<◌, ◌≤◌, ◌^◌, ◌++◌, OnOk, IfOk, length, drop};
 ghost use Rattle.hyper_matrix.specs.Rows.{AreRising, EndsAt, rows_from, cells_of};
 ghost use Rattle.hyper_matrix.specs.Blocks.{AreBlocks, Grows, EndsIn, cut_heads};

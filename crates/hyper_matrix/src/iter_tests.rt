@@ -49,7 +49,8 @@ mod tests {
         )
     }
 
-    // Of one cell a row, of five cells a row, and of one row that spans the blocks, with a cell before it and one behind.
+    // Of one cell a row, of five cells a row, and of one row that spans the blocks, with a cell before it and one
+    // behind.
     #[test]
     fn many_blocks(rt: HostRuntime) -> Result<(), Fail> {
         let alloc = rt.alloc();

@@ -1,7 +1,7 @@
 //! Laws of the definitions, for readers and for callers of the matrix.
 //!
-//! Sums are made of a finite map's insertions, and what a list builds of sums at a place. These laws say in the words of
-//! the subject what comes of it. Each is a function that does nothing and promises the law.
+//! Sums are made of a finite map's insertions, and what a list builds of sums at a place. These laws say in the words
+//! of the subject what comes of it. Each is a function that does nothing and promises the law.
 ghost use Rattle.std.specs.Prelude.{◌≡◌, ℕ, ◌+◌, ◌<◌, ◌↔◌, List, ◌++◌, IsSome, length};
 ghost use Rattle.std.specs.FinMap.{empty, get};
 ghost use Rattle.mm_text.specs.declared.cell.Cell.{Cell};

@@ -1,9 +1,9 @@
 //! Hypersparse matrices of counts: sums of counted cells, exactly, in dimensions of up to 2^60 by 2^60.
 //!
-//! The operations are those of GraphBLAS C API 2.0 over UINT64 with plus: `GrB_Matrix_build`, `GrB_eWiseAdd`, `GrB_reduce`
-//! to a scalar. Only nonempty rows take memory. The matrix lies in blocks of some hundred cells that matrices share, so
-//! that adding a small matrix to a large one costs the blocks that it touches (`blocks`), and one long row costs no more a
-//! cell than many short ones (`cut`).
+//! The operations are those of GraphBLAS C API 2.0 over UINT64 with plus: `GrB_Matrix_build`, `GrB_eWiseAdd`,
+//! `GrB_reduce` to a scalar. Only nonempty rows take memory. The matrix lies in blocks of some hundred cells that
+//! matrices share, so that adding a small matrix to a large one costs the blocks that it touches (`blocks`), and one
+//! long row costs no more a cell than many short ones (`cut`).
 #![tactic(auto)]
 
 mod block;

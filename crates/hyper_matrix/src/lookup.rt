@@ -1,5 +1,5 @@
-//! Look-ups in one run of rows, by bisection: in the rows by where they end, then in a row by column. Each takes time in the
-//! logarithm of the run's rows and entries, and no memory.
+//! Look-ups in one run of rows, by bisection: in the rows by where they end, then in a row by column. Each takes time
+//! in the logarithm of the run's rows and entries, and no memory.
 ghost use Rattle.std.specs.Prelude.{◌≡◌, ℕ, ◌+◌, ◌-◌, ◌<◌, ◌≤◌, ◌^◌, [], T, length, take, nat_lt, nat_le, slice_index_or, slice_get, false, ◌++◌, ◌∷◌, List, Option, Some, None};
 ghost use Rattle.std.specs.Option.{option_map};
 ghost use Rattle.std.specs.FinMap.{is_sorted};

@@ -1,5 +1,5 @@
-//! The sum of two rows: a merge of their entries by column, where a column in both has the sum of its counts. A count of
-//! 0 is an entry like any other.
+//! The sum of two rows: a merge of their entries by column, where a column in both has the sum of its counts. A count
+//! of 0 is an entry like any other.
 //!
 //! Where one row has three entries or more before the other's next, they are copied together. So the time is that of a
 //! copy of both rows, and a compare for each entry.

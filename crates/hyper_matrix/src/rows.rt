@@ -22,8 +22,8 @@ use std::mem;
 
 /// Rows by number, none of them empty, each with its entries by column.
 ///
-/// Contracts see a list of rows, each a number and a list of columns with counts. Nothing is said of the order: a function
-/// that needs it asks for it.
+/// Contracts see a list of rows, each a number and a list of columns with counts. Nothing is said of the order: a
+/// function that needs it asks for it.
 #[derive(Drop)]
 pub struct Rows {
     heads: Vec<(u64, usize)>,

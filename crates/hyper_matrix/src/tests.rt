@@ -199,8 +199,8 @@ fn sums_over_blocks(rt: HostRuntime) -> Result<(), Fail> {
     Ok(())
 }
 
-// Whether a sum has these cells. Where it is refused memory, both matrices are to have their cells still, and the sum is to come
-// out the next time.
+// Whether a sum has these cells. Where it is refused memory, both matrices are to have their cells still, and the sum
+// is to come out the next time.
 fn outlasts_refusal(
     alloc: Global,
     (a, xs): (&Hyper, &[Cell]),

@@ -1,7 +1,7 @@
 //! Look-ups in a matrix: a place, a row, a row from a column on, and a cell by its number.
 //!
-//! Each is a bisection in the blocks, then in one of them, so it takes time in the logarithm of the entries; the sum of a
-//! row also takes that of the row's entries. No call takes memory.
+//! Each is a bisection in the blocks, then in one of them, so it takes time in the logarithm of the entries; the sum of
+//! a row also takes that of the row's entries. No call takes memory.
 ghost use Rattle.std.specs.Prelude.{◌≡◌, ◌<◌, ◌≤◌, ◌⊎◌, MatchOption, IfSome, slice_get};
 ghost use Rattle.std.specs.Option.{option_map};
 ghost use Rattle.std.specs.FinMap.{get, len, entries};
@@ -15,8 +15,8 @@ use crate::row_sum::{Entry, RowSum};
 use mm_text::Cell;
 
 impl Hyper {
-    /// The count at a place, and None where the matrix has no entry, as at a place outside its dimensions. A stored zero
-    /// is Some: `GrB_Matrix_extractElement` of GraphBLAS C API 2.0.
+    /// The count at a place, and None where the matrix has no entry, as at a place outside its dimensions. A stored
+    /// zero is Some: `GrB_Matrix_extractElement` of GraphBLAS C API 2.0.
     pub fn get(&self, row: u64, col: u64) -> Option<u64>
         ensures value { result ≡ get self.now.counts (row, col) }
         ensures outside { (self.now.rows ≤ row) ⊎ (self.now.cols ≤ col) → result ≡ None }
@@ -45,8 +45,8 @@ impl Hyper {
         find::cell_at(&self.blocks, &self.ends, i)
     }
 
-    /// The first entry of a row at the column `from` or behind it, and None where there is none. So the entries of a row
-    /// come one after the other where `from` is one more than the column before.
+    /// The first entry of a row at the column `from` or behind it, and None where there is none. So the entries of a
+    /// row come one after the other where `from` is one more than the column before.
     pub fn first_in_row(&self, row: u64, from: u64) -> Option<Entry>
         ensures value { MatchOption result (HasNoneFrom self.now.counts row from) (IsFirst self.now.counts row from) }
         ensures within { IfSome result (λ entry. (row < self.now.rows) × (entry.col < self.now.cols)) }

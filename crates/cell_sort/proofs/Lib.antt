@@ -1,0 +1,4 @@
+pub mod OrderLaws
+pub mod RankLaws
+pub mod PlacingLaws
+pub mod DealLaws
