@@ -1,8 +1,8 @@
 //! The sum of the cells so far: layers, as long as the counts fit 64 bits together.
 //!
 //! A block of cells is built into a small matrix, which is added into the layers; so most additions touch the small
-//! layers alone. Once the total has passed 2^64 - 1 nothing is added any more, and memory is given back: the text is only
-//! read to its end, since a fault in it is told first.
+//! layers alone. Once the total has passed 2^64 - 1 nothing is added any more, and memory is given back: the text is
+//! only read to its end, since a fault in it is told first.
 ghost use Rattle.std.specs.Prelude.{◌≡◌, ℕ, ◌+◌, ◌<◌, ◌≤◌, ◌^◌, List, [], ◌++◌, ◌⊎◌, OnOk, IfOk, IfErr, Err};
 ghost use Rattle.mm_text.specs.Bounds.{IsDimension, AreWithin};
 ghost use Rattle.mm_text.specs.declared.cell.Cell.{Cell};

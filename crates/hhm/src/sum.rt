@@ -119,15 +119,16 @@ fn write_sum<W: Sink>(w: &mut W, m: &Hyper) -> Result<(), WriteFault>
 
 /// Sums the cells of a Matrix Market text, and writes the canonical text of the sum.
 ///
-/// The cells of the text's list go into layers with these cuts (none to seven, rising, each 1 to 2^40 entries), in blocks of
-/// at most 4,096; then the sum of the layers is written, its cells by row and then by column. The cuts decide time and
-/// memory, and never what is written.
+/// The cells of the text's list go into layers with these cuts (none to seven, rising, each 1 to 2^40 entries), in
+/// blocks of at most 4,096; then the sum of the layers is written, its cells by row and then by column. The cuts decide
+/// time and memory, and never what is written.
 ///
 /// # Errors
 ///
-/// In this order: `BadCuts` before anything is read; at its place in the text, `Text`; `SumTooLarge` once the text was read
-/// to its end without a fault; `Memory` where memory ran out; `Output` where the sink failed or took nothing. Only `Output`
-/// leaves anything written: the first bytes of the canonical text, as many as it says. What was read has been read.
+/// In this order: `BadCuts` before anything is read; at its place in the text, `Text`; `SumTooLarge` once the text was
+/// read to its end without a fault; `Memory` where memory ran out; `Output` where the sink failed or took nothing. Only
+/// `Output` leaves anything written: the first bytes of the canonical text, as many as it says. What was read has been
+/// read.
 ///
 /// A text may have at most 2^40 bytes and declare at most 2^40 entries. `r` and `w` must have failed less than
 /// 2^64 - 1 times before. `w` is not flushed.

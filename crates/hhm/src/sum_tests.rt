@@ -255,7 +255,8 @@ fn sums_that_are_too_large(rt: HostRuntime) -> Result<(), Fail> {
         let text = filled(alloc, text)?;
         check(&rt, alloc, PIECES, &text, Err(SumFault::SumTooLarge))?;
     }
-    // The two counts stand in blocks that are not neighbours; the second is the text's last cell, or has a block behind it.
+    // The two counts stand in blocks that are not neighbours; the second is the text's last cell, or has a block behind
+    // it.
     for behind in [0u64, 5_000] {
         let lines = 9_002u64.wrapping_add(behind);
         let head = format!(in alloc; "{BANNER}3 3 {lines}\n1 1 9223372036854775808\n")?;
@@ -450,7 +451,8 @@ impl Stream {
     }
 }
 
-/// A text of many repeated cells in a square of `size` by `size`, of which every `step`th row and column is met, and its sum.
+/// A text of many repeated cells in a square of `size` by `size`, of which every `step`th row and column is met, and
+/// its sum.
 fn generated(alloc: Global, size: u64, step: u64, lines: u64) -> Result<(String, String), Fail> {
     let mut stream = Stream { state: 11 };
     let mut sums = BTreeMap::new(alloc);

@@ -1,7 +1,8 @@
 //! The addition of a matrix to layers: where its cascade ends, and what the layers are then.
 //!
-//! The sum is carried from layer to layer: at each it takes the layer in, and stays there if it has at most the cut of entries. So
-//! each layer up to the end is read once, and none above it. All growth is made here, and nothing is changed.
+//! The sum is carried from layer to layer: at each it takes the layer in, and stays there if it has at most the cut of
+//! entries. So each layer up to the end is read once, and none above it. All growth is made here, and nothing is
+//! changed.
 ghost use Rattle.std.specs.Prelude.{◌≡◌, ℕ, suc, ◌+◌, ◌<◌, ◌^◌, ◌++◌, ◌∷◌, IfOk, OnOk, length, drop, replicate};
 ghost use Rattle.std.specs.Arc.{arc_value};
 ghost use Rattle.std.specs.FinMap.{empty as no_counts};
@@ -125,8 +126,8 @@ fn with_layer(alloc: Global, sum: Hyper, layer: Arc<Hyper>) -> Result<Hyper, All
     Ok(sum)
 }
 
-/// The layers once m was added to them, made from their own memory: the cascade goes from layer to layer, leaves each that
-/// can't hold the sum empty, and moves those above its end.
+/// The layers once m was added to them, made from their own memory: the cascade goes from layer to layer, leaves each
+/// that can't hold the sum empty, and moves those above its end.
 pub fn cascaded(
     alloc: Global,
     layers: Vec<Arc<Hyper>>,

@@ -1,12 +1,13 @@
 //! The layers, the two steps of an addition, and the look-ups in the sum of all layers.
 //!
-//! Layer 1 is the smallest and is merged at nearly every addition; a layer further up is merged only where the ones below it have
-//! outgrown their cuts. With cuts that grow by a constant factor an entry is so merged a few times for each layer, where one large
-//! matrix would be written anew for each addition.
+//! Layer 1 is the smallest and is merged at nearly every addition; a layer further up is merged only where the ones
+//! below it have outgrown their cuts. With cuts that grow by a constant factor an entry is so merged a few times for
+//! each layer, where one large matrix would be written anew for each addition.
 //!
-//! Each layer is shared and never changed in place, so a plan takes over the layers that it leaves by a pointer, and to commit it is to
-//! exchange pointers. `Layers::add` makes both steps at once from layers that are given away, and copies nothing that nobody else has.
-//! A look-up asks each layer and puts the answers together; only `Layers::sum` and `Layers::into_sum` build the sum.
+//! Each layer is shared and never changed in place, so a plan takes over the layers that it leaves by a pointer, and to
+//! commit it is to exchange pointers. `Layers::add` makes both steps at once from layers that are given away, and
+//! copies nothing that nobody else has. A look-up asks each layer and puts the answers together; only `Layers::sum` and
+//! `Layers::into_sum` build the sum.
 ghost use Rattle.std.specs.Prelude.{◌≡◌, ℕ, ◌+◌, ◌<◌, ◌≤◌, ◌^◌, ◌⊎◌, ◌↔◌, IfOk, IfSome};
 ghost use Rattle.std.specs.FinMap.{get, len};
 ghost use Rattle.mm_text.specs.Bounds.{IsDimension};
@@ -27,11 +28,11 @@ use std::alloc::{AllocError, Global};
 use std::marker::Model;
 use std::sync::{Arc, ArcSlice};
 
-/// From 1 to 8 layers of matrices of the same dimensions, and a cut for each layer but the last: the most entries that it may have
-/// between additions.
+/// From 1 to 8 layers of matrices of the same dimensions, and a cut for each layer but the last: the most entries that
+/// it may have between additions.
 ///
-/// Contracts see the dimensions, each from 1 to 2^60, the cuts, and the list of what each layer holds, the first layer first. The cuts
-/// are kept at any time, and the total of all layers is below 2^64.
+/// Contracts see the dimensions, each from 1 to 2^60, the cuts, and the list of what each layer holds, the first layer
+/// first. The cuts are kept at any time, and the total of all layers is below 2^64.
 #[derive(Drop)]
 pub struct Layers {
     rows: u64,
@@ -58,8 +59,8 @@ impl Model for Layers {
 
 /// An addition that has been worked out, and that `Layers::commit` makes.
 ///
-/// Contracts see it as the layers that it leaves. It owns what is new in them, and shares the rest with the layers that it was made
-/// from. To drop it is to give the addition up.
+/// Contracts see it as the layers that it leaves. It owns what is new in them, and shares the rest with the layers that
+/// it was made from. To drop it is to give the addition up.
 #[derive(Drop)]
 pub struct Plan {
     after: Layers,
@@ -96,13 +97,13 @@ fn empty_layers(alloc: Global, rows: u64, cols: u64, cuts: &[u64]) -> Result<Lay
 }
 
 impl Layers {
-    /// Empty layers, one more than there are cuts, for matrices with these numbers of rows and columns, each from 1 to 2^60. The
-    /// first cut is that of layer 1. Takes memory for the layers alone.
+    /// Empty layers, one more than there are cuts, for matrices with these numbers of rows and columns, each from 1 to
+    /// 2^60. The first cut is that of layer 1. Takes memory for the layers alone.
     ///
     /// # Errors
     ///
-    /// - `BadCuts`: there are more than 7 cuts, a cut is outside 1 to 2^40, or one isn't greater than the one before it. This is
-    ///   judged first, before any growth.
+    /// - `BadCuts`: there are more than 7 cuts, a cut is outside 1 to 2^40, or one isn't greater than the one before
+    ///   it. This is judged first, before any growth.
     /// - `Memory`: a growth was refused.
     pub fn new(alloc: Global, rows: u64, cols: u64, cuts: &[u64]) -> Result<Layers, CascadeFault>
         requires rows { IsDimension rows }
@@ -125,7 +126,8 @@ impl Layers {
         (self.rows, self.cols)
     }
 
-    /// The cuts, in entries, that of layer 1 first: at most 7, from 1 to 2^40, each greater than the one before it. Constant time.
+    /// The cuts, in entries, that of layer 1 first: at most 7, from 1 to 2^40, each greater than the one before it.
+    /// Constant time.
     pub fn cuts(&self) -> &[u64]
         ensures value { result.now ≡ self.now.cuts }
         ensures kept { IsLayering self.now }
@@ -135,12 +137,12 @@ impl Layers {
 
     /// Works out the addition of `m`, and makes all its growth. The layers are as before, also on an error.
     ///
-    /// `m` with the layers from 1 up to the first one that can hold them within its cut becomes that layer, and the layers below it
-    /// are empty: each cascades into the next (Kepner, Davis and others, 2020). The caller sees to it that the dimensions are equal
-    /// and that both totals together stay below 2^64.
+    /// `m` with the layers from 1 up to the first one that can hold them within its cut becomes that layer, and the
+    /// layers below it are empty: each cascades into the next (Kepner, Davis and others, 2020). The caller sees to it
+    /// that the dimensions are equal and that both totals together stay below 2^64.
     ///
-    /// Takes the time and memory of the sums up to that layer, in which blocks that meet no other are shared. The layers above it
-    /// aren't read.
+    /// Takes the time and memory of the sums up to that layer, in which blocks that meet no other are shared. The
+    /// layers above it aren't read.
     ///
     /// # Errors
     ///
@@ -165,8 +167,8 @@ impl Layers {
         Ok(Plan { after })
     }
 
-    /// Puts the planned layers in place of these. It can't fail and takes no memory; what nobody else shares of the old layers is
-    /// freed.
+    /// Puts the planned layers in place of these. It can't fail and takes no memory; what nobody else shares of the old
+    /// layers is freed.
     ///
     /// The plan is to be of these layers as they are now. One that was made before another addition would undo that.
     pub fn commit(&mut self, plan: Plan)
@@ -177,9 +179,9 @@ impl Layers {
 
     /// The layers with `m` added, as `plan` and `commit` leave them, made from their own memory.
     ///
-    /// Nothing is changed that somebody else shares: a layer, or a block of one. What nobody else has is moved, and freed as the
-    /// cascade goes on. Takes the time of the sums up to the layer where it ends, which for blocks that meet no other is that of a
-    /// pointer.
+    /// Nothing is changed that somebody else shares: a layer, or a block of one. What nobody else has is moved, and
+    /// freed as the cascade goes on. Takes the time of the sums up to the layer where it ends, which for blocks that
+    /// meet no other is that of a pointer.
     ///
     /// # Errors
     ///
@@ -213,8 +215,8 @@ impl Layers {
         Ok(sum)
     }
 
-    /// The sum of all layers, as a matrix of its own that shares blocks with them. Takes the time and memory of adding the layers up,
-    /// from the first to the last.
+    /// The sum of all layers, as a matrix of its own that shares blocks with them. Takes the time and memory of adding
+    /// the layers up, from the first to the last.
     ///
     /// # Errors
     ///
@@ -253,8 +255,8 @@ impl Layers {
 }
 
 impl Layers {
-    /// The count at a place of the sum of all layers, or `None` if no layer has an entry there. Rows and columns count from 0; a place
-    /// out of range has none. No memory, a bisection in each layer.
+    /// The count at a place of the sum of all layers, or `None` if no layer has an entry there. Rows and columns count
+    /// from 0; a place out of range has none. No memory, a bisection in each layer.
     pub fn get(&self, row: u64, col: u64) -> Option<u64>
         ensures value { result ≡ get (content self.now.layers) (row, col) }
         ensures outside { (self.now.rows ≤ row) ⊎ (self.now.cols ≤ col) → result ≡ None }
@@ -266,8 +268,8 @@ impl Layers {
         count
     }
 
-    /// The entries of a row, counted from 0, of the sum of all layers: how many columns have one, and the sum of their counts. Zeros
-    /// for a row out of range. No memory; a bisection in each layer for each of these columns.
+    /// The entries of a row, counted from 0, of the sum of all layers: how many columns have one, and the sum of their
+    /// counts. Zeros for a row out of range. No memory; a bisection in each layer for each of these columns.
     pub fn row_total(&self, row: u64) -> RowSum
         ensures entries { result.entries ≡ len (row_of (content self.now.layers) row) }
         ensures total { result.total ≡ total (row_of (content self.now.layers) row) }

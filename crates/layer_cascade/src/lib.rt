@@ -1,12 +1,14 @@
 //! Hierarchical hypersparse matrices: layers of matrices with cuts.
 //!
-//! A sum of many small matrices is dear when each is added into one large matrix, which is then written anew each time. Here a matrix is
-//! added into the first of up to eight layers; a layer that then has more entries than its cut is added into the next and cleared. So most
-//! additions touch small layers alone, and what was added is the sum of all layers at any time (Kepner, Davis and others, 2020,
-//! "75,000,000,000 Streaming Inserts/Second Using Hierarchical Hypersparse GraphBLAS Matrices").
+//! A sum of many small matrices is dear when each is added into one large matrix, which is then written anew each time.
+//! Here a matrix is added into the first of up to eight layers; a layer that then has more entries than its cut is
+//! added into the next and cleared. So most additions touch small layers alone, and what was added is the sum of all
+//! layers at any time (Kepner, Davis and others, 2020, "75,000,000,000 Streaming Inserts/Second Using Hierarchical
+//! Hypersparse GraphBLAS Matrices").
 //!
-//! An addition has two steps: `Layers::plan` makes all growth and changes nothing, and `Layers::commit` puts the planned layers in place
-//! and cannot fail. Where nobody else reads the layers, `Layers::add` takes them and their memory, and gives them back with the matrix.
+//! An addition has two steps: `Layers::plan` makes all growth and changes nothing, and `Layers::commit` puts the
+//! planned layers in place and cannot fail. Where nobody else reads the layers, `Layers::add` takes them and their
+//! memory, and gives them back with the matrix.
 #![tactic(auto)]
 
 mod addition;

@@ -1,9 +1,9 @@
 //! Laws of the definitions of texts: what holds of every text, whatever reads or writes it.
 //!
-//! `mm_text` says by `specs/` what a text spells and which of its faults is the first. Here stand the laws that a reader
-//! of those definitions would want to see: that every text spells exactly one file or has exactly one first fault, that
-//! lines, words and numbers have the form that the format gives them, and that a canonical text spells its list. Each law
-//! is a function without parameters and with an empty body, whose `ensures` is the statement.
+//! `mm_text` says by `specs/` what a text spells and which of its faults is the first. Here stand the laws that a
+//! reader of those definitions would want to see: that every text spells exactly one file or has exactly one first
+//! fault, that lines, words and numbers have the form that the format gives them, and that a canonical text spells its
+//! list. Each law is a function without parameters and with an empty body, whose `ensures` is the statement.
 #![tactic(auto)]
 
 mod grammar_laws;

@@ -61,7 +61,8 @@ pub trait Sink {
         ensures { result ≡ failure_count self.now };
 }
 
-/// A Source of any reader, and a Sink of any writer. Every error is a failure, `Interrupted` too: no call is made again.
+/// A Source of any reader, and a Sink of any writer. Every error is a failure, `Interrupted` too: no call is made
+/// again.
 ///
 /// Where the bytes of `T` are known, as those of a slice or a `Vec`, so is what a call moves; those of a file, a socket
 /// or standard input are not.

@@ -123,9 +123,9 @@ impl Script {
 
     /// A script whose reads give `pieces` one after another, without the empty ones, and which hasn't failed yet.
     ///
-    /// The read with number `fail_read`, counted from 0, and all later ones fail. Writes take `fail_write` bytes in all;
-    /// the one that reaches this takes what is left below it, and a later one of a nonempty piece fails. None is no
-    /// limit. What is written is kept in memory of `alloc`, of which this call takes none.
+    /// The read with number `fail_read`, counted from 0, and all later ones fail. Writes take `fail_write` bytes in
+    /// all; the one that reaches this takes what is left below it, and a later one of a nonempty piece fails. None is
+    /// no limit. What is written is kept in memory of `alloc`, of which this call takes none.
     pub fn new(
         alloc: Global,
         pieces: Vec<Vec<u8>>,

@@ -26,8 +26,8 @@ const BANNER: &str = "%%MatrixMarket matrix coordinate integer general\n";
 
 /// Writes all of `bytes` to `w`, in as many calls as it takes. No byte is no call.
 ///
-/// At an Err `written` counts from the front of `bytes`, and no call was made after the one that failed or took nothing.
-/// Takes no memory, and does not flush.
+/// At an Err `written` counts from the front of `bytes`, and no call was made after the one that failed or took
+/// nothing. Takes no memory, and does not flush.
 pub fn write_all<W: Sink>(w: &mut W, bytes: &[u8]) -> Result<(), WriteFault>
     requires { W.failure_count w.old + 1 < 2 ^ 64 }
     ensures ok { OnOk result (HasTaken W.write_takes W.failure_count w.old w.new bytes.now) }
@@ -62,8 +62,8 @@ fn push_line(buffer: &mut ArrayString<CAPACITY>, first: u64, second: u64, third:
     buffer.push_str("\n");
 }
 
-/// A text on its way to a sink, for cells that come one after the other or in blocks: `new`, `write_cell` for each cell or
-/// `write_cells` for each block, and `finish`.
+/// A text on its way to a sink, for cells that come one after the other or in blocks: `new`, `write_cell` for each cell
+/// or `write_cells` for each block, and `finish`.
 ///
 /// Every call is to be given the same sink. The writer holds a buffer of 16,384 bytes in itself and takes no memory.
 /// After a call that answered Err it is of no more use, and what it still held is lost. Contracts see it as a
