@@ -4,8 +4,10 @@
     python3 bench/run.py PATH-TO-HHM [--entries N] [--streams "powerlaw uniform .."] [--repeat R]
 
 It builds the two programs of this folder with rustc, generates each stream, and prints a table for it: seconds (the best
-of R runs), entries a second, peak memory, and the time as a multiple of the baseline's, the Rust program that sorts.
-sort and awk are left out where they are not installed. awk adds in floating point, so counts stay small here.
+of R runs), entries a second, peak memory, and the time as a multiple of the baseline's, the Rust program that sorts. The
+programs take turns, so that a slow minute of the machine falls on all of them. sort and awk run once, and are left out
+where they are not installed. awk adds in floating point, so counts stay small here. Memory below some 15 MB shows as
+that: each process begins as this one.
 The status is 1 where two outputs differ. Programs and data go to a folder of their own below the system's one for
 temporary files, and are removed at the end.
 """
@@ -64,32 +66,40 @@ def commands(hhm, baseline):
     return rows
 
 
+def outputs_agree(rows, text, folder, environment, rounds):
+    """Runs the programs in turn. Gives the runs of each, and whether its output is the first one's."""
+    runs, same = {name: [] for name, _, _ in rows}, {}
+    reference, output = os.path.join(folder, "reference"), os.path.join(folder, "output")
+    for turn in range(rounds):
+        for name, command, once in rows:
+            if once and turn > 0:
+                continue
+            runs[name].append(measure(command, text, output, environment))
+            if turn == 0 and not same:
+                os.replace(output, reference)
+                same[name] = True
+            else:
+                same[name] = same.get(name, True) and filecmp.cmp(output, reference, shallow=False)
+    return runs, same
+
+
 def run_stream(kind, arguments, generator, baseline, folder):
     """Measures one stream, prints its table, and says whether all outputs are the same."""
     text = os.path.join(folder, "text")
     with open(text, "wb") as sink:
         subprocess.run([generator, kind, str(arguments.entries)], stdout=sink, check=True)
     environment = dict(os.environ, LC_ALL="C", TMPDIR=folder, BODY=os.path.join(folder, "body"))
-    reference = os.path.join(folder, "reference")
+    runs, same = outputs_agree(commands(arguments.hhm, baseline), text, folder, environment, arguments.repeat)
     print(f"\n{kind}, {arguments.entries:,} entries\n")
     print("| program | seconds | entries a second | peak memory | ratio | output |")
     print("|---|---|---|---|---|---|")
-    base, same = None, True
-    for name, command, once in commands(arguments.hhm, baseline):
-        output = os.path.join(folder, "output")
-        runs = [measure(command, text, output, environment) for _ in range(1 if once else arguments.repeat)]
-        seconds, memory = min(seconds for seconds, _ in runs), max(memory for _, memory in runs)
-        if base is None:
-            base = seconds
-            os.replace(output, reference)
-            verdict = "reference"
-        else:
-            equal = filecmp.cmp(output, reference, shallow=False)
-            same = same and equal
-            verdict = "same" if equal else "DIFFERS"
+    base = min(seconds for seconds, _ in next(iter(runs.values())))
+    for place, (name, measured) in enumerate(runs.items()):
+        seconds, memory = min(seconds for seconds, _ in measured), max(memory for _, memory in measured)
+        verdict = ("reference" if place == 0 else "same") if same[name] else "DIFFERS"
         rate = arguments.entries / seconds
         print(f"| {name} | {seconds:.2f} | {rate:,.0f} | {memory / 1e6:.0f} MB | {seconds / base:.2f} | {verdict} |", flush=True)
-    return same
+    return all(same.values())
 
 
 def main():
@@ -97,7 +107,7 @@ def main():
     parser.add_argument("hhm", help="the built program")
     parser.add_argument("--entries", type=int, default=2_000_000)
     parser.add_argument("--streams", default=STREAMS)
-    parser.add_argument("--repeat", type=int, default=3)
+    parser.add_argument("--repeat", type=int, default=5)
     arguments = parser.parse_args()
     arguments.hhm = os.path.abspath(arguments.hhm)
     folder = tempfile.mkdtemp(prefix="hhm-bench-")
