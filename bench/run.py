@@ -66,7 +66,7 @@ def commands(hhm, baseline):
     return rows
 
 
-def outputs_agree(rows, text, folder, environment, rounds):
+def take_turns(rows, text, folder, environment, rounds):
     """Runs the programs in turn. Gives the runs of each, and whether its output is the first one's."""
     runs, same = {name: [] for name, _, _ in rows}, {}
     reference, output = os.path.join(folder, "reference"), os.path.join(folder, "output")
@@ -89,7 +89,7 @@ def run_stream(kind, arguments, generator, baseline, folder):
     with open(text, "wb") as sink:
         subprocess.run([generator, kind, str(arguments.entries)], stdout=sink, check=True)
     environment = dict(os.environ, LC_ALL="C", TMPDIR=folder, BODY=os.path.join(folder, "body"))
-    runs, same = outputs_agree(commands(arguments.hhm, baseline), text, folder, environment, arguments.repeat)
+    runs, same = take_turns(commands(arguments.hhm, baseline), text, folder, environment, arguments.repeat)
     print(f"\n{kind}, {arguments.entries:,} entries\n")
     print("| program | seconds | entries a second | peak memory | ratio | output |")
     print("|---|---|---|---|---|---|")
