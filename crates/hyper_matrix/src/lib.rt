@@ -13,19 +13,13 @@ mod cells;
 mod cut;
 mod find;
 mod hyper;
-#[cfg(test)]
-mod iter_tests;
 mod judge;
 mod laws;
 mod lookup;
 mod merge;
-#[cfg(test)]
-mod query_tests;
 mod row_laws;
 mod row_sum;
 mod rows;
-#[cfg(test)]
-mod tests;
 
 pub use cells::Cells;
 pub use hyper::Hyper;
