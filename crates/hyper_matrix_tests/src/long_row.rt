@@ -4,7 +4,7 @@ ghost use Rattle.std.specs.Prelude.{◌<◌};
 
 use crate::matrices::{SIDE, built, cell, has};
 use hyper_matrix::{Entry, Hyper, RowSum};
-use mm_text::Cell;
+use cells::Cell;
 use std::alloc::{AllocError, Global};
 use std::test::Fail;
 

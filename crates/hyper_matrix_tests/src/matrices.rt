@@ -1,8 +1,8 @@
 //! Matrices for tests, and what each must answer.
-ghost use Rattle.mm_text.specs.Bounds.{IsDimension};
+ghost use Rattle.cells.specs.Bounds.{IsDimension};
 
 use hyper_matrix::{Entry, Hyper};
-use mm_text::Cell;
+use cells::Cell;
 use std::alloc::{AllocError, Global};
 
 /// The rows, and the columns, of the matrices that are more than a table's.

@@ -2,7 +2,7 @@
 //!
 //! No block, one and many; a row of many blocks; blocks that share a place or none; lists that name a place many times.
 use crate::matrices::{SIDE, adds_up, built, cell, has};
-use mm_text::Cell;
+use cells::Cell;
 use std::alloc::{AllocError, Global};
 use std::collections::BTreeMap;
 use std::test::Fail;

@@ -1,5 +1,5 @@
 //! Lists and sums that were worked out by hand, in a matrix of 3 by 3.
-ghost use Rattle.mm_text.specs.Bounds.{IsDimension};
+ghost use Rattle.cells.specs.Bounds.{IsDimension};
 
 use crate::matrices::{Triple, adds_up, built, cell, cells_of, has};
 use hyper_matrix::{BuildFault, Hyper};

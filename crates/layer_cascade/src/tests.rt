@@ -5,8 +5,8 @@ ghost use Rattle.std.specs.Prelude.{◌≡◌};
 mod tests {
     use crate::fault::CascadeFault;
     use crate::layers::{Layers, Plan};
+    use cells::Cell;
     use hyper_matrix::{BuildFault, Hyper};
-    use mm_text::Cell;
     use std::alloc::{AllocError, Global};
     use std::test::Fail;
 
