@@ -1,3 +1,4 @@
 pub mod Bounds
 pub mod Order
+pub mod Sums
 pub mod Buckets

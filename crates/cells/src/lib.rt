@@ -7,14 +7,18 @@
 //! lists, and those that are too short or too long for the buckets, are sorted by `sort_unstable_by_key` of std.
 #![tactic(auto)]
 
+mod add_up;
 mod cell;
 mod deal;
 mod order;
 mod sort;
 mod spread;
+mod total;
 #[cfg(test)]
 mod tests;
 
+pub use add_up::summed;
 pub use cell::Cell;
-pub use order::is_in_order;
+pub use order::{is_in_order, rises};
 pub use sort::sorted;
+pub use total::total_of;

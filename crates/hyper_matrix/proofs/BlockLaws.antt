@@ -1,8 +1,8 @@
 -- Cells in blocks: what a push adds, and what stands from a block on.
 use Rattle.std.proofs.Common.{◌≡◌, ℕ, zero, suc, ◌+◌, ◌<◌, ◌≤◌, List, [], ◌∷◌, ◌++◌, length, get_or, take, sym, ◌∙◌, ap, subst, refl, arith, append_assoc}
 use Rattle.std.proofs.lemmas.List.{append-nil, take_more}
-use Rattle.hyper_matrix.specs.Counts.{Place, count_sum}
-use Rattle.hyper_matrix.specs.Rows.{Rows, cells_of}
+use Rattle.hyper_rows.specs.Counts.{Place, count_sum}
+use Rattle.hyper_rows.specs.Rows.{Rows, cells_of}
 use Rattle.hyper_matrix.specs.Blocks.{all_cells, IsBlock, AreBlocks, Grows}
 
 pub sum-append : (xs ys : List (Place × ℕ)) → count_sum (xs ++ ys) ≡ count_sum xs + count_sum ys

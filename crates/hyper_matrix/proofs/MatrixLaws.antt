@@ -4,15 +4,16 @@ use Rattle.std.specs.List.{AllByRecursion}
 use Rattle.std.proofs.lemmas.List.{append-nil}
 use Rattle.std.specs.FinMap.{entries, is_sorted, empty, len}
 use Rattle.cells.specs.Bounds.{IsDimension, AreWithin}
-use Rattle.hyper_matrix.specs.Counts.{Place, place_cmp, Counts, total, built, ewise_add, count_sum}
-use Rattle.hyper_matrix.specs.Rows.{Rows, cells_of}
+use Rattle.hyper_rows.specs.Counts.{Place, place_cmp, Counts, total, built, ewise_add, count_sum}
+use Rattle.hyper_rows.specs.Rows.{Rows, cells_of}
 use Rattle.hyper_matrix.specs.Matrix.{Matrix, matrix}
-use Rattle.hyper_matrix.specs.Cells.{entry_of}
+use Rattle.hyper_rows.specs.Cells.{entry_of, built_of, cell_total}
+use Rattle.hyper_rows.proofs.ListLaws.{total-built_of}
 use Rattle.cells.specs.declared.cell.Cell.{Cell}
 use Rattle.hyper_matrix.specs.Blocks.{all_cells, AreBlocks, ends_from}
 use Rattle.hyper_matrix.specs.Shared.{shared_counts, LiesWithin, Holds, Keeps}
-use Rattle.hyper_matrix.proofs.CountLaws.{total-ewise_add, ewise_add_comm, ewise_add-empty}
-use Rattle.hyper_matrix.proofs.PlaceLaws.{built-in_order, entries-in_order, total-in_order, len-in_order, places_of_sum}
+use Rattle.hyper_rows.proofs.CountLaws.{total-ewise_add, ewise_add_comm, ewise_add-empty}
+use Rattle.hyper_rows.proofs.PlaceLaws.{built-in_order, entries-in_order, total-in_order, len-in_order, places_of_sum}
 
 pub keeps_none : (r c : ℕ) (blocks : List Rows) (ends : List ℕ) → IsDimension r → IsDimension c → blocks ≡ [] → ends ≡ [] → Keeps r c 0 blocks ends
 keeps_none r c blocks ends is_rows is_cols none no_ends =
@@ -30,10 +31,6 @@ kept_total r c s blocks h = h.kept ∙ sym (total-in_order (all_cells blocks) h.
 
 pub same_values : (a b : List Rows) (r c s : ℕ) → Holds r c s a → AreBlocks b → all_cells b ≡ all_cells a → Holds r c s b
 same_values a b r c s h blocks same = record { is_rows = h.is_rows; is_cols = h.is_cols; are_blocks = blocks; sorted = rw same h.sorted; within = rw same h.within; kept = h.kept ∙ ap count_sum (sym same) }
-
--- cells read from blocks are theirs
-pub cells_read : (r c s r' c' : ℕ) (blocks : List Rows) (m : Matrix) (cells : List Cell) → Holds r c s blocks → matrix r' c' (shared_counts blocks) ≡ m → map entry_of cells ≡ entries m.counts → map entry_of cells ≡ all_cells blocks
-cells_read r c s r' c' blocks m cells h is told = told ∙ ap (λ (x : Matrix). entries x.counts) (sym is) ∙ entries-in_order (all_cells blocks) h.sorted
 
 -- the cells in all blocks, and the last of the ends
 pub end_of : (at : ℕ) (block : Rows) (blocks : List Rows) (d : ℕ) → get_or (ends_from at (block ∷ blocks)) (length (ends_from at (block ∷ blocks)) - 1) d ≡ at + length (all_cells (block ∷ blocks))
@@ -68,6 +65,28 @@ holds_sum r c m r' c' n a b s same_r same_c x y blocks sorted sums = record {
   within = places_of_sum (λ q. (q.0 < r) × (q.1 < c)) (all_cells s) (all_cells a) (all_cells b) sums x.within (subst (λ k. AllByRecursion (LiesWithin r k) (all_cells b)) same_c (subst (λ k. AllByRecursion (LiesWithin k c') (all_cells b)) same_r y.within));
   kept = omega (arith, kept_total r c m a x, kept_total r' c' n b y, total-ewise_add (shared_counts a) (shared_counts b), ap total sums, total-in_order (all_cells s) sorted);
 }
+
+-- the sum of a matrix's blocks and a list of cells
+pub holds_added : (r c m : ℕ) (a s : List Rows) (cells : List Cell) → Holds r c m a → T (is_sorted place_cmp (map entry_of cells)) → AllByRecursion (LiesWithin r c) (map entry_of cells) → AreBlocks s → T (is_sorted place_cmp (all_cells s)) →
+    built (all_cells s) ≡ ewise_add (built (all_cells a)) (built_of cells) → Holds r c (m + cell_total cells) s × (shared_counts s ≡ ewise_add (shared_counts a) (built_of cells))
+holds_added r c m a s cells x order within blocks sorted sums =
+    let told : shared_counts s ≡ ewise_add (shared_counts a) (built_of cells) = sym (built-in_order (all_cells s) sorted) ∙ sums ∙ ap (λ l. ewise_add l (built_of cells)) (built-in_order (all_cells a) x.sorted) in (
+      record {
+        is_rows = x.is_rows;
+        is_cols = x.is_cols;
+        are_blocks = blocks;
+        sorted = sorted;
+        within = places_of_sum (λ q. (q.0 < r) × (q.1 < c)) (all_cells s) (all_cells a) (map entry_of cells) (told ∙ ap (ewise_add (shared_counts a)) (built-in_order (map entry_of cells) order)) x.within within;
+        kept = omega (arith, kept_total r c m a x, total-ewise_add (shared_counts a) (built_of cells), ap total told, total-built_of cells, total-in_order (all_cells s) sorted);
+      },
+      told,
+    )
+
+-- nothing and a list of cells
+pub added_to_none : (r c : ℕ) (a : Counts) (x s : Matrix) (cells : List Cell) → matrix r c a ≡ x → x.counts ≡ empty → s ≡ matrix r c (built_of cells) → s ≡ matrix x.rows x.cols (ewise_add x.counts (built_of cells))
+added_to_none r c a x s cells view none is =
+    is ∙ ap (matrix r c) (sym (ap (λ m. ewise_add m (built_of cells)) none ∙ ewise_add_comm empty (built_of cells) ∙ ewise_add-empty (built_of cells)))
+    ∙ ap (λ (m : Matrix). matrix m.rows m.cols (ewise_add x.counts (built_of cells))) view
 
 -- no blocks hold nothing
 pub no_blocks : (r c : ℕ) (blocks : List Rows) (m : Matrix) → matrix r c (shared_counts blocks) ≡ m → length blocks ≡ 0 → m.counts ≡ empty

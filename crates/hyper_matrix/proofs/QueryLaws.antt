@@ -2,14 +2,15 @@
 use Rattle.std.proofs.Common.{◌≡◌, ℕ, zero, suc, ◌<◌, ◌≤◌, ◌⊎◌, true, false, cond, eqb, T, List, [], ◌∷◌, length, Option, Some, None, sym, ◌∙◌, ap, subst, refl, inl, inr, arith}
 use Rattle.std.specs.List.{slice_get, AllByRecursion}
 use Rattle.std.specs.FinMap.{entries, len, len-entries, is_sorted, find, get, get-from_entries, get-empty, empty}
-use Rattle.hyper_matrix.specs.Counts.{Place, Counts, place_cmp, count_sum, total}
+use Rattle.hyper_rows.specs.Counts.{Place, Counts, place_cmp, count_sum, total}
 use Rattle.hyper_matrix.specs.Matrix.{Matrix, matrix}
-use Rattle.hyper_matrix.specs.Rows.{Rows}
+use Rattle.hyper_rows.specs.Rows.{Rows}
 use Rattle.hyper_matrix.specs.Blocks.{all_cells, AreBlocks}
-use Rattle.hyper_matrix.specs.Lookup.{HaveRows, IsRowSum, map_of}
+use Rattle.hyper_matrix.specs.BlockSearch.{HaveRows, map_of}
+use Rattle.hyper_rows.specs.Search.{IsRowSum}
 use Rattle.hyper_matrix.specs.RowOf.{row_of, IsFirst, HasNoneFrom}
 use Rattle.hyper_matrix.specs.Shared.{LiesWithin}
-use Rattle.hyper_matrix.specs.Cells.{entry_of}
+use Rattle.hyper_rows.specs.Cells.{entry_of}
 use Rattle.hyper_matrix.specs.declared.row_sum.Entry.{Entry}
 use Rattle.cells.specs.declared.cell.Cell.{Cell}
 use Rattle.std.specs.Prelude.{IfSome, MatchOption}
@@ -17,8 +18,8 @@ use Rattle.std.specs.Option.{option_map}
 use Rattle.std.specs.Ordering.{eq_by_cmp}
 use Rattle.std.proofs.lemmas.Bool.{cases_eq, eq-eqb, ne_eqb}
 use Rattle.std.proofs.lemmas.Option.{none-some, same_Some}
-use Rattle.hyper_matrix.proofs.CountLaws.{places_total, exact_places, same_counts}
-use Rattle.hyper_matrix.proofs.FindLaws.{is_equal}
+use Rattle.hyper_rows.proofs.CountLaws.{places_total, exact_places, same_counts}
+use Rattle.hyper_matrix.proofs.BlockSearchLaws.{is_equal}
 use Rattle.hyper_matrix.proofs.RowOfLaws.{get-row_of, entries-map_of, len-row_of, total-row_of}
 
 pub have_rows : (blocks : List Rows) → AreBlocks blocks → HaveRows blocks

@@ -4,19 +4,19 @@ use Rattle.std.specs.List.{slice_range}
 use Rattle.std.specs.FinMap.{is_sorted, empty}
 use Rattle.std.proofs.lemmas.Bool.{cases_order}
 use Rattle.std.proofs.lemmas.List.{map-append, take-append-drop}
-use Rattle.hyper_matrix.specs.Counts.{count_sum, Place, place_cmp, Counts, built, ewise_add, total}
-use Rattle.hyper_matrix.specs.Rows.{Rows, InOrder, cells_of, counts_of, sum_entries, sum_rows, rows_total, AreRising}
-use Rattle.hyper_matrix.specs.Merged.{merged}
+use Rattle.hyper_rows.specs.Counts.{count_sum, Place, place_cmp, Counts, built, ewise_add, total}
+use Rattle.hyper_rows.specs.Rows.{Rows, InOrder, cells_of, counts_of, sum_entries, sum_rows, rows_total, AreRising}
+use Rattle.hyper_rows.specs.Merged.{merged}
 use Rattle.hyper_matrix.specs.Blocks.{all_cells, IsBlock, Grows, GrowsBySum}
-use Rattle.hyper_matrix.specs.Places.{Less, AllPlaces, Precede, IsFirst, BeginsFrom}
-use Rattle.hyper_matrix.specs.Cells.{entry_of, built_of, cell_total}
+use Rattle.hyper_rows.specs.Places.{Less, AllPlaces, Precede, IsFirst, BeginsFrom}
+use Rattle.hyper_rows.specs.Cells.{entry_of, built_of, cell_total}
 use Rattle.cells.specs.declared.cell.Cell.{Cell}
 use Rattle.hyper_matrix.proofs.BlockLaws.{all_cells-append}
-use Rattle.hyper_matrix.proofs.CountLaws.{ewise_add_assoc, built-append, total-ewise_add, ewise_add_comm, ewise_add-empty, total-built, total-ewise_add}
-use Rattle.hyper_matrix.proofs.CellLaws.{counts_of-sum_rows, in_order-sum_rows, sorted_rows, sum_of_cells, total-counts_of}
-use Rattle.hyper_matrix.proofs.BuildLaws.{counts_of-built, total-built_of}
-use Rattle.hyper_matrix.proofs.MergeLaws.{split_at, merged-nil, merged_less, merged_greater, merged_same}
-use Rattle.hyper_matrix.proofs.OrderLaws.{all_map, precedes, before_first, before_begin, below_first, columns_rise, next_left, next_right, next_sum}
+use Rattle.hyper_rows.proofs.CountLaws.{ewise_add_assoc, built-append, total-ewise_add, ewise_add_comm, ewise_add-empty, total-built, total-ewise_add}
+use Rattle.hyper_rows.proofs.CellLaws.{counts_of-sum_rows, in_order-sum_rows, sorted_rows, sum_of_cells, total-counts_of}
+use Rattle.hyper_rows.proofs.ListLaws.{counts_of-built, total-built_of}
+use Rattle.hyper_rows.proofs.MergeLaws.{split_at, merged-nil, merged_less, merged_greater, merged_same}
+use Rattle.hyper_rows.proofs.OrderLaws.{all_map, precedes, before_first, before_begin, below_first, columns_rise, next_left, next_right, next_sum}
 
 pub built-nil : built [] ≡ empty
 unfolding built
@@ -51,6 +51,12 @@ in_block block b sorted = record { numbers = b.numbers; columns = columns_rise b
 -- the numbers of a sum's rows rise
 pub sum_rising : (block piece sum : Rows) → IsBlock block → T (is_sorted place_cmp (cells_of block)) → InOrder piece → sum ≡ sum_rows block piece → AreRising sum
 sum_rising block piece sum b sorted order is = subst AreRising (sym is) (in_order-sum_rows block piece (in_block block b sorted) order).numbers
+
+-- and its cells are in order
+pub sum_sorted : (block piece sum : Rows) → IsBlock block → T (is_sorted place_cmp (cells_of block)) → InOrder piece → sum ≡ sum_rows block piece → T (is_sorted place_cmp (cells_of sum))
+sum_sorted block piece sum b sorted order is =
+    let all = in_order-sum_rows block piece (in_block block b sorted) order in
+    subst (λ (r : Rows). T (is_sorted place_cmp (cells_of r))) (sym is) (sorted_rows (sum_rows block piece) all.numbers all.columns)
 
 -- a sum of rows has rows where the first has
 some_merged : {X : Type 0} (f : X → X → X) (x : ℕ × X) (xs ys : List (ℕ × X)) → 0 < length (merged f (x ∷ xs) ys)

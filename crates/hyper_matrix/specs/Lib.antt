@@ -1,11 +1,8 @@
-pub mod Counts
-pub mod Merged
-pub mod Rows
+pub use Rattle.hyper_rows.specs.Counts
+pub use Rattle.hyper_rows.specs.Cells
 pub mod Matrix
 pub mod Blocks
 pub mod Shared
-pub mod Cells
-pub mod Places
-pub mod Lookup
+pub mod BlockSearch
 pub mod RowOf
 pub mod Refusals

@@ -3,8 +3,8 @@ use Rattle.std.specs.Prelude.{◌≡◌, ◌<◌, ℕ, List, T}
 use Rattle.std.specs.List.{AllByRecursion}
 use Rattle.std.specs.FinMap.{from_entries, is_sorted}
 use Rattle.cells.specs.Bounds.{IsDimension}
-use Rattle.hyper_matrix.specs.Counts.{Place, place_cmp, Counts, count_sum}
-use Rattle.hyper_matrix.specs.Rows.{Rows}
+use Rattle.hyper_rows.specs.Counts.{Place, place_cmp, Counts, count_sum}
+use Rattle.hyper_rows.specs.Rows.{Rows}
 use Rattle.hyper_matrix.specs.Blocks.{all_cells, AreBlocks, ends_from}
 
 -- the finite map that blocks stand for

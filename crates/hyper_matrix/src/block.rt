@@ -4,19 +4,14 @@
 //! memory.
 ghost use Rattle.std.specs.Prelude.{◌≡◌, ℕ, ◌<◌, IfOk, OnOk, IsTrue, IsFalse, [], length};
 ghost use Rattle.std.specs.Arc.{arc_value};
-ghost use Rattle.hyper_matrix.specs.Rows.{cells_of};
-ghost use Rattle.hyper_matrix.specs.Places.{IsFirst};
+ghost use Rattle.hyper_rows.specs.Rows.{cells_of};
+ghost use Rattle.hyper_rows.specs.Places.{IsFirst};
 
-use crate::rows::Rows;
+use hyper_rows::Rows;
 use std::alloc::{AllocError, Global};
 use std::marker::Model;
 use std::mem;
 use std::sync::Arc;
-
-/// The most cells in a block. Measured: where 4,096 random cells join 8 million, 256 takes a tenth of the time of flat
-/// rows, 4,096 a third. 64, 96, 128 and 512 were tried too: smaller blocks cost the cache misses that they save in
-/// copies.
-pub const MOST: usize = 256;
 
 /// Rows that may be shared.
 ///
@@ -33,8 +28,8 @@ pub struct Block {
 impl Model for Block {
     ghost use Rattle.std.specs.Prelude.{◌≡◌, length};
     ghost use Rattle.std.specs.Arc.{arc_value};
-    ghost use Rattle.hyper_matrix.specs.Rows.{Rows, cells_of};
-    ghost use Rattle.hyper_matrix.specs.Places.{IsFirst};
+    ghost use Rattle.hyper_rows.specs.Rows.{Rows, cells_of};
+    ghost use Rattle.hyper_rows.specs.Places.{IsFirst};
 
     ghost Value = { Rows };
 
@@ -77,16 +72,21 @@ impl Block {
     /// Puts rows in place of the block's own.
     ///
     /// Where nobody shares the block the two are exchanged: `rows` has the old rows then, and with them their memory,
-    /// and nothing is allocated. Otherwise the old rows stay with those that have them, and `rows` gets new room for
-    /// `MOST` cells.
-    pub fn put(&mut self, alloc: Global, rows: &mut Rows) -> Result<(), AllocError>
+    /// and nothing is allocated. Otherwise the old rows stay with those that have them, and `rows` gets new room for so
+    /// many cells.
+    pub fn put(
+        &mut self,
+        alloc: Global,
+        rows: &mut Rows,
+        room: usize,
+    ) -> Result<(), AllocError>
         requires { 0 < length rows.old }
         ensures { OnOk result (self.new ≡ rows.old) }
     {
         let (row, col) = rows.first();
         let count = rows.entry_count();
         if !exchange(&mut self.rows, rows) {
-            let room = Rows::with_room(alloc, MOST)?;
+            let room = Rows::with_room(alloc, room)?;
             self.rows = Arc::new(alloc, mem::replace(rows, room))?;
         }
         self.row = row;

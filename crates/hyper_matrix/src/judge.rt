@@ -1,6 +1,6 @@
 //! The judgement of a list of cells, before anything is made of it: one pass that takes no memory.
 ghost use Rattle.std.specs.Prelude.{◌≡◌, ℕ, ◌<◌, ◌^◌};
-ghost use Rattle.hyper_matrix.specs.Cells.{first_fault};
+ghost use Rattle.hyper_matrix.specs.Refusals.{first_fault};
 
 use cells::Cell;
 

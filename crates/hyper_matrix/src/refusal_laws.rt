@@ -1,7 +1,7 @@
 //! Laws of refusals: in terms of the list, where `Hyper::build` refuses a list, and where it does not.
 ghost use Rattle.std.specs.Prelude.{◌≡◌, ℕ, ◌↔◌, List, Some, None};
 ghost use Rattle.cells.specs.declared.cell.Cell.{Cell};
-ghost use Rattle.hyper_matrix.specs.Cells.{first_fault};
+ghost use Rattle.hyper_matrix.specs.Refusals.{first_fault};
 ghost use Rattle.hyper_matrix.specs.Refusals.{LeavesDimensions, PassesLimit, MakesMatrix};
 
 use crate::judge::BuildFault;

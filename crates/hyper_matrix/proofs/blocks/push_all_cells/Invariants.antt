@@ -1,6 +1,6 @@
 use Rattle.std.proofs.Common.{◌≡◌, ◌++◌, drop, map}
 use Rattle.hyper_matrix.specs.Blocks.{all_cells}
-use Rattle.hyper_matrix.specs.Cells.{entry_of}
+use Rattle.hyper_rows.specs.Cells.{entry_of}
 use Rattle.hyper_matrix.proofs.blocks.push_all_cells.Given as goal
 
 abbrev pub invariant-loop-block : goal.invariant-loop-block

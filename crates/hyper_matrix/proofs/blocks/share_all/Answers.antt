@@ -1,6 +1,6 @@
 use Rattle.std.proofs.Common.{ℕ, List, ◌++◌, subst, sym, ap, ◌∙◌, arith}
-use Rattle.hyper_matrix.specs.Counts.{Place}
-use Rattle.hyper_matrix.specs.Rows.{cells_of}
+use Rattle.hyper_rows.specs.Counts.{Place}
+use Rattle.hyper_rows.specs.Rows.{cells_of}
 use Rattle.hyper_matrix.specs.Blocks.{IsBlock}
 use Rattle.hyper_matrix.proofs.BlockLaws.{one_block_more, block_at}
 use Rattle.hyper_matrix.proofs.blocks.share_all.Goals as goal

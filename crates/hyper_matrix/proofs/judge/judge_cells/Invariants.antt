@@ -1,5 +1,5 @@
 use Rattle.std.proofs.Common.{◌≡◌, drop}
-use Rattle.hyper_matrix.specs.Cells.{first_fault}
+use Rattle.hyper_matrix.specs.Refusals.{first_fault}
 use Rattle.hyper_matrix.proofs.judge.judge_cells.Given as goal
 
 abbrev pub invariant-loop-cell : goal.invariant-loop-cell

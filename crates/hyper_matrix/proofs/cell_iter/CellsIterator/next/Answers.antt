@@ -1,4 +1,4 @@
-use Rattle.hyper_matrix.proofs.WalkLaws.{block_begins}
+use Rattle.hyper_matrix.proofs.CellIterLaws.{block_begins}
 use Rattle.hyper_matrix.proofs.cell_iter.CellsIterator.next.Goals as goal
 
 pub returns-clause-steps : goal.returns-clause-steps

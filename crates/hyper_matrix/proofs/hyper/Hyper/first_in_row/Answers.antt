@@ -1,7 +1,7 @@
 use Rattle.std.proofs.Common.{sym, subst}
 use Rattle.std.specs.Prelude.{MatchOption}
-use Rattle.hyper_matrix.specs.Counts.{Counts}
-use Rattle.hyper_matrix.specs.Lookup.{HaveRows}
+use Rattle.hyper_rows.specs.Counts.{Counts}
+use Rattle.hyper_matrix.specs.BlockSearch.{HaveRows}
 use Rattle.hyper_matrix.specs.RowOf.{IsFirst, HasNoneFrom}
 use Rattle.hyper_matrix.proofs.QueryLaws.{have_rows, counts_are, entry_within}
 use Rattle.hyper_matrix.proofs.hyper.Hyper.first_in_row.Goals as goal

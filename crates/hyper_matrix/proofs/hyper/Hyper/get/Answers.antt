@@ -1,7 +1,7 @@
 use Rattle.std.proofs.Common.{sym, subst, ap, ◌∙◌}
 use Rattle.std.specs.FinMap.{get}
-use Rattle.hyper_matrix.specs.Counts.{Counts}
-use Rattle.hyper_matrix.specs.Lookup.{HaveRows}
+use Rattle.hyper_rows.specs.Counts.{Counts}
+use Rattle.hyper_matrix.specs.BlockSearch.{HaveRows}
 use Rattle.hyper_matrix.proofs.QueryLaws.{have_rows, counts_are, none_outside}
 use Rattle.hyper_matrix.proofs.hyper.Hyper.get.Goals as goal
 

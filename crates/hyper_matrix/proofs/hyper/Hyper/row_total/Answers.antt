@@ -1,8 +1,8 @@
 use Rattle.std.proofs.Common.{ℕ, sym, subst, ap, ◌∙◌, arith}
 use Rattle.std.specs.FinMap.{len, len-empty}
-use Rattle.hyper_matrix.specs.Counts.{place_cmp, total}
-use Rattle.hyper_matrix.proofs.CountLaws.{total-empty}
-use Rattle.hyper_matrix.specs.Lookup.{HaveRows}
+use Rattle.hyper_rows.specs.Counts.{place_cmp, total}
+use Rattle.hyper_rows.proofs.CountLaws.{total-empty}
+use Rattle.hyper_matrix.specs.BlockSearch.{HaveRows}
 use Rattle.hyper_matrix.proofs.QueryLaws.{have_rows, length_is, sum_is, row_count_is, row_total_is, row_outside}
 use Rattle.hyper_matrix.proofs.hyper.Hyper.row_total.Goals as goal
 

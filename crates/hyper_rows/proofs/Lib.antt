@@ -1,0 +1,11 @@
+pub mod CountLaws
+pub mod MergeLaws
+pub mod RowLaws
+pub mod CellLaws
+pub mod PlaceLaws
+pub mod SortLaws
+pub mod OrderLaws
+pub mod RowEndLaws
+pub mod SearchLaws
+pub mod ListLaws
+pub mod RunCellLaws

@@ -1,0 +1,6 @@
+pub mod Counts
+pub mod Merged
+pub mod Rows
+pub mod Places
+pub mod Cells
+pub mod Search

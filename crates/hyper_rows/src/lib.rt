@@ -1,0 +1,14 @@
+//! Runs of compressed nonempty rows, by which `hyper_matrix` holds its cells: a run made of a list of cells, the sum of
+//! two runs, and searches in one.
+#![tactic(auto)]
+
+mod build;
+mod merge;
+mod rows;
+mod run_cells;
+mod search;
+
+pub use build::rows_of_sorted;
+pub use rows::Rows;
+pub use run_cells::RunCells;
+pub use search::{RowSum, cell_at, first_from, is_before, row_end, row_sum};
