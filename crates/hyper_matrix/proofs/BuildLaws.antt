@@ -1,5 +1,5 @@
 -- Blocks of a list of cells, and that want of memory is no fault of a list.
-use Rattle.std.proofs.Common.{T, ◌≡◌, ℕ, ◌+◌, ◌<◌, ◌^◌, ◌&&◌, Bool, true, false, cond, ltb, List, [], ◌∷◌, ◌++◌, subst, map, Some, sym, ◌∙◌, ap, arith}
+use Rattle.std.proofs.Common.{T, ◌≡◌, ℕ, ◌+◌, ◌^◌, ◌&&◌, Bool, true, false, cond, ltb, List, [], ◌∷◌, ◌++◌, subst, map, Some, sym, ◌∙◌, ap}
 use Rattle.std.specs.List.{AllByRecursion}
 use Rattle.std.specs.FinMap.{is_sorted}
 use Rattle.std.proofs.lemmas.List.Elements.{All-head, All-tail}

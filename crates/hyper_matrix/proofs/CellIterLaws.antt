@@ -1,16 +1,14 @@
 -- The cells of blocks, one after the other.
-use Rattle.std.proofs.Common.{◌≡◌, ℕ, suc, ◌+◌, ◌-◌, ◌<◌, ◌≤◌, List, [], ◌∷◌, ◌++◌, length, get_or, take, drop, sym, ◌∙◌, ap, subst, arith, length-append}
-use Rattle.std.specs.List.{slice_range}
-use Rattle.std.proofs.lemmas.List.{drop_more, length-map}
+use Rattle.std.proofs.Common.{◌≡◌, ℕ, List, [], ◌∷◌, ◌++◌, length, sym, ◌∙◌, ap, subst, arith, length-append}
+use Rattle.std.proofs.lemmas.List.{length-map}
 use Rattle.hyper_rows.specs.Counts.{Place}
 use Rattle.std.specs.Prelude.{Option, Some, None}
 use Rattle.std.specs.Iterator.{YieldsFirstBy}
 use Rattle.cells.specs.declared.cell.Cell.{Cell}
-use Rattle.hyper_rows.specs.Rows.{Rows, Entries, rows_from, EndsAt, cells_of, at_places}
+use Rattle.hyper_rows.specs.Rows.{Rows, cells_of, at_places}
 use Rattle.hyper_matrix.specs.Blocks.{all_cells, IsBlock, AreBlocks}
 use Rattle.hyper_rows.specs.Cells.{entry_of}
 use Rattle.hyper_rows.specs.Search.{RowsFull}
-use Rattle.hyper_rows.proofs.RowLaws.{ends_le}
 
 -- a block has a cell
 block_cell : (rows : Rows) → IsBlock rows → RowsFull rows → cells_of rows ≡ [] → ⊥

@@ -2,7 +2,7 @@
 use Rattle.std.proofs.Common.{T, ◌≡◌, ℕ, zero, suc, ◌+◌, ◌<◌, List, [], ◌∷◌, map, length, length-append, get_or, ◌-◌, sym, ◌∙◌, ap, subst, refl, arith}
 use Rattle.std.specs.List.{AllByRecursion}
 use Rattle.std.proofs.lemmas.List.{append-nil}
-use Rattle.std.specs.FinMap.{entries, is_sorted, empty, len}
+use Rattle.std.specs.FinMap.{is_sorted, empty, len}
 use Rattle.cells.specs.Bounds.{IsDimension, AreWithin}
 use Rattle.hyper_rows.specs.Counts.{Place, place_cmp, Counts, total, built, ewise_add, count_sum}
 use Rattle.hyper_rows.specs.Rows.{Rows, cells_of}
@@ -13,7 +13,7 @@ use Rattle.cells.specs.declared.cell.Cell.{Cell}
 use Rattle.hyper_matrix.specs.Blocks.{all_cells, AreBlocks, ends_from}
 use Rattle.hyper_matrix.specs.Shared.{shared_counts, LiesWithin, Holds, Keeps}
 use Rattle.hyper_rows.proofs.CountLaws.{total-ewise_add, ewise_add_comm, ewise_add-empty}
-use Rattle.hyper_rows.proofs.PlaceLaws.{built-in_order, entries-in_order, total-in_order, len-in_order, places_of_sum}
+use Rattle.hyper_rows.proofs.PlaceLaws.{built-in_order, total-in_order, len-in_order, places_of_sum}
 
 pub keeps_none : (r c : ℕ) (blocks : List Rows) (ends : List ℕ) → IsDimension r → IsDimension c → blocks ≡ [] → ends ≡ [] → Keeps r c 0 blocks ends
 keeps_none r c blocks ends is_rows is_cols none no_ends =

@@ -1,8 +1,8 @@
 -- Rows in blocks.
-use Rattle.std.specs.Prelude.{◌≡◌, ℕ, ◌+◌, ◌-◌, ◌<◌, ◌≤◌, T, List, [], ◌∷◌, ◌++◌, length, drop, slice_index_or, slice_range}
+use Rattle.std.specs.Prelude.{◌≡◌, ℕ, ◌+◌, ◌<◌, T, List, [], ◌∷◌, ◌++◌, length}
 use Rattle.std.specs.FinMap.{is_sorted}
 use Rattle.hyper_rows.specs.Counts.{Place, place_cmp, built, ewise_add}
-use Rattle.hyper_rows.specs.Rows.{Rows, AreRising, start_from, cells_of}
+use Rattle.hyper_rows.specs.Rows.{Rows, AreRising, cells_of}
 
 -- the cells of all blocks, one block after the other
 abbrev pub all_cells : List Rows → List (Place × ℕ)

@@ -1,4 +1,4 @@
-use Rattle.std.proofs.Common.{◌≡◌, ◌++◌, ℕ, ◌<◌, T, List, length, length-append, map, subst, sym, ap, ◌∙◌, arith}
+use Rattle.std.proofs.Common.{◌≡◌, ℕ, ◌<◌, T, List, length, length-append, map, subst, sym, ap, arith}
 use Rattle.std.specs.FinMap.{is_sorted}
 use Rattle.hyper_rows.specs.Counts.{Place, place_cmp, count_sum}
 use Rattle.hyper_rows.specs.Rows.{Rows, AreRising, cells_of}

@@ -1,9 +1,9 @@
-use Rattle.std.proofs.Common.{◌≡◌, ◌+◌, ap, ◌∙◌, sym, subst, arith}
+use Rattle.std.proofs.Common.{◌+◌, ap, ◌∙◌, sym, subst, arith}
 use Rattle.cells.specs.Bounds.{AreWithin}
 use Rattle.hyper_rows.specs.Counts.{total, ewise_add}
-use Rattle.hyper_rows.specs.Cells.{built_of, cell_total}
+use Rattle.hyper_rows.specs.Cells.{built_of}
 use Rattle.hyper_matrix.specs.Matrix.{Matrix, matrix}
-use Rattle.hyper_matrix.specs.Shared.{shared_counts, Holds}
+use Rattle.hyper_matrix.specs.Shared.{Holds}
 use Rattle.hyper_rows.proofs.OrderLaws.{sorted_rising}
 use Rattle.hyper_matrix.proofs.BuildLaws.{entries_within}
 use Rattle.hyper_matrix.proofs.MatrixLaws.{holds_added, added_to_none, kept_total, no_blocks}
