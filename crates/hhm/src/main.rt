@@ -5,15 +5,9 @@
 #![tactic(auto)]
 
 mod cli;
-#[cfg(test)]
-mod cli_tests;
 mod fault;
 mod numbers;
-#[cfg(test)]
-mod option_tests;
 mod report;
-#[cfg(test)]
-mod report_tests;
 mod running_sum;
 mod sum;
 #[cfg(test)]
