@@ -1,14 +1,15 @@
 -- What reading and adding one more block does to a sum of a text.
 use Rattle.std.proofs.Common.{◌≡◌, ◌≢◌, ℕ, ◌+◌, ◌≤◌, List, [], ◌++◌, length, Option, Some, Result, Ok, Err, refl, sym, ◌∙◌, ap, subst, arith, get_or}
 use Rattle.std.proofs.lemmas.List.{get_or-append-add, length-append}
-use Rattle.mm_text.specs.Bounds.{IsWithin, AreWithin}
+use Rattle.cells.specs.Bounds.{IsWithin, AreWithin}
 use Rattle.mm_text.specs.Readings.{size_of, HasRead, SpelledBy, GoesOn, Ends, Stops, SizedCells, AreSized}
 use Rattle.mm_text.proofs.BoundLemmas.{stage_sized, spells_bounds}
-use Rattle.mm_text.specs.Streams.{bytes_of_calls, Explains}
+use Rattle.byte_io.specs.Streams.{bytes_of_calls}
+use Rattle.mm_text.specs.Faults.{Explains}
 use Rattle.mm_text.specs.Texts.{Spells}
-use Rattle.mm_text.proofs.StreamLemmas.{calls-append}
-use Rattle.mm_text.specs.declared.cell.Cell.{Cell}
-use Rattle.mm_text.specs.declared.fault.DeviceFault.{DeviceFault}
+use Rattle.byte_io.proofs.StreamLemmas.{calls-append}
+use Rattle.cells.specs.declared.cell.Cell.{Cell}
+use Rattle.byte_io.specs.declared.fault.DeviceFault.{DeviceFault}
 use Rattle.mm_text.specs.declared.fault.MmFault.{MmFault}
 use Rattle.mm_text.specs.declared.reader.TextReader.{TextReader}
 use Rattle.mm_text.specs.declared.fault.MmKind.{MmKind}

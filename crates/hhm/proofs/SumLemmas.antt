@@ -1,8 +1,8 @@
 -- What one more block of cells does to a sum.
 use Rattle.std.proofs.Common.{◌≡◌, ℕ, suc, ◌+◌, ◌<◌, ◌≤◌, ◌^◌, List, [], ◌∷◌, ◌++◌, length, Some, map, refl, sym, ◌∙◌, ap, arith, append_assoc, Bool, true, false, cond, ltb, ◌&&◌}
 use Rattle.std.proofs.lemmas.Bool.{ltb-false}
-use Rattle.mm_text.specs.Bounds.{IsWithin, AreWithin}
-use Rattle.mm_text.specs.declared.cell.Cell.{Cell}
+use Rattle.cells.specs.Bounds.{IsWithin, AreWithin}
+use Rattle.cells.specs.declared.cell.Cell.{Cell}
 use Rattle.hyper_matrix.specs.Counts.{Place, ewise_add, total}
 use Rattle.hyper_matrix.specs.Cells.{built_of, cell_total, entry_of, first_fault}
 use Rattle.std.specs.FinMap.{entries, len, len-entries}

@@ -1,10 +1,10 @@
 -- How far a text was summed: what the source gave, what the reader handed out, and what of that was added.
 use Rattle.std.specs.Prelude.{◌≡◌, ℕ, List, ◌++◌, Some, Result}
-use Rattle.mm_text.specs.Bounds.{IsDimension}
+use Rattle.cells.specs.Bounds.{IsDimension}
 use Rattle.mm_text.specs.Readings.{size_of, HasRead}
-use Rattle.mm_text.specs.Streams.{Calls}
-use Rattle.mm_text.specs.declared.cell.Cell.{Cell}
-use Rattle.mm_text.specs.declared.fault.DeviceFault.{DeviceFault}
+use Rattle.byte_io.specs.Streams.{Calls}
+use Rattle.cells.specs.declared.cell.Cell.{Cell}
+use Rattle.byte_io.specs.declared.fault.DeviceFault.{DeviceFault}
 use Rattle.mm_text.specs.declared.reader.TextReader.{TextReader}
 use Rattle.mm_text.specs.declared.size.Size.{Size}
 use Rattle.hhm.specs.Sum.{sum_limits, ReadsText, StopsText}

@@ -2,10 +2,11 @@
 use Rattle.std.specs.Prelude.{◌≡◌, ◌≢◌, ℕ, ◌+◌, ◌<◌, ◌≤◌, ◌^◌, List, map, length, Result}
 use Rattle.std.specs.FinMap.{entries}
 use Rattle.mm_text.specs.Canonical.{canonical}
-use Rattle.mm_text.specs.Streams.{Calls, bytes_of_calls, Explains}
+use Rattle.byte_io.specs.Streams.{Calls, bytes_of_calls}
+use Rattle.mm_text.specs.Faults.{Explains}
 use Rattle.mm_text.specs.Texts.{Spells}
-use Rattle.mm_text.specs.declared.cell.Cell.{Cell}
-use Rattle.mm_text.specs.declared.fault.DeviceFault.{DeviceFault}
+use Rattle.cells.specs.declared.cell.Cell.{Cell}
+use Rattle.byte_io.specs.declared.fault.DeviceFault.{DeviceFault}
 use Rattle.mm_text.specs.declared.fault.MmKind.{MmKind}
 use Rattle.mm_text.specs.declared.fault.MmKind.TheVariants.{Read, Memory}
 use Rattle.mm_text.specs.declared.limits.TextLimits.{TextLimits}

@@ -3,7 +3,8 @@ ghost use Rattle.hhm.specs.Faults.{fault_of_text};
 ghost use Rattle.std.specs.Prelude.{◌≡◌};
 ghost use Rattle.hhm.specs.declared.fault.SumFault.TheVariants.{Memory};
 
-use mm_text::{MmFault, MmKind, WriteFault};
+use byte_io::WriteFault;
+use mm_text::{MmFault, MmKind};
 use std::alloc::AllocError;
 
 /// Why a sum was not written.

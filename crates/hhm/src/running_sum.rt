@@ -4,8 +4,8 @@
 //! layers alone. Once the total has passed 2^64 - 1 nothing is added any more, and memory is given back: the text is
 //! only read to its end, since a fault in it is told first.
 ghost use Rattle.std.specs.Prelude.{◌≡◌, ℕ, ◌+◌, ◌<◌, ◌≤◌, ◌^◌, List, [], ◌++◌, ◌⊎◌, OnOk, IfOk, IfErr, Err};
-ghost use Rattle.mm_text.specs.Bounds.{IsDimension, AreWithin};
-ghost use Rattle.mm_text.specs.declared.cell.Cell.{Cell};
+ghost use Rattle.cells.specs.Bounds.{IsDimension, AreWithin};
+ghost use Rattle.cells.specs.declared.cell.Cell.{Cell};
 ghost use Rattle.hyper_matrix.specs.Cells.{built_of, cell_total};
 ghost use Rattle.hyper_matrix.specs.Counts.{total};
 ghost use Rattle.hyper_matrix.specs.Matrix.{matrix};
@@ -14,9 +14,9 @@ ghost use Rattle.layer_cascade.specs.Cuts.{AreCuts};
 ghost use Rattle.hhm.specs.Running.{LayersSum, IsSumOf};
 
 use crate::fault::SumFault;
+use cells::Cell;
 use hyper_matrix::{BuildFault, Hyper};
 use layer_cascade::Layers;
-use mm_text::Cell;
 use std::alloc::{AllocError, Global};
 
 /// The running sum of a list of cells.

@@ -4,10 +4,10 @@
 //! over the text, of the additions that the cuts ask for, and of one pass over the sum.
 ghost use Rattle.std.specs.Prelude.{◌≡◌, ℕ, ◌+◌, ◌<◌, ◌≤◌, ◌^◌, List, ◌⊎◌, ◌↔◌, OnOk, IfOk, IfErr, Err, Some, []};
 ghost use Rattle.mm_text.specs.declared.size.Size.{Size};
-ghost use Rattle.mm_text.specs.Writing.{HasTaken, HasStopped};
-ghost use Rattle.mm_text.specs.declared.cell.Cell.{Cell};
+ghost use Rattle.byte_io.specs.Writing.{HasTaken, HasStopped};
+ghost use Rattle.cells.specs.declared.cell.Cell.{Cell};
 ghost use Rattle.mm_text.specs.declared.fault.MmFault.{MmFault};
-ghost use Rattle.mm_text.specs.declared.fault.WriteFault.{WriteFault};
+ghost use Rattle.byte_io.specs.declared.fault.WriteFault.{WriteFault};
 ghost use Rattle.layer_cascade.specs.Cuts.{AreCuts};
 ghost use Rattle.hhm.specs.Faults.{IsOutput};
 ghost use Rattle.hhm.specs.Reading.{IsSized, IsSumming, HasSummed, Excuses};
@@ -17,9 +17,11 @@ ghost use Rattle.hhm.specs.Sum.{sum_text, matrix_text, StopsText, SumsText, SumP
 
 use crate::fault::SumFault;
 use crate::running_sum::RunningSum;
+use byte_io::{Sink, Source, WriteFault};
+use cells::Cell;
 use hyper_matrix::Hyper;
 use layer_cascade::are_cuts;
-use mm_text::{Cell, Sink, Source, TextLimits, TextReader, TextWriter, WriteFault};
+use mm_text::{TextLimits, TextReader, TextWriter};
 use std::alloc::{AllocError, Global};
 
 /// The most cells of the list that go into the layers at once.

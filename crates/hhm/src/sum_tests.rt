@@ -3,7 +3,8 @@ ghost use Rattle.std.specs.Prelude.{◌≡◌, IfOk};
 
 use crate::fault::SumFault;
 use crate::sum::run_sum;
-use mm_text::{DeviceFault, MmFault, MmKind, Script, Sink, Source, WriteFault};
+use byte_io::{DeviceFault, Script, Sink, Source, WriteFault};
+use mm_text::{MmFault, MmKind};
 use std::alloc::{AllocError, Global};
 use std::process::Abort;
 use std::test::Fail;

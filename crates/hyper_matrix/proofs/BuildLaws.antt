@@ -10,10 +10,10 @@ use Rattle.std.proofs.lemmas.List.Sorted.{sum_by-IsPermutation}
 use Rattle.hyper_matrix.specs.Counts.{Place, place_cmp, plus, count_at, ewise_add, built, total, count_sum}
 use Rattle.hyper_matrix.specs.Cells.{entry_of, built_of, cell_total, cells_at, first_fault}
 use Rattle.hyper_matrix.specs.declared.judge.BuildFault.TheVariants.{Memory, IndexOutOfRange, SumTooLarge}
-use Rattle.mm_text.specs.declared.cell.Cell.{Cell}
+use Rattle.cells.specs.declared.cell.Cell.{Cell}
 use Rattle.std.specs.FinMap.{get, get-from_entries, empty, is_sorted}
 use Rattle.std.specs.List.{AllByRecursion}
-use Rattle.mm_text.specs.Bounds.{IsDimension}
+use Rattle.cells.specs.Bounds.{IsDimension}
 use Rattle.hyper_matrix.specs.Rows.{Rows, InOrder, cells_of, counts_of}
 use Rattle.hyper_matrix.specs.Blocks.{all_cells, Grows}
 use Rattle.hyper_matrix.specs.Shared.{shared_counts, LiesWithin, Holds}

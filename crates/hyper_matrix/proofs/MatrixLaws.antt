@@ -3,12 +3,12 @@ use Rattle.std.proofs.Common.{T, ◌≡◌, ℕ, zero, suc, ◌+◌, ◌<◌, Li
 use Rattle.std.specs.List.{AllByRecursion}
 use Rattle.std.proofs.lemmas.List.{append-nil}
 use Rattle.std.specs.FinMap.{entries, is_sorted, empty, len}
-use Rattle.mm_text.specs.Bounds.{IsDimension, AreWithin}
+use Rattle.cells.specs.Bounds.{IsDimension, AreWithin}
 use Rattle.hyper_matrix.specs.Counts.{Place, place_cmp, Counts, total, built, ewise_add, count_sum}
 use Rattle.hyper_matrix.specs.Rows.{Rows, cells_of}
 use Rattle.hyper_matrix.specs.Matrix.{Matrix, matrix}
 use Rattle.hyper_matrix.specs.Cells.{entry_of}
-use Rattle.mm_text.specs.declared.cell.Cell.{Cell}
+use Rattle.cells.specs.declared.cell.Cell.{Cell}
 use Rattle.hyper_matrix.specs.Blocks.{all_cells, AreBlocks, ends_from}
 use Rattle.hyper_matrix.specs.Shared.{shared_counts, LiesWithin, Holds, Keeps}
 use Rattle.hyper_matrix.proofs.CountLaws.{total-ewise_add, ewise_add_comm, ewise_add-empty}

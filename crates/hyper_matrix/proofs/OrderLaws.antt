@@ -8,8 +8,8 @@ use Rattle.hyper_matrix.specs.Counts.{Place, place_cmp, Counts, built, ewise_add
 use Rattle.hyper_matrix.specs.Rows.{Rows, Entries, KeysAbove, AreRising, ColumnsRise, cells_of, at_places}
 use Rattle.hyper_matrix.specs.Places.{Less, AllPlaces, Precede, IsFirst, BeginsFrom}
 use Rattle.hyper_matrix.specs.Cells.{entry_of}
-use Rattle.cell_sort.specs.Order.{Follows, NeverFall}
-use Rattle.mm_text.specs.declared.cell.Cell.{Cell}
+use Rattle.cells.specs.Order.{Follows, NeverFall}
+use Rattle.cells.specs.declared.cell.Cell.{Cell}
 use Rattle.hyper_matrix.proofs.CountLaws.{places_total, T_first, T_second, T_both, is_less, less_not_equal, built-append, ewise_add_comm, ewise_add_assoc}
 use Rattle.hyper_matrix.proofs.CellLaws.{less_place}
 use Rattle.hyper_matrix.proofs.SortLaws.{not_below}

@@ -11,7 +11,7 @@ use Rattle.hyper_matrix.specs.RowOf.{row_of, IsFirst, HasNoneFrom}
 use Rattle.hyper_matrix.specs.Shared.{LiesWithin}
 use Rattle.hyper_matrix.specs.Cells.{entry_of}
 use Rattle.hyper_matrix.specs.declared.row_sum.Entry.{Entry}
-use Rattle.mm_text.specs.declared.cell.Cell.{Cell}
+use Rattle.cells.specs.declared.cell.Cell.{Cell}
 use Rattle.std.specs.Prelude.{IfSome, MatchOption}
 use Rattle.std.specs.Option.{option_map}
 use Rattle.std.specs.Ordering.{eq_by_cmp}

@@ -6,8 +6,8 @@ use Rattle.std.proofs.lemmas.List.{append-nil, drop-append-le, drop_all, map-app
 use Rattle.hyper_matrix.specs.Counts.{Place, Counts, place_cmp, plus, built, ewise_add}
 use Rattle.hyper_matrix.specs.Rows.{Entries, Rows, EndsAt, InOrder, AreRows, rows_of, rows_from, KeysBelow, KeysAbove, AreRising, ColumnsRise, cells_of, at_places}
 use Rattle.hyper_matrix.specs.Cells.{entry_of, built_of, cell_total, IsOpen}
-use Rattle.cell_sort.specs.Order.{NeverFall}
-use Rattle.mm_text.specs.declared.cell.Cell.{Cell}
+use Rattle.cells.specs.Order.{NeverFall}
+use Rattle.cells.specs.declared.cell.Cell.{Cell}
 use Rattle.hyper_matrix.proofs.CountLaws.{gathered, gathered-append, get-built, same_counts, built-append}
 use Rattle.hyper_matrix.proofs.CellLaws.{less_place}
 use Rattle.std.specs.List.{slice_range}

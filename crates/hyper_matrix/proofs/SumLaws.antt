@@ -10,7 +10,7 @@ use Rattle.hyper_matrix.specs.Merged.{merged}
 use Rattle.hyper_matrix.specs.Blocks.{all_cells, IsBlock, Grows, GrowsBySum}
 use Rattle.hyper_matrix.specs.Places.{Less, AllPlaces, Precede, IsFirst, BeginsFrom}
 use Rattle.hyper_matrix.specs.Cells.{entry_of, built_of, cell_total}
-use Rattle.mm_text.specs.declared.cell.Cell.{Cell}
+use Rattle.cells.specs.declared.cell.Cell.{Cell}
 use Rattle.hyper_matrix.proofs.BlockLaws.{all_cells-append}
 use Rattle.hyper_matrix.proofs.CountLaws.{ewise_add_assoc, built-append, total-ewise_add, ewise_add_comm, ewise_add-empty, total-built, total-ewise_add}
 use Rattle.hyper_matrix.proofs.CellLaws.{counts_of-sum_rows, in_order-sum_rows, sorted_rows, sum_of_cells, total-counts_of}

@@ -5,7 +5,7 @@ use Rattle.std.proofs.lemmas.List.{drop_more, length-map}
 use Rattle.hyper_matrix.specs.Counts.{Place}
 use Rattle.std.specs.Prelude.{Option, Some, None}
 use Rattle.std.specs.Iterator.{YieldsFirstBy}
-use Rattle.mm_text.specs.declared.cell.Cell.{Cell}
+use Rattle.cells.specs.declared.cell.Cell.{Cell}
 use Rattle.hyper_matrix.specs.Rows.{Rows, Entries, rows_from, EndsAt, cells_of, at_places}
 use Rattle.hyper_matrix.specs.Blocks.{all_cells, IsBlock, AreBlocks}
 use Rattle.hyper_matrix.specs.Cells.{entry_of}

@@ -3,7 +3,7 @@ use Rattle.std.specs.Prelude.{Bool, ◌==◌, ◌≡◌, ◌≤◌, ◌∷◌, l
 use Rattle.std.specs.List.{filter}
 use Rattle.hyper_matrix.specs.Counts.{Place, Counts, built}
 use Rattle.hyper_matrix.specs.Rows.{Entries, EndsAt, InOrder, rows_of, KeysBelow, AreRising, cells_of, at_places}
-use Rattle.mm_text.specs.declared.cell.Cell.{Cell}
+use Rattle.cells.specs.declared.cell.Cell.{Cell}
 use Rattle.hyper_matrix.specs.declared.judge.BuildFault.{BuildFault}
 use Rattle.hyper_matrix.specs.declared.judge.BuildFault.TheVariants.{IndexOutOfRange, SumTooLarge}
 

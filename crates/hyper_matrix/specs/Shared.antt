@@ -2,7 +2,7 @@
 use Rattle.std.specs.Prelude.{◌≡◌, ◌<◌, ℕ, List, T}
 use Rattle.std.specs.List.{AllByRecursion}
 use Rattle.std.specs.FinMap.{from_entries, is_sorted}
-use Rattle.mm_text.specs.Bounds.{IsDimension}
+use Rattle.cells.specs.Bounds.{IsDimension}
 use Rattle.hyper_matrix.specs.Counts.{Place, place_cmp, Counts, count_sum}
 use Rattle.hyper_matrix.specs.Rows.{Rows}
 use Rattle.hyper_matrix.specs.Blocks.{all_cells, AreBlocks, ends_from}

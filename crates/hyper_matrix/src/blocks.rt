@@ -23,7 +23,7 @@ ghost use Rattle.hyper_matrix.specs.Cells.{entry_of, place_of, cell_total};
 use crate::block::{Block, MOST};
 use crate::cut::push_blocks;
 use crate::rows::Rows;
-use mm_text::Cell;
+use cells::Cell;
 use std::alloc::{AllocError, Global};
 use std::collections::VecDeque;
 

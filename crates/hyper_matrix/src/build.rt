@@ -1,18 +1,17 @@
 //! Rows from lists of cells, as `GrB_Matrix_build` with plus as `dup`.
 //!
 //! A list that is in order is read where it stands, and any other is sorted first, by row and then by column, in a list
-//! of its own (`cell_sort`). The sort needn't keep the order of equal places, since their counts are added up. One pass
+//! of its own (`cells`). The sort needn't keep the order of equal places, since their counts are added up. One pass
 //! then makes the rows: a pending cell takes up the counts of its place, and is pushed when the next place comes, so
 //! that no entry is written twice. The time is that of the sort, or of two passes over a list in order.
 ghost use Rattle.std.specs.Prelude.{◌≡◌, ℕ, [], ◌<◌, ◌^◌, ◌++◌, OnOk, IfOk, length};
 ghost use Rattle.hyper_matrix.specs.Counts.{built};
 ghost use Rattle.hyper_matrix.specs.Rows.{AreRows, InOrder, rows_of, cells_of};
 ghost use Rattle.hyper_matrix.specs.Cells.{cell_total, built_of};
-ghost use Rattle.cell_sort.specs.Order.{NeverFall};
+ghost use Rattle.cells.specs.Order.{NeverFall};
 
 use crate::rows::Rows;
-use cell_sort::{is_in_order, sorted};
-use mm_text::Cell;
+use cells::{Cell, is_in_order, sorted};
 use std::alloc::{AllocError, Global};
 
 // Rows of sorted cells, with the counts of equal places added up.

@@ -14,7 +14,7 @@ use crate::block::Block;
 use crate::lookup;
 use crate::row_sum::{Entry, RowSum};
 use crate::rows::Rows;
-use mm_text::Cell;
+use cells::Cell;
 
 // Where a block ends: the place of its last entry.
 fn block_end(rows: &Rows) -> (u64, u64)

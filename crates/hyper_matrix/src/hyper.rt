@@ -1,7 +1,7 @@
 //! The public matrix: its dimensions, its blocks of compressed nonempty rows, and what is kept beside them.
 ghost use Rattle.std.specs.Prelude.{◌≡◌, ℕ, ◌+◌, ◌<◌, ◌≤◌, ◌^◌, IfOk, IsOk, Option, ◌↔◌, map, length};
 ghost use Rattle.std.specs.FinMap.{empty, entries, len};
-ghost use Rattle.mm_text.specs.Bounds.{IsDimension, AreWithin};
+ghost use Rattle.cells.specs.Bounds.{IsDimension, AreWithin};
 ghost use Rattle.hyper_matrix.specs.Counts.{ewise_add, total};
 ghost use Rattle.hyper_matrix.specs.Matrix.{matrix};
 ghost use Rattle.hyper_matrix.specs.Shared.{shared_counts, Holds};
@@ -15,7 +15,7 @@ use crate::blocks::{count_ends, push_all_cells, share_all, sum_all};
 use crate::build::{rows_of_cells, total_of};
 use crate::cut::push_blocks;
 use crate::judge::{BuildFault, judge_cells};
-use mm_text::Cell;
+use cells::Cell;
 use std::alloc::{AllocError, Global};
 use std::marker::Model;
 

@@ -2,7 +2,7 @@
 #[cfg(test)]
 mod tests {
     use crate::hyper::Hyper;
-    use mm_text::Cell;
+    use cells::Cell;
     use std::alloc::Global;
     use std::process::Abort;
     use std::test::Fail;

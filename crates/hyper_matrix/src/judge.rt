@@ -2,7 +2,7 @@
 ghost use Rattle.std.specs.Prelude.{◌≡◌, ℕ, ◌<◌, ◌^◌};
 ghost use Rattle.hyper_matrix.specs.Cells.{first_fault};
 
-use mm_text::Cell;
+use cells::Cell;
 
 /// Why a list of cells makes no matrix.
 #[derive(Clone, Copy, Debug, PartialEq, Eq)]

@@ -4,7 +4,7 @@
 //! of the subject what comes of it. Each is a function that does nothing and promises the law.
 ghost use Rattle.std.specs.Prelude.{◌≡◌, ℕ, ◌+◌, ◌<◌, ◌↔◌, List, ◌++◌, IsSome, length};
 ghost use Rattle.std.specs.FinMap.{empty, get};
-ghost use Rattle.mm_text.specs.declared.cell.Cell.{Cell};
+ghost use Rattle.cells.specs.declared.cell.Cell.{Cell};
 ghost use Rattle.hyper_matrix.specs.Counts.{Place, Counts, count_at, plus, ewise_add, total, parts};
 ghost use Rattle.hyper_matrix.specs.Cells.{built_of, cell_total, cells_at};
 

@@ -9,7 +9,7 @@
 mod block;
 mod blocks;
 mod build;
-mod cells;
+mod cell_iter;
 mod cut;
 mod find;
 mod hyper;
@@ -27,7 +27,7 @@ mod rows;
 #[cfg(test)]
 mod tests;
 
-pub use cells::Cells;
+pub use cell_iter::Cells;
 pub use hyper::Hyper;
 pub use judge::BuildFault;
 pub use laws::{

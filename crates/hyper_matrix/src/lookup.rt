@@ -10,7 +10,7 @@ ghost use Rattle.hyper_matrix.specs.Lookup.{TurnsAt, is_before, first_from, row_
 
 use crate::row_sum::RowSum;
 use crate::rows::Rows;
-use mm_text::Cell;
+use cells::Cell;
 
 /// Whether a place comes before another, by row and then column.
 pub fn is_before(p: (u64, u64), q: (u64, u64)) -> bool

@@ -3,7 +3,7 @@
 mod tests {
     use crate::hyper::Hyper;
     use crate::row_sum::{Entry, RowSum};
-    use mm_text::Cell;
+    use cells::Cell;
     use std::alloc::Global;
     use std::process::Abort;
     use std::test::Fail;

@@ -15,7 +15,7 @@ ghost use Rattle.hyper_matrix.specs.Cells.{entry_of};
 ghost use Rattle.hyper_matrix.specs.Places.{IsFirst};
 
 use crate::merge::{end_below, merge_entries};
-use mm_text::Cell;
+use cells::Cell;
 use std::alloc::{AllocError, Global};
 use std::marker::Model;
 use std::mem;

@@ -2,7 +2,7 @@
 ghost use Rattle.std.specs.Prelude.{◌≡◌, ℕ, ◌<◌, ◌≤◌, ◌^◌};
 
 use super::*;
-use mm_text::Cell;
+use cells::Cell;
 use std::alloc::{AllocError, Global};
 use std::test::Fail;
 

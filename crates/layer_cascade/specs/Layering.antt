@@ -2,7 +2,7 @@
 use Rattle.std.specs.Prelude.{◌≡◌, ℕ, zero, suc, ◌+◌, ◌<◌, ◌^◌, List, [], ◌∷◌, length, replicate, Option, Some, None, refl}
 use Rattle.std.specs.Coded.{Coded, code_by, coded×, coded_ℕ, coded_list}
 use Rattle.std.specs.FinMap.{empty, len}
-use Rattle.mm_text.specs.Bounds.{IsDimension}
+use Rattle.cells.specs.Bounds.{IsDimension}
 use Rattle.hyper_matrix.specs.Counts.{Counts, coded_counts, total}
 use Rattle.layer_cascade.specs.Cascade.{content, KeepsCuts}
 use Rattle.layer_cascade.specs.Cuts.{AreCuts}

@@ -10,7 +10,7 @@
 //! `Layers::into_sum` build the sum.
 ghost use Rattle.std.specs.Prelude.{◌≡◌, ℕ, ◌+◌, ◌<◌, ◌≤◌, ◌^◌, ◌⊎◌, ◌↔◌, IfOk, IfSome};
 ghost use Rattle.std.specs.FinMap.{get, len};
-ghost use Rattle.mm_text.specs.Bounds.{IsDimension};
+ghost use Rattle.cells.specs.Bounds.{IsDimension};
 ghost use Rattle.hyper_matrix.specs.Counts.{total};
 ghost use Rattle.hyper_matrix.specs.Matrix.{matrix};
 ghost use Rattle.layer_cascade.specs.Cascade.{cascade, content};

@@ -1,7 +1,7 @@
 //! Worked examples of layers of 3 rows and 3 columns.
+use cells::Cell;
 use hyper_matrix::{BuildFault, Hyper};
 use layer_cascade::{CascadeFault, Layers, Plan, are_cuts};
-use mm_text::Cell;
 use std::alloc::{AllocError, Global};
 use std::process::Abort;
 use std::test::Fail;

@@ -3,9 +3,9 @@ ghost use Rattle.std.specs.Prelude.{◌≡◌, ◌+◌, ◌<◌, ◌^◌};
 ghost use Rattle.hyper_matrix.specs.Counts.{total};
 ghost use Rattle.layer_cascade.specs.Cascade.{content};
 
+use cells::Cell;
 use hyper_matrix::{BuildFault, Hyper};
 use layer_cascade::Layers;
-use mm_text::Cell;
 use std::alloc::{AllocError, Global};
 use std::process::Abort;
 use std::test::Fail;

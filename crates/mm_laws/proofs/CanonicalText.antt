@@ -8,7 +8,7 @@ use Rattle.std.specs.List.{AllByRecursion}
 use Rattle.mm_text.specs.Lines.{lines_of, joined, counted, content, is_line_feed, is_skipped, IsLine}
 use Rattle.mm_text.specs.Judging.{banner, mark, object, format, field, symmetry, size, entry, cells_of}
 use Rattle.mm_text.specs.Texts.{Spells, numbers_line, canonical}
-use Rattle.mm_text.specs.Bounds.{IsDimension, IsWithin, AreWithin}
+use Rattle.cells.specs.Bounds.{IsDimension, IsWithin, AreWithin}
 use Rattle.mm_text.proofs.Clean.{content_le}
 use Rattle.mm_text.proofs.Cuts.{lines_of-joined}
 use Rattle.mm_text.proofs.NumberLemmas.{all_at}
@@ -16,7 +16,7 @@ use Rattle.mm_laws.proofs.GrammarLines.{dimension_test}
 use Rattle.mm_text.proofs.OneFile.{one_file}
 use Rattle.mm_laws.proofs.DecimalLines.{IsDecimal, decimal_is, decimal_number, decimal_not_negative, decimal_index, three, three_words, three_length, three_line, three_content, three_counts}
 use Rattle.mm_text.specs.declared.fault.MmKind.TheVariants.{BadSize, BadEntry}
-use Rattle.mm_text.specs.declared.cell.Cell.{Cell}
+use Rattle.cells.specs.declared.cell.Cell.{Cell}
 use Rattle.mm_text.specs.declared.limits.TextLimits.{TextLimits}
 
 banner_line : List ℕ

@@ -16,7 +16,7 @@ use Rattle.mm_laws.proofs.SpellsFacts.{bind_first}
 use Rattle.mm_laws.proofs.TextCuts.{no_cut}
 use Rattle.mm_text.specs.declared.fault.MmKind.{MmKind}
 use Rattle.mm_text.specs.declared.fault.MmKind.TheVariants.{LineTooLong, TooLong, ExtraText, TooFewEntries}
-use Rattle.mm_text.specs.declared.cell.Cell.{Cell}
+use Rattle.cells.specs.declared.cell.Cell.{Cell}
 use Rattle.mm_text.specs.declared.size.Size.{Size}
 use Rattle.mm_text.specs.declared.limits.TextLimits.{TextLimits}
 

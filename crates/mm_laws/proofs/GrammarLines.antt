@@ -2,7 +2,7 @@
 use Rattle.std.proofs.Common.{◌≡◌, ℕ, ◌+◌, ◌<◌, ◌≤◌, Bool, true, false, not, ◌&&◌, List, [], ◌∷◌, length, drop, refl, ap, subst, arith}
 use Rattle.std.proofs.lemmas.Bool.Decides.{nat_tests}
 use Rattle.std.specs.Prelude.{Ok, nat_lt, nat_eq}
-use Rattle.mm_text.specs.Bounds.{IsDimension}
+use Rattle.cells.specs.Bounds.{IsDimension}
 use Rattle.mm_text.specs.Words.{words, word, has_word, is_negative}
 use Rattle.mm_text.specs.Judging.{number, is_dimension, size, index, entry}
 use Rattle.mm_laws.specs.Grammar.{HasWords, Writes, IsSizeLine, IsEntryLine}
@@ -10,7 +10,7 @@ use Rattle.mm_laws.proofs.GrammarWords.{has_its_words, words_are}
 use Rattle.mm_laws.proofs.GrammarNumbers.{index_from, index_to, number_writes, writes_number, writes_no_minus, writes_some}
 use Rattle.mm_laws.proofs.SpellsFacts.{bind_first, refuse_first, size_bounds, entry_within}
 use Rattle.mm_text.specs.declared.fault.MmKind.TheVariants.{BadSize, BadDimension, NotSquare, TooManyEntries, BadEntry, Negative}
-use Rattle.mm_text.specs.declared.cell.Cell.{Cell}
+use Rattle.cells.specs.declared.cell.Cell.{Cell}
 use Rattle.mm_text.specs.declared.size.Size.{Size}
 
 -- a third word, and none behind it

@@ -7,7 +7,7 @@ use Rattle.mm_text.specs.Texts.{Spells}
 use Rattle.mm_laws.specs.Grammar.{IsEntryLine, IsCoordinateText}
 use Rattle.mm_laws.proofs.GrammarBanner.{banner_is, banner_says}
 use Rattle.mm_laws.proofs.GrammarLines.{entry_line_is, entry_line_says, size_line_is, size_line_says}
-use Rattle.mm_text.specs.declared.cell.Cell.{Cell}
+use Rattle.cells.specs.declared.cell.Cell.{Cell}
 use Rattle.mm_text.specs.declared.limits.TextLimits.{TextLimits}
 
 entries_are : (rows cols : ℕ) (lines : List (List ℕ)) (entries : List Cell) → map (entry rows cols) lines ≡ map Ok entries → AllZip (IsEntryLine rows cols) lines entries

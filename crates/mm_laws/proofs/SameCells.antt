@@ -7,7 +7,7 @@ use Rattle.std.specs.Prelude.{All, map, filter}
 use Rattle.std.specs.List.{AllByRecursion, list_all}
 use Rattle.mm_text.specs.Lines.{lines_of, content, counted, is_limited, is_comment, is_skipped, is_blank}
 use Rattle.mm_text.specs.Texts.{Spells}
-use Rattle.mm_text.specs.declared.cell.Cell.{Cell}
+use Rattle.cells.specs.declared.cell.Cell.{Cell}
 use Rattle.mm_text.specs.declared.limits.TextLimits.{TextLimits}
 
 -- no line that has a limit is longer

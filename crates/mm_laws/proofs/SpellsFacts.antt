@@ -6,10 +6,10 @@ use Rattle.std.specs.Prelude.{Option, Some, None, Result, Ok, Err, map, flat_map
 use Rattle.mm_text.specs.Words.{words, word, has_word, number_of, is_negative}
 use Rattle.mm_text.specs.Judging.{◌>>=◌, refuse_if, number, is_dimension, size, index, entry, cells_of}
 use Rattle.mm_text.specs.Texts.{Spells}
-use Rattle.mm_text.specs.Bounds.{IsDimension, IsWithin, AreWithin}
+use Rattle.cells.specs.Bounds.{IsDimension, IsWithin, AreWithin}
 use Rattle.mm_text.specs.declared.fault.MmKind.{MmKind}
 use Rattle.mm_text.specs.declared.fault.MmKind.TheVariants.{BadSize, BadDimension, NotSquare, TooManyEntries, BadEntry, Negative, NumberTooLarge, IndexOutOfRange}
-use Rattle.mm_text.specs.declared.cell.Cell.{Cell}
+use Rattle.cells.specs.declared.cell.Cell.{Cell}
 use Rattle.mm_text.specs.declared.size.Size.{Size}
 use Rattle.mm_text.specs.declared.limits.TextLimits.{TextLimits}
 

@@ -6,8 +6,8 @@ use Rattle.std.specs.Str.{str_to_ascii_lowercase}
 use Rattle.std.specs.Str.Parse.{digits_value}
 use Rattle.mm_text.specs.Lines.{lines_of, is_blank, is_limited, content, counted}
 use Rattle.mm_text.specs.Judging.{cells_of}
-use Rattle.mm_text.specs.Bounds.{IsDimension, IsWithin}
-use Rattle.mm_text.specs.declared.cell.Cell.{Cell}
+use Rattle.cells.specs.Bounds.{IsDimension, IsWithin}
+use Rattle.cells.specs.declared.cell.Cell.{Cell}
 use Rattle.mm_text.specs.declared.size.Size.{Size}
 use Rattle.mm_text.specs.declared.limits.TextLimits.{TextLimits}
 

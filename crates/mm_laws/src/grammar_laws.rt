@@ -6,7 +6,7 @@ ghost use Rattle.mm_text.specs.Judging.{number, banner, size, entry};
 ghost use Rattle.mm_text.specs.Texts.{Spells};
 ghost use Rattle.mm_laws.specs.Grammar.{HasWords, Writes, IsBannerLine, IsSizeLine, IsEntryLine, IsCoordinateText};
 ghost use Rattle.mm_text.specs.declared.limits.TextLimits.{TextLimits};
-ghost use Rattle.mm_text.specs.declared.cell.Cell.{Cell};
+ghost use Rattle.cells.specs.declared.cell.Cell.{Cell};
 ghost use Rattle.mm_text.specs.declared.size.Size.{Size};
 ghost use Rattle.mm_text.specs.declared.fault.MmKind.{MmKind};
 

@@ -1,10 +1,10 @@
 //! What holds of every text, whatever reads or writes it: laws of the definitions.
 ghost use Rattle.std.specs.Prelude.{◌≡◌, ◌≢◌, ◌⊎◌, ℕ, ◌+◌, ◌-◌, ◌<◌, ◌≤◌, ◌^◌, List, ◌++◌, length, All};
-ghost use Rattle.mm_text.specs.Bounds.{IsDimension, AreWithin};
+ghost use Rattle.cells.specs.Bounds.{IsDimension, AreWithin};
 ghost use Rattle.mm_text.specs.Lines.{line_at};
 ghost use Rattle.mm_text.specs.Texts.{Spells, LineIsWrong, Turn, FaultAt, FirstFault, NoFaultWithin, canonical};
 ghost use Rattle.mm_text.specs.declared.limits.TextLimits.{TextLimits};
-ghost use Rattle.mm_text.specs.declared.cell.Cell.{Cell};
+ghost use Rattle.cells.specs.declared.cell.Cell.{Cell};
 ghost use Rattle.mm_text.specs.declared.fault.MmKind.{MmKind};
 
 /// Every list of bytes spells a file or has a first fault. With `one_file_spelled`, `one_first_fault` and

@@ -7,10 +7,10 @@ use Rattle.std.specs.Prelude.{nat_eq, nat_lt, count_by}
 use Rattle.mm_text.specs.Lines.{lines_of, joined, bytes_of, line_at, is_line_feed, is_limited, is_comment, content, IsLine}
 use Rattle.mm_text.specs.Texts.{NoFaultWithin, Spells}
 use Rattle.mm_text.specs.Stages.{Keeps, LineFault, IsCarried, EndsCarried, Holds, AddsLine, Advances, cut_kind}
-use Rattle.mm_text.specs.Streams.{Explains, Shows, IsReadFault}
+use Rattle.mm_text.specs.Faults.{Explains, Shows, IsReadFault}
 use Rattle.mm_text.specs.declared.fault.MmKind.{MmKind}
 use Rattle.mm_text.specs.declared.fault.MmKind.TheVariants.{LineTooLong, TooLong}
-use Rattle.mm_text.specs.declared.cell.Cell.{Cell}
+use Rattle.cells.specs.declared.cell.Cell.{Cell}
 use Rattle.mm_text.specs.declared.limits.TextLimits.{TextLimits}
 use Rattle.mm_text.specs.declared.stages.Stage.{Stage}
 use Rattle.mm_text.specs.declared.stages.Stage.TheVariants.{AtBanner}
@@ -82,7 +82,7 @@ module _ (limits : TextLimits) (text carry : List ℕ) (stage : Stage) (given : 
       let f = first_cut (text ++ beyond) limits stage given count text beyond h.rest h.takes refl full some in
       let longer : limits.max_bytes < length (text ++ beyond) = omega (arith, length-append text beyond) in
       let l = f.least Rattle.mm_text.specs.Texts.Turn.at_limit (limits.max_bytes + 1) TooLong (line_at (text ++ beyond) limits.max_bytes) (record { longer = longer; place_is = refl; kind_is = refl; line_is = refl }) in
-      rw e (subst (λ k. Rattle.mm_text.specs.Streams.IsTold (text ++ beyond) limits ended k (count + 1)) h.short (record { first = f; at_end = λ g. absurd (omega arith) }))
+      rw e (subst (λ k. Rattle.mm_text.specs.Faults.IsTold (text ++ beyond) limits ended k (count + 1)) h.short (record { first = f; at_end = λ g. absurd (omega arith) }))
 
 pub advances_none : (limits : TextLimits) (carry : List ℕ) (stage : Stage) (count : ℕ) (block : List Cell) → Advances limits [] carry stage count block carry stage count block
 advances_none limits carry stage count block = record {

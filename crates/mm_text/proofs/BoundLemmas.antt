@@ -3,13 +3,13 @@ use Rattle.std.proofs.Common.{◌≡◌, ℕ, zero, suc, ◌-◌, ◌<◌, ◌||
 use Rattle.std.proofs.lemmas.Bool.Decides.{nat_tests}
 use Rattle.std.proofs.lemmas.List.Elements.{All-append}
 use Rattle.std.specs.Prelude.{Result, Ok, Err, nat_lt, nat_eq, map, flat_map}
-use Rattle.mm_text.specs.Bounds.{IsDimension, IsWithin, AreWithin}
+use Rattle.cells.specs.Bounds.{IsDimension, IsWithin, AreWithin}
 use Rattle.mm_text.specs.Judging.{◌>>=◌, refuse_if, is_dimension, number, size, index, entry, cells_of}
 use Rattle.mm_text.specs.Texts.{Spells}
 use Rattle.mm_text.specs.Stages.{StageIs, declared_size}
 use Rattle.mm_text.specs.Readings.{AreSized}
 use Rattle.mm_text.specs.declared.fault.MmKind.{MmKind}
-use Rattle.mm_text.specs.declared.cell.Cell.{Cell}
+use Rattle.cells.specs.declared.cell.Cell.{Cell}
 use Rattle.mm_text.specs.declared.size.Size.{Size}
 use Rattle.mm_text.specs.declared.limits.TextLimits.{TextLimits}
 use Rattle.mm_text.specs.declared.stages.Stage.{Stage}

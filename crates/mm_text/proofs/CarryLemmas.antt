@@ -6,7 +6,7 @@ use Rattle.std.specs.Prelude.{nat_eq, nat_lt, Ok, None}
 use Rattle.mm_text.specs.Lines.{is_comment, content}
 use Rattle.mm_text.specs.Stages.{IsCarried, EndsCarried, cut_kind, judged, AddsLine, Keeps, IsOverlong}
 use Rattle.mm_text.specs.declared.fault.MmKind.TheVariants.{LineTooLong, TooLong}
-use Rattle.mm_text.specs.declared.cell.Cell.{Cell}
+use Rattle.cells.specs.declared.cell.Cell.{Cell}
 use Rattle.mm_text.specs.declared.limits.TextLimits.{TextLimits}
 use Rattle.mm_text.specs.declared.stages.Stage.{Stage}
 use Rattle.mm_text.proofs.Clean.{content_ge}

@@ -14,7 +14,7 @@ use Rattle.mm_text.proofs.Clean.{first_overrun, first_too_long, overrun_of, over
 use Rattle.mm_text.proofs.KeepLemmas.{limited_is}
 use Rattle.mm_text.proofs.Cuts.{lines_of-joined, lines_of-line, lines_of-last, length-joined}
 use Rattle.mm_text.specs.declared.fault.MmKind.TheVariants.{LineTooLong, TooLong}
-use Rattle.mm_text.specs.declared.cell.Cell.{Cell}
+use Rattle.cells.specs.declared.cell.Cell.{Cell}
 use Rattle.mm_text.specs.declared.limits.TextLimits.{TextLimits}
 use Rattle.mm_text.specs.declared.stages.Stage.{Stage}
 

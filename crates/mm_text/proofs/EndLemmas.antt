@@ -9,7 +9,7 @@ use Rattle.mm_text.proofs.Clean.{first_wrong, first_overrun, overrun_of}
 use Rattle.mm_text.proofs.Cuts.{lines_of-joined, lines_of-line, length-joined}
 use Rattle.mm_text.specs.declared.fault.MmKind.{MmKind}
 use Rattle.mm_text.specs.declared.fault.MmKind.TheVariants.{Memory, TooFewEntries}
-use Rattle.mm_text.specs.declared.cell.Cell.{Cell}
+use Rattle.cells.specs.declared.cell.Cell.{Cell}
 use Rattle.mm_text.specs.declared.size.Size.{Size}
 use Rattle.mm_text.specs.declared.limits.TextLimits.{TextLimits}
 use Rattle.mm_text.specs.declared.stages.Stage.{Stage}

@@ -4,9 +4,9 @@ use Rattle.std.proofs.lemmas.List.{append-nil}
 use Rattle.std.specs.Prelude.{Some}
 use Rattle.mm_text.specs.Lines.{lines_of, joined, line_at, counted}
 use Rattle.mm_text.specs.Stages.{Keeps, LineFault, IsCarried, EndsCarried, Holds, AddsLine, EndsLast, EndsText, lack_at, declared_size}
-use Rattle.mm_text.specs.Streams.{Explains}
+use Rattle.mm_text.specs.Faults.{Explains}
 use Rattle.mm_text.specs.declared.fault.MmKind.{MmKind}
-use Rattle.mm_text.specs.declared.cell.Cell.{Cell}
+use Rattle.cells.specs.declared.cell.Cell.{Cell}
 use Rattle.mm_text.specs.declared.size.Size.{Size}
 use Rattle.mm_text.specs.declared.limits.TextLimits.{TextLimits}
 use Rattle.mm_text.specs.declared.stages.Stage.{Stage}

@@ -15,7 +15,7 @@ use Rattle.mm_text.specs.Words.{words}
 use Rattle.mm_text.specs.Judging.{index, entry}
 use Rattle.mm_text.specs.Plain.{IsShortNumeral, BeginsWithDigits, BeginsWithIndex, BeginsWithCount, BeginsWithEntry, IsEntry}
 use Rattle.mm_text.specs.declared.fault.MmKind.TheVariants.{BadEntry}
-use Rattle.mm_text.specs.declared.cell.Cell.{Cell}
+use Rattle.cells.specs.declared.cell.Cell.{Cell}
 use Rattle.mm_text.proofs.NumberLemmas.{all_at}
 use Rattle.mm_text.proofs.WordLemmas.{words_word, words_one}
 use Rattle.mm_text.proofs.DigitLemmas.{numeral_some, numeral_number, numeral_not_negative, numeral_index}

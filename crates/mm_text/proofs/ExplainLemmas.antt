@@ -6,7 +6,7 @@ use Rattle.std.specs.List.{AllByRecursion}
 use Rattle.mm_text.specs.Lines.{lines_of, joined, bytes_of, is_line_feed, is_limited, content, IsLine}
 use Rattle.mm_text.specs.Texts.{FirstFaultAt, somewhere, NoFaultWithin}
 use Rattle.mm_text.specs.Stages.{Clean, LineFault}
-use Rattle.mm_text.specs.Streams.{Explains, IsTold}
+use Rattle.mm_text.specs.Faults.{Explains, IsTold}
 use Rattle.mm_text.specs.declared.fault.MmKind.{MmKind}
 use Rattle.mm_text.specs.declared.fault.MmKind.TheVariants.{Read, Memory, BadBanner, Unsupported, LineTooLong, BadSize, BadDimension, NotSquare, TooManyEntries, BadEntry, Negative, NumberTooLarge, IndexOutOfRange, TooFewEntries, ExtraText, TooLong}
 use Rattle.mm_text.specs.declared.limits.TextLimits.{TextLimits}

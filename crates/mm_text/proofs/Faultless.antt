@@ -9,7 +9,7 @@ use Rattle.mm_text.specs.Texts.{fault_behind, lack_of, Spells, FirstFault}
 use Rattle.mm_text.specs.Stages.{Clean}
 use Rattle.mm_text.proofs.Clean.{faultless}
 use Rattle.mm_text.specs.declared.fault.MmKind.{MmKind}
-use Rattle.mm_text.specs.declared.cell.Cell.{Cell}
+use Rattle.cells.specs.declared.cell.Cell.{Cell}
 use Rattle.mm_text.specs.declared.limits.TextLimits.{TextLimits}
 
 filter-append : (p : List ℕ → Bool) (xs ys : List (List ℕ)) → filter p (xs ++ ys) ≡ filter p xs ++ filter p ys

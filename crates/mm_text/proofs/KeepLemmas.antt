@@ -14,7 +14,7 @@ use Rattle.mm_text.proofs.Clean.{clean_more}
 use Rattle.mm_text.proofs.Cuts.{counted-push_yes, counted-push_no}
 use Rattle.mm_text.specs.declared.fault.MmKind.{MmKind}
 use Rattle.mm_text.specs.declared.fault.MmKind.TheVariants.{LineTooLong, ExtraText, Memory}
-use Rattle.mm_text.specs.declared.cell.Cell.{Cell}
+use Rattle.cells.specs.declared.cell.Cell.{Cell}
 use Rattle.mm_text.specs.declared.limits.TextLimits.{TextLimits}
 use Rattle.mm_text.specs.declared.stages.Stage.{Stage}
 

@@ -18,10 +18,7 @@ pub mod WholeLemmas
 pub mod OneFirst
 pub mod Faultless
 pub mod OneFile
-pub mod StreamLemmas
-pub mod SinkLemmas
-pub mod ScriptLemmas
-pub mod KnownLemmas
+pub mod WriterLemmas
 pub mod DigitLemmas
 pub mod EightLemmas
 pub mod EntryLemmas

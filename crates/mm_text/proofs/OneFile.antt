@@ -4,7 +4,7 @@ use Rattle.std.specs.Prelude.{Result, Ok, map, flat_map}
 use Rattle.mm_text.specs.Judging.{banner, size, entry, cells_of}
 use Rattle.mm_text.specs.Texts.{Spells}
 use Rattle.mm_text.specs.declared.fault.MmKind.{MmKind}
-use Rattle.mm_text.specs.declared.cell.Cell.{Cell}
+use Rattle.cells.specs.declared.cell.Cell.{Cell}
 use Rattle.mm_text.specs.declared.size.Size.{Size}
 use Rattle.mm_text.specs.declared.limits.TextLimits.{TextLimits}
 

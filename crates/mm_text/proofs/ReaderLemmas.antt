@@ -3,19 +3,20 @@ use Rattle.std.proofs.Common.{inl, inr, ◌≡◌, ℕ, zero, suc, ◌+◌, ◌-
 use Rattle.std.proofs.lemmas.List.{append-nil, take-append-drop, drop-take, drop-drop, take-take}
 use Rattle.std.specs.Prelude.{Result, Ok, Err, Some}
 use Rattle.mm_text.specs.Stages.{Holds, Advances, EndsText, declared_size}
-use Rattle.mm_text.specs.Streams.{bytes_of_calls, Explains, Shows}
+use Rattle.byte_io.specs.Streams.{bytes_of_calls}
+use Rattle.mm_text.specs.Faults.{Explains, Shows}
 use Rattle.mm_text.specs.Readings.{HasRead, pending, size_of, TakesPending, Fills, Finishes, ShowsRead, GoesOn, Ends, Stops}
-use Rattle.mm_text.specs.declared.fault.DeviceFault.{DeviceFault}
+use Rattle.byte_io.specs.declared.fault.DeviceFault.{DeviceFault}
 use Rattle.mm_text.specs.declared.fault.MmKind.{MmKind}
 use Rattle.mm_text.specs.declared.fault.MmKind.TheVariants.{Read, TooLong}
-use Rattle.mm_text.specs.declared.cell.Cell.{Cell}
+use Rattle.cells.specs.declared.cell.Cell.{Cell}
 use Rattle.mm_text.specs.declared.size.Size.{Size}
 use Rattle.mm_text.specs.declared.limits.TextLimits.{TextLimits}
 use Rattle.mm_text.specs.declared.stages.Stage.TheVariants.{AtBanner}
 use Rattle.mm_text.specs.declared.reader.TextReader.{TextReader}
 use Rattle.mm_text.proofs.AdvanceLemmas.{explains_read, explains_cut, holds_none}
 use Rattle.mm_text.proofs.ExplainLemmas.{explains_weaker}
-use Rattle.mm_text.proofs.StreamLemmas.{calls-append, bytes_of_calls-append}
+use Rattle.byte_io.proofs.StreamLemmas.{calls-append, bytes_of_calls-append}
 
 drop_two : (bytes : List ℕ) (s n : ℕ) → drop (s + n) bytes ≡ drop n (drop s bytes)
 drop_two bytes s n = sym (drop-drop n s bytes)

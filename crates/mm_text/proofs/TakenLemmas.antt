@@ -7,9 +7,9 @@ use Rattle.std.specs.Prelude.{Option, Some, None, Result, Ok, Err, nat_lt, nat_e
 use Rattle.mm_text.specs.Lines.{content, is_comment}
 use Rattle.mm_text.specs.Judging.{◌>>=◌, cells_of}
 use Rattle.mm_text.specs.Stages.{step, judged, after_entry, AddsLine, Advances}
-use Rattle.mm_text.specs.Streams.{Shows}
+use Rattle.mm_text.specs.Faults.{Shows}
 use Rattle.mm_text.specs.Plain.{IsEntry}
-use Rattle.mm_text.specs.declared.cell.Cell.{Cell}
+use Rattle.cells.specs.declared.cell.Cell.{Cell}
 use Rattle.mm_text.specs.declared.size.Size.{Size}
 use Rattle.mm_text.specs.declared.limits.TextLimits.{TextLimits}
 use Rattle.mm_text.specs.declared.stages.Stage.{Stage}

@@ -1,13 +1,14 @@
 -- A whole reading: one block that holds all cells.
 use Rattle.std.proofs.Common.{◌≡◌, ℕ, ◌+◌, ◌≤◌, List, [], ◌++◌, length, refl, ◌∙◌, ap, subst, arith, Bool, true, false}
 use Rattle.std.specs.Prelude.{Result, Some}
-use Rattle.mm_text.specs.Bounds.{IsDimension, AreWithin}
+use Rattle.cells.specs.Bounds.{IsDimension, AreWithin}
 use Rattle.mm_text.specs.Texts.{Spells}
-use Rattle.mm_text.specs.Streams.{Calls, bytes_of_calls, Explains, IsMemoryFault}
+use Rattle.byte_io.specs.Streams.{Calls, bytes_of_calls}
+use Rattle.mm_text.specs.Faults.{Explains, IsMemoryFault}
 use Rattle.mm_text.specs.Readings.{HasRead, size_of, Ends, Stops, ReadsBlock}
-use Rattle.mm_text.specs.declared.fault.DeviceFault.{DeviceFault}
+use Rattle.byte_io.specs.declared.fault.DeviceFault.{DeviceFault}
 use Rattle.mm_text.specs.declared.fault.MmKind.{MmKind}
-use Rattle.mm_text.specs.declared.cell.Cell.{Cell}
+use Rattle.cells.specs.declared.cell.Cell.{Cell}
 use Rattle.mm_text.specs.declared.size.Size.{Size}
 use Rattle.mm_text.specs.declared.limits.TextLimits.{TextLimits}
 use Rattle.mm_text.specs.declared.reader.TextReader.{TextReader}

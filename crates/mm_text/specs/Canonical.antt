@@ -1,6 +1,6 @@
 -- The text of a list of cells: the banner, the size line, and a line for each cell in the order of the list.
 use Rattle.std.specs.Prelude.{ℕ, ◌+◌, List, [], ◌∷◌, ◌++◌, length, flat_map, codes, decimal}
-use Rattle.mm_text.specs.declared.cell.Cell.{Cell}
+use Rattle.cells.specs.declared.cell.Cell.{Cell}
 
 -- three numbers, one space between, and LF
 abbrev pub numbers_line : ℕ → ℕ → ℕ → List ℕ

@@ -6,7 +6,7 @@ use Rattle.mm_text.specs.Lines.{is_blank}
 use Rattle.mm_text.specs.Words.{words, word, has_word, number_of, is_negative}
 use Rattle.mm_text.specs.declared.fault.MmKind.{MmKind}
 use Rattle.mm_text.specs.declared.fault.MmKind.TheVariants.{BadBanner, Unsupported, BadSize, BadDimension, NotSquare, TooManyEntries, BadEntry, Negative, NumberTooLarge, IndexOutOfRange}
-use Rattle.mm_text.specs.declared.cell.Cell.{Cell}
+use Rattle.cells.specs.declared.cell.Cell.{Cell}
 use Rattle.mm_text.specs.declared.size.Size.{Size}
 
 infixl 10 ◌>>=◌

@@ -1,12 +1,10 @@
-pub mod Bounds
 pub mod Lines
 pub mod Words
 pub mod Judging
 pub mod Texts
 pub mod Stages
-pub mod Streams
+pub mod Faults
 pub mod Readings
 pub mod Canonical
 pub mod Writing
-pub mod Scripts
 pub mod Plain

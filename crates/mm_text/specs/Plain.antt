@@ -5,7 +5,7 @@ use Rattle.std.specs.Char.{is_ascii_digit}
 use Rattle.std.specs.Str.Parse.{digits_value, digits_value_after}
 use Rattle.mm_text.specs.Lines.{is_blank, is_skipped, content, IsLine}
 use Rattle.mm_text.specs.Judging.{index, entry}
-use Rattle.mm_text.specs.declared.cell.Cell.{Cell}
+use Rattle.cells.specs.declared.cell.Cell.{Cell}
 
 -- so few digits that the number which they write has 64 bits
 pub record IsShortNumeral (word : List ℕ) : Type 0 where

@@ -1,12 +1,13 @@
 -- What a reader of texts has read of its source, and what one more block adds to it.
 use Rattle.std.specs.Prelude.{◌≡◌, ℕ, ◌+◌, ◌-◌, ◌<◌, ◌≤◌, Bool, true, false, List, [], ◌∷◌, ◌++◌, length, take, drop, Option, Some, None, Result, Ok}
-use Rattle.mm_text.specs.Bounds.{IsDimension, AreWithin}
-use Rattle.mm_text.specs.Streams.{Calls, bytes_of_calls, Explains}
+use Rattle.cells.specs.Bounds.{IsDimension, AreWithin}
+use Rattle.byte_io.specs.Streams.{Calls, bytes_of_calls}
+use Rattle.mm_text.specs.Faults.{Explains}
 use Rattle.mm_text.specs.Stages.{Holds, declared_size}
 use Rattle.mm_text.specs.Texts.{Spells}
-use Rattle.mm_text.specs.declared.fault.DeviceFault.{DeviceFault}
+use Rattle.byte_io.specs.declared.fault.DeviceFault.{DeviceFault}
 use Rattle.mm_text.specs.declared.fault.MmKind.{MmKind}
-use Rattle.mm_text.specs.declared.cell.Cell.{Cell}
+use Rattle.cells.specs.declared.cell.Cell.{Cell}
 use Rattle.mm_text.specs.declared.size.Size.{Size}
 use Rattle.mm_text.specs.declared.limits.TextLimits.{TextLimits}
 use Rattle.mm_text.specs.declared.reader.TextReader.{TextReader}

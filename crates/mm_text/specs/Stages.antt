@@ -6,7 +6,7 @@ use Rattle.mm_text.specs.Judging.{◌>>=◌, banner, size, entry, cells_of}
 use Rattle.mm_text.specs.Texts.{fault_behind, Spells}
 use Rattle.mm_text.specs.declared.fault.MmKind.{MmKind}
 use Rattle.mm_text.specs.declared.fault.MmKind.TheVariants.{ExtraText, LineTooLong, TooLong, Memory, BadBanner, BadSize, TooFewEntries}
-use Rattle.mm_text.specs.declared.cell.Cell.{Cell}
+use Rattle.cells.specs.declared.cell.Cell.{Cell}
 use Rattle.mm_text.specs.declared.size.Size.{Size}
 use Rattle.mm_text.specs.declared.limits.TextLimits.{TextLimits}
 use Rattle.mm_text.specs.declared.stages.Stage.{Stage}

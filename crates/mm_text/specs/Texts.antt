@@ -5,7 +5,7 @@ use Rattle.mm_text.specs.Lines.{lines_of, bytes_of, line_at, content, counts, is
 use Rattle.mm_text.specs.Judging.{◌>>=◌, refuse_if, banner, size, entry, cells_of, fault_of}
 use Rattle.mm_text.specs.declared.fault.MmKind.{MmKind}
 use Rattle.mm_text.specs.declared.fault.MmKind.TheVariants.{BadBanner, LineTooLong, BadSize, TooFewEntries, ExtraText, TooLong}
-use Rattle.mm_text.specs.declared.cell.Cell.{Cell}
+use Rattle.cells.specs.declared.cell.Cell.{Cell}
 use Rattle.mm_text.specs.declared.limits.TextLimits.{TextLimits}
 
 -- The text spells a matrix of these dimensions with this list of cells: both limits hold, no line is too long,

@@ -6,13 +6,13 @@
 ghost use Rattle.std.specs.Prelude.{◌≡◌, ℕ, ◌+◌, ◌<◌, ◌≤◌, ◌^◌, ◌++◌, ◌∷◌, [], ◌==◌, not, ◌&&◌, List, OnOk, IfErr, IfOk, length, vec_len, vec_capacity, true, false, take, drop};
 ghost use Rattle.mm_text.specs.Lines.{is_comment, IsLine};
 ghost use Rattle.mm_text.specs.Stages.{IsCarried, cut_kind, AddsLine, EndsCarried, Keeps, LineFault, Advances};
-ghost use Rattle.mm_text.specs.Streams.{Shows};
-ghost use Rattle.mm_text.specs.declared.cell.Cell.{Cell};
+ghost use Rattle.mm_text.specs.Faults.{Shows};
+ghost use Rattle.cells.specs.declared.cell.Cell.{Cell};
 
-use crate::cell::Cell;
 use crate::fault::{MmFault, MmKind};
 use crate::limits::TextLimits;
 use crate::reading::{MAX_LINE, Reading, content_of, is_comment_line};
+use cells::Cell;
 
 /// The most bytes that are carried: a line of full length, and a CR that may end it.
 pub const CARRY: usize = 1025;

@@ -1,4 +1,4 @@
-//! What can be wrong with a text, and with a device.
+//! What can be wrong with a text.
 
 /// What is wrong with a text, or with the reading of it.
 #[derive(Clone, Copy, Debug, PartialEq, Eq)]
@@ -26,15 +26,4 @@ pub enum MmKind {
 pub struct MmFault {
     pub kind: MmKind,
     pub line: u64,
-}
-
-/// A call of a device failed.
-#[derive(Clone, Copy, Debug, PartialEq, Eq)]
-pub struct DeviceFault;
-
-/// Not all of a text was written: its first `written` bytes were taken, and then the sink failed, or took none of the
-/// bytes that it was offered.
-#[derive(Clone, Copy, Debug, PartialEq, Eq)]
-pub struct WriteFault {
-    pub written: u128,
 }

@@ -1,7 +1,7 @@
 //! What a text spells.
-ghost use Rattle.mm_text.specs.Bounds.{IsDimension, AreWithin};
+ghost use Rattle.cells.specs.Bounds.{IsDimension, AreWithin};
 
-use crate::cell::Cell;
+use cells::Cell;
 
 /// A matrix as a text lists it: its dimensions, and its cells in the order of the lines.
 ///

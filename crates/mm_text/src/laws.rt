@@ -1,9 +1,9 @@
 //! Laws of the definitions.
 ghost use Rattle.std.specs.Prelude.{◌≡◌, ℕ, List};
-ghost use Rattle.mm_text.specs.Bounds.{IsDimension, AreWithin};
+ghost use Rattle.cells.specs.Bounds.{IsDimension, AreWithin};
 ghost use Rattle.mm_text.specs.Texts.{Spells, FirstFault};
 ghost use Rattle.mm_text.specs.declared.limits.TextLimits.{TextLimits};
-ghost use Rattle.mm_text.specs.declared.cell.Cell.{Cell};
+ghost use Rattle.cells.specs.declared.cell.Cell.{Cell};
 ghost use Rattle.mm_text.specs.declared.fault.MmKind.{MmKind};
 
 /// A text has one first fault at most.

@@ -5,11 +5,6 @@
 #![tactic(auto)]
 
 mod carrying;
-mod cell;
-mod device_laws;
-#[cfg(test)]
-mod device_tests;
-mod devices;
 mod fault;
 mod file;
 mod judging;
@@ -20,7 +15,6 @@ mod plain;
 mod read;
 mod reader;
 mod reading;
-mod script;
 mod size;
 mod stages;
 #[cfg(test)]
@@ -30,20 +24,15 @@ mod writer;
 #[cfg(test)]
 mod writer_tests;
 
-pub use cell::Cell;
-pub use device_laws::{
-    calls_are_bounded_by_bytes, known_bytes_are_moved, script_gives_its_pieces,
-    script_keeps_what_it_takes, script_read_is_determined,
-};
-pub use devices::{Counted, Sink, Source};
-pub use fault::{DeviceFault, MmFault, MmKind, WriteFault};
+pub use byte_io::{Counted, DeviceFault, Script, Sink, Source, WriteFault, write_all};
+pub use cells::Cell;
+pub use fault::{MmFault, MmKind};
 pub use file::MmFile;
 pub use laws::{one_file_spelled, one_first_fault, spelled_or_faulty, spelled_within};
 pub use limits::TextLimits;
 pub use read::read_matrix;
 pub use reader::TextReader;
 pub use reading::Reading;
-pub use script::Script;
 pub use size::Size;
 pub use stages::Stage;
-pub use writer::{TextWriter, write_all, write_matrix};
+pub use writer::{TextWriter, write_matrix};

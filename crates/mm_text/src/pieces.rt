@@ -4,16 +4,16 @@
 ghost use Rattle.std.specs.Prelude.{◌≡◌, ℕ, ◌+◌, ◌*◌, ◌<◌, ◌≤◌, ◌^◌, List, OnOk, IfErr, IfOk, IfSome, IfNone, length, vec_len, vec_capacity, slice_index, take, drop, Some};
 ghost use Rattle.mm_text.specs.Lines.{IsLine};
 ghost use Rattle.mm_text.specs.Stages.{Advances, Holds, EndsLast, EndsText};
-ghost use Rattle.mm_text.specs.Streams.{Shows, Explains};
+ghost use Rattle.mm_text.specs.Faults.{Shows, Explains};
 ghost use Rattle.mm_text.specs.declared.limits.TextLimits.{TextLimits};
-ghost use Rattle.mm_text.specs.declared.cell.Cell.{Cell};
+ghost use Rattle.cells.specs.declared.cell.Cell.{Cell};
 
 use crate::carrying::{CARRY, end_carried, end_in_place};
-use crate::cell::Cell;
 use crate::fault::MmFault;
 use crate::limits::TextLimits;
 use crate::plain::take_entries;
 use crate::reading::Reading;
+use cells::Cell;
 use memchr::memchr;
 
 /// Where the first LF stands.

@@ -12,15 +12,15 @@ ghost use Rattle.std.specs.Int.{w64, to_le_bytes};
 ghost use Rattle.std.specs.Int.Digits.{AllBelowBase, number_from_digits};
 ghost use Rattle.mm_text.specs.Plain.{GoesOnWithDigits, BeginsWithEight, BeginsWithDigits, BeginsWithIndex, BeginsWithCount, BeginsWithEntry};
 ghost use Rattle.mm_text.specs.Stages.{Advances};
-ghost use Rattle.mm_text.specs.Streams.{Shows};
+ghost use Rattle.mm_text.specs.Faults.{Shows};
 ghost use Rattle.mm_text.specs.declared.limits.TextLimits.{TextLimits};
 
-use crate::cell::Cell;
 use crate::fault::{MmFault, MmKind};
 use crate::reading::Reading;
 use crate::size::Size;
 use crate::stages::{Stage, push_cells};
 use crate::words::is_blank_byte;
+use cells::Cell;
 use std::cmp;
 
 /// So many digits write a number of 64 bits, whatever they are.
@@ -200,7 +200,7 @@ pub fn take_entries(
 #[cfg(test)]
 mod tests {
     use super::plain_entry;
-    use crate::cell::Cell;
+    use cells::Cell;
     use std::test::Fail;
 
     fn is_taken(bytes: &[u8], want: (u64, u64, u64), size: usize) -> bool {

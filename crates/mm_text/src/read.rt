@@ -1,14 +1,15 @@
 //! Reads a whole text.
 ghost use Rattle.std.specs.Prelude.{◌≡◌, ◌≢◌, ℕ, ◌+◌, ◌<◌, ◌≤◌, ◌^◌, List, length, Result, IfOk, IfErr, OnOk};
 ghost use Rattle.mm_text.specs.Texts.{Spells};
-ghost use Rattle.mm_text.specs.Streams.{Calls, bytes_of_calls, Explains};
-ghost use Rattle.mm_text.specs.declared.fault.DeviceFault.{DeviceFault};
+ghost use Rattle.byte_io.specs.Streams.{Calls, bytes_of_calls};
+ghost use Rattle.mm_text.specs.Faults.{Explains};
+ghost use Rattle.byte_io.specs.declared.fault.DeviceFault.{DeviceFault};
 
-use crate::devices::Source;
 use crate::fault::{MmFault, MmKind};
 use crate::file::MmFile;
 use crate::limits::TextLimits;
 use crate::reader::TextReader;
+use byte_io::Source;
 use std::alloc::Global;
 
 /// Reads a Matrix Market text to the end of the source.

@@ -11,18 +11,18 @@ ghost use Rattle.std.specs.Prelude.{◌≡◌, ◌≢◌, ℕ, ◌+◌, ◌<◌,
 ghost use Rattle.mm_text.specs.Lines.{IsLine};
 ghost use Rattle.mm_text.specs.declared.size.Size.{Size};
 ghost use Rattle.mm_text.specs.declared.limits.TextLimits.{TextLimits};
-ghost use Rattle.mm_text.specs.declared.cell.Cell.{Cell};
-ghost use Rattle.mm_text.specs.declared.fault.DeviceFault.{DeviceFault};
+ghost use Rattle.cells.specs.declared.cell.Cell.{Cell};
+ghost use Rattle.byte_io.specs.declared.fault.DeviceFault.{DeviceFault};
 
 use crate::carrying::{CARRY, carry_on};
-use crate::cell::Cell;
-use crate::devices::Source;
-use crate::fault::{DeviceFault, MmFault, MmKind};
+use crate::fault::{MmFault, MmKind};
 use crate::limits::TextLimits;
 use crate::pieces::{end_text, take_lines};
 use crate::reading::Reading;
 use crate::size::Size;
 use crate::stages::Stage;
+use byte_io::{DeviceFault, Source};
+use cells::Cell;
 use std::alloc::{AllocError, Global};
 use std::cmp;
 

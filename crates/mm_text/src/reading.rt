@@ -6,14 +6,14 @@ ghost use Rattle.std.specs.Prelude.{◌≡◌, ℕ, ◌+◌, ◌<◌, ◌≤◌,
 ghost use Rattle.std.specs.List.{list_all};
 ghost use Rattle.mm_text.specs.Lines.{content, is_comment, is_skipped, is_blank};
 ghost use Rattle.mm_text.specs.Stages.{judged, Keeps, LineFault, is_symmetric, added, AddsLine, lack_at};
-ghost use Rattle.mm_text.specs.declared.cell.Cell.{Cell};
+ghost use Rattle.cells.specs.declared.cell.Cell.{Cell};
 
-use crate::cell::Cell;
 use crate::fault::{MmFault, MmKind};
 use crate::limits::TextLimits;
 use crate::size::Size;
 use crate::stages::{Stage, next_stage, push_cells};
 use crate::words::is_blank_byte;
+use cells::Cell;
 use std::alloc::AllocError;
 
 /// The most bytes that a line may have before its LF or CR LF, comments excepted.

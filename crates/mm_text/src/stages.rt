@@ -3,11 +3,11 @@ ghost use Rattle.std.specs.Prelude.{◌≡◌, ℕ, ◌++◌, OnOk};
 ghost use Rattle.mm_text.specs.Judging.{cells_of};
 ghost use Rattle.mm_text.specs.Stages.{step};
 
-use crate::cell::Cell;
 use crate::fault::MmKind;
 use crate::judging::{judge_banner, judge_entry, judge_size};
 use crate::limits::TextLimits;
 use crate::size::Size;
+use cells::Cell;
 use std::alloc::AllocError;
 
 /// Which line comes next, and what the lines before it declared.

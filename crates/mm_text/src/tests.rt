@@ -1,13 +1,13 @@
 //! Texts read from sources that give them in pieces of one length or another.
 ghost use Rattle.std.specs.Prelude.{◌≡◌, ◌≤◌, ◌^◌, length};
 
-use crate::cell::Cell;
-use crate::devices::Source;
-use crate::fault::{DeviceFault, MmFault, MmKind};
+use crate::fault::{MmFault, MmKind};
 use crate::file::MmFile;
 use crate::limits::TextLimits;
 use crate::read::read_matrix;
 use crate::reader::TextReader;
+use byte_io::{DeviceFault, Source};
+use cells::Cell;
 use std::alloc::AllocError;
 use std::test::Fail;
 

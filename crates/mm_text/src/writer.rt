@@ -6,14 +6,14 @@
 //! call for each line would cost more than the formatting.
 ghost use Rattle.std.specs.Prelude.{◌≡◌, ℕ, ◌+◌, ◌-◌, ◌*◌, ◌<◌, ◌≤◌, ◌^◌, List, [], ◌++◌, length, drop, IfOk, OnOk, IfErr};
 ghost use Rattle.arrayvec.specs.ArrayString.{array_string_len};
-ghost use Rattle.mm_text.specs.Bounds.{IsDimension, IsWithin, AreWithin};
+ghost use Rattle.cells.specs.Bounds.{IsDimension, IsWithin, AreWithin};
 ghost use Rattle.mm_text.specs.Canonical.{numbers_line, canonical_head, entry_line, entry_lines, canonical};
-ghost use Rattle.mm_text.specs.Writing.{HasTaken, HasStopped, HasWritten};
+ghost use Rattle.byte_io.specs.Writing.{HasTaken, HasStopped};
+ghost use Rattle.mm_text.specs.Writing.{HasWritten};
 
-use crate::cell::Cell;
-use crate::devices::Sink;
-use crate::fault::WriteFault;
 use arrayvec::ArrayString;
+use byte_io::{Sink, WriteFault, write_all};
+use cells::Cell;
 use std::marker::Model;
 
 /// The bytes of the buffer. More would take room on the stack and save few calls.
@@ -23,29 +23,6 @@ const CAPACITY: usize = 16_384;
 const LINE: usize = 63;
 
 const BANNER: &str = "%%MatrixMarket matrix coordinate integer general\n";
-
-/// Writes all of `bytes` to `w`, in as many calls as it takes. No byte is no call.
-///
-/// At an Err `written` counts from the front of `bytes`, and no call was made after the one that failed or took
-/// nothing. Takes no memory, and does not flush.
-pub fn write_all<W: Sink>(w: &mut W, bytes: &[u8]) -> Result<(), WriteFault>
-    requires { W.failure_count w.old + 1 < 2 ^ 64 }
-    ensures ok { OnOk result (HasTaken W.write_takes W.failure_count w.old w.new bytes.now) }
-    ensures err { IfErr result (λ f. HasStopped W.write_takes W.failure_count w.old w.new bytes.now f.written) }
-{
-    let mut done = 0;
-    while done < bytes.len() {
-        let fault = WriteFault {
-            written: done as u128,
-        };
-        match w.write(&bytes[done..]) {
-            Ok(0) => return Err(fault),
-            Ok(count) => done += count,
-            Err(_) => return Err(fault),
-        }
-    }
-    Ok(())
-}
 
 /// Appends a line of three numbers.
 fn push_line(buffer: &mut ArrayString<CAPACITY>, first: u64, second: u64, third: u64)

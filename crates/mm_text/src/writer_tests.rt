@@ -1,8 +1,9 @@
 //! Texts that are written, each beside the text written by hand.
 ghost use Rattle.std.specs.Prelude.{◌≡◌, ℕ, ◌+◌, ◌<◌, ◌≤◌, ◌^◌, length, vec_len, IsTrue};
-ghost use Rattle.mm_text.specs.Bounds.{AreWithin};
+ghost use Rattle.cells.specs.Bounds.{AreWithin};
 
-use crate::cell::Cell;
+use byte_io::{DeviceFault, Script, Sink};
+use cells::Cell;
 
 const BANNER: &str = "%%MatrixMarket matrix coordinate integer general\n";
 
@@ -18,14 +19,49 @@ fn cell(row: u64, col: u64, count: u64) -> Cell {
     Cell { row, col, count }
 }
 
+/// Takes one byte of each piece that it is offered.
+#[derive(Drop)]
+pub struct OneByte {
+    pub inner: Script,
+}
+
+impl Sink for OneByte {
+    ghost write_takes = { λ s a t. Unit {0} };
+
+    ghost failure_count = { λ s. s.inner.failures };
+
+    fn write(&mut self, buf: &[u8]) -> Result<usize, DeviceFault> {
+        self.inner.write(&buf[..buf.len().min(1)])
+    }
+
+    fn failures(&self) -> u64 {
+        Sink::failures(&self.inner)
+    }
+}
+
+/// Takes nothing, and doesn't fail.
+#[derive(Drop)]
+pub struct Full;
+
+impl Sink for Full {
+    ghost write_takes = { λ s a t. Unit {0} };
+
+    ghost failure_count = { λ _. 0 };
+
+    fn write(&mut self, _buf: &[u8]) -> Result<usize, DeviceFault> {
+        Ok(0)
+    }
+
+    fn failures(&self) -> u64 {
+        0
+    }
+}
+
 #[cfg(test)]
 mod tests {
     use super::*;
-    use crate::device_tests::{Full, OneByte};
-    use crate::devices::{Counted, Sink};
-    use crate::fault::WriteFault;
-    use crate::script::Script;
-    use crate::writer::{TextWriter, write_all, write_matrix};
+    use crate::writer::{TextWriter, write_matrix};
+    use byte_io::{Counted, WriteFault, write_all};
     use std::alloc::Global;
     use std::process::Abort;
     use std::test::Fail;

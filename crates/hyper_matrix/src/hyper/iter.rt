@@ -4,7 +4,7 @@ ghost use Rattle.std.specs.List.{AllByRecursion};
 ghost use Rattle.std.specs.FinMap.{entries};
 ghost use Rattle.hyper_matrix.specs.Shared.{LiesWithin};
 
-use crate::cells::Cells;
+use crate::cell_iter::Cells;
 use crate::hyper::Hyper;
 
 impl Hyper {

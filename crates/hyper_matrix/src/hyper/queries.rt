@@ -12,7 +12,7 @@ ghost use Rattle.hyper_matrix.specs.RowOf.{row_of, IsFirst, HasNoneFrom};
 use crate::find;
 use crate::hyper::Hyper;
 use crate::row_sum::{Entry, RowSum};
-use mm_text::Cell;
+use cells::Cell;
 
 impl Hyper {
     /// The count at a place, and None where the matrix has no entry, as at a place outside its dimensions. A stored

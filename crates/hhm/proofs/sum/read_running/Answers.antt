@@ -1,6 +1,6 @@
 use Rattle.std.proofs.Common.{Bool, List, subst}
 use Rattle.mm_text.specs.Readings.{ReadsBlock}
-use Rattle.mm_text.specs.declared.cell.Cell.{Cell}
+use Rattle.cells.specs.declared.cell.Cell.{Cell}
 use Rattle.hhm.proofs.ReadLemmas.{Adds, first_block, only_block, goes_sized, ends_sized, if_ok, if_err}
 use Rattle.hhm.proofs.sum.read_running.Goals as goal
 

@@ -1,6 +1,6 @@
 use Rattle.std.proofs.Common.{◌≡◌, ap, subst, Err}
-use Rattle.mm_text.specs.Writing.{HasTaken, HasStopped}
-use Rattle.mm_text.specs.declared.fault.WriteFault.{WriteFault}
+use Rattle.byte_io.specs.Writing.{HasTaken, HasStopped}
+use Rattle.byte_io.specs.declared.fault.WriteFault.{WriteFault}
 use Rattle.hyper_matrix.specs.Matrix.{Matrix}
 use Rattle.hhm.specs.Sum.{matrix_text, sum_text}
 use Rattle.hhm.specs.declared.fault.SumFault.TheVariants.{SumTooLarge}

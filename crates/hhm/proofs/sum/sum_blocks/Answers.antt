@@ -1,6 +1,6 @@
 use Rattle.std.proofs.Common.{◌∙◌, sym, Bool, List, subst}
 use Rattle.mm_text.specs.Readings.{ReadsBlock}
-use Rattle.mm_text.specs.declared.cell.Cell.{Cell}
+use Rattle.cells.specs.declared.cell.Cell.{Cell}
 use Rattle.hhm.specs.Reading.{Excuses}
 use Rattle.hhm.proofs.ReadLemmas.{Adds, next_block, last_block, stopped}
 use Rattle.hhm.proofs.sum.sum_blocks.Goals as goal

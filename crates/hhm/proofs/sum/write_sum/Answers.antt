@@ -2,8 +2,9 @@ use Rattle.std.proofs.Common.{◌∙◌, subst, refl, List, ℕ, ◌++◌, map, 
 use Rattle.std.specs.List.{AllByRecursion}
 use Rattle.std.proofs.lemmas.Result.{err_from_is_err_and}
 use Rattle.mm_text.specs.Canonical.{canonical_head, entry_line, entry_lines}
-use Rattle.mm_text.specs.Writing.{HasStopped}
-use Rattle.mm_text.proofs.SinkLemmas.{written_nothing, has_stopped_longer}
+use Rattle.byte_io.specs.Writing.{HasStopped}
+use Rattle.mm_text.proofs.WriterLemmas.{written_nothing}
+use Rattle.byte_io.proofs.SinkLemmas.{has_stopped_longer}
 use Rattle.hyper_matrix.specs.Shared.{LiesWithin}
 use Rattle.hhm.specs.Sum.{cell_of}
 use Rattle.hhm.proofs.SumLemmas.{text_begins, lines_counted, line_next}

@@ -2,7 +2,7 @@ use Rattle.std.proofs.Common.{◌∷◌, [], T, get_or, map, subst, sym, ap, ◌
 use Rattle.std.specs.List.{slice_range}
 use Rattle.std.proofs.lemmas.List.{map-append}
 use Rattle.std.proofs.lemmas.List.Edits.{between_more}
-use Rattle.mm_text.specs.declared.cell.Cell.{Cell}
+use Rattle.cells.specs.declared.cell.Cell.{Cell}
 use Rattle.hyper_matrix.specs.Cells.{entry_of}
 use Rattle.hyper_matrix.specs.Places.{Less, AllPlaces}
 use Rattle.hyper_matrix.proofs.OrderLaws.{all_append}

@@ -1,5 +1,5 @@
 use Rattle.std.proofs.Common.{inl, inr, sym, ap, ◌∙◌, arith}
-use Rattle.mm_text.specs.declared.cell.Cell.{Cell}
+use Rattle.cells.specs.declared.cell.Cell.{Cell}
 use Rattle.hyper_matrix.proofs.SortLaws.{next_place, here_next, step_row, step_column, step_same, step_fits, all_done, first_open}
 use Rattle.std.proofs.lemmas.List.{get_or_default}
 use Rattle.hyper_matrix.proofs.build.push_cells.Goals as goal

@@ -1,7 +1,7 @@
 use Rattle.std.proofs.Common.{◌+◌, ◌∙◌, sym, ap, take, get_or, arith}
 use Rattle.std.proofs.lemmas.List.{take_more}
 use Rattle.hyper_matrix.specs.Cells.{cell_total}
-use Rattle.mm_text.specs.declared.cell.Cell.{Cell}
+use Rattle.cells.specs.declared.cell.Cell.{Cell}
 use Rattle.hyper_matrix.proofs.SortLaws.{total-push, total_take}
 use Rattle.hyper_matrix.proofs.build.total_of.Goals as goal
 

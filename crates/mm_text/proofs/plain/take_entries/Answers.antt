@@ -2,7 +2,7 @@ use Rattle.std.proofs.Common.{◌≡◌, ◌++◌, ◌+◌, ◌≤◌, arith, ta
 use Rattle.std.specs.Prelude.{Result, Ok, Err, OnOk, is_err}
 use Rattle.std.specs.declared.alloc.AllocError.{AllocError}
 use Rattle.std.proofs.lemmas.List.{take-append-drop, take_rest}
-use Rattle.mm_text.specs.Streams.{Shows}
+use Rattle.mm_text.specs.Faults.{Shows}
 use Rattle.mm_text.specs.declared.fault.MmKind.TheVariants.{Memory}
 use Rattle.mm_text.specs.Judging.{cells_of}
 use Rattle.mm_text.proofs.AdvanceLemmas.{advances_none, advances_append, shows_later}

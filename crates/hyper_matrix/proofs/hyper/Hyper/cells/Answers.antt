@@ -1,7 +1,7 @@
 use Rattle.std.proofs.Common.{◌≡◌, ◌++◌, map, sym, ap, ◌∙◌, subst}
 use Rattle.std.specs.List.{AllByRecursion}
 use Rattle.std.specs.FinMap.{entries}
-use Rattle.mm_text.specs.Bounds.{AreWithin}
+use Rattle.cells.specs.Bounds.{AreWithin}
 use Rattle.hyper_matrix.specs.Matrix.{Matrix}
 use Rattle.hyper_matrix.specs.Blocks.{all_cells}
 use Rattle.hyper_matrix.specs.Shared.{LiesWithin}

@@ -1,4 +1,4 @@
-use Rattle.mm_text.proofs.SinkLemmas.{on_ok_both, written_whole}
+use Rattle.mm_text.proofs.WriterLemmas.{on_ok_both, written_whole}
 use Rattle.mm_text.proofs.writer.TextWriter.finish.Goals as goal
 
 pub returns-clause-ok : goal.returns-clause-ok

@@ -1,5 +1,5 @@
 use Rattle.std.proofs.Common.{ap, length, ◌+◌, ◌∙◌}
-use Rattle.mm_text.proofs.SinkLemmas.{written_handed_on, stopped_pending}
+use Rattle.mm_text.proofs.WriterLemmas.{written_handed_on, stopped_pending}
 use Rattle.mm_text.proofs.writer.TextWriter.flush.Goals as goal
 
 pub returns-in-Err-clause-err : goal.returns-in-Err-clause-err

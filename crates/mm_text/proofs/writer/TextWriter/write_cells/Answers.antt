@@ -1,6 +1,6 @@
 use Rattle.std.proofs.Common.{◌∙◌, arith}
 use Rattle.std.proofs.lemmas.Result.{err_from_is_err_and}
-use Rattle.mm_text.proofs.SinkLemmas.{written_next, stopped_within}
+use Rattle.mm_text.proofs.WriterLemmas.{written_next, stopped_within}
 use Rattle.mm_text.proofs.writer.TextWriter.write_cells.Goals as goal
 
 pub returns-in_err-write_cell-clause-err : goal.returns-in_err-write_cell-clause-err

@@ -1,0 +1,4 @@
+pub mod StreamLemmas
+pub mod SinkLemmas
+pub mod ScriptLemmas
+pub mod KnownLemmas

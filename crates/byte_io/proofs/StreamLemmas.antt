@@ -1,0 +1,16 @@
+-- Runs of calls, one behind another, and the bytes that they moved.
+use Rattle.std.proofs.Common.{◌≡◌, ℕ, List, [], ◌∷◌, ◌++◌, refl, sym, ◌∙◌, ap, append_assoc, subst}
+use Rattle.std.specs.Prelude.{Result, Ok, Err}
+use Rattle.byte_io.specs.Streams.{Calls, bytes_of_calls}
+use Rattle.byte_io.specs.declared.fault.DeviceFault.{DeviceFault}
+
+-- a run behind a run is a run
+pub calls-append : {S : Type 0} (gives : S → Result (List ℕ) DeviceFault → S → Type 0) (xs ys : List (Result (List ℕ) DeviceFault)) (s m t : S) →
+    Calls gives s xs m → Calls gives m ys t → Calls gives s (xs ++ ys) t
+calls-append gives [] ys s m t p q = subst (λ x. Calls gives x ys t) (sym p) q
+calls-append gives (x ∷ xs) ys s m t p q = (p.0, p.1, calls-append gives xs ys p.0 m t p.2 q)
+
+pub bytes_of_calls-append : (xs ys : List (Result (List ℕ) DeviceFault)) → bytes_of_calls (xs ++ ys) ≡ bytes_of_calls xs ++ bytes_of_calls ys
+bytes_of_calls-append [] ys = refl
+bytes_of_calls-append (Ok bytes ∷ xs) ys = ap (λ b. bytes ++ b) (bytes_of_calls-append xs ys) ∙ sym (append_assoc bytes (bytes_of_calls xs) (bytes_of_calls ys))
+bytes_of_calls-append (Err e ∷ xs) ys = bytes_of_calls-append xs ys

@@ -1,0 +1,42 @@
+//! Laws of devices: what runs of calls gave and took in all.
+ghost use Rattle.std.specs.Prelude.{◌≡◌, ℕ, ◌≤◌, List, [], ◌++◌, length, Option, Result};
+ghost use Rattle.std.specs.List.{concat};
+ghost use Rattle.std.specs.Io.KnownBytes.{Consumes, Appends};
+ghost use Rattle.byte_io.specs.Streams.{Calls, bytes_of_calls, MayRead, MayWrite};
+ghost use Rattle.byte_io.specs.Writing.{EachTakes};
+ghost use Rattle.byte_io.specs.Scripts.{ScriptState, nonempty_pieces, IsRead, script_gives, script_takes};
+ghost use Rattle.byte_io.specs.declared.fault.DeviceFault.{DeviceFault};
+
+/// However a `Script` is read, it gives one list of bytes, its pieces: a front of them until its end, and then all.
+pub fn script_gives_its_pieces()
+    ensures front { (s t : ScriptState) (answers : List (Result (List ℕ) DeviceFault)) → Calls script_gives s answers t →
+        concat s.pieces ≡ bytes_of_calls answers ++ concat t.pieces }
+    ensures whole { (s t : ScriptState) (answers : List (Result (List ℕ) DeviceFault)) → Calls script_gives s answers t →
+        t.pieces ≡ [] → bytes_of_calls answers ≡ concat s.pieces }
+    ensures joined { (pieces : List (List ℕ)) → concat (nonempty_pieces pieces) ≡ concat pieces }
+{}
+
+/// A read of a `Script` into a buffer of one length has one answer, and leaves one state.
+pub fn script_read_is_determined()
+    ensures { (n : ℕ) (s t u : ScriptState) (a b : Result (List ℕ) DeviceFault) →
+        IsRead n s a t → IsRead n s b u → (a ≡ b) × (t ≡ u) }
+{}
+
+/// A `Script` keeps what was written to it.
+pub fn script_keeps_what_it_takes()
+    ensures { (s t : ScriptState) (answers : List (Result (List ℕ) DeviceFault)) → Calls script_takes s answers t →
+        t.written ≡ s.written ++ bytes_of_calls answers }
+{}
+
+/// A reader whose bytes are known loses those that it gives from the front; a writer gains those that it takes.
+pub fn known_bytes_are_moved()
+    ensures read { (old new : Option (List ℕ)) (answers : List (Result (List ℕ) DeviceFault)) →
+        Calls MayRead old answers new → Consumes old new (bytes_of_calls answers) }
+    ensures written { (old new : Option (List ℕ)) (answers : List (Result (List ℕ) DeviceFault)) →
+        Calls MayWrite old answers new → Appends old new (bytes_of_calls answers) }
+{}
+
+/// Calls that each move a byte or more are no more than the bytes.
+pub fn calls_are_bounded_by_bytes()
+    ensures { (answers : List (Result (List ℕ) DeviceFault)) → EachTakes answers → length answers ≤ length (bytes_of_calls answers) }
+{}

@@ -1,5 +1,0 @@
-use Rattle.mm_text.proofs.KnownLemmas.{calls_at_most_bytes}
-use Rattle.mm_text.proofs.device_laws.calls_are_bounded_by_bytes.Goals as goal
-
-pub returns : goal.returns
-returns c = calls_at_most_bytes

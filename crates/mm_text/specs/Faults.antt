@@ -1,0 +1,39 @@
+-- What a fault of a reading says of the bytes that were read.
+use Rattle.std.specs.Prelude.{◌≡◌, ℕ, ◌+◌, ◌<◌, ◌≤◌, List, ◌++◌, length, take}
+use Rattle.mm_text.specs.Lines.{line_at}
+use Rattle.mm_text.specs.Texts.{FirstFault, NoFaultWithin}
+use Rattle.mm_text.specs.Stages.{Holds}
+use Rattle.cells.specs.declared.cell.Cell.{Cell}
+use Rattle.mm_text.specs.declared.stages.Stage.{Stage}
+use Rattle.mm_text.specs.declared.limits.TextLimits.{TextLimits}
+use Rattle.mm_text.specs.declared.fault.MmKind.{MmKind}
+use Rattle.mm_text.specs.declared.fault.MmKind.TheVariants.{Read, Memory}
+
+-- What was read has this first fault; one that shows at the text's end is told only where the source had ended.
+pub record IsTold (text : List ℕ) (limits : TextLimits) (ended : Type 0) (kind : MmKind) (line : ℕ) : Type 0 where
+  pub first : FirstFault text limits kind line
+  pub at_end : length text < first.place → ended
+
+-- The source failed, and what was read before bears no fault but what shows at the text's end.
+pub record IsReadFault (text : List ℕ) (limits : TextLimits) (failed : Type 0) (line : ℕ) : Type 0 where
+  pub failed_now : failed
+  pub none_within : NoFaultWithin text limits
+  pub line_is : line ≡ line_at text (length text)
+
+-- Memory ran out at a place up to which the text bears no fault.
+pub record IsMemoryFault (text : List ℕ) (limits : TextLimits) (line : ℕ) : Type 0 where
+  pub place : ℕ
+  pub within : place ≤ length text
+  pub none_within : NoFaultWithin (take place text) limits
+  pub line_is : line ≡ line_at text place
+
+-- what a fault of a reading says of the bytes that were read
+abbrev pub Explains : List ℕ → TextLimits → Type 0 → Type 0 → MmKind → ℕ → Type 0
+Explains text limits ended failed Read line = IsReadFault text limits failed line
+Explains text limits ended failed Memory line = IsMemoryFault text limits line
+Explains text limits ended failed kind line = IsTold text limits ended kind line
+
+-- These bytes show a fault, whatever text within the limit they continue and whatever follows them.
+abbrev pub Shows : TextLimits → List ℕ → List ℕ → Stage → ℕ → MmKind → ℕ → Type 0
+Shows limits bytes carry stage count kind line = (text more : List ℕ) (given : List Cell) → length text + length bytes ≤ limits.max_bytes →
+    Holds limits text carry stage given count → Explains ((text ++ bytes) ++ more) limits ⊥ ⊥ kind line
