@@ -377,7 +377,7 @@ fn sum_with_failing_read(
 struct Full;
 
 impl Sink for Full {
-    ghost write_takes = { λ s a t. Unit {0} };
+    ghost write_takes = { λ s offered a t. Unit {0} };
 
     ghost failure_count = { λ _. 0 };
 
