@@ -127,12 +127,12 @@ module _ {S : Type 0} (gives : S → Result (List ℕ) DeviceFault → S → Typ
       }
 
   -- The reading stopped with a fault.
-  pub stopped : (s t t' : S) (reader : TextReader) (size : Size) (sum : RunningSum) (block : List Cell) (fault : MmFault) →
+  pub stopped : (s t t' : S) (reader : TextReader) (size : Size) (sum : RunningSum) (block empty front : List Cell) (fault : MmFault) →
       IsSumming gives at_end failures s t reader size sum block →
-      Stops gives (at_end t') (failures t' ≡ failures t + 1) t t' reader fault.kind fault.line →
+      Stops gives (at_end t') (failures t' ≡ failures t + 1) t t' reader empty front fault.kind fault.line →
       (fault.kind ≢ kind.Read → failures t' ≡ failures t) →
       Excuses gives at_end failures s t' (fault_of_text fault)
-  stopped s t t' reader size sum block fault old stops same =
+  stopped s t t' reader size sum block empty front fault old stops same =
       let explained = stops.explained sum_limits old.answers (old.done ++ block) old.has_read in
       by_kind fault (Excuses gives at_end failures s t') tt (λ other. record {
         answers = old.answers ++ stops.answers;
@@ -200,10 +200,10 @@ module _ {S : Type 0} (gives : S → Result (List ℕ) DeviceFault → S → Typ
       record { size = spelled.size; size_is = spelled.size_is; rows = bounds.0; cols = bounds.1 }
 
   -- The first block shows a fault.
-  pub first_stopped : (s t : S) (reader : TextReader) (fault : MmFault) → HasRead sum_limits [] [] reader →
-      Stops gives (at_end t) (failures t ≡ failures s + 1) s t reader fault.kind fault.line →
+  pub first_stopped : (s t : S) (reader : TextReader) (empty front : List Cell) (fault : MmFault) → HasRead sum_limits [] [] reader →
+      Stops gives (at_end t) (failures t ≡ failures s + 1) s t reader empty front fault.kind fault.line →
       (fault.kind ≢ kind.Read → failures t ≡ failures s) → Excuses gives at_end failures s t (fault_of_text fault)
-  first_stopped s t reader fault read stops same =
+  first_stopped s t reader empty front fault read stops same =
       let explained = stops.explained sum_limits [] [] read in
       by_kind fault (Excuses gives at_end failures s t) tt (λ other. record {
         answers = stops.answers;

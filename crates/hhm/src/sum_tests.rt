@@ -224,7 +224,7 @@ fn later_writes_that_fail(rt: HostRuntime) -> Result<(), Fail> {
 struct Full;
 
 impl Sink for Full {
-    ghost write_takes = { λ s a t. Unit {0} };
+    ghost write_takes = { λ s offered a t. Unit {0} };
 
     ghost failure_count = { λ _. 0 };
 

@@ -1,7 +1,8 @@
-use Rattle.std.proofs.Common.{Bool, List, subst}
+use Rattle.std.proofs.Common.{Bool, List, subst, sym}
+use Rattle.hhm.specs.Reading.{Excuses}
 use Rattle.mm_text.specs.Readings.{ReadsBlock}
 use Rattle.cells.specs.declared.cell.Cell.{Cell}
-use Rattle.hhm.proofs.ReadLemmas.{Adds, first_block, only_block, goes_sized, ends_sized, if_ok, if_err}
+use Rattle.hhm.proofs.ReadLemmas.{Adds, first_block, only_block, goes_sized, ends_sized, first_stopped, if_ok, if_err}
 use Rattle.hhm.proofs.sum.read_running.Goals as goal
 
 pub empty_sum-requires-clause-sized : goal.empty_sum-requires-clause-sized
@@ -39,3 +40,9 @@ returns-in-Ok-false-clause-ok g c =
     only_block g.R.Source.read_gives g.R.Source.at_end g.R.Source.failure_count c.args.r.now c.read_block.new.r c.in_ok-reader.reader c.read_block.new.self c.in_ok-none-in-Ok-false.none c.in_ok-sum-in-Ok-false.sum c.in_ok-block.block.items c.read_block.new.block.items
     c.in_ok-reader.ensures c.in_ok-block.ensures.items ends c.in-Ok-false.ensures.no_failure c.in_ok-none-in-Ok-false.ensures.ok
     (subst (λ (b : List Cell). Adds b c.in_ok-none-in-Ok-false.none c.in_ok-sum-in-Ok-false.sum) c.deref.ensures.value c.in_ok-sum-in-Ok-false.ensures)
+
+pub returns-clause-err : goal.returns-clause-err
+returns-clause-err g c =
+    subst (Excuses g.R.Source.read_gives g.R.Source.at_end g.R.Source.failure_count c.args.r.now c.read_block.new.r) (sym c.from.ensures)
+    (first_stopped g.R.Source.read_gives g.R.Source.at_end g.R.Source.failure_count c.args.r.now c.read_block.new.r c.in_ok-reader.reader c.in_ok-block.block.items c.read_block.new.block.items c.in-Err.fault
+    c.in_ok-reader.ensures c.in-Err.ensures.err c.in-Err.ensures.failures)

@@ -32,4 +32,4 @@ returns-in-Ok-false-clause-ok g c s size old =
 pub returns-in-Err-clause-err : goal.returns-in-Err-clause-err
 returns-in-Err-clause-err g c s size old =
     subst (Excuses g.R.Source.read_gives g.R.Source.at_end g.R.Source.failure_count s c.read_block.new.r) (sym c.from.ensures)
-    (stopped g.R.Source.read_gives g.R.Source.at_end g.R.Source.failure_count s c.text.r c.read_block.new.r c.text.reader size c.text.sum c.text.block.items c.in-Err.fault (c.text.invariant.1 s size old) c.in-Err.ensures.err c.in-Err.ensures.failures)
+    (stopped g.R.Source.read_gives g.R.Source.at_end g.R.Source.failure_count s c.text.r c.read_block.new.r c.text.reader size c.text.sum c.text.block.items _ _ c.in-Err.fault (c.text.invariant.1 s size old) c.in-Err.ensures.err c.in-Err.ensures.failures)
