@@ -1,6 +1,6 @@
 -- What reading one more block does to a sum of a text: it goes on, ends or stops, and the sum takes the block or not.
-use Rattle.std.proofs.Common.{◌≡◌, ◌≢◌, ℕ, ◌+◌, ◌<◌, ◌^◌, Bool, true, false, List, [], ◌++◌, length, Option, Some, Result, Ok, Err, refl, sym, ◌∙◌, ap, subst, arith, get_or, inl, inr, append_assoc}
-use Rattle.std.proofs.lemmas.List.{get_or-append-add, length-append, append-nil}
+use Rattle.std.proofs.Common.{◌≡◌, ◌≢◌, ℕ, ◌+◌, ◌<◌, ◌^◌, Bool, true, false, List, [], ◌++◌, length, Option, Some, Result, Ok, Err, refl, sym, ◌∙◌, ap, subst, arith, get_or, inl, inr, append_assoc, drop, ◌≤◌, ◌-◌, zero, suc}
+use Rattle.std.proofs.lemmas.List.{get_or-append-add, length-append, length-take, append-nil}
 use Rattle.std.specs.Prelude.{None, IfOk, IfErr}
 use Rattle.byte_io.specs.Streams.{bytes_of_calls}
 use Rattle.byte_io.specs.declared.fault.DeviceFault.{DeviceFault}
@@ -47,6 +47,16 @@ can_take rows cols cells block (Fits layers) is within =
     subst (λ r. AreWithin r layers.cols block) (sym is.rows_are) (subst (λ c. AreWithin rows c block) (sym is.cols_are) within)
 can_take rows cols cells block TooLarge is within = tt
 
+-- what isn't judged yet is at most a piece
+pending_short : (reader : TextReader) → length (pending reader) ≤ 65536
+pending_short reader =
+    omega (arith, length-take (reader.end - reader.start) (drop reader.start reader.piece.items), reader.in_piece.1, reader.one_piece)
+
+-- and what is beyond the limit at most a byte
+beyond_short : (room : ℕ) (beyond : List ℕ) → (0 < room → beyond ≡ []) → (room ≡ 0 → length beyond ≡ 1) → length beyond ≤ 1
+beyond_short zero beyond none one = omega (arith, one refl)
+beyond_short (suc room) beyond none one = let nothing : 0 < suc room = omega arith in omega (arith, ap length (none nothing))
+
 module _ {S : Type 0} (gives : S → Result (List ℕ) DeviceFault → S → Type 0) (at_end : S → Type 0) (failures : S → ℕ) where
   -- Nothing was read.
   pub hands_out_none : (s : S) (reader : TextReader) → HasRead sum_limits [] [] reader → HandsOut gives at_end failures s s reader []
@@ -62,6 +72,7 @@ module _ {S : Type 0} (gives : S → Result (List ℕ) DeviceFault → S → Typ
     before = [];
     behind = [];
     text_is = refl;
+    near = omega arith;
     none_within = held_none sum_limits [] [] AtBanner [] 0 (holds_none sum_limits);
     cells = [];
     cells_are = inl ([], AtBanner, 0, holds_none sum_limits);
@@ -95,6 +106,7 @@ module _ {S : Type 0} (gives : S → Result (List ℕ) DeviceFault → S → Typ
         before = read.judged;
         behind = pending reader ++ read.beyond;
         text_is = read.text_is ∙ append_assoc read.judged (pending reader) read.beyond;
+        near = omega (arith, pending_short reader, beyond_short reader.room read.beyond read.none_beyond read.one_beyond, length-append (pending reader) read.beyond);
         none_within = held_none sum_limits read.judged _ _ cells _ read.holds;
         cells = cells;
         cells_are = inl (_, _, _, read.holds);
@@ -113,6 +125,7 @@ module _ {S : Type 0} (gives : S → Result (List ℕ) DeviceFault → S → Typ
         before = bytes;
         behind = [];
         text_is = sym (append-nil bytes);
+        near = omega arith;
         none_within = none_within_lines bytes sum_limits (spells_clean bytes sum_limits rows cols cells text.spells) text.spells.fits;
         cells = cells;
         cells_are = inr (rows, cols, text.spells);

@@ -72,8 +72,8 @@ AreItsCells text cells =
     ((carry : List ℕ) × (stage : Stage) × (lines : ℕ) × Holds sum_limits text carry stage cells lines)
     ⊎ ((rows : ℕ) × (cols : ℕ) × Spells text sum_limits rows cols cells)
 
--- These calls read a text up to a place where memory ran out, and none failed. What stands before the place bears no
--- fault, and its cells have counts that fit 64 bits together.
+-- These calls read a text up to a place where memory ran out, or at most one piece of 65,536 bytes and a byte beyond it,
+-- and none failed. What stands before the place bears no fault, and its cells have counts that fit 64 bits together.
 pub record IsUnsummed {S : Type 0} (gives : S → Result (List ℕ) DeviceFault → S → Type 0) (failures : S → ℕ) (s t : S) : Type 0 where
   pub answers : List (Result (List ℕ) DeviceFault)
   pub calls : Calls gives s answers t
@@ -82,6 +82,7 @@ pub record IsUnsummed {S : Type 0} (gives : S → Result (List ℕ) DeviceFault 
   pub before : List ℕ
   pub behind : List ℕ
   pub text_is : bytes_of_calls answers ≡ before ++ behind
+  pub near : length behind ≤ 65537
   pub none_within : NoFaultWithin before sum_limits
   pub cells : List Cell
   pub cells_are : AreItsCells before cells

@@ -46,7 +46,7 @@ pub struct TextReader {
     end: usize,
     // How many bytes may still be asked for: with the one that is too many, which is judged by being there.
     room: u64,
-    ghost some_piece: { 0 < length piece.items },
+    ghost one_piece: { length piece.items ≡ 65536 },
     ghost in_piece: { (start ≤ end) × (end ≤ length piece.items) },
     ghost carries: { 1025 ≤ vec_capacity carry },
     ghost countable: { reading.lines + (end + room) ≤ 2 ^ 63 + 1 + start },
