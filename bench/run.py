@@ -2,18 +2,25 @@
 """Measures `hhm sum` beside what a user would reach for, in one run, and compares the outputs byte for byte.
 
     python3 bench/run.py PATH-TO-HHM [--entries N] [--streams "powerlaw uniform .."] [--repeat R]
+    python3 bench/run.py PATH-TO-HHM --check
 
-It builds the two programs of this folder with rustc, generates each stream, and prints a table for it: seconds (the best
-of R runs), entries a second, peak memory, and the time as a multiple of the baseline's, the Rust program that sorts. The
-programs take turns, so that a slow minute of the machine falls on all of them. sort and awk run once, and are left out
-where they are not installed. awk adds in floating point, so counts stay small here. Memory below some 15 MB shows as
-that: each process begins as this one.
+It builds the two programs of this folder with rustc, generates each stream, and prints a table for it: seconds (the
+best of R runs), entries a second, peak memory, and the time as a multiple of the baseline's, the Rust program that
+sorts. The programs take turns, so that a slow minute of the machine falls on all of them. sort and awk run once, and
+are left out where they are not installed. awk adds in floating point, so counts stay small here. Memory below some
+15 MB shows as that: each process begins as this one.
+
+With `--check` nothing is timed: each program sums a short stream of each kind, and its output is compared with what a
+dictionary of Python holds. What is not installed is left out, with a line that says so. The last line is `N passed,
+M failed`.
+
 The status is 1 where two outputs differ. Programs and data go to a folder of their own below the system's one for
 temporary files, and are removed at the end.
 """
 import argparse
 import filecmp
 import os
+import random
 import shutil
 import subprocess
 import sys
@@ -22,6 +29,10 @@ import time
 
 HERE = os.path.dirname(os.path.abspath(__file__))
 STREAMS = "powerlaw uniform repeat onerow ordered"
+# How many entries a stream has that is checked and not timed.
+CHECKED_ENTRIES = 20_000
+# The rows, and the columns, of every stream.
+SIZE = 1 << 60
 SORT_AND_AWK = r"""
 set -o pipefail
 read -r banner; read -r rows cols entries
@@ -55,18 +66,24 @@ def measure(command, text, output, environment):
 
 
 def commands(hhm, baseline):
-    """What is measured: a name, the command, and whether one run is enough."""
+    """What is run: a name, the command, and whether one run is enough. Without a baseline there is none in Rust."""
     rows = [
-        ("Rust, sorting", [baseline], False),
         ("hhm, cuts 4096,65536,1048576", [hhm, "sum", "--cuts", "4096,65536,1048576"], False),
         ("hhm, default cut", [hhm, "sum"], False),
     ]
+    if baseline:
+        rows.insert(0, ("Rust, sorting", [baseline], False))
     if shutil.which("sort") and shutil.which("awk"):
         rows.append(("sort and awk", ["bash", "-c", SORT_AND_AWK], True))
     return rows
 
 
-def take_turns(rows, text, folder, environment, rounds):
+def environment(folder):
+    """What the programs see: byte order, and the folder for what sort and awk set aside."""
+    return dict(os.environ, LC_ALL="C", TMPDIR=folder, BODY=os.path.join(folder, "body"))
+
+
+def take_turns(rows, text, folder, rounds):
     """Runs the programs in turn. Gives the runs of each, and whether its output is the first one's."""
     runs, same = {name: [] for name, _, _ in rows}, {}
     reference, output = os.path.join(folder, "reference"), os.path.join(folder, "output")
@@ -74,7 +91,7 @@ def take_turns(rows, text, folder, environment, rounds):
         for name, command, once in rows:
             if once and turn > 0:
                 continue
-            runs[name].append(measure(command, text, output, environment))
+            runs[name].append(measure(command, text, output, environment(folder)))
             if turn == 0 and not same:
                 os.replace(output, reference)
                 same[name] = True
@@ -88,8 +105,7 @@ def run_stream(kind, arguments, generator, baseline, folder):
     text = os.path.join(folder, "text")
     with open(text, "wb") as sink:
         subprocess.run([generator, kind, str(arguments.entries)], stdout=sink, check=True)
-    environment = dict(os.environ, LC_ALL="C", TMPDIR=folder, BODY=os.path.join(folder, "body"))
-    runs, same = take_turns(commands(arguments.hhm, baseline), text, folder, environment, arguments.repeat)
+    runs, same = take_turns(commands(arguments.hhm, baseline), text, folder, arguments.repeat)
     print(f"\n{kind}, {arguments.entries:,} entries\n")
     print("| program | seconds | entries a second | peak memory | ratio | output |")
     print("|---|---|---|---|---|---|")
@@ -98,8 +114,63 @@ def run_stream(kind, arguments, generator, baseline, folder):
         seconds, memory = min(seconds for seconds, _ in measured), max(memory for _, memory in measured)
         verdict = ("reference" if place == 0 else "same") if same[name] else "DIFFERS"
         rate = arguments.entries / seconds
-        print(f"| {name} | {seconds:.2f} | {rate:,.0f} | {memory / 1e6:.0f} MB | {seconds / base:.2f} | {verdict} |", flush=True)
+        row = [name, f"{seconds:.2f}", f"{rate:,.0f}", f"{memory / 1e6:.0f} MB", f"{seconds / base:.2f}", verdict]
+        print(f"| {' | '.join(row)} |", flush=True)
     return all(same.values())
+
+
+def short_stream(kind, entries):
+    """The cells of a short stream, as `stream.rs` draws them but for the numbers themselves."""
+    draw = random.Random(kind)
+    kinds = {
+        "powerlaw": lambda n: (int(draw.paretovariate(1)) % SIZE, int(draw.paretovariate(1)) % SIZE),
+        "uniform": lambda n: (draw.randrange(SIZE), draw.randrange(SIZE)),
+        "repeat": lambda n: (draw.randrange(50) * 1_000_003, draw.randrange(20) * 1_000_003),
+        "onerow": lambda n: (7, draw.randrange(SIZE)),
+        "ordered": lambda n: (n // 4 * 1_000_003, n % 4 * 1_000_003),
+    }
+    return [(*kinds[kind](n), draw.randrange(1, 10)) for n in range(entries)]
+
+
+def text_of(cells):
+    """The text of a list of cells."""
+    head = f"%%MatrixMarket matrix coordinate integer general\n{SIZE} {SIZE} {len(cells)}\n"
+    return (head + "".join(f"{row + 1} {col + 1} {count}\n" for row, col, count in cells)).encode()
+
+
+def check_stream(kind, rows, folder):
+    """Sums a short stream by each program. Gives for each whether its output is what a dictionary holds."""
+    cells, sums = short_stream(kind, CHECKED_ENTRIES), {}
+    for row, col, count in cells:
+        sums[row, col] = sums.get((row, col), 0) + count
+    wanted = text_of([(*place, count) for place, count in sorted(sums.items())])
+    for name, command, _ in rows:
+        ended = subprocess.run(command, input=text_of(cells), stdout=subprocess.PIPE, env=environment(folder))
+        yield name, ended.returncode == 0 and ended.stdout == wanted
+
+
+def check(arguments, folder):
+    """Compares the programs' outputs on a short stream of each kind, and says whether all are right."""
+    baseline = build("sum_by_sorting.rs", folder) if shutil.which("rustc") else None
+    rows = commands(arguments.hhm, baseline)
+    if not baseline:
+        print("rustc is not installed: the program in Rust is left out")
+    if not any(name == "sort and awk" for name, _, _ in rows):
+        print("sort or awk is not installed: they are left out")
+    passed = failed = 0
+    for kind in arguments.streams.split():
+        for name, is_right in check_stream(kind, rows, folder):
+            passed, failed = passed + is_right, failed + (not is_right)
+            if not is_right:
+                print(f"FAILED {kind}: {name}")
+    print(f"{passed} passed, {failed} failed")
+    return failed == 0
+
+
+def measure_all(arguments, folder):
+    """Measures each stream, and says whether all outputs are the same."""
+    generator, baseline = build("stream.rs", folder), build("sum_by_sorting.rs", folder)
+    return all([run_stream(kind, arguments, generator, baseline, folder) for kind in arguments.streams.split()])
 
 
 def main():
@@ -108,15 +179,15 @@ def main():
     parser.add_argument("--entries", type=int, default=2_000_000)
     parser.add_argument("--streams", default=STREAMS)
     parser.add_argument("--repeat", type=int, default=5)
+    parser.add_argument("--check", action="store_true", help="compare the outputs on short streams, and time nothing")
     arguments = parser.parse_args()
     arguments.hhm = os.path.abspath(arguments.hhm)
     folder = tempfile.mkdtemp(prefix="hhm-bench-")
     try:
-        generator, baseline = build("stream.rs", folder), build("sum_by_sorting.rs", folder)
-        results = [run_stream(kind, arguments, generator, baseline, folder) for kind in arguments.streams.split()]
+        is_well = check(arguments, folder) if arguments.check else measure_all(arguments, folder)
     finally:
         shutil.rmtree(folder)
-    sys.exit(0 if all(results) else 1)
+    sys.exit(0 if is_well else 1)
 
 
 if __name__ == "__main__":

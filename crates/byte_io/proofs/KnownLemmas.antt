@@ -3,7 +3,7 @@ use Rattle.std.proofs.Common.{ℕ, ◌≤◌, List, [], ◌∷◌, ◌++◌, len
 use Rattle.std.proofs.lemmas.List.{append-nil}
 use Rattle.std.specs.Io.KnownBytes.{Consumes, Appends, Keeps}
 use Rattle.byte_io.specs.Streams.{Calls, bytes_of_calls, MayRead, MayWrite}
-use Rattle.byte_io.specs.Writing.{EachTakes}
+use Rattle.byte_io.specs.Writing.{EachTakes, AnyOffer}
 use Rattle.byte_io.specs.declared.fault.DeviceFault.{DeviceFault}
 
 appends_nothing : (known : Option (List ℕ)) → Appends known known []
@@ -24,10 +24,10 @@ kept_then_appends (Some o) (Some m) (Some n) ys a b = b ∙ ap (λ l. l ++ ys) a
 
 -- S is the device, and `known` the bytes that it tells of
 pub known_written : {S : Type 0} (known : S → Option (List ℕ)) (s t : S) (answers : List (Result (List ℕ) DeviceFault)) →
-    Calls (λ s a t. MayWrite (known s) a (known t)) s answers t → Appends (known s) (known t) (bytes_of_calls answers)
+    Calls (AnyOffer (λ s offered a t. MayWrite (known s) a (known t))) s answers t → Appends (known s) (known t) (bytes_of_calls answers)
 known_written known s t [] e = subst (λ v. Appends (known s) (known v) []) e (appends_nothing (known s))
-known_written known s t (Ok bytes ∷ answers) c = appends_more (known s) (known c.0) (known t) bytes (bytes_of_calls answers) c.1 (known_written known c.0 t answers c.2)
-known_written known s t (Err fault ∷ answers) c = kept_then_appends (known s) (known c.0) (known t) (bytes_of_calls answers) c.1 (known_written known c.0 t answers c.2)
+known_written known s t (Ok bytes ∷ answers) c = appends_more (known s) (known c.0) (known t) bytes (bytes_of_calls answers) c.1.1 (known_written known c.0 t answers c.2)
+known_written known s t (Err fault ∷ answers) c = kept_then_appends (known s) (known c.0) (known t) (bytes_of_calls answers) c.1.1 (known_written known c.0 t answers c.2)
 
 consumes_nothing : (known : Option (List ℕ)) → Consumes known known []
 consumes_nothing None = tt

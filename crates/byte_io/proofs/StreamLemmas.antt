@@ -5,10 +5,14 @@ use Rattle.byte_io.specs.Streams.{Calls, bytes_of_calls}
 use Rattle.byte_io.specs.declared.fault.DeviceFault.{DeviceFault}
 
 -- a run behind a run is a run
-pub calls-append : {S : Type 0} (gives : S → Result (List ℕ) DeviceFault → S → Type 0) (xs ys : List (Result (List ℕ) DeviceFault)) (s m t : S) →
-    Calls gives s xs m → Calls gives m ys t → Calls gives s (xs ++ ys) t
-calls-append gives [] ys s m t p q = subst (λ x. Calls gives x ys t) (sym p) q
-calls-append gives (x ∷ xs) ys s m t p q = (p.0, p.1, calls-append gives xs ys p.0 m t p.2 q)
+pub calls-append : {S : Type 0} (step : S → Result (List ℕ) DeviceFault → S → Type 0) (xs ys : List (Result (List ℕ) DeviceFault)) (s m t : S) →
+    Calls step s xs m → Calls step m ys t → Calls step s (xs ++ ys) t
+calls-append step [] ys s m t p q = subst (λ x. Calls step x ys t) (sym p) q
+calls-append step (x ∷ xs) ys s m t p q = (p.0, p.1, calls-append step xs ys p.0 m t p.2 q)
+
+pub calls_one : {S : Type 0} (step : S → Result (List ℕ) DeviceFault → S → Type 0) (s t : S) (x : Result (List ℕ) DeviceFault) →
+    step s x t → Calls step s (x ∷ []) t
+calls_one step s t x h = (t, h, refl)
 
 pub bytes_of_calls-append : (xs ys : List (Result (List ℕ) DeviceFault)) → bytes_of_calls (xs ++ ys) ≡ bytes_of_calls xs ++ bytes_of_calls ys
 bytes_of_calls-append [] ys = refl

@@ -47,14 +47,20 @@ IsRead n s (Ok bytes) t = (s.reads_left ≢ Some 0) × (bytes ≡ take n (first_
     × (t ≡ record s { pieces = pieces_behind n s.pieces; reads_left = limit_less s.reads_left 1 })
 IsRead n s (Err fault) t = (s.reads_left ≡ Some 0) × (t ≡ record s { failures = s.failures + 1 })
 
--- A write of these bytes: as many as there is room for. It fails where there is room for none, and for want of memory.
+-- A write that is offered these bytes: as many as there is room for. It fails where there is room for none of them, and
+-- for want of memory.
 abbrev pub IsWrite : List ℕ → ScriptState → Result (List ℕ) DeviceFault → ScriptState → Type 0
-IsWrite buf s (Ok bytes) t = (bytes ≡ take_within s.room buf) × (0 < length buf → 0 < length bytes)
+IsWrite offered s (Ok bytes) t = (bytes ≡ take_within s.room offered) × (0 < length offered → 0 < length bytes)
     × (t ≡ record s { written = s.written ++ bytes; room = limit_less s.room (length bytes) })
-IsWrite buf s (Err fault) t = t ≡ record s { failures = s.failures + 1 }
+IsWrite offered s (Err fault) t = (0 < length offered) × (t ≡ record s { failures = s.failures + 1 })
+
+-- A write failed though there was room for some of the bytes: there was no memory to keep them.
+abbrev pub LacksMemory : List ℕ → ScriptState → Result (List ℕ) DeviceFault → ScriptState → Type 0
+LacksMemory offered s (Ok bytes) t = ⊥
+LacksMemory offered s (Err fault) t = (0 < length (take_within s.room offered)) × (t ≡ record s { failures = s.failures + 1 })
 
 abbrev pub script_gives : ScriptState → Result (List ℕ) DeviceFault → ScriptState → Type 0
 script_gives s answer t = (n : ℕ) × IsRead n s answer t
 
-abbrev pub script_takes : ScriptState → Result (List ℕ) DeviceFault → ScriptState → Type 0
-script_takes s answer t = (buf : List ℕ) × IsWrite buf s answer t
+abbrev pub script_takes : ScriptState → List ℕ → Result (List ℕ) DeviceFault → ScriptState → Type 0
+script_takes s offered answer t = IsWrite offered s answer t

@@ -1,10 +1,10 @@
 //! Laws of devices: what runs of calls gave and took in all.
-ghost use Rattle.std.specs.Prelude.{◌≡◌, ℕ, ◌≤◌, List, [], ◌++◌, length, Option, Result};
+ghost use Rattle.std.specs.Prelude.{◌≡◌, ◌⊎◌, ℕ, ◌≤◌, List, [], ◌++◌, length, Option, Result};
 ghost use Rattle.std.specs.List.{concat};
 ghost use Rattle.std.specs.Io.KnownBytes.{Consumes, Appends};
 ghost use Rattle.byte_io.specs.Streams.{Calls, bytes_of_calls, MayRead, MayWrite};
-ghost use Rattle.byte_io.specs.Writing.{EachTakes};
-ghost use Rattle.byte_io.specs.Scripts.{ScriptState, nonempty_pieces, IsRead, script_gives, script_takes};
+ghost use Rattle.byte_io.specs.Writing.{EachTakes, AnyOffer};
+ghost use Rattle.byte_io.specs.Scripts.{ScriptState, nonempty_pieces, IsRead, IsWrite, LacksMemory, script_gives, script_takes};
 ghost use Rattle.byte_io.specs.declared.fault.DeviceFault.{DeviceFault};
 
 /// However a `Script` is read, it gives one list of bytes, its pieces: a front of them until its end, and then all.
@@ -22,9 +22,17 @@ pub fn script_read_is_determined()
         IsRead n s a t → IsRead n s b u → (a ≡ b) × (t ≡ u) }
 {}
 
+/// A write of a `Script` that is offered some bytes has one answer, and leaves one state, but for a failure for want of
+/// memory.
+pub fn script_write_is_determined()
+    ensures { (offered : List ℕ) (s t u : ScriptState) (a b : Result (List ℕ) DeviceFault) →
+        IsWrite offered s a t → IsWrite offered s b u →
+        ((a ≡ b) × (t ≡ u)) ⊎ (LacksMemory offered s a t ⊎ LacksMemory offered s b u) }
+{}
+
 /// A `Script` keeps what was written to it.
 pub fn script_keeps_what_it_takes()
-    ensures { (s t : ScriptState) (answers : List (Result (List ℕ) DeviceFault)) → Calls script_takes s answers t →
+    ensures { (s t : ScriptState) (answers : List (Result (List ℕ) DeviceFault)) → Calls (AnyOffer script_takes) s answers t →
         t.written ≡ s.written ++ bytes_of_calls answers }
 {}
 
@@ -33,7 +41,7 @@ pub fn known_bytes_are_moved()
     ensures read { (old new : Option (List ℕ)) (answers : List (Result (List ℕ) DeviceFault)) →
         Calls MayRead old answers new → Consumes old new (bytes_of_calls answers) }
     ensures written { (old new : Option (List ℕ)) (answers : List (Result (List ℕ) DeviceFault)) →
-        Calls MayWrite old answers new → Appends old new (bytes_of_calls answers) }
+        Calls (AnyOffer (λ s offered a t. MayWrite s a t)) old answers new → Appends old new (bytes_of_calls answers) }
 {}
 
 /// Calls that each move a byte or more are no more than the bytes.

@@ -40,8 +40,8 @@ pub trait Source {
 
 /// What takes bytes: a writer that counts its failures.
 pub trait Sink {
-    // What a call of `write` may answer, with the bytes that it took, and what it leaves.
-    ghost write_takes: { Self → Result (List ℕ) DeviceFault → Self → Type 0 };
+    // What a call of `write` that is offered these bytes may answer, with those that it took, and what it leaves.
+    ghost write_takes: { Self → List ℕ → Result (List ℕ) DeviceFault → Self → Type 0 };
 
     // How many calls have failed.
     ghost failure_count: { Self → ℕ };
@@ -52,7 +52,7 @@ pub trait Sink {
     fn write(&mut self, buf: &[u8]) -> Result<usize, DeviceFault>
         requires { failure_count self.old + 1 < 2 ^ 64 }
         ensures bound { IfOk result (λ n. n ≤ length buf.now) }
-        ensures takes { write_takes self.old (answer_of result buf.now) self.new }
+        ensures takes { write_takes self.old buf.now (answer_of result buf.now) self.new }
         ensures ok { OnOk result (failure_count self.new ≡ failure_count self.old) }
         ensures err { OnErr result (failure_count self.new ≡ failure_count self.old + 1) };
 
@@ -119,7 +119,7 @@ impl<T: Read> Source for Counted<T> {
 }
 
 impl<T: Write> Sink for Counted<T> {
-    ghost write_takes = { λ s a t. MayWrite (T.contents s.inner) a (T.contents t.inner) };
+    ghost write_takes = { λ s offered a t. MayWrite (T.contents s.inner) a (T.contents t.inner) };
 
     ghost failure_count = { λ s. s.failures };
 

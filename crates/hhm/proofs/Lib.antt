@@ -1,3 +1,4 @@
 pub mod NumberLemmas
 pub mod SumLemmas
 pub mod ReadLemmas
+pub mod CountLemmas

@@ -1,10 +1,12 @@
 -- What one more block of cells does to a sum.
 use Rattle.std.proofs.Common.{◌≡◌, ℕ, suc, ◌+◌, ◌<◌, ◌≤◌, ◌^◌, List, [], ◌∷◌, ◌++◌, length, Some, map, refl, sym, ◌∙◌, ap, arith, append_assoc, Bool, true, false, cond, ltb, ◌&&◌}
-use Rattle.std.proofs.lemmas.Bool.{ltb-false}
+use Rattle.std.specs.Prelude.{Result, Ok, Err, OnErr, IsTrue, ◌↔◌}
+use Rattle.std.proofs.lemmas.Bool.{ltb-false, ltb-true}
 use Rattle.cells.specs.Bounds.{IsWithin, AreWithin}
 use Rattle.cells.specs.declared.cell.Cell.{Cell}
 use Rattle.hyper_matrix.specs.Counts.{Place, ewise_add, total}
-use Rattle.hyper_matrix.specs.Cells.{built_of, cell_total, entry_of, first_fault}
+use Rattle.hyper_matrix.specs.Cells.{built_of, cell_total, entry_of}
+use Rattle.hyper_matrix.specs.Refusals.{first_fault}
 use Rattle.std.specs.FinMap.{entries, len, len-entries}
 use Rattle.std.proofs.lemmas.List.{length-map}
 use Rattle.hhm.specs.Sum.{cell_of, cells_in_order, matrix_text}
@@ -41,27 +43,46 @@ pub cell_total-append : (xs ys : List Cell) → cell_total (xs ++ ys) ≡ cell_t
 cell_total-append [] ys = omega arith
 cell_total-append (x ∷ xs) ys = let h = cell_total-append xs ys in omega arith
 
--- Behind these cells, a block that is no matrix passes 64 bits.
-pub block_passes : (layers : Layering) (fault : BuildFault) (block : List Cell) → first_fault layers.rows layers.cols 0 block ≡ Some fault →
-    (rows cols : ℕ) (cells : List Cell) → AreWithin rows cols block → LayersSum rows cols cells layers → 2 ^ 64 ≤ cell_total (cells ++ block)
-block_passes layers fault block e rows cols cells within sum =
-    let there : AreWithin layers.rows layers.cols block = rw (sum.rows_are, sum.cols_are) within in
-    let h = fault_passes layers.rows layers.cols 0 block fault there e in
-    omega (arith, h, cell_total-append cells block)
+-- Cells within the dimensions whose counts fit 64 bits have no fault.
+pub fits_no_fault : {B : Type 0} (n r c : ℕ) (cells : List Cell) (fault : BuildFault) → AreWithin r c cells → n + cell_total cells < 2 ^ 64 → first_fault r c 0 cells ≡ Some fault → B
+fits_no_fault n r c cells fault within fits e = absurd (omega (arith, fits, fault_passes r c 0 cells fault within e))
 
--- Behind these cells, a block whose counts do not fit beside those of the layers passes 64 bits.
-pub totals_pass : (layers : Layering) (m : Matrix) (r c : ℕ) (block : List Cell) → m ≡ matrix r c (built_of block) → 2 ^ 64 ≤ total (content layers.layers) + total m.counts →
-    (rows cols : ℕ) (cells : List Cell) → AreWithin rows cols block → LayersSum rows cols cells layers → 2 ^ 64 ≤ cell_total (cells ++ block)
-totals_pass layers m r c block is passes rows cols cells within sum =
-    let one : total (content layers.layers) ≡ cell_total cells = ap total sum.sum_is ∙ total-built_of cells in
-    let two : total m.counts ≡ cell_total block = ap (λ (n : Matrix). total n.counts) is ∙ total-built_of block in
-    omega (arith, one, two, passes, cell_total-append cells block)
+-- what a test that failed says
+pub not_below : (b : Bool) (m n : ℕ) → (IsTrue b ↔ (m < n)) → b ≡ false → n ≤ m
+not_below b m n h e = step (ltb m n) refl
+  where
+    step : (v : Bool) → ltb m n ≡ v → n ≤ m
+    step false p = ltb-false m n p
+    step true p = let t : b ≡ true = h.1 (ltb-true m n p) in absurd (cc)
+
+-- what holds of every Err, whatever it is
+pub on_err : {T E : Type 0} (r : Result T E) (P : Type 0) → P → OnErr r P
+on_err (Ok x) P h = tt
+on_err (Err e) P h = h
+
+-- what the layers' counts are together, by the cells that were added
+pub total_is : (rows cols : ℕ) (cells : List Cell) (layers : Layering) → LayersSum rows cols cells layers → total (content layers.layers) ≡ cell_total cells
+total_is rows cols cells layers sum = ap total sum.sum_is ∙ total-built_of cells
+
+-- Counts that do not fit beside those of the layers pass 64 bits behind their cells.
+pub sum_passes : (layers : Layering) (block : List Cell) → 2 ^ 64 ≤ total (content layers.layers) + cell_total block →
+    (rows cols : ℕ) (cells : List Cell) → LayersSum rows cols cells layers → 2 ^ 64 ≤ cell_total (cells ++ block)
+sum_passes layers block passes rows cols cells sum = omega (arith, passes, total_is rows cols cells layers sum, cell_total-append cells block)
+
+-- And those that fit beside them fit behind their cells.
+pub sum_fits : (layers : Layering) (block : List Cell) → total (content layers.layers) + cell_total block < 2 ^ 64 →
+    (rows cols : ℕ) (cells : List Cell) → LayersSum rows cols cells layers → cell_total (cells ++ block) < 2 ^ 64
+sum_fits layers block fits rows cols cells sum = omega (arith, fits, total_is rows cols cells layers sum, cell_total-append cells block)
+
+-- What layers hold fits.
+pub layers_fit : (layers : Layering) → IsLayering layers → (rows cols : ℕ) (cells : List Cell) → LayersSum rows cols cells layers → cell_total cells < 2 ^ 64
+layers_fit layers kept rows cols cells sum = omega (arith, kept.fits, total_is rows cols cells layers sum)
 
 -- A block was added.
 pub block_added : (layers after : Layering) (m : Matrix) (r c : ℕ) (block : List Cell) → IsLayering layers → m ≡ matrix r c (built_of block) →
     after ≡ record layers { layers = cascade layers.layers layers.cuts m.counts } →
-    (rows cols : ℕ) (cells : List Cell) → AreWithin rows cols block → LayersSum rows cols cells layers → LayersSum rows cols (cells ++ block) after
-block_added layers after m r c block kept is added rows cols cells within sum = record {
+    (rows cols : ℕ) (cells : List Cell) → LayersSum rows cols cells layers → LayersSum rows cols (cells ++ block) after
+block_added layers after m r c block kept is added rows cols cells sum = record {
   rows_are = ap (λ (l : Layering). l.rows) added ∙ sum.rows_are;
   cols_are = ap (λ (l : Layering). l.cols) added ∙ sum.cols_are;
   sum_is = ap (λ (l : Layering). content l.layers) added

@@ -1,35 +1,37 @@
 -- How far a text was summed: what the source gave, what the reader handed out, and what of that was added.
-use Rattle.std.specs.Prelude.{◌≡◌, ℕ, List, ◌++◌, Some, Result}
-use Rattle.cells.specs.Bounds.{IsDimension}
-use Rattle.mm_text.specs.Readings.{size_of, HasRead}
+use Rattle.std.specs.Prelude.{◌≡◌, ℕ, List, Some, Result}
 use Rattle.byte_io.specs.Streams.{Calls}
-use Rattle.cells.specs.declared.cell.Cell.{Cell}
 use Rattle.byte_io.specs.declared.fault.DeviceFault.{DeviceFault}
+use Rattle.cells.specs.declared.cell.Cell.{Cell}
+use Rattle.mm_text.specs.Readings.{size_of, HasRead, SizedCells}
 use Rattle.mm_text.specs.declared.reader.TextReader.{TextReader}
 use Rattle.mm_text.specs.declared.size.Size.{Size}
-use Rattle.hhm.specs.Sum.{sum_limits, ReadsText, StopsText}
+use Rattle.hhm.specs.Sum.{sum_limits, ReadsText, StopsText, IsUnsummed}
 use Rattle.hhm.specs.Running.{IsSumOf}
 use Rattle.hhm.specs.declared.running_sum.RunningSum.{RunningSum}
 use Rattle.hhm.specs.declared.fault.SumFault.{SumFault}
 use Rattle.hhm.specs.declared.fault.SumFault.TheVariants.{BadCuts, Text, SumTooLarge, Memory, Output}
 
--- The reader has read a size line with dimensions from 1 to 2^60.
-pub record IsSized (reader : TextReader) : Type 0 where
+-- The reader has read a size line with dimensions from 1 to 2^60, and these cells lie within them.
+pub record IsSized (reader : TextReader) (cells : List Cell) : Type 0 where
   pub size : Size
   pub size_is : size_of reader ≡ Some size
-  pub rows : IsDimension size.rows
-  pub cols : IsDimension size.cols
+  pub sized : SizedCells cells size
 
 module _ {S : Type 0} (gives : S → Result (List ℕ) DeviceFault → S → Type 0) (at_end : S → Type 0) (failures : S → ℕ) where
-  -- Between s and t the reader has handed out some cells: the last of them are the block, and the sum is that of those before.
-  pub record IsSumming (s t : S) (reader : TextReader) (size : Size) (sum : RunningSum) (block : List Cell) : Type 0 where
+  -- Between s and t no call has failed, and the reader has handed out these cells.
+  pub record HandsOut (s t : S) (reader : TextReader) (cells : List Cell) : Type 0 where
     pub answers : List (Result (List ℕ) DeviceFault)
     pub calls : Calls gives s answers t
     pub none_failed : failures t ≡ failures s
-    pub done : List Cell
-    pub sum_is : IsSumOf size.rows size.cols done sum
+    pub has_read : HasRead sum_limits answers cells reader
+
+  -- Between s and t the reader has handed out some cells behind a size line, and this is their sum.
+  pub record IsSumming (s t : S) (reader : TextReader) (size : Size) (sum : RunningSum) : Type 0 where
+    pub cells : List Cell
+    pub hands_out : HandsOut s t reader cells
     pub size_is : size_of reader ≡ Some size
-    pub has_read : HasRead sum_limits answers (done ++ block) reader
+    pub sum_is : IsSumOf size.rows size.cols cells sum
 
   -- Between s and t a text was read to its end, and this is the sum of its cells.
   pub record HasSummed (s t : S) (size : Size) (sum : RunningSum) : Type 0 where
@@ -40,7 +42,7 @@ module _ {S : Type 0} (gives : S → Result (List ℕ) DeviceFault → S → Typ
   -- what a fault says of the text that was read between s and t
   abbrev pub Excuses : S → S → SumFault → Type 0
   Excuses s t (Text fault) = StopsText gives at_end failures s t fault.kind fault.line
-  Excuses s t Memory = Unit {0}
+  Excuses s t Memory = IsUnsummed gives failures s t
   Excuses s t BadCuts = ⊥
   Excuses s t SumTooLarge = ⊥
   Excuses s t (Output fault) = ⊥

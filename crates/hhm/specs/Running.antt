@@ -1,11 +1,14 @@
 -- What a running sum holds of the cells that were added.
-use Rattle.std.specs.Prelude.{◌≡◌, ℕ, ◌≤◌, ◌^◌, List}
+use Rattle.std.specs.Prelude.{◌≡◌, ℕ, ◌<◌, ◌≤◌, ◌^◌, List}
+use Rattle.cells.specs.Bounds.{AreWithin}
 use Rattle.cells.specs.declared.cell.Cell.{Cell}
 use Rattle.hyper_matrix.specs.Cells.{built_of, cell_total}
 use Rattle.layer_cascade.specs.Cascade.{content}
 use Rattle.layer_cascade.specs.Layering.{Layering}
+use Rattle.hhm.specs.declared.fault.SumFault.{SumFault}
+use Rattle.hhm.specs.declared.fault.SumFault.TheVariants as fault
 use Rattle.hhm.specs.declared.running_sum.RunningSum.{RunningSum}
-use Rattle.hhm.specs.declared.running_sum.RunningSum.TheVariants.{Fits, Passed}
+use Rattle.hhm.specs.declared.running_sum.RunningSum.TheVariants.{Fits, TooLarge}
 
 -- The layers have these dimensions, and add up to what the cells build.
 pub record LayersSum (rows cols : ℕ) (cells : List Cell) (layers : Layering) : Type 0 where
@@ -15,4 +18,17 @@ pub record LayersSum (rows cols : ℕ) (cells : List Cell) (layers : Layering) :
 
 abbrev pub IsSumOf : ℕ → ℕ → List Cell → RunningSum → Type 0
 IsSumOf rows cols cells (Fits layers) = LayersSum rows cols cells layers
-IsSumOf rows cols cells Passed = 2 ^ 64 ≤ cell_total cells
+IsSumOf rows cols cells TooLarge = 2 ^ 64 ≤ cell_total cells
+
+-- a block of cells lies within the dimensions of the layers, if there are any left
+abbrev pub CanTake : RunningSum → List Cell → Type 0
+CanTake (Fits layers) block = AreWithin layers.rows layers.cols block
+CanTake TooLarge block = Unit {0}
+
+-- why the sum of these cells is no matrix: the counts pass 64 bits, or they do not and memory ran out
+abbrev pub RefusesSum : List Cell → SumFault → Type 0
+RefusesSum cells fault.SumTooLarge = 2 ^ 64 ≤ cell_total cells
+RefusesSum cells fault.Memory = cell_total cells < 2 ^ 64
+RefusesSum cells fault.BadCuts = ⊥
+RefusesSum cells (fault.Text told) = ⊥
+RefusesSum cells (fault.Output told) = ⊥

@@ -1,10 +1,12 @@
 -- What `sum` makes of a text: the cells of its list, each with the sum of its counts, by row and then by column.
-use Rattle.std.specs.Prelude.{◌≡◌, ◌≢◌, ℕ, ◌+◌, ◌<◌, ◌≤◌, ◌^◌, List, map, length, Result}
+use Rattle.std.specs.Prelude.{◌≡◌, ◌≢◌, ◌⊎◌, ℕ, ◌+◌, ◌<◌, ◌≤◌, ◌^◌, List, ◌++◌, map, length, Result}
 use Rattle.std.specs.FinMap.{entries}
 use Rattle.mm_text.specs.Canonical.{canonical}
 use Rattle.byte_io.specs.Streams.{Calls, bytes_of_calls}
 use Rattle.mm_text.specs.Faults.{Explains}
-use Rattle.mm_text.specs.Texts.{Spells}
+use Rattle.mm_text.specs.Stages.{Holds}
+use Rattle.mm_text.specs.Texts.{Spells, NoFaultWithin}
+use Rattle.mm_text.specs.declared.stages.Stage.{Stage}
 use Rattle.cells.specs.declared.cell.Cell.{Cell}
 use Rattle.byte_io.specs.declared.fault.DeviceFault.{DeviceFault}
 use Rattle.mm_text.specs.declared.fault.MmKind.{MmKind}
@@ -63,3 +65,25 @@ pub record StopsText {S : Type 0} (gives : S → Result (List ℕ) DeviceFault �
   pub explains : Explains (bytes_of_calls answers) sum_limits (at_end t) (failures t ≡ failures s + 1) kind line
   pub no_memory_fault : kind ≢ Memory
   pub read_alone_fails : kind ≢ Read → failures t ≡ failures s
+
+-- These cells are those of the text's whole lines, which bear no fault, or of all of its lines where it spells a list.
+abbrev pub AreItsCells : List ℕ → List Cell → Type 0
+AreItsCells text cells =
+    ((carry : List ℕ) × (stage : Stage) × (lines : ℕ) × Holds sum_limits text carry stage cells lines)
+    ⊎ ((rows : ℕ) × (cols : ℕ) × Spells text sum_limits rows cols cells)
+
+-- These calls read a text up to a place where memory ran out, or at most one piece of 65,536 bytes and a byte beyond it,
+-- and none failed. What stands before the place bears no fault, and its cells have counts that fit 64 bits together.
+pub record IsUnsummed {S : Type 0} (gives : S → Result (List ℕ) DeviceFault → S → Type 0) (failures : S → ℕ) (s t : S) : Type 0 where
+  pub answers : List (Result (List ℕ) DeviceFault)
+  pub calls : Calls gives s answers t
+  pub reads : length answers ≤ 2 ^ 40 + 2
+  pub none_failed : failures t ≡ failures s
+  pub before : List ℕ
+  pub behind : List ℕ
+  pub text_is : bytes_of_calls answers ≡ before ++ behind
+  pub near : length behind ≤ 65537
+  pub none_within : NoFaultWithin before sum_limits
+  pub cells : List Cell
+  pub cells_are : AreItsCells before cells
+  pub fits : cell_total cells < 2 ^ 64

@@ -1,9 +1,9 @@
 //! Why `sum` doesn't write a sum.
-ghost use Rattle.hhm.specs.Faults.{fault_of_text};
 ghost use Rattle.std.specs.Prelude.{◌≡◌};
-ghost use Rattle.hhm.specs.declared.fault.SumFault.TheVariants.{Memory};
+ghost use Rattle.hhm.specs.declared.fault.SumFault.TheVariants.{Memory, Text};
 
-use mm_text::{MmFault, MmKind, WriteFault};
+use byte_io::WriteFault;
+use mm_text::MmFault;
 use std::alloc::AllocError;
 
 /// Why a sum was not written.
@@ -15,21 +15,18 @@ pub enum SumFault {
     Text(MmFault),
     /// The counts of the text's list add up to more than 2^64 - 1.
     SumTooLarge,
-    /// There was no memory: for the reader, the layers or the sum.
+    /// There was no memory: for the reader, its block, the layers or the sum. No fault of the text stands before, and
+    /// the counts of what was read up to there fit 64 bits.
     Memory,
     /// The sink failed, or took nothing of what it was offered. What it took before is the front of the sum's text.
     Output(WriteFault),
 }
 
-/// Want of memory is one fault, wherever it came up.
 impl From<MmFault> for SumFault {
-    ghost from_gives = { λ fault e. e ≡ fault_of_text fault };
+    ghost from_gives = { λ fault e. e ≡ Text fault };
 
     fn from(fault: MmFault) -> SumFault {
-        match fault.kind {
-            MmKind::Memory => SumFault::Memory,
-            _ => SumFault::Text(fault),
-        }
+        SumFault::Text(fault)
     }
 }
 

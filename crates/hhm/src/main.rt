@@ -5,15 +5,9 @@
 #![tactic(auto)]
 
 mod cli;
-#[cfg(test)]
-mod cli_tests;
 mod fault;
 mod numbers;
-#[cfg(test)]
-mod option_tests;
 mod report;
-#[cfg(test)]
-mod report_tests;
 mod running_sum;
 mod sum;
 #[cfg(test)]
@@ -22,9 +16,9 @@ mod sum_tests;
 use crate::numbers::read_list;
 use crate::report::Fault;
 use crate::sum::run_sum;
+use byte_io::{Counted, write_all};
 use clap::error::ErrorKind;
 use clap::{ArgMatches, Error};
-use mm_text::{Counted, write_all};
 use std::alloc::AllocError;
 use std::process::ExitCode;
 use std::{env, io};

@@ -6,7 +6,8 @@ ghost use Rattle.hhm.specs.declared.report.Fault.TheVariants.{Sum};
 
 use crate::fault::SumFault;
 use crate::numbers::ListFault;
-use mm_text::{MmFault, MmKind, WriteFault};
+use byte_io::WriteFault;
+use mm_text::{MmFault, MmKind};
 use std::alloc::AllocError;
 use std::fmt;
 use std::process::ExitCode;

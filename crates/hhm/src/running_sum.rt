@@ -1,22 +1,24 @@
 //! The sum of the cells so far: layers, as long as the counts fit 64 bits together.
 //!
 //! A block of cells is built into a small matrix, which is added into the layers; so most additions touch the small
-//! layers alone. Once the total has passed 2^64 - 1 nothing is added any more, and memory is given back: the text is
-//! only read to its end, since a fault in it is told first.
-ghost use Rattle.std.specs.Prelude.{◌≡◌, ℕ, ◌+◌, ◌<◌, ◌≤◌, ◌^◌, List, [], ◌++◌, ◌⊎◌, OnOk, IfOk, IfErr, Err};
+//! layers alone. Whether the counts still fit is judged first, so that want of memory never stands for a total that is
+//! too large. Once the total has passed 2^64 - 1 nothing is added any more, and memory is given back: the text is only
+//! read to its end, since a fault in it is told first.
+ghost use Rattle.std.specs.Prelude.{◌≡◌, ℕ, ◌+◌, ◌<◌, ◌≤◌, ◌^◌, List, ◌++◌, ◌⊎◌, ◌↔◌, IsTrue, OnErr, IfOk, IfErr, IfNone, IfSome};
 ghost use Rattle.cells.specs.Bounds.{IsDimension, AreWithin};
 ghost use Rattle.cells.specs.declared.cell.Cell.{Cell};
 ghost use Rattle.hyper_matrix.specs.Cells.{built_of, cell_total};
 ghost use Rattle.hyper_matrix.specs.Counts.{total};
 ghost use Rattle.hyper_matrix.specs.Matrix.{matrix};
-ghost use Rattle.layer_cascade.specs.Cascade.{cascade, content};
+ghost use Rattle.layer_cascade.specs.Cascade.{content};
 ghost use Rattle.layer_cascade.specs.Cuts.{AreCuts};
-ghost use Rattle.hhm.specs.Running.{LayersSum, IsSumOf};
+ghost use Rattle.layer_cascade.specs.Layering.{no_layers};
+ghost use Rattle.hhm.specs.Running.{CanTake, LayersSum, IsSumOf, RefusesSum};
 
 use crate::fault::SumFault;
+use cells::Cell;
 use hyper_matrix::{BuildFault, Hyper};
-use layer_cascade::Layers;
-use mm_text::Cell;
+use layer_cascade::{CascadeFault, Layers};
 use std::alloc::{AllocError, Global};
 
 /// The running sum of a list of cells.
@@ -25,51 +27,109 @@ pub enum RunningSum {
     /// The counts of all cells so far are in these layers.
     Fits(Layers),
     /// The counts of all cells so far add up to more than 2^64 - 1.
-    Passed,
+    TooLarge,
 }
 
-// Adds a block of cells into layers.
-fn add_block(alloc: Global, layers: Layers, block: &[Cell]) -> Result<RunningSum, AllocError>
-    ensures { IfOk result (λ next. (rows cols : ℕ) (cells : List Cell) → AreWithin rows cols block.now →
-        LayersSum rows cols cells layers → IsSumOf rows cols (cells ++ block.now) next) }
+// The counts of a block together, if they have at most 64 bits.
+fn block_total(block: &[Cell]) -> Option<u64>
+    ensures fits { IfSome result (λ sum. sum ≡ cell_total block.now) }
+    ensures over { IfNone result (2 ^ 64 ≤ cell_total block.now) }
+{
+    let mut sum = 0u64;
+    for cell in block {
+        sum = sum.checked_add(cell.count)?;
+    }
+    Some(sum)
+}
+
+// Empty layers.
+fn empty_layers(alloc: Global, rows: u64, cols: u64, cuts: &[u64]) -> Result<Layers, AllocError>
+    requires rows { IsDimension rows }
+    requires cols { IsDimension cols }
+    requires cuts { AreCuts cuts.now }
+    ensures { IfOk result (λ layers. layers ≡ no_layers rows cols cuts.now) }
+{
+    match Layers::new(alloc, rows, cols, cuts) {
+        Ok(layers) => Ok(layers),
+        Err(CascadeFault::Memory) => Err(AllocError),
+        Err(CascadeFault::BadCuts) => unreachable!(),
+    }
+}
+
+// The layers with a block of cells added, whose counts fit beside theirs.
+fn with_block(alloc: Global, layers: Layers, block: &[Cell]) -> Result<Layers, AllocError>
+    requires within { AreWithin layers.rows layers.cols block.now }
+    requires fits { total (content layers.layers) + cell_total block.now < 2 ^ 64 }
+    ensures { IfOk result (λ after. (rows cols : ℕ) (cells : List Cell) → LayersSum rows cols cells layers → LayersSum rows cols (cells ++ block.now) after) }
 {
     let (rows, cols) = layers.dims();
-    let m = match Hyper::build(alloc, rows, cols, block) {
-        Ok(m) => m,
-        Err(BuildFault::Memory) => return Err(AllocError),
-        Err(BuildFault::SumTooLarge) => return Ok(RunningSum::Passed),
-        // Not met: the cells of a text lie within its dimensions.
-        Err(BuildFault::IndexOutOfRange) => return Ok(RunningSum::Passed),
-    };
-    if layers.total().checked_add(m.total()).is_none() {
-        return Ok(RunningSum::Passed);
+    match Hyper::build(alloc, rows, cols, block) {
+        Ok(m) => {
+            let after = layers.add(alloc, m)?;
+            Ok(after)
+        }
+        Err(BuildFault::Memory) => Err(AllocError),
+        Err(BuildFault::IndexOutOfRange) => unreachable!(),
+        Err(BuildFault::SumTooLarge) => unreachable!(),
     }
-    let layers = layers.add(alloc, m)?;
+}
+
+// Whether the counts of a block fit beside those of the layers.
+fn fits_beside(layers: &Layers, block: &[Cell]) -> bool
+    ensures { IsTrue result ↔ (total (content layers.now.layers) + cell_total block.now < 2 ^ 64) }
+{
+    match block_total(block) {
+        Some(sum) => layers.total().checked_add(sum).is_some(),
+        None => false,
+    }
+}
+
+// The sum of layers and a block of cells.
+fn add_block(alloc: Global, layers: Layers, block: &[Cell]) -> Result<RunningSum, AllocError>
+    requires { AreWithin layers.rows layers.cols block.now }
+    ensures ok { IfOk result (λ next. (rows cols : ℕ) (cells : List Cell) → LayersSum rows cols cells layers → IsSumOf rows cols (cells ++ block.now) next) }
+    ensures memory { OnErr result ((rows cols : ℕ) (cells : List Cell) → LayersSum rows cols cells layers → cell_total (cells ++ block.now) < 2 ^ 64) }
+{
+    if !fits_beside(&layers, block) {
+        return Ok(RunningSum::TooLarge);
+    }
+    let layers = with_block(alloc, layers, block)?;
     Ok(RunningSum::Fits(layers))
 }
 
 impl RunningSum {
-    /// The sum of no cells.
-    pub fn new(alloc: Global, rows: u64, cols: u64, cuts: &[u64]) -> Result<RunningSum, AllocError>
+    /// The sum of a block of cells, in layers with these cuts.
+    pub fn new(
+        alloc: Global,
+        rows: u64,
+        cols: u64,
+        cuts: &[u64],
+        block: &[Cell],
+    ) -> Result<RunningSum, AllocError>
         requires rows { IsDimension rows }
         requires cols { IsDimension cols }
         requires cuts { AreCuts cuts.now }
-        ensures { IfOk result (IsSumOf rows cols []) }
+        requires within { AreWithin rows cols block.now }
+        ensures ok { IfOk result (IsSumOf rows cols block.now) }
+        ensures memory { OnErr result (cell_total block.now < 2 ^ 64) }
     {
-        match Layers::new(alloc, rows, cols, cuts) {
-            Ok(layers) => Ok(RunningSum::Fits(layers)),
-            Err(_) => Err(AllocError),
+        if block_total(block).is_none() {
+            return Ok(RunningSum::TooLarge);
         }
+        let none = empty_layers(alloc, rows, cols, cuts)?;
+        let layers = with_block(alloc, none, block)?;
+        Ok(RunningSum::Fits(layers))
     }
 
-    /// The sum with a block of cells added.
+    /// The sum with a block of cells added. There is want of memory only where the counts fit.
     pub fn add(self, alloc: Global, block: &[Cell]) -> Result<RunningSum, AllocError>
-        ensures { IfOk result (λ next. (rows cols : ℕ) (cells : List Cell) → AreWithin rows cols block.now →
-            IsSumOf rows cols cells self → IsSumOf rows cols (cells ++ block.now) next) }
+        requires { CanTake self block.now }
+        ensures ok { IfOk result (λ next. (rows cols : ℕ) (cells : List Cell) → IsSumOf rows cols cells self → IsSumOf rows cols (cells ++ block.now) next) }
+        ensures memory { OnErr result ((rows cols : ℕ) (cells : List Cell) → IsSumOf rows cols cells self → cell_total (cells ++ block.now) < 2 ^ 64) }
     {
         match self {
             RunningSum::Fits(layers) => add_block(alloc, layers, block),
-            RunningSum::Passed => Ok(RunningSum::Passed),
+            RunningSum::TooLarge => Ok(RunningSum::TooLarge),
         }
     }
 
@@ -79,12 +139,11 @@ impl RunningSum {
     pub fn into_matrix(self, alloc: Global) -> Result<Hyper, SumFault>
         ensures ok { IfOk result (λ m. (rows cols : ℕ) (cells : List Cell) → IsSumOf rows cols cells self →
             (m ≡ matrix rows cols (built_of cells)) × (cell_total cells < 2 ^ 64)) }
-        ensures passed { result ≡ Err SumFault.SumTooLarge → (rows cols : ℕ) (cells : List Cell) → IsSumOf rows cols cells self →
-            2 ^ 64 ≤ cell_total cells }
-        ensures err { IfErr result (λ fault. (fault ≡ SumFault.SumTooLarge) ⊎ (fault ≡ SumFault.Memory)) }
+        ensures err { IfErr result (λ fault. (rows cols : ℕ) (cells : List Cell) → IsSumOf rows cols cells self → RefusesSum cells fault) }
+        ensures kinds { IfErr result (λ fault. (fault ≡ SumFault.SumTooLarge) ⊎ (fault ≡ SumFault.Memory)) }
     {
         match self {
-            RunningSum::Passed => Err(SumFault::SumTooLarge),
+            RunningSum::TooLarge => Err(SumFault::SumTooLarge),
             RunningSum::Fits(layers) => match layers.into_sum(alloc) {
                 Ok(m) => Ok(m),
                 Err(_) => Err(SumFault::Memory),

@@ -2,7 +2,7 @@
 //!
 //! The list of the text's cells is never held: memory goes to the layers and to one block. The time is that of one pass
 //! over the text, of the additions that the cuts ask for, and of one pass over the sum.
-ghost use Rattle.std.specs.Prelude.{◌≡◌, ℕ, ◌+◌, ◌<◌, ◌≤◌, ◌^◌, List, ◌⊎◌, ◌↔◌, OnOk, IfOk, IfErr, Err, Some, []};
+ghost use Rattle.std.specs.Prelude.{◌≡◌, ℕ, ◌+◌, ◌<◌, ◌≤◌, ◌^◌, List, ◌⊎◌, ◌↔◌, OnOk, OnErr, IfOk, IfErr, Err, Some, vec_capacity};
 ghost use Rattle.mm_text.specs.declared.size.Size.{Size};
 ghost use Rattle.byte_io.specs.Writing.{HasTaken, HasStopped};
 ghost use Rattle.cells.specs.declared.cell.Cell.{Cell};
@@ -13,13 +13,16 @@ ghost use Rattle.hhm.specs.Faults.{IsOutput};
 ghost use Rattle.hhm.specs.Reading.{IsSized, IsSumming, HasSummed, Excuses};
 ghost use Rattle.hhm.specs.Running.{IsSumOf};
 ghost use Rattle.mm_text.specs.Readings.{size_of};
-ghost use Rattle.hhm.specs.Sum.{sum_text, matrix_text, StopsText, SumsText, SumPasses};
+ghost use Rattle.hhm.specs.Sum.{sum_text, matrix_text, StopsText, SumsText, SumPasses, IsUnsummed};
+ghost use Rattle.hyper_matrix.specs.Cells.{cell_total};
 
 use crate::fault::SumFault;
 use crate::running_sum::RunningSum;
+use byte_io::{Sink, Source, WriteFault};
+use cells::Cell;
 use hyper_matrix::Hyper;
 use layer_cascade::are_cuts;
-use mm_text::{Cell, Sink, Source, TextLimits, TextReader, TextWriter, WriteFault};
+use mm_text::{TextLimits, TextReader, TextWriter};
 use std::alloc::{AllocError, Global};
 
 /// The most cells of the list that go into the layers at once.
@@ -31,7 +34,25 @@ const LIMITS: TextLimits = TextLimits {
     max_entries: 1 << 40,
 };
 
-// Adds the block that was read last, reads the next in its place, and so on to the text's end. Gives the sum of all.
+// The sum of the cells of a text's first block, in the dimensions of the size line that was read.
+fn first_sum(
+    alloc: Global,
+    reader: &TextReader,
+    cuts: &[u64],
+    block: &[Cell],
+) -> Result<RunningSum, AllocError>
+    requires sized { IsSized reader.now block.now }
+    requires cuts { AreCuts cuts.now }
+    ensures ok { IfOk result (λ sum. (size : Size) → size_of reader.now ≡ Some size → IsSumOf size.rows size.cols block.now sum) }
+    ensures memory { OnErr result (cell_total block.now < 2 ^ 64) }
+{
+    let Some(size) = reader.size() else {
+        unreachable!()
+    };
+    RunningSum::new(alloc, size.rows, size.cols, cuts, block)
+}
+
+// Reads the blocks behind the first, and adds each to the sum of those before it, to the text's end.
 fn sum_blocks<R: Source>(
     alloc: Global,
     r: &mut R,
@@ -39,45 +60,27 @@ fn sum_blocks<R: Source>(
     block: &mut Vec<Cell>,
     first: RunningSum,
 ) -> Result<RunningSum, SumFault>
-    requires { R.failure_count r.old + 1 < 2 ^ 64 }
+    requires failures { R.failure_count r.old + 1 < 2 ^ 64 }
+    requires reserved { BLOCK ≤ vec_capacity block.old }
+    requires summing { (s : R) × (size : Size) × IsSumming R.read_gives R.at_end R.failure_count s r.old reader.old size first }
     ensures ok { IfOk result (λ sum. (s : R) (size : Size) →
-        IsSumming R.read_gives R.at_end R.failure_count s r.old reader.old size first block.old.items →
+        IsSumming R.read_gives R.at_end R.failure_count s r.old reader.old size first →
         HasSummed R.read_gives R.at_end R.failure_count s r.new size sum) }
     ensures err { IfErr result (λ fault. (s : R) (size : Size) →
-        IsSumming R.read_gives R.at_end R.failure_count s r.old reader.old size first block.old.items →
+        IsSumming R.read_gives R.at_end R.failure_count s r.old reader.old size first →
         Excuses R.read_gives R.at_end R.failure_count s r.new fault) }
 {
     let mut sum = first;
-    'text: for _ in 0..u64::MAX {
-        sum = sum.add(alloc, block)?;
+    'text: for _blocks in 0..u64::MAX {
         block.clear();
-        match reader.read_block(r, block, BLOCK) {
-            Ok(true) => {}
-            Ok(false) => {
-                let all = sum.add(alloc, block)?;
-                return Ok(all);
-            }
-            Err(fault) => return Err(SumFault::from(fault)),
+        let more = reader.read_block(r, block, BLOCK)?;
+        sum = sum.add(alloc, block)?;
+        if !more {
+            return Ok(sum);
         }
     }
-    // Not reached: no text has so many blocks.
-    Err(SumFault::Memory)
-}
-
-// The sum of no cells, in the dimensions of the size line that was read.
-fn empty_sum(alloc: Global, reader: &TextReader, cuts: &[u64]) -> Result<RunningSum, SumFault>
-    requires sized { IsSized reader.now }
-    requires cuts { AreCuts cuts.now }
-    ensures ok { IfOk result (λ sum. (size : Size) → size_of reader.now ≡ Some size → IsSumOf size.rows size.cols [] sum) }
-    ensures err { IfErr result (λ fault. fault ≡ SumFault.Memory) }
-{
-    let Some(size) = reader.size() else {
-        unreachable!()
-    };
-    match RunningSum::new(alloc, size.rows, size.cols, cuts) {
-        Ok(sum) => Ok(sum),
-        Err(_) => Err(SumFault::Memory),
-    }
+    // Each block has a cell, and a text at most 2^41 of them.
+    unreachable!()
 }
 
 // Reads a text to its end, and gives the sum of its cells.
@@ -89,18 +92,12 @@ fn read_running<R: Source>(alloc: Global, r: &mut R, cuts: &[u64]) -> Result<Run
 {
     let mut reader = TextReader::new(alloc, LIMITS)?;
     let mut block = Vec::with_capacity(alloc, BLOCK)?;
-    match reader.read_block(r, &mut block, BLOCK) {
-        Ok(true) => {
-            let none = empty_sum(alloc, &reader, cuts)?;
-            sum_blocks(alloc, r, &mut reader, &mut block, none)
-        }
-        Ok(false) => {
-            let none = empty_sum(alloc, &reader, cuts)?;
-            let sum = none.add(alloc, &block)?;
-            Ok(sum)
-        }
-        Err(fault) => Err(SumFault::from(fault)),
+    let more = reader.read_block(r, &mut block, BLOCK)?;
+    let sum = first_sum(alloc, &reader, cuts, &block)?;
+    if !more {
+        return Ok(sum);
     }
+    sum_blocks(alloc, r, &mut reader, &mut block, sum)
 }
 
 // Writes the canonical text of a matrix, cell by cell from its blocks. It takes no memory.
@@ -125,10 +122,10 @@ fn write_sum<W: Sink>(w: &mut W, m: &Hyper) -> Result<(), WriteFault>
 ///
 /// # Errors
 ///
-/// In this order: `BadCuts` before anything is read; at its place in the text, `Text`; `SumTooLarge` once the text was
-/// read to its end without a fault; `Memory` where memory ran out; `Output` where the sink failed or took nothing. Only
-/// `Output` leaves anything written: the first bytes of the canonical text, as many as it says. What was read has been
-/// read.
+/// In this order: `BadCuts` before anything is read; at its place in the text, `Text`; `Memory` where memory ran out, at
+/// a place up to which the text bears no fault and its counts fit 64 bits; `SumTooLarge` once the text was read to its
+/// end without a fault; `Output` where the sink failed or took nothing. Only `Output` leaves anything written: the first
+/// bytes of the canonical text, as many as it says. What was read has been read.
 ///
 /// A text may have at most 2^40 bytes and declare at most 2^40 entries. `r` and `w` must have failed less than
 /// 2^64 - 1 times before. `w` is not flushed.
@@ -153,6 +150,7 @@ pub fn run_sum<R: Source, W: Sink>(
     ensures output { (fault : WriteFault) → result ≡ Err (SumFault.Output fault) →
         (rows cols : ℕ) × (cells : List Cell) × SumsText R.read_gives R.at_end R.failure_count r.old r.new rows cols cells
         × HasStopped W.write_takes W.failure_count w.old w.new (sum_text rows cols cells) fault.written }
+    ensures memory { result ≡ Err SumFault.Memory → IsUnsummed R.read_gives R.failure_count r.old r.new }
     ensures unwritten { IfErr result (λ fault. IsOutput fault ⊎ (w.new ≡ w.old)) }
 {
     if !are_cuts(cuts) {

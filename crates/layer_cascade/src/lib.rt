@@ -17,8 +17,6 @@ mod fault;
 mod laws;
 mod layers;
 mod lookup;
-#[cfg(test)]
-mod tests;
 
 pub use cuts::are_cuts;
 pub use fault::CascadeFault;

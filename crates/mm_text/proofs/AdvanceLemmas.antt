@@ -1,12 +1,12 @@
 -- Bytes that were judged behind a text: what is held then, or the fault that they show.
-use Rattle.std.proofs.Common.{inl, inr, ◌≡◌, ℕ, ◌+◌, ◌<◌, ◌≤◌, Bool, true, false, not, ◌||◌, ◌&&◌, cond, List, [], ◌∷◌, ◌++◌, length, take, refl, sym, ◌∙◌, ap, subst, arith, append_assoc, length-append}
-use Rattle.std.proofs.lemmas.List.{append-nil, take_all}
+use Rattle.std.proofs.Common.{inl, inr, ◌≡◌, ℕ, ◌+◌, ◌<◌, ◌≤◌, Bool, true, false, not, ◌||◌, ◌&&◌, cond, List, [], ◌∷◌, ◌++◌, length, take, drop, refl, sym, ◌∙◌, ap, subst, arith, append_assoc, length-append, length-drop}
+use Rattle.std.proofs.lemmas.List.{append-nil, take_all, take-take, take-append-drop, drop-take}
 use Rattle.std.proofs.lemmas.Bool.{cases_lt}
 use Rattle.std.proofs.lemmas.Bool.Decides.{nat_tests}
 use Rattle.std.specs.Prelude.{nat_eq, nat_lt, count_by}
 use Rattle.mm_text.specs.Lines.{lines_of, joined, bytes_of, line_at, is_line_feed, is_limited, is_comment, content, IsLine}
 use Rattle.mm_text.specs.Texts.{NoFaultWithin, Spells}
-use Rattle.mm_text.specs.Stages.{Keeps, LineFault, IsCarried, EndsCarried, Holds, AddsLine, Advances, cut_kind}
+use Rattle.mm_text.specs.Stages.{Keeps, LineFault, IsCarried, EndsCarried, Holds, AddsLine, Advances, StopsWithin, BeginsWith, cut_kind}
 use Rattle.mm_text.specs.Faults.{Explains, Shows, IsReadFault}
 use Rattle.mm_text.specs.declared.fault.MmKind.{MmKind}
 use Rattle.mm_text.specs.declared.fault.MmKind.TheVariants.{LineTooLong, TooLong}
@@ -102,6 +102,47 @@ advances_append limits a b c0 c1 c2 s0 s1 s2 n0 n1 n2 k0 k1 k2 x y = record {
       let second = y.holds (text ++ a) (given ++ x.cells) (omega (arith, length-append a b, length-append text a)) first in
       rw (← append_assoc text a b, ← append_assoc given x.cells y.cells) second;
   size_kept = λ s e. y.size_kept s (x.size_kept s e);
+}
+
+-- before a fault of the first line nothing was judged
+pub stops_at_once : (limits : TextLimits) (bytes carry : List ℕ) (stage : Stage) (count : ℕ) (block block' : List Cell) → block' ≡ block →
+    StopsWithin limits bytes carry stage count block block'
+stops_at_once limits bytes carry stage count block block' e = rw e (record {
+  front = 0;
+  within = omega arith;
+  carry' = carry;
+  stage' = stage;
+  count' = count;
+  advances = advances_none limits carry stage count block;
+})
+
+-- the first bytes, and then more of them
+pub take_two : (bytes : List ℕ) (s n : ℕ) → take (s + n) bytes ≡ take s bytes ++ take n (drop s bytes)
+take_two bytes s n =
+    let e : take s (take (s + n) bytes) ≡ take s bytes = take-take s (s + n) bytes (omega arith) in
+    sym (take-append-drop s (take (s + n) bytes)) ∙ rw (e, drop-take s n bytes) refl
+
+pub stops_later : (limits : TextLimits) (bytes : List ℕ) (s : ℕ) (c0 c1 : List ℕ) (s0 s1 : Stage) (n0 n1 : ℕ) (k0 k1 k2 : List Cell) → s ≤ length bytes →
+    Advances limits (take s bytes) c0 s0 n0 k0 c1 s1 n1 k1 → StopsWithin limits (drop s bytes) c1 s1 n1 k1 k2 → StopsWithin limits bytes c0 s0 n0 k0 k2
+stops_later limits bytes s c0 c1 s0 s1 n0 n1 k0 k1 k2 fits a b = record {
+  front = s + b.front;
+  within = let w = b.within in omega (arith, length-drop s bytes);
+  carry' = b.carry';
+  stage' = b.stage';
+  count' = b.count';
+  advances = rw (take_two bytes s b.front) (advances_append limits (take s bytes) (take b.front (drop s bytes)) c0 c1 b.carry' s0 s1 b.stage' n0 n1 b.count' k0 k1 k2 a b.advances);
+}
+
+-- a text begins with the lines that are held of a front of it
+pub holds_begin : (limits : TextLimits) (front more carry : List ℕ) (stage : Stage) (cells : List Cell) (count : ℕ) → Holds limits front carry stage cells count →
+    BeginsWith limits (front ++ more) cells
+holds_begin limits front more carry stage cells count h = record {
+  done = h.takes.lines;
+  after = lines_of (h.rest ++ more);
+  lines = ap (λ t. lines_of (t ++ more)) h.takes.whole ∙ ap lines_of (append_assoc (joined h.takes.lines) h.rest more) ∙ lines_of-joined h.takes.lines (h.rest ++ more) h.takes.all;
+  stage = stage;
+  count = count;
+  keeps = h.takes.keeps;
 }
 
 -- a whole line, of which the front may be carried

@@ -3,7 +3,7 @@ use Rattle.std.proofs.Common.{inl, inr, ◌≡◌, ℕ, ◌+◌, ◌<◌, ◌≤
 use Rattle.std.proofs.lemmas.List.{append-nil}
 use Rattle.std.specs.Prelude.{Some}
 use Rattle.mm_text.specs.Lines.{lines_of, joined, line_at, counted}
-use Rattle.mm_text.specs.Stages.{Keeps, LineFault, IsCarried, EndsCarried, Holds, AddsLine, EndsLast, EndsText, lack_at, declared_size}
+use Rattle.mm_text.specs.Stages.{Keeps, LineFault, IsCarried, EndsCarried, Holds, AddsLine, EndsLast, EndsText, EndsWithin, lack_at, declared_size}
 use Rattle.mm_text.specs.Faults.{Explains}
 use Rattle.mm_text.specs.declared.fault.MmKind.{MmKind}
 use Rattle.cells.specs.declared.cell.Cell.{Cell}
@@ -14,7 +14,7 @@ use Rattle.mm_text.specs.declared.stages.Stage.TheVariants.{AtEntries}
 use Rattle.mm_text.proofs.Clean.{first_missing_at}
 use Rattle.mm_text.proofs.Cuts.{lines_of-joined, lines_of-last}
 use Rattle.mm_text.proofs.CarryLemmas.{carried_none}
-use Rattle.mm_text.proofs.AdvanceLemmas.{held_line, held_size}
+use Rattle.mm_text.proofs.AdvanceLemmas.{held_line, held_size, holds_begin}
 use Rattle.mm_text.proofs.PlainLemmas.{plain_lack}
 use Rattle.mm_text.proofs.EndLemmas.{lack_is, spells_all}
 use Rattle.mm_text.proofs.ExplainLemmas.{told, explains_plain, explains_line}
@@ -66,6 +66,31 @@ pub explains_last : (limits : TextLimits) (carry : List ℕ) (stage : Stage) (co
 explains_last limits carry stage count kind number n e faulty = λ text given h.
     let fault = faulty h.rest h.takes.lines given h.carried h.takes.keeps in
     line_fault limits text carry stage given count h kind number n e (rw append-nil at fault)
+
+-- the block, where the last line bears a fault
+pub stops_before_last : (limits : TextLimits) (carry : List ℕ) (stage : Stage) (count : ℕ) (block block' : List Cell) → block' ≡ block →
+    EndsWithin limits carry stage count block block'
+stops_before_last limits carry stage count block block' e = record {
+  cells = [];
+  block_is = e ∙ sym (append-nil block);
+  begins = λ text given h. let b = holds_begin limits text [] carry stage given count h in rw append-nil (rw append-nil at b);
+}
+
+-- and where only something is missing behind it
+pub stops_behind_last : (limits : TextLimits) (carry : List ℕ) (stage : Stage) (count : ℕ) (block : List Cell) (stage' : Stage) (count' : ℕ) (block' : List Cell) →
+    EndsLast limits carry stage count block stage' count' block' → EndsWithin limits carry stage count block block'
+stops_behind_last limits carry stage count block stage' count' block' a = record {
+  cells = a.cells;
+  block_is = a.block_is;
+  begins = λ text given h. record {
+    done = lines_of text;
+    after = [];
+    lines = sym (append-nil (lines_of text));
+    stage = stage';
+    count = count';
+    keeps = a.keeps text given h;
+  };
+}
 
 pub ends_text : (limits : TextLimits) (carry : List ℕ) (stage : Stage) (count : ℕ) (block : List Cell) (stage' : Stage) (count' : ℕ) (block' : List Cell) (symmetric : _) (s : Size) (seen : ℕ) →
     EndsLast limits carry stage count block stage' count' block' → stage' ≡ AtEntries symmetric s seen → s.entries ≤ seen → EndsText limits carry stage count block stage' block'

@@ -6,7 +6,7 @@ use Rattle.std.specs.List.{AllByRecursion}
 use Rattle.mm_text.specs.Lines.{lines_of, joined, bytes_of, is_line_feed, is_limited, content, IsLine}
 use Rattle.mm_text.specs.Texts.{FirstFaultAt, somewhere, NoFaultWithin}
 use Rattle.mm_text.specs.Stages.{Clean, LineFault}
-use Rattle.mm_text.specs.Faults.{Explains, IsTold}
+use Rattle.mm_text.specs.Faults.{Explains, IsTold, IsMemoryFault}
 use Rattle.mm_text.specs.declared.fault.MmKind.{MmKind}
 use Rattle.mm_text.specs.declared.fault.MmKind.TheVariants.{Read, Memory, BadBanner, Unsupported, LineTooLong, BadSize, BadDimension, NotSquare, TooManyEntries, BadEntry, Negative, NumberTooLarge, IndexOutOfRange, TooFewEntries, ExtraText, TooLong}
 use Rattle.mm_text.specs.declared.limits.TextLimits.{TextLimits}
@@ -39,10 +39,24 @@ explains_plain text limits ended failed TooLong line p t = t
 told_weaker : (text : List ℕ) (limits : TextLimits) (ended ended' : Type 0) (kind : MmKind) (line : ℕ) → (ended → ended') → IsTold text limits ended kind line → IsTold text limits ended' kind line
 told_weaker text limits ended ended' kind line f t = record { first = t.first; at_end = λ h. f (t.at_end h) }
 
+memory_weaker : (text : List ℕ) (limits : TextLimits) (ended ended' : Type 0) (line : ℕ) → (ended → ended') → IsMemoryFault text limits ended line → IsMemoryFault text limits ended' line
+memory_weaker text limits ended ended' line f t = record {
+  before = t.before;
+  this = t.this;
+  after = t.after;
+  lines = t.lines;
+  entry = t.entry;
+  place = t.place;
+  place_is = t.place_is;
+  none_within = t.none_within;
+  at_end = λ h. f (t.at_end h);
+  line_is = t.line_is;
+}
+
 -- what is explained without an end or a failure is explained with them
 pub explains_weaker : (text : List ℕ) (limits : TextLimits) (ended ended' failed : Type 0) (kind : MmKind) (line : ℕ) → (ended → ended') → Explains text limits ended ⊥ kind line → Explains text limits ended' failed kind line
 explains_weaker text limits ended ended' failed Read line f t = absurd t.failed_now
-explains_weaker text limits ended ended' failed Memory line f t = t
+explains_weaker text limits ended ended' failed Memory line f t = memory_weaker text limits ended ended' line f t
 explains_weaker text limits ended ended' failed BadBanner line f t = told_weaker _ _ _ _ _ _ f t
 explains_weaker text limits ended ended' failed Unsupported line f t = told_weaker _ _ _ _ _ _ f t
 explains_weaker text limits ended ended' failed LineTooLong line f t = told_weaker _ _ _ _ _ _ f t
@@ -92,12 +106,17 @@ module _ (text : List ℕ) (limits : TextLimits) (ended : Type 0) (done : List (
           | inr m ↦
               let front : take (bytes_of done + length line) text ≡ joined done ++ line =
               rw (whole, ← front_size) (take-append-le (length (joined done ++ line)) (joined done ++ line) tail (omega arith) ∙ take_all (length (joined done ++ line)) (joined done ++ line) (omega arith)) in
-              let feeds : count_by is_line_feed (take (bytes_of done + length line) text) ≡ length done = ap (count_by is_line_feed) front ∙ count_lines done line all is_line in
               rw m.kind_is (record {
+                before = done;
+                this = line;
+                after = after;
+                lines = cut;
+                entry = m.entry;
                 place = bytes_of done + length line;
-                within = omega arith;
+                place_is = refl;
                 none_within = rw front (none_before limits done line clean all is_line m.short (omega arith));
-                line_is = omega arith;
+                at_end = end;
+                line_is = refl;
               })
         ]
       ])

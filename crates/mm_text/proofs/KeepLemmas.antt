@@ -9,7 +9,8 @@ use Rattle.mm_text.specs.declared.size.Size.{Size}
 use Rattle.mm_text.specs.declared.stages.Stage.TheVariants.{AtBanner, AtSize, AtEntries}
 use Rattle.std.proofs.lemmas.List.{append-nil}
 use Rattle.mm_text.specs.Stages.{step, judged, added, Keeps, LineFault, AddsLine, declared_size, after_entry, is_symmetric}
-use Rattle.mm_text.proofs.StageLemmas.{bind_err, bind_ok, step_err, step_ok, step_right}
+use Rattle.mm_text.proofs.StageLemmas.{bind_err, bind_ok, step_err, step_ok, step_right, step_entry}
+use Rattle.mm_text.specs.Texts.{IsGoodEntry}
 use Rattle.mm_text.proofs.Clean.{clean_more}
 use Rattle.mm_text.proofs.Cuts.{counted-push_yes, counted-push_no}
 use Rattle.mm_text.specs.declared.fault.MmKind.{MmKind}
@@ -110,6 +111,25 @@ module _ (limits : TextLimits) (done : List (List ℕ)) (stage : Stage) (cells :
     | inr s ↦ s.0
   ]
 
+  -- a line that was judged right and adds a cell is a good entry
+  pub keeps_entry : (y : Stage × Option Cell) (cell : Cell) → judged limits stage (nat_eq lines 0) line ≡ Ok (Some y) → y.1 ≡ Some cell → IsGoodEntry limits done line
+  keeps_entry y cell e f = elim (long_or_short limits stage (is_limited done line) (counts done line) line) [
+    | inl l ↦ absurd (let f = by_tests in let g = l.2 in cc)
+    | inr s ↦ elim (counting_or_not limits stage (counts done line) line) [
+      | inl c ↦
+          let r : (step limits stage (content line) >>= λ next. Ok (Some next)) ≡ Ok (Some y) = sym c.1 ∙ sym s.1 ∙ sym by_tests ∙ e in
+          let b = bind_ok (step limits stage (content line)) Some (Some y) r in
+          let same : b.0 ≡ y = let x = b.2 in cc in
+          let stepped : step limits stage (content line) ≡ Ok y = b.1 ∙ ap Ok same in
+          record {
+            counted_too = c.0;
+            behind_size = step_entry limits (counted done) cells stage (content line) y cell kept.stage_is stepped f;
+            right = step_right limits (counted done) cells stage (content line) y kept.stage_is stepped;
+          }
+      | inr c ↦ absurd (let f = by_tests in let g = s.1 in let h = c.1 in cc)
+    ]
+  ]
+
 step_size : (limits : TextLimits) (stage : Stage) (line : List ℕ) (y : Stage × Option Cell) (s : Size) → step limits stage line ≡ Ok y → declared_size stage ≡ Some s → declared_size y.0 ≡ Some s
 step_size limits AtBanner line y s e f = cc
 step_size limits (AtSize symmetric) line y s e f = cc
@@ -156,6 +176,10 @@ adds_some limits stage lines line block block' y e b = record {
   size_kept = λ s f. judged_size limits stage _ _ line y s e f;
 }
 
-pub unstored : (limits : TextLimits) (done : List (List ℕ)) (stage : Stage) (given : List Cell) (lines : ℕ) (line : List ℕ) (y : Stage × Option Cell) → Keeps limits done stage given lines →
-    judged limits stage (nat_eq lines 0) line ≡ Ok (Some y) → LineFault limits done line Memory
-unstored limits done stage given lines line y k e = inr (inr (record { kind_is = refl; short = keeps_short limits done stage given lines line k (Some y) e }))
+pub unstored : (limits : TextLimits) (done : List (List ℕ)) (stage : Stage) (given : List Cell) (lines : ℕ) (line : List ℕ) (y : Stage × Option Cell) (cell : Cell) → Keeps limits done stage given lines →
+    judged limits stage (nat_eq lines 0) line ≡ Ok (Some y) → y.1 ≡ Some cell → LineFault limits done line Memory
+unstored limits done stage given lines line y cell k e f = inr (inr (record {
+  kind_is = refl;
+  short = keeps_short limits done stage given lines line k (Some y) e;
+  entry = keeps_entry limits done stage given lines line k y cell e f;
+}))

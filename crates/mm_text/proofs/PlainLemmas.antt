@@ -1,13 +1,13 @@
 -- The words of a line never bear the fault Read or Memory.
 use Rattle.std.proofs.Common.{◌≡◌, ℕ, ◌^◌, ◌||◌, ◌&&◌, Bool, true, false, not, cond, List, [], ◌∷◌, length, drop}
 use Rattle.std.specs.Prelude.{Option, Some, None, Result, Ok, Err, nat_lt, nat_eq, slice_index, codes}
-use Rattle.mm_text.specs.Lines.{is_blank}
+use Rattle.mm_text.specs.Lines.{is_blank, content}
 use Rattle.mm_text.specs.Words.{words, word, has_word, number_of, is_negative}
 use Rattle.mm_text.specs.Judging.{◌>>=◌, refuse_if, is_one_of, is_dimension, keyword, mark, object, format, field, symmetry, banner, number, size, index, entry, fault_of}
 use Rattle.mm_text.specs.Texts.{fault_behind}
-use Rattle.mm_text.specs.Stages.{lack_at}
+use Rattle.mm_text.specs.Stages.{lack_at, step, judged, after_entry}
 use Rattle.mm_text.specs.declared.fault.MmKind.{MmKind}
-use Rattle.mm_text.specs.declared.fault.MmKind.TheVariants.{Read, Memory, BadBanner, Unsupported, BadSize, BadDimension, NotSquare, TooManyEntries, BadEntry, Negative, NumberTooLarge, IndexOutOfRange, ExtraText, TooFewEntries}
+use Rattle.mm_text.specs.declared.fault.MmKind.TheVariants.{Read, Memory, BadBanner, Unsupported, BadSize, BadDimension, NotSquare, TooManyEntries, BadEntry, Negative, NumberTooLarge, IndexOutOfRange, ExtraText, TooFewEntries, LineTooLong}
 use Rattle.mm_text.specs.declared.limits.TextLimits.{TextLimits}
 use Rattle.mm_text.specs.declared.stages.Stage.{Stage}
 use Rattle.mm_text.specs.declared.stages.Stage.TheVariants.{AtBanner, AtSize, AtEntries}
@@ -128,3 +128,29 @@ plain_lack (AtEntries symmetric s seen) k e = few (nat_lt seen s.entries) e
     few : (b : Bool) → ◌≡◌ {A = Option MmKind} (cond b (Some TooFewEntries) None) (Some k) → IsPlain k
     few true f = let same : TooFewEntries ≡ k = cc in rw (← same) tt
     few false f = cc
+
+pub plain_step : (limits : TextLimits) (stage : Stage) (line : List ℕ) → Plain (step limits stage line)
+plain_step limits AtBanner line = plain_bind (banner line) _ (plain_banner line) (λ x. plain_ok _)
+plain_step limits (AtSize symmetric) line = plain_bind (size symmetric limits.max_entries line) _ (plain_size symmetric limits.max_entries line) (λ x. plain_ok _)
+plain_step limits (AtEntries symmetric s seen) line = due (nat_lt seen s.entries)
+  where
+    due : (b : Bool) → Plain (cond b (entry s.rows s.cols line >>= λ cell. Ok (after_entry symmetric s seen cell)) (Err ExtraText))
+    due true = plain_bind (entry s.rows s.cols line) _ (plain_entry s.rows s.cols line) (λ x. plain_ok _)
+    due false = plain_err ExtraText tt
+
+plain_tested : (limits : TextLimits) (stage : Stage) (long counting : Bool) (line : List ℕ) →
+    Plain (cond long (Err LineTooLong) (cond counting (step limits stage line >>= λ next. Ok (Some next)) (Ok None)))
+plain_tested limits stage true counting line = plain_err LineTooLong tt
+plain_tested limits stage false true line = plain_bind (step limits stage line) _ (plain_step limits stage line) (λ x. plain_ok (Some x))
+plain_tested limits stage false false line = plain_ok None
+
+plain_is : {A : Type 0} (r : Result A MmKind) (k : MmKind) → Plain r → r ≡ Err k → IsPlain k
+plain_is (Ok x) k p e = cc
+plain_is (Err j) k p e = let same : j ≡ k = cc in rw (← same) p.plain
+
+-- the fault of a judgement is one of the text
+pub plain_judged : (limits : TextLimits) (stage : Stage) (is_first : Bool) (line : List ℕ) (k : MmKind) → judged limits stage is_first line ≡ Err k → IsPlain k
+plain_judged limits stage is_first line k e = plain_is _ k (plain_tested limits stage _ _ (content line)) e
+
+pub not_memory : (k : MmKind) → IsPlain k → k ≡ Memory → ⊥
+not_memory k p e = let q : IsPlain Memory = rw e at p in q

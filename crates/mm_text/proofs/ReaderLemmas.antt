@@ -2,10 +2,10 @@
 use Rattle.std.proofs.Common.{inl, inr, ◌≡◌, ℕ, zero, suc, ◌+◌, ◌-◌, ◌<◌, ◌≤◌, ◌⊎◌, List, [], ◌∷◌, ◌++◌, length, take, drop, refl, sym, ◌∙◌, ap, arith, append_assoc, length-append, length-take, length-drop}
 use Rattle.std.proofs.lemmas.List.{append-nil, take-append-drop, drop-take, drop-drop, take-take}
 use Rattle.std.specs.Prelude.{Result, Ok, Err, Some}
-use Rattle.mm_text.specs.Stages.{Holds, Advances, EndsText, declared_size}
+use Rattle.mm_text.specs.Stages.{Holds, Advances, StopsWithin, BeginsWith, EndsText, EndsWithin, declared_size}
 use Rattle.byte_io.specs.Streams.{bytes_of_calls}
 use Rattle.mm_text.specs.Faults.{Explains, Shows}
-use Rattle.mm_text.specs.Readings.{HasRead, pending, size_of, TakesPending, Fills, Finishes, ShowsRead, GoesOn, Ends, Stops}
+use Rattle.mm_text.specs.Readings.{HasRead, pending, size_of, TakesPending, Fills, Finishes, ShowsRead, AddsFirst, GoesOn, Ends, Stops}
 use Rattle.byte_io.specs.declared.fault.DeviceFault.{DeviceFault}
 use Rattle.mm_text.specs.declared.fault.MmKind.{MmKind}
 use Rattle.mm_text.specs.declared.fault.MmKind.TheVariants.{Read, TooLong}
@@ -14,7 +14,7 @@ use Rattle.mm_text.specs.declared.size.Size.{Size}
 use Rattle.mm_text.specs.declared.limits.TextLimits.{TextLimits}
 use Rattle.mm_text.specs.declared.stages.Stage.TheVariants.{AtBanner}
 use Rattle.mm_text.specs.declared.reader.TextReader.{TextReader}
-use Rattle.mm_text.proofs.AdvanceLemmas.{explains_read, explains_cut, holds_none}
+use Rattle.mm_text.proofs.AdvanceLemmas.{explains_read, explains_cut, holds_none, holds_begin}
 use Rattle.mm_text.proofs.ExplainLemmas.{explains_weaker}
 use Rattle.byte_io.proofs.StreamLemmas.{calls-append, bytes_of_calls-append}
 
@@ -76,6 +76,38 @@ shows_pending reader kind line s = λ limits answers given h.
     let s' = rw h.limits_are at s in
     rw h.text_is (s' h.judged h.beyond given fits h.holds)
 
+-- what was read begins with the lines that are judged
+pub read_begins : (limits : TextLimits) (answers : List (Result (List ℕ) DeviceFault)) (given : List Cell) (reader : TextReader) → HasRead limits answers given reader →
+    BeginsWith limits (bytes_of_calls answers) given
+read_begins limits answers given reader h =
+    rw (h.text_is, append_assoc h.judged (pending reader) h.beyond) (holds_begin limits h.judged (pending reader ++ h.beyond) _ _ given _ h.holds)
+
+-- the block before a fault among the bytes that were pending
+pub first_pending : (reader : TextReader) (block block' : List Cell) → StopsWithin reader.limits (pending reader) reader.carry.items reader.reading.stage reader.reading.lines block block' →
+    AddsFirst reader block block'
+first_pending reader block block' s = record {
+  cells = s.advances.cells;
+  block_is = s.advances.block_is;
+  begins = λ limits answers given h.
+      let fits = read_fits reader limits answers given h in
+      let a = rw h.limits_are at s.advances.holds in
+      let held = a h.judged given (omega (arith, length-take s.front (pending reader))) h.holds in
+      let text : bytes_of_calls answers ≡ (h.judged ++ take s.front (pending reader)) ++ (drop s.front (pending reader) ++ h.beyond) =
+      h.text_is ∙ ap (λ t. (h.judged ++ t) ++ h.beyond) (sym (take-append-drop s.front (pending reader))) ∙ regroup h.judged (take s.front (pending reader)) (drop s.front (pending reader)) h.beyond in
+      rw text (holds_begin limits (h.judged ++ take s.front (pending reader)) (drop s.front (pending reader) ++ h.beyond) s.carry' s.stage' (given ++ s.advances.cells) s.count' held);
+}
+  where
+    regroup : (a b c d : List ℕ) → (a ++ (b ++ c)) ++ d ≡ (a ++ b) ++ (c ++ d)
+    regroup a b c d = simp append_assoc
+
+-- and where the fault stands behind all of them
+pub first_taken : (reader reader' : TextReader) (block block' : List Cell) → TakesPending reader reader' block block' → AddsFirst reader block block'
+first_taken reader reader' block block' t = record {
+  cells = t.cells;
+  block_is = t.block_is;
+  begins = λ limits answers given h. read_begins limits answers (given ++ t.cells) reader' (t.has_read limits answers given h);
+}
+
 pub shows_through : (reader reader' : TextReader) (block block' : List Cell) (ended failed : Type 0) (kind : MmKind) (line : ℕ) → TakesPending reader reader' block block' →
     ShowsRead reader' ended failed kind line → ShowsRead reader ended failed kind line
 shows_through reader reader' block block' ended failed kind line t s = λ limits answers given h. s limits answers (given ++ t.cells) (t.has_read limits answers given h)
@@ -105,6 +137,14 @@ read_all : (reader : TextReader) (limits : TextLimits) (answers : List (Result (
     bytes_of_calls answers ≡ h.judged
 read_all reader limits answers given h e some =
     h.text_is ∙ ap (λ t. t ++ h.beyond) (ap (λ t. h.judged ++ t) (pending_none reader e) ∙ append-nil h.judged) ∙ ap (λ t. h.judged ++ t) (h.none_beyond some) ∙ append-nil h.judged
+
+pub first_end : (reader : TextReader) (block block' : List Cell) → reader.start ≡ reader.end → 0 < reader.room →
+    EndsWithin reader.limits reader.carry.items reader.reading.stage reader.reading.lines block block' → AddsFirst reader block block'
+first_end reader block block' e some t = record {
+  cells = t.cells;
+  block_is = t.block_is;
+  begins = λ limits answers given h. let s = rw h.limits_are at t.begins in rw (read_all reader limits answers given h e some) (s h.judged given h.holds);
+}
 
 pub shows_failure : (reader : TextReader) (line : ℕ) → reader.start ≡ reader.end → 0 < reader.room → line ≡ reader.reading.lines + 1 → ShowsRead reader ⊥ (Unit {0}) Read line
 shows_failure reader line e some line_is = λ limits answers given h.
@@ -256,36 +296,46 @@ module _ {S : Type 0} (gives : S → Result (List ℕ) DeviceFault → S → Typ
           };
     }
 
-    pub stops_here : (ended failed : Type 0) (kind : MmKind) (line : ℕ) → ShowsRead r1 ⊥ ⊥ kind line → Stops gives ended failed s0 s1 r0 kind line
-    stops_here ended failed kind line s = record {
+    pub stops_here : (ended failed : Type 0) (b2 : List Cell) (kind : MmKind) (line : ℕ) → AddsFirst r1 b1 b2 → ShowsRead r1 ⊥ ⊥ kind line → Stops gives ended failed s0 s1 r0 b0 b2 kind line
+    stops_here ended failed b2 kind line a s = record {
       answers = go.answers;
       calls = go.calls;
+      cells = go.cells ++ a.cells;
+      block_is = a.block_is ∙ ap (λ k. k ++ a.cells) go.block_is ∙ append_assoc b0 go.cells a.cells;
       explained = λ limits before given h. let g = go.has_read limits before given h in record {
         explains = explains_weaker (bytes_of_calls (before ++ go.answers)) limits ⊥ ended failed kind line (λ x. absurd x) (s limits (before ++ go.answers) (given ++ go.cells) g);
+        begins = rw (← append_assoc given go.cells a.cells) (a.begins limits (before ++ go.answers) (given ++ go.cells) g);
         reads = let r = g.reads in let m = g.room_is in omega arith;
       };
     }
 
-    pub stops_failed : (ended failed : Type 0) (s2 : S) (e : DeviceFault) (line : ℕ) → gives s1 (Err e) s2 → failed → ShowsRead r1 ⊥ (Unit {0}) Read line → Stops gives ended failed s0 s2 r0 Read line
+    pub stops_failed : (ended failed : Type 0) (s2 : S) (e : DeviceFault) (line : ℕ) → gives s1 (Err e) s2 → failed → ShowsRead r1 ⊥ (Unit {0}) Read line → Stops gives ended failed s0 s2 r0 b0 b1 Read line
     stops_failed ended failed s2 e line gave now s = record {
       answers = go.answers ++ Err e ∷ [];
       calls = calls-append gives go.answers (Err e ∷ []) s0 s1 s2 go.calls (s2, gave, refl);
+      cells = go.cells;
+      block_is = go.block_is;
       explained = λ limits before given h.
           let g = go.has_read limits before given h in
           let x = s limits (before ++ go.answers) (given ++ go.cells) g in
           record {
             explains = rw (no_byte before (Err e) refl) (record { failed_now = now; none_within = x.none_within; line_is = x.line_is });
+            begins = rw (no_byte before (Err e) refl) (read_begins limits (before ++ go.answers) (given ++ go.cells) r1 g);
             reads = few_reads limits before given (Err e) h;
           };
     }
 
-    pub stops_end : (ended failed : Type 0) (s2 : S) (r2 : TextReader) (n : ℕ) (kind : MmKind) (line : ℕ) → Fills gives s1 s2 r1 r2 n → n ≡ 0 → ended → ShowsRead r2 (Unit {0}) ⊥ kind line → Stops gives ended failed s0 s2 r0 kind line
-    stops_end ended failed s2 r2 n kind line f none end s = record {
+    pub stops_end : (ended failed : Type 0) (s2 : S) (r2 : TextReader) (b2 : List Cell) (n : ℕ) (kind : MmKind) (line : ℕ) → Fills gives s1 s2 r1 r2 n → n ≡ 0 → ended → AddsFirst r2 b1 b2 → ShowsRead r2 (Unit {0}) ⊥ kind line →
+        Stops gives ended failed s0 s2 r0 b0 b2 kind line
+    stops_end ended failed s2 r2 b2 n kind line f none end a s = record {
       answers = go.answers ++ Ok f.bytes ∷ [];
       calls = calls-append gives go.answers (Ok f.bytes ∷ []) s0 s1 s2 go.calls (s2, f.gave, refl);
+      cells = go.cells ++ a.cells;
+      block_is = a.block_is ∙ ap (λ k. k ++ a.cells) go.block_is ∙ append_assoc b0 go.cells a.cells;
       explained = λ limits before given h.
           let g = f.none none limits (before ++ go.answers) (given ++ go.cells) (go.has_read limits before given h) in record {
             explains = rw (no_byte before (Ok f.bytes) (no_bytes f.bytes (f.size_is ∙ none))) (explains_weaker (bytes_of_calls (before ++ go.answers)) limits (Unit {0}) ended failed kind line (λ x. end) (s limits (before ++ go.answers) (given ++ go.cells) g));
+            begins = rw (no_byte before (Ok f.bytes) (no_bytes f.bytes (f.size_is ∙ none)), ← append_assoc given go.cells a.cells) (a.begins limits (before ++ go.answers) (given ++ go.cells) g);
             reads = few_reads limits before given (Ok f.bytes) h;
           };
     }

@@ -1,5 +1,5 @@
 -- One more line that counts: its fault is the definition's, and what it adds is what the definition adds.
-use Rattle.std.proofs.Common.{◌≡◌, ℕ, Bool, true, false, cond, List, [], ◌∷◌, ◌++◌, refl, sym, ◌∙◌, ap, subst, arith, append_assoc, length-append}
+use Rattle.std.proofs.Common.{◌≡◌, ℕ, ◌≤◌, length, Bool, true, false, cond, List, [], ◌∷◌, ◌++◌, refl, sym, ◌∙◌, ap, subst, arith, append_assoc, length-append}
 use Rattle.std.proofs.lemmas.Bool.Decides.{nat_tests}
 use Rattle.std.proofs.lemmas.List.{append-nil, map-append}
 use Rattle.std.specs.Prelude.{Option, Some, None, Result, Ok, Err, map, flat_map, nat_lt}
@@ -109,3 +109,10 @@ step_ok limits ls cells (AtEntries symmetric s seen) line y h e = test (nat_lt s
           seen_is = let i = h.seen_is in omega (arith, length-append h.others (line ∷ []));
           within = grind (arith, nat_tests);
         })
+
+-- a line that adds a cell stands behind a banner and a size line
+pub step_entry : (limits : TextLimits) (ls : List (List ℕ)) (cells : List Cell) (stage : Stage) (line : List ℕ) (y : Stage × Option Cell) (cell : Cell) →
+    StageIs limits ls cells stage → step limits stage line ≡ Ok y → y.1 ≡ Some cell → 2 ≤ length ls
+step_entry limits ls cells AtBanner line y cell h e f = let b = bind_ok (banner line) _ y e in let n = ap (λ p. p.1) b.2 in cc
+step_entry limits ls cells (AtSize symmetric) line y cell h e f = let b = bind_ok (size symmetric limits.max_entries line) _ y e in let n = ap (λ p. p.1) b.2 in cc
+step_entry limits ls cells (AtEntries symmetric s seen) line y cell h e f = let n = ap length h.lines_are in omega arith

@@ -56,7 +56,7 @@ module _ (limits : TextLimits) (symmetric : Bool) (s : Size) (seen lines : ℕ) 
   shows_memory bytes after number cut n =
       shows_line limits bytes line after [] _ lines Memory number cut is.is_line n
       (λ rest done given c k. let e = carried_none lines rest [] refl c in
-      rw e (unstored limits done (AtEntries symmetric s seen) given lines line (after_entry symmetric s seen cell) k entry_judged))
+      rw e (unstored limits done (AtEntries symmetric s seen) given lines line (after_entry symmetric s seen cell) cell k entry_judged refl))
 
 few_of : (v : Bool) (c d : Cell) → length (cond v (c ∷ d ∷ []) (c ∷ [])) ≤ 2
 few_of true c d = omega arith

@@ -1,10 +1,10 @@
 -- A whole reading: one block that holds all cells.
-use Rattle.std.proofs.Common.{◌≡◌, ℕ, ◌+◌, ◌≤◌, List, [], ◌++◌, length, refl, ◌∙◌, ap, subst, arith, Bool, true, false}
+use Rattle.std.proofs.Common.{◌≡◌, ◌⊎◌, inl, inr, ℕ, ◌+◌, ◌≤◌, List, [], ◌++◌, length, refl, ◌∙◌, ap, subst, arith, Bool, true, false}
 use Rattle.std.specs.Prelude.{Result, Some}
 use Rattle.cells.specs.Bounds.{IsDimension, AreWithin}
 use Rattle.mm_text.specs.Texts.{Spells}
 use Rattle.byte_io.specs.Streams.{Calls, bytes_of_calls}
-use Rattle.mm_text.specs.Faults.{Explains, IsMemoryFault}
+use Rattle.mm_text.specs.Faults.{Explains, IsUnread}
 use Rattle.mm_text.specs.Readings.{HasRead, size_of, Ends, Stops, ReadsBlock}
 use Rattle.byte_io.specs.declared.fault.DeviceFault.{DeviceFault}
 use Rattle.mm_text.specs.declared.fault.MmKind.{MmKind}
@@ -13,8 +13,7 @@ use Rattle.mm_text.specs.declared.size.Size.{Size}
 use Rattle.mm_text.specs.declared.limits.TextLimits.{TextLimits}
 use Rattle.mm_text.specs.declared.reader.TextReader.{TextReader}
 use Rattle.mm_text.proofs.BoundLemmas.{spells_bounds}
-use Rattle.mm_text.proofs.AdvanceLemmas.{holds_none, held_none}
-use Rattle.mm_text.specs.declared.stages.Stage.TheVariants.{AtBanner}
+use Rattle.mm_text.specs.declared.fault.MmKind.TheVariants.{Memory}
 
 -- what a whole reading answers
 abbrev pub IsWhole : {S : Type 0} → (S → Result (List ℕ) DeviceFault → S → Type 0) → (S → Type 0) → S → S → TextLimits → Size → List Cell → Type 0
@@ -42,12 +41,15 @@ pub whole_bounds : {S : Type 0} (gives : S → Result (List ℕ) DeviceFault →
     IsDimension size.rows × IsDimension size.cols × AreWithin size.rows size.cols cells
 whole_bounds gives at_end source source' limits size cells w = spells_bounds (bytes_of_calls w.0) limits size.rows size.cols cells w.4
 
-pub whole_fault : {S : Type 0} (gives : S → Result (List ℕ) DeviceFault → S → Type 0) (ended failed : Type 0) (source source' : S) (reader : TextReader) (limits : TextLimits) (kind : MmKind) (line : ℕ) →
-    HasRead limits [] [] reader → Stops gives ended failed source source' reader kind line →
-    (answers : List (Result (List ℕ) DeviceFault)) × Calls gives source answers source' × (length answers ≤ limits.max_bytes + 2) × Explains (bytes_of_calls answers) limits ended failed kind line
-whole_fault gives ended failed source source' reader limits kind line h s =
-    let e = s.explained limits [] [] h in (s.answers, s.calls, e.reads, e.explains)
+pub whole_fault : {S : Type 0} (gives : S → Result (List ℕ) DeviceFault → S → Type 0) (ended failed : Type 0) (source source' : S) (reader : TextReader) (block block' : List Cell) (limits : TextLimits) (kind : MmKind) (line : ℕ) →
+    HasRead limits [] [] reader → Stops gives ended failed source source' reader block block' kind line →
+    (answers : List (Result (List ℕ) DeviceFault)) × Calls gives source answers source' × (length answers ≤ limits.max_bytes + 2)
+    × (Explains (bytes_of_calls answers) limits ended failed kind line ⊎ IsUnread answers kind line)
+whole_fault gives ended failed source source' reader block block' limits kind line h s =
+    let e = s.explained limits [] [] h in (s.answers, s.calls, e.reads, inl e.explains)
 
--- memory may run out before the first byte
-pub memory_at_start : (limits : TextLimits) → IsMemoryFault [] limits 1
-memory_at_start limits = record { place = 0; within = omega arith; none_within = held_none limits [] [] AtBanner [] 0 (holds_none limits); line_is = refl }
+-- no reader could be made
+pub whole_unread : {S : Type 0} (gives : S → Result (List ℕ) DeviceFault → S → Type 0) (ended failed : Type 0) (source : S) (limits : TextLimits) →
+    (answers : List (Result (List ℕ) DeviceFault)) × Calls gives source answers source × (length answers ≤ limits.max_bytes + 2)
+    × (Explains (bytes_of_calls answers) limits ended failed Memory 1 ⊎ IsUnread answers Memory 1)
+whole_unread gives ended failed source limits = ([], refl, omega arith, inr (record { none = refl; kind_is = refl; line_is = refl }))

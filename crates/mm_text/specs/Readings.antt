@@ -3,7 +3,7 @@ use Rattle.std.specs.Prelude.{◌≡◌, ℕ, ◌+◌, ◌-◌, ◌<◌, ◌≤�
 use Rattle.cells.specs.Bounds.{IsDimension, AreWithin}
 use Rattle.byte_io.specs.Streams.{Calls, bytes_of_calls}
 use Rattle.mm_text.specs.Faults.{Explains}
-use Rattle.mm_text.specs.Stages.{Holds, declared_size}
+use Rattle.mm_text.specs.Stages.{Holds, BeginsWith, declared_size}
 use Rattle.mm_text.specs.Texts.{Spells}
 use Rattle.byte_io.specs.declared.fault.DeviceFault.{DeviceFault}
 use Rattle.mm_text.specs.declared.fault.MmKind.{MmKind}
@@ -64,17 +64,20 @@ abbrev pub ReadsBlock : {S : Type 0} → (S → Result (List ℕ) DeviceFault �
 ReadsBlock gives at_end source source' reader reader' block block' true = GoesOn gives source source' reader reader' block block'
 ReadsBlock gives at_end source source' reader reader' block block' false = Ends gives at_end source source' reader reader' block block'
 
--- All that was read explains this fault.
-pub record ExplainedBy (limits : TextLimits) (answers : List (Result (List ℕ) DeviceFault)) (ended failed : Type 0) (kind : MmKind) (line : ℕ) : Type 0 where
+-- All that was read explains this fault, and the cells that were handed out are those of its first lines.
+pub record ExplainedBy (limits : TextLimits) (answers : List (Result (List ℕ) DeviceFault)) (given : List Cell) (ended failed : Type 0) (kind : MmKind) (line : ℕ) : Type 0 where
   pub explains : Explains (bytes_of_calls answers) limits ended failed kind line
+  pub begins : BeginsWith limits (bytes_of_calls answers) given
   pub reads : length answers ≤ limits.max_bytes + 2
 
--- The reading stopped with this fault.
-pub record Stops {S : Type 0} (gives : S → Result (List ℕ) DeviceFault → S → Type 0) (ended failed : Type 0) (source source' : S) (reader : TextReader) (kind : MmKind) (line : ℕ) : Type 0 where
+-- The reading stopped with this fault, and the block holds these cells more.
+pub record Stops {S : Type 0} (gives : S → Result (List ℕ) DeviceFault → S → Type 0) (ended failed : Type 0) (source source' : S) (reader : TextReader) (block block' : List Cell) (kind : MmKind) (line : ℕ) : Type 0 where
   pub answers : List (Result (List ℕ) DeviceFault)
   pub calls : Calls gives source answers source'
+  pub cells : List Cell
+  pub block_is : block' ≡ block ++ cells
   pub explained : (limits : TextLimits) (before : List (Result (List ℕ) DeviceFault)) (given : List Cell) →
-      HasRead limits before given reader → ExplainedBy limits (before ++ answers) ended failed kind line
+      HasRead limits before given reader → ExplainedBy limits (before ++ answers) (given ++ cells) ended failed kind line
 
 -- Cells that were handed out stand behind a size line, and lie within its dimensions.
 pub record SizedCells (given : List Cell) (size : Size) : Type 0 where
@@ -118,3 +121,10 @@ pub record Finishes (reader reader' : TextReader) (block block' : List Cell) : T
 abbrev pub ShowsRead : TextReader → Type 0 → Type 0 → MmKind → ℕ → Type 0
 ShowsRead reader ended failed kind line = (limits : TextLimits) (answers : List (Result (List ℕ) DeviceFault)) (given : List Cell) →
     HasRead limits answers given reader → Explains (bytes_of_calls answers) limits ended failed kind line
+
+-- Cells were added to the block before a fault: with those before they are the cells of the text's first lines.
+pub record AddsFirst (reader : TextReader) (block block' : List Cell) : Type 0 where
+  pub cells : List Cell
+  pub block_is : block' ≡ block ++ cells
+  pub begins : (limits : TextLimits) (answers : List (Result (List ℕ) DeviceFault)) (given : List Cell) →
+      HasRead limits answers given reader → BeginsWith limits (bytes_of_calls answers) (given ++ cells)

@@ -1,9 +1,9 @@
 -- What the reader keeps of the lines that it has read, and how one more changes it.
-use Rattle.std.specs.Prelude.{◌≡◌, ◌⊎◌, ℕ, ◌+◌, ◌<◌, ◌≤◌, Bool, true, false, not, ◌&&◌, ◌||◌, nat_lt, nat_eq, if◌then◌else◌, List, [], ◌∷◌, ◌++◌, length, map, flat_map, Option, Some, None, Result, Ok, Err}
+use Rattle.std.specs.Prelude.{◌≡◌, ◌⊎◌, ℕ, ◌+◌, ◌<◌, ◌≤◌, Bool, true, false, not, ◌&&◌, ◌||◌, nat_lt, nat_eq, if◌then◌else◌, List, [], ◌∷◌, ◌++◌, length, take, map, flat_map, Option, Some, None, Result, Ok, Err}
 use Rattle.mm_text.specs.Lines.{lines_of, content, counts, is_limited, counted, is_comment, is_skipped, IsLine, joined}
 use Rattle.std.specs.List.{AllByRecursion}
 use Rattle.mm_text.specs.Judging.{◌>>=◌, banner, size, entry, cells_of}
-use Rattle.mm_text.specs.Texts.{fault_behind, Spells}
+use Rattle.mm_text.specs.Texts.{fault_behind, Spells, IsGoodEntry}
 use Rattle.mm_text.specs.declared.fault.MmKind.{MmKind}
 use Rattle.mm_text.specs.declared.fault.MmKind.TheVariants.{ExtraText, LineTooLong, TooLong, Memory, BadBanner, BadSize, TooFewEntries}
 use Rattle.cells.specs.declared.cell.Cell.{Cell}
@@ -85,14 +85,15 @@ pub record IsWrong (limits : TextLimits) (done : List (List ℕ)) (line : List �
   pub counted_too : counts done line ≡ true
   pub wrong : fault_behind limits (counted done) (content line) ≡ Some kind
 
--- Behind these lines, this line isn't too long, but memory for its cells ran out.
-pub record IsUnstored (done : List (List ℕ)) (line : List ℕ) (kind : MmKind) : Type 0 where
+-- Behind these lines, this line is a good entry, but memory for its cells ran out.
+pub record IsUnstored (limits : TextLimits) (done : List (List ℕ)) (line : List ℕ) (kind : MmKind) : Type 0 where
   pub kind_is : kind ≡ Memory
   pub short : is_limited done line ≡ true → length (content line) ≤ 1024
+  pub entry : IsGoodEntry limits done line
 
 -- what a line that isn't taken is: too long or wrong, or memory ran out
 abbrev pub LineFault : TextLimits → List (List ℕ) → List ℕ → MmKind → Type 0
-LineFault limits done line kind = IsOverlong done line kind ⊎ (IsWrong limits done line kind ⊎ IsUnstored done line kind)
+LineFault limits done line kind = IsOverlong done line kind ⊎ (IsWrong limits done line kind ⊎ IsUnstored limits done line kind)
 
 -- what the size line declared, once it was read
 abbrev pub declared_size : Stage → Option Size
@@ -164,6 +165,24 @@ pub record Advances (limits : TextLimits) (bytes carry : List ℕ) (stage : Stag
       Holds limits text carry stage given count → Holds limits (text ++ bytes) carry' stage' (given ++ cells) count'
   pub size_kept : (s : Size) → declared_size stage ≡ Some s → declared_size stage' ≡ Some s
 
+-- A front of these bytes was judged before a fault: it added these cells, whatever text within the limit the bytes continue.
+pub record StopsWithin (limits : TextLimits) (bytes carry : List ℕ) (stage : Stage) (count : ℕ) (block block' : List Cell) : Type 0 where
+  pub front : ℕ
+  pub within : front ≤ length bytes
+  pub carry' : List ℕ
+  pub stage' : Stage
+  pub count' : ℕ
+  pub advances : Advances limits (take front bytes) carry stage count block carry' stage' count' block'
+
+-- The text begins with lines that bear no fault, and these are their cells.
+pub record BeginsWith (limits : TextLimits) (text : List ℕ) (cells : List Cell) : Type 0 where
+  pub done : List (List ℕ)
+  pub after : List (List ℕ)
+  pub lines : lines_of text ≡ done ++ after
+  pub stage : Stage
+  pub count : ℕ
+  pub keeps : Keeps limits done stage cells count
+
 -- What is carried was judged as the last line of a text: it adds these cells, whatever text ends with it.
 pub record EndsLast (limits : TextLimits) (carry : List ℕ) (stage : Stage) (count : ℕ) (block : List Cell) (stage' : Stage) (count' : ℕ) (block' : List Cell) : Type 0 where
   pub cells : List Cell
@@ -181,3 +200,9 @@ pub record EndsText (limits : TextLimits) (carry : List ℕ) (stage : Stage) (co
   pub size_is : declared_size stage' ≡ Some size
   pub spells : (text : List ℕ) (given : List Cell) → Holds limits text carry stage given count → Spells text limits size.rows size.cols (given ++ cells)
   pub size_kept : (s : Size) → declared_size stage ≡ Some s → declared_size stage' ≡ Some s
+
+-- The text ends with a fault: before it these cells were added, whatever text ends with what is carried.
+pub record EndsWithin (limits : TextLimits) (carry : List ℕ) (stage : Stage) (count : ℕ) (block block' : List Cell) : Type 0 where
+  pub cells : List Cell
+  pub block_is : block' ≡ block ++ cells
+  pub begins : (text : List ℕ) (given : List Cell) → Holds limits text carry stage given count → BeginsWith limits text (given ++ cells)

@@ -1,5 +1,5 @@
 -- What a text spells, and its first fault.
-use Rattle.std.specs.Prelude.{◌≡◌, ℕ, ◌+◌, ◌*◌, ◌<◌, ◌≤◌, Bool, true, List, [], ◌∷◌, ◌++◌, length, map, flat_map, nat_lt, if◌then◌else◌, Option, Some, Ok, Err}
+use Rattle.std.specs.Prelude.{◌≡◌, ℕ, ◌+◌, ◌*◌, ◌<◌, ◌≤◌, Bool, true, List, [], ◌∷◌, ◌++◌, length, map, flat_map, nat_lt, if◌then◌else◌, Option, Some, None, Ok, Err}
 pub use Rattle.mm_text.specs.Canonical.{numbers_line, canonical}
 use Rattle.mm_text.specs.Lines.{lines_of, bytes_of, line_at, content, counts, is_limited, counted, OverrunsAt}
 use Rattle.mm_text.specs.Judging.{◌>>=◌, refuse_if, banner, size, entry, cells_of, fault_of}
@@ -42,6 +42,12 @@ lack_of limits (first ∷ second ∷ others) = fault_of (do
   symmetric ← banner first
   s ← size symmetric limits.max_entries second
   refuse_if (nat_lt (length others) s.entries) TooFewEntries)
+
+-- Behind these lines this one counts, and is an entry without a fault: a banner and a size line stand before it.
+pub record IsGoodEntry (limits : TextLimits) (before : List (List ℕ)) (line : List ℕ) : Type 0 where
+  pub counted_too : counts before line ≡ true
+  pub behind_size : 2 ≤ length (counted before)
+  pub right : fault_behind limits (counted before) (content line) ≡ None
 
 -- A place is the number of bytes that were read when a fault shows; the end of the text counts as one byte more.
 -- Four judgements are made at a place, in this order.

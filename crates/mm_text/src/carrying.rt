@@ -3,7 +3,7 @@
 //! What was read of the present line is carried until its LF comes. A line that is too long shows it at once, and of
 //! a comment, which may have any length, no more is carried than its first byte. So what is carried fits in a buffer
 //! of `CARRY` bytes, which is made once.
-ghost use Rattle.std.specs.Prelude.{◌≡◌, ℕ, ◌+◌, ◌<◌, ◌≤◌, ◌^◌, ◌++◌, ◌∷◌, [], ◌==◌, not, ◌&&◌, List, OnOk, IfErr, IfOk, length, vec_len, vec_capacity, true, false, take, drop};
+ghost use Rattle.std.specs.Prelude.{◌≡◌, ℕ, ◌+◌, ◌<◌, ◌≤◌, ◌^◌, ◌++◌, ◌∷◌, [], ◌==◌, not, ◌&&◌, List, OnOk, OnErr, IfErr, IfOk, length, vec_len, vec_capacity, true, false, take, drop};
 ghost use Rattle.mm_text.specs.Lines.{is_comment, IsLine};
 ghost use Rattle.mm_text.specs.Stages.{IsCarried, cut_kind, AddsLine, EndsCarried, Keeps, LineFault, Advances};
 ghost use Rattle.mm_text.specs.Faults.{Shows};
@@ -102,6 +102,9 @@ pub fn end_carried(
     ensures line { IfErr result (λ f. f.line ≡ reading.old.lines + 1) }
     ensures err { IfErr result (λ f. (rest : List ℕ) (done : List (List ℕ)) (given : List Cell) → IsCarried reading.old.lines rest carry.old.items →
         Keeps limits done reading.old.stage given reading.old.lines → LineFault limits done (rest ++ bytes.now) f.kind) }
+    ensures kept { OnErr result (block.new.items ≡ block.old.items) }
+    ensures lacks { IfErr result (λ f. f.kind ≡ MmKind.Memory → vec_capacity block.old < length block.old.items + 2) }
+    ensures grows { vec_capacity block.old ≤ vec_capacity block.new }
 {
     if is_comment_here(reading, carry.as_slice(), bytes) {
         reading.skip_line();
@@ -135,6 +138,9 @@ pub fn end_in_place(
     ensures line { IfErr result (λ f. f.line ≡ reading.old.lines + 1) }
     ensures err { IfErr result (λ f. (rest : List ℕ) (done : List (List ℕ)) (given : List Cell) → IsCarried reading.old.lines rest carry.old.items →
         Keeps limits done reading.old.stage given reading.old.lines → LineFault limits done (rest ++ bytes.now) f.kind) }
+    ensures kept { OnErr result (block.new.items ≡ block.old.items) }
+    ensures lacks { IfErr result (λ f. f.kind ≡ MmKind.Memory → vec_capacity block.old < length block.old.items + 2) }
+    ensures grows { vec_capacity block.old ≤ vec_capacity block.new }
 {
     if carry.is_empty() {
         return reading.end_line(limits, bytes, block);

@@ -1,15 +1,15 @@
 //! Judges the lines of one piece of a text.
 //!
 //! Lines are cut at LF by `memchr`. One that stands whole in the piece is judged there and copied nowhere.
-ghost use Rattle.std.specs.Prelude.{◌≡◌, ℕ, ◌+◌, ◌*◌, ◌<◌, ◌≤◌, ◌^◌, List, OnOk, IfErr, IfOk, IfSome, IfNone, length, vec_len, vec_capacity, slice_index, take, drop, Some};
+ghost use Rattle.std.specs.Prelude.{◌≡◌, ℕ, ◌+◌, ◌*◌, ◌<◌, ◌≤◌, ◌^◌, List, OnOk, OnErr, IfErr, IfOk, IfSome, IfNone, length, vec_len, vec_capacity, slice_index, take, drop, Some};
 ghost use Rattle.mm_text.specs.Lines.{IsLine};
-ghost use Rattle.mm_text.specs.Stages.{Advances, Holds, EndsLast, EndsText};
+ghost use Rattle.mm_text.specs.Stages.{Advances, StopsWithin, Holds, EndsLast, EndsText, EndsWithin};
 ghost use Rattle.mm_text.specs.Faults.{Shows, Explains};
 ghost use Rattle.mm_text.specs.declared.limits.TextLimits.{TextLimits};
 ghost use Rattle.cells.specs.declared.cell.Cell.{Cell};
 
 use crate::carrying::{CARRY, end_carried, end_in_place};
-use crate::fault::MmFault;
+use crate::fault::{MmFault, MmKind};
 use crate::limits::TextLimits;
 use crate::plain::take_entries;
 use crate::reading::Reading;
@@ -43,6 +43,9 @@ fn take_line(
     ensures ok { IfOk result (λ n. Advances limits (take n bytes.now) carry.old.items reading.old.stage reading.old.lines block.old.items
         carry.new.items reading.new.stage reading.new.lines block.new.items) }
     ensures err { IfErr result (λ f. Shows limits bytes.now carry.old.items reading.old.stage reading.old.lines f.kind f.line) }
+    ensures kept { OnErr result (block.new.items ≡ block.old.items) }
+    ensures lacks { IfErr result (λ f. f.kind ≡ MmKind.Memory → vec_capacity block.old < length block.old.items + 2) }
+    ensures grows { vec_capacity block.old ≤ vec_capacity block.new }
 {
     match line_end(bytes) {
         None => Ok(0),
@@ -72,6 +75,9 @@ fn take_plain_lines(
     ensures ok { IfOk result (λ n. (limits : TextLimits) → Advances limits (take n bytes.now) carry.now reading.old.stage reading.old.lines block.old.items
         carry.now reading.new.stage reading.new.lines block.new.items) }
     ensures err { IfErr result (λ f. (limits : TextLimits) → Shows limits bytes.now carry.now reading.old.stage reading.old.lines f.kind f.line) }
+    ensures kept { OnErr result ((limits : TextLimits) → StopsWithin limits bytes.now carry.now reading.old.stage reading.old.lines block.old.items block.new.items) }
+    ensures lacks { IfErr result (λ f. f.kind ≡ MmKind.Memory → vec_capacity block.old < most) }
+    ensures grows { vec_capacity block.old ≤ vec_capacity block.new }
 {
     if carry.is_empty() {
         take_entries(reading, bytes, block, most)
@@ -102,6 +108,9 @@ fn take_next(
     ensures ok { IfOk result (λ n. Advances limits (take n bytes.now) carry.old.items reading.old.stage reading.old.lines block.old.items
         carry.new.items reading.new.stage reading.new.lines block.new.items) }
     ensures err { IfErr result (λ f. Shows limits bytes.now carry.old.items reading.old.stage reading.old.lines f.kind f.line) }
+    ensures kept { OnErr result (StopsWithin limits bytes.now carry.old.items reading.old.stage reading.old.lines block.old.items block.new.items) }
+    ensures lacks { IfErr result (λ f. f.kind ≡ MmKind.Memory → vec_capacity block.old < most) }
+    ensures grows { vec_capacity block.old ≤ vec_capacity block.new }
 {
     let taken = take_plain_lines(reading, carry.as_slice(), bytes, block, most)?;
     if taken > 0 {
@@ -132,6 +141,9 @@ pub fn take_lines(
     ensures ok { IfOk result (λ n. Advances limits (take n bytes.now) carry.old.items reading.old.stage reading.old.lines block.old.items
         carry.new.items reading.new.stage reading.new.lines block.new.items) }
     ensures err { IfErr result (λ f. Shows limits bytes.now carry.old.items reading.old.stage reading.old.lines f.kind f.line) }
+    ensures kept { OnErr result (StopsWithin limits bytes.now carry.old.items reading.old.stage reading.old.lines block.old.items block.new.items) }
+    ensures lacks { IfErr result (λ f. f.kind ≡ MmKind.Memory → vec_capacity block.old < most) }
+    ensures grows { vec_capacity block.old ≤ vec_capacity block.new }
 {
     let mut start = 0;
     'lines: while most - block.len() > 1 {
@@ -158,6 +170,9 @@ fn end_last(
     ensures ok { OnOk result (EndsLast limits carry.old.items reading.old.stage reading.old.lines block.old.items reading.new.stage reading.new.lines block.new.items) }
     ensures err { IfErr result (λ f. (text : List ℕ) (given : List Cell) →
         Holds limits text carry.old.items reading.old.stage given reading.old.lines → Explains text limits (Unit {0}) ⊥ f.kind f.line) }
+    ensures kept { OnErr result (block.new.items ≡ block.old.items) }
+    ensures lacks { IfErr result (λ f. f.kind ≡ MmKind.Memory → vec_capacity block.old < length block.old.items + 2) }
+    ensures grows { vec_capacity block.old ≤ vec_capacity block.new }
 {
     if carry.is_empty() {
         return Ok(());
@@ -179,6 +194,9 @@ pub fn end_text(
     ensures ok { OnOk result (EndsText limits carry.old.items reading.old.stage reading.old.lines block.old.items reading.new.stage block.new.items) }
     ensures err { IfErr result (λ f. (text : List ℕ) (given : List Cell) →
         Holds limits text carry.old.items reading.old.stage given reading.old.lines → Explains text limits (Unit {0}) ⊥ f.kind f.line) }
+    ensures kept { OnErr result (EndsWithin limits carry.old.items reading.old.stage reading.old.lines block.old.items block.new.items) }
+    ensures lacks { IfErr result (λ f. f.kind ≡ MmKind.Memory → vec_capacity block.old < length block.old.items + 2) }
+    ensures grows { vec_capacity block.old ≤ vec_capacity block.new }
 {
     let line = reading.lines + 1;
     end_last(reading, carry, limits, block)?;

@@ -7,11 +7,11 @@
 //!
 //! An index is read by eight digits, as a word, and then digit by digit: where it has 18, a line takes two thirds of
 //! the time that digit by digit takes. A count is read digit by digit, since most have few.
-ghost use Rattle.std.specs.Prelude.{◌≡◌, ℕ, ◌+◌, ◌*◌, ◌<◌, ◌≤◌, ◌^◌, [], length, take, IfOk, IfErr, IfSome, OnOk, vec_len};
+ghost use Rattle.std.specs.Prelude.{◌≡◌, ℕ, ◌+◌, ◌*◌, ◌<◌, ◌≤◌, ◌^◌, [], length, take, IfOk, IfErr, IfSome, OnOk, OnErr, vec_len, vec_capacity};
 ghost use Rattle.std.specs.Int.{w64, to_le_bytes};
 ghost use Rattle.std.specs.Int.Digits.{AllBelowBase, number_from_digits};
 ghost use Rattle.mm_text.specs.Plain.{GoesOnWithDigits, BeginsWithEight, BeginsWithDigits, BeginsWithIndex, BeginsWithCount, BeginsWithEntry};
-ghost use Rattle.mm_text.specs.Stages.{Advances};
+ghost use Rattle.mm_text.specs.Stages.{Advances, StopsWithin};
 ghost use Rattle.mm_text.specs.Faults.{Shows};
 ghost use Rattle.mm_text.specs.declared.limits.TextLimits.{TextLimits};
 
@@ -163,6 +163,9 @@ pub fn take_entries(
     ensures ok { IfOk result (λ n. (limits : TextLimits) → Advances limits (take n bytes.now) [] reading.old.stage reading.old.lines block.old.items
         [] reading.new.stage reading.new.lines block.new.items) }
     ensures err { IfErr result (λ f. (limits : TextLimits) → Shows limits bytes.now [] reading.old.stage reading.old.lines f.kind f.line) }
+    ensures kept { OnErr result ((limits : TextLimits) → StopsWithin limits bytes.now [] reading.old.stage reading.old.lines block.old.items block.new.items) }
+    ensures lacks { IfErr result (λ f. f.kind ≡ MmKind.Memory → vec_capacity block.old < most) }
+    ensures grows { vec_capacity block.old ≤ vec_capacity block.new }
 {
     let Stage::AtEntries {
         symmetric,

@@ -1,8 +1,8 @@
 //! Reads a whole text.
-ghost use Rattle.std.specs.Prelude.{◌≡◌, ◌≢◌, ℕ, ◌+◌, ◌<◌, ◌≤◌, ◌^◌, List, length, Result, IfOk, IfErr, OnOk};
+ghost use Rattle.std.specs.Prelude.{◌≡◌, ◌≢◌, ◌⊎◌, ℕ, ◌+◌, ◌<◌, ◌≤◌, ◌^◌, List, length, Result, IfOk, IfErr, OnOk};
 ghost use Rattle.mm_text.specs.Texts.{Spells};
 ghost use Rattle.byte_io.specs.Streams.{Calls, bytes_of_calls};
-ghost use Rattle.mm_text.specs.Faults.{Explains};
+ghost use Rattle.mm_text.specs.Faults.{Explains, IsUnread};
 ghost use Rattle.byte_io.specs.declared.fault.DeviceFault.{DeviceFault};
 
 use crate::fault::{MmFault, MmKind};
@@ -15,7 +15,8 @@ use std::alloc::Global;
 /// Reads a Matrix Market text to the end of the source.
 ///
 /// The text is in the coordinate format (NIST), of field `integer` or `unsigned-integer` and of symmetry `general` or
-/// `symmetric`. The answer is the matrix that it spells, or the first fault in reading order. After an `Err` the
+/// `symmetric`. The answer is the matrix that it spells, or the first fault in reading order; `Memory` on line 1 where
+/// there was none for the reader itself, and then nothing was read. After an `Err` the
 /// source stands where the reading stopped: some bytes behind the fault may have been read too.
 ///
 /// There are at most `max_bytes + 2` reads. A reading takes time in proportion to the text, and memory for two small
@@ -32,7 +33,8 @@ pub fn read_matrix<R: Source>(
         × Spells (bytes_of_calls answers) limits m.rows m.cols m.cells.items) }
     ensures err { IfErr result (λ f. (answers : List (Result (List ℕ) DeviceFault)) × Calls R.read_gives r.old answers r.new
         × (length answers ≤ limits.max_bytes + 2)
-        × Explains (bytes_of_calls answers) limits (R.at_end r.new) (R.failure_count r.new ≡ R.failure_count r.old + 1) f.kind f.line) }
+        × (Explains (bytes_of_calls answers) limits (R.at_end r.new) (R.failure_count r.new ≡ R.failure_count r.old + 1) f.kind f.line
+        ⊎ IsUnread answers f.kind f.line)) }
     ensures failures { IfErr result (λ f. f.kind ≢ MmKind.Read → R.failure_count r.new ≡ R.failure_count r.old) }
     ensures no_failure { OnOk result (R.failure_count r.new ≡ R.failure_count r.old) }
 {

@@ -46,7 +46,7 @@ pub struct TextReader {
     end: usize,
     // How many bytes may still be asked for: with the one that is too many, which is judged by being there.
     room: u64,
-    ghost some_piece: { 0 < length piece.items },
+    ghost one_piece: { length piece.items ≡ 65536 },
     ghost in_piece: { (start ≤ end) × (end ≤ length piece.items) },
     ghost carries: { 1025 ≤ vec_capacity carry },
     ghost countable: { reading.lines + (end + room) ≤ 2 ^ 63 + 1 + start },
@@ -108,7 +108,7 @@ fn bytes_within(came: usize, room: u64) -> usize
 }
 
 impl TextReader {
-    ghost use Rattle.mm_text.specs.Readings.{size_of, HasRead, AreSized, ReadsBlock, Stops, pending, TakesPending, Fills, Finishes, ShowsRead};
+    ghost use Rattle.mm_text.specs.Readings.{size_of, HasRead, AreSized, ReadsBlock, Stops, pending, TakesPending, Fills, Finishes, AddsFirst, ShowsRead};
 
     /// A reader that has read nothing. The limit is at most 2^63 bytes.
     ///
@@ -152,6 +152,9 @@ impl TextReader {
         ensures room { OnOk result (length block.new.items ≤ most) }
         ensures rest { OnOk result (length block.new.items + 1 < most → IsLine (pending self.new)) }
         ensures err { IfErr result (λ f. ShowsRead self.old ⊥ ⊥ f.kind f.line) }
+        ensures kept { OnErr result (AddsFirst self.old block.old.items block.new.items) }
+        ensures lacks { IfErr result (λ f. f.kind ≡ MmKind.Memory → vec_capacity block.old < most) }
+        ensures grows { vec_capacity block.old ≤ vec_capacity block.new }
     {
         // Where the lines bear a fault nothing is pending any more.
         let start = self.start;
@@ -174,6 +177,7 @@ impl TextReader {
         ensures empty { self.new.start ≡ self.new.end }
         ensures ok { OnOk result (IsLine (pending self.old) → (block : List Cell) → TakesPending self.old self.new block block) }
         ensures err { IfErr result (λ f. IsLine (pending self.old) → ShowsRead self.old ⊥ ⊥ f.kind f.line) }
+        ensures kind { IfErr result (λ f. f.kind ≡ MmKind.LineTooLong) }
     {
         let start = self.start;
         self.start = self.end;
@@ -188,6 +192,9 @@ impl TextReader {
         ensures room { OnOk result (length block.new.items ≤ most) }
         ensures empty { OnOk result (length block.new.items + 1 < most → (self.new.start ≡ self.new.end) × (0 < self.new.room)) }
         ensures err { IfErr result (λ f. ShowsRead self.old ⊥ ⊥ f.kind f.line) }
+        ensures kept { OnErr result (AddsFirst self.old block.old.items block.new.items) }
+        ensures lacks { IfErr result (λ f. f.kind ≡ MmKind.Memory → vec_capacity block.old < most) }
+        ensures grows { vec_capacity block.old ≤ vec_capacity block.new }
     {
         self.take_whole(block, most)?;
         if most - block.len() <= 1 {
@@ -232,6 +239,9 @@ impl TextReader {
         ensures ok { OnOk result (Finishes self.old self.new block.old.items block.new.items) }
         ensures room { OnOk result (length block.new.items ≤ length block.old.items + 2) }
         ensures err { IfErr result (λ f. ShowsRead self.old (Unit {0}) ⊥ f.kind f.line) }
+        ensures kept { OnErr result (AddsFirst self.old block.old.items block.new.items) }
+        ensures lacks { IfErr result (λ f. f.kind ≡ MmKind.Memory → vec_capacity block.old < length block.old.items + 2) }
+        ensures grows { vec_capacity block.old ≤ vec_capacity block.new }
     {
         self.room = 0;
         end_text(&mut self.reading, &mut self.carry, self.limits, block)
@@ -240,11 +250,13 @@ impl TextReader {
     /// Reads on and appends cells to the block: until it has `most - 1` cells or `most` (true: more may come), or
     /// until the text has ended and nothing is missing (false). The two cells of a symmetric entry never part.
     ///
-    /// The block grows as cells come. With room reserved for `most` cells it takes no memory.
+    /// The block grows as cells come. With room reserved for `most` cells it takes no memory, and the answer is never
+    /// `Memory`.
     ///
     /// An error is the first fault of the text in reading order, told as soon as its place was read; `Read` where a
-    /// call of the source failed, and no fault stands before; `Memory` where the block couldn't grow, behind the line
-    /// whose cells were to be stored. The block then holds some cells of the text, of no use.
+    /// call of the source failed, and no fault stands before; `Memory` where the block couldn't grow, behind the entry
+    /// whose cells were to be stored. The block then holds what it held, and behind it cells that follow those handed
+    /// out before: together they are the cells of the text's first lines.
     pub fn read_block<R: Source>(
         &mut self,
         r: &mut R,
@@ -255,12 +267,14 @@ impl TextReader {
         requires most { 2 ≤ most }
         requires room { length block.old.items ≤ most }
         ensures ok { IfOk result (λ more. ReadsBlock R.read_gives R.at_end r.old r.new self.old self.new block.old.items block.new.items more) }
-        ensures err { IfErr result (λ f. Stops R.read_gives (R.at_end r.new) (R.failure_count r.new ≡ R.failure_count r.old + 1) r.old r.new self.old f.kind f.line) }
+        ensures err { IfErr result (λ f. Stops R.read_gives (R.at_end r.new) (R.failure_count r.new ≡ R.failure_count r.old + 1) r.old r.new self.old block.old.items block.new.items f.kind f.line) }
         ensures room { OnOk result (length block.new.items ≤ most) }
         ensures full { IfOk result (λ more. IsTrue more → most ≤ length block.new.items + 1) }
         ensures size { OnOk result ((s : Size) → size_of self.old ≡ Some s → size_of self.new ≡ Some s) }
         ensures failures { IfErr result (λ f. f.kind ≢ MmKind.Read → R.failure_count r.new ≡ R.failure_count r.old) }
         ensures no_failure { OnOk result (R.failure_count r.new ≡ R.failure_count r.old) }
+        ensures reserved { most ≤ vec_capacity block.old → IfErr result (λ f. f.kind ≢ MmKind.Memory) }
+        ensures grows { vec_capacity block.old ≤ vec_capacity block.new }
     {
         'pieces: loop {
             self.take_pending(block, most)?;

@@ -2,7 +2,7 @@
 //!
 //! Nothing is kept of a line but what it declares: which line comes next, the size line's numbers, and how many
 //! entries were seen. A line costs one pass over its words.
-ghost use Rattle.std.specs.Prelude.{◌≡◌, ℕ, ◌+◌, ◌<◌, ◌≤◌, ◌^◌, ◌++◌, List, OnOk, IfOk, IfErr, length, Bool, true, Some};
+ghost use Rattle.std.specs.Prelude.{◌≡◌, ℕ, ◌+◌, ◌<◌, ◌≤◌, ◌^◌, ◌++◌, List, OnOk, OnErr, IfOk, IfErr, IsSome, length, vec_capacity, Bool, true, Some};
 ghost use Rattle.std.specs.List.{list_all};
 ghost use Rattle.mm_text.specs.Lines.{content, is_comment, is_skipped, is_blank};
 ghost use Rattle.mm_text.specs.Stages.{judged, Keeps, LineFault, is_symmetric, added, AddsLine, lack_at};
@@ -89,7 +89,11 @@ fn stage_symmetry(stage: Stage) -> bool
 
 /// Adds the cells of an entry to the block, if the line was one.
 fn add_cells(block: &mut Vec<Cell>, stage: Stage, cell: Option<Cell>) -> Result<(), AllocError>
-    ensures { OnOk result (block.new.items ≡ block.old.items ++ added stage cell) }
+    ensures ok { OnOk result (block.new.items ≡ block.old.items ++ added stage cell) }
+    ensures some { OnErr result (IsSome cell) }
+    ensures err { OnErr result (block.new.items ≡ block.old.items) }
+    ensures lacks { OnErr result (vec_capacity block.old < length block.old.items + 2) }
+    ensures grows { vec_capacity block.old ≤ vec_capacity block.new }
 {
     match cell {
         Some(cell) => push_cells(block, stage_symmetry(stage), cell),
@@ -135,6 +139,9 @@ impl Reading {
         ensures line { IfErr result (λ f. f.line ≡ self.old.lines + 1) }
         ensures err { IfErr result (λ f. (done : List (List ℕ)) (given : List Cell) →
             Keeps limits done self.old.stage given self.old.lines → LineFault limits done line.now f.kind) }
+        ensures kept { OnErr result (block.new.items ≡ block.old.items) }
+        ensures lacks { IfErr result (λ f. f.kind ≡ MmKind.Memory → vec_capacity block.old < length block.old.items + 2) }
+        ensures grows { vec_capacity block.old ≤ vec_capacity block.new }
     {
         match judge_line(limits, self.stage, self.lines == 0, line) {
             Err(kind) => Err(self.fault_here(kind)),

@@ -1,5 +1,5 @@
 //! What the lines so far mean, and what the next line adds.
-ghost use Rattle.std.specs.Prelude.{◌≡◌, ℕ, ◌++◌, OnOk};
+ghost use Rattle.std.specs.Prelude.{◌≡◌, ℕ, ◌+◌, ◌<◌, ◌≤◌, ◌++◌, OnOk, OnErr, length, vec_capacity};
 ghost use Rattle.mm_text.specs.Judging.{cells_of};
 ghost use Rattle.mm_text.specs.Stages.{step};
 
@@ -70,17 +70,21 @@ pub fn next_stage(
     }
 }
 
-/// Adds the cells that an entry stands for.
+/// Adds the cells that an entry stands for, all of them or none.
 pub fn push_cells(cells: &mut Vec<Cell>, symmetric: bool, cell: Cell) -> Result<(), AllocError>
-    ensures { OnOk result (cells.new.items ≡ cells.old.items ++ cells_of symmetric cell) }
+    ensures ok { OnOk result (cells.new.items ≡ cells.old.items ++ cells_of symmetric cell) }
+    ensures err { OnErr result (cells.new.items ≡ cells.old.items) }
+    ensures lacks { OnErr result (vec_capacity cells.old < length cells.old.items + 2) }
+    ensures grows { vec_capacity cells.old ≤ vec_capacity cells.new }
 {
-    cells.push(cell)?;
     if symmetric && cell.row != cell.col {
-        cells.push(Cell {
+        let mirrored = Cell {
             row: cell.col,
             col: cell.row,
             count: cell.count,
-        })?;
+        };
+        return cells.extend_from_slice(&[cell, mirrored]);
     }
+    cells.push(cell)?;
     Ok(())
 }

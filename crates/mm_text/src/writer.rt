@@ -44,9 +44,12 @@ fn push_line(buffer: &mut ArrayString<CAPACITY>, first: u64, second: u64, third:
 ///
 /// Every call is to be given the same sink. The writer holds a buffer of 16,384 bytes in itself and takes no memory.
 /// After a call that answered Err it is of no more use, and what it still held is lost. Contracts see it as a
-/// `WriterState`: the bytes that the sink took, those that are pending, and how many entry lines are still to come.
+/// `WriterState`: the dimensions of the text, within which all cells lie, the bytes that the sink took, those that are
+/// pending, and how many entry lines are still to come.
 #[derive(Drop)]
 pub struct TextWriter {
+    rows: u64,
+    cols: u64,
     buffer: ArrayString<CAPACITY>,
     taken: u128,
     left: u64,
@@ -54,13 +57,14 @@ pub struct TextWriter {
 
 impl Model for TextWriter {
     ghost use Rattle.std.specs.Prelude.{ℕ, ◌+◌, ◌*◌, ◌<◌, ◌^◌, length};
+    ghost use Rattle.cells.specs.Bounds.{IsDimension};
     ghost use Rattle.mm_text.specs.Writing.{WriterState};
 
     ghost Value = { WriterState };
 
-    ghost view = { λ w. record { taken = w.taken; pending = w.buffer.bytes; left = w.left } };
+    ghost view = { λ w. record { rows = w.rows; cols = w.cols; taken = w.taken; pending = w.buffer.bytes; left = w.left } };
 
-    ghost invariant = { λ w. w.taken + length w.buffer.bytes + 63 * w.left < 2 ^ 80 };
+    ghost invariant = { λ w. IsDimension w.rows × IsDimension w.cols × (w.taken + length w.buffer.bytes + 63 * w.left < 2 ^ 80) };
 }
 
 impl TextWriter {
@@ -68,6 +72,7 @@ impl TextWriter {
     pub fn new(rows: u64, cols: u64, entries: u64) -> TextWriter
         requires rows { IsDimension rows }
         requires cols { IsDimension cols }
+        ensures dims { (result.rows ≡ rows) × (result.cols ≡ cols) }
         ensures taken { result.taken ≡ 0 }
         ensures pending { result.pending ≡ canonical_head rows cols entries }
         ensures left { result.left ≡ entries }
@@ -76,6 +81,8 @@ impl TextWriter {
         buffer.push_str(BANNER);
         push_line(&mut buffer, rows, cols, entries);
         TextWriter {
+            rows,
+            cols,
             buffer,
             taken: 0,
             left: entries,
@@ -85,6 +92,7 @@ impl TextWriter {
     /// Hands on all that is pending.
     fn flush<W: Sink>(&mut self, w: &mut W) -> Result<(), WriteFault>
         requires { W.failure_count w.old + 1 < 2 ^ 64 }
+        ensures dims { OnOk result ((self.new.rows ≡ self.old.rows) × (self.new.cols ≡ self.old.cols)) }
         ensures left { OnOk result (self.new.left ≡ self.old.left) }
         ensures pending { OnOk result (self.new.pending ≡ []) }
         ensures ok { OnOk result ((s : W) (text : List ℕ) →
@@ -110,10 +118,10 @@ impl TextWriter {
 
     /// Appends the line of one cell.
     fn push_cell(&mut self, cell: Cell)
-        requires row { cell.row < 2 ^ 60 }
-        requires col { cell.col < 2 ^ 60 }
+        requires within { IsWithin self.old.rows self.old.cols cell }
         requires declared { 0 < self.old.left }
         requires room { length self.old.pending + 63 ≤ 16384 }
+        ensures dims { (self.new.rows ≡ self.old.rows) × (self.new.cols ≡ self.old.cols) }
         ensures taken { self.new.taken ≡ self.old.taken }
         ensures pending { self.new.pending ≡ self.old.pending ++ entry_line cell }
         ensures left { self.new.left + 1 ≡ self.old.left }
@@ -125,6 +133,7 @@ impl TextWriter {
     /// Hands on what is pending, unless there is room for another line.
     fn make_room<W: Sink>(&mut self, w: &mut W) -> Result<(), WriteFault>
         requires { W.failure_count w.old + 1 < 2 ^ 64 }
+        ensures dims { OnOk result ((self.new.rows ≡ self.old.rows) × (self.new.cols ≡ self.old.cols)) }
         ensures left { OnOk result (self.new.left ≡ self.old.left) }
         ensures room { OnOk result (length self.new.pending + 63 ≤ 16384) }
         ensures ok { OnOk result ((s : W) (text : List ℕ) →
@@ -147,8 +156,9 @@ impl TextWriter {
     /// proportion to the bytes, and calls the sink only where the buffer has no room for another line.
     pub fn write_cell<W: Sink>(&mut self, w: &mut W, cell: Cell) -> Result<(), WriteFault>
         requires ready { W.failure_count w.old + 1 < 2 ^ 64 }
-        requires within { IsWithin (2 ^ 60) (2 ^ 60) cell }
+        requires within { IsWithin self.old.rows self.old.cols cell }
         requires declared { 0 < self.old.left }
+        ensures dims { OnOk result ((self.new.rows ≡ self.old.rows) × (self.new.cols ≡ self.old.cols)) }
         ensures left { OnOk result (self.new.left + 1 ≡ self.old.left) }
         ensures ok { OnOk result ((s : W) (text : List ℕ) →
             HasWritten W.write_takes W.failure_count s w.old text self.old →
@@ -169,8 +179,9 @@ impl TextWriter {
     /// proportion to the bytes.
     pub fn write_cells<W: Sink>(&mut self, w: &mut W, cells: &[Cell]) -> Result<(), WriteFault>
         requires ready { W.failure_count w.old + 1 < 2 ^ 64 }
-        requires within { AreWithin (2 ^ 60) (2 ^ 60) cells.now }
+        requires within { AreWithin self.old.rows self.old.cols cells.now }
         requires declared { length cells.now ≤ self.old.left }
+        ensures dims { OnOk result ((self.new.rows ≡ self.old.rows) × (self.new.cols ≡ self.old.cols)) }
         ensures left { OnOk result (self.new.left + length cells.now ≡ self.old.left) }
         ensures ok { OnOk result ((s : W) (text : List ℕ) →
             HasWritten W.write_takes W.failure_count s w.old text self.old →

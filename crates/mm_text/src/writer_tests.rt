@@ -26,7 +26,7 @@ pub struct OneByte {
 }
 
 impl Sink for OneByte {
-    ghost write_takes = { λ s a t. Unit {0} };
+    ghost write_takes = { λ s offered a t. Unit {0} };
 
     ghost failure_count = { λ s. s.inner.failures };
 
@@ -44,7 +44,7 @@ impl Sink for OneByte {
 pub struct Full;
 
 impl Sink for Full {
-    ghost write_takes = { λ s a t. Unit {0} };
+    ghost write_takes = { λ s offered a t. Unit {0} };
 
     ghost failure_count = { λ _. 0 };
 
@@ -166,7 +166,7 @@ mod tests {
         let mut counted = Counted::new(Vec::new(rt.alloc()));
         let mut writer = TextWriter::new(2, 2, 3);
         let block = [cell(0, 0, 1), cell(0, 1, 2)];
-        assert!(rt; are_within(LARGEST, LARGEST, &block));
+        assert!(rt; are_within(2, 2, &block));
         assert_eq!(rt; writer.write_cells(&mut counted, &block), Ok(()));
         assert_eq!(rt; writer.write_cells(&mut counted, &[]), Ok(()));
         let last = Cell {

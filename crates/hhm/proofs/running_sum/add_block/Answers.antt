@@ -1,16 +1,10 @@
 use Rattle.std.proofs.Common.{rules}
-use Rattle.hyper_matrix.specs.declared.judge.BuildFault.TheVariants.{IndexOutOfRange, SumTooLarge}
-use Rattle.hhm.proofs.SumLemmas.{block_passes, totals_pass, block_added}
+use Rattle.hhm.proofs.SumLemmas.{sum_passes, sum_fits, on_err, not_below}
 use Rattle.hhm.proofs.running_sum.add_block.Goals as goal
 
-pub returns-in-Err-SumTooLarge : goal.returns-in-Err-SumTooLarge
-returns-in-Err-SumTooLarge c = block_passes c.args.layers SumTooLarge c.args.block.now (search rules)
+pub returns-then-not-fits_beside-clause-ok : goal.returns-then-not-fits_beside-clause-ok
+returns-then-not-fits_beside-clause-ok c =
+    sum_passes c.args.layers c.args.block.now (not_below c.fits_beside.result _ _ c.fits_beside.ensures (search rules))
 
-pub returns-in-Err-IndexOutOfRange : goal.returns-in-Err-IndexOutOfRange
-returns-in-Err-IndexOutOfRange c = block_passes c.args.layers IndexOutOfRange c.args.block.now (search rules)
-
-pub returns-then-is_none : goal.returns-then-is_none
-returns-then-is_none c = totals_pass c.args.layers c.in-Ok.m _ _ c.args.block.now c.in-Ok.ensures.ok (search rules)
-
-pub returns : goal.returns
-returns c = block_added c.args.layers _ c.in-Ok.m _ _ c.args.block.now c.dims-rows.ensures.kept c.in-Ok.ensures.ok c.in_ok-layers.ensures
+pub returns-in_err-layers-clause-memory : goal.returns-in_err-layers-clause-memory
+returns-in_err-layers-clause-memory c = on_err _ _ (sum_fits c.args.layers c.args.block.now (search rules))

@@ -1,9 +1,11 @@
-use Rattle.std.proofs.Common.{◌≡◌, ap, subst, Err}
+use Rattle.std.proofs.Common.{◌≡◌, subst}
 use Rattle.byte_io.specs.Writing.{HasTaken, HasStopped}
 use Rattle.byte_io.specs.declared.fault.WriteFault.{WriteFault}
 use Rattle.hyper_matrix.specs.Matrix.{Matrix}
 use Rattle.hhm.specs.Sum.{matrix_text, sum_text}
-use Rattle.hhm.specs.declared.fault.SumFault.TheVariants.{SumTooLarge}
+use Rattle.hhm.specs.declared.fault.SumFault.TheVariants.{SumTooLarge, Memory}
+use Rattle.hhm.specs.Running.{RefusesSum}
+use Rattle.hhm.proofs.ReadLemmas.{unsummed_text}
 use Rattle.hhm.proofs.sum.run_sum.Goals as goal
 
 pub returns-in-Ok-write_sum-clause-ok : goal.returns-in-Ok-write_sum-clause-ok
@@ -43,5 +45,13 @@ returns-clause-too_large g c is =
       cols = size.cols;
       cells = summed.cells;
       reads_text = summed.reads_text;
-      passes = c.in-Err.ensures.passed (ap Err same) size.rows size.cols summed.cells summed.sum_is;
+      passes = subst (RefusesSum summed.cells) same (c.in-Err.ensures.err size.rows size.cols summed.cells summed.sum_is);
     }
+
+pub returns-clause-memory : goal.returns-clause-memory
+returns-clause-memory g c is =
+    let size = c.in_ok-sum.ensures.ok.0 in
+    let summed = c.in_ok-sum.ensures.ok.1 in
+    let same : c.in-Err.fault ≡ Memory = cc in
+    unsummed_text g.R.Source.read_gives g.R.Source.at_end g.R.Source.failure_count c.args.r.now c.read_running.new.r size.rows size.cols summed.cells summed.reads_text
+    (subst (RefusesSum summed.cells) same (c.in-Err.ensures.err size.rows size.cols summed.cells summed.sum_is))

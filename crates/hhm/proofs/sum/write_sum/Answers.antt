@@ -20,6 +20,7 @@ loop-cell-init g c =
       finite = tt;
       failures = refl;
       declared = lines_counted c.args.m.now c.entries.result _ _ c.entries.ensures c.new-writer.ensures.left order;
+      dims = (c.new-writer.ensures.dims.0 ∙ ap (λ d. d.0) c.dims-rows.ensures.value, c.new-writer.ensures.dims.1 ∙ ap (λ d. d.1) c.dims-rows.ensures.value);
       within = rw same c.iter-cell-items.ensures.within;
       written = (
         head,
@@ -38,6 +39,7 @@ loop-cell-preserved g c =
       finite = tt;
       failures = c.in_ok-write_cell.ensures.failures ∙ old.failures;
       declared = omega (arith, c.in_ok-write_cell.ensures.left, old.declared, ap length step);
+      dims = (c.in_ok-write_cell.ensures.dims.0 ∙ old.dims.0, c.in_ok-write_cell.ensures.dims.1 ∙ old.dims.1);
       within = within.1;
       written = (
         old.written.0 ++ entry_line c.in-Some.cell,

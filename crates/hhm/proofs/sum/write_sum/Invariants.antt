@@ -12,6 +12,7 @@ invariant-loop-cell g l = record {
   finite : (goal.iterator-loop-cell g).is_finite l.cell-iterator;
   failures : g.W.Sink.failure_count l.w ≡ g.W.Sink.failure_count l.initial.w;
   declared : l.writer.left ≡ length l.cell-iterator;
+  dims : (l.writer.rows ≡ l.m.rows) × (l.writer.cols ≡ l.m.cols);
   within : AllByRecursion (LiesWithin l.m.rows l.m.cols) l.cell-iterator;
   written : (text : List ℕ) × HasWritten g.W.Sink.write_takes g.W.Sink.failure_count l.initial.w l.w text l.writer
       × (text ++ entry_lines (map cell_of l.cell-iterator) ≡ matrix_text l.m);

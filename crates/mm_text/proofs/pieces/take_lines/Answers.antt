@@ -1,13 +1,8 @@
-use Rattle.std.proofs.Common.{arith, ◌≡◌, ◌++◌, ◌+◌, ◌-◌, length, take, drop, sym, ◌∙◌, refl, List, ℕ, [], length-take, length-drop}
+use Rattle.std.proofs.Common.{arith, ◌≡◌, ◌++◌, ◌+◌, ◌-◌, length, take, drop, [], length-take, length-drop}
 use Rattle.std.proofs.lemmas.Result.{err_from_is_err_and}
-use Rattle.std.proofs.lemmas.List.{take-append-drop, append-nil, take_rest, take-take, drop-take}
-use Rattle.mm_text.proofs.AdvanceLemmas.{advances_none, advances_append, shows_later}
+use Rattle.std.proofs.lemmas.List.{take-append-drop, append-nil, take_rest}
+use Rattle.mm_text.proofs.AdvanceLemmas.{advances_none, advances_append, shows_later, stops_later, take_two}
 use Rattle.mm_text.proofs.pieces.take_lines.Goals as goal
-
-take_two : (bytes : List ℕ) (s n : ℕ) → take (s + n) bytes ≡ take s bytes ++ take n (drop s bytes)
-take_two bytes s n =
-    let e : take s (take (s + n) bytes) ≡ take s bytes = take-take s (s + n) bytes (omega arith) in
-    sym (take-append-drop s (take (s + n) bytes)) ∙ rw (e, drop-take s n bytes) refl
 
 pub lines-init : goal.lines-init
 lines-init c = record {
@@ -15,6 +10,7 @@ lines-init c = record {
   count = omega arith;
   capacity = c.requires.capacity;
   room = c.requires.room;
+  grows = omega arith;
   advances = advances_none c.args.limits _ _ _ _;
 }
 
@@ -26,6 +22,12 @@ returns-in_err-taken-clause-err c =
     let later = shows_later c.args.limits (take c.lines.start c.args.bytes.now) (drop c.lines.start c.args.bytes.now) c.args.carry.now.items _ _ _ _ _ _ _ _ _ c.lines.invariant.advances
     (rw (take_rest c.args.bytes.now c.lines.start) at s) in
     rw (p.1, p.2) (rw whole at later)
+
+pub returns-in_err-taken-clause-kept : goal.returns-in_err-taken-clause-kept
+returns-in_err-taken-clause-kept c =
+    let p = err_from_is_err_and c.from_residual.result c.from_residual.ensures.1 in
+    let s = rw (take_rest c.args.bytes.now c.lines.start) at c.in_err-taken.ensures.kept in
+    rw p.1 (stops_later c.args.limits c.args.bytes.now c.lines.start c.args.carry.now.items _ _ _ _ _ _ _ _ c.lines.invariant.within c.lines.invariant.advances s)
 
 pub returns-then-taken-eq0-clause-ok : goal.returns-then-taken-eq0-clause-ok
 returns-then-taken-eq0-clause-ok c =
@@ -45,5 +47,6 @@ lines-preserved c =
       count = let h = c.in_ok-taken.ensures.count in let i = c.lines.invariant.count in omega arith;
       capacity = c.take_next.ensures.capacity;
       room = let r = c.in_ok-taken.ensures.room in let t = c.lines-test.true in let l = c.len.ensures in omega arith;
+      grows = let g = c.take_next.ensures.grows in let i = c.lines.invariant.grows in omega arith;
       advances = rw cut (advances_append c.args.limits (take c.lines.start c.args.bytes.now) (take c.in_ok-taken.taken (drop c.lines.start c.args.bytes.now)) c.args.carry.now.items _ _ _ _ _ _ _ _ _ _ _ c.lines.invariant.advances a);
     }

@@ -8,6 +8,7 @@ invariant-lines l = record {
   count : l.reading.lines ≤ l.fn.reading.lines + l.start;
   capacity : 1025 ≤ vec_capacity l.carry;
   room : length l.block.items ≤ l.most;
+  grows : vec_capacity l.fn.block ≤ vec_capacity l.block;
   advances : Advances l.limits (take l.start l.bytes) l.fn.carry.items l.fn.reading.stage l.fn.reading.lines l.fn.block.items l.carry.items l.reading.stage l.reading.lines l.block.items;
 }
 

@@ -1,6 +1,6 @@
 use Rattle.std.proofs.Common.{◌≡◌, [], arith, take}
-use Rattle.std.proofs.lemmas.Result.{err_from_is_err_and, IfOk-weaker, IfErr-weaker}
-use Rattle.mm_text.proofs.AdvanceLemmas.{advances_append, shows_later}
+use Rattle.std.proofs.lemmas.Result.{err_from_is_err_and, IfOk-weaker, IfErr-weaker, on_err_weaker}
+use Rattle.mm_text.proofs.AdvanceLemmas.{advances_append, shows_later, stops_later, stops_at_once}
 use Rattle.mm_text.proofs.pieces.take_next.Goals as goal
 
 pub returns-in_err-taken-clause-err : goal.returns-in_err-taken-clause-err
@@ -8,6 +8,19 @@ returns-in_err-taken-clause-err c =
     let p = err_from_is_err_and c.from_residual.result c.from_residual.ensures.1 in
     let s = rw c.as_slice.ensures.value at c.in_err-taken.ensures.err in
     rw (p.1, p.2) (s c.args.limits)
+
+pub returns-in_err-taken-clause-kept : goal.returns-in_err-taken-clause-kept
+returns-in_err-taken-clause-kept c =
+    let p = err_from_is_err_and c.from_residual.result c.from_residual.ensures.1 in
+    let s = rw c.as_slice.ensures.value at c.in_err-taken.ensures.kept in
+    rw p.1 (s c.args.limits)
+
+pub returns-clause-kept : goal.returns-clause-kept
+returns-clause-kept c =
+    let none : c.in_ok-taken.taken ≡ 0 = omega arith in
+    let s = rw (c.as_slice.ensures.value, none) at c.in_ok-taken.ensures.ok in
+    on_err_weaker c.take_line.result (λ e. stops_later c.args.limits c.args.bytes.now 0 c.args.carry.now.items _ _ _ _ _ _ _ _ (omega arith) (s c.args.limits)
+    (stops_at_once c.args.limits c.args.bytes.now _ _ _ _ _ e)) c.take_line.ensures.kept
 
 pub returns-clause-ok : goal.returns-clause-ok
 returns-clause-ok c =

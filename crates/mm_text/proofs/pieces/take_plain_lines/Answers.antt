@@ -17,5 +17,10 @@ returns-then-is_empty-clause-err c =
     let n : length c.args.carry.now ≡ 0 = grind (arith, nat_tests, c.is_empty.ensures, c.if-is_empty.true) in
     rw (no_bytes c.args.carry.now n) c.take_entries.ensures.err
 
+pub returns-then-is_empty-clause-kept : goal.returns-then-is_empty-clause-kept
+returns-then-is_empty-clause-kept c =
+    let n : length c.args.carry.now ≡ 0 = grind (arith, nat_tests, c.is_empty.ensures, c.if-is_empty.true) in
+    rw (no_bytes c.args.carry.now n) c.take_entries.ensures.kept
+
 pub returns-else-is_empty-clause-ok : goal.returns-else-is_empty-clause-ok
 returns-else-is_empty-clause-ok c = λ limits. advances_none limits c.args.carry.now _ _ _

@@ -1,4 +1,4 @@
-use Rattle.std.proofs.Common.{◌-◌, ◌+◌, ◌*◌, ◌≤◌, [], length, take}
+use Rattle.std.proofs.Common.{◌-◌, ◌+◌, ◌*◌, ◌≤◌, [], length, take, vec_capacity}
 use Rattle.mm_text.specs.Stages.{Advances}
 use Rattle.mm_text.specs.declared.limits.TextLimits.{TextLimits}
 use Rattle.mm_text.specs.declared.stages.Stage.TheVariants.{AtEntries}
@@ -10,6 +10,7 @@ invariant-entries l = record {
   count : l.lines ≤ l.fn.reading.lines + l.start;
   room : length l.block.items ≤ l.most;
   few : length l.block.items ≤ length l.fn.block.items + 2 * l.start;
+  grows : vec_capacity l.fn.block ≤ vec_capacity l.block;
   advances : (limits : TextLimits) → Advances limits (take l.start l.bytes) [] l.fn.reading.stage l.fn.reading.lines l.fn.block.items
       [] (AtEntries l.symmetric l.size l.seen) l.lines l.block.items;
 }

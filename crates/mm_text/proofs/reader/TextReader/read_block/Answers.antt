@@ -8,6 +8,7 @@ pieces-init g c = record {
   room = c.requires.room;
   goes = goes_none {S = g.row.R.Denot} g.R.Source.read_gives c.args.r.now c.args.self.now c.args.block.now.items;
   failures = refl;
+  grows = omega arith;
   size = λ s e. e;
 }
 
@@ -15,7 +16,7 @@ pub returns-in_err-take_pending-clause-err : goal.returns-in_err-take_pending-cl
 returns-in_err-take_pending-clause-err g c =
     let p = err_from_is_err_and c.from_residual.result c.from_residual.ensures.1 in
     rw (p.1, p.2) (stops_here {S = g.row.R.Denot} g.R.Source.read_gives c.args.r.now c.pieces.r c.args.self.now c.pieces.self c.args.block.now.items c.pieces.block.items c.pieces.invariant.goes
-    _ _ _ _ c.in_err-take_pending.ensures.err)
+    _ _ c.take_pending.new.block.items _ _ c.in_err-take_pending.ensures.kept c.in_err-take_pending.ensures.err)
 
 pub returns-then-most-len-le1-clause-ok : goal.returns-then-most-len-le1-clause-ok
 returns-then-most-len-le1-clause-ok g c =
@@ -40,7 +41,7 @@ returns-in_err-finish-clause-err g c =
     let none = c.if-branch-eq0.true in
     let end = c.in_ok-fill.ensures.end none in
     rw (p.1, p.2) (stops_end {S = g.row.R.Denot} g.R.Source.read_gives c.args.r.now c.pieces.r c.args.self.now c.take_pending.new.self c.args.block.now.items c.take_pending.new.block.items go
-    _ _ c.fill.new.r c.fill.new.self _ _ _ c.in_ok-fill.ensures.ok none end.0 c.in_err-finish.ensures.err)
+    _ _ c.fill.new.r c.fill.new.self c.finish.new.block.items _ _ _ c.in_ok-fill.ensures.ok none end.0 c.in_err-finish.ensures.kept c.in_err-finish.ensures.err)
 
 pub returns-then-branch-eq0-clause-ok : goal.returns-then-branch-eq0-clause-ok
 returns-then-branch-eq0-clause-ok g c =
@@ -65,5 +66,6 @@ pieces-preserved g c =
       goes = goes_fill {S = g.row.R.Denot} g.R.Source.read_gives c.args.r.now c.pieces.r c.args.self.now c.take_pending.new.self c.args.block.now.items c.take_pending.new.block.items go
           c.fill.new.r c.fill.new.self c.in_ok-fill.field-0 c.in_ok-fill.ensures.ok some;
       failures = c.in_ok-fill.ensures.no_failure ∙ c.pieces.invariant.failures;
+      grows = let g = c.take_pending.ensures.grows in let h = c.pieces.invariant.grows in omega arith;
       size = λ s e. same_size c.take_pending.new.self c.fill.new.self c.in_ok-fill.ensures.same s (c.in_ok-take_pending.ensures.ok.size_kept s (c.pieces.invariant.size s e));
     }

@@ -3,7 +3,7 @@ use Rattle.std.proofs.lemmas.Result.{err_from_is_err_and}
 use Rattle.mm_text.specs.Lines.{IsLine}
 use Rattle.mm_text.specs.declared.fault.MmKind.TheVariants.{TooLong}
 use Rattle.mm_text.specs.Readings.{pending}
-use Rattle.mm_text.proofs.ReaderLemmas.{takes_twice, shows_through, shows_too_long}
+use Rattle.mm_text.proofs.ReaderLemmas.{takes_twice, shows_through, shows_too_long, first_taken}
 use Rattle.mm_text.proofs.reader.TextReader.take_pending.Goals as goal
 
 pub returns-in_err-take_front-clause-err : goal.returns-in_err-take_front-clause-err
@@ -11,6 +11,15 @@ returns-in_err-take_front-clause-err c =
     let p = err_from_is_err_and c.from_residual-in_err-take_front.result c.from_residual-in_err-take_front.ensures.1 in
     let line : IsLine (pending c.take_whole.new.self) = c.in_ok-take_whole.ensures.rest (omega arith) in
     rw (p.1, p.2) (shows_through c.args.self.now c.take_whole.new.self c.args.block.now.items c.take_whole.new.block.items ⊥ ⊥ _ _ c.in_ok-take_whole.ensures.ok (c.in_err-take_front.ensures.err line))
+
+pub returns-in_err-take_front-clause-kept : goal.returns-in_err-take_front-clause-kept
+returns-in_err-take_front-clause-kept c =
+    let p = err_from_is_err_and c.from_residual-in_err-take_front.result c.from_residual-in_err-take_front.ensures.1 in
+    rw p.1 (first_taken c.args.self.now c.take_whole.new.self c.args.block.now.items c.take_whole.new.block.items c.in_ok-take_whole.ensures.ok)
+
+pub returns-then-self-eq0-clause-kept : goal.returns-then-self-eq0-clause-kept
+returns-then-self-eq0-clause-kept c =
+    first_taken c.args.self.now c.take_whole.new.self c.args.block.now.items c.take_whole.new.block.items c.in_ok-take_whole.ensures.ok
 
 pub returns-then-self-eq0-clause-err : goal.returns-then-self-eq0-clause-err
 returns-then-self-eq0-clause-err c =

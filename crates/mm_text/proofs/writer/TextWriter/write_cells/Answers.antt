@@ -12,7 +12,9 @@ pub loop-cell-preserved : goal.loop-cell-preserved
 loop-cell-preserved g c =
     let left = c.loop-cell.invariant.left in
     let next = c.in_ok-write_cell.ensures.left in
+    let dims = c.in_ok-write_cell.ensures.dims in
     record {
+      dims = (dims.0 ∙ c.loop-cell.invariant.dims.0, dims.1 ∙ c.loop-cell.invariant.dims.1);
       left = omega arith;
       failures = c.in_ok-write_cell.ensures.failures ∙ c.loop-cell.invariant.failures;
       written = λ s text h.

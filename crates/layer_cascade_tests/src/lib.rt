@@ -1,0 +1,7 @@
+//! Tests of the layers' public calls: worked examples, and layers beside one matrix that holds the same.
+#![tactic(auto)]
+
+#[cfg(test)]
+mod layers;
+#[cfg(test)]
+mod streams;

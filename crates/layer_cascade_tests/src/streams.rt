@@ -1,0 +1,226 @@
+//! Layers to which a stream of small matrices is added, beside the one matrix that all cells of the stream build.
+ghost use Rattle.std.specs.Prelude.{◌≡◌, ◌+◌, ◌<◌, ◌^◌};
+ghost use Rattle.hyper_matrix.specs.Counts.{total};
+ghost use Rattle.layer_cascade.specs.Cascade.{content};
+
+use cells::Cell;
+use hyper_matrix::{BuildFault, Hyper};
+use layer_cascade::Layers;
+use std::alloc::{AllocError, Global};
+use std::process::Abort;
+use std::test::Fail;
+
+/// How many cells each matrix of the stream is built from.
+const CELLS: u64 = 5;
+
+/// Cell `i` of a stream whose places repeat often.
+fn stream_cell(i: u64) -> Cell {
+    let mixed = i
+        .wrapping_add(1)
+        .wrapping_mul(0x9e37_79b9_7f4a_7c15)
+        .rotate_right(29)
+        .wrapping_mul(0xbf58_476d_1ce4_e5b9);
+    Cell {
+        row: (mixed >> 20) % 9,
+        col: (mixed >> 35) % 9,
+        count: (mixed >> 50) % 9,
+    }
+}
+
+/// The cells of the matrices at `from` and behind it, up to `to`.
+fn cells_of(alloc: Global, from: u64, to: u64) -> Result<Vec<Cell>, AllocError> {
+    let mut cells = Vec::new(alloc);
+    for i in from.wrapping_mul(CELLS)..to.wrapping_mul(CELLS) {
+        cells.push(stream_cell(i))?;
+    }
+    Ok(cells)
+}
+
+/// The sum of these matrices.
+fn sum_of(alloc: Global, from: u64, to: u64) -> Result<Hyper, BuildFault> {
+    match cells_of(alloc, from, to) {
+        Ok(cells) => Hyper::build(alloc, 9, 9, &cells),
+        Err(_) => Err(BuildFault::Memory),
+    }
+}
+
+/// Adds matrix `i` by a plan.
+fn add(alloc: Global, layers: &mut Layers, i: u64) -> Result<(), Fail> {
+    let m = sum_of(alloc, i, i.wrapping_add(1))?;
+    let fits = layers.total().checked_add(m.total()).is_some();
+    if layers.dims() == m.dims() && fits {
+        let plan = layers.plan(alloc, &m)?;
+        layers.commit(plan);
+    }
+    Ok(())
+}
+
+/// The layers with matrix `i`, given away.
+fn moved(alloc: Global, layers: Layers, i: u64) -> Result<Layers, Fail> {
+    let m = sum_of(alloc, i, i.wrapping_add(1))?;
+    let fits = layers.total().checked_add(m.total()).is_some();
+    if layers.dims() != m.dims() || !fits {
+        return Ok(layers);
+    }
+    let after = layers.add(alloc, m)?;
+    Ok(after)
+}
+
+/// Whether two matrices have the same cells.
+fn are_same(alloc: Global, a: &Hyper, b: &Hyper) -> Result<bool, AllocError> {
+    let cells = a.cells(alloc)?;
+    let others = b.cells(alloc)?;
+    Ok(cells.as_slice() == others.as_slice())
+}
+
+fn sum_is(alloc: Global, layers: &Layers, m: &Hyper) -> Result<bool, AllocError> {
+    let sum = layers.sum(alloc)?;
+    let same = are_same(alloc, &sum, m)?;
+    Ok(same && layers.total() == m.total())
+}
+
+fn look_ups_agree(layers: &Layers, m: &Hyper) -> bool {
+    for row in 0..10u64 {
+        let (a, b) = (layers.row_total(row), m.row_total(row));
+        if (a.entries, a.total) != (b.entries, b.total) {
+            return false;
+        }
+        for col in 0..10u64 {
+            if layers.get(row, col) != m.get(row, col) {
+                return false;
+            }
+        }
+    }
+    true
+}
+
+fn keeps_cuts(layers: &Layers) -> bool {
+    for (i, cut) in layers.cuts().iter().enumerate() {
+        match layers.layer_entries(i.saturating_add(1)) {
+            Some(entries) if entries <= *cut => {}
+            _ => return false,
+        }
+    }
+    true
+}
+
+/// Whether layers with the first so many matrices of the stream hold what these build.
+fn holds_first(alloc: Global, layers: &Layers, matrices: u64) -> Result<bool, Fail> {
+    let m = sum_of(alloc, 0, matrices)?;
+    let same = sum_is(alloc, layers, &m)?;
+    Ok(same && keeps_cuts(layers) && look_ups_agree(layers, &m))
+}
+
+const ALL_CUTS: [&[u64]; 6] = [
+    &[],
+    &[1],
+    &[20],
+    &[1, 2, 3],
+    &[5, 12, 30],
+    &[4, 5, 10, 11, 20, 40, 60],
+];
+
+fn check_planned(rt: &impl Abort, alloc: Global, cuts: &[u64]) -> Result<(), Fail> {
+    let mut layers = Layers::new(alloc, 9, 9, cuts)?;
+    for i in 0..20u64 {
+        add(alloc, &mut layers, i)?;
+        assert!(rt;
+            holds_first(alloc, &layers, i.wrapping_add(1))?,
+            "after {i}"
+        );
+    }
+    Ok(())
+}
+
+#[test]
+fn layers_agree_with_one_matrix(rt: HostRuntime) -> Result<(), Fail> {
+    for cuts in ALL_CUTS {
+        check_planned(&rt, rt.alloc(), cuts)?;
+    }
+    assert!(rt; sum_of(rt.alloc(), 0, 20)?.entries() > 50);
+    Ok(())
+}
+
+/// Whether the layers have the same number of entries, layer by layer.
+fn have_same_sizes(a: &Layers, b: &Layers) -> bool {
+    for i in 1..9usize {
+        if a.layer_entries(i) != b.layer_entries(i) {
+            return false;
+        }
+    }
+    true
+}
+
+/// Gives layers away with a matrix while a plan of the same addition shares them, which is then committed to others.
+fn add_while_shared(
+    alloc: Global,
+    layers: Layers,
+    m: Hyper,
+    others: &mut Layers,
+) -> Result<Layers, AllocError>
+    requires rows { m.rows ≡ layers.rows }
+    requires cols { m.cols ≡ layers.cols }
+    requires fits { total (content layers.layers) + total m.counts < 2 ^ 64 }
+{
+    let plan = layers.plan(alloc, &m)?;
+    let after = layers.add(alloc, m)?;
+    others.commit(plan);
+    Ok(after)
+}
+
+fn moved_while_shared(
+    alloc: Global,
+    layers: Layers,
+    others: &mut Layers,
+    i: u64,
+) -> Result<Layers, Fail> {
+    let m = sum_of(alloc, i, i.wrapping_add(1))?;
+    let fits = layers.total().checked_add(m.total()).is_some();
+    if layers.dims() != m.dims() || !fits {
+        return Ok(layers);
+    }
+    let after = add_while_shared(alloc, layers, m, others)?;
+    Ok(after)
+}
+
+fn check_shared(rt: &impl Abort, alloc: Global, cuts: &[u64]) -> Result<(), Fail> {
+    let mut layers = Layers::new(alloc, 9, 9, cuts)?;
+    let mut others = Layers::new(alloc, 9, 9, cuts)?;
+    for i in 0..20u64 {
+        layers = moved_while_shared(alloc, layers, &mut others, i)?;
+        assert!(rt; have_same_sizes(&layers, &others), "after {i}");
+        assert!(rt;
+            holds_first(alloc, &layers, i.wrapping_add(1))?,
+            "after {i}"
+        );
+        assert!(rt;
+            holds_first(alloc, &others, i.wrapping_add(1))?,
+            "after {i}"
+        );
+    }
+    Ok(())
+}
+
+fn into_sum_is(alloc: Global, layers: Layers, m: &Hyper) -> Result<bool, AllocError> {
+    let sum = layers.into_sum(alloc)?;
+    are_same(alloc, &sum, m)
+}
+
+fn check_alone(rt: &impl Abort, alloc: Global, cuts: &[u64]) -> Result<(), Fail> {
+    let mut layers = Layers::new(alloc, 9, 9, cuts)?;
+    for i in 0..20u64 {
+        layers = moved(alloc, layers, i)?;
+    }
+    assert!(rt; holds_first(alloc, &layers, 20)?);
+    assert!(rt; into_sum_is(alloc, layers, &sum_of(alloc, 0, 20)?)?);
+    Ok(())
+}
+
+#[test]
+fn layers_given_away_agree_with_plans(rt: HostRuntime) -> Result<(), Fail> {
+    for cuts in ALL_CUTS {
+        check_shared(&rt, rt.alloc(), cuts)?;
+        check_alone(&rt, rt.alloc(), cuts)?;
+    }
+    Ok(())
+}

@@ -1,0 +1,321 @@
+#!/usr/bin/env python3
+"""Runs the built program on tables of command lines and texts, and compares what it writes and how it ends.
+
+    python3 tests/program.py PATH-TO-HHM
+
+What is wanted was worked out by hand from docs/FORMATS.md, and never comes from the program's own output. It prints a
+line for each case that fails and at the end `N passed, M failed`; the status is 1 where one fails. Linux, and nothing
+but Python's own library.
+"""
+import os
+import resource
+import signal
+import subprocess
+import sys
+import tempfile
+from typing import NamedTuple
+
+HERE = os.path.dirname(os.path.abspath(__file__))
+BANNER = "%%MatrixMarket matrix coordinate integer general\n"
+SYMMETRIC = "%%MatrixMarket matrix coordinate integer symmetric\n"
+MOST = 2**64 - 1
+SIZE = 2**60
+SMALL = BANNER + "3 3 4\n1 1 5\n3 2 7\n1 1 2\n2 3 0\n"
+SMALL_SUM = BANNER + "3 3 3\n1 1 7\n2 3 0\n3 2 7\n"
+
+# Some text, which is not fixed: what `clap` prints.
+SOME = object()
+
+
+class Case(NamedTuple):
+    """A run of the program: what it is given, and what is wanted of it."""
+
+    name: str
+    words: list
+    text: str = ""
+    output: object = ""
+    error: object = ""
+    status: int = 0
+
+
+# Cuts change nothing of a sum: each text of a sum is summed with each of these.
+CUTS = ["none", "1", "1,2,3", "4096", "4096,65536,1048576", "2,3,5,8,13,21,1099511627776"]
+
+# A name, a text, and the canonical text of its sum.
+SUMS = [
+    ("a cell twice", SMALL, SMALL_SUM),
+    ("no cells", BANNER + "3 3 0\n", BANNER + "3 3 0\n"),
+    ("a stored zero", BANNER + "2 4 1\n2 3 0\n", BANNER + "2 4 1\n2 3 0\n"),
+    (
+        "cells in reverse order",
+        BANNER + "3 3 6\n3 3 1\n3 2 1\n3 1 1\n2 3 1\n1 3 1\n1 2 1\n",
+        BANNER + "3 3 6\n1 2 1\n1 3 1\n2 3 1\n3 1 1\n3 2 1\n3 3 1\n",
+    ),
+    (
+        "the last place",
+        f"{BANNER}{SIZE} {SIZE} 1\n{SIZE} {SIZE} 1\n",
+        f"{BANNER}{SIZE} {SIZE} 1\n{SIZE} {SIZE} 1\n",
+    ),
+    ("symmetric", SYMMETRIC + "3 3 2\n2 1 4\n3 3 1\n", BANNER + "3 3 3\n1 2 4\n2 1 4\n3 3 1\n"),
+    (
+        "symmetric on both sides of the diagonal",
+        SYMMETRIC + "3 3 3\n2 1 4\n1 2 3\n2 2 1\n",
+        BANNER + "3 3 3\n1 2 7\n2 1 7\n2 2 1\n",
+    ),
+    (
+        "capitals, tabs, CR LF, a plus, leading zeros and no last LF",
+        "%%MATRIXMARKET MATRIX COORDINATE INTEGER GENERAL\r\n2\t2 1\r\n% note\r\n +2\t01 007",
+        BANNER + "2 2 1\n2 1 7\n",
+    ),
+    (
+        "comments and blank lines",
+        "%%matrixmarket matrix coordinate unsigned-integer general \n%\n\n \t\n"
+        "+2 +2 +3\n\n1 1 1\n% 9 9 9\n1 1 +1\n2 2 0\n\n",
+        BANNER + "2 2 2\n1 1 2\n2 2 0\n",
+    ),
+    (
+        "the greatest count of a cell",
+        f"{BANNER}1 1 2\n1 1 {2**63}\n1 1 {2**63 - 1}\n",
+        f"{BANNER}1 1 1\n1 1 {MOST}\n",
+    ),
+    (
+        "the greatest total of two cells",
+        f"{BANNER}9 9 2\n9 1 {2**63 - 1}\n1 9 {2**63}\n",
+        f"{BANNER}9 9 2\n1 9 {2**63}\n9 1 {2**63 - 1}\n",
+    ),
+    (
+        "a comment of 100,000 bytes",
+        BANNER + "%" + "x" * 100_000 + "\n1 1 1\n1 1 3\n",
+        BANNER + "1 1 1\n1 1 3\n",
+    ),
+    *[
+        (f"one cell in {n:,} lines", f"{BANNER}3 3 {n}\n" + "1 1 1\n" * n, f"{BANNER}3 3 1\n1 1 {n}\n")
+        for n in [4_095, 4_096, 4_097, 8_192, 8_193]
+    ],
+    (
+        "20,000 distinct cells, last to first",
+        f"{BANNER}20000 20000 20000\n" + "".join(f"{n} {20_001 - n} {n}\n" for n in range(20_000, 0, -1)),
+        f"{BANNER}20000 20000 20000\n" + "".join(f"{n} {20_001 - n} {n}\n" for n in range(1, 20_001)),
+    ),
+]
+
+# A text, and the fault that is told of it.
+FAULTS = [
+    ("", "BadBanner at line 1"),
+    ("MatrixMarket\n", "BadBanner at line 1"),
+    ("%%MatrixMarket matrix coordinate real general\n3 3 0\n", "Unsupported at line 1"),
+    (BANNER, "BadSize at line 2"),
+    (BANNER + "3 3\n", "BadSize at line 2"),
+    (BANNER + "\n0 3 0\n", "BadDimension at line 3"),
+    (f"{BANNER}{SIZE + 1} 3 1\n", "BadDimension at line 2"),
+    (SYMMETRIC + "2 3 0\n", "NotSquare at line 2"),
+    (f"{BANNER}3 3 {2**40 + 1}\n", "TooManyEntries at line 2"),
+    (BANNER + "3 3 2\n1 1 5\n1 1 x\n", "BadEntry at line 4"),
+    (BANNER + "3 3 1\n1 1 -0\n", "Negative at line 3"),
+    (f"{BANNER}3 3 1\n1 1 {2**64}\n", "NumberTooLarge at line 3"),
+    (BANNER + "3 3 1\n0 1 1\n", "IndexOutOfRange at line 3"),
+    (BANNER + "3 3 1\n1 4 1\n", "IndexOutOfRange at line 3"),
+    (f"{BANNER}{SIZE} {SIZE} 1\n{SIZE + 1} 1 1\n", "IndexOutOfRange at line 3"),
+    (BANNER + "3 3 2\n1 1 5\n", "TooFewEntries at line 4"),
+    (BANNER + "3 3 1\n1 1 5\n2 2 5\n", "ExtraText at line 4"),
+    (BANNER + " " * 1_025, "LineTooLong at line 2"),
+    (BANNER + " " * 1_025 + "\n3 3 0\n", "LineTooLong at line 2"),
+    (f"{BANNER}3 3 9000\n" + "1 1 1\n" * 8_999 + "1 1\n", "BadEntry at line 9002"),
+    # The total passes 2^64 - 1 before the fault, which is told all the same.
+    (f"{BANNER}3 3 2\n1 1 {MOST}\n1 1 1\nx\n", "ExtraText at line 5"),
+    (f"{BANNER}3 3 3\n1 1 {MOST}\n2 2 1\n", "TooFewEntries at line 5"),
+    (f"{BANNER}3 3 9002\n1 1 {MOST}\n3 2 1\n" + "2 1 0\n" * 9_000 + "1 1 1\n", "ExtraText at line 9005"),
+]
+
+# Texts whose counts add up to more than 2^64 - 1.
+TOO_LARGE = [
+    ("in one cell", f"{BANNER}3 3 2\n1 1 {2**63}\n1 1 {2**63}\n"),
+    ("over two cells", f"{BANNER}3 3 2\n1 1 {2**63}\n3 2 {2**63}\n"),
+    ("by far", f"{BANNER}3 3 3\n1 1 {MOST}\n2 2 {MOST}\n3 3 {MOST}\n"),
+    ("by one", f"{BANNER}3 3 2\n1 1 1\n3 2 {MOST}\n"),
+    ("by a symmetric pair", f"{SYMMETRIC}3 3 1\n2 1 {2**63}\n"),
+    ("9,000 lines later", f"{BANNER}3 3 9002\n1 1 {2**63}\n" + "2 1 0\n" * 9_000 + f"3 2 {2**63}\n"),
+    ("before 5,000 lines", f"{BANNER}3 3 5002\n1 1 {2**63}\n3 2 {2**63}\n" + "2 1 0\n" * 5_000),
+]
+
+# Lists of cuts that are taken.
+GOOD_CUTS = ["0001", "00000000000000000001,2", "1,2,3,4,5,6,7", str(2**40)]
+
+# Words that are no list: no number, or one above 2^64 - 1.
+NO_LISTS = [
+    "", ",", "1,", ",1", "1,,2", "1, 2", "1;2", "+1", "-1", "-0", "1,-2", "1,+2", " 1", "1 ", "1_0", "1.0", "0x1",
+    "1e3", "\u0661", "None", "NONE", "none,1", "1,none", "none ", str(2**64), f"1,{2**64}", "9" * 20, "0" * 21,
+    "0" * 20 + "1", "0,x",
+]  # fmt: skip
+
+# Lists that are no cuts: a number outside 1 to 2^40, numbers that don't rise, or more than seven.
+BAD_CUTS = ["0", "0,1", str(2**40 + 1), f"1,{2**40 + 1}", "4,4", "5,4", "1,2,3,4,5,6,7,8", str(MOST), "0" * 20]
+
+# Command lines that are not read.
+NO_COMMANDS = [
+    [],
+    ["sun"],
+    ["sum", "a"],
+    ["sum", "--cuts"],
+    ["sum", "--cuts", "1", "--cuts", "2"],
+    ["sum", "--cut", "1"],
+]
+
+
+def refused(name, cuts, text, fault, status):
+    """A sum that writes nothing but the line of its fault."""
+    return Case(name, ["sum", f"--cuts={cuts}"], text, error=f"hhm: {fault}\n", status=status)
+
+
+def table():
+    """All cases of the tables above."""
+    for name, text, output in SUMS:
+        yield Case(f"{name}, default cuts", ["sum"], text, output)
+        for cuts in CUTS:
+            yield Case(f"{name}, cuts {cuts}", ["sum", "--cuts", cuts], text, output)
+    for text, fault in FAULTS:
+        for cuts in CUTS[:4]:
+            yield refused(f"{fault}, cuts {cuts}", cuts, text, f"text: {fault}", 3)
+    for name, text in TOO_LARGE:
+        for cuts in CUTS:
+            yield refused(f"too large {name}, cuts {cuts}", cuts, text, "sum: SumTooLarge", 3)
+    for word in GOOD_CUTS:
+        yield Case(f"cuts {word}", ["sum", f"--cuts={word}"], SMALL, SMALL_SUM)
+    for word in NO_LISTS:
+        yield refused(f"cuts {word!r}", word, SMALL, "settings: BadNumber", 2)
+    for word in BAD_CUTS:
+        yield refused(f"cuts {word!r}", word, SMALL, "settings: BadCuts", 2)
+    for words in NO_COMMANDS:
+        yield Case(f"hhm {' '.join(words)}", words, error=SOME, status=2)
+    yield Case("an argument that isn't UTF-8", ["sum", b"--cuts=\xff"], error=SOME, status=2)
+    for words in [["--help"], ["sum", "--help"]]:
+        yield Case(f"hhm {' '.join(words)}", words, output=SOME)
+    yield Case("hhm --version", ["--version"], output="hhm 0.1.0\n")
+
+
+def differences(case, output, error, status):
+    """What is not as the case wants it."""
+    for what, wanted, found in [("output", case.output, output), ("error", case.error, error)]:
+        if wanted is SOME:
+            if not found:
+                yield f"no {what}"
+        elif found != wanted.encode():
+            yield f"{what} {found[:200]!r} in place of {wanted[:200]!r}"
+    if status != case.status:
+        yield f"status {status} in place of {case.status}"
+
+
+def run(program, case, **how):
+    """Runs a case, with other devices where `how` names them, and gives what is wrong."""
+    how.setdefault("stdout", subprocess.PIPE)
+    if "stdin" not in how:
+        how["input"] = case.text.encode()
+    ended = subprocess.run([program, *case.words], stderr=subprocess.PIPE, timeout=60, **how)
+    output = how["stdout"]
+    if output == subprocess.PIPE:
+        written = ended.stdout
+    else:
+        output.seek(0)
+        written = output.read()
+    return list(differences(case, written, ended.stderr, ended.returncode))
+
+
+def a_folder_as_input(program):
+    folder = os.open(HERE, os.O_RDONLY)
+    try:
+        for case in [
+            refused("a folder as standard input", "1", "", "text: Read at line 1", 4),
+            # Cuts are judged before anything is read.
+            refused("bad cuts and a folder as standard input", "0", "", "settings: BadCuts", 2),
+        ]:
+            yield case.name, run(program, case, stdin=folder)
+    finally:
+        os.close(folder)
+
+
+def an_output_that_fails(program):
+    """Closed, and with room for so many bytes."""
+    none = Case("a closed standard output", ["sum"], SMALL, error="hhm: output failed after 0 bytes\n", status=4)
+    with tempfile.TemporaryFile() as output:
+        yield none.name, run(program, none, stdout=output, preexec_fn=lambda: os.close(1))
+    long = f"{BANNER}5000 1 5000\n" + "".join(f"{n} 1 {n}\n" for n in range(1, 5_001))
+    for text, output, room in [
+        (SMALL, SMALL_SUM, 0),
+        (SMALL, SMALL_SUM, 50),
+        (long, long, 16_384),
+        (long, long, 40_000),
+    ]:
+        error = f"hhm: output failed after {room} bytes\n"
+        case = Case(f"room for {room} of {len(output)} bytes", ["sum"], text, output[:room], error, 4)
+
+        def with_room(room=room):
+            signal.signal(signal.SIGXFSZ, signal.SIG_IGN)
+            resource.setrlimit(resource.RLIMIT_FSIZE, (room, room))
+
+        with tempfile.TemporaryFile() as file:
+            yield case.name, run(program, case, stdout=file, preexec_fn=with_room)
+
+
+def an_input_that_stays_open(program):
+    """A fault is told once its place was read, whatever may follow."""
+    text = BANNER + "3 3 9\n0 1 1\n"
+    case = refused("a fault in an input that stays open", "1", text, "text: IndexOutOfRange at line 3", 3)
+    given, giving = os.pipe()
+    try:
+        os.write(giving, text.encode())
+        yield case.name, run(program, case, stdin=given)
+    finally:
+        os.close(given)
+        os.close(giving)
+
+
+def a_limit_of_memory(program):
+    """With 32 MiB of addresses a small text is summed, and a million cells in as many rows are not."""
+
+    def with_little_memory():
+        resource.setrlimit(resource.RLIMIT_AS, (1 << 25, 1 << 25))
+
+    cells = f"{BANNER}1000000 1000000 1000000\n" + "".join(f"{n} {n} 1\n" for n in range(1, 1_000_001))
+    for case in [
+        Case("a small text with little memory", ["sum"], SMALL, SMALL_SUM),
+        refused("a million cells with little memory", "4096", cells, "memory", 5),
+    ]:
+        yield case.name, run(program, case, preexec_fn=with_little_memory)
+
+
+def the_example(program):
+    """The example of README.md: the block there is what the program writes."""
+    with open(os.path.join(HERE, "..", "README.md"), encoding="utf-8") as readme:
+        blocks = readme.read().split("```\n")[1::2]
+    wanted = next((block for block in blocks if block.startswith(BANNER)), "no block with a text")
+    case = Case("the example of README.md", ["sum"], "", wanted)
+    with open(os.path.join(HERE, "..", "examples", "packets.mtx"), "rb") as text:
+        yield case.name, run(program, case, stdin=text)
+
+
+DEVICES = [a_folder_as_input, an_output_that_fails, an_input_that_stays_open, a_limit_of_memory, the_example]
+
+
+def results(program):
+    """The name of each case, and what is wrong with it."""
+    for case in table():
+        yield case.name, run(program, case)
+    for device in DEVICES:
+        yield from device(program)
+
+
+def main():
+    if len(sys.argv) != 2:
+        print(__doc__.strip())
+        sys.exit(2)
+    passed = failed = 0
+    for name, wrong in results(os.path.abspath(sys.argv[1])):
+        passed, failed = passed + (not wrong), failed + bool(wrong)
+        if wrong:
+            print(f"FAILED {name}: {'; '.join(wrong)}")
+    print(f"{passed} passed, {failed} failed")
+    sys.exit(1 if failed else 0)
+
+
+if __name__ == "__main__":
+    main()
