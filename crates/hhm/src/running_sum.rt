@@ -1,6 +1,6 @@
 //! The sum of the cells so far: layers, as long as the counts fit 64 bits together.
 //!
-//! A block of cells is built into a small matrix, which is added into the layers; so most additions touch the small
+//! A block of cells is sorted, with the counts of equal places added up, and added into the layers; so most additions touch the small
 //! layers alone. Whether the counts still fit is judged first, so that want of memory never stands for a total that is
 //! too large. Once the total has passed 2^64 - 1 nothing is added any more, and memory is given back: the text is only
 //! read to its end, since a fault in it is told first.
@@ -16,8 +16,8 @@ ghost use Rattle.layer_cascade.specs.Layering.{no_layers};
 ghost use Rattle.hhm.specs.Running.{CanTake, LayersSum, IsSumOf, RefusesSum};
 
 use crate::fault::SumFault;
-use cells::Cell;
-use hyper_matrix::{BuildFault, Hyper};
+use cells::{Cell, summed};
+use hyper_matrix::Hyper;
 use layer_cascade::{CascadeFault, Layers};
 use std::alloc::{AllocError, Global};
 
@@ -62,16 +62,8 @@ fn with_block(alloc: Global, layers: Layers, block: &[Cell]) -> Result<Layers, A
     requires fits { total (content layers.layers) + cell_total block.now < 2 ^ 64 }
     ensures { IfOk result (λ after. (rows cols : ℕ) (cells : List Cell) → LayersSum rows cols cells layers → LayersSum rows cols (cells ++ block.now) after) }
 {
-    let (rows, cols) = layers.dims();
-    match Hyper::build(alloc, rows, cols, block) {
-        Ok(m) => {
-            let after = layers.add(alloc, m)?;
-            Ok(after)
-        }
-        Err(BuildFault::Memory) => Err(AllocError),
-        Err(BuildFault::IndexOutOfRange) => unreachable!(),
-        Err(BuildFault::SumTooLarge) => unreachable!(),
-    }
+    let list = summed(alloc, block)?;
+    layers.add_cells(alloc, &list)
 }
 
 // Whether the counts of a block fit beside those of the layers.

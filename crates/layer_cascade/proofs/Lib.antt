@@ -4,3 +4,4 @@ pub mod LayerLemmas
 pub mod KeptLemmas
 pub mod RowLemmas
 pub mod CarryLemmas
+pub mod FirstLayerLemmas

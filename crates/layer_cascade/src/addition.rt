@@ -6,15 +6,19 @@
 ghost use Rattle.std.specs.Prelude.{◌≡◌, ℕ, suc, ◌+◌, ◌<◌, ◌^◌, ◌++◌, ◌∷◌, IfOk, OnOk, length, drop, replicate};
 ghost use Rattle.std.specs.Arc.{arc_value};
 ghost use Rattle.std.specs.FinMap.{empty as no_counts};
-ghost use Rattle.cells.specs.Bounds.{IsDimension};
+ghost use Rattle.cells.specs.Bounds.{IsDimension, AreWithin};
+ghost use Rattle.cells.specs.Order.{Rise};
+ghost use Rattle.hyper_matrix.specs.Cells.{built_of, cell_total};
 ghost use Rattle.hyper_matrix.specs.Counts.{ewise_add, total};
 ghost use Rattle.hyper_matrix.specs.Matrix.{matrix};
 ghost use Rattle.layer_cascade.specs.Cascade.{content, cascade, with_first, EndsAt};
 ghost use Rattle.layer_cascade.specs.Shared.{values, all_counts, HaveDims};
 
+use cells::Cell;
 use hyper_matrix::Hyper;
 use std::alloc::{AllocError, Global};
 use std::collections::VecDeque;
+use std::mem;
 use std::sync::Arc;
 
 /// Where the cascade of a matrix ends.
@@ -111,17 +115,24 @@ pub fn layers_after(
     Ok(after)
 }
 
-// The sum of a matrix and a layer, both given away. A layer that somebody else shares stays there as it was.
+// A layer's matrix, given away. A layer that somebody else shares stays there as it was, and this is its copy.
+fn own_matrix(alloc: Global, layer: Arc<Hyper>) -> Result<Hyper, AllocError>
+    ensures { IfOk result (λ m. m ≡ arc_value layer) }
+{
+    match Arc::try_unwrap(layer) {
+        Ok(layer) => Ok(layer),
+        Err(shared) => shared.copy(alloc),
+    }
+}
+
+// The sum of a matrix and a layer, both given away.
 fn with_layer(alloc: Global, sum: Hyper, layer: Arc<Hyper>) -> Result<Hyper, AllocError>
     requires rows { sum.rows ≡ (arc_value layer).rows }
     requires cols { sum.cols ≡ (arc_value layer).cols }
     requires fits { total sum.counts + total (arc_value layer).counts < 2 ^ 64 }
     ensures { IfOk result (λ m. m ≡ record sum { counts = ewise_add sum.counts (arc_value layer).counts }) }
 {
-    let layer = match Arc::try_unwrap(layer) {
-        Ok(layer) => layer,
-        Err(shared) => shared.copy(alloc)?,
-    };
+    let layer = own_matrix(alloc, layer)?;
     let sum = sum.into_sum(alloc, layer)?;
     Ok(sum)
 }
@@ -157,6 +168,33 @@ pub fn cascaded(
         let none = Arc::try_clone(empty)?;
         after.push(none)?;
     }
+    Ok(after)
+}
+
+/// The layers once a list of cells was added to them, in which each place stands once, by row and then by column: as
+/// `cascaded` with the matrix that the list builds. The list is added to the first layer, and goes on with it.
+pub fn cascaded_cells(
+    alloc: Global,
+    layers: Vec<Arc<Hyper>>,
+    cuts: &[u64],
+    empty: &Arc<Hyper>,
+    cells: &[Cell],
+) -> Result<Vec<Arc<Hyper>>, AllocError>
+    requires count { length layers.items ≡ length cuts.now + 1 }
+    requires dims { HaveDims (arc_value empty.now).rows (arc_value empty.now).cols (values layers.items) }
+    requires none { (arc_value empty.now).counts ≡ no_counts }
+    requires rises { Rise cells.now }
+    requires within { AreWithin (arc_value empty.now).rows (arc_value empty.now).cols cells.now }
+    requires fits { total (content (all_counts (values layers.items))) + cell_total cells.now < 2 ^ 64 }
+    ensures counts { IfOk result (λ after. all_counts (values after.items) ≡ cascade (all_counts (values layers.items)) cuts.now (built_of cells.now)) }
+    ensures dims { IfOk result (λ after. HaveDims (arc_value empty.now).rows (arc_value empty.now).cols (values after.items)) }
+{
+    let mut layers = layers;
+    let none = Arc::try_clone(empty)?;
+    let first = mem::replace(&mut layers[0], none);
+    let first = own_matrix(alloc, first)?;
+    let sum = first.into_sum_with_cells(alloc, cells)?;
+    let after = cascaded(alloc, layers, cuts, empty, sum)?;
     Ok(after)
 }
 

@@ -10,7 +10,9 @@
 //! `Layers::into_sum` build the sum.
 ghost use Rattle.std.specs.Prelude.{◌≡◌, ℕ, ◌+◌, ◌<◌, ◌≤◌, ◌^◌, ◌⊎◌, ◌↔◌, IfOk, IfSome};
 ghost use Rattle.std.specs.FinMap.{get, len};
-ghost use Rattle.cells.specs.Bounds.{IsDimension};
+ghost use Rattle.cells.specs.Bounds.{IsDimension, AreWithin};
+ghost use Rattle.cells.specs.Order.{Rise};
+ghost use Rattle.hyper_matrix.specs.Cells.{built_of, cell_total};
 ghost use Rattle.hyper_matrix.specs.Counts.{total};
 ghost use Rattle.hyper_matrix.specs.Matrix.{matrix};
 ghost use Rattle.layer_cascade.specs.Cascade.{cascade, content};
@@ -19,10 +21,13 @@ ghost use Rattle.hyper_matrix.specs.RowOf.{row_of};
 ghost use Rattle.layer_cascade.specs.Columns.{FirstColumn};
 ghost use Rattle.layer_cascade.specs.Layering.{IsLayering, no_layers, entries_of_layer};
 
-use crate::addition::{added, cascade_end, cascaded, layers_after, push_copies, sum_of_layers};
+use crate::addition::{
+    added, cascade_end, cascaded, cascaded_cells, layers_after, push_copies, sum_of_layers,
+};
 use crate::cuts::are_cuts;
 use crate::fault::CascadeFault;
 use crate::lookup::{column_from, earlier, plus};
+use cells::Cell;
 use hyper_matrix::{Hyper, RowSum};
 use std::alloc::{AllocError, Global};
 use std::marker::Model;
@@ -193,6 +198,28 @@ impl Layers {
         ensures { IfOk result (λ after. after ≡ record self { layers = cascade self.layers self.cuts m.counts }) }
     {
         let layers = cascaded(alloc, self.layers, &self.cuts, &self.empty, m)?;
+        Ok(Layers {
+            rows: self.rows,
+            cols: self.cols,
+            cuts: self.cuts,
+            empty: self.empty,
+            layers,
+        })
+    }
+
+    /// The layers with a list of cells added in which each place stands once, by row and then by column: as `add` with
+    /// the matrix that the list builds, and that matrix isn't made.
+    ///
+    /// # Errors
+    ///
+    /// A growth was refused. The layers are gone then.
+    pub fn add_cells(self, alloc: Global, cells: &[Cell]) -> Result<Layers, AllocError>
+        requires rises { Rise cells.now }
+        requires within { AreWithin self.rows self.cols cells.now }
+        requires fits { total (content self.layers) + cell_total cells.now < 2 ^ 64 }
+        ensures { IfOk result (λ after. after ≡ record self { layers = cascade self.layers self.cuts (built_of cells.now) }) }
+    {
+        let layers = cascaded_cells(alloc, self.layers, &self.cuts, &self.empty, cells)?;
         Ok(Layers {
             rows: self.rows,
             cols: self.cols,

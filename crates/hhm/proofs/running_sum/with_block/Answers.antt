@@ -2,7 +2,7 @@ use Rattle.std.proofs.Common.{ap, arith, rules}
 use Rattle.hyper_matrix.specs.Counts.{total}
 use Rattle.hyper_matrix.specs.Matrix.{Matrix}
 use Rattle.hyper_matrix.specs.declared.judge.BuildFault.TheVariants.{IndexOutOfRange, SumTooLarge}
-use Rattle.hyper_matrix.proofs.BuildLaws.{total-built_of}
+use Rattle.hyper_matrix.proofs.ListLaws.{total-built_of}
 use Rattle.hhm.proofs.SumLemmas.{fits_no_fault, block_added}
 use Rattle.hhm.proofs.running_sum.with_block.Goals as goal
 
