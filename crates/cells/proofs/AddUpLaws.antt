@@ -35,7 +35,7 @@ module _ (a b m : Cell) (row : a.row ≡ b.row) (col : a.col ≡ b.col) (m_row :
       ap (λ t. cond t (Some (m.count + unwrap_or (sum_at q rest) 0)) (sum_at q rest)) (ap (λ r. (eqb q.0 r) && (eqb q.1 m.col)) m_row ∙ ap (λ c. (eqb q.0 a.row) && (eqb q.1 c)) m_col)
       ∙ step (stands_at q a)
       ∙ ap (λ t. cond (stands_at q a) (Some (a.count + unwrap_or (cond t (Some (b.count + unwrap_or (sum_at q rest) 0)) (sum_at q rest)) 0)) (cond t (Some (b.count + unwrap_or (sum_at q rest) 0)) (sum_at q rest)))
-          (ap (λ r. (eqb q.0 r) && (eqb q.1 a.col)) row ∙ ap (λ c. (eqb q.0 b.row) && (eqb q.1 c)) col)
+      (ap (λ r. (eqb q.0 r) && (eqb q.1 a.col)) row ∙ ap (λ c. (eqb q.0 b.row) && (eqb q.1 c)) col)
     where
       step : (t : Bool) → cond t (Some (m.count + unwrap_or (sum_at q rest) 0)) (sum_at q rest) ≡ cond t (Some (a.count + unwrap_or (cond t (Some (b.count + unwrap_or (sum_at q rest) 0)) (sum_at q rest)) 0)) (cond t (Some (b.count + unwrap_or (sum_at q rest) 0)) (sum_at q rest))
       step true = ap (λ n. Some n) (omega (arith, count))

@@ -1,6 +1,6 @@
 pub mod OrderLaws
 pub mod RankLaws
 pub mod PlacingLaws
-pub mod DealLaws
+pub mod DistributeLaws
 pub mod AddUpLaws
 pub mod SumLaws

@@ -1,5 +1,5 @@
 //! The total of a list of cells.
-ghost use Rattle.std.specs.Prelude.{◌≡◌, ℕ, ◌<◌, ◌^◌};
+ghost use Rattle.std.specs.Prelude.{◌≡◌, ℕ, ◌<◌, ◌≤◌, ◌^◌, IfNone, IfSome};
 ghost use Rattle.cells.specs.Sums.{cell_total};
 
 use crate::cell::Cell;
@@ -14,4 +14,16 @@ pub fn total_of(cells: &[Cell]) -> u64
         sum += cell.count;
     }
     sum
+}
+
+/// The same, and None where they come to 2^64 or more.
+pub fn checked_total(cells: &[Cell]) -> Option<u64>
+    ensures fits { IfSome result (λ sum. sum ≡ cell_total cells.now) }
+    ensures over { IfNone result (2 ^ 64 ≤ cell_total cells.now) }
+{
+    let mut sum = 0u64;
+    for cell in cells {
+        sum = sum.checked_add(cell.count)?;
+    }
+    Some(sum)
 }

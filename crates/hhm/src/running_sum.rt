@@ -16,7 +16,7 @@ ghost use Rattle.layer_cascade.specs.Layering.{no_layers};
 ghost use Rattle.hhm.specs.Running.{CanTake, LayersSum, IsSumOf, RefusesSum};
 
 use crate::fault::SumFault;
-use cells::{Cell, summed};
+use cells::{Cell, checked_total, summed};
 use hyper_matrix::Hyper;
 use layer_cascade::{CascadeFault, Layers};
 use std::alloc::{AllocError, Global};
@@ -28,18 +28,6 @@ pub enum RunningSum {
     Fits(Layers),
     /// The counts of all cells so far add up to more than 2^64 - 1.
     TooLarge,
-}
-
-// The counts of a block together, if they have at most 64 bits.
-fn block_total(block: &[Cell]) -> Option<u64>
-    ensures fits { IfSome result (λ sum. sum ≡ cell_total block.now) }
-    ensures over { IfNone result (2 ^ 64 ≤ cell_total block.now) }
-{
-    let mut sum = 0u64;
-    for cell in block {
-        sum = sum.checked_add(cell.count)?;
-    }
-    Some(sum)
 }
 
 // Empty layers.
@@ -63,14 +51,15 @@ fn with_block(alloc: Global, layers: Layers, block: &[Cell]) -> Result<Layers, A
     ensures { IfOk result (λ after. (rows cols : ℕ) (cells : List Cell) → LayersSum rows cols cells layers → LayersSum rows cols (cells ++ block.now) after) }
 {
     let list = summed(alloc, block)?;
-    layers.add_cells(alloc, &list)
+    let after = layers.add_cells(alloc, &list)?;
+    Ok(after)
 }
 
 // Whether the counts of a block fit beside those of the layers.
 fn fits_beside(layers: &Layers, block: &[Cell]) -> bool
     ensures { IsTrue result ↔ (total (content layers.now.layers) + cell_total block.now < 2 ^ 64) }
 {
-    match block_total(block) {
+    match checked_total(block) {
         Some(sum) => layers.total().checked_add(sum).is_some(),
         None => false,
     }
@@ -105,7 +94,7 @@ impl RunningSum {
         ensures ok { IfOk result (IsSumOf rows cols block.now) }
         ensures memory { OnErr result (cell_total block.now < 2 ^ 64) }
     {
-        if block_total(block).is_none() {
+        if checked_total(block).is_none() {
             return Ok(RunningSum::TooLarge);
         }
         let none = empty_layers(alloc, rows, cols, cuts)?;

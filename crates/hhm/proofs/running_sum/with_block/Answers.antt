@@ -1,23 +1,15 @@
-use Rattle.std.proofs.Common.{ap, arith, rules}
-use Rattle.hyper_matrix.specs.Counts.{total}
-use Rattle.hyper_matrix.specs.Matrix.{Matrix}
-use Rattle.hyper_matrix.specs.declared.judge.BuildFault.TheVariants.{IndexOutOfRange, SumTooLarge}
-use Rattle.hyper_matrix.proofs.ListLaws.{total-built_of}
-use Rattle.hhm.proofs.SumLemmas.{fits_no_fault, block_added}
+use Rattle.std.proofs.Common.{ap, ◌∙◌, refl, subst, sym}
+use Rattle.cells.specs.Bounds.{AreWithin}
+use Rattle.hyper_matrix.specs.Cells.{built_of}
+use Rattle.hyper_matrix.specs.Matrix.{matrix}
+use Rattle.hyper_matrix.proofs.ListLaws.{built_of-same}
+use Rattle.hhm.proofs.SumLemmas.{block_added}
 use Rattle.hhm.proofs.running_sum.with_block.Goals as goal
 
-pub add-requires-clause-fits : goal.add-requires-clause-fits
-add-requires-clause-fits c =
-    omega (arith, c.requires.fits, ap (λ (n : Matrix). total n.counts) c.in-Ok.ensures.ok, total-built_of c.args.block.now)
+pub add_cells-requires-clause-within : goal.add_cells-requires-clause-within
+add_cells-requires-clause-within c = subst (AreWithin c.args.layers.rows c.args.layers.cols) (sym c.deref.ensures.value) (c.in_ok-list.ensures.within c.args.layers.rows c.args.layers.cols c.requires.within)
 
-pub unreachable-requires : goal.unreachable-requires
-unreachable-requires c =
-    fits_no_fault _ c.args.layers.rows c.args.layers.cols c.args.block.now IndexOutOfRange c.requires.within c.requires.fits (search rules)
-
-pub unreachable-requires-in-Err-SumTooLarge : goal.unreachable-requires-in-Err-SumTooLarge
-unreachable-requires-in-Err-SumTooLarge c =
-    fits_no_fault _ c.args.layers.rows c.args.layers.cols c.args.block.now SumTooLarge c.requires.within c.requires.fits (search rules)
-
-pub returns-in_ok-after-in-Ok : goal.returns-in_ok-after-in-Ok
-returns-in_ok-after-in-Ok c =
-    block_added c.args.layers c.in_ok-after-in-Ok.after c.in-Ok.m _ _ c.args.block.now c.dims-rows.ensures.kept c.in-Ok.ensures.ok c.in_ok-after-in-Ok.ensures
+pub returns : goal.returns
+returns c =
+    block_added c.args.layers c.in_ok-after.after (matrix 0 0 (built_of c.deref.result.now)) 0 0 c.args.block.now c.add_cells.ensures.kept
+    (ap (λ cells. matrix 0 0 (built_of cells)) c.deref.ensures.value ∙ ap (matrix 0 0) (built_of-same _ _ c.in_ok-list.ensures.sums)) c.in_ok-after.ensures.added

@@ -1,6 +1,4 @@
-use Rattle.std.proofs.Common.{◌≡◌, ◌+◌, ◌<◌, length, get_or, ap, ◌∙◌, sym, arith}
-use Rattle.std.specs.Arc.{arc_value}
-use Rattle.std.specs.FinMap.{empty}
+use Rattle.std.proofs.Common.{get_or, ap, ◌∙◌, sym, arith}
 use Rattle.hyper_matrix.specs.Counts.{total, ewise_add}
 use Rattle.hyper_matrix.specs.Cells.{built_of}
 use Rattle.hyper_matrix.specs.Matrix.{Matrix}
