@@ -11,3 +11,4 @@ pub mod RowOfLaws
 pub mod QueryLaws
 pub mod CellIterLaws
 pub mod RefusalLaws
+pub mod SplitRunLaws

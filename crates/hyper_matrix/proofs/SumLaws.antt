@@ -52,12 +52,6 @@ in_block block b sorted = record { numbers = b.numbers; columns = columns_rise b
 pub sum_rising : (block piece sum : Rows) → IsBlock block → T (is_sorted place_cmp (cells_of block)) → InOrder piece → sum ≡ sum_rows block piece → AreRising sum
 sum_rising block piece sum b sorted order is = subst AreRising (sym is) (in_order-sum_rows block piece (in_block block b sorted) order).numbers
 
--- and its cells are in order
-pub sum_sorted : (block piece sum : Rows) → IsBlock block → T (is_sorted place_cmp (cells_of block)) → InOrder piece → sum ≡ sum_rows block piece → T (is_sorted place_cmp (cells_of sum))
-sum_sorted block piece sum b sorted order is =
-    let all = in_order-sum_rows block piece (in_block block b sorted) order in
-    subst (λ (r : Rows). T (is_sorted place_cmp (cells_of r))) (sym is) (sorted_rows (sum_rows block piece) all.numbers all.columns)
-
 -- a sum of rows has rows where the first has
 some_merged : {X : Type 0} (f : X → X → X) (x : ℕ × X) (xs ys : List (ℕ × X)) → 0 < length (merged f (x ∷ xs) ys)
 some_merged f x xs [] = subst (λ r. 0 < length r) (sym (merged-nil f (x ∷ xs))) (omega arith)

@@ -1,8 +1,8 @@
 -- Rows in blocks.
-use Rattle.std.specs.Prelude.{◌≡◌, ℕ, ◌+◌, ◌<◌, T, List, [], ◌∷◌, ◌++◌, length}
+use Rattle.std.specs.Prelude.{◌≡◌, ℕ, ◌+◌, ◌-◌, ◌<◌, ◌≤◌, T, List, [], ◌∷◌, ◌++◌, length, drop, slice_index_or, slice_range}
 use Rattle.std.specs.FinMap.{is_sorted}
 use Rattle.hyper_rows.specs.Counts.{Place, place_cmp, built, ewise_add}
-use Rattle.hyper_rows.specs.Rows.{Rows, AreRising, cells_of}
+use Rattle.hyper_rows.specs.Rows.{Rows, AreRising, start_from, cells_of}
 
 -- the cells of all blocks, one block after the other
 abbrev pub all_cells : List Rows → List (Place × ℕ)
@@ -34,3 +34,14 @@ pub record GrowsBySum (old new : List Rows) (xs ys : List (Place × ℕ)) : Type
 abbrev pub ends_from : ℕ → List Rows → List ℕ
 ends_from at [] = []
 ends_from at (block ∷ blocks) = (at + length (cells_of block)) ∷ ends_from (at + length (cells_of block)) blocks
+
+-- the cell before place `to` of the entries stands in row `last`, where row `row` begins at `from`
+pub record EndsIn (heads : List (ℕ × ℕ)) (row from last to : ℕ) : Type 0 where
+  pub order : row ≤ last
+  pub within : last < length heads
+  pub before : start_from from (drop row heads) (last - row) < to
+  pub behind : to ≤ (slice_index_or heads last (0, 0)).1
+
+-- the heads from row `row` on, where row `last` ends at `to`
+abbrev pub split_heads : List (ℕ × ℕ) → ℕ → ℕ → ℕ → List (ℕ × ℕ)
+split_heads heads row last to = slice_range heads row last ++ ((slice_index_or heads last (0, 0)).0, to) ∷ []

@@ -74,12 +74,7 @@ impl Block {
     /// Where nobody shares the block the two are exchanged: `rows` has the old rows then, and with them their memory,
     /// and nothing is allocated. Otherwise the old rows stay with those that have them, and `rows` gets new room for so
     /// many cells.
-    pub fn put(
-        &mut self,
-        alloc: Global,
-        rows: &mut Rows,
-        room: usize,
-    ) -> Result<(), AllocError>
+    pub fn put(&mut self, alloc: Global, rows: &mut Rows, room: usize) -> Result<(), AllocError>
         requires { 0 < length rows.old }
         ensures { OnOk result (self.new ≡ rows.old) }
     {

@@ -18,6 +18,7 @@ mod refusal_laws;
 mod row_laws;
 mod row_sum;
 mod split;
+mod split_run;
 mod sum;
 
 pub use cell_iter::Cells;

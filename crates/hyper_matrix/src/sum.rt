@@ -22,21 +22,19 @@ ghost use Rattle.hyper_matrix.specs.Blocks.{all_cells, IsBlock, AreBlocks, Grows
 use crate::block::Block;
 use crate::blocks::push_all_cells;
 use crate::limits::{BLOCK_CELLS, LISTED_BLOCKS};
-use crate::split::push_blocks;
+use crate::split_run::push_run;
 use cells::Cell;
 use hyper_rows::Rows;
 use std::alloc::{AllocError, Global};
 use std::collections::VecDeque;
 
 // The memory that the sums of one call are made in, one after the other: the rows of the cells that fall into a block,
-// and the sum. One that may pass `BLOCK_CELLS` is made in `large`, since the memory of `sum` becomes a block's, and is
-// listed in `cells` to be split.
+// and the sum. One that may pass `BLOCK_CELLS` is made in `large`, since the memory of `sum` becomes a block's.
 #[derive(Drop)]
 struct Spare {
     added: Rows,
     sum: Rows,
     large: Rows,
-    cells: Vec<Cell>,
     // Cells: the room of `sum`, or more where a sum needs more.
     room: usize,
 }
@@ -49,7 +47,6 @@ impl Spare {
             added: Rows::new(alloc),
             sum,
             large: Rows::new(alloc),
-            cells: Vec::new(alloc),
             room,
         })
     }
@@ -81,24 +78,23 @@ fn push_large(
     alloc: Global,
     out: &mut Vec<Block>,
     block: Block,
-    spare: &mut Spare,
+    rows: &Rows,
+    sum: &mut Rows,
+    room: usize,
 ) -> Result<(), AllocError>
     requires blocks { AreBlocks out.old.items }
-    requires some { 0 < length spare.old.large }
-    requires rising { AreRising spare.old.large }
-    requires sorted { T (is_sorted place_cmp (cells_of spare.old.large)) }
-    requires fits { rows_total spare.old.large < 2 ^ 64 }
-    ensures grows { OnOk result (Grows out.old.items out.new.items (cells_of spare.old.large)) }
+    requires some { 0 < length rows.now }
+    requires rising { AreRising rows.now }
+    requires fits { rows_total rows.now < 2 ^ 64 }
+    ensures grows { OnOk result (Grows out.old.items out.new.items (cells_of rows.now)) }
     ensures some { OnOk result (0 < length out.new.items) }
 {
-    if spare.large.entry_count() > BLOCK_CELLS {
-        spare.cells.clear();
-        spare.large.push_cells(&mut spare.cells)?;
-        push_blocks(alloc, out, &spare.cells)?;
+    if rows.entry_count() > BLOCK_CELLS {
+        push_run(alloc, out, rows)?;
         return Ok(());
     }
-    spare.sum.set_sum(alloc, &spare.large, &Rows::new(alloc))?;
-    push_changed(alloc, out, block, &mut spare.sum, spare.room)?;
+    sum.set_sum(alloc, rows, &Rows::new(alloc))?;
+    push_changed(alloc, out, block, sum, room)?;
     Ok(())
 }
 
@@ -129,7 +125,7 @@ fn push_sum(
         return Ok(());
     }
     spare.large.set_sum(alloc, block.rows(), &spare.added)?;
-    push_large(alloc, out, block, spare)?;
+    push_large(alloc, out, block, &spare.large, &mut spare.sum, spare.room)?;
     Ok(())
 }
 
@@ -177,7 +173,11 @@ fn end_before(blocks: &VecDeque<Block>, cells: &[Cell], j: usize) -> usize
 /// The sum of blocks and cells, in blocks. A block that no cell belongs to goes over as it is.
 ///
 /// A block that is the only one takes no more room than its cells and those that are added.
-pub fn sum_blocks(alloc: Global, blocks: Vec<Block>, cells: &[Cell]) -> Result<Vec<Block>, AllocError>
+pub fn sum_blocks(
+    alloc: Global,
+    blocks: Vec<Block>,
+    cells: &[Cell],
+) -> Result<Vec<Block>, AllocError>
     requires blocks { AreBlocks blocks.items }
     requires some { 0 < length blocks.items }
     requires sorted { T (is_sorted place_cmp (all_cells blocks.items)) }

@@ -3,7 +3,7 @@ use Rattle.hyper_rows.specs.Rows.{Rows, rows_total, sum_rows}
 use Rattle.hyper_matrix.proofs.BlockLaws.{grows_by}
 use Rattle.hyper_rows.proofs.CellLaws.{sum_of_cells}
 use Rattle.hyper_rows.proofs.OrderLaws.{never_fall}
-use Rattle.hyper_matrix.proofs.SumLaws.{grows_sum, grows_shared, sum_rising, sum_sorted, sum_some, sum_total, piece_total}
+use Rattle.hyper_matrix.proofs.SumLaws.{grows_sum, grows_shared, sum_rising, sum_some, sum_total, piece_total}
 use Rattle.hyper_matrix.proofs.sum.push_sum.Goals as goal
 
 pub returns-then-cells-eq0-clause-sum : goal.returns-then-cells-eq0-clause-sum
@@ -32,9 +32,6 @@ push_large-requires-clause-some c = sum_some c.args.block c.set_sorted.new.self 
 
 pub push_large-requires-clause-rising : goal.push_large-requires-clause-rising
 push_large-requires-clause-rising c = sum_rising c.args.block c.set_sorted.new.self _ c.requires.other c.requires.sorted c.in_ok-set_sorted.ensures.order (c.in_ok-set_sum-2.ensures ∙ ap (λ (r : Rows). sum_rows r c.set_sorted.new.self) c.rows-2.ensures)
-
-pub push_large-requires-clause-sorted : goal.push_large-requires-clause-sorted
-push_large-requires-clause-sorted c = sum_sorted c.args.block c.set_sorted.new.self _ c.requires.other c.requires.sorted c.in_ok-set_sorted.ensures.order (c.in_ok-set_sum-2.ensures ∙ ap (λ (r : Rows). sum_rows r c.set_sorted.new.self) c.rows-2.ensures)
 
 pub push_large-requires-clause-fits : goal.push_large-requires-clause-fits
 push_large-requires-clause-fits c = omega (arith, sum_total c.args.block c.set_sorted.new.self _ c.requires.other c.requires.sorted c.in_ok-set_sorted.ensures.order (c.in_ok-set_sum-2.ensures ∙ ap (λ (r : Rows). sum_rows r c.set_sorted.new.self) c.rows-2.ensures), sum_of_cells c.args.block, piece_total c.set_sorted.new.self c.args.cells.now c.in_ok-set_sorted.ensures.told, c.requires.fits)
