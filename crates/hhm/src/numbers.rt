@@ -9,10 +9,8 @@ ghost use Rattle.std.specs.List.{list_all, slice_split};
 ghost use Rattle.std.specs.Str.Parse.{digits_value};
 ghost use Rattle.hhm.specs.Options.{is_numeral, option_number, option_list, writes_number, is_comma};
 
+use crate::limits::MAX_DIGITS;
 use std::alloc::{AllocError, Global};
-
-/// The most digits that a number of an option has.
-const MAX_DIGITS: usize = 20;
 
 fn are_digits(word: &[u8]) -> bool
     ensures { result ≡ list_all is_ascii_digit word.now }

@@ -17,22 +17,14 @@ ghost use Rattle.hhm.specs.Sum.{sum_text, matrix_text, StopsText, SumsText, SumP
 ghost use Rattle.hyper_matrix.specs.Cells.{cell_total};
 
 use crate::fault::SumFault;
+use crate::limits::{BLOCK_CELLS, TEXT_LIMITS};
 use crate::running_sum::RunningSum;
 use byte_io::{Sink, Source, WriteFault};
 use cells::Cell;
 use hyper_matrix::Hyper;
 use layer_cascade::are_cuts;
-use mm_text::{TextLimits, TextReader, TextWriter};
+use mm_text::{TextReader, TextWriter};
 use std::alloc::{AllocError, Global};
-
-/// The most cells of the list that go into the layers at once.
-const BLOCK: usize = 4096;
-
-/// What a text may take.
-const LIMITS: TextLimits = TextLimits {
-    max_bytes: 1 << 40,
-    max_entries: 1 << 40,
-};
 
 // The sum of the cells of a text's first block, in the dimensions of the size line that was read.
 fn first_sum(
@@ -61,7 +53,7 @@ fn sum_blocks<R: Source>(
     first: RunningSum,
 ) -> Result<RunningSum, SumFault>
     requires failures { R.failure_count r.old + 1 < 2 ^ 64 }
-    requires reserved { BLOCK ≤ vec_capacity block.old }
+    requires reserved { BLOCK_CELLS ≤ vec_capacity block.old }
     requires summing { (s : R) × (size : Size) × IsSumming R.read_gives R.at_end R.failure_count s r.old reader.old size first }
     ensures ok { IfOk result (λ sum. (s : R) (size : Size) →
         IsSumming R.read_gives R.at_end R.failure_count s r.old reader.old size first →
@@ -73,7 +65,7 @@ fn sum_blocks<R: Source>(
     let mut sum = first;
     'text: for _blocks in 0..u64::MAX {
         block.clear();
-        let more = reader.read_block(r, block, BLOCK)?;
+        let more = reader.read_block(r, block, BLOCK_CELLS)?;
         sum = sum.add(alloc, block)?;
         if !more {
             return Ok(sum);
@@ -90,9 +82,9 @@ fn read_running<R: Source>(alloc: Global, r: &mut R, cuts: &[u64]) -> Result<Run
     ensures ok { IfOk result (λ sum. (size : Size) × HasSummed R.read_gives R.at_end R.failure_count r.old r.new size sum) }
     ensures err { IfErr result (λ fault. Excuses R.read_gives R.at_end R.failure_count r.old r.new fault) }
 {
-    let mut reader = TextReader::new(alloc, LIMITS)?;
-    let mut block = Vec::with_capacity(alloc, BLOCK)?;
-    let more = reader.read_block(r, &mut block, BLOCK)?;
+    let mut reader = TextReader::new(alloc, TEXT_LIMITS)?;
+    let mut block = Vec::with_capacity(alloc, BLOCK_CELLS)?;
+    let more = reader.read_block(r, &mut block, BLOCK_CELLS)?;
     let sum = first_sum(alloc, &reader, cuts, &block)?;
     if !more {
         return Ok(sum);

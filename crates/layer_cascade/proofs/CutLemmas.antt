@@ -11,6 +11,7 @@ pub record CutsUpTo (cuts : List ℕ) (i least : ℕ) : Type 0 where
   pub next : (k : ℕ) → k + 1 ≡ i → get_or cuts k 0 < least
   pub lower : AreCuts cuts → i < length cuts → least ≤ get_or cuts i 0
 
+-- Nothing was passed yet.
 pub cuts_none : (cuts : List ℕ) → CutsUpTo cuts 0 1
 cuts_none cuts = record {
   some = omega arith;
@@ -20,6 +21,7 @@ cuts_none cuts = record {
   lower = λ are h. (are.range 0 h).0;
 }
 
+-- One number more that is at least `least`, and not too large.
 pub cuts_more : (cuts : List ℕ) (i least : ℕ) → CutsUpTo cuts i least → least ≤ get_or cuts i 0 → get_or cuts i 0 ≤ 2 ^ 40 → CutsUpTo cuts (i + 1) (get_or cuts i 0 + 1)
 cuts_more cuts i least up above below = record {
   some = omega arith;
@@ -37,6 +39,7 @@ cuts_more cuts i least up above below = record {
   lower = λ are h. omega (arith, are.rising i h);
 }
 
+-- All of the list was passed.
 pub cuts_all : (cuts : List ℕ) (i least : ℕ) → CutsUpTo cuts i least → length cuts ≤ i → length cuts ≤ 7 → AreCuts cuts
 cuts_all cuts i least up end few = record {
   few = few;
@@ -44,6 +47,7 @@ cuts_all cuts i least up end few = record {
   rising = λ k h. up.rising k (omega arith);
 }
 
+-- A number that is too small or too large makes the list none of cuts.
 pub no_cuts : (cuts : List ℕ) (i least : ℕ) → CutsUpTo cuts i least → i < length cuts → (get_or cuts i 0 < least) ⊎ (2 ^ 40 < get_or cuts i 0) → AreCuts cuts → ⊥
 no_cuts cuts i least up h (inl low) are = absurd (omega (arith, up.lower are h))
 no_cuts cuts i least up h (inr high) are = absurd (omega (arith, (are.range i h).1))

@@ -141,6 +141,7 @@ module _ {Z : Type 0} (layers : List (Arc Matrix Z)) (i : ℕ) (item : Arc Matri
   pub more_fits : total (content (take i (all_counts (values layers)))) + total x.counts ≤ total (content (all_counts (values layers)))
   more_fits = omega (arith, total_more, total-take (all_counts (values layers)) (i + 1))
 
+-- the first layers are all of them
 pub content-all : {Z : Type 0} (layers : List (Arc Matrix Z)) (i : ℕ) → length layers ≤ i → content (take i (all_counts (values layers))) ≡ content (all_counts (values layers))
 content-all layers i h = ap content (take_all i (all_counts (values layers)) (omega (arith, length-counts layers)))
 

@@ -7,6 +7,8 @@ use Rattle.std.proofs.lemmas.Bool.{cases_order, lt-ltb, le-ltb, eqb-true, eq-eqb
 use Rattle.hyper_matrix.specs.Counts.{Place, place_cmp, Counts, ewise_add, plus, total, count_sum}
 use Rattle.hyper_matrix.proofs.CountLaws.{same_counts, exact_places, places_total, get-ewise_add, plus-none, total-ewise_add}
 use Rattle.hyper_matrix.proofs.CellLaws.{same_place}
+pub use Rattle.hyper_matrix.proofs.RowOfLaws.{row_of-ewise_add}
+use Rattle.hyper_matrix.proofs.RowOfLaws.{get-row_of}
 use Rattle.hyper_matrix.specs.RowOf.{row_of, IsFree, HasNoneFrom}
 use Rattle.layer_cascade.specs.Columns.{FirstColumn, earlier}
 
@@ -26,19 +28,6 @@ found_below q (e ∷ es) = step (found_below q es) (eq_by_cmp place_cmp q e.0)
 pub count_below : (m : Counts) (q : Place) → unwrap_or (get m q) 0 ≤ total m
 unfolding total
 count_below m q = subst (λ o. unwrap_or o 0 ≤ count_sum (entries m)) (sym (get-entries m q)) (found_below q (entries m))
-
-pub get-row_of : (m : Counts) (r : ℕ) (q : Place) → get (row_of m r) q ≡ cond (eqb q.0 r) (get m q) None
-unfolding row_of
-get-row_of m r q = get-kept m (λ p. eqb p.0 r) q
-
-pub row_of-ewise_add : (a b : Counts) (r : ℕ) → row_of (ewise_add a b) r ≡ ewise_add (row_of a r) (row_of b r)
-row_of-ewise_add a b r = same_counts _ _ (λ q.
-    get-row_of (ewise_add a b) r q ∙ ap (λ o. cond (eqb q.0 r) o None) (get-ewise_add a b q) ∙ split (eqb q.0 r) (get a q) (get b q)
-    ∙ sym (get-ewise_add (row_of a r) (row_of b r) q ∙ ap (λ o. plus o (get (row_of b r) q)) (get-row_of a r q) ∙ ap (plus (cond (eqb q.0 r) (get a q) None)) (get-row_of b r q)))
-  where
-    split : (b : Bool) (x y : Option ℕ) → cond b (plus x y) None ≡ plus (cond b x None) (cond b y None)
-    split true x y = refl
-    split false x y = refl
 
 none_kept : (b : Bool) (o : Option ℕ) → o ≡ None → cond b o None ≡ None
 none_kept true o is = is

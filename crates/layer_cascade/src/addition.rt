@@ -82,8 +82,8 @@ pub fn push_copies(
     Ok(())
 }
 
-// Appends layers that share their matrices with these.
-fn push_layers(out: &mut Vec<Arc<Hyper>>, layers: &[Arc<Hyper>]) -> Result<(), AllocError>
+/// Appends layers that share their matrices with these.
+pub fn push_layers(out: &mut Vec<Arc<Hyper>>, layers: &[Arc<Hyper>]) -> Result<(), AllocError>
     ensures { OnOk result (values out.new.items ≡ values out.old.items ++ values layers.now) }
 {
     'layers: for layer in layers {

@@ -19,7 +19,9 @@ ghost use Rattle.hyper_matrix.specs.RowOf.{row_of};
 ghost use Rattle.layer_cascade.specs.Columns.{FirstColumn};
 ghost use Rattle.layer_cascade.specs.Layering.{IsLayering, no_layers, entries_of_layer};
 
-use crate::addition::{added, cascade_end, cascaded, layers_after, push_copies, sum_of_layers};
+use crate::addition::{
+    added, cascade_end, cascaded, layers_after, push_copies, push_layers, sum_of_layers,
+};
 use crate::cuts::are_cuts;
 use crate::fault::CascadeFault;
 use crate::lookup::{column_from, earlier, plus};
@@ -198,6 +200,23 @@ impl Layers {
             cols: self.cols,
             cuts: self.cuts,
             empty: self.empty,
+            layers,
+        })
+    }
+
+    /// The same layers once more, which share all matrices with these. Takes one growth, of a pointer for each layer.
+    pub(crate) fn share(&self, alloc: Global) -> Result<Layers, AllocError>
+        ensures { IfOk result (λ layers. layers ≡ self.now) }
+    {
+        let mut layers = Vec::with_capacity(alloc, self.layers.len())?;
+        push_layers(&mut layers, &self.layers)?;
+        let cuts = self.cuts.clone()?;
+        let empty = Arc::try_clone(&self.empty)?;
+        Ok(Layers {
+            rows: self.rows,
+            cols: self.cols,
+            cuts,
+            empty,
             layers,
         })
     }
