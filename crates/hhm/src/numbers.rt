@@ -3,7 +3,8 @@
 //! A number is one to twenty ASCII digits with a value of at most 2^64 - 1, leading zeros included. A list is one or
 //! more numbers with single commas between, or the word `none` for an empty list. Nothing else is read: no sign, no
 //! blank, no separator inside a number.
-ghost use Rattle.std.specs.Prelude.{◌≡◌, ℕ, ◌<◌, ◌≤◌, ◌^◌, length, true, IfOk, IfNone, IfSome, None, Some, ◌↔◌, Err, filter_map, map};
+ghost use Rattle.std.specs.Prelude.{◌≡◌, ℕ, ◌<◌, ◌≤◌, ◌^◌, ◌↔◌, true, length, filter_map, map};
+ghost use Rattle.std.specs.Prelude.{None, Some, Err, IfOk, IfNone, IfSome};
 ghost use Rattle.std.specs.Char.{is_ascii_digit};
 ghost use Rattle.std.specs.List.{list_all, slice_split};
 ghost use Rattle.std.specs.Str.Parse.{digits_value};

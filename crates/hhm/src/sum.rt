@@ -2,7 +2,8 @@
 //!
 //! The list of the text's cells is never held: memory goes to the layers and to one block. The time is that of one pass
 //! over the text, of the additions that the cuts ask for, and of one pass over the sum.
-ghost use Rattle.std.specs.Prelude.{◌≡◌, ℕ, ◌+◌, ◌<◌, ◌≤◌, ◌^◌, List, ◌⊎◌, ◌↔◌, OnOk, OnErr, IfOk, IfErr, Err, Some, vec_capacity};
+ghost use Rattle.std.specs.Prelude.{◌≡◌, ℕ, ◌+◌, ◌<◌, ◌≤◌, ◌^◌, ◌⊎◌, ◌↔◌, List, vec_capacity};
+ghost use Rattle.std.specs.Prelude.{Some, Err, OnOk, OnErr, IfOk, IfErr};
 ghost use Rattle.mm_text.specs.declared.size.Size.{Size};
 ghost use Rattle.byte_io.specs.Writing.{HasTaken, HasStopped};
 ghost use Rattle.cells.specs.declared.cell.Cell.{Cell};
@@ -35,7 +36,8 @@ fn first_sum(
 ) -> Result<RunningSum, AllocError>
     requires sized { IsSized reader.now block.now }
     requires cuts { AreCuts cuts.now }
-    ensures ok { IfOk result (λ sum. (size : Size) → size_of reader.now ≡ Some size → IsSumOf size.rows size.cols block.now sum) }
+    ensures ok { IfOk result (λ sum. (size : Size) → size_of reader.now ≡ Some size →
+        IsSumOf size.rows size.cols block.now sum) }
     ensures memory { OnErr result (cell_total block.now < 2 ^ 64) }
 {
     let Some(size) = reader.size() else {
@@ -54,7 +56,8 @@ fn sum_blocks<R: Source>(
 ) -> Result<RunningSum, SumFault>
     requires failures { R.failure_count r.old + 1 < 2 ^ 64 }
     requires reserved { BLOCK_CELLS ≤ vec_capacity block.old }
-    requires summing { (s : R) × (size : Size) × IsSumming R.read_gives R.at_end R.failure_count s r.old reader.old size first }
+    requires summing { (s : R) × (size : Size) ×
+        IsSumming R.read_gives R.at_end R.failure_count s r.old reader.old size first }
     ensures ok { IfOk result (λ sum. (s : R) (size : Size) →
         IsSumming R.read_gives R.at_end R.failure_count s r.old reader.old size first →
         HasSummed R.read_gives R.at_end R.failure_count s r.new size sum) }
@@ -79,7 +82,8 @@ fn sum_blocks<R: Source>(
 fn read_running<R: Source>(alloc: Global, r: &mut R, cuts: &[u64]) -> Result<RunningSum, SumFault>
     requires failures { R.failure_count r.old + 1 < 2 ^ 64 }
     requires cuts { AreCuts cuts.now }
-    ensures ok { IfOk result (λ sum. (size : Size) × HasSummed R.read_gives R.at_end R.failure_count r.old r.new size sum) }
+    ensures ok { IfOk result (λ sum. (size : Size) ×
+        HasSummed R.read_gives R.at_end R.failure_count r.old r.new size sum) }
     ensures err { IfErr result (λ fault. Excuses R.read_gives R.at_end R.failure_count r.old r.new fault) }
 {
     let mut reader = TextReader::new(alloc, TEXT_LIMITS)?;
@@ -96,7 +100,8 @@ fn read_running<R: Source>(alloc: Global, r: &mut R, cuts: &[u64]) -> Result<Run
 fn write_sum<W: Sink>(w: &mut W, m: &Hyper) -> Result<(), WriteFault>
     requires { W.failure_count w.old + 1 < 2 ^ 64 }
     ensures ok { OnOk result (HasTaken W.write_takes W.failure_count w.old w.new (matrix_text m.now)) }
-    ensures err { IfErr result (λ fault. HasStopped W.write_takes W.failure_count w.old w.new (matrix_text m.now) fault.written) }
+    ensures err { IfErr result (λ fault.
+        HasStopped W.write_takes W.failure_count w.old w.new (matrix_text m.now) fault.written) }
 {
     let (rows, cols) = m.dims();
     let mut writer = TextWriter::new(rows, cols, m.entries());
@@ -114,10 +119,10 @@ fn write_sum<W: Sink>(w: &mut W, m: &Hyper) -> Result<(), WriteFault>
 ///
 /// # Errors
 ///
-/// In this order: `BadCuts` before anything is read; at its place in the text, `Text`; `Memory` where memory ran out, at
-/// a place up to which the text bears no fault and its counts fit 64 bits; `SumTooLarge` once the text was read to its
-/// end without a fault; `Output` where the sink failed or took nothing. Only `Output` leaves anything written: the first
-/// bytes of the canonical text, as many as it says. What was read has been read.
+/// In this order: `BadCuts` before anything is read; at its place in the text, `Text`; `Memory` where memory ran out,
+/// at a place up to which the text bears no fault and its counts fit 64 bits; `SumTooLarge` once the text was read to
+/// its end without a fault; `Output` where the sink failed or took nothing. Only `Output` leaves anything written: the
+/// first bytes of the canonical text, as many as it says. What was read has been read.
 ///
 /// A text may have at most 2^40 bytes and declare at most 2^40 entries. `r` and `w` must have failed less than
 /// 2^64 - 1 times before. `w` is not flushed.
@@ -131,18 +136,22 @@ pub fn run_sum<R: Source, W: Sink>(
     requires writes { W.failure_count w.old + 1 < 2 ^ 64 }
 
     // The text was read to its end and spells a list that fits; what was written is the canonical text of its sum.
-    ensures ok { OnOk result ((rows cols : ℕ) × (cells : List Cell) × SumsText R.read_gives R.at_end R.failure_count r.old r.new rows cols cells
+    ensures ok { OnOk result ((rows cols : ℕ) × (cells : List Cell)
+        × SumsText R.read_gives R.at_end R.failure_count r.old r.new rows cols cells
         × HasTaken W.write_takes W.failure_count w.old w.new (sum_text rows cols cells)) }
 
     ensures cuts { (result ≡ Err SumFault.BadCuts) ↔ (AreCuts cuts.now → ⊥) }
     ensures unread { result ≡ Err SumFault.BadCuts → r.new ≡ r.old }
     ensures text { (fault : MmFault) → result ≡ Err (SumFault.Text fault) →
         StopsText R.read_gives R.at_end R.failure_count r.old r.new fault.kind fault.line }
-    ensures too_large { result ≡ Err SumFault.SumTooLarge → SumPasses R.read_gives R.at_end R.failure_count r.old r.new }
+    ensures too_large { result ≡ Err SumFault.SumTooLarge →
+        SumPasses R.read_gives R.at_end R.failure_count r.old r.new }
     ensures output { (fault : WriteFault) → result ≡ Err (SumFault.Output fault) →
-        (rows cols : ℕ) × (cells : List Cell) × SumsText R.read_gives R.at_end R.failure_count r.old r.new rows cols cells
+        (rows cols : ℕ) × (cells : List Cell)
+        × SumsText R.read_gives R.at_end R.failure_count r.old r.new rows cols cells
         × HasStopped W.write_takes W.failure_count w.old w.new (sum_text rows cols cells) fault.written }
-    ensures memory { result ≡ Err SumFault.Memory → IsUnsummed R.read_gives R.failure_count r.old r.new }
+    ensures memory { result ≡ Err SumFault.Memory →
+        IsUnsummed R.read_gives R.at_end R.failure_count r.old r.new }
     ensures unwritten { IfErr result (λ fault. IsOutput fault ⊎ (w.new ≡ w.old)) }
 {
     if !are_cuts(cuts) {

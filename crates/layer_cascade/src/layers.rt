@@ -56,7 +56,8 @@ impl Model for Layers {
 
     ghost view = { λ a. layering a.rows a.cols (arc_slice_items a.cuts) (all_counts (values a.layers.items)) };
 
-    ghost invariant = { λ a. KeepsLayers a.rows a.cols (arc_slice_items a.cuts) (values a.layers.items) (arc_value a.empty) };
+    ghost invariant = { λ a.
+        KeepsLayers a.rows a.cols (arc_slice_items a.cuts) (values a.layers.items) (arc_value a.empty) };
 }
 
 /// An addition that has been worked out, and that `Layers::commit` makes.
@@ -153,7 +154,8 @@ impl Layers {
         requires rows { m.now.rows ≡ self.now.rows }
         requires cols { m.now.cols ≡ self.now.cols }
         requires fits { total (content self.now.layers) + total m.now.counts < 2 ^ 64 }
-        ensures { IfOk result (λ plan. plan ≡ record self.now { layers = cascade self.now.layers self.now.cuts m.now.counts }) }
+        ensures { IfOk result (λ plan.
+            plan ≡ record self.now { layers = cascade self.now.layers self.now.cuts m.now.counts }) }
     {
         let end = cascade_end(alloc, &self.layers, &self.cuts, m)?;
         let layers = layers_after(alloc, &self.layers, &self.empty, end)?;
