@@ -16,3 +16,4 @@ pub mod FindLaws
 pub mod RowOfLaws
 pub mod QueryLaws
 pub mod WalkLaws
+pub mod RefusalLaws

@@ -8,3 +8,4 @@ pub mod Cells
 pub mod Places
 pub mod Lookup
 pub mod RowOf
+pub mod Refusals

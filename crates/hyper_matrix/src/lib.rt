@@ -13,19 +13,14 @@ mod cell_iter;
 mod cut;
 mod find;
 mod hyper;
-#[cfg(test)]
-mod iter_tests;
 mod judge;
 mod laws;
 mod lookup;
 mod merge;
-#[cfg(test)]
-mod query_tests;
+mod refusal_laws;
 mod row_laws;
 mod row_sum;
 mod rows;
-#[cfg(test)]
-mod tests;
 
 pub use cell_iter::Cells;
 pub use hyper::Hyper;
@@ -34,6 +29,7 @@ pub use laws::{
     built_lists_add, built_names_places, built_sums_counts, built_total, empty_is_identity,
     parts_make_the_whole, sums_at_places, sums_commute, sums_regroup, totals_add,
 };
+pub use refusal_laws::{indices_are_refused, other_lists_are_taken, sums_are_refused};
 pub use row_laws::{
     row_totals_add, rows_have_no_others, rows_keep_their_entries, rows_of_sums_add,
 };

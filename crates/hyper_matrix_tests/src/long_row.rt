@@ -1,0 +1,74 @@
+//! A row that is longer than a block: row 5 has 600 entries, at column 2k the count k. One cell stands before it, and
+//! one behind.
+ghost use Rattle.std.specs.Prelude.{◌<◌};
+
+use crate::matrices::{SIDE, built, cell, has};
+use hyper_matrix::{Entry, Hyper, RowSum};
+use cells::Cell;
+use std::alloc::{AllocError, Global};
+use std::test::Fail;
+
+/// The entries of row 5.
+const LENGTH: u64 = 600;
+
+/// Row, entries, total.
+static ROWS: [(u64, u64, u64); 5] = [
+    (3, 0, 0),
+    (4, 1, 1),
+    (5, 600, 179_700),
+    (6, 1, 2),
+    (7, 0, 0),
+];
+
+fn long_row(alloc: Global) -> Result<Vec<Cell>, AllocError> {
+    let mut cells = Vec::new(alloc);
+    cells.push(cell((4, 9, 1)))?;
+    for k in 0..LENGTH {
+        cells.push(cell((5, 2 * k, k)))?;
+    }
+    cells.push(cell((6, 0, 2)))?;
+    Ok(cells)
+}
+
+// Whether there is nothing at the column behind column 2k of row 5, and the next entry is that at column 2k + 2.
+fn is_gap(m: &Hyper, k: u64) -> bool
+    requires { k < 600 }
+{
+    let next = if k + 1 < LENGTH {
+        Some(Entry {
+            col: 2 * k + 2,
+            count: k + 1,
+        })
+    } else {
+        None
+    };
+    m.get(5, 2 * k + 1).is_none() && m.first_in_row(5, 2 * k + 1) == next
+}
+
+fn has_gaps(m: &Hyper) -> bool {
+    for k in 0..LENGTH {
+        if !is_gap(m, k) {
+            return false;
+        }
+    }
+    true
+}
+
+fn sums_rows(m: &Hyper) -> bool {
+    for (row, entries, total) in ROWS {
+        if m.row_total(row) != (RowSum { entries, total }) {
+            return false;
+        }
+    }
+    true
+}
+
+#[test]
+fn row_over_blocks(rt: HostRuntime) -> Result<(), Fail> {
+    let cells = long_row(rt.alloc())?;
+    let m = built(rt.alloc(), SIDE, &cells)?;
+    assert!(rt; has(rt.alloc(), &m, &cells)?);
+    assert!(rt; has_gaps(&m));
+    assert!(rt; sums_rows(&m));
+    Ok(())
+}

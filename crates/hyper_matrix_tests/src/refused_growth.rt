@@ -1,0 +1,61 @@
+//! What stands after a growth was refused.
+use crate::matrices::{SIDE, Triple, built, cell, has, lent_sum_has};
+use hyper_matrix::Hyper;
+use cells::Cell;
+use std::alloc::{AllocError, Global};
+use std::test::Fail;
+
+// Of the first n places of rows of this width, every step-th with `more`, and the others with `count`, if that isn't 0.
+fn grid(
+    alloc: Global,
+    (n, width, step): Triple,
+    more: u64,
+    count: u64,
+) -> Result<Vec<Cell>, AllocError> {
+    let mut cells = Vec::new(alloc);
+    for k in 0..n {
+        let row = k.checked_div(width).unwrap_or(0);
+        let col = k.checked_rem(width).unwrap_or(0);
+        if k.checked_rem(step) == Some(0) {
+            cells.push(cell((row, col, more)))?;
+        } else if count > 0 {
+            cells.push(cell((row, col, count)))?;
+        }
+    }
+    Ok(cells)
+}
+
+// Whether a sum has these cells. Where it is refused memory, the first matrix is to have its cells still, and the sum
+// is to come out the next time.
+fn outlasts_refusal(
+    alloc: Global,
+    a: &Hyper,
+    xs: &[Cell],
+    b: &Hyper,
+    want: &[Cell],
+) -> Result<bool, AllocError> {
+    match lent_sum_has(alloc, a, b, want) {
+        Ok(holds) => Ok(holds),
+        Err(_) => Ok(has(alloc, a, xs)? && lent_sum_has(alloc, a, b, want)?),
+    }
+}
+
+fn sum_outlasts_refusal(alloc: Global, shape: Triple) -> Result<bool, AllocError> {
+    let ones = grid(alloc, shape, 1, 1)?;
+    let twos = grid(alloc, shape, 2, 0)?;
+    let want = grid(alloc, shape, 3, 1)?;
+    let a = built(alloc, SIDE, &ones)?;
+    let b = built(alloc, SIDE, &twos)?;
+    Ok(
+        outlasts_refusal(alloc, &a, &ones, &b, &want)?
+            && outlasts_refusal(alloc, &b, &twos, &a, &want)?,
+    )
+}
+
+#[test]
+fn lent_sums(rt: HostRuntime) -> Result<(), Fail> {
+    for shape in [(600, 1, 97), (600, 700, 2), (600, 10, 1)] {
+        assert!(rt; sum_outlasts_refusal(rt.alloc(), shape)?, "{shape:?}");
+    }
+    Ok(())
+}

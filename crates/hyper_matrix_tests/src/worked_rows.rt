@@ -1,0 +1,112 @@
+//! Lists and sums that were worked out by hand, in a matrix of 3 by 3.
+ghost use Rattle.cells.specs.Bounds.{IsDimension};
+
+use crate::matrices::{Triple, adds_up, built, cell, cells_of, has};
+use hyper_matrix::{BuildFault, Hyper};
+use std::alloc::{AllocError, Global};
+use std::test::Fail;
+
+const HALF: u64 = 1 << 63;
+
+/// A list, and the cells of what it builds.
+static BUILT: &[(&[Triple], &[Triple])] = &[
+    (&[], &[]),
+    (&[(1, 1, 0)], &[(1, 1, 0)]),
+    (&[(2, 2, u64::MAX)], &[(2, 2, u64::MAX)]),
+    (&[(0, 0, 1), (0, 1, 0)], &[(0, 0, 1), (0, 1, 0)]),
+    (
+        &[(2, 1, 3), (0, 2, 1), (2, 0, 0), (0, 2, 5), (2, 1, 4)],
+        &[(0, 2, 6), (2, 0, 0), (2, 1, 7)],
+    ),
+];
+
+/// Two lists, and the cells of their matrices' sum.
+static SUMS: &[(&[Triple], &[Triple], &[Triple])] = &[
+    (&[], &[], &[]),
+    (&[(0, 0, 1), (0, 1, 0)], &[], &[(0, 0, 1), (0, 1, 0)]),
+    (
+        &[(0, 0, 1), (0, 1, 0)],
+        &[(0, 0, 2), (2, 2, 4)],
+        &[(0, 0, 3), (0, 1, 0), (2, 2, 4)],
+    ),
+    (&[(1, 1, 0)], &[(1, 1, 0)], &[(1, 1, 0)]),
+    (&[(1, 1, HALF)], &[(1, 1, HALF - 1)], &[(1, 1, u64::MAX)]),
+];
+
+/// A list, and the fault of its first cell that has one.
+static REFUSED: &[(&[Triple], BuildFault)] = &[
+    (&[(3, 0, 1)], BuildFault::IndexOutOfRange),
+    (&[(0, 3, 1)], BuildFault::IndexOutOfRange),
+    (&[(0, 0, 1), (3, 0, 0)], BuildFault::IndexOutOfRange),
+    (&[(0, 0, HALF), (1, 1, HALF)], BuildFault::SumTooLarge),
+    (
+        &[(0, 0, HALF), (0, 0, HALF), (3, 0, 1)],
+        BuildFault::SumTooLarge,
+    ),
+    (&[(0, 0, HALF), (3, 0, HALF)], BuildFault::IndexOutOfRange),
+];
+
+fn builds(alloc: Global, list: &[Triple], want: &[Triple]) -> Result<bool, AllocError> {
+    let want = cells_of(alloc, want)?;
+    let list = cells_of(alloc, list)?;
+    let m = built(alloc, 3, &list)?;
+    Ok(m.dims() == (3, 3) && has(alloc, &m, &want)?)
+}
+
+fn sums(alloc: Global, xs: &[Triple], ys: &[Triple], want: &[Triple]) -> Result<bool, AllocError> {
+    let want = cells_of(alloc, want)?;
+    let xs = cells_of(alloc, xs)?;
+    let ys = cells_of(alloc, ys)?;
+    let a = built(alloc, 3, &xs)?;
+    let b = built(alloc, 3, &ys)?;
+    adds_up(alloc, a, b, &want)
+}
+
+fn is_refused(alloc: Global, list: &[Triple], want: BuildFault) -> Result<bool, AllocError> {
+    let list = cells_of(alloc, list)?;
+    match Hyper::build(alloc, 3, 3, &list) {
+        Ok(_) => Ok(false),
+        Err(fault) => Ok(fault == want),
+    }
+}
+
+#[test]
+fn lists(rt: HostRuntime) -> Result<(), Fail> {
+    for (list, want) in BUILT {
+        assert!(rt; builds(rt.alloc(), list, want)?, "{list:?}");
+    }
+    Ok(())
+}
+
+#[test]
+fn pairs(rt: HostRuntime) -> Result<(), Fail> {
+    for (xs, ys, want) in SUMS {
+        assert!(rt; sums(rt.alloc(), xs, ys, want)?, "{xs:?} and {ys:?}");
+    }
+    Ok(())
+}
+
+#[test]
+fn refusals(rt: HostRuntime) -> Result<(), Fail> {
+    for (list, want) in REFUSED {
+        assert!(rt; is_refused(rt.alloc(), list, *want)?, "{list:?}");
+    }
+    Ok(())
+}
+
+fn reaches(alloc: Global, side: u64) -> Result<bool, AllocError>
+    requires { IsDimension side }
+{
+    let corner = [cell((side - 1, side - 1, u64::MAX))];
+    let m = built(alloc, side, &corner)?;
+    Ok(m.dims() == (side, side) && has(alloc, &m, &corner)?)
+}
+
+#[test]
+fn greatest_dimensions(rt: HostRuntime) -> Result<(), Fail> {
+    assert!(rt; reaches(rt.alloc(), 1)?);
+    assert!(rt; reaches(rt.alloc(), 1 << 60)?);
+    let empty = Hyper::new(rt.alloc(), 1 << 60, 1);
+    assert!(rt; has(rt.alloc(), &empty, &[])? && empty.dims() == (1 << 60, 1));
+    Ok(())
+}
