@@ -3,7 +3,7 @@ use Rattle.std.proofs.Common.{◌≡◌, ℕ, zero, suc, ◌+◌, ◌<◌, ◌�
 use Rattle.std.specs.declared.sync.Arc.{Arc}
 use Rattle.std.specs.Arc.{arc_value}
 use Rattle.std.specs.FinMap.{len, empty_of_len}
-use Rattle.std.proofs.lemmas.List.{take_more, length-map, map-append, take_all}
+use Rattle.std.proofs.lemmas.List.{take_more, length-map, map-append}
 use Rattle.hyper_matrix.specs.Counts.{Counts, ewise_add, total}
 use Rattle.hyper_matrix.specs.Matrix.{Matrix, matrix}
 use Rattle.hyper_matrix.proofs.CountLaws.{ewise_add_assoc, ewise_add-empty, total-ewise_add, total-empty}
@@ -140,10 +140,6 @@ module _ {Z : Type 0} (layers : List (Arc Matrix Z)) (i : ℕ) (item : Arc Matri
 
   pub more_fits : total (content (take i (all_counts (values layers)))) + total x.counts ≤ total (content (all_counts (values layers)))
   more_fits = omega (arith, total_more, total-take (all_counts (values layers)) (i + 1))
-
--- the first layers are all of them
-pub content-all : {Z : Type 0} (layers : List (Arc Matrix Z)) (i : ℕ) → length layers ≤ i → content (take i (all_counts (values layers))) ≡ content (all_counts (values layers))
-content-all layers i h = ap content (take_all i (all_counts (values layers)) (omega (arith, length-counts layers)))
 
 -- a layer that is read behind a reference has the dimensions that contracts see
 pub seen_dims : {Z : Type 0} (layers items : List (Arc Matrix Z)) (i : ℕ) (item : Arc Matrix Z) (x : Matrix) (r c : ℕ) (cuts : List ℕ) (v : Layering) → items ≡ layers → i < length items → item ≡ get_or items i item → x ≡ arc_value item → HaveDims r c (values layers) → layering r c cuts (all_counts (values layers)) ≡ v → (x.rows ≡ v.rows) × (x.cols ≡ v.cols)
