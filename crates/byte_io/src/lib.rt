@@ -5,8 +5,6 @@
 #![tactic(auto)]
 
 mod device_laws;
-#[cfg(test)]
-mod device_tests;
 mod devices;
 mod fault;
 mod link;

@@ -63,7 +63,7 @@ module _ {S : Type 0} (gives : S → Result (List ℕ) DeviceFault → S → Typ
   hands_out_none s reader read = record { answers = []; calls = refl; none_failed = refl; has_read = read }
 
   -- there was no memory to begin with
-  pub unread : (s : S) → IsUnsummed gives failures s s
+  pub unread : (s : S) → IsUnsummed gives at_end failures s s
   unread s = record {
     answers = [];
     calls = refl;
@@ -95,7 +95,7 @@ module _ {S : Type 0} (gives : S → Result (List ℕ) DeviceFault → S → Typ
       step (Some size) e h = record { size = size; size_is = e; sized = h }
 
   -- Memory ran out behind the cells that were handed out, whose counts fit.
-  unsummed : (s t : S) (reader : TextReader) (cells : List Cell) → HandsOut gives at_end failures s t reader cells → cell_total cells < 2 ^ 64 → IsUnsummed gives failures s t
+  unsummed : (s t : S) (reader : TextReader) (cells : List Cell) → HandsOut gives at_end failures s t reader cells → cell_total cells < 2 ^ 64 → IsUnsummed gives at_end failures s t
   unsummed s t reader cells out fits =
       let read = out.has_read in
       record {
@@ -114,7 +114,7 @@ module _ {S : Type 0} (gives : S → Result (List ℕ) DeviceFault → S → Typ
       }
 
   -- Memory ran out behind a whole text, whose counts fit.
-  pub unsummed_text : (s t : S) (rows cols : ℕ) (cells : List Cell) → ReadsText gives at_end failures s t rows cols cells → cell_total cells < 2 ^ 64 → IsUnsummed gives failures s t
+  pub unsummed_text : (s t : S) (rows cols : ℕ) (cells : List Cell) → ReadsText gives at_end failures s t rows cols cells → cell_total cells < 2 ^ 64 → IsUnsummed gives at_end failures s t
   unsummed_text s t rows cols cells text fits =
       let bytes = bytes_of_calls text.answers in
       record {
@@ -179,7 +179,7 @@ module _ {S : Type 0} (gives : S → Result (List ℕ) DeviceFault → S → Typ
         can_take size.rows size.cols cells block sum is (within_back size.rows size.cols cells block (spelled_sized _ size (cells ++ block) text.spells).within)
 
     -- There was no memory for the block, whose counts fit behind the others.
-    pub block_unsummed : (more : Bool) → ReadsBlock gives at_end t t' reader reader' none block more → cell_total (cells ++ block) < 2 ^ 64 → IsUnsummed gives failures s t'
+    pub block_unsummed : (more : Bool) → ReadsBlock gives at_end t t' reader reader' none block more → cell_total (cells ++ block) < 2 ^ 64 → IsUnsummed gives at_end failures s t'
     block_unsummed true goes fits = unsummed s t' reader' (cells ++ block) (goes_on goes) fits
     block_unsummed false e fits = let end = ends e in unsummed_text s t' end.0.rows end.0.cols (cells ++ block) end.2 fits
 

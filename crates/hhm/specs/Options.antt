@@ -1,5 +1,6 @@
 -- What an option's words mean: a number, or a list of numbers.
-use Rattle.std.specs.Prelude.{ℕ, ◌^◌, Bool, ◌&&◌, if◌then◌else◌, nat_lt, nat_le, List, [], length, Option, Some, None, is_some, codes, filter_map, eqb}
+use Rattle.std.specs.Prelude.{ℕ, ◌^◌, Bool, ◌&&◌, if◌then◌else◌, nat_lt, nat_le, eqb, List, [], length, codes}
+use Rattle.std.specs.Prelude.{Option, Some, None, is_some, filter_map}
 use Rattle.std.specs.List.{slice_split, list_all}
 use Rattle.std.specs.Char.{is_ascii_digit}
 use Rattle.std.specs.Str.Parse.{digits_value}
@@ -24,5 +25,6 @@ writes_number word = is_some (option_number word)
 -- `none`, or numbers with single commas between
 abbrev pub option_list : List ℕ → Option (List ℕ)
 option_list word =
+    let pieces = slice_split is_comma word in
     if bytes_eq word (codes "none") then Some []
-    else (if list_all writes_number (slice_split is_comma word) then Some (filter_map option_number (slice_split is_comma word)) else None)
+    else (if list_all writes_number pieces then Some (filter_map option_number pieces) else None)

@@ -18,7 +18,8 @@ pub record IsSized (reader : TextReader) (cells : List Cell) : Type 0 where
   pub size_is : size_of reader ≡ Some size
   pub sized : SizedCells cells size
 
-module _ {S : Type 0} (gives : S → Result (List ℕ) DeviceFault → S → Type 0) (at_end : S → Type 0) (failures : S → ℕ) where
+module _ {S : Type 0} (gives : S → Result (List ℕ) DeviceFault → S → Type 0)
+    (at_end : S → Type 0) (failures : S → ℕ) where
   -- Between s and t no call has failed, and the reader has handed out these cells.
   pub record HandsOut (s t : S) (reader : TextReader) (cells : List Cell) : Type 0 where
     pub answers : List (Result (List ℕ) DeviceFault)
@@ -42,7 +43,7 @@ module _ {S : Type 0} (gives : S → Result (List ℕ) DeviceFault → S → Typ
   -- what a fault says of the text that was read between s and t
   abbrev pub Excuses : S → S → SumFault → Type 0
   Excuses s t (Text fault) = StopsText gives at_end failures s t fault.kind fault.line
-  Excuses s t Memory = IsUnsummed gives failures s t
+  Excuses s t Memory = IsUnsummed gives at_end failures s t
   Excuses s t BadCuts = ⊥
   Excuses s t SumTooLarge = ⊥
   Excuses s t (Output fault) = ⊥

@@ -1,5 +1,5 @@
 -- What a running sum holds of the cells that were added.
-use Rattle.std.specs.Prelude.{◌≡◌, ℕ, ◌<◌, ◌≤◌, ◌^◌, List}
+use Rattle.std.specs.Prelude.{◌≡◌, ℕ, ◌<◌, ◌≤◌, ◌^◌, List, ◌++◌}
 use Rattle.cells.specs.Bounds.{AreWithin}
 use Rattle.cells.specs.declared.cell.Cell.{Cell}
 use Rattle.hyper_matrix.specs.Cells.{built_of, cell_total}
@@ -25,6 +25,16 @@ abbrev pub CanTake : RunningSum → List Cell → Type 0
 CanTake (Fits layers) block = AreWithin layers.rows layers.cols block
 CanTake TooLarge block = Unit {0}
 
+-- the sum was grown by a block of cells
+abbrev pub GrowsBy : RunningSum → List Cell → RunningSum → Type 0
+GrowsBy sum block next = (rows cols : ℕ) (cells : List Cell) →
+    IsSumOf rows cols cells sum → IsSumOf rows cols (cells ++ block) next
+
+-- the counts of a block fit 64 bits behind those of the sum
+abbrev pub FitsBehind : RunningSum → List Cell → Type 0
+FitsBehind sum block = (rows cols : ℕ) (cells : List Cell) →
+    IsSumOf rows cols cells sum → cell_total (cells ++ block) < 2 ^ 64
+
 -- why the sum of these cells is no matrix: the counts pass 64 bits, or they do not and memory ran out
 abbrev pub RefusesSum : List Cell → SumFault → Type 0
 RefusesSum cells fault.SumTooLarge = 2 ^ 64 ≤ cell_total cells
@@ -32,3 +42,7 @@ RefusesSum cells fault.Memory = cell_total cells < 2 ^ 64
 RefusesSum cells fault.BadCuts = ⊥
 RefusesSum cells (fault.Text told) = ⊥
 RefusesSum cells (fault.Output told) = ⊥
+
+-- why a running sum is no matrix
+abbrev pub IsRefused : RunningSum → SumFault → Type 0
+IsRefused sum told = (rows cols : ℕ) (cells : List Cell) → IsSumOf rows cols cells sum → RefusesSum cells told

@@ -35,55 +35,58 @@ matrix_text m = canonical m.rows m.cols (cells_in_order m.counts)
 abbrev pub sum_text : ℕ → ℕ → List Cell → List ℕ
 sum_text rows cols cells = matrix_text (matrix rows cols (built_of cells))
 
--- These calls read a text to the source's end, none failed, and the text spells this list of cells.
-pub record ReadsText {S : Type 0} (gives : S → Result (List ℕ) DeviceFault → S → Type 0) (at_end : S → Type 0) (failures : S → ℕ) (s t : S) (rows cols : ℕ) (cells : List Cell) : Type 0 where
-  pub answers : List (Result (List ℕ) DeviceFault)
-  pub calls : Calls gives s answers t
-  pub reads : length answers ≤ 2 ^ 40 + 2
-  pub ended : at_end t
-  pub none_failed : failures t ≡ failures s
-  pub spells : Spells (bytes_of_calls answers) sum_limits rows cols cells
-
--- The text that these calls read spells a list of cells whose counts fit 64 bits together.
-pub record SumsText {S : Type 0} (gives : S → Result (List ℕ) DeviceFault → S → Type 0) (at_end : S → Type 0) (failures : S → ℕ) (s t : S) (rows cols : ℕ) (cells : List Cell) : Type 0 where
-  pub reads_text : ReadsText gives at_end failures s t rows cols cells
-  pub fits : cell_total cells < 2 ^ 64
-
--- The text that these calls read spells a list of cells whose counts do not.
-pub record SumPasses {S : Type 0} (gives : S → Result (List ℕ) DeviceFault → S → Type 0) (at_end : S → Type 0) (failures : S → ℕ) (s t : S) : Type 0 where
-  pub rows : ℕ
-  pub cols : ℕ
-  pub cells : List Cell
-  pub reads_text : ReadsText gives at_end failures s t rows cols cells
-  pub passes : 2 ^ 64 ≤ cell_total cells
-
--- These calls read a text up to a fault of this kind and line: the text's first, or a read that failed.
-pub record StopsText {S : Type 0} (gives : S → Result (List ℕ) DeviceFault → S → Type 0) (at_end : S → Type 0) (failures : S → ℕ) (s t : S) (kind : MmKind) (line : ℕ) : Type 0 where
-  pub answers : List (Result (List ℕ) DeviceFault)
-  pub calls : Calls gives s answers t
-  pub reads : length answers ≤ 2 ^ 40 + 2
-  pub explains : Explains (bytes_of_calls answers) sum_limits (at_end t) (failures t ≡ failures s + 1) kind line
-  pub no_memory_fault : kind ≢ Memory
-  pub read_alone_fails : kind ≢ Read → failures t ≡ failures s
-
 -- These cells are those of the text's whole lines, which bear no fault, or of all of its lines where it spells a list.
 abbrev pub AreItsCells : List ℕ → List Cell → Type 0
 AreItsCells text cells =
     ((carry : List ℕ) × (stage : Stage) × (lines : ℕ) × Holds sum_limits text carry stage cells lines)
     ⊎ ((rows : ℕ) × (cols : ℕ) × Spells text sum_limits rows cols cells)
 
--- These calls read a text up to a place where memory ran out, or at most one piece of 65,536 bytes and a byte beyond it,
--- and none failed. What stands before the place bears no fault, and its cells have counts that fit 64 bits together.
-pub record IsUnsummed {S : Type 0} (gives : S → Result (List ℕ) DeviceFault → S → Type 0) (failures : S → ℕ) (s t : S) : Type 0 where
-  pub answers : List (Result (List ℕ) DeviceFault)
-  pub calls : Calls gives s answers t
-  pub reads : length answers ≤ 2 ^ 40 + 2
-  pub none_failed : failures t ≡ failures s
-  pub before : List ℕ
-  pub behind : List ℕ
-  pub text_is : bytes_of_calls answers ≡ before ++ behind
-  pub near : length behind ≤ 65537
-  pub none_within : NoFaultWithin before sum_limits
-  pub cells : List Cell
-  pub cells_are : AreItsCells before cells
-  pub fits : cell_total cells < 2 ^ 64
+-- A source's calls, with the answers that they may give, whether it has ended, and how many of them have failed.
+module _ {S : Type 0} (gives : S → Result (List ℕ) DeviceFault → S → Type 0)
+    (at_end : S → Type 0) (failures : S → ℕ) where
+  -- These calls read a text to the source's end, none failed, and the text spells this list of cells.
+  pub record ReadsText (s t : S) (rows cols : ℕ) (cells : List Cell) : Type 0 where
+    pub answers : List (Result (List ℕ) DeviceFault)
+    pub calls : Calls gives s answers t
+    pub reads : length answers ≤ 2 ^ 40 + 2
+    pub ended : at_end t
+    pub none_failed : failures t ≡ failures s
+    pub spells : Spells (bytes_of_calls answers) sum_limits rows cols cells
+
+  -- The text that these calls read spells a list of cells whose counts fit 64 bits together.
+  pub record SumsText (s t : S) (rows cols : ℕ) (cells : List Cell) : Type 0 where
+    pub reads_text : ReadsText s t rows cols cells
+    pub fits : cell_total cells < 2 ^ 64
+
+  -- The text that these calls read spells a list of cells whose counts do not.
+  pub record SumPasses (s t : S) : Type 0 where
+    pub rows : ℕ
+    pub cols : ℕ
+    pub cells : List Cell
+    pub reads_text : ReadsText s t rows cols cells
+    pub passes : 2 ^ 64 ≤ cell_total cells
+
+  -- These calls read a text up to a fault of this kind and line: the text's first, or a read that failed.
+  pub record StopsText (s t : S) (kind : MmKind) (line : ℕ) : Type 0 where
+    pub answers : List (Result (List ℕ) DeviceFault)
+    pub calls : Calls gives s answers t
+    pub reads : length answers ≤ 2 ^ 40 + 2
+    pub explains : Explains (bytes_of_calls answers) sum_limits (at_end t) (failures t ≡ failures s + 1) kind line
+    pub no_memory_fault : kind ≢ Memory
+    pub read_alone_fails : kind ≢ Read → failures t ≡ failures s
+
+  -- These calls read a text up to a place where memory ran out, or at most a piece of 65,536 bytes and one byte beyond
+  -- it, and none failed. What stands before the place bears no fault, and its cells' counts fit 64 bits together.
+  pub record IsUnsummed (s t : S) : Type 0 where
+    pub answers : List (Result (List ℕ) DeviceFault)
+    pub calls : Calls gives s answers t
+    pub reads : length answers ≤ 2 ^ 40 + 2
+    pub none_failed : failures t ≡ failures s
+    pub before : List ℕ
+    pub behind : List ℕ
+    pub text_is : bytes_of_calls answers ≡ before ++ behind
+    pub near : length behind ≤ 65537
+    pub none_within : NoFaultWithin before sum_limits
+    pub cells : List Cell
+    pub cells_are : AreItsCells before cells
+    pub fits : cell_total cells < 2 ^ 64

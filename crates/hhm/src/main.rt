@@ -6,6 +6,7 @@
 
 mod cli;
 mod fault;
+mod limits;
 mod numbers;
 mod report;
 mod running_sum;

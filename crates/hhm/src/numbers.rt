@@ -3,16 +3,15 @@
 //! A number is one to twenty ASCII digits with a value of at most 2^64 - 1, leading zeros included. A list is one or
 //! more numbers with single commas between, or the word `none` for an empty list. Nothing else is read: no sign, no
 //! blank, no separator inside a number.
-ghost use Rattle.std.specs.Prelude.{◌≡◌, ℕ, ◌<◌, ◌≤◌, ◌^◌, length, true, IfOk, IfNone, IfSome, None, Some, ◌↔◌, Err, filter_map, map};
+ghost use Rattle.std.specs.Prelude.{◌≡◌, ℕ, ◌<◌, ◌≤◌, ◌^◌, ◌↔◌, true, length, filter_map, map};
+ghost use Rattle.std.specs.Prelude.{None, Some, Err, IfOk, IfNone, IfSome};
 ghost use Rattle.std.specs.Char.{is_ascii_digit};
 ghost use Rattle.std.specs.List.{list_all, slice_split};
 ghost use Rattle.std.specs.Str.Parse.{digits_value};
 ghost use Rattle.hhm.specs.Options.{is_numeral, option_number, option_list, writes_number, is_comma};
 
+use crate::limits::MAX_DIGITS;
 use std::alloc::{AllocError, Global};
-
-/// The most digits that a number of an option has.
-const MAX_DIGITS: usize = 20;
 
 fn are_digits(word: &[u8]) -> bool
     ensures { result ≡ list_all is_ascii_digit word.now }

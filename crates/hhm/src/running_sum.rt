@@ -4,7 +4,8 @@
 //! layers alone. Whether the counts still fit is judged first, so that want of memory never stands for a total that is
 //! too large. Once the total has passed 2^64 - 1 nothing is added any more, and memory is given back: the text is only
 //! read to its end, since a fault in it is told first.
-ghost use Rattle.std.specs.Prelude.{◌≡◌, ℕ, ◌+◌, ◌<◌, ◌≤◌, ◌^◌, List, ◌++◌, ◌⊎◌, ◌↔◌, IsTrue, OnErr, IfOk, IfErr, IfNone, IfSome};
+ghost use Rattle.std.specs.Prelude.{◌≡◌, ℕ, ◌+◌, ◌<◌, ◌≤◌, ◌^◌, ◌⊎◌, ◌↔◌, List};
+ghost use Rattle.std.specs.Prelude.{IsTrue, OnErr, IfOk, IfErr, IfNone, IfSome};
 ghost use Rattle.cells.specs.Bounds.{IsDimension, AreWithin};
 ghost use Rattle.cells.specs.declared.cell.Cell.{Cell};
 ghost use Rattle.hyper_matrix.specs.Cells.{built_of, cell_total};
@@ -13,7 +14,7 @@ ghost use Rattle.hyper_matrix.specs.Matrix.{matrix};
 ghost use Rattle.layer_cascade.specs.Cascade.{content};
 ghost use Rattle.layer_cascade.specs.Cuts.{AreCuts};
 ghost use Rattle.layer_cascade.specs.Layering.{no_layers};
-ghost use Rattle.hhm.specs.Running.{CanTake, LayersSum, IsSumOf, RefusesSum};
+ghost use Rattle.hhm.specs.Running.{IsSumOf, CanTake, GrowsBy, FitsBehind, IsRefused};
 
 use crate::fault::SumFault;
 use cells::{Cell, checked_total, summed};
@@ -48,7 +49,7 @@ fn empty_layers(alloc: Global, rows: u64, cols: u64, cuts: &[u64]) -> Result<Lay
 fn with_block(alloc: Global, layers: Layers, block: &[Cell]) -> Result<Layers, AllocError>
     requires within { AreWithin layers.rows layers.cols block.now }
     requires fits { total (content layers.layers) + cell_total block.now < 2 ^ 64 }
-    ensures { IfOk result (λ after. (rows cols : ℕ) (cells : List Cell) → LayersSum rows cols cells layers → LayersSum rows cols (cells ++ block.now) after) }
+    ensures { IfOk result (λ after. GrowsBy (RunningSum.Fits layers) block.now (RunningSum.Fits after)) }
 {
     let list = summed(alloc, block)?;
     let after = layers.add_cells(alloc, &list)?;
@@ -68,8 +69,8 @@ fn fits_beside(layers: &Layers, block: &[Cell]) -> bool
 // The sum of layers and a block of cells.
 fn add_block(alloc: Global, layers: Layers, block: &[Cell]) -> Result<RunningSum, AllocError>
     requires { AreWithin layers.rows layers.cols block.now }
-    ensures ok { IfOk result (λ next. (rows cols : ℕ) (cells : List Cell) → LayersSum rows cols cells layers → IsSumOf rows cols (cells ++ block.now) next) }
-    ensures memory { OnErr result ((rows cols : ℕ) (cells : List Cell) → LayersSum rows cols cells layers → cell_total (cells ++ block.now) < 2 ^ 64) }
+    ensures ok { IfOk result (GrowsBy (RunningSum.Fits layers) block.now) }
+    ensures memory { OnErr result (FitsBehind (RunningSum.Fits layers) block.now) }
 {
     if !fits_beside(&layers, block) {
         return Ok(RunningSum::TooLarge);
@@ -105,8 +106,8 @@ impl RunningSum {
     /// The sum with a block of cells added. There is want of memory only where the counts fit.
     pub fn add(self, alloc: Global, block: &[Cell]) -> Result<RunningSum, AllocError>
         requires { CanTake self block.now }
-        ensures ok { IfOk result (λ next. (rows cols : ℕ) (cells : List Cell) → IsSumOf rows cols cells self → IsSumOf rows cols (cells ++ block.now) next) }
-        ensures memory { OnErr result ((rows cols : ℕ) (cells : List Cell) → IsSumOf rows cols cells self → cell_total (cells ++ block.now) < 2 ^ 64) }
+        ensures ok { IfOk result (GrowsBy self block.now) }
+        ensures memory { OnErr result (FitsBehind self block.now) }
     {
         match self {
             RunningSum::Fits(layers) => add_block(alloc, layers, block),
@@ -120,7 +121,7 @@ impl RunningSum {
     pub fn into_matrix(self, alloc: Global) -> Result<Hyper, SumFault>
         ensures ok { IfOk result (λ m. (rows cols : ℕ) (cells : List Cell) → IsSumOf rows cols cells self →
             (m ≡ matrix rows cols (built_of cells)) × (cell_total cells < 2 ^ 64)) }
-        ensures err { IfErr result (λ fault. (rows cols : ℕ) (cells : List Cell) → IsSumOf rows cols cells self → RefusesSum cells fault) }
+        ensures err { IfErr result (IsRefused self) }
         ensures kinds { IfErr result (λ fault. (fault ≡ SumFault.SumTooLarge) ⊎ (fault ≡ SumFault.Memory)) }
     {
         match self {

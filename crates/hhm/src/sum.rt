@@ -2,7 +2,8 @@
 //!
 //! The list of the text's cells is never held: memory goes to the layers and to one block. The time is that of one pass
 //! over the text, of the additions that the cuts ask for, and of one pass over the sum.
-ghost use Rattle.std.specs.Prelude.{◌≡◌, ℕ, ◌+◌, ◌<◌, ◌≤◌, ◌^◌, List, ◌⊎◌, ◌↔◌, OnOk, OnErr, IfOk, IfErr, Err, Some, vec_capacity};
+ghost use Rattle.std.specs.Prelude.{◌≡◌, ℕ, ◌+◌, ◌<◌, ◌≤◌, ◌^◌, ◌⊎◌, ◌↔◌, List, vec_capacity};
+ghost use Rattle.std.specs.Prelude.{Some, Err, OnOk, OnErr, IfOk, IfErr};
 ghost use Rattle.mm_text.specs.declared.size.Size.{Size};
 ghost use Rattle.byte_io.specs.Writing.{HasTaken, HasStopped};
 ghost use Rattle.cells.specs.declared.cell.Cell.{Cell};
@@ -17,22 +18,14 @@ ghost use Rattle.hhm.specs.Sum.{sum_text, matrix_text, StopsText, SumsText, SumP
 ghost use Rattle.hyper_matrix.specs.Cells.{cell_total};
 
 use crate::fault::SumFault;
+use crate::limits::{BLOCK_CELLS, TEXT_LIMITS};
 use crate::running_sum::RunningSum;
 use byte_io::{Sink, Source, WriteFault};
 use cells::Cell;
 use hyper_matrix::Hyper;
 use layer_cascade::are_cuts;
-use mm_text::{TextLimits, TextReader, TextWriter};
+use mm_text::{TextReader, TextWriter};
 use std::alloc::{AllocError, Global};
-
-/// The most cells of the list that go into the layers at once.
-const BLOCK: usize = 4096;
-
-/// What a text may take.
-const LIMITS: TextLimits = TextLimits {
-    max_bytes: 1 << 40,
-    max_entries: 1 << 40,
-};
 
 // The sum of the cells of a text's first block, in the dimensions of the size line that was read.
 fn first_sum(
@@ -43,7 +36,8 @@ fn first_sum(
 ) -> Result<RunningSum, AllocError>
     requires sized { IsSized reader.now block.now }
     requires cuts { AreCuts cuts.now }
-    ensures ok { IfOk result (λ sum. (size : Size) → size_of reader.now ≡ Some size → IsSumOf size.rows size.cols block.now sum) }
+    ensures ok { IfOk result (λ sum. (size : Size) → size_of reader.now ≡ Some size →
+        IsSumOf size.rows size.cols block.now sum) }
     ensures memory { OnErr result (cell_total block.now < 2 ^ 64) }
 {
     let Some(size) = reader.size() else {
@@ -61,8 +55,9 @@ fn sum_blocks<R: Source>(
     first: RunningSum,
 ) -> Result<RunningSum, SumFault>
     requires failures { R.failure_count r.old + 1 < 2 ^ 64 }
-    requires reserved { BLOCK ≤ vec_capacity block.old }
-    requires summing { (s : R) × (size : Size) × IsSumming R.read_gives R.at_end R.failure_count s r.old reader.old size first }
+    requires reserved { BLOCK_CELLS ≤ vec_capacity block.old }
+    requires summing { (s : R) × (size : Size) ×
+        IsSumming R.read_gives R.at_end R.failure_count s r.old reader.old size first }
     ensures ok { IfOk result (λ sum. (s : R) (size : Size) →
         IsSumming R.read_gives R.at_end R.failure_count s r.old reader.old size first →
         HasSummed R.read_gives R.at_end R.failure_count s r.new size sum) }
@@ -73,7 +68,7 @@ fn sum_blocks<R: Source>(
     let mut sum = first;
     'text: for _blocks in 0..u64::MAX {
         block.clear();
-        let more = reader.read_block(r, block, BLOCK)?;
+        let more = reader.read_block(r, block, BLOCK_CELLS)?;
         sum = sum.add(alloc, block)?;
         if !more {
             return Ok(sum);
@@ -87,12 +82,13 @@ fn sum_blocks<R: Source>(
 fn read_running<R: Source>(alloc: Global, r: &mut R, cuts: &[u64]) -> Result<RunningSum, SumFault>
     requires failures { R.failure_count r.old + 1 < 2 ^ 64 }
     requires cuts { AreCuts cuts.now }
-    ensures ok { IfOk result (λ sum. (size : Size) × HasSummed R.read_gives R.at_end R.failure_count r.old r.new size sum) }
+    ensures ok { IfOk result (λ sum. (size : Size) ×
+        HasSummed R.read_gives R.at_end R.failure_count r.old r.new size sum) }
     ensures err { IfErr result (λ fault. Excuses R.read_gives R.at_end R.failure_count r.old r.new fault) }
 {
-    let mut reader = TextReader::new(alloc, LIMITS)?;
-    let mut block = Vec::with_capacity(alloc, BLOCK)?;
-    let more = reader.read_block(r, &mut block, BLOCK)?;
+    let mut reader = TextReader::new(alloc, TEXT_LIMITS)?;
+    let mut block = Vec::with_capacity(alloc, BLOCK_CELLS)?;
+    let more = reader.read_block(r, &mut block, BLOCK_CELLS)?;
     let sum = first_sum(alloc, &reader, cuts, &block)?;
     if !more {
         return Ok(sum);
@@ -104,7 +100,8 @@ fn read_running<R: Source>(alloc: Global, r: &mut R, cuts: &[u64]) -> Result<Run
 fn write_sum<W: Sink>(w: &mut W, m: &Hyper) -> Result<(), WriteFault>
     requires { W.failure_count w.old + 1 < 2 ^ 64 }
     ensures ok { OnOk result (HasTaken W.write_takes W.failure_count w.old w.new (matrix_text m.now)) }
-    ensures err { IfErr result (λ fault. HasStopped W.write_takes W.failure_count w.old w.new (matrix_text m.now) fault.written) }
+    ensures err { IfErr result (λ fault.
+        HasStopped W.write_takes W.failure_count w.old w.new (matrix_text m.now) fault.written) }
 {
     let (rows, cols) = m.dims();
     let mut writer = TextWriter::new(rows, cols, m.entries());
@@ -122,10 +119,10 @@ fn write_sum<W: Sink>(w: &mut W, m: &Hyper) -> Result<(), WriteFault>
 ///
 /// # Errors
 ///
-/// In this order: `BadCuts` before anything is read; at its place in the text, `Text`; `Memory` where memory ran out, at
-/// a place up to which the text bears no fault and its counts fit 64 bits; `SumTooLarge` once the text was read to its
-/// end without a fault; `Output` where the sink failed or took nothing. Only `Output` leaves anything written: the first
-/// bytes of the canonical text, as many as it says. What was read has been read.
+/// In this order: `BadCuts` before anything is read; at its place in the text, `Text`; `Memory` where memory ran out,
+/// at a place up to which the text bears no fault and its counts fit 64 bits; `SumTooLarge` once the text was read to
+/// its end without a fault; `Output` where the sink failed or took nothing. Only `Output` leaves anything written: the
+/// first bytes of the canonical text, as many as it says. What was read has been read.
 ///
 /// A text may have at most 2^40 bytes and declare at most 2^40 entries. `r` and `w` must have failed less than
 /// 2^64 - 1 times before. `w` is not flushed.
@@ -139,18 +136,22 @@ pub fn run_sum<R: Source, W: Sink>(
     requires writes { W.failure_count w.old + 1 < 2 ^ 64 }
 
     // The text was read to its end and spells a list that fits; what was written is the canonical text of its sum.
-    ensures ok { OnOk result ((rows cols : ℕ) × (cells : List Cell) × SumsText R.read_gives R.at_end R.failure_count r.old r.new rows cols cells
+    ensures ok { OnOk result ((rows cols : ℕ) × (cells : List Cell)
+        × SumsText R.read_gives R.at_end R.failure_count r.old r.new rows cols cells
         × HasTaken W.write_takes W.failure_count w.old w.new (sum_text rows cols cells)) }
 
     ensures cuts { (result ≡ Err SumFault.BadCuts) ↔ (AreCuts cuts.now → ⊥) }
     ensures unread { result ≡ Err SumFault.BadCuts → r.new ≡ r.old }
     ensures text { (fault : MmFault) → result ≡ Err (SumFault.Text fault) →
         StopsText R.read_gives R.at_end R.failure_count r.old r.new fault.kind fault.line }
-    ensures too_large { result ≡ Err SumFault.SumTooLarge → SumPasses R.read_gives R.at_end R.failure_count r.old r.new }
+    ensures too_large { result ≡ Err SumFault.SumTooLarge →
+        SumPasses R.read_gives R.at_end R.failure_count r.old r.new }
     ensures output { (fault : WriteFault) → result ≡ Err (SumFault.Output fault) →
-        (rows cols : ℕ) × (cells : List Cell) × SumsText R.read_gives R.at_end R.failure_count r.old r.new rows cols cells
+        (rows cols : ℕ) × (cells : List Cell)
+        × SumsText R.read_gives R.at_end R.failure_count r.old r.new rows cols cells
         × HasStopped W.write_takes W.failure_count w.old w.new (sum_text rows cols cells) fault.written }
-    ensures memory { result ≡ Err SumFault.Memory → IsUnsummed R.read_gives R.failure_count r.old r.new }
+    ensures memory { result ≡ Err SumFault.Memory →
+        IsUnsummed R.read_gives R.at_end R.failure_count r.old r.new }
     ensures unwritten { IfErr result (λ fault. IsOutput fault ⊎ (w.new ≡ w.old)) }
 {
     if !are_cuts(cuts) {

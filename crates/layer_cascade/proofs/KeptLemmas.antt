@@ -1,5 +1,6 @@
 -- Layers that are made keep what layers are to keep: the empty ones, and those after an addition.
-use Rattle.std.proofs.Common.{◌≡◌, ℕ, zero, suc, ◌+◌, ◌<◌, ◌^◌, List, [], ◌∷◌, ◌++◌, length, drop, replicate, sym, ◌∙◌, ap, subst, refl, arith}
+use Rattle.std.proofs.Common.{◌≡◌, ℕ, zero, suc, ◌+◌, ◌<◌, ◌^◌, List, [], ◌∷◌, ◌++◌, length, drop, replicate, sym, ◌∙◌}
+use Rattle.std.proofs.Common.{ap, subst, refl, arith}
 use Rattle.std.specs.FinMap.{empty, len-empty}
 use Rattle.std.proofs.lemmas.List.{map-append, length-replicate, drop-map}
 use Rattle.cells.specs.Bounds.{IsDimension}
@@ -28,7 +29,8 @@ cuts-replicate zero cuts = tt
 cuts-replicate (suc n) [] = tt
 cuts-replicate (suc n) (cut ∷ cuts) = (omega (arith, len-empty place_cmp ℕ), cuts-replicate n cuts)
 
-is_no_layers : (r c : ℕ) (cuts : List ℕ) → IsDimension r → IsDimension c → AreCuts cuts → IsLayering (no_layers r c cuts)
+is_no_layers : (r c : ℕ) (cuts : List ℕ) → IsDimension r → IsDimension c → AreCuts cuts →
+    IsLayering (no_layers r c cuts)
 is_no_layers r c cuts rows cols are = record {
   rows = rows;
   cols = cols;
@@ -39,21 +41,25 @@ is_no_layers r c cuts rows cols are = record {
 }
 
 -- the layers as they are made at first
-module _ (r c : ℕ) (cuts cuts' : List ℕ) (layers : List Matrix) (none : Matrix) (same : cuts' ≡ cuts) (empty_one : none ≡ matrix r c empty) (made : layers ≡ replicate (length cuts + 1) none) where
+module _ (r c : ℕ) (cuts cuts' : List ℕ) (layers : List Matrix) (none : Matrix) (same : cuts' ≡ cuts)
+    (empty_one : none ≡ matrix r c empty) (made : layers ≡ replicate (length cuts + 1) none) where
   pub first_layers : layering r c cuts' (all_counts layers) ≡ no_layers r c cuts
   first_layers =
       ap (λ k. layering r c k (all_counts layers)) same
-      ∙ ap (λ s. layering r c cuts s) (ap all_counts made ∙ counts-replicate (length cuts + 1) none ∙ ap (λ (m : Matrix). replicate (length cuts + 1) m.counts) empty_one)
+      ∙ ap (λ s. layering r c cuts s) (ap all_counts made ∙ counts-replicate (length cuts + 1) none
+      ∙ ap (λ (m : Matrix). replicate (length cuts + 1) m.counts) empty_one)
 
   pub keeps_first : IsDimension r → IsDimension c → AreCuts cuts → KeepsLayers r c cuts' layers none
   keeps_first rows cols are = record {
     told = subst IsLayering (sym first_layers) (is_no_layers r c cuts rows cols are);
-    dims = subst (HaveDims r c) (sym made) (dims-replicate r c (length cuts + 1) none (ap (λ (m : Matrix). m.rows) empty_one) (ap (λ (m : Matrix). m.cols) empty_one));
+    dims = subst (HaveDims r c) (sym made) (dims-replicate r c (length cuts + 1) none
+        (ap (λ (m : Matrix). m.rows) empty_one) (ap (λ (m : Matrix). m.cols) empty_one));
     none = empty_one;
   }
 
 -- what an addition leaves are layers
-is_added : (r c : ℕ) (cuts : List ℕ) (layers : List Counts) (m : Counts) → IsLayering (layering r c cuts layers) → total (content layers) + total m < 2 ^ 64 → IsLayering (layering r c cuts (cascade layers cuts m))
+is_added : (r c : ℕ) (cuts : List ℕ) (layers : List Counts) (m : Counts) → IsLayering (layering r c cuts layers) →
+    total (content layers) + total m < 2 ^ 64 → IsLayering (layering r c cuts (cascade layers cuts m))
 is_added r c cuts layers m told fits = record {
   rows = told.rows;
   cols = told.cols;
@@ -63,52 +69,84 @@ is_added r c cuts layers m told fits = record {
   fits = omega (arith, ap total (content-cascade layers cuts m told.count), total-ewise_add (content layers) m);
 }
 
-pub keeps_added : (r c : ℕ) (cuts : List ℕ) (layers after : List Matrix) (none m : Matrix) (v : Layering) → KeepsLayers r c cuts layers none → layering r c cuts (all_counts layers) ≡ v → total (content v.layers) + total m.counts < 2 ^ 64 → m.rows ≡ v.rows → m.cols ≡ v.cols → all_counts after ≡ cascade (all_counts layers) cuts m.counts → HaveDims m.rows m.cols after → KeepsLayers r c cuts after none
+pub keeps_added : (r c : ℕ) (cuts : List ℕ) (layers after : List Matrix) (none m : Matrix) (v : Layering) →
+    KeepsLayers r c cuts layers none → layering r c cuts (all_counts layers) ≡ v →
+    total (content v.layers) + total m.counts < 2 ^ 64 → m.rows ≡ v.rows → m.cols ≡ v.cols →
+    all_counts after ≡ cascade (all_counts layers) cuts m.counts → HaveDims m.rows m.cols after →
+    KeepsLayers r c cuts after none
 keeps_added r c cuts layers after none m v keeps view fits rows cols told dims = record {
-  told = subst (λ l. IsLayering (layering r c cuts l)) (sym told) (is_added r c cuts (all_counts layers) m.counts keeps.told (omega (arith, fits, ap (λ (w : Layering). total (content w.layers)) view)));
-  dims = subst (λ k. HaveDims r k after) (cols ∙ sym (ap (λ (w : Layering). w.cols) view)) (subst (λ k. HaveDims k m.cols after) (rows ∙ sym (ap (λ (w : Layering). w.rows) view)) dims);
+  told = subst (λ l. IsLayering (layering r c cuts l)) (sym told)
+      (is_added r c cuts (all_counts layers) m.counts keeps.told
+      (omega (arith, fits, ap (λ (w : Layering). total (content w.layers)) view)));
+  dims = subst (λ k. HaveDims r k after) (cols ∙ sym (ap (λ (w : Layering). w.cols) view))
+      (subst (λ k. HaveDims k m.cols after) (rows ∙ sym (ap (λ (w : Layering). w.rows) view)) dims);
   none = keeps.none;
 }
 
 -- the layers after an addition
-module _ (r c : ℕ) (cuts cuts' : List ℕ) (layers after : List Matrix) (none none' m sum : Matrix) (j : ℕ) (keeps : KeepsLayers r c cuts layers none) (ends : EndsAt (all_counts layers) cuts m.counts j) (sum_is : sum ≡ matrix m.rows m.cols (with_first (all_counts layers) m.counts j)) (made : after ≡ replicate j none ++ sum ∷ drop (suc j) layers) (same : cuts' ≡ cuts) where
+module _ (r c : ℕ) (cuts cuts' : List ℕ) (layers after : List Matrix) (none none' m sum : Matrix) (j : ℕ)
+    (keeps : KeepsLayers r c cuts layers none) (ends : EndsAt (all_counts layers) cuts m.counts j)
+    (sum_is : sum ≡ matrix m.rows m.cols (with_first (all_counts layers) m.counts j))
+    (made : after ≡ replicate j none ++ sum ∷ drop (suc j) layers) (same : cuts' ≡ cuts) where
   after_counts : all_counts after ≡ layers_after (all_counts layers) m.counts j
   after_counts =
       let counts : Matrix → Counts = λ m. m.counts in
       ap all_counts made ∙ map-append counts (replicate j none) (sum ∷ drop (suc j) layers)
-      ∙ ap (λ s. s ++ all_counts (sum ∷ drop (suc j) layers)) (counts-replicate j none ∙ ap (λ (x : Matrix). replicate j x.counts) keeps.none)
+      ∙ ap (λ s. s ++ all_counts (sum ∷ drop (suc j) layers))
+      (counts-replicate j none ∙ ap (λ (x : Matrix). replicate j x.counts) keeps.none)
       ∙ ap (λ (x : Matrix). replicate j empty ++ x.counts ∷ all_counts (drop (suc j) layers)) sum_is
-      ∙ ap (λ s. replicate j empty ++ with_first (all_counts layers) m.counts j ∷ s) (sym (drop-map counts (suc j) layers))
+      ∙ ap (λ s. replicate j empty ++ with_first (all_counts layers) m.counts j ∷ s)
+      (sym (drop-map counts (suc j) layers))
 
-  pub after_layers : layering r c cuts' (all_counts after) ≡ layering r c cuts (cascade (all_counts layers) cuts m.counts)
-  after_layers = ap (λ k. layering r c k (all_counts after)) same ∙ ap (λ s. layering r c cuts s) (after_counts ∙ sym (layers_after-cascade (all_counts layers) cuts m.counts j keeps.told.count ends))
+  pub after_layers : layering r c cuts' (all_counts after) ≡ layering r c cuts
+      (cascade (all_counts layers) cuts m.counts)
+  after_layers = ap (λ k. layering r c k (all_counts after)) same
+      ∙ ap (λ s. layering r c cuts s) (after_counts
+      ∙ sym (layers_after-cascade (all_counts layers) cuts m.counts j keeps.told.count ends))
 
-  pub keeps_after : m.rows ≡ r → m.cols ≡ c → total (content (all_counts layers)) + total m.counts < 2 ^ 64 → none' ≡ none → KeepsLayers r c cuts' after none'
+  pub keeps_after : m.rows ≡ r → m.cols ≡ c → total (content (all_counts layers)) + total m.counts < 2 ^ 64 →
+      none' ≡ none → KeepsLayers r c cuts' after none'
   keeps_after rows cols fits empty_one = record {
     told = subst IsLayering (sym after_layers) (is_added r c cuts (all_counts layers) m.counts keeps.told fits);
     dims = subst (HaveDims r c) (sym made) (dims-append r c (replicate j none) (sum ∷ drop (suc j) layers)
-        (dims-replicate r c j none (ap (λ (x : Matrix). x.rows) keeps.none) (ap (λ (x : Matrix). x.cols) keeps.none))
-        (ap (λ (x : Matrix). x.rows) sum_is ∙ rows, ap (λ (x : Matrix). x.cols) sum_is ∙ cols, dims-drop r c (suc j) layers keeps.dims));
+        (dims-replicate r c j none (ap (λ (x : Matrix). x.rows) keeps.none) (ap (λ (x : Matrix). x.cols) keeps.none)) (
+          ap (λ (x : Matrix). x.rows) sum_is ∙ rows,
+          ap (λ (x : Matrix). x.cols) sum_is ∙ cols,
+          dims-drop r c (suc j) layers keeps.dims,
+        ));
     none = empty_one ∙ keeps.none;
   }
 
 -- what the plan of an addition is made of, at the lists that are read behind references
-module _ {Z : Type 0} (r c : ℕ) (cuts cuts' cuts-2 : List ℕ) (layers layers-2 layers-3 after : List (Arc Matrix Z)) (none none' m sum : Matrix) (j : ℕ) (keeps : KeepsLayers r c cuts (values layers) none) (ends : EndsAt (all_counts (values layers-2)) cuts-2 m.counts j) (sum_is : sum ≡ matrix m.rows m.cols (with_first (all_counts (values layers-2)) m.counts j)) (made : values after ≡ replicate j none ++ sum ∷ values (drop (suc j) layers-3)) (same : cuts' ≡ cuts) (read : layers-2 ≡ layers) (read_cuts : cuts-2 ≡ cuts) (read_again : layers-3 ≡ layers) where
+module _ {Z : Type 0} (r c : ℕ) (cuts cuts' cuts-2 : List ℕ) (layers layers-2 layers-3 after : List (Arc Matrix Z))
+    (none none' m sum : Matrix) (j : ℕ) (keeps : KeepsLayers r c cuts (values layers) none)
+    (ends : EndsAt (all_counts (values layers-2)) cuts-2 m.counts j)
+    (sum_is : sum ≡ matrix m.rows m.cols (with_first (all_counts (values layers-2)) m.counts j))
+    (made : values after ≡ replicate j none ++ sum ∷ values (drop (suc j) layers-3)) (same : cuts' ≡ cuts)
+    (read : layers-2 ≡ layers) (read_cuts : cuts-2 ≡ cuts) (read_again : layers-3 ≡ layers) where
   ends_there : EndsAt (all_counts (values layers)) cuts m.counts j
-  ends_there = subst (λ k. EndsAt (all_counts (values layers)) k m.counts j) read_cuts (subst (λ s. EndsAt (all_counts (values s)) cuts-2 m.counts j) read ends)
+  ends_there = subst (λ k. EndsAt (all_counts (values layers)) k m.counts j) read_cuts
+      (subst (λ s. EndsAt (all_counts (values s)) cuts-2 m.counts j) read ends)
 
   sum_there : sum ≡ matrix m.rows m.cols (with_first (all_counts (values layers)) m.counts j)
   sum_there = sum_is ∙ ap (λ s. matrix m.rows m.cols (with_first (all_counts (values s)) m.counts j)) read
 
   made_there : values after ≡ replicate j none ++ sum ∷ drop (suc j) (values layers)
-  made_there = made ∙ ap (λ s. replicate j none ++ sum ∷ values (drop (suc j) s)) read_again ∙ ap (λ s. replicate j none ++ sum ∷ s) (sym (drop-map arc_value (suc j) layers))
+  made_there = made ∙ ap (λ s. replicate j none ++ sum ∷ values (drop (suc j) s)) read_again
+      ∙ ap (λ s. replicate j none ++ sum ∷ s) (sym (drop-map arc_value (suc j) layers))
 
-  pub planned_layers : (v : Layering) → layering r c cuts (all_counts (values layers)) ≡ v → layering r c cuts' (all_counts (values after)) ≡ layering v.rows v.cols v.cuts (cascade v.layers v.cuts m.counts)
+  pub planned_layers : (v : Layering) → layering r c cuts (all_counts (values layers)) ≡ v →
+      layering r c cuts' (all_counts (values after)) ≡ layering v.rows v.cols v.cuts (cascade v.layers v.cuts m.counts)
   planned_layers v view =
-      after_layers r c cuts cuts' (values layers) (values after) none none' m sum j keeps ends_there sum_there made_there same
+      after_layers r c cuts cuts' (values layers) (values after) none none' m sum j keeps ends_there sum_there
+      made_there same
       ∙ ap (λ (w : Layering). layering w.rows w.cols w.cuts (cascade w.layers w.cuts m.counts)) view
 
-  pub keeps_planned : (v : Layering) → layering r c cuts (all_counts (values layers)) ≡ v → m.rows ≡ v.rows → m.cols ≡ v.cols → total (content v.layers) + total m.counts < 2 ^ 64 → none' ≡ none → KeepsLayers r c cuts' (values after) none'
+  pub keeps_planned : (v : Layering) → layering r c cuts (all_counts (values layers)) ≡ v → m.rows ≡ v.rows →
+      m.cols ≡ v.cols → total (content v.layers) + total m.counts < 2 ^ 64 → none' ≡ none →
+      KeepsLayers r c cuts' (values after) none'
   keeps_planned v view rows cols fits empty_one =
-      keeps_after r c cuts cuts' (values layers) (values after) none none' m sum j keeps ends_there sum_there made_there same
-      (rows ∙ sym (ap (λ (w : Layering). w.rows) view)) (cols ∙ sym (ap (λ (w : Layering). w.cols) view)) (omega (arith, ap (λ (w : Layering). total (content w.layers)) view)) empty_one
+      keeps_after r c cuts cuts' (values layers) (values after) none none' m sum j keeps ends_there sum_there made_there
+      same
+      (rows ∙ sym (ap (λ (w : Layering). w.rows) view)) (cols ∙ sym (ap (λ (w : Layering). w.cols) view))
+      (omega (arith, ap (λ (w : Layering). total (content w.layers)) view)) empty_one

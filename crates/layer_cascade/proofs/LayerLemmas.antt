@@ -1,9 +1,10 @@
 -- What the stored layers come to, and what their content is place by place.
-use Rattle.std.proofs.Common.{◌≡◌, ℕ, zero, suc, ◌+◌, ◌<◌, ◌≤◌, List, [], ◌∷◌, ◌++◌, length, take, drop, replicate, get_or, sym, ◌∙◌, ap, subst, refl, inl, inr, arith, append_assoc}
+use Rattle.std.proofs.Common.{◌≡◌, ℕ, zero, suc, ◌+◌, ◌<◌, ◌≤◌, List, [], ◌∷◌, ◌++◌, length, take, drop, replicate}
+use Rattle.std.proofs.Common.{get_or, sym, ◌∙◌, ap, subst, refl, inl, inr, arith, append_assoc}
 use Rattle.std.specs.declared.sync.Arc.{Arc}
 use Rattle.std.specs.Arc.{arc_value}
 use Rattle.std.specs.FinMap.{len, empty_of_len}
-use Rattle.std.proofs.lemmas.List.{take_more, length-map, map-append, take_all}
+use Rattle.std.proofs.lemmas.List.{take_more, length-map, map-append}
 use Rattle.hyper_matrix.specs.Counts.{Counts, ewise_add, total}
 use Rattle.hyper_matrix.specs.Matrix.{Matrix, matrix}
 use Rattle.hyper_matrix.proofs.CountLaws.{ewise_add_assoc, ewise_add-empty, total-ewise_add, total-empty}
@@ -14,29 +15,41 @@ use Rattle.layer_cascade.proofs.CascadeLaws.{empty-ewise_add}
 
 pub content-append : (a b : List Counts) → content (a ++ b) ≡ ewise_add (content a) (content b)
 content-append [] b = sym (empty-ewise_add (content b))
-content-append (layer ∷ a) b = ap (ewise_add layer) (content-append a b) ∙ sym (ewise_add_assoc layer (content a) (content b))
+content-append (layer ∷ a) b = ap (ewise_add layer) (content-append a b)
+    ∙ sym (ewise_add_assoc layer (content a) (content b))
 
 -- one layer more
-pub content-more : (layers : List Counts) (i : ℕ) (d : Counts) → i < length layers → content (take (i + 1) layers) ≡ ewise_add (content (take i layers)) (get_or layers i d)
-content-more layers i d h = ap content (take_more layers i d h) ∙ content-append (take i layers) (get_or layers i d ∷ []) ∙ ap (ewise_add (content (take i layers))) (ewise_add-empty (get_or layers i d))
+pub content-more : (layers : List Counts) (i : ℕ) (d : Counts) → i < length layers →
+    content (take (i + 1) layers) ≡ ewise_add (content (take i layers)) (get_or layers i d)
+content-more layers i d h = ap content (take_more layers i d h)
+    ∙ content-append (take i layers) (get_or layers i d ∷ [])
+    ∙ ap (ewise_add (content (take i layers))) (ewise_add-empty (get_or layers i d))
 
 -- the first layers have no more than all
 pub total-take : (layers : List Counts) (i : ℕ) → total (content (take i layers)) ≤ total (content layers)
 total-take layers zero = omega (arith, total-empty)
 total-take [] (suc i) = omega arith
-total-take (layer ∷ layers) (suc i) = omega (arith, total-take layers i, total-ewise_add layer (content (take i layers)), total-ewise_add layer (content layers))
+total-take (layer ∷ layers) (suc i) = omega (
+  arith,
+  total-take layers i,
+  total-ewise_add layer (content (take i layers)),
+  total-ewise_add layer (content layers),
+)
 
-pub count_at : (ms : List Matrix) (i : ℕ) (d : Matrix) → i < length ms → get_or (all_counts ms) i d.counts ≡ (get_or ms i d).counts
+pub count_at : (ms : List Matrix) (i : ℕ) (d : Matrix) → i < length ms →
+    get_or (all_counts ms) i d.counts ≡ (get_or ms i d).counts
 count_at [] i d h = absurd (omega arith)
 count_at (m ∷ ms) zero d h = refl
 count_at (m ∷ ms) (suc i) d h = count_at ms i d (omega arith)
 
-pub value_at : {Z : Type 0} (layers : List (Arc Matrix Z)) (i : ℕ) (d : Arc Matrix Z) → i < length layers → get_or (values layers) i (arc_value d) ≡ arc_value (get_or layers i d)
+pub value_at : {Z : Type 0} (layers : List (Arc Matrix Z)) (i : ℕ) (d : Arc Matrix Z) → i < length layers →
+    get_or (values layers) i (arc_value d) ≡ arc_value (get_or layers i d)
 value_at [] i d h = absurd (omega arith)
 value_at (m ∷ ms) zero d h = refl
 value_at (m ∷ ms) (suc i) d h = value_at ms i d (omega arith)
 
-pub dims_at : (r c : ℕ) (ms : List Matrix) (i : ℕ) (d : Matrix) → HaveDims r c ms → i < length ms → ((get_or ms i d).rows ≡ r) × ((get_or ms i d).cols ≡ c)
+pub dims_at : (r c : ℕ) (ms : List Matrix) (i : ℕ) (d : Matrix) → HaveDims r c ms → i < length ms →
+    ((get_or ms i d).rows ≡ r) × ((get_or ms i d).cols ≡ c)
 dims_at r c [] i d h k = absurd (omega arith)
 dims_at r c (m ∷ ms) zero d h k = (h.0, h.1)
 dims_at r c (m ∷ ms) (suc i) d h k = dims_at r c ms i d h.2 (omega arith)
@@ -57,30 +70,42 @@ dims-drop r c (suc n) (m ∷ ms) h = dims-drop r c n ms h.2
 -- one copy more
 pub replicate-more : {X : Type 0} (n : ℕ) (x : X) → replicate n x ++ x ∷ [] ≡ replicate (n + 1) x
 replicate-more zero x = ap (λ k. replicate k x) {x = 1} {y = 0 + 1} refl
-replicate-more (suc n) x = ap (λ r. x ∷ r) (replicate-more n x) ∙ ap (λ k. replicate k x) {x = suc (n + 1)} {y = suc n + 1} (omega arith)
+replicate-more (suc n) x = ap (λ r. x ∷ r) (replicate-more n x)
+    ∙ ap (λ k. replicate k x) {x = suc (n + 1)} {y = suc n + 1} (omega arith)
 
 module _ {Z : Type 0} where
-  pushed : (old new : List (Arc Matrix Z)) (layer : Arc Matrix Z) → new ≡ old ++ layer ∷ [] → values new ≡ values old ++ arc_value layer ∷ []
+  pushed : (old new : List (Arc Matrix Z)) (layer : Arc Matrix Z) → new ≡ old ++ layer ∷ [] →
+      values new ≡ values old ++ arc_value layer ∷ []
   pushed old new layer is = ap values is ∙ map-append arc_value old (layer ∷ [])
 
-  pub pushed_copy : (old new : List (Arc Matrix Z)) (base : List Matrix) (i : ℕ) (copy : Arc Matrix Z) (value : Matrix) → values old ≡ base ++ replicate i value → new ≡ old ++ copy ∷ [] → arc_value copy ≡ value → values new ≡ base ++ replicate (i + 1) value
+  pub pushed_copy : (old new : List (Arc Matrix Z)) (base : List Matrix) (i : ℕ) (copy : Arc Matrix Z)
+      (value : Matrix) → values old ≡ base ++ replicate i value → new ≡ old ++ copy ∷ [] → arc_value copy ≡ value →
+      values new ≡ base ++ replicate (i + 1) value
   pushed_copy old new base i copy value told is same =
-      pushed old new copy is ∙ ap (λ (m : Matrix). values old ++ m ∷ []) same ∙ ap (λ (r : List Matrix). r ++ value ∷ []) told
-      ∙ append_assoc base (replicate i value) (value ∷ []) ∙ ap (λ (r : List Matrix). base ++ r) (replicate-more i value)
+      pushed old new copy is ∙ ap (λ (m : Matrix). values old ++ m ∷ []) same
+      ∙ ap (λ (r : List Matrix). r ++ value ∷ []) told
+      ∙ append_assoc base (replicate i value) (value ∷ [])
+      ∙ ap (λ (r : List Matrix). base ++ r) (replicate-more i value)
 
-  pub pushed_layer : (old new layers : List (Arc Matrix Z)) (base : List Matrix) (i : ℕ) (copy d : Arc Matrix Z) → i < length layers → values old ≡ base ++ values (take i layers) → new ≡ old ++ copy ∷ [] → arc_value copy ≡ arc_value (get_or layers i d) → values new ≡ base ++ values (take (i + 1) layers)
+  pub pushed_layer : (old new layers : List (Arc Matrix Z)) (base : List Matrix) (i : ℕ) (copy d : Arc Matrix Z) →
+      i < length layers → values old ≡ base ++ values (take i layers) → new ≡ old ++ copy ∷ [] →
+      arc_value copy ≡ arc_value (get_or layers i d) → values new ≡ base ++ values (take (i + 1) layers)
   pushed_layer old new layers base i copy d h told is same =
-      pushed old new copy is ∙ ap (λ (m : Matrix). values old ++ m ∷ []) same ∙ ap (λ (r : List Matrix). r ++ arc_value (get_or layers i d) ∷ []) told
+      pushed old new copy is ∙ ap (λ (m : Matrix). values old ++ m ∷ []) same
+      ∙ ap (λ (r : List Matrix). r ++ arc_value (get_or layers i d) ∷ []) told
       ∙ append_assoc base (values (take i layers)) (arc_value (get_or layers i d) ∷ [])
-      ∙ ap (λ (r : List Matrix). base ++ r) (sym (map-append arc_value (take i layers) (get_or layers i d ∷ [])) ∙ sym (ap values (take_more layers i d h)))
+      ∙ ap (λ (r : List Matrix). base ++ r) (sym (map-append arc_value (take i layers) (get_or layers i d ∷ []))
+      ∙ sym (ap values (take_more layers i d h)))
 
 -- the matrix of a layer, found in the lists that stand for the layers
-module _ {Z : Type 0} (layers : List (Arc Matrix Z)) (i : ℕ) (item : Arc Matrix Z) (x : Matrix) (h : i < length layers) (at : item ≡ get_or layers i item) (is : x ≡ arc_value item) where
+module _ {Z : Type 0} (layers : List (Arc Matrix Z)) (i : ℕ) (item : Arc Matrix Z) (x : Matrix) (h : i < length layers)
+    (at : item ≡ get_or layers i item) (is : x ≡ arc_value item) where
   found : get_or (values layers) i (arc_value item) ≡ x
   found = value_at layers i item h ∙ sym (ap arc_value at) ∙ sym is
 
   pub layer_counts : x.counts ≡ get_or (all_counts (values layers)) i (arc_value item).counts
-  layer_counts = sym (count_at (values layers) i (arc_value item) (omega (arith, length-map layers arc_value)) ∙ ap (λ (m : Matrix). m.counts) found)
+  layer_counts = sym (count_at (values layers) i (arc_value item) (omega (arith, length-map layers arc_value))
+      ∙ ap (λ (m : Matrix). m.counts) found)
 
   pub layer_dims : (r c : ℕ) → HaveDims r c (values layers) → (x.rows ≡ r) × (x.cols ≡ c)
   layer_dims r c dims =
@@ -91,61 +116,86 @@ pub length-counts : {Z : Type 0} (layers : List (Arc Matrix Z)) → length (all_
 length-counts layers = length-map (values layers) (λ (m : Matrix). m.counts) ∙ length-map layers arc_value
 
 -- m and the layers up to the next place
-pub with_next : (layers : List Counts) (m : Counts) (j : ℕ) (layer : Counts) (d : Counts) → suc j < length layers → layer ≡ get_or layers (j + 1) d → with_first layers m (j + 1) ≡ ewise_add (with_first layers m j) layer
+pub with_next : (layers : List Counts) (m : Counts) (j : ℕ) (layer : Counts) (d : Counts) → suc j < length layers →
+    layer ≡ get_or layers (j + 1) d → with_first layers m (j + 1) ≡ ewise_add (with_first layers m j) layer
 with_next layers m j layer d h is =
     ap (λ n. ewise_add m (content (take n layers))) {x = suc (j + 1)} {y = suc j + 1} (omega arith)
-    ∙ ap (ewise_add m) (content-more layers (suc j) d h ∙ ap (λ n. ewise_add (content (take (suc j) layers)) (get_or layers n d)) {x = suc j} {y = j + 1} (omega arith) ∙ ap (ewise_add (content (take (suc j) layers))) (sym is))
+    ∙ ap (ewise_add m) (content-more layers (suc j) d h
+    ∙ ap (λ n. ewise_add (content (take (suc j) layers)) (get_or layers n d)) {x = suc j} {y = j + 1} (omega arith)
+    ∙ ap (ewise_add (content (take (suc j) layers))) (sym is))
     ∙ sym (ewise_add_assoc m (content (take (suc j) layers)) layer)
 
-pub total-with_first : (layers : List Counts) (m : Counts) (j : ℕ) → total (with_first layers m j) ≤ total (content layers) + total m
-total-with_first layers m j = omega (arith, total-take layers (suc j), total-ewise_add m (content (take (suc j) layers)))
+pub total-with_first : (layers : List Counts) (m : Counts) (j : ℕ) →
+    total (with_first layers m j) ≤ total (content layers) + total m
+total-with_first layers m j = omega (
+  arith,
+  total-take layers (suc j),
+  total-ewise_add m (content (take (suc j) layers)),
+)
 
 -- m and the first layer
-pub with_start : (layers : List Counts) (m layer d : Counts) → 0 < length layers → layer ≡ get_or layers 0 d → with_first layers m 0 ≡ ewise_add m layer
+pub with_start : (layers : List Counts) (m layer d : Counts) → 0 < length layers → layer ≡ get_or layers 0 d →
+    with_first layers m 0 ≡ ewise_add m layer
 with_start [] m layer d h is = absurd (omega arith)
 with_start (first ∷ layers) m layer d h is = ap (ewise_add m) (ewise_add-empty first ∙ sym is)
 
 -- a layer has no more than all
-pub total-layer : (layers : List Counts) (i : ℕ) (d : Counts) → i < length layers → total (get_or layers i d) ≤ total (content layers)
+pub total-layer : (layers : List Counts) (i : ℕ) (d : Counts) → i < length layers →
+    total (get_or layers i d) ≤ total (content layers)
 total-layer [] i d h = absurd (omega arith)
 total-layer (layer ∷ layers) zero d h = omega (arith, total-ewise_add layer (content layers))
-total-layer (layer ∷ layers) (suc i) d h = omega (arith, total-layer layers i d (omega arith), total-ewise_add layer (content layers))
+total-layer (layer ∷ layers) (suc i) d h =
+    omega (arith, total-layer layers i d (omega arith), total-ewise_add layer (content layers))
 
 -- m with the layers up to a place, and the next layer too, have no more than m and all layers
-pub next_fits : (layers : List Counts) (m : Counts) (j : ℕ) (layer d : Counts) → suc j < length layers → layer ≡ get_or layers (j + 1) d → total (with_first layers m j) + total layer ≤ total (content layers) + total m
-next_fits layers m j layer d h is = omega (arith, total-with_first layers m (j + 1), ap total (with_next layers m j layer d h is), total-ewise_add (with_first layers m j) layer)
+pub next_fits : (layers : List Counts) (m : Counts) (j : ℕ) (layer d : Counts) → suc j < length layers →
+    layer ≡ get_or layers (j + 1) d → total (with_first layers m j) + total layer ≤ total (content layers) + total m
+next_fits layers m j layer d h is = omega (
+  arith,
+  total-with_first layers m (j + 1),
+  ap total (with_next layers m j layer d h is),
+  total-ewise_add (with_first layers m j) layer,
+)
 
 -- an empty matrix adds nothing
 pub added_none : (s : Matrix) (b : Counts) → len b ≡ 0 → s ≡ matrix s.rows s.cols (ewise_add s.counts b)
-added_none s b none = ap (matrix s.rows s.cols) (sym (ap (ewise_add s.counts) (empty_of_len b none) ∙ ewise_add-empty s.counts))
+added_none s b none = ap (matrix s.rows s.cols)
+    (sym (ap (ewise_add s.counts) (empty_of_len b none) ∙ ewise_add-empty s.counts))
 
 -- a sum to which one matrix more was added
-pub sum_at : (s a b : Matrix) (c w : Counts) → s ≡ matrix a.rows a.cols (ewise_add a.counts c) → a ≡ b → w ≡ ewise_add b.counts c → s ≡ matrix b.rows b.cols w
-sum_at s a b c w is same with_c = is ∙ ap (λ (m : Matrix). matrix m.rows m.cols (ewise_add m.counts c)) same ∙ ap (matrix b.rows b.cols) (sym with_c)
+pub sum_at : (s a b : Matrix) (c w : Counts) → s ≡ matrix a.rows a.cols (ewise_add a.counts c) → a ≡ b →
+    w ≡ ewise_add b.counts c → s ≡ matrix b.rows b.cols w
+sum_at s a b c w is same with_c = is ∙ ap (λ (m : Matrix). matrix m.rows m.cols (ewise_add m.counts c)) same
+    ∙ ap (matrix b.rows b.cols) (sym with_c)
 
 -- a place that isn't the last, and where there is too much
-pub not_here : (layers : List Counts) (cuts : List ℕ) (m : Counts) (j : ℕ) → length layers ≡ length cuts + 1 → j < length cuts → get_or cuts j 0 < len (with_first layers m j) → CanHold layers cuts m j → ⊥
+pub not_here : (layers : List Counts) (cuts : List ℕ) (m : Counts) (j : ℕ) → length layers ≡ length cuts + 1 →
+    j < length cuts → get_or cuts j 0 < len (with_first layers m j) → CanHold layers cuts m j → ⊥
 not_here layers cuts m j k h more (inl last) = absurd (omega arith)
 not_here layers cuts m j k h more (inr fits) = absurd (omega arith)
 
 -- the matrix of a layer, added to those before it
-module _ {Z : Type 0} (layers : List (Arc Matrix Z)) (i : ℕ) (item : Arc Matrix Z) (x : Matrix) (h : i < length layers) (at : item ≡ get_or layers i item) (is : x ≡ arc_value item) where
-  pub sum_more : content (take (i + 1) (all_counts (values layers))) ≡ ewise_add (content (take i (all_counts (values layers)))) x.counts
+module _ {Z : Type 0} (layers : List (Arc Matrix Z)) (i : ℕ) (item : Arc Matrix Z) (x : Matrix) (h : i < length layers)
+    (at : item ≡ get_or layers i item) (is : x ≡ arc_value item) where
+  pub sum_more : content (take (i + 1) (all_counts (values layers))) ≡ ewise_add
+      (content (take i (all_counts (values layers)))) x.counts
   sum_more =
       content-more (all_counts (values layers)) i (arc_value item).counts (omega (arith, length-counts layers))
       ∙ ap (ewise_add (content (take i (all_counts (values layers))))) (sym (layer_counts layers i item x h at is))
 
-  pub total_more : total (content (take (i + 1) (all_counts (values layers)))) ≡ total (content (take i (all_counts (values layers)))) + total x.counts
+  pub total_more : total (content (take (i + 1) (all_counts (values layers)))) ≡ total
+      (content (take i (all_counts (values layers)))) + total x.counts
   total_more = ap total sum_more ∙ total-ewise_add (content (take i (all_counts (values layers)))) x.counts
 
-  pub more_fits : total (content (take i (all_counts (values layers)))) + total x.counts ≤ total (content (all_counts (values layers)))
+  pub more_fits : total (content (take i (all_counts (values layers)))) + total x.counts ≤ total
+      (content (all_counts (values layers)))
   more_fits = omega (arith, total_more, total-take (all_counts (values layers)) (i + 1))
 
-pub content-all : {Z : Type 0} (layers : List (Arc Matrix Z)) (i : ℕ) → length layers ≤ i → content (take i (all_counts (values layers))) ≡ content (all_counts (values layers))
-content-all layers i h = ap content (take_all i (all_counts (values layers)) (omega (arith, length-counts layers)))
-
 -- a layer that is read behind a reference has the dimensions that contracts see
-pub seen_dims : {Z : Type 0} (layers items : List (Arc Matrix Z)) (i : ℕ) (item : Arc Matrix Z) (x : Matrix) (r c : ℕ) (cuts : List ℕ) (v : Layering) → items ≡ layers → i < length items → item ≡ get_or items i item → x ≡ arc_value item → HaveDims r c (values layers) → layering r c cuts (all_counts (values layers)) ≡ v → (x.rows ≡ v.rows) × (x.cols ≡ v.cols)
+pub seen_dims : {Z : Type 0} (layers items : List (Arc Matrix Z)) (i : ℕ) (item : Arc Matrix Z) (x : Matrix) (r c : ℕ)
+    (cuts : List ℕ) (v : Layering) → items ≡ layers → i < length items → item ≡ get_or items i item →
+    x ≡ arc_value item → HaveDims r c (values layers) → layering r c cuts (all_counts (values layers)) ≡ v →
+    (x.rows ≡ v.rows) × (x.cols ≡ v.cols)
 seen_dims layers items i item x r c cuts v read h at is dims view =
     let there = layer_dims items i item x h at is r c (subst (λ s. HaveDims r c (values s)) (sym read) dims) in
     (there.0 ∙ ap (λ (w : Layering). w.rows) view, there.1 ∙ ap (λ (w : Layering). w.cols) view)

@@ -1,12 +1,14 @@
 -- The cascade: layers of matrices with cuts, the first cut for the first layer and none for the last.
--- A matrix is added to the first layer; a layer that then has more entries than its cut is added to the next and cleared.
+-- A matrix is added to the first layer; a layer that then has more entries than its cut is added to the next, and is
+-- empty from then on.
 --     content       the sum of all layers
 --     CascadesTo    what the layers are once a matrix was added, told by the place where the cascade ends
 --     cascade       the same, as a function
 --     cascades      a list of matrices added one after another
 --     KeepsCuts     each layer but the last has at most its cut of entries
 -- Places of layers count from 0 here.
-use Rattle.std.specs.Prelude.{◌≡◌, ℕ, suc, ◌<◌, ◌≤◌, ◌⊎◌, List, [], ◌∷◌, ◌++◌, length, take, drop, replicate, slice_index, if◌then◌else◌, nat_le}
+use Rattle.std.specs.Prelude.{◌≡◌, ℕ, suc, ◌<◌, ◌≤◌, ◌⊎◌, List, [], ◌∷◌, ◌++◌, length, take, drop, replicate}
+use Rattle.std.specs.Prelude.{slice_index, if◌then◌else◌, nat_le}
 use Rattle.std.specs.FinMap.{empty, len}
 use Rattle.hyper_matrix.specs.Counts.{Counts, ewise_add}
 
@@ -37,7 +39,9 @@ CascadesTo layers cuts m after = (j : ℕ) × (EndsAt layers cuts m j × (after 
 abbrev pub cascade : List Counts → List ℕ → Counts → List Counts
 cascade [] cuts m = []
 cascade (layer ∷ layers) [] m = ewise_add m layer ∷ layers
-cascade (layer ∷ layers) (cut ∷ cuts) m = if nat_le (len (ewise_add m layer)) cut then ewise_add m layer ∷ layers else empty ∷ cascade layers cuts (ewise_add m layer)
+cascade (layer ∷ layers) (cut ∷ cuts) m =
+    if nat_le (len (ewise_add m layer)) cut then ewise_add m layer ∷ layers
+    else empty ∷ cascade layers cuts (ewise_add m layer)
 
 abbrev pub cascades : List Counts → List ℕ → List Counts → List Counts
 cascades layers cuts [] = layers

@@ -1,5 +1,6 @@
 -- What contracts see of layers: their dimensions, their cuts, and what each layer holds, the first layer first.
-use Rattle.std.specs.Prelude.{◌≡◌, ℕ, zero, suc, ◌+◌, ◌<◌, ◌^◌, List, [], ◌∷◌, length, replicate, Option, Some, None, refl}
+use Rattle.std.specs.Prelude.{◌≡◌, ℕ, zero, suc, ◌+◌, ◌<◌, ◌^◌, refl, List, [], ◌∷◌, length, replicate}
+use Rattle.std.specs.Prelude.{Option, Some, None}
 use Rattle.std.specs.Coded.{Coded, code_by, coded×, coded_ℕ, coded_list}
 use Rattle.std.specs.FinMap.{empty, len}
 use Rattle.cells.specs.Bounds.{IsDimension}
@@ -18,7 +19,8 @@ layering r c k l = record { rows = r; cols = c; cuts = k; layers = l }
 
 abbrev pub coded_layering : Coded Layering
 coded_layering =
-    code_by (ℕ × (ℕ × (List ℕ × List Counts))) (coded× coded_ℕ (coded× coded_ℕ (coded× (coded_list coded_ℕ) (coded_list coded_counts))))
+    code_by (ℕ × (ℕ × (List ℕ × List Counts)))
+    (coded× coded_ℕ (coded× coded_ℕ (coded× (coded_list coded_ℕ) (coded_list coded_counts))))
     (λ v. (v.rows, (v.cols, (v.cuts, v.layers)))) (λ p. layering p.0 p.1.0 p.1.1.0 p.1.1.1) (λ _. refl)
 
 -- one layer more than cuts, and all of them empty

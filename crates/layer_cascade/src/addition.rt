@@ -55,7 +55,8 @@ pub fn cascade_end(
     requires dims { HaveDims m.now.rows m.now.cols (values layers.now) }
     requires fits { total (content (all_counts (values layers.now))) + total m.now.counts < 2 ^ 64 }
     ensures place { IfOk result (λ s. EndsAt (all_counts (values layers.now)) cuts.now m.now.counts s.place) }
-    ensures sum { IfOk result (λ s. s.sum ≡ matrix m.now.rows m.now.cols (with_first (all_counts (values layers.now)) m.now.counts s.place)) }
+    ensures sum { IfOk result (λ s.
+        s.sum ≡ matrix m.now.rows m.now.cols (with_first (all_counts (values layers.now)) m.now.counts s.place)) }
 {
     let own = m.copy(alloc)?;
     let mut sum = added(alloc, own, &layers[0])?;
@@ -86,8 +87,8 @@ pub fn push_copies(
     Ok(())
 }
 
-// Appends layers that share their matrices with these.
-fn push_layers(out: &mut Vec<Arc<Hyper>>, layers: &[Arc<Hyper>]) -> Result<(), AllocError>
+/// Appends layers that share their matrices with these.
+pub fn push_layers(out: &mut Vec<Arc<Hyper>>, layers: &[Arc<Hyper>]) -> Result<(), AllocError>
     ensures { OnOk result (values out.new.items ≡ values out.old.items ++ values layers.now) }
 {
     'layers: for layer in layers {
@@ -105,7 +106,8 @@ pub fn layers_after(
     end: CascadeEnd,
 ) -> Result<Vec<Arc<Hyper>>, AllocError>
     requires { end.place < length layers.now }
-    ensures { IfOk result (λ after. values after.items ≡ replicate end.place (arc_value empty.now) ++ end.sum ∷ values (drop (suc end.place) layers.now)) }
+    ensures { IfOk result (λ after. values after.items
+        ≡ replicate end.place (arc_value empty.now) ++ end.sum ∷ values (drop (suc end.place) layers.now)) }
 {
     let mut after = Vec::with_capacity(alloc, layers.len())?;
     push_copies(&mut after, empty, end.place)?;
@@ -150,7 +152,8 @@ pub fn cascaded(
     requires dims { HaveDims m.rows m.cols (values layers.items) }
     requires none { arc_value empty.now ≡ matrix m.rows m.cols no_counts }
     requires fits { total (content (all_counts (values layers.items))) + total m.counts < 2 ^ 64 }
-    ensures counts { IfOk result (λ after. all_counts (values after.items) ≡ cascade (all_counts (values layers.items)) cuts.now m.counts) }
+    ensures counts { IfOk result (λ after.
+        all_counts (values after.items) ≡ cascade (all_counts (values layers.items)) cuts.now m.counts) }
     ensures dims { IfOk result (λ after. HaveDims m.rows m.cols (values after.items)) }
 {
     let mut after = Vec::with_capacity(alloc, layers.len())?;

@@ -8,22 +8,26 @@ ghost use Rattle.layer_cascade.specs.Cascade.{cascade, cascades, content, KeepsC
 
 /// What the layers hold together grows by exactly what is added.
 pub fn cascades_add()
-    ensures { (layers : List Counts) (cuts : List ℕ) (m : Counts) → length layers ≡ length cuts + 1 → content (cascade layers cuts m) ≡ ewise_add (content layers) m }
+    ensures { (layers : List Counts) (cuts : List ℕ) (m : Counts) →
+        length layers ≡ length cuts + 1 → content (cascade layers cuts m) ≡ ewise_add (content layers) m }
 {}
 
 /// Each layer but the last keeps its cut.
 pub fn cascades_keep_cuts()
-    ensures { (layers : List Counts) (cuts : List ℕ) (m : Counts) → KeepsCuts layers cuts → KeepsCuts (cascade layers cuts m) cuts }
+    ensures { (layers : List Counts) (cuts : List ℕ) (m : Counts) →
+        KeepsCuts layers cuts → KeepsCuts (cascade layers cuts m) cuts }
 {}
 
 /// An addition to layers has exactly one outcome, and `cascade` is that outcome: the cascade ends at the least place
 /// that is the last or where the matrix and the layers up to it have at most the cut of entries. All below is then
 /// empty, and all above as before.
 pub fn cascades_end_once()
-    ensures { (layers : List Counts) (cuts : List ℕ) (m : Counts) (after : List Counts) → length layers ≡ length cuts + 1 → CascadesTo layers cuts m after ↔ (after ≡ cascade layers cuts m) }
+    ensures { (layers : List Counts) (cuts : List ℕ) (m : Counts) (after : List Counts) →
+        length layers ≡ length cuts + 1 → CascadesTo layers cuts m after ↔ (after ≡ cascade layers cuts m) }
 {}
 
 /// Matrices added one after another leave the same content, whatever the cuts: what was there and the sum of them all.
 pub fn cascades_add_all()
-    ensures { (layers : List Counts) (cuts : List ℕ) (ms : List Counts) → length layers ≡ length cuts + 1 → content (cascades layers cuts ms) ≡ ewise_add (content layers) (content ms) }
+    ensures { (layers : List Counts) (cuts : List ℕ) (ms : List Counts) → length layers ≡ length cuts + 1 →
+        content (cascades layers cuts ms) ≡ ewise_add (content layers) (content ms) }
 {}

@@ -22,7 +22,8 @@ ghost use Rattle.layer_cascade.specs.Columns.{FirstColumn};
 ghost use Rattle.layer_cascade.specs.Layering.{IsLayering, no_layers, entries_of_layer};
 
 use crate::addition::{
-    added, cascade_end, cascaded, cascaded_cells, layers_after, push_copies, sum_of_layers,
+    added, cascade_end, cascaded, cascaded_cells, layers_after, push_copies, push_layers,
+    sum_of_layers,
 };
 use crate::cuts::are_cuts;
 use crate::fault::CascadeFault;
@@ -59,7 +60,8 @@ impl Model for Layers {
 
     ghost view = { λ a. layering a.rows a.cols (arc_slice_items a.cuts) (all_counts (values a.layers.items)) };
 
-    ghost invariant = { λ a. KeepsLayers a.rows a.cols (arc_slice_items a.cuts) (values a.layers.items) (arc_value a.empty) };
+    ghost invariant = { λ a.
+        KeepsLayers a.rows a.cols (arc_slice_items a.cuts) (values a.layers.items) (arc_value a.empty) };
 }
 
 /// An addition that has been worked out, and that `Layers::commit` makes.
@@ -156,7 +158,8 @@ impl Layers {
         requires rows { m.now.rows ≡ self.now.rows }
         requires cols { m.now.cols ≡ self.now.cols }
         requires fits { total (content self.now.layers) + total m.now.counts < 2 ^ 64 }
-        ensures { IfOk result (λ plan. plan ≡ record self.now { layers = cascade self.now.layers self.now.cuts m.now.counts }) }
+        ensures { IfOk result (λ plan.
+            plan ≡ record self.now { layers = cascade self.now.layers self.now.cuts m.now.counts }) }
     {
         let end = cascade_end(alloc, &self.layers, &self.cuts, m)?;
         let layers = layers_after(alloc, &self.layers, &self.empty, end)?;
@@ -226,6 +229,23 @@ impl Layers {
             cols: self.cols,
             cuts: self.cuts,
             empty: self.empty,
+            layers,
+        })
+    }
+
+    /// The same layers once more, which share all matrices with these. Takes one growth, of a pointer for each layer.
+    pub(crate) fn share(&self, alloc: Global) -> Result<Layers, AllocError>
+        ensures { IfOk result (λ layers. layers ≡ self.now) }
+    {
+        let mut layers = Vec::with_capacity(alloc, self.layers.len())?;
+        push_layers(&mut layers, &self.layers)?;
+        let cuts = self.cuts.clone()?;
+        let empty = Arc::try_clone(&self.empty)?;
+        Ok(Layers {
+            rows: self.rows,
+            cols: self.cols,
+            cuts,
+            empty,
             layers,
         })
     }

@@ -8,7 +8,7 @@
 //!
 //! An addition has two steps: `Layers::plan` makes all growth and changes nothing, and `Layers::commit` puts the
 //! planned layers in place and cannot fail. Where nobody else reads the layers, `Layers::add` takes them and their
-//! memory, and gives them back with the matrix.
+//! memory, and gives them back with the matrix. `Layers::view` shows a reader the layers of one moment.
 #![tactic(auto)]
 
 mod addition;
@@ -16,9 +16,12 @@ mod cuts;
 mod fault;
 mod laws;
 mod layers;
+mod limits;
 mod lookup;
+mod view;
 
 pub use cuts::are_cuts;
 pub use fault::CascadeFault;
 pub use laws::{cascades_add, cascades_add_all, cascades_end_once, cascades_keep_cuts};
 pub use layers::{Layers, Plan};
+pub use view::LayerView;

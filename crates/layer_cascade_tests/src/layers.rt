@@ -1,7 +1,7 @@
 //! Worked examples of layers of 3 rows and 3 columns.
 use cells::Cell;
 use hyper_matrix::{BuildFault, Hyper};
-use layer_cascade::{CascadeFault, Layers, Plan, are_cuts};
+use layer_cascade::{CascadeFault, LayerView, Layers, Plan, are_cuts};
 use std::alloc::{AllocError, Global};
 use std::process::Abort;
 use std::test::Fail;
@@ -127,6 +127,39 @@ fn a_plan_changes_nothing(rt: HostRuntime) -> Result<(), Fail> {
     assert_eq!(rt; layers.layer_entries(2), None);
     Ok(())
 }
+
+/// The entries and the total of a view's sum.
+fn seen(alloc: Global, view: &LayerView) -> Result<(u64, u64), AllocError> {
+    let sum = view.sum(alloc)?;
+    Ok((sum.entries(), sum.total()))
+}
+
+/// The layers with one more cell, given away.
+fn moved(alloc: Global, layers: Layers, row: u64, col: u64, count: u64) -> Result<Layers, Fail> {
+    let m = one_cell(alloc, row, col, count)?;
+    let fits = layers.total().checked_add(m.total()).is_some();
+    if layers.dims() != m.dims() || !fits {
+        return Ok(layers);
+    }
+    let after = layers.add(alloc, m)?;
+    Ok(after)
+}
+
+#[test]
+fn a_view_stays_as_it_was(rt: HostRuntime) -> Result<(), Fail> {
+    let mut layers = Layers::new(rt.alloc(), 3, 3, &[2])?;
+    add(rt.alloc(), &mut layers, 0, 0, 5)?;
+    let view = layers.view(rt.alloc())?;
+    add(rt.alloc(), &mut layers, 0, 0, 3)?;
+    let layers = moved(rt.alloc(), layers, 2, 1, 1)?;
+    assert_eq!(rt; seen(rt.alloc(), &view)?, (1, 5));
+    assert_eq!(rt; (layers.layer_entries(1), layers.total()), (Some(2), 9));
+    drop_layers(layers);
+    assert_eq!(rt; seen(rt.alloc(), &view)?, (1, 5));
+    Ok(())
+}
+
+fn drop_layers(_layers: Layers) {}
 
 fn judged(alloc: Global, cuts: &[u64]) -> Option<CascadeFault> {
     Layers::new(alloc, 3, 3, cuts).err()

@@ -22,7 +22,7 @@ known_word unsupported known w u e =
     by_test true h f = h
     by_test false h f = cc
 
-same_word : (w k : List ℕ) → str_eq_ignore_ascii_case w k ≡ true → IsKeyword w k
+pub same_word : (w k : List ℕ) → str_eq_ignore_ascii_case w k ≡ true → IsKeyword w k
 same_word w k h = same_text (str_to_ascii_lowercase w) (str_to_ascii_lowercase k) (sym h)
 
 either : (v w : Bool) → (v || w) ≡ true → (v ≡ true) ⊎ (w ≡ true)
@@ -125,24 +125,24 @@ banner_is line symmetric e =
       symmetry_is = fifth;
     }
 
-mark_says : (w : List ℕ) → IsKeyword w (codes "%%MatrixMarket") → mark w ≡ Ok tt
+pub mark_says : (w : List ℕ) → IsKeyword w (codes "%%MatrixMarket") → mark w ≡ Ok tt
 unfolding mark
 mark_says w h = rw h refl
 
-object_says : (w : List ℕ) → IsKeyword w (codes "matrix") → object w ≡ Ok tt
+pub object_says : (w : List ℕ) → IsKeyword w (codes "matrix") → object w ≡ Ok tt
 unfolding object
 object_says w h = rw h refl
 
-format_says : (w : List ℕ) → IsKeyword w (codes "coordinate") → format w ≡ Ok tt
+pub format_says : (w : List ℕ) → IsKeyword w (codes "coordinate") → format w ≡ Ok tt
 unfolding format
 format_says w h = rw h refl
 
-field_says : (w : List ℕ) → IsKeyword w (codes "integer") ⊎ IsKeyword w (codes "unsigned-integer") → field w ≡ Ok tt
+pub field_says : (w : List ℕ) → IsKeyword w (codes "integer") ⊎ IsKeyword w (codes "unsigned-integer") → field w ≡ Ok tt
 unfolding field
 field_says w (inl h) = rw h refl
 field_says w (inr h) = rw h refl
 
-symmetry_says : (w : List ℕ) (b : Bool) → IsKeyword w (symmetry_keyword b) → symmetry w ≡ Ok b
+pub symmetry_says : (w : List ℕ) (b : Bool) → IsKeyword w (symmetry_keyword b) → symmetry w ≡ Ok b
 unfolding symmetry
 symmetry_says w true h = rw h refl
 symmetry_says w false h = rw h refl

@@ -90,7 +90,7 @@ size_line_is symmetric most line s e =
 pub dimension_test : (n : ℕ) → IsDimension n → is_dimension n ≡ true
 dimension_test n h = let low = h.0 in let high = h.1 in grind (arith, nat_tests)
 
-square_test : (symmetric : Bool) (rows cols : ℕ) → (symmetric ≡ true → rows ≡ cols) → (symmetric && not (nat_eq rows cols)) ≡ false
+pub square_test : (symmetric : Bool) (rows cols : ℕ) → (symmetric ≡ true → rows ≡ cols) → (symmetric && not (nat_eq rows cols)) ≡ false
 square_test false rows cols h = refl
 square_test true rows cols h = let e = h refl in grind (arith, nat_tests)
 

@@ -54,7 +54,7 @@ number_to bad w n e = by_digits (are_digits (without_leading_plus w)) refl
     by_digits false h = let f = rw h at e in cc
     by_digits true h = let f = rw h at e in (h, value (digits_value 10 (without_leading_plus w)) (nat_lt (digits_value 10 (without_leading_plus w)) (2 ^ 64)) f)
 
-plus_cases : (w : List ℕ) → (without_leading_plus w ≡ w) ⊎ ((rest : List ℕ) × (w ≡ 43 ∷ rest) × (without_leading_plus w ≡ rest))
+pub plus_cases : (w : List ℕ) → (without_leading_plus w ≡ w) ⊎ ((rest : List ℕ) × (w ≡ 43 ∷ rest) × (without_leading_plus w ≡ rest))
 plus_cases [] = inl refl
 plus_cases (b ∷ bs) = by_test (nat_eq b 43) refl
   where
@@ -67,7 +67,7 @@ both_true true w e = (refl, e)
 both_true false w e = cc
 
 -- the digits of a number, as facts
-digit_facts : (ds : List ℕ) → are_digits ds ≡ true → (0 < length ds) × All (λ b. is_ascii_digit b ≡ true) ds
+pub digit_facts : (ds : List ℕ) → are_digits ds ≡ true → (0 < length ds) × All (λ b. is_ascii_digit b ≡ true) ds
 digit_facts ds h =
     let b = both_true (nat_lt 0 (length ds)) (list_all is_ascii_digit ds) h in
     let some : 0 < length ds = grind (arith, nat_tests, b.0) in
@@ -100,11 +100,11 @@ number_writes bad w n e =
       }
     ]
 
-all_test : (ds : List ℕ) → All (λ b. is_ascii_digit b ≡ true) ds → list_all is_ascii_digit ds ≡ true
+pub all_test : (ds : List ℕ) → All (λ b. is_ascii_digit b ≡ true) ds → list_all is_ascii_digit ds ≡ true
 all_test [] h = refl
 all_test (d ∷ ds) h = let one = All-head (λ b. is_ascii_digit b ≡ true) d ds h in rw one (all_test ds (All-tail (λ b. is_ascii_digit b ≡ true) d ds h))
 
-no_plus : (ds : List ℕ) → list_all is_ascii_digit ds ≡ true → 0 < length ds → (nat_eq (get_or ds 0 0) 43 ≡ false) × (nat_eq (get_or ds 0 0) 45 ≡ false)
+pub no_plus : (ds : List ℕ) → list_all is_ascii_digit ds ≡ true → 0 < length ds → (nat_eq (get_or ds 0 0) 43 ≡ false) × (nat_eq (get_or ds 0 0) 45 ≡ false)
 no_plus ds h some = by_first (get_or ds 0 0) (all_at is_ascii_digit ds 0 h some)
   where
     by_first : (c : ℕ) → is_ascii_digit c ≡ true → (nat_eq c 43 ≡ false) × (nat_eq c 45 ≡ false)

@@ -11,3 +11,4 @@ pub mod GrammarLines
 pub mod GrammarBanner
 pub mod GrammarTexts
 pub mod SameCells
+pub mod FaultLaws

@@ -41,9 +41,30 @@ pub record Writes (word : List ℕ) (n : ℕ) : Type 0 where
   pub value_is : digits_value 10 digits ≡ n
   pub fits : n < 2 ^ 64
 
+-- The word has the form of a number, with this value, of whatever size.
+pub record IsNumeral (word : List ℕ) (n : ℕ) : Type 0 where
+  pub sign : List ℕ
+  pub digits : List ℕ
+  pub word_is : word ≡ sign ++ digits
+  pub sign_is : (sign ≡ []) ⊎ (sign ≡ codes "+")
+  pub some : 0 < length digits
+  pub are_digits : All (λ b. is_ascii_digit b ≡ true) digits
+  pub value_is : digits_value 10 digits ≡ n
+
+-- a minus, and then one digit or more
+pub record IsMinus (word : List ℕ) : Type 0 where
+  pub digits : List ℕ
+  pub word_is : word ≡ codes "-" ++ digits
+  pub some : 0 < length digits
+  pub are_digits : All (λ b. is_ascii_digit b ≡ true) digits
+
 -- The words are the same but for the case of ASCII letters.
 abbrev pub IsKeyword : List ℕ → List ℕ → Type 0
 IsKeyword word keyword = str_to_ascii_lowercase word ≡ str_to_ascii_lowercase keyword
+
+abbrev pub IsOneOf : List ℕ → List (List ℕ) → Type 0
+IsOneOf word [] = ⊥
+IsOneOf word (keyword ∷ keywords) = IsKeyword word keyword ⊎ IsOneOf word keywords
 
 -- which keyword says so
 abbrev pub symmetry_keyword : Bool → List ℕ
@@ -64,6 +85,13 @@ pub record IsBannerLine (line : List ℕ) (symmetric : Bool) : Type 0 where
   pub format_is : IsKeyword format (codes "coordinate")
   pub field_is : IsKeyword field (codes "integer") ⊎ IsKeyword field (codes "unsigned-integer")
   pub symmetry_is : IsKeyword symmetry (symmetry_keyword symmetric)
+
+-- The line begins with the mark of a banner, and has these words behind it.
+pub record IsMarked (line : List ℕ) (ws : List (List ℕ)) : Type 0 where
+  pub mark : List ℕ
+  pub has_words : HasWords line (mark ∷ ws)
+  pub at_start : (rest : List ℕ) × (line ≡ mark ++ rest)
+  pub mark_is : IsKeyword mark (codes "%%MatrixMarket")
 
 -- A size line: three numbers. A symmetric matrix is square.
 pub record IsSizeLine (symmetric : Bool) (line : List ℕ) (s : Size) : Type 0 where

@@ -17,12 +17,8 @@ mod reader;
 mod reading;
 mod size;
 mod stages;
-#[cfg(test)]
-mod tests;
 mod words;
 mod writer;
-#[cfg(test)]
-mod writer_tests;
 
 pub use byte_io::{Counted, DeviceFault, Script, Sink, Source, WriteFault, write_all};
 pub use cells::Cell;

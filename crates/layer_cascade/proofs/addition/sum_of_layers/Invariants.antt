@@ -6,7 +6,8 @@ use Rattle.layer_cascade.proofs.addition.sum_of_layers.Given as goal
 
 abbrev pub invariant-moved : goal.invariant-moved
 invariant-moved l = record {
-  told : ewise_add l.sum.counts (content (all_counts (values l.rest.items))) ≡ content (all_counts (values l.fn.layers.items));
+  told : ewise_add l.sum.counts (content (all_counts (values l.rest.items))) ≡ content
+      (all_counts (values l.fn.layers.items));
   rows : l.sum.rows ≡ l.fn.rows;
   cols : l.sum.cols ≡ l.fn.cols;
   left : HaveDims l.fn.rows l.fn.cols (values l.rest.items);

@@ -19,12 +19,22 @@ firsts-preserved c =
     let items = c.deref-layer-items.result.now in
     let before = content (take c.firsts.layer-index (all_counts (values items))) in
     let here = c.deref.result.now in
-    let dims = seen_dims c.self.inside.layers.items items c.firsts.layer-index c.layer-item.result here _ _ _ c.args.self.now c.deref-layer-items.ensures.value (omega arith) c.layer-item.is c.deref.ensures c.self.invariant.dims c.self.view_is in
-    let within = subst (λ n. IfSome c.column_from.result (λ col. (c.args.row < n) × (col < c.args.self.now.cols))) dims.0 (subst (λ n. IfSome c.column_from.result (λ col. (c.args.row < here.rows) × (col < n))) dims.1 c.column_from.ensures.within) in
+    let dims = seen_dims c.self.inside.layers.items items c.firsts.layer-index c.layer-item.result here _ _ _
+    c.args.self.now c.deref-layer-items.ensures.value (omega arith) c.layer-item.is c.deref.ensures
+    c.self.invariant.dims c.self.view_is in
+    let within = subst (λ n. IfSome c.column_from.result (λ col. (c.args.row < n) × (col < c.args.self.now.cols)))
+    dims.0 (subst (λ n. IfSome c.column_from.result (λ col. (c.args.row < here.rows) × (col < n))) dims.1
+    c.column_from.ensures.within) in
     record {
       first =
-          subst (λ m. FirstColumn m c.args.row c.args.from c.earlier-first.result) (sym (sum_more items c.firsts.layer-index c.layer-item.result here (omega arith) c.layer-item.is c.deref.ensures))
-          (subst (FirstColumn (ewise_add before here.counts) c.args.row c.args.from) (sym c.earlier-first.ensures) (first_of_sum before here.counts c.args.row c.args.from c.firsts.first c.column_from.result c.firsts.invariant.first c.column_from.ensures.first));
-      within = subst (λ o. IfSome o (λ col. (c.args.row < c.args.self.now.rows) × (col < c.args.self.now.cols))) (sym c.earlier-first.ensures)
-          (both_within c.firsts.first c.column_from.result c.args.row c.args.self.now.rows c.args.self.now.cols c.firsts.invariant.within within);
+          subst (λ m. FirstColumn m c.args.row c.args.from c.earlier-first.result)
+          (sym (sum_more items c.firsts.layer-index c.layer-item.result here (omega arith) c.layer-item.is
+          c.deref.ensures))
+          (subst (FirstColumn (ewise_add before here.counts) c.args.row c.args.from) (sym c.earlier-first.ensures)
+          (first_of_sum before here.counts c.args.row c.args.from c.firsts.first c.column_from.result
+          c.firsts.invariant.first c.column_from.ensures.first));
+      within = subst (λ o. IfSome o (λ col. (c.args.row < c.args.self.now.rows) × (col < c.args.self.now.cols)))
+          (sym c.earlier-first.ensures)
+          (both_within c.firsts.first c.column_from.result c.args.row c.args.self.now.rows c.args.self.now.cols
+          c.firsts.invariant.within within);
     }

@@ -18,7 +18,8 @@ counts-init c = record {
 pub plus-count-requires : goal.plus-count-requires
 plus-count-requires c =
     let items = c.deref-layer-items.result.now in
-    let more = more_fits items c.counts.layer-index c.layer-item.result c.deref.result.now (omega arith) c.layer-item.is c.deref.ensures in
+    let more = more_fits items c.counts.layer-index c.layer-item.result c.deref.result.now (omega arith) c.layer-item.is
+    c.deref.ensures in
     omega (
       arith,
       c.self.invariant.told.fits,
@@ -35,12 +36,20 @@ counts-preserved c =
     let items = c.deref-layer-items.result.now in
     let q : Place = (c.args.row, c.args.col) in
     let before = content (take c.counts.layer-index (all_counts (values items))) in
-    let dims = seen_dims c.self.inside.layers.items items c.counts.layer-index c.layer-item.result c.deref.result.now _ _ _ c.args.self.now c.deref-layer-items.ensures.value (omega arith) c.layer-item.is c.deref.ensures c.self.invariant.dims c.self.view_is in
+    let dims = seen_dims c.self.inside.layers.items items c.counts.layer-index c.layer-item.result c.deref.result.now _
+    _ _ c.args.self.now c.deref-layer-items.ensures.value (omega arith) c.layer-item.is c.deref.ensures
+    c.self.invariant.dims c.self.view_is in
     record {
       found =
-          c.plus-count.ensures ∙ ap (λ o. plus o c.get.result) c.counts.invariant.found ∙ ap (plus (get before q)) c.get.ensures.value
-          ∙ sym (ap (λ m. get m q) (sum_more items c.counts.layer-index c.layer-item.result c.deref.result.now (omega arith) c.layer-item.is c.deref.ensures) ∙ get-ewise_add before c.deref.result.now.counts q);
+          c.plus-count.ensures ∙ ap (λ o. plus o c.get.result) c.counts.invariant.found
+          ∙ ap (plus (get before q)) c.get.ensures.value
+          ∙ sym (ap (λ m. get m q) (sum_more items c.counts.layer-index c.layer-item.result c.deref.result.now
+          (omega arith) c.layer-item.is c.deref.ensures) ∙ get-ewise_add before c.deref.result.now.counts q);
       outside = λ h.
           c.plus-count.ensures ∙ ap (λ o. plus o c.get.result) (c.counts.invariant.outside h)
-          ∙ c.get.ensures.outside (elim h [ inl r ↦ inl (omega (arith, dims.0, r)) | inr k ↦ inr (omega (arith, dims.1, k)) ]);
+          ∙ c.get.ensures.outside (elim h [
+            | inl r ↦ inl (omega (arith, dims.0, r))
+            | inr k ↦
+                inr (omega (arith, dims.1, k))
+          ]);
     }

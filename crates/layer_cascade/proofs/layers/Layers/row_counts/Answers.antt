@@ -17,7 +17,8 @@ rows-init c = record {
 pub overflow_add-sum : goal.overflow_add-sum
 overflow_add-sum c =
     let items = c.deref-layer-items.result.now in
-    let more = more_fits items c.rows.layer-index c.layer-item.result c.deref.result.now (omega arith) c.layer-item.is c.deref.ensures in
+    let more = more_fits items c.rows.layer-index c.layer-item.result c.deref.result.now (omega arith) c.layer-item.is
+    c.deref.ensures in
     omega (
       arith,
       c.self.invariant.told.fits,
@@ -34,10 +35,20 @@ rows-preserved c =
     let items = c.deref-layer-items.result.now in
     let before = content (take c.rows.layer-index (all_counts (values items))) in
     let here = c.deref.result.now.counts in
-    let dims = seen_dims c.self.inside.layers.items items c.rows.layer-index c.layer-item.result c.deref.result.now _ _ _ c.args.self.now c.deref-layer-items.ensures.value (omega arith) c.layer-item.is c.deref.ensures c.self.invariant.dims c.self.view_is in
+    let dims = seen_dims c.self.inside.layers.items items c.rows.layer-index c.layer-item.result c.deref.result.now _ _
+    _ c.args.self.now c.deref-layer-items.ensures.value (omega arith) c.layer-item.is c.deref.ensures
+    c.self.invariant.dims c.self.view_is in
     record {
       summed =
-          ap (λ n. n + c.row_total-sum.result.total) c.rows.invariant.summed ∙ ap (λ n. total (row_of before c.args.row) + n) c.row_total-sum.ensures.total
-          ∙ sym (ap (λ m. total (row_of m c.args.row)) (sum_more items c.rows.layer-index c.layer-item.result c.deref.result.now (omega arith) c.layer-item.is c.deref.ensures) ∙ ap total (row_of-ewise_add before here c.args.row) ∙ total-ewise_add (row_of before c.args.row) (row_of here c.args.row));
-      outside = λ h. omega (arith, c.rows.invariant.outside h, (c.row_total-sum.ensures.outside (omega (arith, dims.0, h))).1);
+          ap (λ n. n + c.row_total-sum.result.total) c.rows.invariant.summed
+          ∙ ap (λ n. total (row_of before c.args.row) + n) c.row_total-sum.ensures.total
+          ∙ sym (ap (λ m. total (row_of m c.args.row))
+          (sum_more items c.rows.layer-index c.layer-item.result c.deref.result.now (omega arith) c.layer-item.is
+          c.deref.ensures) ∙ ap total (row_of-ewise_add before here c.args.row)
+          ∙ total-ewise_add (row_of before c.args.row) (row_of here c.args.row));
+      outside = λ h. omega (
+        arith,
+        c.rows.invariant.outside h,
+        (c.row_total-sum.ensures.outside (omega (arith, dims.0, h))).1,
+      );
     }

@@ -15,11 +15,14 @@ columns-init c = record {
 pub columns-preserved : goal.columns-preserved
 columns-preserved c = record {
   counted = ap (λ n. n + 1) c.columns.invariant.counted
-      ∙ sym (row_before-next (content c.args.self.now.layers) c.args.row c.columns.from c.in-Some.col c.in-Some.ensures.first.stands.0 c.in-Some.ensures.first.behind c.in-Some.ensures.first.first c.in-Some.ensures.first.stands.1);
+      ∙ sym (row_before-next (content c.args.self.now.layers) c.args.row c.columns.from c.in-Some.col
+      c.in-Some.ensures.first.stands.0 c.in-Some.ensures.first.behind c.in-Some.ensures.first.first
+      c.in-Some.ensures.first.stands.1);
   few = omega (arith, c.in-Some.ensures.first.behind);
   narrow = omega (arith, c.in-Some.ensures.within.1, c.in-Some.ensures.narrow);
   outside = λ h. absurd (omega (arith, c.in-Some.ensures.within.0));
 }
 
 pub returns-clause-value : goal.returns-clause-value
-returns-clause-value c = c.columns.invariant.counted ∙ ap len (row_before-all (content c.args.self.now.layers) c.args.row c.columns.from c.in_default.ensures.first)
+returns-clause-value c = c.columns.invariant.counted
+    ∙ ap len (row_before-all (content c.args.self.now.layers) c.args.row c.columns.from c.in_default.ensures.first)

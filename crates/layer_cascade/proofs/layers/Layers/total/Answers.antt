@@ -12,10 +12,21 @@ totals-init c = sym total-empty
 pub overflow_add-sum : goal.overflow_add-sum
 overflow_add-sum c =
     let items = c.deref-layer-items.result.now in
-    let more = more_fits items c.totals.layer-index c.layer-item.result c.deref.result.now (omega arith) c.layer-item.is c.deref.ensures in
-    omega (arith, c.self.invariant.told.fits, c.totals.invariant, c.total-sum.ensures.value, more, ap (λ s. total (content (all_counts (values s)))) c.deref-layer-items.ensures.value)
+    let more = more_fits items c.totals.layer-index c.layer-item.result c.deref.result.now (omega arith) c.layer-item.is
+    c.deref.ensures in
+    omega (
+      arith,
+      c.self.invariant.told.fits,
+      c.totals.invariant,
+      c.total-sum.ensures.value,
+      more,
+      ap (λ s. total (content (all_counts (values s)))) c.deref-layer-items.ensures.value,
+    )
 
 pub totals-preserved : goal.totals-preserved
 totals-preserved c =
     let items = c.deref-layer-items.result.now in
-    ap (λ n. n + c.total-sum.result) c.totals.invariant ∙ ap (λ n. total (content (take c.totals.layer-index (all_counts (values items)))) + n) c.total-sum.ensures.value ∙ sym (total_more items c.totals.layer-index c.layer-item.result c.deref.result.now (omega arith) c.layer-item.is c.deref.ensures)
+    ap (λ n. n + c.total-sum.result) c.totals.invariant
+    ∙ ap (λ n. total (content (take c.totals.layer-index (all_counts (values items)))) + n)
+    c.total-sum.ensures.value ∙ sym (total_more items c.totals.layer-index c.layer-item.result c.deref.result.now
+    (omega arith) c.layer-item.is c.deref.ensures)

@@ -1,0 +1,12 @@
+//! Devices, run over pieces that are given and taken as tables say, and sinks for the tests of other crates.
+#![tactic(auto)]
+
+#[cfg(test)]
+mod counted;
+#[cfg(test)]
+mod scripts;
+mod sinks;
+#[cfg(test)]
+mod writes;
+
+pub use sinks::{Full, OneByte};

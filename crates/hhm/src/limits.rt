@@ -1,0 +1,15 @@
+//! What the program takes at most.
+
+use mm_text::TextLimits;
+
+/// What a text may take: 2^40 bytes, and as many declared entries.
+pub const TEXT_LIMITS: TextLimits = TextLimits {
+    max_bytes: 1 << 40,
+    max_entries: 1 << 40,
+};
+
+/// The most cells of a text's list that go into the layers at once.
+pub const BLOCK_CELLS: usize = 4_096;
+
+/// The most digits that a number of an option has.
+pub const MAX_DIGITS: usize = 20;

@@ -1,0 +1,60 @@
+//! The layers of one moment, for a reader who takes its time.
+//!
+//! Layers are never changed in place, so a view is a list of pointers to them: what is added later leaves it as it is,
+//! and costs no more for its sake than that a layer or a block that the view shares is copied before it is added to.
+ghost use Rattle.std.specs.Prelude.{◌≡◌, IfOk};
+ghost use Rattle.hyper_matrix.specs.Matrix.{matrix};
+ghost use Rattle.layer_cascade.specs.Cascade.{content};
+ghost use Rattle.layer_cascade.specs.Layering.{IsLayering};
+
+use crate::layers::Layers;
+use hyper_matrix::Hyper;
+use std::alloc::{AllocError, Global};
+use std::marker::Model;
+
+/// The layers as they were when `Layers::view` was called, whatever is committed or added later.
+///
+/// It shares all matrices with them, and keeps them from being freed. Contracts see it as the layers of that moment.
+#[derive(Drop)]
+pub struct LayerView {
+    layers: Layers,
+}
+
+impl Model for LayerView {
+    ghost use Rattle.layer_cascade.specs.Layering.{Layering, coded_layering};
+
+    ghost Value = { Layering };
+
+    ghost coded = { coded_layering };
+
+    ghost view = { λ a. a.layers };
+}
+
+impl Layers {
+    /// The layers as they are now. Takes one growth, of a pointer for each layer, and time for as many.
+    ///
+    /// # Errors
+    ///
+    /// The growth was refused.
+    pub fn view(&self, alloc: Global) -> Result<LayerView, AllocError>
+        ensures { IfOk result (λ view. view ≡ self.now) }
+    {
+        let layers = self.share(alloc)?;
+        Ok(LayerView { layers })
+    }
+}
+
+impl LayerView {
+    /// The sum of the layers of that moment, as `Layers::sum`.
+    ///
+    /// # Errors
+    ///
+    /// A growth was refused.
+    pub fn sum(&self, alloc: Global) -> Result<Hyper, AllocError>
+        ensures sum { IfOk result (λ m. m ≡ matrix self.now.rows self.now.cols (content self.now.layers)) }
+        ensures kept { IsLayering self.now }
+    {
+        let sum = self.layers.sum(alloc)?;
+        Ok(sum)
+    }
+}
