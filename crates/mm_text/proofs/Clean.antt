@@ -12,11 +12,11 @@ use Rattle.mm_text.specs.declared.fault.MmKind.{MmKind}
 use Rattle.mm_text.specs.declared.fault.MmKind.TheVariants.{TooLong, LineTooLong}
 use Rattle.mm_text.specs.declared.limits.TextLimits.{TextLimits}
 
-nil_not : {A B : Type 0} (before : List A) (line : A) (after : List A) → [] ≡ before ++ line ∷ after → B
+pub nil_not : {A B : Type 0} (before : List A) (line : A) (after : List A) → [] ≡ before ++ line ∷ after → B
 nil_not [] line after e = cc
 nil_not (x ∷ xs) line after e = cc
 
-one_cut : {A : Type 0} (x : A) (before : List A) (line : A) (after : List A) → x ∷ [] ≡ before ++ line ∷ after → (before ≡ []) × (line ≡ x)
+pub one_cut : {A : Type 0} (x : A) (before : List A) (line : A) (after : List A) → x ∷ [] ≡ before ++ line ∷ after → (before ≡ []) × (line ≡ x)
 one_cut x [] line after e = (refl, cc)
 one_cut x (y ∷ ys) line after e = let t : [] ≡ ys ++ line ∷ after = cc in nil_not ys line after t
 

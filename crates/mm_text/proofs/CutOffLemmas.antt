@@ -71,7 +71,7 @@ overrun_longer rest tail c o = record {
   shortest = λ m l. let w = o.within in rw (take-append-le m rest tail (omega arith)) (o.shortest m l);
 }
 
-overrun_shorter : (rest tail : List ℕ) (c : ℕ) → c ≤ length rest → OverrunsAt (rest ++ tail) c → OverrunsAt rest c
+pub overrun_shorter : (rest tail : List ℕ) (c : ℕ) → c ≤ length rest → OverrunsAt (rest ++ tail) c → OverrunsAt rest c
 overrun_shorter rest tail c h o = record {
   within = h;
   long = let l = o.long in rw (take-append-le c rest tail h) at l;

@@ -148,7 +148,7 @@ judged_size limits stage false true line y s e f =
     let same : r.0 ≡ y = let x = r.2 in cc in
     step_size limits stage (content line) y s (r.1 ∙ ap Ok same) f
 
-few_of : (v : Bool) (c d : Cell) → length (cond v (c ∷ d ∷ []) (c ∷ [])) ≤ 2
+pub few_of : (v : Bool) (c d : Cell) → length (cond v (c ∷ d ∷ []) (c ∷ [])) ≤ 2
 few_of true c d = omega arith
 few_of false c d = omega arith
 

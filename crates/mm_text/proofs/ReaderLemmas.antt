@@ -1,9 +1,9 @@
 -- What a reader has read, after each of its steps.
 use Rattle.std.proofs.Common.{inl, inr, ◌≡◌, ℕ, zero, suc, ◌+◌, ◌-◌, ◌<◌, ◌≤◌, ◌⊎◌, List, [], ◌∷◌, ◌++◌, length, take, drop, refl, sym, ◌∙◌, ap, arith, append_assoc, length-append, length-take, length-drop}
 use Rattle.std.proofs.lemmas.List.{append-nil, take-append-drop, drop-take, drop-drop, take-take}
-use Rattle.std.specs.Prelude.{Result, Ok, Err, Some}
+use Rattle.std.specs.Prelude.{Ok, Err, Some}
 use Rattle.mm_text.specs.Stages.{Holds, Advances, StopsWithin, BeginsWith, EndsText, EndsWithin, declared_size}
-use Rattle.byte_io.specs.Streams.{bytes_of_calls}
+use Rattle.byte_io.specs.Streams.{Answer, bytes_of_calls}
 use Rattle.mm_text.specs.Faults.{Explains, Shows}
 use Rattle.mm_text.specs.Readings.{HasRead, pending, size_of, TakesPending, Fills, Finishes, ShowsRead, AddsFirst, GoesOn, Ends, Stops}
 use Rattle.byte_io.specs.declared.fault.DeviceFault.{DeviceFault}
@@ -28,7 +28,7 @@ pending_rest bytes s e n h =
     let k : n + (e - s - n) ≡ e - s = omega arith in
     rw (m, drop_two bytes s n) (sym (ap (λ x. drop n (take x (drop s bytes))) (sym k) ∙ drop-take n (e - s - n) (drop s bytes)))
 
-module _ (reader : TextReader) (limits : TextLimits) (answers : List (Result (List ℕ) DeviceFault)) (given : List Cell) (h : HasRead limits answers given reader) where
+module _ (reader : TextReader) (limits : TextLimits) (answers : List Answer) (given : List Cell) (h : HasRead limits answers given reader) where
   pub read_fits : length h.judged + length (pending reader) ≤ limits.max_bytes
   read_fits = elim (cases reader.room) [
     | inl some ↦ let b = ap length (h.none_beyond some) in let e = ap length h.text_is in let r = h.room_is in
@@ -77,7 +77,7 @@ shows_pending reader kind line s = λ limits answers given h.
     rw h.text_is (s' h.judged h.beyond given fits h.holds)
 
 -- what was read begins with the lines that are judged
-pub read_begins : (limits : TextLimits) (answers : List (Result (List ℕ) DeviceFault)) (given : List Cell) (reader : TextReader) → HasRead limits answers given reader →
+pub read_begins : (limits : TextLimits) (answers : List Answer) (given : List Cell) (reader : TextReader) → HasRead limits answers given reader →
     BeginsWith limits (bytes_of_calls answers) given
 read_begins limits answers given reader h =
     rw (h.text_is, append_assoc h.judged (pending reader) h.beyond) (holds_begin limits h.judged (pending reader ++ h.beyond) _ _ given _ h.holds)
@@ -133,7 +133,7 @@ shows_too_long reader line e none line_is = λ limits answers given h.
     rw text (explains_cut limits h.judged reader.carry.items reader.reading.stage given reader.reading.lines h.holds h.beyond ⊥ ⊥ line full (omega arith) line_is)
 
 -- where nothing is pending and more may come, all that was read is judged
-read_all : (reader : TextReader) (limits : TextLimits) (answers : List (Result (List ℕ) DeviceFault)) (given : List Cell) (h : HasRead limits answers given reader) → reader.start ≡ reader.end → 0 < reader.room →
+read_all : (reader : TextReader) (limits : TextLimits) (answers : List Answer) (given : List Cell) (h : HasRead limits answers given reader) → reader.start ≡ reader.end → 0 < reader.room →
     bytes_of_calls answers ≡ h.judged
 read_all reader limits answers given h e some =
     h.text_is ∙ ap (λ t. t ++ h.beyond) (ap (λ t. h.judged ++ t) (pending_none reader e) ∙ append-nil h.judged) ∙ ap (λ t. h.judged ++ t) (h.none_beyond some) ∙ append-nil h.judged
@@ -168,7 +168,7 @@ pub shows_end : (reader : TextReader) (kind : MmKind) (line : ℕ) → reader.st
 shows_end reader kind line e some f = λ limits answers given h. let s = rw h.limits_are at f in rw (read_all reader limits answers given h e some) (s h.judged given h.holds)
 
 -- n bytes came, of which the last may be the one that is too many
-module _ {S : Type 0} (gives : S → Result (List ℕ) DeviceFault → S → Type 0) (source source' : S) (reader reader' : TextReader) (n : ℕ) (bytes : List ℕ) where
+module _ {S : Type 0} (gives : S → Answer → S → Type 0) (source source' : S) (reader reader' : TextReader) (n : ℕ) (bytes : List ℕ) where
   pub fills : gives source (Ok bytes) source' → length bytes ≡ n → bytes ≡ take n reader'.piece.items → reader'.limits ≡ reader.limits → reader'.carry.items ≡ reader.carry.items → reader'.reading ≡ reader.reading →
       reader.start ≡ reader.end → 0 < reader.room → reader'.start ≡ 0 → reader'.room + n ≡ reader.room → reader'.end ≤ n →
       (0 < reader'.room → reader'.end ≡ n) → (reader'.room ≡ 0 → reader'.end + 1 ≡ n) → Fills gives source source' reader reader' n
@@ -211,7 +211,7 @@ module _ {S : Type 0} (gives : S → Result (List ℕ) DeviceFault → S → Typ
       drop_end (x ∷ xs) zero l = absurd (omega arith)
       drop_end (x ∷ xs) (suc k) l = drop_end xs k (omega arith)
 
-      calls : (answers : List (Result (List ℕ) DeviceFault)) → bytes_of_calls (answers ++ Ok bytes ∷ []) ≡ bytes_of_calls answers ++ bytes
+      calls : (answers : List Answer) → bytes_of_calls (answers ++ Ok bytes ∷ []) ≡ bytes_of_calls answers ++ bytes
       calls answers = bytes_of_calls-append answers (Ok bytes ∷ []) ∙ ap (λ t. bytes_of_calls answers ++ t) (append-nil bytes)
 
       front : pending reader' ≡ take reader'.end bytes
@@ -234,7 +234,7 @@ has_read_none limits reader limits_e empty carry_e stage_e lines_e room_e = reco
 }
 
 -- One step of a reading behind those before it.
-module _ {S : Type 0} (gives : S → Result (List ℕ) DeviceFault → S → Type 0) where
+module _ {S : Type 0} (gives : S → Answer → S → Type 0) where
   pub goes_none : (source : S) (reader : TextReader) (block : List Cell) → GoesOn gives source source reader reader block block
   goes_none source reader block = record {
     answers = [];
@@ -264,14 +264,14 @@ module _ {S : Type 0} (gives : S → Result (List ℕ) DeviceFault → S → Typ
     }
 
     -- one more call that gave no byte
-    few_reads : (limits : TextLimits) (before : List (Result (List ℕ) DeviceFault)) (given : List Cell) (a : Result (List ℕ) DeviceFault) → HasRead limits before given r0 →
+    few_reads : (limits : TextLimits) (before : List Answer) (given : List Cell) (a : Answer) → HasRead limits before given r0 →
         length (before ++ (go.answers ++ a ∷ [])) ≤ limits.max_bytes + 2
     few_reads limits before given a h =
         let g = go.has_read limits before given h in
         let r = g.reads in let m = g.room_is in
         omega (arith, length-append before (go.answers ++ a ∷ []), length-append go.answers (a ∷ []), length-append before go.answers)
 
-    no_byte : (before : List (Result (List ℕ) DeviceFault)) (a : Result (List ℕ) DeviceFault) → bytes_of_calls (a ∷ []) ≡ [] → bytes_of_calls (before ++ (go.answers ++ a ∷ [])) ≡ bytes_of_calls (before ++ go.answers)
+    no_byte : (before : List Answer) (a : Answer) → bytes_of_calls (a ∷ []) ≡ [] → bytes_of_calls (before ++ (go.answers ++ a ∷ [])) ≡ bytes_of_calls (before ++ go.answers)
     no_byte before a e =
         ap bytes_of_calls (sym (append_assoc before go.answers (a ∷ []))) ∙ bytes_of_calls-append (before ++ go.answers) (a ∷ []) ∙ ap (λ t. bytes_of_calls (before ++ go.answers) ++ t) e ∙ append-nil (bytes_of_calls (before ++ go.answers))
 

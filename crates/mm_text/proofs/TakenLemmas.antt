@@ -16,7 +16,7 @@ use Rattle.mm_text.specs.declared.stages.Stage.{Stage}
 use Rattle.mm_text.specs.declared.stages.Stage.TheVariants.{AtEntries}
 use Rattle.mm_text.specs.declared.fault.MmKind.{MmKind}
 use Rattle.mm_text.specs.declared.fault.MmKind.TheVariants.{Memory, LineTooLong}
-use Rattle.mm_text.proofs.KeepLemmas.{adds_some, unstored}
+use Rattle.mm_text.proofs.KeepLemmas.{adds_some, unstored, few_of}
 use Rattle.mm_text.proofs.CarryLemmas.{adds_carried, carried_none}
 use Rattle.mm_text.proofs.AdvanceLemmas.{advances_line, shows_line}
 
@@ -57,10 +57,6 @@ module _ (limits : TextLimits) (symmetric : Bool) (s : Size) (seen lines : ℕ) 
       shows_line limits bytes line after [] _ lines Memory number cut is.is_line n
       (λ rest done given c k. let e = carried_none lines rest [] refl c in
       rw e (unstored limits done (AtEntries symmetric s seen) given lines line (after_entry symmetric s seen cell) cell k entry_judged refl))
-
-few_of : (v : Bool) (c d : Cell) → length (cond v (c ∷ d ∷ []) (c ∷ [])) ≤ 2
-few_of true c d = omega arith
-few_of false c d = omega arith
 
 pub few_cells : (symmetric : Bool) (c : Cell) → length (cells_of symmetric c) ≤ 2
 few_cells symmetric c = few_of (symmetric && not (nat_eq c.row c.col)) c (record c { row = c.col; col = c.row })

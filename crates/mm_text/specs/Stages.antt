@@ -118,18 +118,6 @@ pub record TakesLines (limits : TextLimits) (done : List (List ℕ)) (bytes rest
   pub partial : IsLine rest
   pub keeps : Keeps limits (done ++ lines) stage cells count
 
--- Among the lines that end in these bytes is one with this fault, behind clean ones.
-pub record StopsIn (limits : TextLimits) (done : List (List ℕ)) (bytes : List ℕ) (kind : MmKind) (number : ℕ) : Type 0 where
-  pub lines : List (List ℕ)
-  pub line : List ℕ
-  pub rest : List ℕ
-  pub all : AllByRecursion IsLine lines
-  pub whole : bytes ≡ joined lines ++ line ++ 10 ∷ rest
-  pub is_line : IsLine line
-  pub clean : Clean limits (done ++ lines)
-  pub fault : LineFault limits (done ++ lines) line kind
-  pub number_is : number ≡ length (done ++ lines) + 1
-
 -- what is missing if the text ends here
 abbrev pub lack_at : Stage → Option MmKind
 lack_at AtBanner = Some BadBanner

@@ -1,9 +1,8 @@
 //! Reads a whole text.
 ghost use Rattle.std.specs.Prelude.{◌≡◌, ◌≢◌, ◌⊎◌, ℕ, ◌+◌, ◌<◌, ◌≤◌, ◌^◌, List, length, Result, IfOk, IfErr, OnOk};
 ghost use Rattle.mm_text.specs.Texts.{Spells};
-ghost use Rattle.byte_io.specs.Streams.{Calls, bytes_of_calls};
+ghost use Rattle.byte_io.specs.Streams.{Answer, Calls, bytes_of_calls};
 ghost use Rattle.mm_text.specs.Faults.{Explains, IsUnread};
-ghost use Rattle.byte_io.specs.declared.fault.DeviceFault.{DeviceFault};
 
 use crate::fault::{MmFault, MmKind};
 use crate::file::MmFile;
@@ -21,6 +20,7 @@ use std::alloc::Global;
 ///
 /// There are at most `max_bytes + 2` reads. A reading takes time in proportion to the text, and memory for two small
 /// buffers and the cells that were read; what the size line promises takes none.
+#[tactic(auto, using(crate::proofs::WholeLemmas::whole_fault, crate::proofs::WholeLemmas::whole_unread))]
 pub fn read_matrix<R: Source>(
     alloc: Global,
     r: &mut R,
@@ -28,10 +28,10 @@ pub fn read_matrix<R: Source>(
 ) -> Result<MmFile, MmFault>
     requires failures { R.failure_count r.old + 1 < 2 ^ 64 }
     requires limit { limits.max_bytes ≤ 2 ^ 63 }
-    ensures ok { IfOk result (λ m. (answers : List (Result (List ℕ) DeviceFault)) × Calls R.read_gives r.old answers r.new
+    ensures ok { IfOk result (λ m. (answers : List Answer) × Calls R.read_gives r.old answers r.new
         × (length answers ≤ limits.max_bytes + 2) × R.at_end r.new
         × Spells (bytes_of_calls answers) limits m.rows m.cols m.cells.items) }
-    ensures err { IfErr result (λ f. (answers : List (Result (List ℕ) DeviceFault)) × Calls R.read_gives r.old answers r.new
+    ensures err { IfErr result (λ f. (answers : List Answer) × Calls R.read_gives r.old answers r.new
         × (length answers ≤ limits.max_bytes + 2)
         × (Explains (bytes_of_calls answers) limits (R.at_end r.new) (R.failure_count r.new ≡ R.failure_count r.old + 1) f.kind f.line
         ⊎ IsUnread answers f.kind f.line)) }

@@ -13,6 +13,7 @@ ghost use Rattle.mm_text.specs.declared.size.Size.{Size};
 ghost use Rattle.mm_text.specs.declared.limits.TextLimits.{TextLimits};
 ghost use Rattle.cells.specs.declared.cell.Cell.{Cell};
 ghost use Rattle.byte_io.specs.declared.fault.DeviceFault.{DeviceFault};
+ghost use Rattle.byte_io.specs.Streams.{Answer};
 
 use crate::carrying::{CARRY, carry_on};
 use crate::fault::{MmFault, MmKind};
@@ -134,7 +135,7 @@ impl TextReader {
     /// handed out. Constant time.
     pub fn size(&self) -> Option<Size>
         ensures size { result ≡ size_of self.now }
-        ensures within { (limits : TextLimits) (answers : List (Result (List ℕ) DeviceFault)) (given : List Cell) →
+        ensures within { (limits : TextLimits) (answers : List Answer) (given : List Cell) →
             HasRead limits answers given self.now → AreSized given result }
     {
         match self.reading.stage {

@@ -1,4 +1,4 @@
-use Rattle.std.proofs.Common.{refl, sym, ◌∙◌}
+use Rattle.std.proofs.Common.{refl}
 use Rattle.std.proofs.lemmas.Result.{err_from_is_err_and}
 use Rattle.mm_text.proofs.EndingLemmas.{ends_text, explains_lack, stops_before_last, stops_behind_last}
 use Rattle.mm_text.proofs.PlainLemmas.{plain_lack, not_memory}
