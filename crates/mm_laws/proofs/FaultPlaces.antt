@@ -122,12 +122,14 @@ pub first_stays : (text more : List ℕ) (limits : TextLimits) (kind : MmKind) (
 first_stays text more limits kind line f h = (
   record {
     place = f.place;
-    turn = f.turn;
-    stands = fault_stays f.turn text more limits f.place kind line h f.stands;
-    least = λ t p k n w. elim (cases_lt (length text) p) [
-      | inl far ↦ later f.place p f.turn t (omega arith)
-      | inr near ↦ f.least t p k n (fault_came t text more limits p k n near w)
-    ];
+    first = record {
+      turn = f.first.turn;
+      stands = fault_stays f.first.turn text more limits f.place kind line h f.first.stands;
+      least = λ t p k n w. elim (cases_lt (length text) p) [
+        | inl far ↦ later f.place p f.first.turn t (omega arith)
+        | inr near ↦ f.first.least t p k n (fault_came t text more limits p k n near w)
+      ];
+    };
   },
   refl,
 )
@@ -137,12 +139,14 @@ pub first_came : (text more : List ℕ) (limits : TextLimits) (kind : MmKind) (l
 first_came text more limits kind line f h = (
   record {
     place = f.place;
-    turn = f.turn;
-    stands = fault_came f.turn text more limits f.place kind line h f.stands;
-    least = λ t p k n w. elim (cases_lt (length text) p) [
-      | inl far ↦ later f.place p f.turn t (omega arith)
-      | inr near ↦ f.least t p k n (fault_stays t text more limits p k n near w)
-    ];
+    first = record {
+      turn = f.first.turn;
+      stands = fault_came f.first.turn text more limits f.place kind line h f.first.stands;
+      least = λ t p k n w. elim (cases_lt (length text) p) [
+        | inl far ↦ later f.place p f.first.turn t (omega arith)
+        | inr near ↦ f.first.least t p k n (fault_stays t text more limits p k n near w)
+      ];
+    };
   },
   refl,
 )

@@ -81,7 +81,7 @@ module _ (limits : TextLimits) (text carry : List ℕ) (stage : Stage) (given : 
   explains_cut beyond ended failed line full some e =
       let f = first_cut (text ++ beyond) limits stage given count text beyond h.rest h.takes refl full some in
       let longer : limits.max_bytes < length (text ++ beyond) = omega (arith, length-append text beyond) in
-      let l = f.least Rattle.mm_text.specs.Texts.Turn.at_limit (limits.max_bytes + 1) TooLong (line_at (text ++ beyond) limits.max_bytes) (record { longer = longer; place_is = refl; kind_is = refl; line_is = refl }) in
+      let l = f.first.least Rattle.mm_text.specs.Texts.Turn.at_limit (limits.max_bytes + 1) TooLong (line_at (text ++ beyond) limits.max_bytes) (record { longer = longer; place_is = refl; kind_is = refl; line_is = refl }) in
       rw e (subst (λ k. Rattle.mm_text.specs.Faults.IsTold (text ++ beyond) limits ended k (count + 1)) h.short (record { first = f; at_end = λ g. absurd (omega arith) }))
 
 pub advances_none : (limits : TextLimits) (carry : List ℕ) (stage : Stage) (count : ℕ) (block : List Cell) → Advances limits [] carry stage count block carry stage count block

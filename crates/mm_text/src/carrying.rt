@@ -10,12 +10,9 @@ ghost use Rattle.mm_text.specs.Faults.{Shows};
 ghost use Rattle.cells.specs.declared.cell.Cell.{Cell};
 
 use crate::fault::{MmFault, MmKind};
-use crate::limits::TextLimits;
-use crate::reading::{MAX_LINE, Reading, content_of, is_comment_line};
+use crate::limits::{CARRY, MAX_LINE, TextLimits};
+use crate::reading::{Reading, content_of, is_comment_line};
 use cells::Cell;
-
-/// The most bytes that are carried: a line of full length, and a CR that may end it.
-pub const CARRY: usize = 1025;
 
 /// Whether the line that begins with these bytes is a comment, if it isn't the first.
 fn is_comment_front(carry: &[u8], bytes: &[u8]) -> bool

@@ -8,9 +8,9 @@ ghost use Rattle.mm_text.specs.Faults.{Shows, Explains};
 ghost use Rattle.mm_text.specs.declared.limits.TextLimits.{TextLimits};
 ghost use Rattle.cells.specs.declared.cell.Cell.{Cell};
 
-use crate::carrying::{CARRY, end_carried, end_in_place};
+use crate::carrying::{end_carried, end_in_place};
 use crate::fault::{MmFault, MmKind};
-use crate::limits::TextLimits;
+use crate::limits::{CARRY, TextLimits};
 use crate::plain::take_entries;
 use crate::reading::Reading;
 use cells::Cell;

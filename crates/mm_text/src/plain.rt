@@ -16,18 +16,13 @@ ghost use Rattle.mm_text.specs.Faults.{Shows};
 ghost use Rattle.mm_text.specs.declared.limits.TextLimits.{TextLimits};
 
 use crate::fault::{MmFault, MmKind};
+use crate::limits::{MAX_DIGITS, WORD_DIGITS};
 use crate::reading::Reading;
 use crate::size::Size;
 use crate::stages::{Stage, push_cells};
 use crate::words::is_blank_byte;
 use cells::Cell;
 use std::cmp;
-
-/// So many digits write a number of 64 bits, whatever they are.
-const MAX_DIGITS: usize = 19;
-
-/// So many digits are read at once, one a byte of a word.
-const WORD_DIGITS: usize = 8;
 
 /// The number that eight digits write, of which each byte of the word holds one, the first the lowest.
 ///

@@ -15,9 +15,9 @@ ghost use Rattle.cells.specs.declared.cell.Cell.{Cell};
 ghost use Rattle.byte_io.specs.declared.fault.DeviceFault.{DeviceFault};
 ghost use Rattle.byte_io.specs.Streams.{Answer};
 
-use crate::carrying::{CARRY, carry_on};
+use crate::carrying::carry_on;
 use crate::fault::{MmFault, MmKind};
-use crate::limits::TextLimits;
+use crate::limits::{CARRY, MOST_BYTES, PIECE, TextLimits};
 use crate::pieces::{end_text, take_lines};
 use crate::reading::Reading;
 use crate::size::Size;
@@ -26,9 +26,6 @@ use byte_io::{DeviceFault, Source};
 use cells::Cell;
 use std::alloc::{AllocError, Global};
 use std::cmp;
-
-/// How many bytes are asked of the source at once.
-const PIECE: usize = 65_536;
 
 /// A reading of one Matrix Market text under way.
 ///
@@ -111,11 +108,11 @@ fn bytes_within(came: usize, room: u64) -> usize
 impl TextReader {
     ghost use Rattle.mm_text.specs.Readings.{size_of, HasRead, AreSized, ReadsBlock, Stops, pending, TakesPending, Fills, Finishes, AddsFirst, ShowsRead};
 
-    /// A reader that has read nothing. The limit is at most 2^63 bytes.
+    /// A reader that has read nothing. The limit is at most `MOST_BYTES`.
     ///
     /// It takes the memory for both buffers; this is the only growth but that of the blocks.
     pub fn new(alloc: Global, limits: TextLimits) -> Result<TextReader, AllocError>
-        requires { limits.max_bytes ≤ 2 ^ 63 }
+        requires { limits.max_bytes ≤ MOST_BYTES }
         ensures { IfOk result (λ reader. HasRead limits [] [] reader) }
     {
         let piece = empty_piece(alloc, PIECE)?;

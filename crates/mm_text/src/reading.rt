@@ -9,15 +9,12 @@ ghost use Rattle.mm_text.specs.Stages.{judged, Keeps, LineFault, is_symmetric, a
 ghost use Rattle.cells.specs.declared.cell.Cell.{Cell};
 
 use crate::fault::{MmFault, MmKind};
-use crate::limits::TextLimits;
+use crate::limits::{MAX_LINE, TextLimits};
 use crate::size::Size;
 use crate::stages::{Stage, next_stage, push_cells};
 use crate::words::is_blank_byte;
 use cells::Cell;
 use std::alloc::AllocError;
-
-/// The most bytes that a line may have before its LF or CR LF, comments excepted.
-pub const MAX_LINE: usize = 1024;
 
 /// What the whole lines so far declare, if they bear no fault.
 #[derive(Clone, Copy)]
