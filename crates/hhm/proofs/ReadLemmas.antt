@@ -11,7 +11,7 @@ use Rattle.byte_io.proofs.StreamLemmas.{calls-append}
 use Rattle.cells.specs.declared.cell.Cell.{Cell}
 use Rattle.byte_io.specs.declared.fault.DeviceFault.{DeviceFault}
 use Rattle.mm_text.specs.declared.fault.MmFault.{MmFault}
-use Rattle.mm_text.specs.declared.reader.TextReader.{TextReader}
+use Rattle.mm_text.specs.declared.text_reader.TextReader.{TextReader}
 use Rattle.mm_text.specs.declared.fault.MmKind.{MmKind}
 use Rattle.mm_text.specs.declared.fault.MmKind.TheVariants as kind
 use Rattle.mm_text.specs.declared.limits.TextLimits.{TextLimits}
@@ -30,7 +30,7 @@ use Rattle.hhm.specs.declared.running_sum.RunningSum.{RunningSum}
 handed_within : (answers : List (Result (List ℕ) DeviceFault)) (given : List Cell) (reader : TextReader) (size : Size) → HasRead sum_limits answers given reader → size_of reader ≡ Some size → AreWithin size.rows size.cols given
 unfolding size_of
 handed_within answers given reader size read is =
-    let sized = stage_sized sum_limits _ given reader.reading.stage read.holds.takes.keeps.stage_is in
+    let sized = stage_sized sum_limits _ given reader.lines.progress.stage read.holds.takes.keeps.stage_is in
     let known : SizedCells given size = subst (AreSized given) is sized in
     known.within
 
@@ -70,9 +70,9 @@ by_kind fault Told memory other = step fault.kind refl
 
 sized_by : (answers : List (Result (List ℕ) DeviceFault)) (given : List Cell) (reader : TextReader) → HasRead sum_limits answers given reader → 4096 ≤ length given + 1 → IsSized reader
 unfolding size_of
-sized_by answers given reader read full = step (declared_size reader.reading.stage) refl (stage_sized sum_limits _ given reader.reading.stage read.holds.takes.keeps.stage_is)
+sized_by answers given reader read full = step (declared_size reader.lines.progress.stage) refl (stage_sized sum_limits _ given reader.lines.progress.stage read.holds.takes.keeps.stage_is)
   where
-    step : (o : Option Size) → declared_size reader.reading.stage ≡ o → AreSized given o → IsSized reader
+    step : (o : Option Size) → declared_size reader.lines.progress.stage ≡ o → AreSized given o → IsSized reader
     step None e h = absurd (omega (arith, ap length h))
     step (Some size) e h = record { size = size; size_is = e; rows = h.rows; cols = h.cols }
 

@@ -11,7 +11,7 @@ use Rattle.mm_text.specs.declared.fault.MmKind.TheVariants.{Read, Memory, BadBan
 use Rattle.mm_text.specs.declared.limits.TextLimits.{TextLimits}
 use Rattle.mm_text.proofs.Clean.{first_wrong_at, first_overrun_at, overrun_of, no_overrun_of, none_within, none_within_lines}
 use Rattle.mm_text.proofs.Cuts.{lines_of-joined, lines_of-last, length-joined}
-use Rattle.mm_text.proofs.PlainLemmas.{IsPlain, plain_behind}
+use Rattle.mm_text.proofs.FaultLemmas.{IsPlain, plain_behind}
 
 pub told : (text : List ℕ) (limits : TextLimits) (ended : Type 0) (place : ℕ) (kind : MmKind) (line : ℕ) → FirstFaultAt text limits place kind line → (length text < place → ended) → IsTold text limits ended kind line
 told text limits ended place kind line f e = record { first = record { place = place; first = f }; at_end = e }

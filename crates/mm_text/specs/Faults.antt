@@ -2,7 +2,7 @@
 use Rattle.std.specs.Prelude.{◌≡◌, ℕ, ◌+◌, ◌<◌, ◌≤◌, List, [], ◌∷◌, ◌++◌, length, take}
 use Rattle.mm_text.specs.Lines.{line_at, lines_of, bytes_of}
 use Rattle.mm_text.specs.Texts.{FirstFault, NoFaultWithin, IsGoodEntry}
-use Rattle.mm_text.specs.Stages.{Holds}
+use Rattle.mm_text.specs.Stages.{LineState, Holds}
 use Rattle.cells.specs.declared.cell.Cell.{Cell}
 use Rattle.mm_text.specs.declared.stages.Stage.{Stage}
 use Rattle.mm_text.specs.declared.limits.TextLimits.{TextLimits}
@@ -48,6 +48,6 @@ pub record IsUnread (answers : List Answer) (kind : MmKind) (line : ℕ) : Type 
   pub line_is : line ≡ 1
 
 -- These bytes show a fault, whatever text within the limit they continue and whatever follows them.
-abbrev pub Shows : TextLimits → List ℕ → List ℕ → Stage → ℕ → MmKind → ℕ → Type 0
-Shows limits bytes carry stage count kind line = (text more : List ℕ) (given : List Cell) → length text + length bytes ≤ limits.max_bytes →
-    Holds limits text carry stage given count → Explains ((text ++ bytes) ++ more) limits ⊥ ⊥ kind line
+abbrev pub Shows : TextLimits → List ℕ → LineState → MmKind → ℕ → Type 0
+Shows limits bytes old kind line = (text more : List ℕ) (given : List Cell) → length text + length bytes ≤ limits.max_bytes →
+    Holds limits text old given → Explains ((text ++ bytes) ++ more) limits ⊥ ⊥ kind line

@@ -3,17 +3,17 @@ use Rattle.std.specs.Prelude.{◌≡◌, ℕ, ◌+◌, ◌-◌, ◌<◌, ◌≤�
 use Rattle.cells.specs.Bounds.{IsDimension, AreWithin}
 use Rattle.byte_io.specs.Streams.{Answer, Calls, bytes_of_calls}
 use Rattle.mm_text.specs.Faults.{Explains}
-use Rattle.mm_text.specs.Stages.{Holds, BeginsWith, declared_size}
+use Rattle.mm_text.specs.Stages.{state_of, Holds, BeginsWith, declared_size}
 use Rattle.mm_text.specs.Texts.{Spells}
 use Rattle.mm_text.specs.declared.fault.MmKind.{MmKind}
 use Rattle.cells.specs.declared.cell.Cell.{Cell}
 use Rattle.mm_text.specs.declared.size.Size.{Size}
 use Rattle.mm_text.specs.declared.limits.TextLimits.{TextLimits}
-use Rattle.mm_text.specs.declared.reader.TextReader.{TextReader}
+use Rattle.mm_text.specs.declared.text_reader.TextReader.{TextReader}
 
 -- the size line that the reader has read
 unfoldable pub size_of : TextReader → Option Size
-size_of reader = declared_size reader.reading.stage
+size_of reader = declared_size reader.lines.progress.stage
 
 -- the bytes that the source gave and that aren't judged yet
 abbrev pub pending : TextReader → List ℕ
@@ -26,7 +26,7 @@ pub record HasRead (limits : TextLimits) (answers : List Answer) (given : List C
   pub judged : List ℕ
   pub beyond : List ℕ
   pub text_is : bytes_of_calls answers ≡ judged ++ pending reader ++ beyond
-  pub holds : Holds limits judged reader.carry.items reader.reading.stage given reader.reading.lines
+  pub holds : Holds limits judged (state_of reader.lines) given
   pub room_is : length (bytes_of_calls answers) + reader.room ≡ limits.max_bytes + 1
   pub none_beyond : 0 < reader.room → beyond ≡ []
   pub one_beyond : reader.room ≡ 0 → length beyond ≡ 1

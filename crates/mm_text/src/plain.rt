@@ -11,13 +11,13 @@ ghost use Rattle.std.specs.Prelude.{◌≡◌, ℕ, ◌+◌, ◌*◌, ◌<◌, �
 ghost use Rattle.std.specs.Int.{w64, to_le_bytes};
 ghost use Rattle.std.specs.Int.Digits.{AllBelowBase, number_from_digits};
 ghost use Rattle.mm_text.specs.Plain.{GoesOnWithDigits, BeginsWithEight, BeginsWithDigits, BeginsWithIndex, BeginsWithCount, BeginsWithEntry};
-ghost use Rattle.mm_text.specs.Stages.{Advances, StopsWithin};
+ghost use Rattle.mm_text.specs.Stages.{state, Advances, StopsWithin};
 ghost use Rattle.mm_text.specs.Faults.{Shows};
 ghost use Rattle.mm_text.specs.declared.limits.TextLimits.{TextLimits};
 
 use crate::fault::{MmFault, MmKind};
 use crate::limits::{MAX_DIGITS, WORD_DIGITS};
-use crate::reading::Reading;
+use crate::progress::Progress;
 use crate::size::Size;
 use crate::stages::{Stage, push_cells};
 use crate::words::is_blank_byte;
@@ -143,7 +143,7 @@ fn plain_entry(rows: u64, cols: u64, bytes: &[u8]) -> Option<(Cell, usize)>
 /// Takes the plain lines with which the bytes begin, as long as entries are due and the block has room for two cells,
 /// and gives how many bytes they took.
 pub fn take_entries(
-    reading: &mut Reading,
+    reading: &mut Progress,
     bytes: &[u8],
     block: &mut Vec<Cell>,
     most: usize,
@@ -155,10 +155,9 @@ pub fn take_entries(
     ensures bound { reading.new.lines ≤ reading.old.lines + length bytes.now }
     ensures room { OnOk result (length block.new.items ≤ most) }
     ensures few { IfOk result (λ n. length block.new.items ≤ length block.old.items + 2 * n) }
-    ensures ok { IfOk result (λ n. (limits : TextLimits) → Advances limits (take n bytes.now) [] reading.old.stage reading.old.lines block.old.items
-        [] reading.new.stage reading.new.lines block.new.items) }
-    ensures err { IfErr result (λ f. (limits : TextLimits) → Shows limits bytes.now [] reading.old.stage reading.old.lines f.kind f.line) }
-    ensures kept { OnErr result ((limits : TextLimits) → StopsWithin limits bytes.now [] reading.old.stage reading.old.lines block.old.items block.new.items) }
+    ensures ok { IfOk result (λ n. (limits : TextLimits) → Advances limits (take n bytes.now) (state [] reading.old.stage reading.old.lines) block.old.items (state [] reading.new.stage reading.new.lines) block.new.items) }
+    ensures err { IfErr result (λ f. (limits : TextLimits) → Shows limits bytes.now (state [] reading.old.stage reading.old.lines) f.kind f.line) }
+    ensures kept { OnErr result ((limits : TextLimits) → StopsWithin limits bytes.now (state [] reading.old.stage reading.old.lines) block.old.items block.new.items) }
     ensures lacks { IfErr result (λ f. f.kind ≡ MmKind.Memory → vec_capacity block.old < most) }
     ensures grows { vec_capacity block.old ≤ vec_capacity block.new }
 {
