@@ -4,7 +4,7 @@ use Rattle.std.proofs.lemmas.Bool.Decides.{nat_tests}
 use Rattle.std.proofs.lemmas.List.{append-nil}
 use Rattle.std.specs.Prelude.{nat_eq, nat_lt, Ok, None}
 use Rattle.mm_text.specs.Lines.{is_comment, content}
-use Rattle.mm_text.specs.Stages.{IsCarried, EndsCarried, cut_kind, judged, AddsLine, Keeps, IsOverlong}
+use Rattle.mm_text.specs.Stages.{at, IsCarried, EndsCarried, cut_kind, judged, AddsLine, Keeps, IsOverlong}
 use Rattle.mm_text.specs.declared.fault.MmKind.TheVariants.{LineTooLong, TooLong}
 use Rattle.cells.specs.declared.cell.Cell.{Cell}
 use Rattle.mm_text.specs.declared.limits.TextLimits.{TextLimits}
@@ -84,7 +84,7 @@ judged_comment limits stage count line some comment = let z = no_zero count some
 
 pub adds_comment : (limits : TextLimits) (count : ℕ) (carry bytes : List ℕ) (stage : Stage) (block : List Cell) (stage' : Stage) (count' : ℕ) →
     (not (nat_eq count 0) && is_comment (carry ++ bytes)) ≡ true → stage' ≡ stage → count' ≡ count + 1 →
-    AddsLine limits (EndsCarried count carry bytes) stage count block stage' count' block
+    AddsLine limits (EndsCarried count carry bytes) (at stage count) block (at stage' count') block
 adds_comment limits count carry bytes stage block stage' count' test s n = rw (s, n) (record {
   cells = [];
   block_is = sym (append-nil block);
@@ -99,8 +99,8 @@ adds_comment limits count carry bytes stage block stage' count' test s n = rw (s
 -- a line that was judged whole, where all of its front was carried
 pub adds_carried : (limits : TextLimits) (count : ℕ) (carry bytes whole : List ℕ) (stage : Stage) (block : List Cell) (stage' : Stage) (count' : ℕ) (block' : List Cell) →
     ((rest : List ℕ) → IsCarried count rest carry → whole ≡ rest ++ bytes) →
-    AddsLine limits (λ l. l ≡ whole) stage count block stage' count' block' →
-    AddsLine limits (EndsCarried count carry bytes) stage count block stage' count' block'
+    AddsLine limits (λ l. l ≡ whole) (at stage count) block (at stage' count') block' →
+    AddsLine limits (EndsCarried count carry bytes) (at stage count) block (at stage' count') block'
 adds_carried limits count carry bytes whole stage block stage' count' block' same a = record {
   cells = a.cells;
   block_is = a.block_is;

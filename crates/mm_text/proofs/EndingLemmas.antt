@@ -3,7 +3,7 @@ use Rattle.std.proofs.Common.{inl, inr, ◌≡◌, ℕ, ◌+◌, ◌<◌, ◌≤
 use Rattle.std.proofs.lemmas.List.{append-nil}
 use Rattle.std.specs.Prelude.{Some}
 use Rattle.mm_text.specs.Lines.{lines_of, joined, line_at, counted}
-use Rattle.mm_text.specs.Stages.{state, Keeps, LineFault, IsCarried, EndsCarried, Holds, AddsLine, EndsLast, EndsText, EndsWithin, lack_at, declared_size}
+use Rattle.mm_text.specs.Stages.{at, state, Keeps, LineFault, IsCarried, EndsCarried, Holds, AddsLine, EndsLast, EndsText, EndsWithin, lack_at, declared_size}
 use Rattle.mm_text.specs.Faults.{Explains}
 use Rattle.mm_text.specs.declared.fault.MmKind.{MmKind}
 use Rattle.cells.specs.declared.cell.Cell.{Cell}
@@ -41,7 +41,7 @@ module _ (limits : TextLimits) (text carry : List ℕ) (stage : Stage) (given : 
       explains_line text limits (Unit {0}) h.takes.lines h.rest [] [] kind number h.takes.keeps.clean h.takes.all h.takes.partial fault
       (lines_some some) (h.takes.whole ∙ sym (append-nil (joined h.takes.lines ++ h.rest))) (omega arith) (λ l. absurd (omega arith)) (λ l. tt) (omega arith)
 
-pub ends_none : (limits : TextLimits) (carry : List ℕ) (stage : Stage) (count : ℕ) (block : List Cell) → length carry ≡ 0 → EndsLast limits (state carry stage count) block stage count block
+pub ends_none : (limits : TextLimits) (carry : List ℕ) (stage : Stage) (count : ℕ) (block : List Cell) → length carry ≡ 0 → EndsLast limits (state carry stage count) block (at stage count) block
 ends_none limits carry stage count block n = record {
   cells = [];
   block_is = sym (append-nil block);
@@ -51,7 +51,7 @@ ends_none limits carry stage count block n = record {
 }
 
 pub ends_line : (limits : TextLimits) (carry : List ℕ) (stage : Stage) (count : ℕ) (block : List Cell) (stage' : Stage) (count' : ℕ) (block' : List Cell) → 0 < length carry →
-    AddsLine limits (EndsCarried count carry []) stage count block stage' count' block' → EndsLast limits (state carry stage count) block stage' count' block'
+    AddsLine limits (EndsCarried count carry []) (at stage count) block (at stage' count') block' → EndsLast limits (state carry stage count) block (at stage' count') block'
 ends_line limits carry stage count block stage' count' block' n a = record {
   cells = a.cells;
   block_is = a.block_is;
@@ -78,7 +78,7 @@ stops_before_last limits carry stage count block block' e = record {
 
 -- and where only something is missing behind it
 pub stops_behind_last : (limits : TextLimits) (carry : List ℕ) (stage : Stage) (count : ℕ) (block : List Cell) (stage' : Stage) (count' : ℕ) (block' : List Cell) →
-    EndsLast limits (state carry stage count) block stage' count' block' → EndsWithin limits (state carry stage count) block block'
+    EndsLast limits (state carry stage count) block (at stage' count') block' → EndsWithin limits (state carry stage count) block block'
 stops_behind_last limits carry stage count block stage' count' block' a = record {
   cells = a.cells;
   block_is = a.block_is;
@@ -93,7 +93,7 @@ stops_behind_last limits carry stage count block stage' count' block' a = record
 }
 
 pub ends_text : (limits : TextLimits) (carry : List ℕ) (stage : Stage) (count : ℕ) (block : List Cell) (stage' : Stage) (count' : ℕ) (block' : List Cell) (symmetric : _) (s : Size) (seen : ℕ) →
-    EndsLast limits (state carry stage count) block stage' count' block' → stage' ≡ AtEntries symmetric s seen → s.entries ≤ seen → EndsText limits (state carry stage count) block stage' block'
+    EndsLast limits (state carry stage count) block (at stage' count') block' → stage' ≡ AtEntries symmetric s seen → s.entries ≤ seen → EndsText limits (state carry stage count) block stage' block'
 ends_text limits carry stage count block stage' count' block' symmetric s seen a is full = record {
   cells = a.cells;
   block_is = a.block_is;
@@ -105,7 +105,7 @@ ends_text limits carry stage count block stage' count' block' symmetric s seen a
 }
 
 pub explains_lack : (limits : TextLimits) (carry : List ℕ) (stage : Stage) (count : ℕ) (block : List Cell) (stage' : Stage) (count' : ℕ) (block' : List Cell) (kind : MmKind) (number : ℕ) →
-    EndsLast limits (state carry stage count) block stage' count' block' → lack_at stage' ≡ Some kind → number ≡ count + 1 →
+    EndsLast limits (state carry stage count) block (at stage' count') block' → lack_at stage' ≡ Some kind → number ≡ count + 1 →
     (text : List ℕ) (given : List Cell) → Holds limits text (state carry stage count) given → Explains text limits (Unit {0}) ⊥ kind number
 explains_lack limits carry stage count block stage' count' block' kind number a lack e = λ text given h.
     let k = a.keeps text given h in

@@ -6,7 +6,7 @@ use Rattle.std.proofs.lemmas.Bool.Decides.{nat_tests}
 use Rattle.std.specs.Prelude.{nat_eq, nat_lt, count_by}
 use Rattle.mm_text.specs.Lines.{lines_of, joined, bytes_of, line_at, is_line_feed, is_limited, is_comment, content, IsLine}
 use Rattle.mm_text.specs.Texts.{NoFaultWithin, Spells}
-use Rattle.mm_text.specs.Stages.{state, Keeps, LineFault, IsCarried, EndsCarried, Holds, AddsLine, Advances, StopsWithin, BeginsWith, cut_kind}
+use Rattle.mm_text.specs.Stages.{at, state, Keeps, LineFault, IsCarried, EndsCarried, Holds, AddsLine, Advances, StopsWithin, BeginsWith, cut_kind}
 use Rattle.mm_text.specs.Faults.{Explains, Shows, IsReadFault}
 use Rattle.mm_text.specs.declared.fault.MmKind.{MmKind}
 use Rattle.mm_text.specs.declared.fault.MmKind.TheVariants.{LineTooLong, TooLong}
@@ -143,7 +143,7 @@ holds_begin limits front more carry stage cells count h = record {
 
 -- a whole line, of which the front may be carried
 pub advances_line : (limits : TextLimits) (front carry : List ℕ) (stage : Stage) (count : ℕ) (block : List Cell) (carry' : List ℕ) (stage' : Stage) (count' : ℕ) (block' : List Cell) →
-    AddsLine limits (EndsCarried count carry front) stage count block stage' count' block' → IsLine front → carry' ≡ [] →
+    AddsLine limits (EndsCarried count carry front) (at stage count) block (at stage' count') block' → IsLine front → carry' ≡ [] →
     Advances limits (front ++ 10 ∷ []) (state carry stage count) block (state carry' stage' count') block'
 advances_line limits front carry stage count block carry' stage' count' block' a is_line none = record {
   cells = a.cells;

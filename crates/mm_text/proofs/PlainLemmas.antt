@@ -6,7 +6,7 @@ use Rattle.std.proofs.Math.Seq.{take-append-add}
 use Rattle.std.specs.Prelude.{Option, Some, None, Result, Ok, Err, nat_lt, nat_eq}
 use Rattle.mm_text.specs.Lines.{content, is_comment}
 use Rattle.mm_text.specs.Judging.{◌>>=◌, cells_of}
-use Rattle.mm_text.specs.Stages.{state, step, judged, after_entry, AddsLine, Advances}
+use Rattle.mm_text.specs.Stages.{at, state, step, judged, after_entry, AddsLine, Advances}
 use Rattle.mm_text.specs.Faults.{Shows}
 use Rattle.mm_text.specs.Plain.{IsEntry}
 use Rattle.cells.specs.declared.cell.Cell.{Cell}
@@ -42,7 +42,7 @@ module _ (limits : TextLimits) (symmetric : Bool) (s : Size) (seen lines : ℕ) 
       rw (t, c) (by_tests (nat_eq lines 0) (is_comment line) (step limits (AtEntries symmetric s seen) (content line)) ∙ rw entry_step refl)
 
   pub adds_entry : (block block' : List Cell) → block' ≡ block ++ cells_of symmetric cell →
-      AddsLine limits (λ l. l ≡ line) (AtEntries symmetric s seen) lines block (AtEntries symmetric s (seen + 1)) (lines + 1) block'
+      AddsLine limits (λ l. l ≡ line) (at (AtEntries symmetric s seen) lines) block (at (AtEntries symmetric s (seen + 1)) (lines + 1)) block'
   adds_entry block block' b = adds_some limits (AtEntries symmetric s seen) lines line block block' (after_entry symmetric s seen cell) entry_judged b
 
   pub advances_entry : (block block' : List Cell) → block' ≡ block ++ cells_of symmetric cell →

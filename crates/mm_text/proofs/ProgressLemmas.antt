@@ -8,7 +8,7 @@ use Rattle.mm_text.specs.Judging.{◌>>=◌, entry}
 use Rattle.mm_text.specs.declared.size.Size.{Size}
 use Rattle.mm_text.specs.declared.stages.Stage.TheVariants.{AtBanner, AtSize, AtEntries}
 use Rattle.std.proofs.lemmas.List.{append-nil}
-use Rattle.mm_text.specs.Stages.{step, judged, added, Keeps, LineFault, AddsLine, declared_size, after_entry, is_symmetric}
+use Rattle.mm_text.specs.Stages.{at, step, judged, added, Keeps, LineFault, AddsLine, declared_size, after_entry, is_symmetric}
 use Rattle.mm_text.proofs.StageLemmas.{bind_err, bind_ok, step_err, step_ok, step_right, step_entry}
 use Rattle.mm_text.specs.Texts.{IsGoodEntry}
 use Rattle.mm_text.proofs.Clean.{clean_more}
@@ -157,7 +157,7 @@ few_added stage None = omega arith
 few_added stage (Some c) = few_of (is_symmetric stage && not (nat_eq c.row c.col)) c (record c { row = c.col; col = c.row })
 
 pub adds_none : (limits : TextLimits) (stage : Stage) (lines : ℕ) (line : List ℕ) (block : List Cell) → judged limits stage (nat_eq lines 0) line ≡ Ok None →
-    AddsLine limits (λ l. l ≡ line) stage lines block stage (lines + 1) block
+    AddsLine limits (λ l. l ≡ line) (at stage lines) block (at stage (lines + 1)) block
 adds_none limits stage lines line block e = record {
   cells = [];
   block_is = sym (append-nil block);
@@ -167,7 +167,7 @@ adds_none limits stage lines line block e = record {
 }
 
 pub adds_some : (limits : TextLimits) (stage : Stage) (lines : ℕ) (line : List ℕ) (block block' : List Cell) (y : Stage × Option Cell) → judged limits stage (nat_eq lines 0) line ≡ Ok (Some y) →
-    block' ≡ block ++ added y.0 y.1 → AddsLine limits (λ l. l ≡ line) stage lines block y.0 (lines + 1) block'
+    block' ≡ block ++ added y.0 y.1 → AddsLine limits (λ l. l ≡ line) (at stage lines) block (at y.0 (lines + 1)) block'
 adds_some limits stage lines line block block' y e b = record {
   cells = added y.0 y.1;
   block_is = b;

@@ -11,6 +11,7 @@ use Rattle.mm_text.specs.declared.size.Size.{Size}
 use Rattle.mm_text.specs.declared.limits.TextLimits.{TextLimits}
 use Rattle.mm_text.specs.declared.stages.Stage.{Stage}
 use Rattle.mm_text.specs.declared.line_reader.LineReader.{LineReader}
+use Rattle.mm_text.specs.declared.progress.Progress.{Progress}
 use Rattle.mm_text.specs.declared.stages.Stage.TheVariants.{AtBanner, AtSize, AtEntries}
 
 -- one more entry was seen
@@ -102,14 +103,18 @@ declared_size AtBanner = None
 declared_size (AtSize symmetric) = None
 declared_size (AtEntries symmetric s seen) = Some s
 
+-- this stage, behind so many lines
+abbrev pub at : Stage → ℕ → Progress
+at stage lines = record { stage = stage; lines = lines }
+
 -- A line of this description was judged: it adds these cells, whatever lines and cells are kept before it.
-pub record AddsLine (limits : TextLimits) (IsThis : List ℕ → Type 0) (stage : Stage) (lines : ℕ) (block : List Cell) (stage' : Stage) (lines' : ℕ) (block' : List Cell) : Type 0 where
+pub record AddsLine (limits : TextLimits) (IsThis : List ℕ → Type 0) (old : Progress) (block : List Cell) (new : Progress) (block' : List Cell) : Type 0 where
   pub cells : List Cell
   pub block_is : block' ≡ block ++ cells
   pub few : length cells ≤ 2
   pub keeps : (line : List ℕ) (done : List (List ℕ)) (given : List Cell) → IsThis line →
-      Keeps limits done stage given lines → Keeps limits (done ++ line ∷ []) stage' (given ++ cells) lines'
-  pub size_kept : (s : Size) → declared_size stage ≡ Some s → declared_size stage' ≡ Some s
+      Keeps limits done old.stage given old.lines → Keeps limits (done ++ line ∷ []) new.stage (given ++ cells) new.lines
+  pub size_kept : (s : Size) → declared_size old.stage ≡ Some s → declared_size new.stage ≡ Some s
 
 -- These bytes are whole lines and then a rest without LF, and the lines are kept behind the ones before.
 pub record TakesLines (limits : TextLimits) (done : List (List ℕ)) (bytes rest : List ℕ) (stage : Stage) (cells : List Cell) (count : ℕ) : Type 0 where
@@ -184,12 +189,12 @@ pub record BeginsWith (limits : TextLimits) (text : List ℕ) (cells : List Cell
   pub keeps : Keeps limits done stage cells count
 
 -- What is carried was judged as the last line of a text: it adds these cells, whatever text ends with it.
-pub record EndsLast (limits : TextLimits) (old : LineState) (block : List Cell) (stage : Stage) (count : ℕ) (block' : List Cell) : Type 0 where
+pub record EndsLast (limits : TextLimits) (old : LineState) (block : List Cell) (new : Progress) (block' : List Cell) : Type 0 where
   pub cells : List Cell
   pub block_is : block' ≡ block ++ cells
   pub few : length cells ≤ 2
-  pub keeps : (text : List ℕ) (given : List Cell) → Holds limits text old given → Keeps limits (lines_of text) stage (given ++ cells) count
-  pub size_kept : (s : Size) → declared_size old.stage ≡ Some s → declared_size stage ≡ Some s
+  pub keeps : (text : List ℕ) (given : List Cell) → Holds limits text old given → Keeps limits (lines_of text) new.stage (given ++ cells) new.lines
+  pub size_kept : (s : Size) → declared_size old.stage ≡ Some s → declared_size new.stage ≡ Some s
 
 -- The text has ended, and nothing is missing: it spells the cells that were given before and these.
 pub record EndsText (limits : TextLimits) (old : LineState) (block : List Cell) (stage : Stage) (block' : List Cell) : Type 0 where

@@ -62,7 +62,8 @@ impl LineReader {
         requires lines { self.old.progress.lines + 1 < 2 ^ 64 }
         ensures progress { self.new.progress ≡ self.old.progress }
         ensures ok { OnOk result ((rest : List ℕ) → IsCarried self.old.progress.lines rest self.old.carry.items →
-            IsCarried self.old.progress.lines (rest ++ bytes.now) self.new.carry.items × (cut_kind (self.old.progress.lines == 0) (rest ++ bytes.now) ≡ MmKind.TooLong)) }
+            IsCarried self.old.progress.lines (rest ++ bytes.now) self.new.carry.items
+            × (cut_kind (self.old.progress.lines == 0) (rest ++ bytes.now) ≡ MmKind.TooLong)) }
         ensures kind { IfErr result (λ f. f.kind ≡ MmKind.LineTooLong) }
         ensures line { IfErr result (λ f. f.line ≡ self.old.progress.lines + 1) }
         ensures err { IfErr result (λ f. (rest : List ℕ) → IsCarried self.old.progress.lines rest self.old.carry.items →
@@ -93,9 +94,10 @@ impl LineReader {
         ensures count { OnOk result (self.new.progress.lines ≡ self.old.progress.lines + 1) }
         ensures bound { self.new.progress.lines ≤ self.old.progress.lines + 1 }
         ensures ok { OnOk result (AddsLine limits (EndsCarried self.old.progress.lines self.old.carry.items bytes.now)
-            self.old.progress.stage self.old.progress.lines block.old.items self.new.progress.stage self.new.progress.lines block.new.items) }
+            self.old.progress block.old.items self.new.progress block.new.items) }
         ensures line { IfErr result (λ f. f.line ≡ self.old.progress.lines + 1) }
-        ensures err { IfErr result (λ f. (rest : List ℕ) (done : List (List ℕ)) (given : List Cell) → IsCarried self.old.progress.lines rest self.old.carry.items →
+        ensures err { IfErr result (λ f. (rest : List ℕ) (done : List (List ℕ)) (given : List Cell) →
+            IsCarried self.old.progress.lines rest self.old.carry.items →
             Keeps limits done self.old.progress.stage given self.old.progress.lines → LineFault limits done (rest ++ bytes.now) f.kind) }
         ensures kept { OnErr result (block.new.items ≡ block.old.items) }
         ensures lacks { IfErr result (λ f. f.kind ≡ MmKind.Memory → vec_capacity block.old < length block.old.items + 2) }
@@ -127,9 +129,10 @@ impl LineReader {
         ensures count { OnOk result (self.new.progress.lines ≡ self.old.progress.lines + 1) }
         ensures bound { self.new.progress.lines ≤ self.old.progress.lines + 1 }
         ensures ok { OnOk result (AddsLine limits (EndsCarried self.old.progress.lines self.old.carry.items bytes.now)
-            self.old.progress.stage self.old.progress.lines block.old.items self.new.progress.stage self.new.progress.lines block.new.items) }
+            self.old.progress block.old.items self.new.progress block.new.items) }
         ensures line { IfErr result (λ f. f.line ≡ self.old.progress.lines + 1) }
-        ensures err { IfErr result (λ f. (rest : List ℕ) (done : List (List ℕ)) (given : List Cell) → IsCarried self.old.progress.lines rest self.old.carry.items →
+        ensures err { IfErr result (λ f. (rest : List ℕ) (done : List (List ℕ)) (given : List Cell) →
+            IsCarried self.old.progress.lines rest self.old.carry.items →
             Keeps limits done self.old.progress.stage given self.old.progress.lines → LineFault limits done (rest ++ bytes.now) f.kind) }
         ensures kept { OnErr result (block.new.items ≡ block.old.items) }
         ensures lacks { IfErr result (λ f. f.kind ≡ MmKind.Memory → vec_capacity block.old < length block.old.items + 2) }

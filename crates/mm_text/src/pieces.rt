@@ -37,7 +37,8 @@ impl LineReader {
         ensures bound { self.new.progress.lines ≤ self.old.progress.lines + length bytes.now }
         ensures room { OnOk result (length block.new.items ≤ length block.old.items + 2) }
         ensures none { IfOk result (λ n. n ≡ 0 → IsLine bytes.now) }
-        ensures ok { IfOk result (λ n. Advances limits (take n bytes.now) (state_of self.old) block.old.items (state_of self.new) block.new.items) }
+        ensures ok { IfOk result (λ n. Advances limits (take n bytes.now)
+            (state_of self.old) block.old.items (state_of self.new) block.new.items) }
         ensures err { IfErr result (λ f. Shows limits bytes.now (state_of self.old) f.kind f.line) }
         ensures kept { OnErr result (block.new.items ≡ block.old.items) }
         ensures lacks { IfErr result (λ f. f.kind ≡ MmKind.Memory → vec_capacity block.old < length block.old.items + 2) }
@@ -67,9 +68,11 @@ impl LineReader {
         ensures bound { self.new.progress.lines ≤ self.old.progress.lines + length bytes.now }
         ensures room { OnOk result (length block.new.items ≤ most) }
         ensures few { IfOk result (λ n. length block.new.items ≤ length block.old.items + 2 * n) }
-        ensures ok { IfOk result (λ n. (limits : TextLimits) → Advances limits (take n bytes.now) (state_of self.old) block.old.items (state_of self.new) block.new.items) }
+        ensures ok { IfOk result (λ n. (limits : TextLimits) → Advances limits (take n bytes.now)
+            (state_of self.old) block.old.items (state_of self.new) block.new.items) }
         ensures err { IfErr result (λ f. (limits : TextLimits) → Shows limits bytes.now (state_of self.old) f.kind f.line) }
-        ensures kept { OnErr result ((limits : TextLimits) → StopsWithin limits bytes.now (state_of self.old) block.old.items block.new.items) }
+        ensures kept { OnErr result ((limits : TextLimits) →
+            StopsWithin limits bytes.now (state_of self.old) block.old.items block.new.items) }
         ensures lacks { IfErr result (λ f. f.kind ≡ MmKind.Memory → vec_capacity block.old < most) }
         ensures grows { vec_capacity block.old ≤ vec_capacity block.new }
     {
@@ -96,7 +99,8 @@ impl LineReader {
         ensures bound { self.new.progress.lines ≤ self.old.progress.lines + length bytes.now }
         ensures room { OnOk result (length block.new.items ≤ most) }
         ensures none { IfOk result (λ n. n ≡ 0 → IsLine bytes.now) }
-        ensures ok { IfOk result (λ n. Advances limits (take n bytes.now) (state_of self.old) block.old.items (state_of self.new) block.new.items) }
+        ensures ok { IfOk result (λ n. Advances limits (take n bytes.now)
+            (state_of self.old) block.old.items (state_of self.new) block.new.items) }
         ensures err { IfErr result (λ f. Shows limits bytes.now (state_of self.old) f.kind f.line) }
         ensures kept { OnErr result (StopsWithin limits bytes.now (state_of self.old) block.old.items block.new.items) }
         ensures lacks { IfErr result (λ f. f.kind ≡ MmKind.Memory → vec_capacity block.old < most) }
@@ -125,7 +129,8 @@ impl LineReader {
         ensures bound { self.new.progress.lines ≤ self.old.progress.lines + length bytes.now }
         ensures room { OnOk result (length block.new.items ≤ most) }
         ensures rest { IfOk result (λ n. length block.new.items + 1 < most → IsLine (drop n bytes.now)) }
-        ensures ok { IfOk result (λ n. Advances limits (take n bytes.now) (state_of self.old) block.old.items (state_of self.new) block.new.items) }
+        ensures ok { IfOk result (λ n. Advances limits (take n bytes.now)
+            (state_of self.old) block.old.items (state_of self.new) block.new.items) }
         ensures err { IfErr result (λ f. Shows limits bytes.now (state_of self.old) f.kind f.line) }
         ensures kept { OnErr result (StopsWithin limits bytes.now (state_of self.old) block.old.items block.new.items) }
         ensures lacks { IfErr result (λ f. f.kind ≡ MmKind.Memory → vec_capacity block.old < most) }
@@ -146,7 +151,7 @@ impl LineReader {
     fn end_last(&mut self, limits: TextLimits, block: &mut Vec<Cell>) -> Result<(), MmFault>
         requires lines { self.old.progress.lines + 1 < 2 ^ 64 }
         ensures bound { self.new.progress.lines ≤ self.old.progress.lines + 1 }
-        ensures ok { OnOk result (EndsLast limits (state_of self.old) block.old.items self.new.progress.stage self.new.progress.lines block.new.items) }
+        ensures ok { OnOk result (EndsLast limits (state_of self.old) block.old.items self.new.progress block.new.items) }
         ensures err { IfErr result (λ f. (text : List ℕ) (given : List Cell) →
             Holds limits text (state_of self.old) given → Explains text limits (Unit {0}) ⊥ f.kind f.line) }
         ensures kept { OnErr result (block.new.items ≡ block.old.items) }

@@ -93,7 +93,7 @@ fn plain_number(bytes: &[u8]) -> (u64, &[u8])
 
 /// The index that digits before a blank write, counted from 0, and what follows the blank.
 ///
-/// Inlined, since a call for each of a line's two indices takes a fifth of the time of reading it.
+/// Inlined, since a call for each of a line's two indices takes a fifth of the time of progress it.
 #[inline(always)]
 fn plain_index(limit: u64, bytes: &[u8]) -> Option<(u64, &[u8])>
     ensures { IfSome result (λ p. BeginsWithIndex limit bytes.now p.0 p.1.now) }
@@ -143,21 +143,24 @@ fn plain_entry(rows: u64, cols: u64, bytes: &[u8]) -> Option<(Cell, usize)>
 /// Takes the plain lines with which the bytes begin, as long as entries are due and the block has room for two cells,
 /// and gives how many bytes they took.
 pub fn take_entries(
-    reading: &mut Progress,
+    progress: &mut Progress,
     bytes: &[u8],
     block: &mut Vec<Cell>,
     most: usize,
 ) -> Result<usize, MmFault>
-    requires lines { reading.old.lines + length bytes.now + 1 < 2 ^ 64 }
+    requires lines { progress.old.lines + length bytes.now + 1 < 2 ^ 64 }
     requires room { length block.old.items ≤ most }
     ensures within { IfOk result (λ n. n ≤ length bytes.now) }
-    ensures count { IfOk result (λ n. reading.new.lines ≤ reading.old.lines + n) }
-    ensures bound { reading.new.lines ≤ reading.old.lines + length bytes.now }
+    ensures count { IfOk result (λ n. progress.new.lines ≤ progress.old.lines + n) }
+    ensures bound { progress.new.lines ≤ progress.old.lines + length bytes.now }
     ensures room { OnOk result (length block.new.items ≤ most) }
     ensures few { IfOk result (λ n. length block.new.items ≤ length block.old.items + 2 * n) }
-    ensures ok { IfOk result (λ n. (limits : TextLimits) → Advances limits (take n bytes.now) (state [] reading.old.stage reading.old.lines) block.old.items (state [] reading.new.stage reading.new.lines) block.new.items) }
-    ensures err { IfErr result (λ f. (limits : TextLimits) → Shows limits bytes.now (state [] reading.old.stage reading.old.lines) f.kind f.line) }
-    ensures kept { OnErr result ((limits : TextLimits) → StopsWithin limits bytes.now (state [] reading.old.stage reading.old.lines) block.old.items block.new.items) }
+    ensures ok { IfOk result (λ n. (limits : TextLimits) → Advances limits (take n bytes.now)
+        (state [] progress.old.stage progress.old.lines) block.old.items
+        (state [] progress.new.stage progress.new.lines) block.new.items) }
+    ensures err { IfErr result (λ f. (limits : TextLimits) → Shows limits bytes.now (state [] progress.old.stage progress.old.lines) f.kind f.line) }
+    ensures kept { OnErr result ((limits : TextLimits) →
+        StopsWithin limits bytes.now (state [] progress.old.stage progress.old.lines) block.old.items block.new.items) }
     ensures lacks { IfErr result (λ f. f.kind ≡ MmKind.Memory → vec_capacity block.old < most) }
     ensures grows { vec_capacity block.old ≤ vec_capacity block.new }
 {
@@ -165,11 +168,11 @@ pub fn take_entries(
         symmetric,
         size,
         mut seen,
-    } = reading.stage
+    } = progress.stage
     else {
         return Ok(0);
     };
-    let mut lines = reading.lines;
+    let mut lines = progress.lines;
     let mut start = 0;
     'entries: while seen < size.entries && most - block.len() > 1 {
         let Some((cell, len)) = plain_entry(size.rows, size.cols, &bytes[start..]) else {
@@ -185,11 +188,11 @@ pub fn take_entries(
         seen += 1;
         lines += 1;
     }
-    reading.stage = Stage::AtEntries {
+    progress.stage = Stage::AtEntries {
         symmetric,
         size,
         seen,
     };
-    reading.lines = lines;
+    progress.lines = lines;
     Ok(start)
 }

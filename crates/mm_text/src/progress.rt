@@ -130,7 +130,7 @@ impl Progress {
         block: &mut Vec<Cell>,
     ) -> Result<(), MmFault>
         requires { self.old.lines + 1 < 2 ^ 64 }
-        ensures ok { OnOk result (AddsLine limits (λ l. l ≡ line.now) self.old.stage self.old.lines block.old.items self.new.stage self.new.lines block.new.items) }
+        ensures ok { OnOk result (AddsLine limits (λ l. l ≡ line.now) self.old block.old.items self.new block.new.items) }
         ensures count { OnOk result (self.new.lines ≡ self.old.lines + 1) }
         ensures bound { self.new.lines ≤ self.old.lines + 1 }
         ensures line { IfErr result (λ f. f.line ≡ self.old.lines + 1) }

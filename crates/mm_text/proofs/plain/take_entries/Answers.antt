@@ -42,7 +42,7 @@ entries-init c = record {
 pub returns-then-is_err-clause-err : goal.returns-then-is_err-clause-err
 returns-then-is_err-clause-err c = λ limits.
     let b = rw (take_rest c.args.bytes.now c.entries.start) at c.in-Some.ensures in
-    subst (λ bytes. Shows limits bytes (state [] c.args.reading.now.stage c.args.reading.now.lines) Memory (c.entries.lines + 1)) (take-append-drop c.entries.start c.args.bytes.now)
+    subst (λ bytes. Shows limits bytes (state [] c.args.progress.now.stage c.args.progress.now.lines) Memory (c.entries.lines + 1)) (take-append-drop c.entries.start c.args.bytes.now)
     (shows_later limits (take c.entries.start c.args.bytes.now) (drop c.entries.start c.args.bytes.now) [] [] _ _ _ _ _ _ Memory (c.entries.lines + 1) (c.entries.invariant.advances limits)
     (shows_memory limits c.in-AtEntries.symmetric c.in-AtEntries.size c.entries.seen c.entries.lines b.line c.in-Some.cell b.is_entry c.entries-test.true (drop c.entries.start c.args.bytes.now) b.rest (c.entries.lines + 1) b.whole refl))
 
