@@ -1,10 +1,9 @@
 -- Devices whose bytes are known: a run of reads takes its bytes from the front, a run of writes appends them.
-use Rattle.std.proofs.Common.{ℕ, ◌≤◌, List, [], ◌∷◌, ◌++◌, length, Option, Some, None, Result, Ok, Err, refl, sym, ap, subst, ◌∙◌, arith, append_assoc, length-append}
+use Rattle.std.proofs.Common.{ℕ, ◌≤◌, List, [], ◌∷◌, ◌++◌, length, Option, Some, None, Ok, Err, refl, sym, ap, subst, ◌∙◌, arith, append_assoc, length-append}
 use Rattle.std.proofs.lemmas.List.{append-nil}
 use Rattle.std.specs.Io.KnownBytes.{Consumes, Appends, Keeps}
-use Rattle.byte_io.specs.Streams.{Calls, bytes_of_calls, MayRead, MayWrite}
+use Rattle.byte_io.specs.Streams.{Answer, Calls, bytes_of_calls, MayRead, MayWrite}
 use Rattle.byte_io.specs.Writing.{EachTakes, AnyOffer}
-use Rattle.byte_io.specs.declared.fault.DeviceFault.{DeviceFault}
 
 appends_nothing : (known : Option (List ℕ)) → Appends known known []
 appends_nothing None = tt
@@ -23,7 +22,7 @@ kept_then_appends (Some o) (Some m) None ys a b = absurd b
 kept_then_appends (Some o) (Some m) (Some n) ys a b = b ∙ ap (λ l. l ++ ys) a
 
 -- S is the device, and `known` the bytes that it tells of
-pub known_written : {S : Type 0} (known : S → Option (List ℕ)) (s t : S) (answers : List (Result (List ℕ) DeviceFault)) →
+pub known_written : {S : Type 0} (known : S → Option (List ℕ)) (s t : S) (answers : List Answer) →
     Calls (AnyOffer (λ s offered a t. MayWrite (known s) a (known t))) s answers t → Appends (known s) (known t) (bytes_of_calls answers)
 known_written known s t [] e = subst (λ v. Appends (known s) (known v) []) e (appends_nothing (known s))
 known_written known s t (Ok bytes ∷ answers) c = appends_more (known s) (known c.0) (known t) bytes (bytes_of_calls answers) c.1.1 (known_written known c.0 t answers c.2)
@@ -45,13 +44,13 @@ kept_then_consumes (Some o) None new ys a b = absurd a
 kept_then_consumes (Some o) (Some m) None ys a b = absurd b
 kept_then_consumes (Some o) (Some m) (Some n) ys a b = sym a ∙ b
 
-pub known_read : {S : Type 0} (known : S → Option (List ℕ)) (s t : S) (answers : List (Result (List ℕ) DeviceFault)) →
+pub known_read : {S : Type 0} (known : S → Option (List ℕ)) (s t : S) (answers : List Answer) →
     Calls (λ s a t. MayRead (known s) a (known t)) s answers t → Consumes (known s) (known t) (bytes_of_calls answers)
 known_read known s t [] e = subst (λ v. Consumes (known s) (known v) []) e (consumes_nothing (known s))
 known_read known s t (Ok bytes ∷ answers) c = consumes_more (known s) (known c.0) (known t) bytes (bytes_of_calls answers) c.1 (known_read known c.0 t answers c.2)
 known_read known s t (Err fault ∷ answers) c = kept_then_consumes (known s) (known c.0) (known t) (bytes_of_calls answers) c.1 (known_read known c.0 t answers c.2)
 
-pub calls_at_most_bytes : (answers : List (Result (List ℕ) DeviceFault)) → EachTakes answers → length answers ≤ length (bytes_of_calls answers)
+pub calls_at_most_bytes : (answers : List Answer) → EachTakes answers → length answers ≤ length (bytes_of_calls answers)
 calls_at_most_bytes [] e = omega arith
 calls_at_most_bytes (Ok bytes ∷ answers) e =
     let more = calls_at_most_bytes answers e.1 in

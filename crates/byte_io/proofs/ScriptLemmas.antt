@@ -1,13 +1,12 @@
 -- Pieces of bytes: what a read leaves of them, and what runs of calls moved.
-use Rattle.std.proofs.Common.{◌≡◌, ◌⊎◌, ℕ, min, List, [], ◌∷◌, ◌++◌, length, take, drop, Result, Ok, Err, refl, sym, ap, ◌∙◌, arith, append_assoc, inl, inr}
+use Rattle.std.proofs.Common.{◌≡◌, ◌⊎◌, ℕ, min, List, [], ◌∷◌, ◌++◌, length, take, drop, Ok, Err, refl, sym, ap, ◌∙◌, arith, append_assoc, inl, inr}
 use Rattle.std.proofs.lemmas.Bool.{cases_lt}
 use Rattle.std.proofs.lemmas.List.{append-nil, take-append-drop, drop_all}
 use Rattle.std.proofs.Math.Seq.{drop-nil, take-nil}
 use Rattle.std.specs.List.{concat}
-use Rattle.byte_io.specs.Streams.{Calls, bytes_of_calls}
+use Rattle.byte_io.specs.Streams.{Answer, Calls, bytes_of_calls}
 use Rattle.byte_io.specs.Scripts.{ScriptState, before_pieces, nonempty_pieces, first_piece, pieces_behind, limit_less, IsRead, IsWrite, LacksMemory, script_gives, script_takes}
 use Rattle.byte_io.specs.Writing.{AnyOffer}
-use Rattle.byte_io.specs.declared.fault.DeviceFault.{DeviceFault}
 
 drop_at_most : (k n : ℕ) (bytes : List ℕ) → k ≡ min (length bytes) n → drop k bytes ≡ drop n bytes
 drop_at_most k n bytes e = elim (cases_lt n (length bytes)) [
@@ -36,7 +35,7 @@ joined-pieces_behind n (piece ∷ pieces) =
     ∙ ap (λ l. take n piece ++ l) (sym (joined-before_pieces (drop n piece) pieces))
 
 -- what runs of reads gave, and then what is left
-pub script_reads : (s t : ScriptState) (answers : List (Result (List ℕ) DeviceFault)) → Calls script_gives s answers t →
+pub script_reads : (s t : ScriptState) (answers : List Answer) → Calls script_gives s answers t →
     concat s.pieces ≡ bytes_of_calls answers ++ concat t.pieces
 script_reads s t [] e = ap (λ v. concat v.pieces) e
 script_reads s t (Ok bytes ∷ answers) c =
@@ -51,12 +50,12 @@ script_reads s t (Ok bytes ∷ answers) c =
 script_reads s t (Err fault ∷ answers) c =
     ap (λ v. concat v.pieces) (sym c.1.1.1) ∙ script_reads c.0 t answers c.2
 
-pub script_read_whole : (s t : ScriptState) (answers : List (Result (List ℕ) DeviceFault)) → Calls script_gives s answers t → t.pieces ≡ [] →
+pub script_read_whole : (s t : ScriptState) (answers : List Answer) → Calls script_gives s answers t → t.pieces ≡ [] →
     bytes_of_calls answers ≡ concat s.pieces
 script_read_whole s t answers c end =
     sym (append-nil (bytes_of_calls answers)) ∙ ap (λ l. bytes_of_calls answers ++ concat l) (sym end) ∙ sym (script_reads s t answers c)
 
-pub script_writes : (s t : ScriptState) (answers : List (Result (List ℕ) DeviceFault)) → Calls (AnyOffer script_takes) s answers t →
+pub script_writes : (s t : ScriptState) (answers : List Answer) → Calls (AnyOffer script_takes) s answers t →
     t.written ≡ s.written ++ bytes_of_calls answers
 script_writes s t [] e = ap (λ v. v.written) (sym e) ∙ sym (append-nil s.written)
 script_writes s t (Ok bytes ∷ answers) c =
@@ -64,13 +63,13 @@ script_writes s t (Ok bytes ∷ answers) c =
 script_writes s t (Err fault ∷ answers) c =
     script_writes c.0 t answers c.2 ∙ ap (λ v. v.written ++ bytes_of_calls answers) c.1.1.1
 
-pub script_reads_one_way : (n : ℕ) (s t u : ScriptState) (a b : Result (List ℕ) DeviceFault) → IsRead n s a t → IsRead n s b u → (a ≡ b) × (t ≡ u)
+pub script_reads_one_way : (n : ℕ) (s t u : ScriptState) (a b : Answer) → IsRead n s a t → IsRead n s b u → (a ≡ b) × (t ≡ u)
 script_reads_one_way n s t u (Ok x) (Ok y) p q = (ap (λ l. Ok l) (p.1 ∙ sym q.1), p.2 ∙ sym q.2)
 script_reads_one_way n s t u (Ok x) (Err y) p q = absurd (p.0 q.0)
 script_reads_one_way n s t u (Err x) (Ok y) p q = absurd (q.0 p.0)
 script_reads_one_way n s t u (Err x) (Err y) p q = (refl, p.1 ∙ sym q.1)
 
-pub script_writes_one_way : (offered : List ℕ) (s t u : ScriptState) (a b : Result (List ℕ) DeviceFault) → IsWrite offered s a t → IsWrite offered s b u →
+pub script_writes_one_way : (offered : List ℕ) (s t u : ScriptState) (a b : Answer) → IsWrite offered s a t → IsWrite offered s b u →
     ((a ≡ b) × (t ≡ u)) ⊎ (LacksMemory offered s a t ⊎ LacksMemory offered s b u)
 script_writes_one_way offered s t u (Ok x) (Ok y) p q =
     let same : x ≡ y = p.0 ∙ sym q.0 in

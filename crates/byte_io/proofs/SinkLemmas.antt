@@ -1,20 +1,20 @@
 -- Runs of writes: one call more, one run behind another, and a text that was taken in part.
-use Rattle.std.proofs.Common.{◌≡◌, ℕ, ◌+◌, ◌<◌, ◌≤◌, List, [], ◌∷◌, ◌++◌, length, take, drop, Result, Ok, Err, refl, sym, subst, ◌∙◌, arith, length-append, length-drop}
+use Rattle.std.proofs.Common.{◌≡◌, ℕ, ◌+◌, ◌<◌, ◌≤◌, List, [], ◌∷◌, ◌++◌, length, take, drop, Ok, Err, refl, sym, subst, ◌∙◌, arith, length-append, length-drop}
 use Rattle.std.proofs.lemmas.List.{append-nil, take-append-le, take-append-drop, length-take-le}
 use Rattle.std.proofs.Math.Seq.{take-append_seam, take-append-add}
 use Rattle.byte_io.specs.Writing.{AnyOffer, EachTakes, HasTaken, HasStopped, IsRefusal}
-use Rattle.byte_io.specs.declared.fault.DeviceFault.{DeviceFault}
 use Rattle.byte_io.proofs.StreamLemmas.{calls-append, calls_one, bytes_of_calls-append}
+use Rattle.byte_io.specs.Streams.{Answer}
 
-pub each_takes-append : (xs ys : List (Result (List ℕ) DeviceFault)) → EachTakes xs → EachTakes ys → EachTakes (xs ++ ys)
+pub each_takes-append : (xs ys : List Answer) → EachTakes xs → EachTakes ys → EachTakes (xs ++ ys)
 each_takes-append [] ys a b = b
 each_takes-append (Ok x ∷ xs) ys a b = (a.0, each_takes-append xs ys a.1 b)
 each_takes-append (Err x ∷ xs) ys a b = absurd a
 
-pub has_taken_nothing : {S : Type 0} (step : S → List ℕ → Result (List ℕ) DeviceFault → S → Type 0) (failures : S → ℕ) (s : S) → HasTaken step failures s s []
+pub has_taken_nothing : {S : Type 0} (step : S → List ℕ → Answer → S → Type 0) (failures : S → ℕ) (s : S) → HasTaken step failures s s []
 has_taken_nothing step failures s = record { answers = []; calls = refl; each = tt; bytes_are = refl; none_failed = refl }
 
-pub has_taken_append : {S : Type 0} (step : S → List ℕ → Result (List ℕ) DeviceFault → S → Type 0) (failures : S → ℕ) (s m t : S) (xs ys : List ℕ) →
+pub has_taken_append : {S : Type 0} (step : S → List ℕ → Answer → S → Type 0) (failures : S → ℕ) (s m t : S) (xs ys : List ℕ) →
     HasTaken step failures s m xs → HasTaken step failures m t ys → HasTaken step failures s t (xs ++ ys)
 has_taken_append step failures s m t xs ys a b = record {
   answers = a.answers ++ b.answers;
@@ -24,7 +24,7 @@ has_taken_append step failures s m t xs ys a b = record {
   none_failed = b.none_failed ∙ a.none_failed;
 }
 
-pub has_taken_one : {S : Type 0} (step : S → List ℕ → Result (List ℕ) DeviceFault → S → Type 0) (failures : S → ℕ) (s t : S) (offered bytes : List ℕ) →
+pub has_taken_one : {S : Type 0} (step : S → List ℕ → Answer → S → Type 0) (failures : S → ℕ) (s t : S) (offered bytes : List ℕ) →
     step s offered (Ok bytes) t → 0 < length bytes → failures t ≡ failures s → HasTaken step failures s t bytes
 has_taken_one step failures s t offered bytes h some e = record {
   answers = Ok bytes ∷ [];
@@ -35,7 +35,7 @@ has_taken_one step failures s t offered bytes h some e = record {
 }
 
 -- the first call that is refused
-pub stopped_at_once : {S : Type 0} (step : S → List ℕ → Result (List ℕ) DeviceFault → S → Type 0) (failures : S → ℕ) (s m t : S) (front rest offered : List ℕ) (last : Result (List ℕ) DeviceFault) →
+pub stopped_at_once : {S : Type 0} (step : S → List ℕ → Answer → S → Type 0) (failures : S → ℕ) (s m t : S) (front rest offered : List ℕ) (last : Answer) →
     HasTaken step failures s m front → step m offered last t → IsRefusal offered last (failures m) (failures t) → 0 < length rest →
     HasStopped step failures s t (front ++ rest) (length front)
 stopped_at_once step failures s m t front rest offered last a h refused some = record {
@@ -51,7 +51,7 @@ stopped_at_once step failures s m t front rest offered last a h refused some = r
   some_left = omega (arith, length-append front rest);
 }
 
-pub stopped_behind : {S : Type 0} (step : S → List ℕ → Result (List ℕ) DeviceFault → S → Type 0) (failures : S → ℕ) (s m t : S) (front text : List ℕ) (n : ℕ) →
+pub stopped_behind : {S : Type 0} (step : S → List ℕ → Answer → S → Type 0) (failures : S → ℕ) (s m t : S) (front text : List ℕ) (n : ℕ) →
     HasTaken step failures s m front → HasStopped step failures m t text n → HasStopped step failures s t (front ++ text) (length front + n)
 stopped_behind step failures s m t front text n a b = record {
   answers = a.answers ++ b.answers;
@@ -67,7 +67,7 @@ stopped_behind step failures s m t front text n a b = record {
 }
 
 -- a text that goes on further was stopped at the same byte
-pub has_stopped_longer : {S : Type 0} (step : S → List ℕ → Result (List ℕ) DeviceFault → S → Type 0) (failures : S → ℕ) (s t : S) (text more : List ℕ) (n : ℕ) →
+pub has_stopped_longer : {S : Type 0} (step : S → List ℕ → Answer → S → Type 0) (failures : S → ℕ) (s t : S) (text more : List ℕ) (n : ℕ) →
     HasStopped step failures s t text n → HasStopped step failures s t (text ++ more) n
 has_stopped_longer step failures s t text more n a = let h = a.some_left in record {
   answers = a.answers;
@@ -91,14 +91,14 @@ take_further i n l h =
     (subst (λ k. take (k + n) (take i l ++ drop i l) ≡ take i l ++ take n (drop i l)) e seam)
 
 -- one call of a loop that writes bytes, of which i are taken
-pub write_more : {S : Type 0} (step : S → List ℕ → Result (List ℕ) DeviceFault → S → Type 0) (failures : S → ℕ) (s m t : S) (bytes : List ℕ) (i n : ℕ) →
+pub write_more : {S : Type 0} (step : S → List ℕ → Answer → S → Type 0) (failures : S → ℕ) (s m t : S) (bytes : List ℕ) (i n : ℕ) →
     i ≤ length bytes → HasTaken step failures s m (take i bytes) → step m (drop i bytes) (Ok (take n (drop i bytes))) t → 0 < n → n ≤ length (drop i bytes) →
     failures t ≡ failures m → HasTaken step failures s t (take (i + n) bytes)
 write_more step failures s m t bytes i n within a h some fits same =
     rw (take_further i n bytes within) (has_taken_append step failures s m t (take i bytes) (take n (drop i bytes)) a
     (has_taken_one step failures m t (drop i bytes) (take n (drop i bytes)) h (let e = length-take-le n (drop i bytes) fits in omega arith) same))
 
-pub write_no_more : {S : Type 0} (step : S → List ℕ → Result (List ℕ) DeviceFault → S → Type 0) (failures : S → ℕ) (s m t : S) (bytes : List ℕ) (i : ℕ) (last : Result (List ℕ) DeviceFault) →
+pub write_no_more : {S : Type 0} (step : S → List ℕ → Answer → S → Type 0) (failures : S → ℕ) (s m t : S) (bytes : List ℕ) (i : ℕ) (last : Answer) →
     i < length bytes → HasTaken step failures s m (take i bytes) → step m (drop i bytes) last t →
     (0 < length (drop i bytes) → IsRefusal (drop i bytes) last (failures m) (failures t)) → HasStopped step failures s t bytes i
 write_no_more step failures s m t bytes i last within a h refused =

@@ -1,6 +1,6 @@
 -- A source and a sink in memory: what a call may answer, and what it leaves.
-use Rattle.std.specs.Prelude.{◌≡◌, ◌≢◌, ℕ, ◌+◌, ◌-◌, ◌<◌, List, [], ◌∷◌, length, take, drop, ◌++◌, Option, Some, None, Result, Ok, Err}
-use Rattle.byte_io.specs.declared.fault.DeviceFault.{DeviceFault}
+use Rattle.std.specs.Prelude.{◌≡◌, ◌≢◌, ℕ, ◌+◌, ◌-◌, ◌<◌, List, [], ◌∷◌, length, take, drop, ◌++◌, Option, Some, None, Ok, Err}
+use Rattle.byte_io.specs.Streams.{Answer}
 
 -- a piece before others, unless it is empty
 abbrev pub before_pieces : List ℕ → List (List ℕ) → List (List ℕ)
@@ -42,25 +42,25 @@ pub record ScriptState : Type 0 where
   pub failures : ℕ
 
 -- A read into n bytes: no more than the rest of the present piece, and a failure exactly where no read is left.
-abbrev pub IsRead : ℕ → ScriptState → Result (List ℕ) DeviceFault → ScriptState → Type 0
+abbrev pub IsRead : ℕ → ScriptState → Answer → ScriptState → Type 0
 IsRead n s (Ok bytes) t = (s.reads_left ≢ Some 0) × (bytes ≡ take n (first_piece s.pieces))
     × (t ≡ record s { pieces = pieces_behind n s.pieces; reads_left = limit_less s.reads_left 1 })
 IsRead n s (Err fault) t = (s.reads_left ≡ Some 0) × (t ≡ record s { failures = s.failures + 1 })
 
 -- A write that is offered these bytes: as many as there is room for. It fails where there is room for none of them, and
 -- for want of memory.
-abbrev pub IsWrite : List ℕ → ScriptState → Result (List ℕ) DeviceFault → ScriptState → Type 0
+abbrev pub IsWrite : List ℕ → ScriptState → Answer → ScriptState → Type 0
 IsWrite offered s (Ok bytes) t = (bytes ≡ take_within s.room offered) × (0 < length offered → 0 < length bytes)
     × (t ≡ record s { written = s.written ++ bytes; room = limit_less s.room (length bytes) })
 IsWrite offered s (Err fault) t = (0 < length offered) × (t ≡ record s { failures = s.failures + 1 })
 
 -- A write failed though there was room for some of the bytes: there was no memory to keep them.
-abbrev pub LacksMemory : List ℕ → ScriptState → Result (List ℕ) DeviceFault → ScriptState → Type 0
+abbrev pub LacksMemory : List ℕ → ScriptState → Answer → ScriptState → Type 0
 LacksMemory offered s (Ok bytes) t = ⊥
 LacksMemory offered s (Err fault) t = (0 < length (take_within s.room offered)) × (t ≡ record s { failures = s.failures + 1 })
 
-abbrev pub script_gives : ScriptState → Result (List ℕ) DeviceFault → ScriptState → Type 0
+abbrev pub script_gives : ScriptState → Answer → ScriptState → Type 0
 script_gives s answer t = (n : ℕ) × IsRead n s answer t
 
-abbrev pub script_takes : ScriptState → List ℕ → Result (List ℕ) DeviceFault → ScriptState → Type 0
+abbrev pub script_takes : ScriptState → List ℕ → Answer → ScriptState → Type 0
 script_takes s offered answer t = IsWrite offered s answer t

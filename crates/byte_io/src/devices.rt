@@ -5,7 +5,7 @@
 //! that there is a list of answers by which they lead from the first state to the last.
 ghost use Rattle.std.specs.Prelude.{◌≡◌, ℕ, ◌+◌, ◌-◌, ◌<◌, ◌≤◌, ◌^◌, List, [], ◌++◌, length, take, Result, Ok, Err, IfOk, OnOk, OnErr, MatchResult, ⊤};
 ghost use Rattle.std.specs.Io.KnownBytes.{Consumes, Appends, IsAtEnd, Keeps};
-ghost use Rattle.byte_io.specs.Streams.{answer_of, MayRead, MayWrite};
+ghost use Rattle.byte_io.specs.Streams.{Answer, answer_of, MayRead, MayWrite};
 ghost use Rattle.byte_io.specs.declared.fault.DeviceFault.{DeviceFault};
 
 use crate::fault::DeviceFault;
@@ -14,7 +14,7 @@ use std::io::{Read, Write};
 /// What gives bytes: a reader that counts its failures.
 pub trait Source {
     // What a call of `read` may answer, with the bytes that it gave, and what it leaves.
-    ghost read_gives: { Self → Result (List ℕ) DeviceFault → Self → Type 0 };
+    ghost read_gives: { Self → Answer → Self → Type 0 };
 
     // No byte is left.
     ghost at_end: { Self → Type 0 };
@@ -41,7 +41,7 @@ pub trait Source {
 /// What takes bytes: a writer that counts its failures.
 pub trait Sink {
     // What a call of `write` that is offered these bytes may answer, with those that it took, and what it leaves.
-    ghost write_takes: { Self → List ℕ → Result (List ℕ) DeviceFault → Self → Type 0 };
+    ghost write_takes: { Self → List ℕ → Answer → Self → Type 0 };
 
     // How many calls have failed.
     ghost failure_count: { Self → ℕ };

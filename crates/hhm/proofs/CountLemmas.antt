@@ -10,7 +10,7 @@ use Rattle.mm_text.specs.Readings.{HasRead}
 use Rattle.mm_text.specs.Stages.{StageIs}
 use Rattle.mm_text.specs.declared.fault.MmKind.{MmKind}
 use Rattle.mm_text.specs.declared.limits.TextLimits.{TextLimits}
-use Rattle.mm_text.specs.declared.reader.TextReader.{TextReader}
+use Rattle.mm_text.specs.declared.text_reader.TextReader.{TextReader}
 use Rattle.mm_text.specs.declared.stages.Stage.{Stage}
 use Rattle.mm_text.specs.declared.stages.Stage.TheVariants.{AtBanner, AtSize, AtEntries}
 use Rattle.mm_text.proofs.Cuts.{length-joined}
@@ -51,4 +51,4 @@ pub given_few : (answers : List (Result (List ℕ) DeviceFault)) (given : List C
 given_few answers given reader read =
     let takes = read.holds.takes in
     let bytes : length (joined takes.lines) ≤ length read.judged = omega (arith, ap length takes.whole, length-append (joined takes.lines) read.holds.rest) in
-    omega (arith, stage_few sum_limits _ given reader.reading.stage takes.keeps.stage_is, counted_few takes.lines, lines_few takes.lines, length-joined takes.lines, bytes, read.holds.fits)
+    omega (arith, stage_few sum_limits _ given reader.lines.progress.stage takes.keeps.stage_is, counted_few takes.lines, lines_few takes.lines, length-joined takes.lines, bytes, read.holds.fits)

@@ -13,7 +13,7 @@ use Rattle.mm_text.specs.Stages.{declared_size}
 use Rattle.mm_text.specs.Texts.{Spells}
 use Rattle.mm_text.specs.declared.fault.MmFault.{MmFault}
 use Rattle.mm_text.specs.declared.fault.MmKind.TheVariants as kind
-use Rattle.mm_text.specs.declared.reader.TextReader.{TextReader}
+use Rattle.mm_text.specs.declared.text_reader.TextReader.{TextReader}
 use Rattle.mm_text.specs.declared.size.Size.{Size}
 use Rattle.mm_text.specs.declared.stages.Stage.TheVariants.{AtBanner}
 use Rattle.mm_text.proofs.AdvanceLemmas.{held_none, holds_none}
@@ -83,14 +83,14 @@ module _ {S : Type 0} (gives : S → Result (List ℕ) DeviceFault → S → Typ
   pub handed_sized : (s t : S) (reader : TextReader) (cells : List Cell) (size : Size) → HandsOut gives at_end failures s t reader cells → size_of reader ≡ Some size → SizedCells cells size
   unfolding size_of
   handed_sized s t reader cells size out is =
-      let sized = stage_sized sum_limits _ cells reader.reading.stage out.has_read.holds.takes.keeps.stage_is in subst (AreSized cells) is sized
+      let sized = stage_sized sum_limits _ cells reader.lines.progress.stage out.has_read.holds.takes.keeps.stage_is in subst (AreSized cells) is sized
 
   -- once a cell was handed out, the size line was read
   some_sized : (s t : S) (reader : TextReader) (cells : List Cell) → HandsOut gives at_end failures s t reader cells → 0 < length cells → IsSized reader cells
   unfolding size_of
-  some_sized s t reader cells out some = step (declared_size reader.reading.stage) refl (stage_sized sum_limits _ cells reader.reading.stage out.has_read.holds.takes.keeps.stage_is)
+  some_sized s t reader cells out some = step (declared_size reader.lines.progress.stage) refl (stage_sized sum_limits _ cells reader.lines.progress.stage out.has_read.holds.takes.keeps.stage_is)
     where
-      step : (o : Option Size) → declared_size reader.reading.stage ≡ o → AreSized cells o → IsSized reader cells
+      step : (o : Option Size) → declared_size reader.lines.progress.stage ≡ o → AreSized cells o → IsSized reader cells
       step None e h = absurd (omega (arith, ap length h))
       step (Some size) e h = record { size = size; size_is = e; sized = h }
 

@@ -4,7 +4,7 @@ use Rattle.byte_io.specs.Streams.{Calls}
 use Rattle.byte_io.specs.declared.fault.DeviceFault.{DeviceFault}
 use Rattle.cells.specs.declared.cell.Cell.{Cell}
 use Rattle.mm_text.specs.Readings.{size_of, HasRead, SizedCells}
-use Rattle.mm_text.specs.declared.reader.TextReader.{TextReader}
+use Rattle.mm_text.specs.declared.text_reader.TextReader.{TextReader}
 use Rattle.mm_text.specs.declared.size.Size.{Size}
 use Rattle.hhm.specs.Sum.{sum_limits, ReadsText, StopsText, IsUnsummed}
 use Rattle.hhm.specs.Running.{IsSumOf}

@@ -1,12 +1,11 @@
 -- A line of decimal numbers: its bytes, its words and their numbers.
-use Rattle.std.proofs.Common.{◌≡◌, ◌≢◌, ℕ, ◌+◌, ◌-◌, ◌^◌, ◌<◌, ◌≤◌, Bool, true, false, ◌&&◌, ◌||◌, List, [], ◌∷◌, ◌++◌, length, get_or, refl, ◌∙◌, ap, arith, append_assoc, length-append}
-use Rattle.std.proofs.lemmas.Bool.Decides.{nat_tests}
+use Rattle.std.proofs.Common.{◌≡◌, ℕ, ◌+◌, ◌-◌, ◌^◌, ◌<◌, ◌≤◌, true, false, ◌&&◌, List, [], ◌∷◌, ◌++◌, length, get_or, refl, ◌∙◌, ap, arith, append_assoc, length-append}
 use Rattle.std.proofs.lemmas.List.{get_or_append_left}
 use Rattle.std.proofs.lemmas.List.Folds.{list_all-append, list_all_at}
 use Rattle.std.proofs.lemmas.List.Elements.{All-from_get_or}
 use Rattle.std.proofs.lemmas.Str.Parse.{IsNumeralModel, tells_all_ascii_digits, numerals_by_value, without_leading_plus_none}
 use Rattle.std.proofs.lemmas.Fmt.{digits_decimal, digits_value-decimal, decimal_nonempty, length-decimal-le}
-use Rattle.std.specs.Prelude.{Ok, decimal, nat_eq, All}
+use Rattle.std.specs.Prelude.{Ok, decimal, All}
 use Rattle.std.specs.List.{list_all}
 use Rattle.std.specs.Char.{is_ascii_digit}
 use Rattle.std.specs.Str.{all_ascii_digits}
@@ -19,6 +18,8 @@ use Rattle.mm_text.proofs.NumberLemmas.{all_at}
 use Rattle.mm_text.proofs.WordLemmas.{words_word, words_one}
 use Rattle.mm_text.specs.declared.fault.MmKind.{MmKind}
 use Rattle.mm_text.specs.declared.fault.MmKind.TheVariants.{BadEntry}
+use Rattle.mm_text.proofs.DigitLemmas.{no_plus, no_minus}
+use Rattle.mm_text.proofs.EntryLemmas.{first_is, plain_is, blank_not, plain_digits, is_plain}
 
 own : IsNumeralModel (λ ds. all_ascii_digits ds ≡ true) (digits_value 10)
 own = numerals_by_value (λ ds. all_ascii_digits ds ≡ true) tells_all_ascii_digits
@@ -47,12 +48,6 @@ decimal_is n h = record {
 digit_at : (n : ℕ) (ds : List ℕ) → IsDecimal n ds → is_ascii_digit (get_or ds 0 0) ≡ true
 digit_at n ds d = all_at is_ascii_digit ds 0 d.digits d.some
 
-no_plus : (c : ℕ) → is_ascii_digit c ≡ true → c ≢ 43
-no_plus c h = grind (arith, nat_tests)
-
-no_minus : (c : ℕ) → is_ascii_digit c ≡ true → nat_eq c 45 ≡ false
-no_minus c h = grind (arith, nat_tests)
-
 pub decimal_number : (bad : MmKind) (n : ℕ) (ds : List ℕ) → IsDecimal n ds → number bad ds ≡ Ok n
 decimal_number bad n ds d =
     number_from bad ds ds n (without_leading_plus_none ds (no_plus (get_or ds 0 0) (digit_at n ds d))) d.digits d.some d.value d.fits
@@ -63,32 +58,12 @@ decimal_not_negative n ds d = rw (no_minus (get_or ds 0 0) (digit_at n ds d)) re
 pub decimal_index : (limit i : ℕ) (ds : List ℕ) → i < limit → IsDecimal (i + 1) ds → index limit ds ≡ Ok i
 decimal_index limit i ds h d = index_from limit i ds h (decimal_number BadEntry (i + 1) ds d)
 
--- a digit or a space
-abbrev is_plain : ℕ → Bool
-is_plain b = is_ascii_digit b || nat_eq b 32
-
-plain_digits : (ds : List ℕ) → list_all is_ascii_digit ds ≡ true → list_all is_plain ds ≡ true
-plain_digits [] h = refl
-plain_digits (d ∷ ds) h =
-    let t : list_all is_ascii_digit ds ≡ true = grind (arith, nat_tests) in
-    let e : is_plain d ≡ true = grind (arith, nat_tests) in
-    rw (plain_digits ds t, e) refl
-
 -- three numbers, one space between
 abbrev pub three : List ℕ → List ℕ → List ℕ → List ℕ
 three a b c = a ++ 32 ∷ b ++ 32 ∷ c
 
-blank_not : (c : ℕ) → is_ascii_digit c ≡ true → is_blank c ≡ false
-blank_not c h = grind (arith, nat_tests)
-
 no_blank : (n : ℕ) (ds : List ℕ) → IsDecimal n ds → All (λ b. is_blank b ≡ false) ds
 no_blank n ds d = All-from_get_or (λ b. is_blank b ≡ false) ds 0 (λ i l. blank_not (get_or ds i 0) (all_at is_ascii_digit ds i d.digits l))
-
-plain_is : (c : ℕ) → is_plain c ≡ true → (nat_eq c 10 ≡ false) × (nat_eq c 13 ≡ false)
-plain_is c h = (grind (arith, nat_tests), grind (arith, nat_tests))
-
-first_is : (c : ℕ) → is_ascii_digit c ≡ true → (nat_eq c 37 ≡ false) × (is_blank c ≡ false)
-first_is c h = (grind (arith, nat_tests), grind (arith, nat_tests))
 
 module _ (m n k : ℕ) (a b c : List ℕ) (x : IsDecimal m a) (y : IsDecimal n b) (z : IsDecimal k c) where
   from_right : three a b c ≡ a ++ 32 ∷ (b ++ 32 ∷ c)

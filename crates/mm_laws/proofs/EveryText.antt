@@ -10,15 +10,14 @@ use Rattle.mm_text.specs.Lines.{lines_of, without_empty_last, bytes_of, line_at,
 use Rattle.mm_text.specs.Judging.{◌>>=◌, refuse_if, banner, size, entry, cells_of, fault_of}
 use Rattle.mm_text.specs.Texts.{fault_behind, lack_of, Spells, FirstFault}
 use Rattle.mm_text.specs.Stages.{Clean}
-use Rattle.mm_text.proofs.Clean.{clean_none, clean_more, first_wrong, first_overrun, first_too_long, first_missing, overrun_of, no_overrun_of}
+use Rattle.mm_text.proofs.Clean.{nil_not, clean_none, clean_more, first_wrong, first_overrun, first_too_long, first_missing, overrun_of, no_overrun_of}
 use Rattle.mm_text.proofs.Cuts.{cut_cases, bytes_of-append, counted-push_yes, counted-push_no}
-use Rattle.mm_laws.proofs.SpellsFacts.{bind_first}
-use Rattle.mm_laws.proofs.TextCuts.{no_cut}
 use Rattle.mm_text.specs.declared.fault.MmKind.{MmKind}
 use Rattle.mm_text.specs.declared.fault.MmKind.TheVariants.{LineTooLong, TooLong, ExtraText, TooFewEntries}
 use Rattle.cells.specs.declared.cell.Cell.{Cell}
 use Rattle.mm_text.specs.declared.size.Size.{Size}
 use Rattle.mm_text.specs.declared.limits.TextLimits.{TextLimits}
+use Rattle.mm_text.proofs.BoundLemmas.{ok_bind, ok_refuse}
 
 -- the text spells some file
 abbrev pub SpellsSome : List ℕ → TextLimits → Type 0
@@ -70,15 +69,11 @@ right_more limits lines line each one before after l e = elim (cut_cases lines (
   where
     last : (cs : List (List ℕ)) → before ≡ lines ++ cs → line ∷ [] ≡ cs ++ l ∷ after → fault_behind limits before l ≡ None
     last [] f g = let same : before ≡ lines = f ∙ append-nil lines in let it : l ≡ line = cc in rw (same, it) one
-    last (c ∷ cs) f g = let t : [] ≡ cs ++ l ∷ after = cc in no_cut cs l after t
+    last (c ∷ cs) f g = let t : [] ≡ cs ++ l ∷ after = cc in nil_not cs l after t
 
 fault_none : {A : Type 0} (r : Result A MmKind) → fault_of r ≡ None → (x : A) × (r ≡ Ok x)
 fault_none (Ok x) e = (x, refl)
 fault_none (Err k) e = cc
-
-refuse_not : (test : Bool) (k : MmKind) (x : Unit {0}) → refuse_if test k ≡ Ok x → test ≡ false
-refuse_not true k x e = cc
-refuse_not false k x e = refl
 
 -- a further entry is one that was declared
 entry_right : (limits : TextLimits) (first second : List ℕ) (symmetric : Bool) (s : Size) (before : List (List ℕ)) (line : List ℕ) →
@@ -121,9 +116,9 @@ module _ (limits : TextLimits) (text : List ℕ) (clean : Clean limits (lines_of
   right_spells (first ∷ []) is each lack = cc
   right_spells (first ∷ second ∷ others) is each lack =
       let all = fault_none (banner first >>= λ symmetric. size symmetric limits.max_entries second >>= λ s. refuse_if (nat_lt (length others) s.entries) TooFewEntries) lack in
-      let b = bind_first (banner first) _ all.0 all.1 in
-      let z = bind_first (size b.0 limits.max_entries second) _ all.0 b.2 in
-      let enough = refuse_not (nat_lt (length others) z.0.entries) TooFewEntries all.0 z.2 in
+      let b = ok_bind (banner first) _ all.0 all.1 in
+      let z = ok_bind (size b.0 limits.max_entries second) _ all.0 b.2 in
+      let enough = ok_refuse (nat_lt (length others) z.0.entries) TooFewEntries all.0 z.2 in
       let one : (before after : List (List ℕ)) (line : List ℕ) → others ≡ before ++ line ∷ after → (length before < z.0.entries) × ((cell : Cell) × (entry z.0.rows z.0.cols line ≡ Ok cell)) =
       λ before after line e. entry_right limits first second b.0 z.0 before line b.1 z.1 (each (first ∷ second ∷ before) after line (ap (λ ls. first ∷ second ∷ ls) e)) in
       let few = few_lines z.0.entries others (λ before after line e. (one before after line e).0) in
@@ -233,4 +228,4 @@ walk text limits done (line ∷ after) cut clean each within = elim (goes_on tex
 
 pub spells_or_faulty : (text : List ℕ) (limits : TextLimits) → SpellsSome text limits ⊎ HasFirstFault text limits
 spells_or_faulty text limits =
-    walk text limits [] (lines_of text) refl (clean_none limits) (λ before after line e. no_cut before line after e) (λ l. omega arith)
+    walk text limits [] (lines_of text) refl (clean_none limits) (λ before after line e. nil_not before line after e) (λ l. omega arith)

@@ -1,17 +1,16 @@
 -- The faults of lines, row by row of their table.
-use Rattle.std.proofs.Common.{inl, inr, ◌⊎◌, ◌≡◌, ◌≢◌, ℕ, ◌^◌, ◌<◌, ◌≤◌, Bool, true, false, not, ◌&&◌, ◌||◌, List, [], ◌∷◌, ◌++◌, zero, suc, length, get_or, refl, sym, ◌∙◌, ap, arith}
+use Rattle.std.proofs.Common.{inl, inr, ◌⊎◌, ◌≡◌, ◌≢◌, ℕ, ◌^◌, ◌<◌, ◌≤◌, Bool, true, false, ◌&&◌, ◌||◌, List, [], ◌∷◌, ◌++◌, zero, suc, length, get_or, refl, sym, ◌∙◌, ap, arith}
 use Rattle.std.proofs.lemmas.Bool.Decides.{nat_tests}
 use Rattle.std.proofs.lemmas.List.{get_or_append_left}
-use Rattle.std.specs.Prelude.{Some, None, Ok, Err, All, codes, nat_lt, nat_eq}
-use Rattle.std.specs.Char.{is_ascii_digit}
+use Rattle.std.specs.Prelude.{Some, None, Ok, Err, codes, nat_lt, nat_eq}
 use Rattle.std.specs.Str.{str_eq_ignore_ascii_case, str_to_ascii_lowercase}
 use Rattle.std.specs.Cmp.Lexicographic.{bytes_decides}
 use Rattle.std.specs.Str.Parse.{digits_value, without_leading_plus}
 use Rattle.cells.specs.Bounds.{IsDimension}
 use Rattle.mm_text.specs.Lines.{is_blank}
-use Rattle.mm_text.specs.Words.{words, word, number_of, are_digits, is_negative}
+use Rattle.mm_text.specs.Words.{word, number_of, are_digits, is_negative}
 use Rattle.mm_text.specs.Judging.{keyword, is_one_of, mark, object, format, field, symmetry, banner, number, is_dimension, size, index, entry}
-use Rattle.mm_laws.specs.Grammar.{HasWords, Writes, IsNumeral, IsMinus, IsKeyword, IsOneOf, IsMarked, symmetry_keyword}
+use Rattle.mm_laws.specs.Grammar.{HasWords, Writes, IsNumeral, IsMinus, IsKeyword, IsOneOf, IsMarked}
 use Rattle.mm_laws.proofs.GrammarWords.{words_are}
 use Rattle.mm_laws.proofs.GrammarNumbers.{index_from, plus_cases, digit_facts, all_test, no_plus, writes_number, writes_no_minus}
 use Rattle.mm_laws.proofs.GrammarBanner.{same_word, mark_says, object_says, format_says, field_says, symmetry_says}

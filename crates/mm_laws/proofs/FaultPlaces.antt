@@ -3,14 +3,14 @@ use Rattle.std.proofs.Common.{inl, inr, ◌≡◌, ℕ, ◌+◌, ◌-◌, ◌<�
 use Rattle.std.proofs.lemmas.Bool.{cases_lt}
 use Rattle.std.proofs.lemmas.List.{append-nil, take-append-le}
 use Rattle.std.specs.Prelude.{count_by}
-use Rattle.mm_text.specs.Lines.{lines_of, bytes_of, line_at, is_limited, is_line_feed, IsLine, OverrunsAt}
+use Rattle.mm_text.specs.Lines.{lines_of, bytes_of, line_at, is_line_feed, IsLine}
 use Rattle.mm_text.specs.Texts.{Turn, FaultAt, turn_number, moment, FirstFault, NoFaultWithin}
 use Rattle.mm_text.specs.Texts.Turn.{at_limit, in_line, at_line_end, at_text_end}
 use Rattle.mm_text.proofs.Clean.{overrun_some}
 use Rattle.std.proofs.Math.Seq.{take-append-add}
 use Rattle.std.proofs.lemmas.List.Elements.{All-take}
 use Rattle.mm_text.proofs.Cuts.{length-joined}
-use Rattle.mm_text.proofs.CutOffLemmas.{count_lines}
+use Rattle.mm_text.proofs.CutOffLemmas.{limited_longer, overrun_shorter, overrun_longer, count_lines}
 use Rattle.mm_laws.proofs.EveryText.{line_bytes}
 use Rattle.mm_text.specs.Lines.{joined}
 use Rattle.mm_laws.proofs.TextCuts.{goes_on, came_from, stands_in}
@@ -19,25 +19,6 @@ use Rattle.mm_text.specs.declared.limits.TextLimits.{TextLimits}
 
 same_line : (text more : List ℕ) (n : ℕ) → n ≤ length text → line_at (text ++ more) n ≡ line_at text n
 same_line text more n h = ap (λ t. count_by is_line_feed t + 1) (take-append-le n text more h)
-
-longer : (line tail : List ℕ) (n : ℕ) → OverrunsAt line n → OverrunsAt (line ++ tail) n
-longer line tail n o = record {
-  within = let w = o.within in omega (arith, length-append line tail);
-  long = rw (take-append-le n line tail o.within) o.long;
-  shortest = λ m l. let w = o.within in rw (take-append-le m line tail (omega arith)) (o.shortest m l);
-}
-
-shorter : (line tail : List ℕ) (n : ℕ) → n ≤ length line → OverrunsAt (line ++ tail) n → OverrunsAt line n
-shorter line tail n h o = record {
-  within = h;
-  long = let l = o.long in rw (take-append-le n line tail h) at l;
-  shortest = λ m l. let s = o.shortest m l in rw (take-append-le m line tail (omega arith)) at s;
-}
-
-same_limited : (before : List (List ℕ)) (line tail : List ℕ) → 0 < length line → is_limited before (line ++ tail) ≡ is_limited before line
-same_limited [] line tail h = refl
-same_limited (x ∷ xs) [] tail h = absurd (omega arith)
-same_limited (x ∷ xs) (b ∷ bs) tail h = refl
 
 as_it_was : (front tail : List ℕ) → tail ≡ [] → front ++ tail ≡ front
 as_it_was front tail e = ap (λ t. front ++ t) e ∙ append-nil front
@@ -69,9 +50,9 @@ fault_stays in_line text more limits place kind line h w =
       this = w.this ++ g.tail;
       after = g.after;
       lines = g.lines;
-      limited = same_limited w.before w.this g.tail (omega arith) ∙ w.limited;
+      limited = limited_longer w.before w.this g.tail (omega arith) ∙ w.limited;
       count = w.count;
-      overruns = longer w.this g.tail w.count w.overruns;
+      overruns = overrun_longer w.this g.tail w.count w.overruns;
       place_is = w.place_is;
       kind_is = w.kind_is;
       line_is = w.line_is;
@@ -112,9 +93,9 @@ fault_came in_line text more limits place kind line h w =
       this = c.front;
       after = c.after;
       lines = c.lines;
-      limited = sym (same_limited w.before c.front c.tail (omega arith)) ∙ (let l = w.limited in rw c.line_is at l);
+      limited = sym (limited_longer w.before c.front c.tail (omega arith)) ∙ (let l = w.limited in rw c.line_is at l);
       count = w.count;
-      overruns = shorter c.front c.tail w.count within (let o = w.overruns in rw c.line_is at o);
+      overruns = overrun_shorter c.front c.tail w.count within (let o = w.overruns in rw c.line_is at o);
       place_is = w.place_is;
       kind_is = w.kind_is;
       line_is = w.line_is;
@@ -141,12 +122,14 @@ pub first_stays : (text more : List ℕ) (limits : TextLimits) (kind : MmKind) (
 first_stays text more limits kind line f h = (
   record {
     place = f.place;
-    turn = f.turn;
-    stands = fault_stays f.turn text more limits f.place kind line h f.stands;
-    least = λ t p k n w. elim (cases_lt (length text) p) [
-      | inl far ↦ later f.place p f.turn t (omega arith)
-      | inr near ↦ f.least t p k n (fault_came t text more limits p k n near w)
-    ];
+    first = record {
+      turn = f.first.turn;
+      stands = fault_stays f.first.turn text more limits f.place kind line h f.first.stands;
+      least = λ t p k n w. elim (cases_lt (length text) p) [
+        | inl far ↦ later f.place p f.first.turn t (omega arith)
+        | inr near ↦ f.first.least t p k n (fault_came t text more limits p k n near w)
+      ];
+    };
   },
   refl,
 )
@@ -156,12 +139,14 @@ pub first_came : (text more : List ℕ) (limits : TextLimits) (kind : MmKind) (l
 first_came text more limits kind line f h = (
   record {
     place = f.place;
-    turn = f.turn;
-    stands = fault_came f.turn text more limits f.place kind line h f.stands;
-    least = λ t p k n w. elim (cases_lt (length text) p) [
-      | inl far ↦ later f.place p f.turn t (omega arith)
-      | inr near ↦ f.least t p k n (fault_stays t text more limits p k n near w)
-    ];
+    first = record {
+      turn = f.first.turn;
+      stands = fault_came f.first.turn text more limits f.place kind line h f.first.stands;
+      least = λ t p k n w. elim (cases_lt (length text) p) [
+        | inl far ↦ later f.place p f.first.turn t (omega arith)
+        | inr near ↦ f.first.least t p k n (fault_stays t text more limits p k n near w)
+      ];
+    };
   },
   refl,
 )

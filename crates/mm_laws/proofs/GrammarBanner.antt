@@ -10,8 +10,9 @@ use Rattle.mm_text.specs.Words.{words, word, has_word}
 use Rattle.mm_text.specs.Judging.{refuse_if, is_one_of, keyword, mark, object, format, field, symmetry, banner}
 use Rattle.mm_laws.specs.Grammar.{HasWords, IsKeyword, symmetry_keyword, IsBannerLine}
 use Rattle.mm_laws.proofs.GrammarWords.{has_its_words, words_are}
-use Rattle.mm_laws.proofs.SpellsFacts.{bind_first, refuse_first}
+use Rattle.mm_laws.proofs.SpellsFacts.{refuse_first}
 use Rattle.mm_text.specs.declared.fault.MmKind.TheVariants.{BadBanner, Unsupported}
+use Rattle.mm_text.proofs.BoundLemmas.{ok_bind}
 
 -- a word that passes as a keyword is one that is known
 known_word : (unsupported known : List (List ℕ)) (w : List ℕ) (u : Unit {0}) → keyword unsupported known w ≡ Ok u → is_one_of w known ≡ true
@@ -61,7 +62,7 @@ field_is w u e = two_words w (codes "integer") (codes "unsigned-integer")
 symmetry_is : (w : List ℕ) (b : Bool) → symmetry w ≡ Ok b → IsKeyword w (symmetry_keyword b)
 unfolding symmetry
 symmetry_is w b e =
-    let k = bind_first (keyword (codes "skew-symmetric" ∷ codes "hermitian" ∷ []) (codes "general" ∷ codes "symmetric" ∷ []) w) _ b e in
+    let k = ok_bind (keyword (codes "skew-symmetric" ∷ codes "hermitian" ∷ []) (codes "general" ∷ codes "symmetric" ∷ []) w) _ b e in
     let is : is_one_of w (codes "symmetric" ∷ []) ≡ b = let f = k.2 in cc in
     let known = known_word (codes "skew-symmetric" ∷ codes "hermitian" ∷ []) (codes "general" ∷ codes "symmetric" ∷ []) w k.0 k.1 in
     by_test b is (two_words w (codes "general") (codes "symmetric") known)
@@ -101,11 +102,11 @@ pub banner_is : (line : List ℕ) (symmetric : Bool) → banner line ≡ Ok symm
 unfolding banner
 banner_is line symmetric e =
     let b = refuse_first (is_blank (get_or line 0 0)) BadBanner _ symmetric e in
-    let m = bind_first (mark (word (words line))) _ symmetric b.1 in
-    let o = bind_first (object (word (drop 1 (words line)))) _ symmetric m.2 in
-    let f = bind_first (format (word (drop 2 (words line)))) _ symmetric o.2 in
-    let t = bind_first (field (word (drop 3 (words line)))) _ symmetric f.2 in
-    let s = bind_first (symmetry (word (drop 4 (words line)))) _ symmetric t.2 in
+    let m = ok_bind (mark (word (words line))) _ symmetric b.1 in
+    let o = ok_bind (object (word (drop 1 (words line)))) _ symmetric m.2 in
+    let f = ok_bind (format (word (drop 2 (words line)))) _ symmetric o.2 in
+    let t = ok_bind (field (word (drop 3 (words line)))) _ symmetric f.2 in
+    let s = ok_bind (symmetry (word (drop 4 (words line)))) _ symmetric t.2 in
     let x = refuse_first (has_word (drop 5 (words line))) BadBanner _ symmetric s.2 in
     let is : s.0 ≡ symmetric = let y = x.1 in cc in
     let fifth : IsKeyword (word (drop 4 (words line))) (symmetry_keyword symmetric) = subst (λ b. IsKeyword (word (drop 4 (words line))) (symmetry_keyword b)) is (symmetry_is (word (drop 4 (words line))) s.0 s.1) in

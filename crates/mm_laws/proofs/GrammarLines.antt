@@ -8,10 +8,11 @@ use Rattle.mm_text.specs.Judging.{number, is_dimension, size, index, entry}
 use Rattle.mm_laws.specs.Grammar.{HasWords, Writes, IsSizeLine, IsEntryLine}
 use Rattle.mm_laws.proofs.GrammarWords.{has_its_words, words_are}
 use Rattle.mm_laws.proofs.GrammarNumbers.{index_from, index_to, number_writes, writes_number, writes_no_minus, writes_some}
-use Rattle.mm_laws.proofs.SpellsFacts.{bind_first, refuse_first, size_bounds, entry_within}
+use Rattle.mm_laws.proofs.SpellsFacts.{refuse_first, size_bounds, entry_within}
 use Rattle.mm_text.specs.declared.fault.MmKind.TheVariants.{BadSize, BadDimension, NotSquare, TooManyEntries, BadEntry, Negative}
 use Rattle.cells.specs.declared.cell.Cell.{Cell}
 use Rattle.mm_text.specs.declared.size.Size.{Size}
+use Rattle.mm_text.proofs.BoundLemmas.{ok_bind}
 
 -- a third word, and none behind it
 three_of : (ws : List (List ℕ)) → 0 < length (word (drop 2 ws)) → has_word (drop 3 ws) ≡ false → ws ≡ word ws ∷ word (drop 1 ws) ∷ word (drop 2 ws) ∷ []
@@ -25,10 +26,10 @@ pub entry_line_is : (rows cols : ℕ) (line : List ℕ) (cell : Cell) → entry 
 unfolding entry
 entry_line_is rows cols line cell e =
     let within = entry_within rows cols line cell e in
-    let r = bind_first (index rows (word (words line))) _ cell e in
-    let c = bind_first (index cols (word (drop 1 (words line)))) _ cell r.2 in
+    let r = ok_bind (index rows (word (words line))) _ cell e in
+    let c = ok_bind (index cols (word (drop 1 (words line)))) _ cell r.2 in
     let n = refuse_first (is_negative (word (drop 2 (words line)))) Negative _ cell c.2 in
-    let k = bind_first (number BadEntry (word (drop 2 (words line)))) _ cell n.1 in
+    let k = ok_bind (number BadEntry (word (drop 2 (words line)))) _ cell n.1 in
     let m = refuse_first (has_word (drop 3 (words line))) BadEntry _ cell k.2 in
     let is : ◌≡◌ {A = Cell} (record { row = r.0; col = c.0; count = k.0 }) cell = let f = m.1 in cc in
     let row : r.0 ≡ cell.row = ap (λ x. x.row) is in
@@ -59,12 +60,12 @@ pub size_line_is : (symmetric : Bool) (most : ℕ) (line : List ℕ) (s : Size) 
 unfolding size
 size_line_is symmetric most line s e =
     let bounds = size_bounds symmetric most line s e in
-    let r = bind_first (number BadSize (word (words line))) _ s e in
+    let r = ok_bind (number BadSize (word (words line))) _ s e in
     let rd = refuse_first (not (is_dimension r.0)) BadDimension _ s r.2 in
-    let c = bind_first (number BadSize (word (drop 1 (words line)))) _ s rd.1 in
+    let c = ok_bind (number BadSize (word (drop 1 (words line)))) _ s rd.1 in
     let cd = refuse_first (not (is_dimension c.0)) BadDimension _ s c.2 in
     let q = refuse_first (symmetric && not (nat_eq r.0 c.0)) NotSquare _ s cd.1 in
-    let n = bind_first (number BadSize (word (drop 2 (words line)))) _ s q.1 in
+    let n = ok_bind (number BadSize (word (drop 2 (words line)))) _ s q.1 in
     let m = refuse_first (nat_lt most n.0) TooManyEntries _ s n.2 in
     let x = refuse_first (has_word (drop 3 (words line))) BadSize _ s m.1 in
     let is : ◌≡◌ {A = Size} (record { rows = r.0; cols = c.0; entries = n.0 }) s = let f = x.1 in cc in

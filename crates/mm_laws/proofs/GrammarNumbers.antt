@@ -10,9 +10,10 @@ use Rattle.mm_text.specs.Words.{number_of, are_digits, is_negative}
 use Rattle.mm_text.specs.Judging.{number, index}
 use Rattle.mm_laws.specs.Grammar.{Writes}
 use Rattle.mm_text.proofs.NumberLemmas.{all_at}
-use Rattle.mm_laws.proofs.SpellsFacts.{bind_first, refuse_first, number_bound}
+use Rattle.mm_laws.proofs.SpellsFacts.{refuse_first, number_bound}
 use Rattle.mm_text.specs.declared.fault.MmKind.{MmKind}
 use Rattle.mm_text.specs.declared.fault.MmKind.TheVariants.{BadEntry, NumberTooLarge, IndexOutOfRange}
+use Rattle.mm_text.proofs.BoundLemmas.{ok_bind}
 
 -- digits behind at most one plus write their value
 pub number_from : (bad : MmKind) (w ds : List ℕ) (n : ℕ) → without_leading_plus w ≡ ds → list_all is_ascii_digit ds ≡ true → 0 < length ds → digits_value 10 ds ≡ n → n < 2 ^ 64 → number bad w ≡ Ok n
@@ -36,7 +37,7 @@ index_from limit i w h e =
 pub index_to : (limit i : ℕ) (w : List ℕ) → index limit w ≡ Ok i → number BadEntry w ≡ Ok (i + 1)
 unfolding index
 index_to limit i w e =
-    let a = bind_first (number BadEntry w) _ i e in
+    let a = ok_bind (number BadEntry w) _ i e in
     let b = refuse_first (nat_eq a.0 0 || nat_lt limit a.0) IndexOutOfRange _ i a.2 in
     let c : a.0 - 1 ≡ i = let f = b.1 in cc in
     let d : a.0 ≡ i + 1 = grind (arith, nat_tests, b.0, c) in

@@ -1,5 +1,5 @@
 -- What a text spells is a matrix: its dimensions, its cells within them, and counts of 64 bits.
-use Rattle.std.proofs.Common.{◌≡◌, ℕ, ◌-◌, ◌^◌, ◌<◌, ◌≤◌, Bool, true, false, not, ◌&&◌, ◌||◌, cond, List, [], ◌∷◌, length, refl, subst, arith}
+use Rattle.std.proofs.Common.{◌≡◌, ℕ, ◌^◌, ◌<◌, ◌≤◌, Bool, true, false, not, ◌&&◌, cond, List, [], ◌∷◌, length, refl, subst, arith}
 use Rattle.std.proofs.lemmas.Bool.Decides.{nat_tests}
 use Rattle.std.proofs.lemmas.List.Elements.{All-nil, All-cons, All-append}
 use Rattle.std.specs.Prelude.{Option, Some, None, Result, Ok, Err, map, flat_map, drop, nat_lt, nat_eq, All}
@@ -8,15 +8,11 @@ use Rattle.mm_text.specs.Judging.{◌>>=◌, refuse_if, number, is_dimension, si
 use Rattle.mm_text.specs.Texts.{Spells}
 use Rattle.cells.specs.Bounds.{IsDimension, IsWithin, AreWithin}
 use Rattle.mm_text.specs.declared.fault.MmKind.{MmKind}
-use Rattle.mm_text.specs.declared.fault.MmKind.TheVariants.{BadSize, BadDimension, NotSquare, TooManyEntries, BadEntry, Negative, NumberTooLarge, IndexOutOfRange}
+use Rattle.mm_text.specs.declared.fault.MmKind.TheVariants.{BadSize, BadDimension, NotSquare, TooManyEntries, BadEntry, Negative, NumberTooLarge}
 use Rattle.cells.specs.declared.cell.Cell.{Cell}
 use Rattle.mm_text.specs.declared.size.Size.{Size}
 use Rattle.mm_text.specs.declared.limits.TextLimits.{TextLimits}
-
--- a chain that ends well went well at its first step
-pub bind_first : {A B : Type 0} (r : Result A MmKind) (f : A → Result B MmKind) (y : B) → (r >>= f) ≡ Ok y → (x : A) × (r ≡ Ok x) × (f x ≡ Ok y)
-bind_first (Ok x) f y e = (x, refl, e)
-bind_first (Err k) f y e = cc
+use Rattle.mm_text.proofs.BoundLemmas.{square_of, dimension_of, index_below, ok_bind}
 
 -- and where that step is a refusal, its test failed
 pub refuse_first : {B : Type 0} (test : Bool) (k : MmKind) (f : Unit {0} → Result B MmKind) (y : B) → (refuse_if test k >>= f) ≡ Ok y → (test ≡ false) × (f tt ≡ Ok y)
@@ -35,50 +31,35 @@ number_bound bad w n e = by_value (number_of w) refl
     by_value None h = let f = rw h at e in cc
     by_value (Some m) h = let f = rw h at e in fits m (nat_lt m (2 ^ 64)) refl f
 
--- a word that stands for an index writes one from 1 to the limit
-pub index_bound : (limit : ℕ) (w : List ℕ) (i : ℕ) → index limit w ≡ Ok i → i < limit
-unfolding index
-index_bound limit w i e =
-    let a = bind_first (number BadEntry w) _ i e in
-    let b = refuse_first (nat_eq a.0 0 || nat_lt limit a.0) IndexOutOfRange _ i a.2 in
-    let c : a.0 - 1 ≡ i = let f = b.1 in cc in
-    grind (arith, nat_tests, b.0, c)
-
 -- an entry is a cell within the dimensions, with a count of 64 bits
 pub entry_within : (rows cols : ℕ) (line : List ℕ) (cell : Cell) → entry rows cols line ≡ Ok cell → IsWithin rows cols cell × (cell.count < 2 ^ 64)
 unfolding entry
 entry_within rows cols line cell e =
-    let r = bind_first (index rows (word (words line))) _ cell e in
-    let c = bind_first (index cols (word (drop 1 (words line)))) _ cell r.2 in
+    let r = ok_bind (index rows (word (words line))) _ cell e in
+    let c = ok_bind (index cols (word (drop 1 (words line)))) _ cell r.2 in
     let n = refuse_first (is_negative (word (drop 2 (words line)))) Negative _ cell c.2 in
-    let k = bind_first (number BadEntry (word (drop 2 (words line)))) _ cell n.1 in
+    let k = ok_bind (number BadEntry (word (drop 2 (words line)))) _ cell n.1 in
     let m = refuse_first (has_word (drop 3 (words line))) BadEntry _ cell k.2 in
     let is : ◌≡◌ {A = Cell} (record { row = r.0; col = c.0; count = k.0 }) cell = let f = m.1 in cc in
     subst (λ x. IsWithin rows cols x × (x.count < 2 ^ 64)) is
-    ((index_bound rows (word (words line)) r.0 r.1, index_bound cols (word (drop 1 (words line))) c.0 c.1), number_bound BadEntry (word (drop 2 (words line))) k.0 k.1)
-
-dimension_is : (n : ℕ) → not (is_dimension n) ≡ false → IsDimension n
-dimension_is n h = grind (arith, nat_tests)
-
-square_is : (symmetric : Bool) (rows cols : ℕ) → (symmetric && not (nat_eq rows cols)) ≡ false → symmetric ≡ true → rows ≡ cols
-square_is symmetric rows cols h t = grind (arith, nat_tests)
+    ((index_below rows (word (words line)) r.0 r.1, index_below cols (word (drop 1 (words line))) c.0 c.1), number_bound BadEntry (word (drop 2 (words line))) k.0 k.1)
 
 -- a size line declares dimensions, and equal ones where the banner says symmetric
 pub size_bounds : (symmetric : Bool) (most : ℕ) (line : List ℕ) (s : Size) → size symmetric most line ≡ Ok s →
     IsDimension s.rows × IsDimension s.cols × (symmetric ≡ true → s.rows ≡ s.cols) × (s.entries ≤ most)
 unfolding size
 size_bounds symmetric most line s e =
-    let r = bind_first (number BadSize (word (words line))) _ s e in
+    let r = ok_bind (number BadSize (word (words line))) _ s e in
     let rd = refuse_first (not (is_dimension r.0)) BadDimension _ s r.2 in
-    let c = bind_first (number BadSize (word (drop 1 (words line)))) _ s rd.1 in
+    let c = ok_bind (number BadSize (word (drop 1 (words line)))) _ s rd.1 in
     let cd = refuse_first (not (is_dimension c.0)) BadDimension _ s c.2 in
     let q = refuse_first (symmetric && not (nat_eq r.0 c.0)) NotSquare _ s cd.1 in
-    let n = bind_first (number BadSize (word (drop 2 (words line)))) _ s q.1 in
+    let n = ok_bind (number BadSize (word (drop 2 (words line)))) _ s q.1 in
     let m = refuse_first (nat_lt most n.0) TooManyEntries _ s n.2 in
     let x = refuse_first (has_word (drop 3 (words line))) BadSize _ s m.1 in
     let is : ◌≡◌ {A = Size} (record { rows = r.0; cols = c.0; entries = n.0 }) s = let f = x.1 in cc in
     subst (λ s. IsDimension s.rows × IsDimension s.cols × (symmetric ≡ true → s.rows ≡ s.cols) × (s.entries ≤ most)) is
-    (dimension_is r.0 rd.0, dimension_is c.0 cd.0, square_is symmetric r.0 c.0 q.0, few n.0 m.0)
+    (dimension_of r.0 rd.0, dimension_of c.0 cd.0, square_of symmetric r.0 c.0 q.0, few n.0 m.0)
   where
     few : (n : ℕ) → nat_lt most n ≡ false → n ≤ most
     few n h = grind (arith, nat_tests)

@@ -8,6 +8,7 @@ use Rattle.std.specs.List.{AllByRecursion}
 use Rattle.mm_text.specs.Lines.{lines_of, bytes_of, joined, is_line_feed, IsLine}
 use Rattle.mm_text.proofs.Cuts.{cut_cases, bytes_of-append, joined-append, lines_of-joined, lines_of-last, length-joined, all_lines-append}
 use Rattle.mm_text.proofs.CutOffLemmas.{continues}
+use Rattle.mm_text.proofs.Clean.{one_cut, nil_not}
 
 -- whole lines, and a rest without LF
 pub record Cut (text : List ℕ) : Type 0 where
@@ -69,14 +70,6 @@ lines_joined text = by_rest (cut_text text)
           )
     ]
 
-pub no_cut : {A B : Type 0} (before : List A) (line : A) (after : List A) → [] ≡ before ++ line ∷ after → B
-no_cut [] line after e = cc
-no_cut (x ∷ xs) line after e = cc
-
-only_cut : {A : Type 0} (x : A) (before : List A) (line : A) (after : List A) → x ∷ [] ≡ before ++ line ∷ after → (before ≡ []) × (line ≡ x)
-only_cut x [] line after e = (refl, cc)
-only_cut x (y ∷ ys) line after e = let t : [] ≡ ys ++ line ∷ after = cc in no_cut ys line after t
-
 -- Where a text goes on, a line of it goes on, at its end alone; one that its LF ended stays.
 pub record LineGoesOn (text more : List ℕ) (before : List (List ℕ)) (line : List ℕ) : Type 0 where
   pub tail : List ℕ
@@ -89,9 +82,9 @@ goes_on text more before line after e = by_cut (cut_text text)
   where
     last : (c : Cut text) (cs : List (List ℕ)) → before ≡ c.lines ++ cs → lines_of c.rest ≡ cs ++ line ∷ after → LineGoesOn text more before line
     last c cs f g = elim (rest_lines c.rest c.partial) [
-      | inl none ↦ no_cut cs line after (sym none.1 ∙ g)
+      | inl none ↦ nil_not cs line after (sym none.1 ∙ g)
       | inr some ↦
-          let o = only_cut c.rest cs line after (sym some.1 ∙ g) in
+          let o = one_cut c.rest cs line after (sym some.1 ∙ g) in
           let same : before ≡ c.lines = f ∙ ap (λ t. c.lines ++ t) o.0 ∙ append-nil c.lines in
           let k = continues c.rest more c.partial (omega arith) in
           let n = cut_length text c in
@@ -198,9 +191,9 @@ stands_in text before line after e = by_cut (cut_text text)
 
     last : (c : Cut text) (cs : List (List ℕ)) → before ≡ c.lines ++ cs → lines_of c.rest ≡ cs ++ line ∷ after → StandsIn text before line
     last c cs f g = elim (rest_lines c.rest c.partial) [
-      | inl none ↦ no_cut cs line after (sym none.1 ∙ g)
+      | inl none ↦ nil_not cs line after (sym none.1 ∙ g)
       | inr some ↦
-          let o = only_cut c.rest cs line after (sym some.1 ∙ g) in
+          let o = one_cut c.rest cs line after (sym some.1 ∙ g) in
           let same : before ≡ c.lines = f ∙ ap (λ t. c.lines ++ t) o.0 ∙ append-nil c.lines in
           record { tail = []; all = rw same c.all; is_line = rw o.1 c.partial; whole = c.whole ∙ rw (append-nil line, same, o.1) refl }
     ]

@@ -18,15 +18,15 @@ use Rattle.mm_text.specs.declared.fault.MmKind.TheVariants.{BadSize, BadDimensio
 use Rattle.mm_text.specs.Words.{words, word, has_word, is_negative}
 
 -- a chain that gives a value passed each of its steps
-ok_bind : {A B : Type 0} (r : Result A MmKind) (f : A → Result B MmKind) (y : B) → (r >>= f) ≡ Ok y → (x : A) × (r ≡ Ok x) × (f x ≡ Ok y)
+pub ok_bind : {A B : Type 0} (r : Result A MmKind) (f : A → Result B MmKind) (y : B) → (r >>= f) ≡ Ok y → (x : A) × (r ≡ Ok x) × (f x ≡ Ok y)
 ok_bind (Ok x) f y e = (x, refl, e)
 ok_bind (Err k) f y e = cc
 
-ok_refuse : (b : Bool) (k : MmKind) (u : Unit {0}) → refuse_if b k ≡ Ok u → b ≡ false
+pub ok_refuse : (b : Bool) (k : MmKind) (u : Unit {0}) → refuse_if b k ≡ Ok u → b ≡ false
 ok_refuse true k u e = cc
 ok_refuse false k u e = refl
 
-index_below : (limit : ℕ) (w : List ℕ) (n : ℕ) → index limit w ≡ Ok n → n < limit
+pub index_below : (limit : ℕ) (w : List ℕ) (n : ℕ) → index limit w ≡ Ok n → n < limit
 unfolding index
 index_below limit w n e =
     let a = ok_bind (number BadEntry w) (λ x. refuse_if (nat_eq x 0 || nat_lt limit x) IndexOutOfRange >>= λ u. Ok (x - 1)) n e in
@@ -67,10 +67,10 @@ pub record SoundSize (symmetric : Bool) (s : Size) : Type 0 where
 abbrev size_is : ℕ → ℕ → ℕ → Size
 size_is rows cols entries = record { rows = rows; cols = cols; entries = entries }
 
-dimension_of : (n : ℕ) → not (is_dimension n) ≡ false → IsDimension n
+pub dimension_of : (n : ℕ) → not (is_dimension n) ≡ false → IsDimension n
 dimension_of n e = grind (arith, nat_tests)
 
-square_of : (symmetric : Bool) (m n : ℕ) → (symmetric && not (nat_eq m n)) ≡ false → symmetric ≡ true → m ≡ n
+pub square_of : (symmetric : Bool) (m n : ℕ) → (symmetric && not (nat_eq m n)) ≡ false → symmetric ≡ true → m ≡ n
 square_of true m n e t = grind (arith, nat_tests)
 square_of false m n e t = cc
 

@@ -5,18 +5,18 @@ use Rattle.std.proofs.lemmas.List.{append-nil, take_all, take-take}
 use Rattle.std.specs.Prelude.{Some, None, nat_eq}
 use Rattle.mm_text.proofs.Cuts.{cut_cases, bytes_of-append}
 use Rattle.mm_text.specs.Lines.{lines_of, bytes_of, line_at, counted, counts, is_limited, content, OverrunsAt}
-use Rattle.mm_text.specs.Texts.{fault_behind, lack_of, LineOverruns, LineIsWrong, LineIsMissing, Turn, FaultAt, turn_number, moment, FirstFaultAt, FirstFault, somewhere, NoFaultWithin}
+use Rattle.mm_text.specs.Texts.{fault_behind, lack_of, LineOverruns, LineIsWrong, LineIsMissing, Turn, FaultAt, turn_number, moment, FirstFaultAt, FirstFault, NoFaultWithin}
 use Rattle.mm_text.specs.Texts.Turn.{at_limit, in_line, at_line_end, at_text_end}
 use Rattle.mm_text.specs.Stages.{IsFine, Clean}
 use Rattle.mm_text.specs.declared.fault.MmKind.{MmKind}
 use Rattle.mm_text.specs.declared.fault.MmKind.TheVariants.{TooLong, LineTooLong}
 use Rattle.mm_text.specs.declared.limits.TextLimits.{TextLimits}
 
-nil_not : {A B : Type 0} (before : List A) (line : A) (after : List A) → [] ≡ before ++ line ∷ after → B
+pub nil_not : {A B : Type 0} (before : List A) (line : A) (after : List A) → [] ≡ before ++ line ∷ after → B
 nil_not [] line after e = cc
 nil_not (x ∷ xs) line after e = cc
 
-one_cut : {A : Type 0} (x : A) (before : List A) (line : A) (after : List A) → x ∷ [] ≡ before ++ line ∷ after → (before ≡ []) × (line ≡ x)
+pub one_cut : {A : Type 0} (x : A) (before : List A) (line : A) (after : List A) → x ∷ [] ≡ before ++ line ∷ after → (before ≡ []) × (line ≡ x)
 one_cut x [] line after e = (refl, cc)
 one_cut x (y ∷ ys) line after e = let t : [] ≡ ys ++ line ∷ after = cc in nil_not ys line after t
 
@@ -148,7 +148,7 @@ module _ (text : List ℕ) (limits : TextLimits) (done : List (List ℕ)) (line 
   pub first_wrong : (kind : MmKind) → counts done line ≡ true → fault_behind limits (counted done) (content line) ≡ Some kind →
       (limits.max_bytes < length text → bytes_of done + length line + 1 ≤ limits.max_bytes) →
       bytes_of done + length line + 1 ≤ length text + 1 → FirstFault text limits kind (length done + 1)
-  first_wrong kind counted_too wrong fits within = somewhere text limits _ kind _ (first_wrong_at kind counted_too wrong fits within)
+  first_wrong kind counted_too wrong fits within = record { place = _; first = first_wrong_at kind counted_too wrong fits within }
 
 -- A line at hand behind clean lines: another line is this one, or stands behind it.
 here_or_after : (done : List (List ℕ)) (line : List ℕ) (after before : List (List ℕ)) (this : List ℕ) (more cs : List (List ℕ)) →
@@ -199,7 +199,7 @@ module _ (text : List ℕ) (limits : TextLimits) (done : List (List ℕ)) (line 
   pub first_overrun : (count : ℕ) → is_limited done line ≡ true → OverrunsAt line count →
       (limits.max_bytes < length text → bytes_of done + count ≤ limits.max_bytes) →
       bytes_of done + count ≤ length text → FirstFault text limits LineTooLong (length done + 1)
-  first_overrun count limited overruns fits within = somewhere text limits _ LineTooLong _ (first_overrun_at count limited overruns fits within)
+  first_overrun count limited overruns fits within = record { place = _; first = first_overrun_at count limited overruns fits within }
 
   -- The first fault is that the text is too long.
   pub first_too_long_at : limits.max_bytes < length text → limits.max_bytes < bytes_of done + length line + 1 →
@@ -233,7 +233,7 @@ module _ (text : List ℕ) (limits : TextLimits) (done : List (List ℕ)) (line 
   pub first_too_long : limits.max_bytes < length text → limits.max_bytes < bytes_of done + length line + 1 →
       ((c : ℕ) → is_limited done line ≡ true → OverrunsAt line c → limits.max_bytes < bytes_of done + c) →
       FirstFault text limits TooLong (line_at text limits.max_bytes)
-  first_too_long longer beyond no_overrun = somewhere text limits _ TooLong _ (first_too_long_at longer beyond no_overrun)
+  first_too_long longer beyond no_overrun = record { place = _; first = first_too_long_at longer beyond no_overrun }
 
   -- While a line is being read, no fault stands within what was read.
   pub none_within : length text ≤ limits.max_bytes → length text ≡ bytes_of done + length line → after ≡ [] →
@@ -284,7 +284,7 @@ module _ (text : List ℕ) (limits : TextLimits) (clean : Clean limits (lines_of
   }
 
   pub first_missing : (kind : MmKind) → lack_of limits (counted (lines_of text)) ≡ Some kind → FirstFault text limits kind (line_at text (length text))
-  first_missing kind missing = somewhere text limits _ kind _ (first_missing_at kind missing)
+  first_missing kind missing = record { place = _; first = first_missing_at kind missing }
 
   -- No fault stands within whole clean lines.
   pub none_within_lines : NoFaultWithin text limits

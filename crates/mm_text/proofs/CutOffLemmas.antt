@@ -11,7 +11,7 @@ use Rattle.mm_text.specs.Lines.{lines_of, is_limited, content, IsLine, joined, b
 use Rattle.mm_text.specs.Texts.{FirstFault}
 use Rattle.mm_text.specs.Stages.{TakesLines, cut_kind}
 use Rattle.mm_text.proofs.Clean.{first_overrun, first_too_long, overrun_of, overrun_long, overrun_some}
-use Rattle.mm_text.proofs.KeepLemmas.{limited_is}
+use Rattle.mm_text.proofs.ProgressLemmas.{limited_is}
 use Rattle.mm_text.proofs.Cuts.{lines_of-joined, lines_of-line, lines_of-last, length-joined}
 use Rattle.mm_text.specs.declared.fault.MmKind.TheVariants.{LineTooLong, TooLong}
 use Rattle.cells.specs.declared.cell.Cell.{Cell}
@@ -71,7 +71,7 @@ overrun_longer rest tail c o = record {
   shortest = λ m l. let w = o.within in rw (take-append-le m rest tail (omega arith)) (o.shortest m l);
 }
 
-overrun_shorter : (rest tail : List ℕ) (c : ℕ) → c ≤ length rest → OverrunsAt (rest ++ tail) c → OverrunsAt rest c
+pub overrun_shorter : (rest tail : List ℕ) (c : ℕ) → c ≤ length rest → OverrunsAt (rest ++ tail) c → OverrunsAt rest c
 overrun_shorter rest tail c h o = record {
   within = h;
   long = let l = o.long in rw (take-append-le c rest tail h) at l;

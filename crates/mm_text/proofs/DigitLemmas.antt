@@ -86,10 +86,10 @@ numeral_some (d ∷ ds) h = omega arith
 first_digit : (w : List ℕ) → IsShortNumeral w → 0 < length w → is_ascii_digit (get_or w 0 0) ≡ true
 first_digit w h some = all_at is_ascii_digit w 0 h.digits some
 
-no_plus : (c : ℕ) → is_ascii_digit c ≡ true → c ≢ 43
+pub no_plus : (c : ℕ) → is_ascii_digit c ≡ true → c ≢ 43
 no_plus c h = grind (arith, nat_tests)
 
-no_minus : (c : ℕ) → is_ascii_digit c ≡ true → nat_eq c 45 ≡ false
+pub no_minus : (c : ℕ) → is_ascii_digit c ≡ true → nat_eq c 45 ≡ false
 no_minus c h = grind (arith, nat_tests)
 
 pub numeral_number : (bad : MmKind) (w : List ℕ) → IsShortNumeral w → 0 < length w → number bad w ≡ Ok (digits_value 10 w)

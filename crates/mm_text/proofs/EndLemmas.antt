@@ -1,14 +1,11 @@
 -- The end of a text: what it lacks, or what it spells.
-use Rattle.std.proofs.Common.{inl, inr, ◌≡◌, ℕ, ◌+◌, ◌<◌, ◌≤◌, Bool, true, false, cond, List, [], ◌∷◌, ◌++◌, length, refl, ◌∙◌, ap, arith, append_assoc, length-append}
+use Rattle.std.proofs.Common.{◌≡◌, ℕ, ◌≤◌, Bool, true, false, cond, List, length, refl, ◌∙◌, ap, arith}
 use Rattle.std.specs.Prelude.{Some, None, Ok, nat_lt}
-use Rattle.mm_text.specs.Lines.{lines_of, joined, bytes_of}
+use Rattle.mm_text.specs.Lines.{lines_of}
 use Rattle.mm_text.specs.Judging.{fault_of, refuse_if}
-use Rattle.mm_text.specs.Texts.{lack_of, Spells, FirstFault}
-use Rattle.mm_text.specs.Stages.{StageIs, Clean, Keeps, LineFault, StopsIn, lack_at}
-use Rattle.mm_text.proofs.Clean.{first_wrong, first_overrun, overrun_of}
-use Rattle.mm_text.proofs.Cuts.{lines_of-joined, lines_of-line, length-joined}
-use Rattle.mm_text.specs.declared.fault.MmKind.{MmKind}
-use Rattle.mm_text.specs.declared.fault.MmKind.TheVariants.{Memory, TooFewEntries}
+use Rattle.mm_text.specs.Texts.{lack_of, Spells}
+use Rattle.mm_text.specs.Stages.{StageIs, Keeps, lack_at}
+use Rattle.mm_text.specs.declared.fault.MmKind.TheVariants.{TooFewEntries}
 use Rattle.cells.specs.declared.cell.Cell.{Cell}
 use Rattle.mm_text.specs.declared.size.Size.{Size}
 use Rattle.mm_text.specs.declared.limits.TextLimits.{TextLimits}
@@ -48,33 +45,3 @@ spells_all text limits cells symmetric s seen count k fits full =
       are_entries = e.are_entries;
       cells_are = e.cells_are;
     }
-
--- A line behind clean ones stops the reading: that is the text's first fault, whatever follows.
-pub first_of_line : (text : List ℕ) (limits : TextLimits) (done after : List (List ℕ)) (line : List ℕ) (kind : MmKind) →
-    Clean limits done → lines_of text ≡ done ++ line ∷ after → LineFault limits done line kind →
-    (limits.max_bytes < length text → bytes_of done + length line + 1 ≤ limits.max_bytes) → bytes_of done + length line ≤ length text →
-    (kind ≡ Memory → ⊥) → FirstFault text limits kind (length done + 1)
-first_of_line text limits done after line kind clean cut fault fits within real = elim fault [
-  | inl o ↦
-      let c = overrun_of line o.long in
-      let in_line = c.1.within in
-      rw o.kind_is (first_overrun text limits done line after clean cut c.0 o.limited c.1 (λ l. let f = fits l in omega arith) (omega arith))
-  | inr w ↦ elim w [
-    | inl w ↦ first_wrong text limits done line after clean cut w.short kind w.counted_too w.wrong fits (omega arith)
-    | inr m ↦ absurd (real m.kind_is)
-  ]
-]
-
--- A line with its LF among the first bytes of a text, all within the limit.
-pub first_in : (limits : TextLimits) (bytes more : List ℕ) (kind : MmKind) (number : ℕ) → StopsIn limits [] bytes kind number → length bytes ≤ limits.max_bytes →
-    (kind ≡ Memory → ⊥) → FirstFault (bytes ++ more) limits kind number
-first_in limits bytes more kind number s fits real =
-    let text : bytes ++ more ≡ joined s.lines ++ (s.line ++ 10 ∷ (s.rest ++ more)) =
-    ap (λ b. b ++ more) s.whole ∙ rw (append_assoc (joined s.lines ++ s.line) (10 ∷ s.rest) more, append_assoc (joined s.lines) s.line (10 ∷ (s.rest ++ more))) refl in
-    let cut : lines_of (bytes ++ more) ≡ s.lines ++ s.line ∷ lines_of (s.rest ++ more) =
-    ap lines_of text ∙ lines_of-joined s.lines (s.line ++ 10 ∷ (s.rest ++ more)) s.all ∙ ap (λ l. s.lines ++ l) (lines_of-line s.line (s.rest ++ more) s.is_line) in
-    let size_is : bytes_of s.lines + length s.line + 1 ≤ length bytes =
-    let e = ap length s.whole in let j = length-joined s.lines in
-    omega (arith, length-append (joined s.lines ++ s.line) (10 ∷ s.rest), length-append (joined s.lines) s.line, e, j) in
-    let whole = length-append bytes more in
-    rw s.number_is (first_of_line (bytes ++ more) limits s.lines (lines_of (s.rest ++ more)) s.line kind s.clean cut s.fault (λ l. omega arith) (omega arith) real)

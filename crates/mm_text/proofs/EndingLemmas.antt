@@ -3,7 +3,7 @@ use Rattle.std.proofs.Common.{inl, inr, ◌≡◌, ℕ, ◌+◌, ◌<◌, ◌≤
 use Rattle.std.proofs.lemmas.List.{append-nil}
 use Rattle.std.specs.Prelude.{Some}
 use Rattle.mm_text.specs.Lines.{lines_of, joined, line_at, counted}
-use Rattle.mm_text.specs.Stages.{Keeps, LineFault, IsCarried, EndsCarried, Holds, AddsLine, EndsLast, EndsText, EndsWithin, lack_at, declared_size}
+use Rattle.mm_text.specs.Stages.{at, state, Keeps, LineFault, IsCarried, EndsCarried, Holds, AddsLine, EndsLast, EndsText, EndsWithin, lack_at, declared_size}
 use Rattle.mm_text.specs.Faults.{Explains}
 use Rattle.mm_text.specs.declared.fault.MmKind.{MmKind}
 use Rattle.cells.specs.declared.cell.Cell.{Cell}
@@ -13,9 +13,9 @@ use Rattle.mm_text.specs.declared.stages.Stage.{Stage}
 use Rattle.mm_text.specs.declared.stages.Stage.TheVariants.{AtEntries}
 use Rattle.mm_text.proofs.Clean.{first_missing_at}
 use Rattle.mm_text.proofs.Cuts.{lines_of-joined, lines_of-last}
-use Rattle.mm_text.proofs.CarryLemmas.{carried_none}
-use Rattle.mm_text.proofs.AdvanceLemmas.{held_line, held_size, holds_begin}
-use Rattle.mm_text.proofs.PlainLemmas.{plain_lack}
+use Rattle.mm_text.proofs.CarryingLemmas.{carried_none}
+use Rattle.mm_text.proofs.PiecesLemmas.{held_line, held_size, holds_begin}
+use Rattle.mm_text.proofs.FaultLemmas.{plain_lack}
 use Rattle.mm_text.proofs.EndLemmas.{lack_is, spells_all}
 use Rattle.mm_text.proofs.ExplainLemmas.{told, explains_plain, explains_line}
 
@@ -23,7 +23,7 @@ carried_some : (count : ℕ) (rest carry : List ℕ) → 0 < length carry → Is
 carried_some count [] carry n c = elim c [ inl e ↦ absurd (let l = ap length e in omega arith) | inr m ↦ absurd (let e = m.1 in cc) ]
 carried_some count (b ∷ bs) carry n c = omega arith
 
-module _ (limits : TextLimits) (text carry : List ℕ) (stage : Stage) (given : List Cell) (count : ℕ) (h : Holds limits text carry stage given count) where
+module _ (limits : TextLimits) (text carry : List ℕ) (stage : Stage) (given : List Cell) (count : ℕ) (h : Holds limits text (state carry stage count) given) where
   lines_are : lines_of text ≡ h.takes.lines ++ lines_of h.rest
   lines_are = ap lines_of h.takes.whole ∙ lines_of-joined h.takes.lines h.rest h.takes.all
 
@@ -41,7 +41,7 @@ module _ (limits : TextLimits) (text carry : List ℕ) (stage : Stage) (given : 
       explains_line text limits (Unit {0}) h.takes.lines h.rest [] [] kind number h.takes.keeps.clean h.takes.all h.takes.partial fault
       (lines_some some) (h.takes.whole ∙ sym (append-nil (joined h.takes.lines ++ h.rest))) (omega arith) (λ l. absurd (omega arith)) (λ l. tt) (omega arith)
 
-pub ends_none : (limits : TextLimits) (carry : List ℕ) (stage : Stage) (count : ℕ) (block : List Cell) → length carry ≡ 0 → EndsLast limits carry stage count block stage count block
+pub ends_none : (limits : TextLimits) (carry : List ℕ) (stage : Stage) (count : ℕ) (block : List Cell) → length carry ≡ 0 → EndsLast limits (state carry stage count) block (at stage count) block
 ends_none limits carry stage count block n = record {
   cells = [];
   block_is = sym (append-nil block);
@@ -51,7 +51,7 @@ ends_none limits carry stage count block n = record {
 }
 
 pub ends_line : (limits : TextLimits) (carry : List ℕ) (stage : Stage) (count : ℕ) (block : List Cell) (stage' : Stage) (count' : ℕ) (block' : List Cell) → 0 < length carry →
-    AddsLine limits (EndsCarried count carry []) stage count block stage' count' block' → EndsLast limits carry stage count block stage' count' block'
+    AddsLine limits (EndsCarried count carry []) (at stage count) block (at stage' count') block' → EndsLast limits (state carry stage count) block (at stage' count') block'
 ends_line limits carry stage count block stage' count' block' n a = record {
   cells = a.cells;
   block_is = a.block_is;
@@ -62,14 +62,14 @@ ends_line limits carry stage count block stage' count' block' n a = record {
 
 pub explains_last : (limits : TextLimits) (carry : List ℕ) (stage : Stage) (count : ℕ) (kind : MmKind) (number : ℕ) → 0 < length carry → number ≡ count + 1 →
     ((rest : List ℕ) (done : List (List ℕ)) (given : List Cell) → IsCarried count rest carry → Keeps limits done stage given count → LineFault limits done (rest ++ []) kind) →
-    (text : List ℕ) (given : List Cell) → Holds limits text carry stage given count → Explains text limits (Unit {0}) ⊥ kind number
+    (text : List ℕ) (given : List Cell) → Holds limits text (state carry stage count) given → Explains text limits (Unit {0}) ⊥ kind number
 explains_last limits carry stage count kind number n e faulty = λ text given h.
     let fault = faulty h.rest h.takes.lines given h.carried h.takes.keeps in
     line_fault limits text carry stage given count h kind number n e (rw append-nil at fault)
 
 -- the block, where the last line bears a fault
 pub stops_before_last : (limits : TextLimits) (carry : List ℕ) (stage : Stage) (count : ℕ) (block block' : List Cell) → block' ≡ block →
-    EndsWithin limits carry stage count block block'
+    EndsWithin limits (state carry stage count) block block'
 stops_before_last limits carry stage count block block' e = record {
   cells = [];
   block_is = e ∙ sym (append-nil block);
@@ -78,7 +78,7 @@ stops_before_last limits carry stage count block block' e = record {
 
 -- and where only something is missing behind it
 pub stops_behind_last : (limits : TextLimits) (carry : List ℕ) (stage : Stage) (count : ℕ) (block : List Cell) (stage' : Stage) (count' : ℕ) (block' : List Cell) →
-    EndsLast limits carry stage count block stage' count' block' → EndsWithin limits carry stage count block block'
+    EndsLast limits (state carry stage count) block (at stage' count') block' → EndsWithin limits (state carry stage count) block block'
 stops_behind_last limits carry stage count block stage' count' block' a = record {
   cells = a.cells;
   block_is = a.block_is;
@@ -93,7 +93,7 @@ stops_behind_last limits carry stage count block stage' count' block' a = record
 }
 
 pub ends_text : (limits : TextLimits) (carry : List ℕ) (stage : Stage) (count : ℕ) (block : List Cell) (stage' : Stage) (count' : ℕ) (block' : List Cell) (symmetric : _) (s : Size) (seen : ℕ) →
-    EndsLast limits carry stage count block stage' count' block' → stage' ≡ AtEntries symmetric s seen → s.entries ≤ seen → EndsText limits carry stage count block stage' block'
+    EndsLast limits (state carry stage count) block (at stage' count') block' → stage' ≡ AtEntries symmetric s seen → s.entries ≤ seen → EndsText limits (state carry stage count) block stage' block'
 ends_text limits carry stage count block stage' count' block' symmetric s seen a is full = record {
   cells = a.cells;
   block_is = a.block_is;
@@ -105,8 +105,8 @@ ends_text limits carry stage count block stage' count' block' symmetric s seen a
 }
 
 pub explains_lack : (limits : TextLimits) (carry : List ℕ) (stage : Stage) (count : ℕ) (block : List Cell) (stage' : Stage) (count' : ℕ) (block' : List Cell) (kind : MmKind) (number : ℕ) →
-    EndsLast limits carry stage count block stage' count' block' → lack_at stage' ≡ Some kind → number ≡ count + 1 →
-    (text : List ℕ) (given : List Cell) → Holds limits text carry stage given count → Explains text limits (Unit {0}) ⊥ kind number
+    EndsLast limits (state carry stage count) block (at stage' count') block' → lack_at stage' ≡ Some kind → number ≡ count + 1 →
+    (text : List ℕ) (given : List Cell) → Holds limits text (state carry stage count) given → Explains text limits (Unit {0}) ⊥ kind number
 explains_lack limits carry stage count block stage' count' block' kind number a lack e = λ text given h.
     let k = a.keeps text given h in
     let line = held_line limits text carry stage given count h in

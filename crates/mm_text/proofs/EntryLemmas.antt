@@ -27,7 +27,7 @@ pub record IsPlainEntry (rows cols : ℕ) (line : List ℕ) (cell : Cell) : Type
   pub some : 0 < length line
 
 -- a digit or a blank
-abbrev is_plain : ℕ → Bool
+abbrev pub is_plain : ℕ → Bool
 is_plain b = is_ascii_digit b || is_blank b
 
 digit_plain : (c : ℕ) → is_ascii_digit c ≡ true → is_plain c ≡ true
@@ -40,23 +40,23 @@ or_true false = refl
 blank_plain : (c : ℕ) → is_blank c ≡ true → is_plain c ≡ true
 blank_plain c h = ap (λ v. is_ascii_digit c || v) h ∙ or_true (is_ascii_digit c)
 
-plain_digits : (ds : List ℕ) → list_all is_ascii_digit ds ≡ true → list_all is_plain ds ≡ true
+pub plain_digits : (ds : List ℕ) → list_all is_ascii_digit ds ≡ true → list_all is_plain ds ≡ true
 plain_digits [] h = refl
 plain_digits (d ∷ ds) h =
     let t : list_all is_ascii_digit ds ≡ true = grind (arith, nat_tests) in
     let e : is_ascii_digit d ≡ true = grind (arith, nat_tests) in
     rw (plain_digits ds t, digit_plain d e) refl
 
-blank_not : (c : ℕ) → is_ascii_digit c ≡ true → is_blank c ≡ false
+pub blank_not : (c : ℕ) → is_ascii_digit c ≡ true → is_blank c ≡ false
 blank_not c h = grind (arith, nat_tests)
 
 no_blank : (w : List ℕ) → IsShortNumeral w → All (λ b. is_blank b ≡ false) w
 no_blank w h = All-from_get_or (λ b. is_blank b ≡ false) w 0 (λ i l. blank_not (get_or w i 0) (all_at is_ascii_digit w i h.digits l))
 
-plain_is : (c : ℕ) → is_plain c ≡ true → (nat_eq c 10 ≡ false) × (nat_eq c 13 ≡ false)
+pub plain_is : (c : ℕ) → is_plain c ≡ true → (nat_eq c 10 ≡ false) × (nat_eq c 13 ≡ false)
 plain_is c h = (grind (arith, nat_tests), grind (arith, nat_tests))
 
-first_is : (c : ℕ) → is_ascii_digit c ≡ true → (nat_eq c 37 ≡ false) × (is_blank c ≡ false)
+pub first_is : (c : ℕ) → is_ascii_digit c ≡ true → (nat_eq c 37 ≡ false) × (is_blank c ≡ false)
 first_is c h = (grind (arith, nat_tests), grind (arith, nat_tests))
 
 module _ (a b c : List ℕ) (s t : ℕ) (x : IsShortNumeral a) (y : IsShortNumeral b) (z : IsShortNumeral c)

@@ -1,10 +1,9 @@
 -- Every fault that the reader tells, explained by the bytes that were read.
 use Rattle.std.proofs.Common.{inl, inr, ◌≡◌, ℕ, ◌+◌, ◌<◌, ◌≤◌, true, List, [], ◌∷◌, ◌++◌, length, take, refl, ◌∙◌, ap, arith, length-append}
 use Rattle.std.proofs.lemmas.List.{append-nil, take-append-le, take_all}
-use Rattle.std.specs.Prelude.{count_by}
 use Rattle.std.specs.List.{AllByRecursion}
-use Rattle.mm_text.specs.Lines.{lines_of, joined, bytes_of, is_line_feed, is_limited, content, IsLine}
-use Rattle.mm_text.specs.Texts.{FirstFaultAt, somewhere, NoFaultWithin}
+use Rattle.mm_text.specs.Lines.{lines_of, joined, bytes_of, is_limited, content, IsLine}
+use Rattle.mm_text.specs.Texts.{FirstFaultAt, NoFaultWithin}
 use Rattle.mm_text.specs.Stages.{Clean, LineFault}
 use Rattle.mm_text.specs.Faults.{Explains, IsTold, IsMemoryFault}
 use Rattle.mm_text.specs.declared.fault.MmKind.{MmKind}
@@ -12,11 +11,10 @@ use Rattle.mm_text.specs.declared.fault.MmKind.TheVariants.{Read, Memory, BadBan
 use Rattle.mm_text.specs.declared.limits.TextLimits.{TextLimits}
 use Rattle.mm_text.proofs.Clean.{first_wrong_at, first_overrun_at, overrun_of, no_overrun_of, none_within, none_within_lines}
 use Rattle.mm_text.proofs.Cuts.{lines_of-joined, lines_of-last, length-joined}
-use Rattle.mm_text.proofs.CutOffLemmas.{count_lines}
-use Rattle.mm_text.proofs.PlainLemmas.{IsPlain, plain_behind}
+use Rattle.mm_text.proofs.FaultLemmas.{IsPlain, plain_behind}
 
 pub told : (text : List ℕ) (limits : TextLimits) (ended : Type 0) (place : ℕ) (kind : MmKind) (line : ℕ) → FirstFaultAt text limits place kind line → (length text < place → ended) → IsTold text limits ended kind line
-told text limits ended place kind line f e = record { first = somewhere text limits place kind line f; at_end = e }
+told text limits ended place kind line f e = record { first = record { place = place; first = f }; at_end = e }
 
 pub explains_plain : (text : List ℕ) (limits : TextLimits) (ended failed : Type 0) (kind : MmKind) (line : ℕ) → IsPlain kind → IsTold text limits ended kind line → Explains text limits ended failed kind line
 explains_plain text limits ended failed Read line p t = absurd p

@@ -63,4 +63,4 @@ module _ (text : List ℕ) (limits : TextLimits) (rows cols : ℕ) (cells : List
       rw (s.lines, s.is_banner) (rw s.is_size (rw test refl))
 
   pub spells_faultless : (k : MmKind) (n : ℕ) → FirstFault text limits k n → ⊥
-  spells_faultless k n f = faultless text limits spells_clean s.fits nothing_lacks f.turn f.place k n f.stands
+  spells_faultless k n f = faultless text limits spells_clean s.fits nothing_lacks f.first.turn f.place k n f.first.stands

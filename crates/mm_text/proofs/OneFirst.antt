@@ -73,7 +73,7 @@ same_turn text limits at_text_end at_line_end p q j k m n e v w = absurd (omega 
 
 pub one_first : (text : List ℕ) (limits : TextLimits) (j k : MmKind) (m n : ℕ) → FirstFault text limits j m → FirstFault text limits k n → (j ≡ k) × (m ≡ n)
 one_first text limits j k m n v w =
-    let a = v.least w.turn w.place k n w.stands in
-    let b = w.least v.turn v.place j m v.stands in
-    let e : moment v.place v.turn ≡ moment w.place w.turn = omega arith in
-    same_turn text limits v.turn w.turn v.place w.place j k m n e v.stands w.stands
+    let a = v.first.least w.first.turn w.place k n w.first.stands in
+    let b = w.first.least v.first.turn v.place j m v.first.stands in
+    let e : moment v.place v.first.turn ≡ moment w.place w.first.turn = omega arith in
+    same_turn text limits v.first.turn w.first.turn v.place w.place j k m n e v.first.stands w.first.stands

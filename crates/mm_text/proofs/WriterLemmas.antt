@@ -5,11 +5,11 @@ use Rattle.std.proofs.lemmas.Grind.{flat_map-append}
 use Rattle.mm_text.specs.Canonical.{entry_line, entry_lines}
 use Rattle.mm_text.specs.Writing.{HasWritten, WriterState}
 use Rattle.byte_io.specs.Writing.{HasTaken, HasStopped}
-use Rattle.byte_io.specs.declared.fault.DeviceFault.{DeviceFault}
 use Rattle.byte_io.proofs.SinkLemmas.{has_taken_nothing, has_taken_append, stopped_behind, has_stopped_longer}
 use Rattle.cells.specs.declared.cell.Cell.{Cell}
+use Rattle.byte_io.specs.Streams.{Answer}
 
-pub written_handed_on : {S : Type 0} (step : S → List ℕ → Result (List ℕ) DeviceFault → S → Type 0) (failures : S → ℕ) (s m t : S) (text : List ℕ) (old new : WriterState) →
+pub written_handed_on : {S : Type 0} (step : S → List ℕ → Answer → S → Type 0) (failures : S → ℕ) (s m t : S) (text : List ℕ) (old new : WriterState) →
     HasWritten step failures s m text old → HasTaken step failures m t old.pending → new.taken ≡ old.taken + length old.pending → new.pending ≡ [] →
     HasWritten step failures s t text new
 written_handed_on step failures s m t text old new a b taken none = record {
@@ -19,19 +19,19 @@ written_handed_on step failures s m t text old new a b taken none = record {
   whole = a.whole ∙ sym (append-nil (a.front ++ old.pending)) ∙ ap (λ l. (a.front ++ old.pending) ++ l) (sym none);
 }
 
-pub stopped_pending : {S : Type 0} (step : S → List ℕ → Result (List ℕ) DeviceFault → S → Type 0) (failures : S → ℕ) (s m t : S) (text : List ℕ) (old : WriterState) (n : ℕ) →
+pub stopped_pending : {S : Type 0} (step : S → List ℕ → Answer → S → Type 0) (failures : S → ℕ) (s m t : S) (text : List ℕ) (old : WriterState) (n : ℕ) →
     HasWritten step failures s m text old → HasStopped step failures m t old.pending n → HasStopped step failures s t text (old.taken + n)
 stopped_pending step failures s m t text old n a b =
     subst (λ v. HasStopped step failures s t v (old.taken + n)) (sym a.whole)
     (subst (λ k. HasStopped step failures s t (a.front ++ old.pending) (k + n)) (sym a.taken_is)
     (stopped_behind step failures s m t a.front old.pending n a.has_taken b))
 
-pub written_whole : {S : Type 0} (step : S → List ℕ → Result (List ℕ) DeviceFault → S → Type 0) (failures : S → ℕ) (s t : S) (text : List ℕ) (writer : WriterState) →
+pub written_whole : {S : Type 0} (step : S → List ℕ → Answer → S → Type 0) (failures : S → ℕ) (s t : S) (text : List ℕ) (writer : WriterState) →
     HasWritten step failures s t text writer → writer.pending ≡ [] → HasTaken step failures s t text
 written_whole step failures s t text writer a none =
     subst (λ v. HasTaken step failures s t v) (sym (a.whole ∙ ap (λ l. a.front ++ l) none ∙ append-nil a.front)) a.has_taken
 
-pub written_more : {S : Type 0} (step : S → List ℕ → Result (List ℕ) DeviceFault → S → Type 0) (failures : S → ℕ) (s t : S) (text more : List ℕ) (old new : WriterState) →
+pub written_more : {S : Type 0} (step : S → List ℕ → Answer → S → Type 0) (failures : S → ℕ) (s t : S) (text more : List ℕ) (old new : WriterState) →
     HasWritten step failures s t text old → new.taken ≡ old.taken → new.pending ≡ old.pending ++ more →
     HasWritten step failures s t (text ++ more) new
 written_more step failures s t text more old new a taken pending = record {
@@ -42,7 +42,7 @@ written_more step failures s t text more old new a taken pending = record {
 }
 
 -- before the first call all of the text is pending
-pub written_nothing : {S : Type 0} (step : S → List ℕ → Result (List ℕ) DeviceFault → S → Type 0) (failures : S → ℕ) (s : S) (text : List ℕ) (writer : WriterState) →
+pub written_nothing : {S : Type 0} (step : S → List ℕ → Answer → S → Type 0) (failures : S → ℕ) (s : S) (text : List ℕ) (writer : WriterState) →
     writer.taken ≡ 0 → writer.pending ≡ text → HasWritten step failures s s text writer
 written_nothing step failures s text writer taken pending = record {
   front = [];
@@ -68,11 +68,11 @@ on_ok_both (Ok x) f p q = f p q
 on_ok_both (Err e) f p q = tt
 
 -- one line more, or a stop within it
-pub written_next : {S : Type 0} (step : S → List ℕ → Result (List ℕ) DeviceFault → S → Type 0) (failures : S → ℕ) (s t : S) (text : List ℕ) (cells : List Cell) (i : ℕ) (d : Cell) (writer : WriterState) → i < length cells →
+pub written_next : {S : Type 0} (step : S → List ℕ → Answer → S → Type 0) (failures : S → ℕ) (s t : S) (text : List ℕ) (cells : List Cell) (i : ℕ) (d : Cell) (writer : WriterState) → i < length cells →
     HasWritten step failures s t ((text ++ entry_lines (take i cells)) ++ entry_line (get_or cells i d)) writer → HasWritten step failures s t (text ++ entry_lines (take (i + 1) cells)) writer
 written_next step failures s t text cells i d writer within a = subst (λ v. HasWritten step failures s t v writer) (entry_lines_more text cells i d within) a
 
-pub stopped_within : {S : Type 0} (step : S → List ℕ → Result (List ℕ) DeviceFault → S → Type 0) (failures : S → ℕ) (s t : S) (text : List ℕ) (cells : List Cell) (i : ℕ) (d : Cell) (n : ℕ) → i < length cells →
+pub stopped_within : {S : Type 0} (step : S → List ℕ → Answer → S → Type 0) (failures : S → ℕ) (s t : S) (text : List ℕ) (cells : List Cell) (i : ℕ) (d : Cell) (n : ℕ) → i < length cells →
     HasStopped step failures s t ((text ++ entry_lines (take i cells)) ++ entry_line (get_or cells i d)) n → HasStopped step failures s t (text ++ entry_lines cells) n
 stopped_within step failures s t text cells i d n within a =
     subst (λ v. HasStopped step failures s t v n) (entry_lines_cut text cells (i + 1))

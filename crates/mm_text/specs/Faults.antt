@@ -1,14 +1,14 @@
 -- What a fault of a reading says of the bytes that were read.
-use Rattle.std.specs.Prelude.{◌≡◌, ℕ, ◌+◌, ◌<◌, ◌≤◌, List, [], ◌∷◌, ◌++◌, length, take, Result}
+use Rattle.std.specs.Prelude.{◌≡◌, ℕ, ◌+◌, ◌<◌, ◌≤◌, List, [], ◌∷◌, ◌++◌, length, take}
 use Rattle.mm_text.specs.Lines.{line_at, lines_of, bytes_of}
 use Rattle.mm_text.specs.Texts.{FirstFault, NoFaultWithin, IsGoodEntry}
-use Rattle.byte_io.specs.declared.fault.DeviceFault.{DeviceFault}
-use Rattle.mm_text.specs.Stages.{Holds}
+use Rattle.mm_text.specs.Stages.{LineState, Holds}
 use Rattle.cells.specs.declared.cell.Cell.{Cell}
 use Rattle.mm_text.specs.declared.stages.Stage.{Stage}
 use Rattle.mm_text.specs.declared.limits.TextLimits.{TextLimits}
 use Rattle.mm_text.specs.declared.fault.MmKind.{MmKind}
 use Rattle.mm_text.specs.declared.fault.MmKind.TheVariants.{Read, Memory}
+use Rattle.byte_io.specs.Streams.{Answer}
 
 -- What was read has this first fault; one that shows at the text's end is told only where the source had ended.
 pub record IsTold (text : List ℕ) (limits : TextLimits) (ended : Type 0) (kind : MmKind) (line : ℕ) : Type 0 where
@@ -42,12 +42,12 @@ Explains text limits ended failed Memory line = IsMemoryFault text limits ended 
 Explains text limits ended failed kind line = IsTold text limits ended kind line
 
 -- There was no memory for the reader: nothing was read.
-pub record IsUnread (answers : List (Result (List ℕ) DeviceFault)) (kind : MmKind) (line : ℕ) : Type 0 where
+pub record IsUnread (answers : List Answer) (kind : MmKind) (line : ℕ) : Type 0 where
   pub none : answers ≡ []
   pub kind_is : kind ≡ Memory
   pub line_is : line ≡ 1
 
 -- These bytes show a fault, whatever text within the limit they continue and whatever follows them.
-abbrev pub Shows : TextLimits → List ℕ → List ℕ → Stage → ℕ → MmKind → ℕ → Type 0
-Shows limits bytes carry stage count kind line = (text more : List ℕ) (given : List Cell) → length text + length bytes ≤ limits.max_bytes →
-    Holds limits text carry stage given count → Explains ((text ++ bytes) ++ more) limits ⊥ ⊥ kind line
+abbrev pub Shows : TextLimits → List ℕ → LineState → MmKind → ℕ → Type 0
+Shows limits bytes old kind line = (text more : List ℕ) (given : List Cell) → length text + length bytes ≤ limits.max_bytes →
+    Holds limits text old given → Explains ((text ++ bytes) ++ more) limits ⊥ ⊥ kind line

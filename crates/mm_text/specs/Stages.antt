@@ -10,6 +10,8 @@ use Rattle.cells.specs.declared.cell.Cell.{Cell}
 use Rattle.mm_text.specs.declared.size.Size.{Size}
 use Rattle.mm_text.specs.declared.limits.TextLimits.{TextLimits}
 use Rattle.mm_text.specs.declared.stages.Stage.{Stage}
+use Rattle.mm_text.specs.declared.line_reader.LineReader.{LineReader}
+use Rattle.mm_text.specs.declared.progress.Progress.{Progress}
 use Rattle.mm_text.specs.declared.stages.Stage.TheVariants.{AtBanner, AtSize, AtEntries}
 
 -- one more entry was seen
@@ -101,14 +103,18 @@ declared_size AtBanner = None
 declared_size (AtSize symmetric) = None
 declared_size (AtEntries symmetric s seen) = Some s
 
+-- this stage, behind so many lines
+abbrev pub at : Stage → ℕ → Progress
+at stage lines = record { stage = stage; lines = lines }
+
 -- A line of this description was judged: it adds these cells, whatever lines and cells are kept before it.
-pub record AddsLine (limits : TextLimits) (IsThis : List ℕ → Type 0) (stage : Stage) (lines : ℕ) (block : List Cell) (stage' : Stage) (lines' : ℕ) (block' : List Cell) : Type 0 where
+pub record AddsLine (limits : TextLimits) (IsThis : List ℕ → Type 0) (old : Progress) (block : List Cell) (new : Progress) (block' : List Cell) : Type 0 where
   pub cells : List Cell
   pub block_is : block' ≡ block ++ cells
   pub few : length cells ≤ 2
   pub keeps : (line : List ℕ) (done : List (List ℕ)) (given : List Cell) → IsThis line →
-      Keeps limits done stage given lines → Keeps limits (done ++ line ∷ []) stage' (given ++ cells) lines'
-  pub size_kept : (s : Size) → declared_size stage ≡ Some s → declared_size stage' ≡ Some s
+      Keeps limits done old.stage given old.lines → Keeps limits (done ++ line ∷ []) new.stage (given ++ cells) new.lines
+  pub size_kept : (s : Size) → declared_size old.stage ≡ Some s → declared_size new.stage ≡ Some s
 
 -- These bytes are whole lines and then a rest without LF, and the lines are kept behind the ones before.
 pub record TakesLines (limits : TextLimits) (done : List (List ℕ)) (bytes rest : List ℕ) (stage : Stage) (cells : List Cell) (count : ℕ) : Type 0 where
@@ -117,18 +123,6 @@ pub record TakesLines (limits : TextLimits) (done : List (List ℕ)) (bytes rest
   pub whole : bytes ≡ joined lines ++ rest
   pub partial : IsLine rest
   pub keeps : Keeps limits (done ++ lines) stage cells count
-
--- Among the lines that end in these bytes is one with this fault, behind clean ones.
-pub record StopsIn (limits : TextLimits) (done : List (List ℕ)) (bytes : List ℕ) (kind : MmKind) (number : ℕ) : Type 0 where
-  pub lines : List (List ℕ)
-  pub line : List ℕ
-  pub rest : List ℕ
-  pub all : AllByRecursion IsLine lines
-  pub whole : bytes ≡ joined lines ++ line ++ 10 ∷ rest
-  pub is_line : IsLine line
-  pub clean : Clean limits (done ++ lines)
-  pub fault : LineFault limits (done ++ lines) line kind
-  pub number_is : number ≡ length (done ++ lines) + 1
 
 -- what is missing if the text ends here
 abbrev pub lack_at : Stage → Option MmKind
@@ -144,35 +138,46 @@ cut_kind is_first rest = if (is_first || not (is_comment rest)) && nat_lt 1024 (
 abbrev pub IsCarried : ℕ → List ℕ → List ℕ → Type 0
 IsCarried count rest carry = (carry ≡ rest) ⊎ ((0 < count) × (is_comment rest ≡ true) × (is_comment carry ≡ true))
 
+-- What is kept of the lines of a text so far: which line that counts comes next, how many lines were judged, and what is
+-- carried of the present one.
+pub record LineState : Type 0 where
+  pub carry : List ℕ
+  pub stage : Stage
+  pub count : ℕ
+
+abbrev pub state : List ℕ → Stage → ℕ → LineState
+state carry stage count = record { carry = carry; stage = stage; count = count }
+
+abbrev pub state_of : LineReader → LineState
+state_of reader = state reader.carry.items reader.progress.stage reader.progress.lines
+
 -- What the reader keeps of the bytes that it has judged: they are whole lines, which it keeps, and the present line
 -- so far, which it carries; they are within the limit, and the present line isn't too long yet.
-pub record Holds (limits : TextLimits) (text carry : List ℕ) (stage : Stage) (cells : List Cell) (count : ℕ) : Type 0 where
+pub record Holds (limits : TextLimits) (text : List ℕ) (now : LineState) (cells : List Cell) : Type 0 where
   pub rest : List ℕ
-  pub takes : TakesLines limits [] text rest stage cells count
-  pub carried : IsCarried count rest carry
+  pub takes : TakesLines limits [] text rest now.stage cells now.count
+  pub carried : IsCarried now.count rest now.carry
   pub fits : length text ≤ limits.max_bytes
-  pub short : cut_kind (nat_eq count 0) rest ≡ TooLong
+  pub short : cut_kind (nat_eq now.count 0) rest ≡ TooLong
 
 -- The line ends with these bytes, behind what is carried of it.
 abbrev pub EndsCarried : ℕ → List ℕ → List ℕ → List ℕ → Type 0
 EndsCarried count carry front line = (rest : List ℕ) × IsCarried count rest carry × (line ≡ rest ++ front)
 
 -- These bytes were judged: they add these cells, whatever text within the limit they continue.
-pub record Advances (limits : TextLimits) (bytes carry : List ℕ) (stage : Stage) (count : ℕ) (block : List Cell) (carry' : List ℕ) (stage' : Stage) (count' : ℕ) (block' : List Cell) : Type 0 where
+pub record Advances (limits : TextLimits) (bytes : List ℕ) (old : LineState) (block : List Cell) (new : LineState) (block' : List Cell) : Type 0 where
   pub cells : List Cell
   pub block_is : block' ≡ block ++ cells
   pub holds : (text : List ℕ) (given : List Cell) → length text + length bytes ≤ limits.max_bytes →
-      Holds limits text carry stage given count → Holds limits (text ++ bytes) carry' stage' (given ++ cells) count'
-  pub size_kept : (s : Size) → declared_size stage ≡ Some s → declared_size stage' ≡ Some s
+      Holds limits text old given → Holds limits (text ++ bytes) new (given ++ cells)
+  pub size_kept : (s : Size) → declared_size old.stage ≡ Some s → declared_size new.stage ≡ Some s
 
 -- A front of these bytes was judged before a fault: it added these cells, whatever text within the limit the bytes continue.
-pub record StopsWithin (limits : TextLimits) (bytes carry : List ℕ) (stage : Stage) (count : ℕ) (block block' : List Cell) : Type 0 where
+pub record StopsWithin (limits : TextLimits) (bytes : List ℕ) (old : LineState) (block block' : List Cell) : Type 0 where
   pub front : ℕ
   pub within : front ≤ length bytes
-  pub carry' : List ℕ
-  pub stage' : Stage
-  pub count' : ℕ
-  pub advances : Advances limits (take front bytes) carry stage count block carry' stage' count' block'
+  pub reached : LineState
+  pub advances : Advances limits (take front bytes) old block reached block'
 
 -- The text begins with lines that bear no fault, and these are their cells.
 pub record BeginsWith (limits : TextLimits) (text : List ℕ) (cells : List Cell) : Type 0 where
@@ -184,25 +189,25 @@ pub record BeginsWith (limits : TextLimits) (text : List ℕ) (cells : List Cell
   pub keeps : Keeps limits done stage cells count
 
 -- What is carried was judged as the last line of a text: it adds these cells, whatever text ends with it.
-pub record EndsLast (limits : TextLimits) (carry : List ℕ) (stage : Stage) (count : ℕ) (block : List Cell) (stage' : Stage) (count' : ℕ) (block' : List Cell) : Type 0 where
+pub record EndsLast (limits : TextLimits) (old : LineState) (block : List Cell) (new : Progress) (block' : List Cell) : Type 0 where
   pub cells : List Cell
   pub block_is : block' ≡ block ++ cells
   pub few : length cells ≤ 2
-  pub keeps : (text : List ℕ) (given : List Cell) → Holds limits text carry stage given count → Keeps limits (lines_of text) stage' (given ++ cells) count'
-  pub size_kept : (s : Size) → declared_size stage ≡ Some s → declared_size stage' ≡ Some s
+  pub keeps : (text : List ℕ) (given : List Cell) → Holds limits text old given → Keeps limits (lines_of text) new.stage (given ++ cells) new.lines
+  pub size_kept : (s : Size) → declared_size old.stage ≡ Some s → declared_size new.stage ≡ Some s
 
 -- The text has ended, and nothing is missing: it spells the cells that were given before and these.
-pub record EndsText (limits : TextLimits) (carry : List ℕ) (stage : Stage) (count : ℕ) (block : List Cell) (stage' : Stage) (block' : List Cell) : Type 0 where
+pub record EndsText (limits : TextLimits) (old : LineState) (block : List Cell) (stage : Stage) (block' : List Cell) : Type 0 where
   pub cells : List Cell
   pub block_is : block' ≡ block ++ cells
   pub few : length cells ≤ 2
   pub size : Size
-  pub size_is : declared_size stage' ≡ Some size
-  pub spells : (text : List ℕ) (given : List Cell) → Holds limits text carry stage given count → Spells text limits size.rows size.cols (given ++ cells)
-  pub size_kept : (s : Size) → declared_size stage ≡ Some s → declared_size stage' ≡ Some s
+  pub size_is : declared_size stage ≡ Some size
+  pub spells : (text : List ℕ) (given : List Cell) → Holds limits text old given → Spells text limits size.rows size.cols (given ++ cells)
+  pub size_kept : (s : Size) → declared_size old.stage ≡ Some s → declared_size stage ≡ Some s
 
 -- The text ends with a fault: before it these cells were added, whatever text ends with what is carried.
-pub record EndsWithin (limits : TextLimits) (carry : List ℕ) (stage : Stage) (count : ℕ) (block block' : List Cell) : Type 0 where
+pub record EndsWithin (limits : TextLimits) (old : LineState) (block block' : List Cell) : Type 0 where
   pub cells : List Cell
   pub block_is : block' ≡ block ++ cells
-  pub begins : (text : List ℕ) (given : List Cell) → Holds limits text carry stage given count → BeginsWith limits text (given ++ cells)
+  pub begins : (text : List ℕ) (given : List Cell) → Holds limits text old given → BeginsWith limits text (given ++ cells)

@@ -121,12 +121,7 @@ pub record FirstFaultAt (text : List ℕ) (limits : TextLimits) (place : ℕ) (k
 -- The first fault of the text, at some place.
 pub record FirstFault (text : List ℕ) (limits : TextLimits) (kind : MmKind) (line : ℕ) : Type 0 where
   pub place : ℕ
-  pub turn : Turn
-  pub stands : FaultAt turn text limits place kind line
-  pub least : (t : Turn) (p : ℕ) (k : MmKind) (n : ℕ) → FaultAt t text limits p k n → moment place turn ≤ moment p t
-
-abbrev pub somewhere : (text : List ℕ) (limits : TextLimits) (place : ℕ) (kind : MmKind) (line : ℕ) → FirstFaultAt text limits place kind line → FirstFault text limits kind line
-somewhere text limits place kind line f = record { place = place; turn = f.turn; stands = f.stands; least = f.least }
+  pub first : FirstFaultAt text limits place kind line
 
 -- The bytes bear no fault, except for those that show at the text's end.
 pub record NoFaultWithin (text : List ℕ) (limits : TextLimits) : Type 0 where

@@ -10,12 +10,10 @@ ghost use Rattle.mm_text.specs.Faults.{Shows};
 ghost use Rattle.cells.specs.declared.cell.Cell.{Cell};
 
 use crate::fault::{MmFault, MmKind};
-use crate::limits::TextLimits;
-use crate::reading::{MAX_LINE, Reading, content_of, is_comment_line};
+use crate::limits::{CARRY, MAX_LINE, TextLimits};
+use crate::line_reader::LineReader;
+use crate::progress::{content_of, is_comment_line};
 use cells::Cell;
-
-/// The most bytes that are carried: a line of full length, and a CR that may end it.
-pub const CARRY: usize = 1025;
 
 /// Whether the line that begins with these bytes is a comment, if it isn't the first.
 fn is_comment_front(carry: &[u8], bytes: &[u8]) -> bool
@@ -25,13 +23,6 @@ fn is_comment_front(carry: &[u8], bytes: &[u8]) -> bool
         return is_comment_line(bytes);
     }
     is_comment_line(carry)
-}
-
-/// Whether the present line, of which this much is there, is a comment.
-fn is_comment_here(reading: &Reading, carry: &[u8], bytes: &[u8]) -> bool
-    ensures { result ≡ (not (reading.now.lines == 0) && is_comment (carry.now ++ bytes.now)) }
-{
-    reading.lines != 0 && is_comment_front(carry, bytes)
 }
 
 /// Carries no more than the mark of a comment.
@@ -58,92 +49,98 @@ fn carry_bytes(carry: &mut Vec<u8>, bytes: &[u8]) -> bool
     carry.extend_from_slice(bytes).is_ok()
 }
 
-/// Takes bytes of the present line, none of which ends it.
-pub fn carry_on(reading: &Reading, carry: &mut Vec<u8>, bytes: &[u8]) -> Result<(), MmFault>
-    requires lines { reading.now.lines + 1 < 2 ^ 64 }
-    requires capacity { CARRY ≤ vec_capacity carry.old }
-    ensures capacity { CARRY ≤ vec_capacity carry.new }
-    ensures ok { OnOk result ((rest : List ℕ) → IsCarried reading.now.lines rest carry.old.items →
-        IsCarried reading.now.lines (rest ++ bytes.now) carry.new.items × (cut_kind (reading.now.lines == 0) (rest ++ bytes.now) ≡ MmKind.TooLong)) }
-    ensures kind { IfErr result (λ f. f.kind ≡ MmKind.LineTooLong) }
-    ensures line { IfErr result (λ f. f.line ≡ reading.now.lines + 1) }
-    ensures err { IfErr result (λ f. (rest : List ℕ) → IsCarried reading.now.lines rest carry.old.items →
-        cut_kind (reading.now.lines == 0) (rest ++ bytes.now) ≡ MmKind.LineTooLong) }
-{
-    if is_comment_here(reading, carry.as_slice(), bytes) {
-        carry_mark(carry);
-        return Ok(());
+impl LineReader {
+    /// Whether the present line, of which this much is there, is a comment.
+    fn is_comment_here(&self, bytes: &[u8]) -> bool
+        ensures { result ≡ (not (self.now.progress.lines == 0) && is_comment (self.now.carry.items ++ bytes.now)) }
+    {
+        self.progress.lines != 0 && is_comment_front(self.carry.as_slice(), bytes)
     }
-    if !carry_bytes(carry, bytes) {
-        return Err(reading.fault_here(MmKind::LineTooLong));
-    }
-    if content_of(carry.as_slice()).len() > MAX_LINE {
-        return Err(reading.fault_here(MmKind::LineTooLong));
-    }
-    Ok(())
-}
 
-/// Judges the line that is carried, of which these bytes are the end.
-pub fn end_carried(
-    reading: &mut Reading,
-    carry: &mut Vec<u8>,
-    limits: TextLimits,
-    bytes: &[u8],
-    block: &mut Vec<Cell>,
-) -> Result<(), MmFault>
-    requires lines { reading.old.lines + 1 < 2 ^ 64 }
-    requires capacity { CARRY ≤ vec_capacity carry.old }
-    ensures capacity { CARRY ≤ vec_capacity carry.new }
-    ensures carry { OnOk result (carry.new.items ≡ []) }
-    ensures count { OnOk result (reading.new.lines ≡ reading.old.lines + 1) }
-    ensures bound { reading.new.lines ≤ reading.old.lines + 1 }
-    ensures ok { OnOk result (AddsLine limits (EndsCarried reading.old.lines carry.old.items bytes.now)
-        reading.old.stage reading.old.lines block.old.items reading.new.stage reading.new.lines block.new.items) }
-    ensures line { IfErr result (λ f. f.line ≡ reading.old.lines + 1) }
-    ensures err { IfErr result (λ f. (rest : List ℕ) (done : List (List ℕ)) (given : List Cell) → IsCarried reading.old.lines rest carry.old.items →
-        Keeps limits done reading.old.stage given reading.old.lines → LineFault limits done (rest ++ bytes.now) f.kind) }
-    ensures kept { OnErr result (block.new.items ≡ block.old.items) }
-    ensures lacks { IfErr result (λ f. f.kind ≡ MmKind.Memory → vec_capacity block.old < length block.old.items + 2) }
-    ensures grows { vec_capacity block.old ≤ vec_capacity block.new }
-{
-    if is_comment_here(reading, carry.as_slice(), bytes) {
-        reading.skip_line();
-        carry.clear();
-        return Ok(());
+    /// Takes bytes of the present line, none of which ends it.
+    pub fn carry_on(&mut self, bytes: &[u8]) -> Result<(), MmFault>
+        requires lines { self.old.progress.lines + 1 < 2 ^ 64 }
+        ensures progress { self.new.progress ≡ self.old.progress }
+        ensures ok { OnOk result ((rest : List ℕ) → IsCarried self.old.progress.lines rest self.old.carry.items →
+            IsCarried self.old.progress.lines (rest ++ bytes.now) self.new.carry.items
+            × (cut_kind (self.old.progress.lines == 0) (rest ++ bytes.now) ≡ MmKind.TooLong)) }
+        ensures kind { IfErr result (λ f. f.kind ≡ MmKind.LineTooLong) }
+        ensures line { IfErr result (λ f. f.line ≡ self.old.progress.lines + 1) }
+        ensures err { IfErr result (λ f. (rest : List ℕ) → IsCarried self.old.progress.lines rest self.old.carry.items →
+            cut_kind (self.old.progress.lines == 0) (rest ++ bytes.now) ≡ MmKind.LineTooLong) }
+    {
+        if self.is_comment_here(bytes) {
+            carry_mark(&mut self.carry);
+            return Ok(());
+        }
+        if !carry_bytes(&mut self.carry, bytes) {
+            return Err(self.progress.fault_here(MmKind::LineTooLong));
+        }
+        if content_of(self.carry.as_slice()).len() > MAX_LINE {
+            return Err(self.progress.fault_here(MmKind::LineTooLong));
+        }
+        Ok(())
     }
-    if !carry_bytes(carry, bytes) {
-        return Err(reading.fault_here(MmKind::LineTooLong));
-    }
-    reading.end_line(limits, carry.as_slice(), block)?;
-    carry.clear();
-    Ok(())
-}
 
-/// Judges the line that ends with these bytes. Where nothing is carried, it is judged in its place.
-pub fn end_in_place(
-    reading: &mut Reading,
-    carry: &mut Vec<u8>,
-    limits: TextLimits,
-    bytes: &[u8],
-    block: &mut Vec<Cell>,
-) -> Result<(), MmFault>
-    requires lines { reading.old.lines + 1 < 2 ^ 64 }
-    requires capacity { CARRY ≤ vec_capacity carry.old }
-    ensures capacity { CARRY ≤ vec_capacity carry.new }
-    ensures carry { OnOk result (carry.new.items ≡ []) }
-    ensures count { OnOk result (reading.new.lines ≡ reading.old.lines + 1) }
-    ensures bound { reading.new.lines ≤ reading.old.lines + 1 }
-    ensures ok { OnOk result (AddsLine limits (EndsCarried reading.old.lines carry.old.items bytes.now)
-        reading.old.stage reading.old.lines block.old.items reading.new.stage reading.new.lines block.new.items) }
-    ensures line { IfErr result (λ f. f.line ≡ reading.old.lines + 1) }
-    ensures err { IfErr result (λ f. (rest : List ℕ) (done : List (List ℕ)) (given : List Cell) → IsCarried reading.old.lines rest carry.old.items →
-        Keeps limits done reading.old.stage given reading.old.lines → LineFault limits done (rest ++ bytes.now) f.kind) }
-    ensures kept { OnErr result (block.new.items ≡ block.old.items) }
-    ensures lacks { IfErr result (λ f. f.kind ≡ MmKind.Memory → vec_capacity block.old < length block.old.items + 2) }
-    ensures grows { vec_capacity block.old ≤ vec_capacity block.new }
-{
-    if carry.is_empty() {
-        return reading.end_line(limits, bytes, block);
+    /// Judges the line that is carried, of which these bytes are the end.
+    pub fn end_carried(
+        &mut self,
+        limits: TextLimits,
+        bytes: &[u8],
+        block: &mut Vec<Cell>,
+    ) -> Result<(), MmFault>
+        requires lines { self.old.progress.lines + 1 < 2 ^ 64 }
+        ensures carry { OnOk result (self.new.carry.items ≡ []) }
+        ensures count { OnOk result (self.new.progress.lines ≡ self.old.progress.lines + 1) }
+        ensures bound { self.new.progress.lines ≤ self.old.progress.lines + 1 }
+        ensures ok { OnOk result (AddsLine limits (EndsCarried self.old.progress.lines self.old.carry.items bytes.now)
+            self.old.progress block.old.items self.new.progress block.new.items) }
+        ensures line { IfErr result (λ f. f.line ≡ self.old.progress.lines + 1) }
+        ensures err { IfErr result (λ f. (rest : List ℕ) (done : List (List ℕ)) (given : List Cell) →
+            IsCarried self.old.progress.lines rest self.old.carry.items →
+            Keeps limits done self.old.progress.stage given self.old.progress.lines → LineFault limits done (rest ++ bytes.now) f.kind) }
+        ensures kept { OnErr result (block.new.items ≡ block.old.items) }
+        ensures lacks { IfErr result (λ f. f.kind ≡ MmKind.Memory → vec_capacity block.old < length block.old.items + 2) }
+        ensures grows { vec_capacity block.old ≤ vec_capacity block.new }
+    {
+        if self.is_comment_here(bytes) {
+            self.progress.skip_line();
+            self.carry.clear();
+            return Ok(());
+        }
+        if !carry_bytes(&mut self.carry, bytes) {
+            return Err(self.progress.fault_here(MmKind::LineTooLong));
+        }
+        self.progress
+            .end_line(limits, self.carry.as_slice(), block)?;
+        self.carry.clear();
+        Ok(())
     }
-    end_carried(reading, carry, limits, bytes, block)
+
+    /// Judges the line that ends with these bytes. Where nothing is carried, it is judged in its place.
+    pub fn end_in_place(
+        &mut self,
+        limits: TextLimits,
+        bytes: &[u8],
+        block: &mut Vec<Cell>,
+    ) -> Result<(), MmFault>
+        requires lines { self.old.progress.lines + 1 < 2 ^ 64 }
+        ensures carry { OnOk result (self.new.carry.items ≡ []) }
+        ensures count { OnOk result (self.new.progress.lines ≡ self.old.progress.lines + 1) }
+        ensures bound { self.new.progress.lines ≤ self.old.progress.lines + 1 }
+        ensures ok { OnOk result (AddsLine limits (EndsCarried self.old.progress.lines self.old.carry.items bytes.now)
+            self.old.progress block.old.items self.new.progress block.new.items) }
+        ensures line { IfErr result (λ f. f.line ≡ self.old.progress.lines + 1) }
+        ensures err { IfErr result (λ f. (rest : List ℕ) (done : List (List ℕ)) (given : List Cell) →
+            IsCarried self.old.progress.lines rest self.old.carry.items →
+            Keeps limits done self.old.progress.stage given self.old.progress.lines → LineFault limits done (rest ++ bytes.now) f.kind) }
+        ensures kept { OnErr result (block.new.items ≡ block.old.items) }
+        ensures lacks { IfErr result (λ f. f.kind ≡ MmKind.Memory → vec_capacity block.old < length block.old.items + 2) }
+        ensures grows { vec_capacity block.old ≤ vec_capacity block.new }
+    {
+        if self.carry.is_empty() {
+            return self.progress.end_line(limits, bytes, block);
+        }
+        self.end_carried(limits, bytes, block)
+    }
 }

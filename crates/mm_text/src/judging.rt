@@ -6,11 +6,10 @@ ghost use Rattle.mm_text.specs.Words.{words, word, has_word};
 ghost use Rattle.mm_text.specs.Judging.{mark, object, format, field, symmetry, banner, size, index, entry, is_dimension};
 
 use crate::fault::MmKind;
+use crate::limits::MAX_DIMENSION;
 use crate::size::Size;
 use crate::words::{five_words, is_blank_byte, is_negative_number, three_words, word_number};
 use cells::Cell;
-
-const MAX_DIMENSION: u64 = 1 << 60;
 
 fn is_word(word: &[u8], keyword: &[u8]) -> bool
     ensures { result ≡ str_eq_ignore_ascii_case word.now keyword.now }

@@ -1,4 +1,4 @@
-//! The limits of a text.
+//! Every limit of texts and of their reading and writing, with its unit.
 
 /// What a text may take.
 #[derive(Clone, Copy, Debug, PartialEq, Eq)]
@@ -8,3 +8,30 @@ pub struct TextLimits {
     /// The most entry lines that a size line may declare.
     pub max_entries: u64,
 }
+
+/// The most bytes that `max_bytes` may be, so that lines can be counted in 64 bits.
+pub const MOST_BYTES: u64 = 1 << 63;
+
+/// The most rows, and the most columns.
+pub const MAX_DIMENSION: u64 = 1 << 60;
+
+/// The most bytes that a line may have before its LF or CR LF, comments excepted.
+pub const MAX_LINE: usize = 1024;
+
+/// The most bytes that are carried of a line: one of full length, and a CR that may end it.
+pub const CARRY: usize = 1025;
+
+/// How many bytes are asked of a source at once.
+pub const PIECE: usize = 65_536;
+
+/// The most digits of a number that is read with no test for 64 bits: the largest has 20.
+pub const MAX_DIGITS: usize = 19;
+
+/// How many digits are read at once.
+pub const WORD_DIGITS: usize = 8;
+
+/// The bytes of a writer's buffer. More would take room on the stack and save few calls.
+pub const CAPACITY: usize = 16_384;
+
+/// The bytes of the longest line that is written: three numbers of at most 20 digits, two spaces and LF.
+pub const LONGEST_LINE: usize = 63;

@@ -11,23 +11,18 @@ ghost use Rattle.std.specs.Prelude.{◌≡◌, ℕ, ◌+◌, ◌*◌, ◌<◌, �
 ghost use Rattle.std.specs.Int.{w64, to_le_bytes};
 ghost use Rattle.std.specs.Int.Digits.{AllBelowBase, number_from_digits};
 ghost use Rattle.mm_text.specs.Plain.{GoesOnWithDigits, BeginsWithEight, BeginsWithDigits, BeginsWithIndex, BeginsWithCount, BeginsWithEntry};
-ghost use Rattle.mm_text.specs.Stages.{Advances, StopsWithin};
+ghost use Rattle.mm_text.specs.Stages.{state, Advances, StopsWithin};
 ghost use Rattle.mm_text.specs.Faults.{Shows};
 ghost use Rattle.mm_text.specs.declared.limits.TextLimits.{TextLimits};
 
 use crate::fault::{MmFault, MmKind};
-use crate::reading::Reading;
+use crate::limits::{MAX_DIGITS, WORD_DIGITS};
+use crate::progress::Progress;
 use crate::size::Size;
 use crate::stages::{Stage, push_cells};
 use crate::words::is_blank_byte;
 use cells::Cell;
 use std::cmp;
-
-/// So many digits write a number of 64 bits, whatever they are.
-const MAX_DIGITS: usize = 19;
-
-/// So many digits are read at once, one a byte of a word.
-const WORD_DIGITS: usize = 8;
 
 /// The number that eight digits write, of which each byte of the word holds one, the first the lowest.
 ///
@@ -98,7 +93,7 @@ fn plain_number(bytes: &[u8]) -> (u64, &[u8])
 
 /// The index that digits before a blank write, counted from 0, and what follows the blank.
 ///
-/// Inlined, since a call for each of a line's two indices takes a fifth of the time of reading it.
+/// Inlined, since a call for each of a line's two indices takes a fifth of the time of progress it.
 #[inline(always)]
 fn plain_index(limit: u64, bytes: &[u8]) -> Option<(u64, &[u8])>
     ensures { IfSome result (λ p. BeginsWithIndex limit bytes.now p.0 p.1.now) }
@@ -148,22 +143,24 @@ fn plain_entry(rows: u64, cols: u64, bytes: &[u8]) -> Option<(Cell, usize)>
 /// Takes the plain lines with which the bytes begin, as long as entries are due and the block has room for two cells,
 /// and gives how many bytes they took.
 pub fn take_entries(
-    reading: &mut Reading,
+    progress: &mut Progress,
     bytes: &[u8],
     block: &mut Vec<Cell>,
     most: usize,
 ) -> Result<usize, MmFault>
-    requires lines { reading.old.lines + length bytes.now + 1 < 2 ^ 64 }
+    requires lines { progress.old.lines + length bytes.now + 1 < 2 ^ 64 }
     requires room { length block.old.items ≤ most }
     ensures within { IfOk result (λ n. n ≤ length bytes.now) }
-    ensures count { IfOk result (λ n. reading.new.lines ≤ reading.old.lines + n) }
-    ensures bound { reading.new.lines ≤ reading.old.lines + length bytes.now }
+    ensures count { IfOk result (λ n. progress.new.lines ≤ progress.old.lines + n) }
+    ensures bound { progress.new.lines ≤ progress.old.lines + length bytes.now }
     ensures room { OnOk result (length block.new.items ≤ most) }
     ensures few { IfOk result (λ n. length block.new.items ≤ length block.old.items + 2 * n) }
-    ensures ok { IfOk result (λ n. (limits : TextLimits) → Advances limits (take n bytes.now) [] reading.old.stage reading.old.lines block.old.items
-        [] reading.new.stage reading.new.lines block.new.items) }
-    ensures err { IfErr result (λ f. (limits : TextLimits) → Shows limits bytes.now [] reading.old.stage reading.old.lines f.kind f.line) }
-    ensures kept { OnErr result ((limits : TextLimits) → StopsWithin limits bytes.now [] reading.old.stage reading.old.lines block.old.items block.new.items) }
+    ensures ok { IfOk result (λ n. (limits : TextLimits) → Advances limits (take n bytes.now)
+        (state [] progress.old.stage progress.old.lines) block.old.items
+        (state [] progress.new.stage progress.new.lines) block.new.items) }
+    ensures err { IfErr result (λ f. (limits : TextLimits) → Shows limits bytes.now (state [] progress.old.stage progress.old.lines) f.kind f.line) }
+    ensures kept { OnErr result ((limits : TextLimits) →
+        StopsWithin limits bytes.now (state [] progress.old.stage progress.old.lines) block.old.items block.new.items) }
     ensures lacks { IfErr result (λ f. f.kind ≡ MmKind.Memory → vec_capacity block.old < most) }
     ensures grows { vec_capacity block.old ≤ vec_capacity block.new }
 {
@@ -171,11 +168,11 @@ pub fn take_entries(
         symmetric,
         size,
         mut seen,
-    } = reading.stage
+    } = progress.stage
     else {
         return Ok(0);
     };
-    let mut lines = reading.lines;
+    let mut lines = progress.lines;
     let mut start = 0;
     'entries: while seen < size.entries && most - block.len() > 1 {
         let Some((cell, len)) = plain_entry(size.rows, size.cols, &bytes[start..]) else {
@@ -191,11 +188,11 @@ pub fn take_entries(
         seen += 1;
         lines += 1;
     }
-    reading.stage = Stage::AtEntries {
+    progress.stage = Stage::AtEntries {
         symmetric,
         size,
         seen,
     };
-    reading.lines = lines;
+    progress.lines = lines;
     Ok(start)
 }

@@ -11,24 +11,19 @@ ghost use Rattle.mm_text.specs.Canonical.{numbers_line, canonical_head, entry_li
 ghost use Rattle.byte_io.specs.Writing.{HasTaken, HasStopped};
 ghost use Rattle.mm_text.specs.Writing.{HasWritten};
 
+use crate::limits::{CAPACITY, LONGEST_LINE};
 use arrayvec::ArrayString;
 use byte_io::{Sink, WriteFault, write_all};
 use cells::Cell;
 use std::marker::Model;
 
-/// The bytes of the buffer. More would take room on the stack and save few calls.
-const CAPACITY: usize = 16_384;
-
-/// The longest line: three numbers of at most 20 digits, two spaces and LF.
-const LINE: usize = 63;
-
 const BANNER: &str = "%%MatrixMarket matrix coordinate integer general\n";
 
 /// Appends a line of three numbers.
 fn push_line(buffer: &mut ArrayString<CAPACITY>, first: u64, second: u64, third: u64)
-    requires { array_string_len buffer.old + 63 ≤ 16384 }
+    requires { array_string_len buffer.old + LONGEST_LINE ≤ CAPACITY }
     ensures bytes { buffer.new.bytes ≡ buffer.old.bytes ++ numbers_line first second third }
-    ensures short { array_string_len buffer.new ≤ array_string_len buffer.old + 63 }
+    ensures short { array_string_len buffer.new ≤ array_string_len buffer.old + LONGEST_LINE }
 {
     let mut digits = itoa::Buffer::new();
     buffer.push_str(digits.format(first));
@@ -120,7 +115,7 @@ impl TextWriter {
     fn push_cell(&mut self, cell: Cell)
         requires within { IsWithin self.old.rows self.old.cols cell }
         requires declared { 0 < self.old.left }
-        requires room { length self.old.pending + 63 ≤ 16384 }
+        requires room { length self.old.pending + LONGEST_LINE ≤ CAPACITY }
         ensures dims { (self.new.rows ≡ self.old.rows) × (self.new.cols ≡ self.old.cols) }
         ensures taken { self.new.taken ≡ self.old.taken }
         ensures pending { self.new.pending ≡ self.old.pending ++ entry_line cell }
@@ -135,7 +130,7 @@ impl TextWriter {
         requires { W.failure_count w.old + 1 < 2 ^ 64 }
         ensures dims { OnOk result ((self.new.rows ≡ self.old.rows) × (self.new.cols ≡ self.old.cols)) }
         ensures left { OnOk result (self.new.left ≡ self.old.left) }
-        ensures room { OnOk result (length self.new.pending + 63 ≤ 16384) }
+        ensures room { OnOk result (length self.new.pending + LONGEST_LINE ≤ CAPACITY) }
         ensures ok { OnOk result ((s : W) (text : List ℕ) →
             HasWritten W.write_takes W.failure_count s w.old text self.old →
             HasWritten W.write_takes W.failure_count s w.new text self.new) }
@@ -144,7 +139,7 @@ impl TextWriter {
             HasStopped W.write_takes W.failure_count s w.new text f.written) }
         ensures failures { OnOk result (W.failure_count w.new ≡ W.failure_count w.old) }
     {
-        if self.buffer.remaining_capacity() < LINE {
+        if self.buffer.remaining_capacity() < LONGEST_LINE {
             return self.flush(w);
         }
         Ok(())

@@ -6,9 +6,10 @@ use Rattle.mm_text.specs.Faults.{Shows}
 use Rattle.mm_text.specs.declared.fault.MmKind.TheVariants.{Memory}
 use Rattle.mm_text.specs.declared.stages.Stage.TheVariants.{AtEntries}
 use Rattle.mm_text.specs.Judging.{cells_of}
-use Rattle.mm_text.proofs.AdvanceLemmas.{advances_none, advances_append, shows_later}
-use Rattle.mm_text.proofs.TakenLemmas.{advances_entry, shows_memory, few_cells, line_behind, line_within}
+use Rattle.mm_text.proofs.PiecesLemmas.{advances_none, advances_append, shows_later}
+use Rattle.mm_text.proofs.PlainLemmas.{advances_entry, shows_memory, few_cells, line_behind, line_within}
 use Rattle.mm_text.proofs.plain.take_entries.Goals as goal
+use Rattle.mm_text.specs.Stages.{state}
 
 used : {P : Type 0} (r : Result (Unit {0}) AllocError) → false ≡ is_err r → OnOk r P → P
 used (Ok x) e h = h
@@ -41,7 +42,7 @@ entries-init c = record {
 pub returns-then-is_err-clause-err : goal.returns-then-is_err-clause-err
 returns-then-is_err-clause-err c = λ limits.
     let b = rw (take_rest c.args.bytes.now c.entries.start) at c.in-Some.ensures in
-    subst (λ bytes. Shows limits bytes [] c.args.reading.now.stage c.args.reading.now.lines Memory (c.entries.lines + 1)) (take-append-drop c.entries.start c.args.bytes.now)
+    subst (λ bytes. Shows limits bytes (state [] c.args.progress.now.stage c.args.progress.now.lines) Memory (c.entries.lines + 1)) (take-append-drop c.entries.start c.args.bytes.now)
     (shows_later limits (take c.entries.start c.args.bytes.now) (drop c.entries.start c.args.bytes.now) [] [] _ _ _ _ _ _ Memory (c.entries.lines + 1) (c.entries.invariant.advances limits)
     (shows_memory limits c.in-AtEntries.symmetric c.in-AtEntries.size c.entries.seen c.entries.lines b.line c.in-Some.cell b.is_entry c.entries-test.true (drop c.entries.start c.args.bytes.now) b.rest (c.entries.lines + 1) b.whole refl))
 
@@ -53,9 +54,7 @@ pub returns-then-is_err-clause-kept : goal.returns-then-is_err-clause-kept
 returns-then-is_err-clause-kept c = λ limits. record {
   front = c.entries.start;
   within = c.entries.invariant.within;
-  carry' = [];
-  stage' = AtEntries c.in-AtEntries.symmetric c.in-AtEntries.size c.entries.seen;
-  count' = c.entries.lines;
+  reached = state [] (AtEntries c.in-AtEntries.symmetric c.in-AtEntries.size c.entries.seen) c.entries.lines;
   advances = rw (failed c.push_cells.result c.if-is_err.ensures.value c.push_cells.ensures.err) (c.entries.invariant.advances limits);
 }
 
