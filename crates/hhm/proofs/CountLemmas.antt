@@ -14,7 +14,7 @@ use Rattle.mm_text.specs.declared.text_reader.TextReader.{TextReader}
 use Rattle.mm_text.specs.declared.stages.Stage.{Stage}
 use Rattle.mm_text.specs.declared.stages.Stage.TheVariants.{AtBanner, AtSize, AtEntries}
 use Rattle.mm_text.proofs.Cuts.{length-joined}
-use Rattle.mm_text.proofs.TakenLemmas.{few_cells}
+use Rattle.mm_text.proofs.PlainLemmas.{few_cells}
 use Rattle.hhm.specs.Sum.{sum_limits}
 
 filter_few : {X : Type 0} (p : X → Bool) (xs : List X) → length (filter p xs) ≤ length xs

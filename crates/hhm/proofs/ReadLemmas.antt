@@ -9,14 +9,14 @@ use Rattle.cells.specs.Bounds.{IsWithin, AreWithin}
 use Rattle.cells.specs.declared.cell.Cell.{Cell}
 use Rattle.mm_text.specs.Faults.{Explains}
 use Rattle.mm_text.specs.Readings.{size_of, pending, HasRead, SpelledBy, GoesOn, Ends, ReadsBlock, Stops, SizedCells, AreSized}
-use Rattle.mm_text.specs.Stages.{declared_size}
+use Rattle.mm_text.specs.Stages.{state, state_of, declared_size}
 use Rattle.mm_text.specs.Texts.{Spells}
 use Rattle.mm_text.specs.declared.fault.MmFault.{MmFault}
 use Rattle.mm_text.specs.declared.fault.MmKind.TheVariants as kind
 use Rattle.mm_text.specs.declared.text_reader.TextReader.{TextReader}
 use Rattle.mm_text.specs.declared.size.Size.{Size}
 use Rattle.mm_text.specs.declared.stages.Stage.TheVariants.{AtBanner}
-use Rattle.mm_text.proofs.AdvanceLemmas.{held_none, holds_none}
+use Rattle.mm_text.proofs.PiecesLemmas.{held_none, holds_none}
 use Rattle.mm_text.proofs.BoundLemmas.{stage_sized, spells_bounds}
 use Rattle.mm_text.proofs.Clean.{none_within_lines}
 use Rattle.mm_text.proofs.Faultless.{spells_clean}
@@ -75,7 +75,7 @@ module _ {S : Type 0} (gives : S → Result (List ℕ) DeviceFault → S → Typ
     near = omega arith;
     none_within = held_none sum_limits [] [] AtBanner [] 0 (holds_none sum_limits);
     cells = [];
-    cells_are = inl ([], AtBanner, 0, holds_none sum_limits);
+    cells_are = inl (state [] AtBanner 0, holds_none sum_limits);
     fits = omega arith;
   }
 
@@ -109,7 +109,7 @@ module _ {S : Type 0} (gives : S → Result (List ℕ) DeviceFault → S → Typ
         near = omega (arith, pending_short reader, beyond_short reader.room read.beyond read.none_beyond read.one_beyond, length-append (pending reader) read.beyond);
         none_within = held_none sum_limits read.judged _ _ cells _ read.holds;
         cells = cells;
-        cells_are = inl (_, _, _, read.holds);
+        cells_are = inl (state_of reader.lines, read.holds);
         fits = fits;
       }
 

@@ -4,9 +4,8 @@ use Rattle.std.specs.FinMap.{entries}
 use Rattle.mm_text.specs.Canonical.{canonical}
 use Rattle.byte_io.specs.Streams.{Calls, bytes_of_calls}
 use Rattle.mm_text.specs.Faults.{Explains}
-use Rattle.mm_text.specs.Stages.{Holds}
+use Rattle.mm_text.specs.Stages.{LineState, Holds}
 use Rattle.mm_text.specs.Texts.{Spells, NoFaultWithin}
-use Rattle.mm_text.specs.declared.stages.Stage.{Stage}
 use Rattle.cells.specs.declared.cell.Cell.{Cell}
 use Rattle.byte_io.specs.declared.fault.DeviceFault.{DeviceFault}
 use Rattle.mm_text.specs.declared.fault.MmKind.{MmKind}
@@ -38,7 +37,7 @@ sum_text rows cols cells = matrix_text (matrix rows cols (built_of cells))
 -- These cells are those of the text's whole lines, which bear no fault, or of all of its lines where it spells a list.
 abbrev pub AreItsCells : List ℕ → List Cell → Type 0
 AreItsCells text cells =
-    ((carry : List ℕ) × (stage : Stage) × (lines : ℕ) × Holds sum_limits text carry stage cells lines)
+    ((now : LineState) × Holds sum_limits text now cells)
     ⊎ ((rows : ℕ) × (cols : ℕ) × Spells text sum_limits rows cols cells)
 
 -- A source's calls, with the answers that they may give, whether it has ended, and how many of them have failed.
