@@ -12,3 +12,4 @@ pub mod QueryLaws
 pub mod CellIterLaws
 pub mod RefusalLaws
 pub mod SplitRunLaws
+pub mod PartLaws

@@ -12,6 +12,7 @@ mod dup;
 mod ewise_add;
 mod extract;
 mod iter;
+mod part;
 mod reduce;
 
 use crate::block::Block;

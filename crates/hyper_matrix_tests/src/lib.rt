@@ -11,6 +11,8 @@ mod look_ups;
 #[cfg(test)]
 mod matrices;
 #[cfg(test)]
+mod parts;
+#[cfg(test)]
 mod plain_sums;
 #[cfg(test)]
 mod refused_growth;

@@ -3,8 +3,8 @@
 ghost use Rattle.std.specs.Prelude.{◌<◌};
 
 use crate::matrices::{SIDE, built, cell, has};
-use hyper_matrix::{Entry, Hyper, RowSum};
 use cells::Cell;
+use hyper_matrix::{Entry, Hyper, RowSum};
 use std::alloc::{AllocError, Global};
 use std::test::Fail;
 

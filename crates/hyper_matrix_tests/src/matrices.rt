@@ -1,8 +1,8 @@
 //! Matrices for tests, and what each must answer.
 ghost use Rattle.cells.specs.Bounds.{IsDimension};
 
-use hyper_matrix::{Entry, Hyper};
 use cells::Cell;
+use hyper_matrix::{Entry, Hyper};
 use std::alloc::{AllocError, Global};
 
 /// The rows, and the columns, of the matrices that are more than a table's.

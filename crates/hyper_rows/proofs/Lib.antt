@@ -9,3 +9,4 @@ pub mod RowEndLaws
 pub mod SearchLaws
 pub mod ListLaws
 pub mod RunCellLaws
+pub mod PartLaws

@@ -4,3 +4,4 @@ pub mod Rows
 pub mod Places
 pub mod Cells
 pub mod Search
+pub mod Parts

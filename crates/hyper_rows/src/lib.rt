@@ -4,6 +4,7 @@
 
 mod build;
 mod merge;
+mod part;
 mod rows;
 mod run_cells;
 mod search;

@@ -148,7 +148,7 @@ fn first_place(heads: &[(u64, usize)], entries: &[(u64, u64)]) -> (u64, u64)
 }
 
 // Appends the cells of a row.
-fn push_row(out: &mut Vec<Cell>, row: u64, entries: &[(u64, u64)]) -> Result<(), AllocError>
+pub fn push_row(out: &mut Vec<Cell>, row: u64, entries: &[(u64, u64)]) -> Result<(), AllocError>
     ensures { OnOk result (map entry_of out.new.items ≡ map entry_of out.old.items ++ at_places row entries.now) }
 {
     out.extend(
