@@ -1,0 +1,7 @@
+pub mod PartLaws
+pub mod SetupLaws
+pub mod VerdictLaws
+pub mod BookLaws
+pub mod ShardLaws
+pub mod FileLaws
+pub mod VerdictMeaning

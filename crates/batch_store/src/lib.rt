@@ -1,0 +1,36 @@
+//! Batches of counted cells, the book of accepted batches, and the shards that hold their parts.
+//!
+//! A client sends a matrix under a number of its own. The book accepts each pair of client and number once, within a
+//! limit on the total of all counts and one on the number of batches, and answers a repeat as it answered the first
+//! time. An accepted batch is parted by rows: shard s of k has the rows whose number leaves s when divided by k, in
+//! layers that cascade, beside a record of the batches that it took in.
+//!
+//! Each step that changes anything has one before it that makes all growth and changes nothing: `Book::reserve` before
+//! `Book::admit`, `Shard::prepare` before `Shard::commit`. The second can't fail and takes no memory, so a caller makes
+//! all that can be refused first, and then accepts the batch everywhere or nowhere.
+#![tactic(auto)]
+
+mod batch;
+mod book;
+mod fault;
+mod laws;
+mod line;
+mod pair;
+mod part;
+mod setup;
+mod shard;
+mod verdict;
+mod view;
+
+pub use batch::Batch;
+pub use book::Book;
+pub use fault::{BatchFault, SetupFault, ShardFault};
+pub use laws::{
+    a_part_is_no_more_than_the_whole, fresh_batches_fit, no_cell_lies_below_shard_zero,
+    one_shard_more, records_grow_by_a_part, shards_have_all, unconcerned_batches_add_nothing,
+    unconcerned_shards_have_nothing, verdicts_are_exact,
+};
+pub use setup::Setup;
+pub use shard::{Prepared, Shard};
+pub use verdict::{Entry, Kept, Verdict};
+pub use view::ShardView;

@@ -1,0 +1,347 @@
+//! A shard: the parts of the accepted batches whose rows are its own, in layers, and the record of those batches.
+//!
+//! Shard s of k has the rows, counted from 0, that leave s when divided by k. A batch is taken in by two steps:
+//! `prepare` makes every growth and changes nothing that can be seen, and `commit` puts what was prepared in place and
+//! can't fail. The record is a map from client and number to the batch, in the order of acceptance, hashed with a seed
+//! drawn for each shard, since clients choose the keys.
+ghost use Rattle.std.specs.Prelude.{◌≡◌, ℕ, ◌+◌, ◌<◌, ◌≤◌, ◌++◌, [], ◌∷◌, ◌↔◌, IfOk, IfErr, IsTrue, None, false, option_map, replicate, length, slice_get};
+ghost use Rattle.std.specs.Arc.{arc_value};
+ghost use Rattle.std.specs.FinMap.{empty, get as get_count, len};
+ghost use Rattle.indexmap.specs.IndexMap.{get, spare};
+ghost use Rattle.hyper_matrix.specs.Counts.{total as total_of};
+ghost use Rattle.hyper_matrix.specs.RowOf.{row_of};
+ghost use Rattle.layer_cascade.specs.Cascade.{content, cascade};
+ghost use Rattle.layer_cascade.specs.Layering.{entries_of_layer};
+ghost use Rattle.batch_store.specs.Parts.{part_of};
+ghost use Rattle.batch_store.specs.Books.{same_key};
+ghost use Rattle.batch_store.specs.Shards.{AreHeld, stands, Refuses, IsReady, shard_total, part_in, amount_in};
+ghost use Rattle.batch_store.specs.Shards.{layering_of, HasDims, matrix_in, Stays};
+
+use crate::batch::Batch;
+use crate::fault::ShardFault;
+use crate::pair::Pair;
+use crate::part::part_total;
+use crate::setup::Setup;
+use crate::view::ShardView;
+use hyper_matrix::{Hyper, RowSum};
+use indexmap::IndexMap;
+use layer_cascade::{Layers, Plan};
+use std::alloc::{AllocError, Global};
+use std::collections::hash_map::RandomState;
+use std::marker::Model;
+use std::random::RandomSource;
+use std::sync::Arc;
+
+/// The parts of one shard, and the record of the batches that they are of.
+///
+/// Contracts see the setup, the shard's number, what each layer holds, the batches of the record in order, and how many
+/// more it takes without memory. At any time the layers add up to the parts of the record's batches, each layer but the
+/// last keeps its cut, no client and number stands twice in the record, and the total is within the setup's limit. The
+/// batches are shared with whoever else has them; beside each the record takes some 40 bytes.
+#[derive(Drop)]
+pub struct Shard {
+    setup: Setup,
+    number: u64,
+    layers: Layers,
+    held: IndexMap<Pair, Arc<Batch>, RandomState>,
+}
+
+impl Model for Shard {
+    ghost use Rattle.indexmap.specs.IndexMap.{spare};
+    ghost use Rattle.batch_store.specs.Shards.{Holding, holding, coded_holding, recorded, KeepsShard};
+
+    ghost Value = { Holding };
+
+    ghost coded = { coded_holding };
+
+    ghost view = { λ a. holding a.setup a.number a.layers.layers (recorded a.held.entries) (spare a.held) };
+
+    ghost invariant = { λ a. KeepsShard a.setup a.number a.layers a.held.entries };
+}
+
+/// A batch with the layers that hold its part, ready to be committed to the shard that it was prepared for.
+///
+/// Contracts see the batch, the total of its part, and the layers. It owns what is new in them, and shares the rest
+/// with the shard. To drop it is to give it up, and changes nothing.
+#[derive(Drop)]
+pub struct Prepared {
+    batch: Arc<Batch>,
+    amount: u64,
+    plan: Plan,
+}
+
+impl Model for Prepared {
+    ghost use Rattle.std.specs.Arc.{arc_value};
+    ghost use Rattle.batch_store.specs.Shards.{Preparation, coded_preparation};
+
+    ghost Value = { Preparation };
+
+    ghost coded = { coded_preparation };
+
+    ghost view = { λ a. record { batch = arc_value a.batch; amount = a.amount; planned = a.plan } };
+}
+
+impl Prepared {
+    /// The total of the part: by so much `Shard::commit` raises the shard's total. Constant time.
+    pub fn amount(&self) -> u64
+        ensures { result ≡ self.now.amount }
+    {
+        self.amount
+    }
+}
+
+// Appends a batch under a new pair, where there is room: it takes no memory.
+fn push_held(held: &mut IndexMap<Pair, Arc<Batch>, RandomState>, pair: Pair, batch: Arc<Batch>)
+    requires absent { get same_key held.old pair ≡ None }
+    requires room { 0 < spare held.old }
+    ensures held { held.new.entries ≡ held.old.entries ++ (pair, batch) ∷ [] }
+{
+    let _ = held.insert(pair, batch);
+}
+
+impl Shard {
+    /// Shard `s`, empty. It takes memory for empty layers, and draws the seed of its record's hasher from the system.
+    ///
+    /// # Errors
+    ///
+    /// A growth was refused, or the system gave no seed.
+    pub fn new(
+        rt: &impl RandomSource,
+        alloc: Global,
+        setup: &Setup,
+        s: u64,
+    ) -> Result<Shard, AllocError>
+        requires { s < setup.now.shards }
+        ensures setup { IfOk result (λ v. v.setup ≡ setup.now) }
+        ensures number { IfOk result (λ v. v.number ≡ s) }
+        ensures record { IfOk result (λ v. v.record_list ≡ []) }
+        ensures layers { IfOk result (λ v. v.layers ≡ replicate (length setup.now.cuts + 1) empty) }
+    {
+        let layers = match Layers::new(alloc, setup.rows(), setup.cols(), setup.cuts()) {
+            Ok(layers) => layers,
+            Err(_) => return Err(AllocError),
+        };
+        // Any call on them tells that they keep their cuts.
+        let _dims = layers.dims();
+        match RandomState::new(rt) {
+            Ok(hasher) => Ok(Shard {
+                setup: *setup,
+                number: s,
+                layers,
+                held: IndexMap::with_hasher(alloc, hasher),
+            }),
+            Err(_) => Err(AllocError),
+        }
+    }
+
+    /// The number of the shard, from 0, below the setup's number of shards. Constant time.
+    pub fn number(&self) -> u64
+        ensures value { result ≡ self.now.number }
+        ensures kept { AreHeld self.now.setup self.now.number self.now.layers self.now.record_list }
+    {
+        self.number
+    }
+
+    /// The sum of all counts of all parts, at most the setup's limit. Constant time for each of at most 8 layers.
+    pub fn total(&self) -> u64
+        ensures value { result ≡ shard_total self.now }
+        ensures kept { AreHeld self.now.setup self.now.number self.now.layers self.now.record_list }
+    {
+        self.layers.total()
+    }
+
+    /// The number of batches in the record. Constant time.
+    pub fn record_len(&self) -> u64
+        ensures { result ≡ length self.now.record_list }
+    {
+        self.held.len() as u64
+    }
+
+    /// The count at a place of the sum of all parts, and None where that has no entry, as outside the dimensions and in
+    /// rows of other shards. A stored zero is Some. Bisections in each layer.
+    pub fn get(&self, row: u64, col: u64) -> Option<u64>
+        ensures { result ≡ get_count (content self.now.layers) (row, col) }
+    {
+        self.layers.get(row, col)
+    }
+
+    /// How many entries a row of that sum has, stored zeros included, and the sum of their counts. Both are 0 where it
+    /// has none, as outside the dimensions and in rows of other shards.
+    pub fn row_total(&self, row: u64) -> RowSum
+        ensures entries { result.entries ≡ len (row_of (content self.now.layers) row) }
+        ensures total { result.total ≡ total_of (row_of (content self.now.layers) row) }
+    {
+        self.layers.row_total(row)
+    }
+
+    /// The number of entries of layer `i`, counted from 1, and None for 0 and past the last layer. Constant time.
+    pub fn layer_entries(&self, i: usize) -> Option<u64>
+        ensures { result ≡ entries_of_layer self.now.layers i }
+    {
+        self.layers.layer_entries(i)
+    }
+
+    /// Whether a batch with this client and number stands in the record. One look-up.
+    pub fn holds(&self, client: u64, number: u64) -> bool
+        ensures { result ≡ stands client number self.now.record_list }
+    {
+        self.held.contains_key(&Pair { client, number })
+    }
+
+    /// The batch at a place of the record, counted from 0, and None past the last. Constant time.
+    pub fn at(&self, i: u64) -> Option<&Arc<Batch>>
+        ensures { option_map (λ a. arc_value a.now) result ≡ slice_get self.now.record_list i }
+    {
+        let (_, batch) = self.held.get_index(i as usize)?;
+        Some(batch)
+    }
+
+    /// Makes all that taking in a batch needs: its part, the layers with it, and a free place in the record. What the
+    /// shard holds is as before, also on an error; only free places may be more.
+    ///
+    /// Reads the batch once, and takes the time and memory of its part and of the sums up to the layer where the
+    /// cascade ends.
+    ///
+    /// # Errors
+    ///
+    /// - `AlreadyThere`: the batch's client and number stand in the record. This is judged first.
+    /// - `Over`: the shard's total and that of the batch's part together pass the setup's limit, also where there was
+    ///   no memory for the part.
+    /// - `Memory`: a growth was refused.
+    pub fn prepare(&mut self, alloc: Global, b: &Arc<Batch>) -> Result<Prepared, ShardFault>
+        requires rows { (arc_value b.now).matrix.rows ≡ self.old.setup.rows }
+        requires cols { (arc_value b.now).matrix.cols ≡ self.old.setup.cols }
+        ensures setup { self.new.setup ≡ self.old.setup }
+        ensures number { self.new.number ≡ self.old.number }
+        ensures layers { self.new.layers ≡ self.old.layers }
+        ensures record { self.new.record_list ≡ self.old.record_list }
+        ensures room { self.old.free ≤ self.new.free }
+
+        // What was prepared may be committed to the shard as it is now.
+        ensures batch { IfOk result (λ p. p.batch ≡ arc_value b.now) }
+        ensures amount { IfOk result (λ p. p.amount ≡
+            part_of self.new.number self.new.setup.shards (arc_value b.now).matrix.counts) }
+        ensures ready { IfOk result (IsReady self.new) }
+        ensures err { IfErr result (Refuses self.old (arc_value b.now)) }
+    {
+        let batch: &Batch = b;
+        if self.holds(batch.client, batch.number) {
+            return Err(ShardFault::AlreadyThere);
+        }
+        match batch.matrix.part(alloc, self.number(), self.setup.shards()) {
+            Ok(share) => self.prepare_part(alloc, b, &share),
+            Err(_) => Err(self.refusal(batch)),
+        }
+    }
+
+    // Whether so much more is within the limit.
+    fn fits(&self, amount: u64) -> bool
+        ensures { IsTrue result ↔ (shard_total self.now + amount ≤ self.now.setup.limit) }
+    {
+        amount <= self.setup.limit() - self.total()
+    }
+
+    // Why a batch is refused whose part found no memory.
+    fn refusal(&self, b: &Batch) -> ShardFault
+        requires { stands b.now.client b.now.number self.now.record_list ≡ false }
+        ensures { Refuses self.now b.now result }
+    {
+        let amount = part_total(&b.matrix, self.number(), self.setup.shards());
+        if self.fits(amount) {
+            ShardFault::Memory
+        } else {
+            ShardFault::Over
+        }
+    }
+
+    // Prepares a batch of which this is the part.
+    fn prepare_part(
+        &mut self,
+        alloc: Global,
+        b: &Arc<Batch>,
+        share: &Hyper,
+    ) -> Result<Prepared, ShardFault>
+        requires share { share.now ≡ matrix_in self.old (arc_value b.now) }
+        requires dims { HasDims self.old.setup (arc_value b.now) }
+        requires absent { stands (arc_value b.now).client (arc_value b.now).number self.old.record_list ≡ false }
+        ensures stays { Stays self.old self.new }
+        ensures batch { IfOk result (λ p. p.batch ≡ arc_value b.now) }
+        ensures ready { IfOk result (IsReady self.new) }
+        ensures err { IfErr result (Refuses self.old (arc_value b.now)) }
+    {
+        if !self.fits(share.total()) {
+            return Err(ShardFault::Over);
+        }
+        match self.made_ready(alloc, b, share) {
+            Ok(p) => Ok(p),
+            Err(_) => Err(ShardFault::Memory),
+        }
+    }
+
+    // The growths of `prepare` but for the part's.
+    fn made_ready(
+        &mut self,
+        alloc: Global,
+        b: &Arc<Batch>,
+        share: &Hyper,
+    ) -> Result<Prepared, AllocError>
+        requires share { share.now ≡ matrix_in self.old (arc_value b.now) }
+        requires dims { HasDims self.old.setup (arc_value b.now) }
+        requires absent { stands (arc_value b.now).client (arc_value b.now).number self.old.record_list ≡ false }
+        requires fits { shard_total self.old + amount_in self.old (arc_value b.now) ≤ self.old.setup.limit }
+        ensures stays { Stays self.old self.new }
+        ensures batch { IfOk result (λ p. p.batch ≡ arc_value b.now) }
+        ensures ready { IfOk result (IsReady self.new) }
+    {
+        let plan = self.layers.plan(alloc, share)?;
+        self.held.reserve(1)?;
+        let batch = Arc::try_clone(b)?;
+        Ok(Prepared {
+            batch,
+            amount: share.total(),
+            plan,
+        })
+    }
+
+    /// Takes in a batch that was prepared: its part is added by the cascade (Kepner, Davis and others, 2020), and it
+    /// stands at the end of the record. It can't fail and takes no memory.
+    ///
+    /// The shard is to be as `prepare` left it.
+    pub fn commit(&mut self, p: Prepared)
+        requires { IsReady self.old p }
+        ensures setup { self.new.setup ≡ self.old.setup }
+        ensures number { self.new.number ≡ self.old.number }
+        ensures record { self.new.record_list ≡ self.old.record_list ++ p.batch ∷ [] }
+        ensures layers { self.new.layers ≡ cascade self.old.layers self.old.setup.cuts (part_in self.old p.batch) }
+        ensures total { shard_total self.new ≡ shard_total self.old + p.amount }
+    {
+        let Prepared {
+            batch,
+            amount: _,
+            plan,
+        } = p;
+        let taken: &Batch = &batch;
+        let pair = Pair {
+            client: taken.client,
+            number: taken.number,
+        };
+        push_held(&mut self.held, pair, batch);
+        self.layers.commit(plan);
+    }
+}
+
+impl Shard {
+    /// The layers and the length of the record as they are now, for a reader who takes its time: what is committed
+    /// later doesn't change them. One growth, of a pointer for each layer.
+    ///
+    /// # Errors
+    ///
+    /// The growth was refused.
+    pub fn view(&self, alloc: Global) -> Result<ShardView, AllocError>
+        ensures layers { IfOk result (λ v. v.layers ≡ layering_of self.now) }
+        ensures record { IfOk result (λ v. v.record_len ≡ length self.now.record_list) }
+    {
+        let layers = self.layers.view(alloc)?;
+        Ok(ShardView::new(layers, self.held.len() as u64))
+    }
+}

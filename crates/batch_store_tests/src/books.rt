@@ -1,0 +1,300 @@
+//! Books: what each put of a table is answered.
+ghost use Rattle.std.specs.Prelude.{◌≡◌};
+ghost use Rattle.std.specs.Arc.{arc_value};
+
+use crate::batches::batch;
+use crate::setups::small_setup;
+use batch_store::Verdict::{BookFull, Known, NumberReused, OverTotal};
+use batch_store::{Batch, Book, Kept, Setup, Verdict};
+use std::alloc::{AllocError, Global};
+use std::process::Abort;
+use std::sync::Arc;
+use std::test::Fail;
+
+/// The client, the number and the text of a batch that is put, and what the book answers.
+type Put = (u64, u64, &'static str, Verdict);
+
+// The verdict on a batch; one that is fresh is admitted, and answered as a repeat of it would be.
+fn put(book: &mut Book, b: Arc<Batch>) -> Result<Verdict, AllocError>
+    requires rows { (arc_value b).matrix.rows ≡ book.old.setup.rows }
+    requires cols { (arc_value b).matrix.cols ≡ book.old.setup.cols }
+    ensures { book.new.setup ≡ book.old.setup }
+{
+    let verdict = book.look(&b);
+    if let Verdict::Fresh = verdict {
+        book.reserve(&b)?;
+        return Ok(Verdict::Known(book.admit(b)));
+    }
+    Ok(verdict)
+}
+
+// Puts one batch of a table.
+fn answer(alloc: Global, setup: &Setup, book: &mut Book, step: &Put) -> Result<Verdict, Fail>
+    requires { book.old.setup ≡ setup.now }
+    ensures { book.new.setup ≡ setup.now }
+{
+    let (client, number, tail, _) = *step;
+    let b = batch(alloc, setup, client, number, tail)?;
+    let verdict = put(book, b)?;
+    Ok(verdict)
+}
+
+// Puts the batches of a table, and compares each answer.
+fn put_all(
+    rt: &impl Abort,
+    alloc: Global,
+    setup: &Setup,
+    book: &mut Book,
+    steps: &[Put],
+) -> Result<(), Fail>
+    requires { book.old.setup ≡ setup.now }
+{
+    'steps: for step in steps {
+        let verdict = answer(alloc, setup, book, step)?;
+        assert_eq!(rt; verdict, step.3);
+    }
+    Ok(())
+}
+
+// With a limit of 100.
+static WITHIN_100: &[Put] = &[
+    (
+        7,
+        1,
+        "3 3 1\n1 1 90\n",
+        Known(Kept {
+            index: 0,
+            total_after: 90,
+        }),
+    ),
+    (8, 1, "3 3 1\n1 1 11\n", OverTotal { accepted: 90 }),
+    (
+        8,
+        1,
+        "3 3 1\n1 1 10\n",
+        Known(Kept {
+            index: 1,
+            total_after: 100,
+        }),
+    ),
+    (
+        9,
+        1,
+        "3 3 1\n1 1 0\n",
+        Known(Kept {
+            index: 2,
+            total_after: 100,
+        }),
+    ),
+    (
+        7,
+        1,
+        "3 3 1\n1 1 90\n",
+        Known(Kept {
+            index: 0,
+            total_after: 90,
+        }),
+    ),
+    (
+        9,
+        1,
+        "3 3 1\n1 1 0\n",
+        Known(Kept {
+            index: 2,
+            total_after: 100,
+        }),
+    ),
+    (9, 2, "3 3 1\n1 1 1\n", OverTotal { accepted: 100 }),
+];
+
+// Repeats, and numbers used for other batches: another total, or as many counts in other places.
+static REPEATS: &[Put] = &[
+    (
+        7,
+        1,
+        "3 3 1\n1 1 5\n",
+        Known(Kept {
+            index: 0,
+            total_after: 5,
+        }),
+    ),
+    (
+        8,
+        1,
+        "3 3 1\n1 1 3\n",
+        Known(Kept {
+            index: 1,
+            total_after: 8,
+        }),
+    ),
+    (
+        7,
+        1,
+        "3 3 1\n1 1 5\n",
+        Known(Kept {
+            index: 0,
+            total_after: 5,
+        }),
+    ),
+    (7, 1, "3 3 1\n1 1 6\n", NumberReused),
+    (7, 1, "3 3 2\n1 1 5\n1 2 0\n", NumberReused),
+    (
+        7,
+        1,
+        "3 3 1\n3 3 5\n",
+        Known(Kept {
+            index: 0,
+            total_after: 5,
+        }),
+    ),
+    (
+        8,
+        1,
+        "3 3 1\n1 1 3\n",
+        Known(Kept {
+            index: 1,
+            total_after: 8,
+        }),
+    ),
+    (
+        7,
+        2,
+        "3 3 1\n1 1 5\n",
+        Known(Kept {
+            index: 2,
+            total_after: 13,
+        }),
+    ),
+];
+
+// Batches without cells.
+static NOTHING: &[Put] = &[
+    (
+        9,
+        1,
+        "3 3 0\n",
+        Known(Kept {
+            index: 0,
+            total_after: 0,
+        }),
+    ),
+    (
+        9,
+        1,
+        "3 3 0\n",
+        Known(Kept {
+            index: 0,
+            total_after: 0,
+        }),
+    ),
+    (9, 1, "3 3 1\n1 1 0\n", NumberReused),
+];
+
+// With room for one batch.
+static ONE_BATCH: &[Put] = &[
+    (
+        7,
+        1,
+        "3 3 1\n1 1 5\n",
+        Known(Kept {
+            index: 0,
+            total_after: 5,
+        }),
+    ),
+    (8, 1, "3 3 1\n1 1 3\n", BookFull),
+    (8, 1, "3 3 1\n1 1 96\n", OverTotal { accepted: 5 }),
+    (
+        7,
+        1,
+        "3 3 1\n1 1 5\n",
+        Known(Kept {
+            index: 0,
+            total_after: 5,
+        }),
+    ),
+    (7, 1, "3 3 1\n1 1 101\n", NumberReused),
+];
+
+// The largest total that a limit may allow.
+static LARGEST: &[Put] = &[
+    (
+        7,
+        1,
+        "3 3 2\n1 1 9223372036854775808\n1 2 9223372036854775807\n",
+        Known(Kept {
+            index: 0,
+            total_after: u64::MAX,
+        }),
+    ),
+    (
+        7,
+        2,
+        "3 3 1\n1 1 0\n",
+        Known(Kept {
+            index: 1,
+            total_after: u64::MAX,
+        }),
+    ),
+    (7, 3, "3 3 1\n1 1 1\n", OverTotal { accepted: u64::MAX }),
+    (
+        7,
+        4,
+        "3 3 1\n1 1 18446744073709551615\n",
+        OverTotal { accepted: u64::MAX },
+    ),
+];
+
+// The clients and totals of the batches that a list has.
+fn contents(list: &[Arc<Batch>]) -> Option<(u64, u64)> {
+    match list {
+        [b] => Some((b.client, b.total)),
+        _ => None,
+    }
+}
+
+#[test]
+fn a_limit_is_kept_exactly(rt: HostRuntime) -> Result<(), Fail> {
+    let setup = small_setup()?;
+    let mut book = Book::new(&rt, rt.alloc(), &setup)?;
+    put_all(&rt, rt.alloc(), &setup, &mut book, WITHIN_100)?;
+    assert_eq!(rt; (book.len(), book.total()), (3, 100));
+    Ok(())
+}
+
+#[test]
+fn repeats_get_the_reply_of_then(rt: HostRuntime) -> Result<(), Fail> {
+    let setup = small_setup()?;
+    let mut book = Book::new(&rt, rt.alloc(), &setup)?;
+    put_all(&rt, rt.alloc(), &setup, &mut book, REPEATS)?;
+    assert_eq!(rt; (book.len(), book.total()), (3, 13));
+    Ok(())
+}
+
+#[test]
+fn batches_without_cells_are_accepted(rt: HostRuntime) -> Result<(), Fail> {
+    let setup = small_setup()?;
+    let mut book = Book::new(&rt, rt.alloc(), &setup)?;
+    put_all(&rt, rt.alloc(), &setup, &mut book, NOTHING)?;
+    assert_eq!(rt; (book.len(), book.total()), (1, 0));
+    Ok(())
+}
+
+#[test]
+fn a_full_book_knows_its_batches(rt: HostRuntime) -> Result<(), Fail> {
+    let setup = Setup::new(3, 3, &[2, 4], 2, 100, 1)?;
+    let mut book = Book::new(&rt, rt.alloc(), &setup)?;
+    put_all(&rt, rt.alloc(), &setup, &mut book, ONE_BATCH)?;
+    assert_eq!(rt; contents(book.list(rt.alloc())?.as_slice()), Some((7, 5)));
+    Ok(())
+}
+
+#[test]
+fn the_largest_total_is_accepted(rt: HostRuntime) -> Result<(), Fail> {
+    let setup = Setup::new(3, 3, &[2, 4], 2, u64::MAX, 10)?;
+    let mut book = Book::new(&rt, rt.alloc(), &setup)?;
+    put_all(&rt, rt.alloc(), &setup, &mut book, LARGEST)?;
+    assert_eq!(rt; book.at(0).map(|b| b.total), Some(u64::MAX));
+    assert_eq!(rt; book.at(1).map(|b| b.total), Some(0));
+    assert!(rt; book.at(2).is_none());
+    Ok(())
+}

@@ -1,0 +1,81 @@
+//! Layers of a shard, and views of them.
+use crate::setups::small_setup;
+use crate::shards::{Step, take_all};
+use batch_store::{Setup, Shard, ShardView};
+use hyper_matrix::Hyper;
+use std::alloc::{AllocError, Global};
+use std::process::Abort;
+use std::test::Fail;
+
+static FIVE: &[Step] = &[(7, 1, "3 3 1\n1 1 5\n", Ok(5))];
+
+static THREE: &[Step] = &[(8, 1, "3 3 1\n1 1 3\n", Ok(3))];
+
+fn size(m: Hyper) -> (u64, u64) {
+    (m.entries(), m.total())
+}
+
+// How many entries the sum of a view has, and their total.
+fn summed(alloc: Global, view: &ShardView) -> Result<(u64, u64), AllocError> {
+    match view.sum(alloc) {
+        Ok(sum) => Ok(size(sum)),
+        Err(fault) => Err(fault),
+    }
+}
+
+// The length of the record in a view made now, the entries of its sum, and their total.
+fn seen(alloc: Global, shard: &Shard) -> Result<(u64, (u64, u64)), AllocError> {
+    let view = shard.view(alloc)?;
+    Ok((view.record_len(), summed(alloc, &view)?))
+}
+
+#[test]
+fn a_view_stays_as_it_was(rt: HostRuntime) -> Result<(), Fail> {
+    let setup = small_setup()?;
+    let mut shard = Shard::new(&rt, rt.alloc(), &setup, 0)?;
+    take_all(&rt, rt.alloc(), &setup, &mut shard, FIVE)?;
+    let view = shard.view(rt.alloc())?;
+    take_all(&rt, rt.alloc(), &setup, &mut shard, THREE)?;
+    assert_eq!(rt;
+        (view.record_len(), summed(rt.alloc(), &view)?),
+        (1, (1, 5))
+    );
+    assert_eq!(rt; (shard.total(), shard.record_len()), (8, 2));
+    Ok(())
+}
+
+// Ten batches of one cell each, in ten columns of row 1.
+static TEN: &[Step] = &[
+    (7, 1, "3 10 1\n1 1 1\n", Ok(1)),
+    (7, 2, "3 10 1\n1 2 1\n", Ok(1)),
+    (7, 3, "3 10 1\n1 3 1\n", Ok(1)),
+    (7, 4, "3 10 1\n1 4 1\n", Ok(1)),
+    (7, 5, "3 10 1\n1 5 1\n", Ok(1)),
+    (7, 6, "3 10 1\n1 6 1\n", Ok(1)),
+    (7, 7, "3 10 1\n1 7 1\n", Ok(1)),
+    (7, 8, "3 10 1\n1 8 1\n", Ok(1)),
+    (7, 9, "3 10 1\n1 9 1\n", Ok(1)),
+    (7, 10, "3 10 1\n1 10 1\n", Ok(1)),
+];
+
+// How many entries each of three layers has, and that there is none before and none behind them.
+fn layer_sizes(shard: &Shard) -> [Option<u64>; 5] {
+    let mut sizes = [None; 5];
+    for (i, size) in sizes.iter_mut().enumerate() {
+        *size = shard.layer_entries(i);
+    }
+    sizes
+}
+
+#[test]
+fn ten_cells_cascade(rt: HostRuntime) -> Result<(), Fail> {
+    let setup = Setup::new(3, 10, &[2, 4], 1, 100, 10)?;
+    let mut shard = Shard::new(&rt, rt.alloc(), &setup, 0)?;
+    take_all(&rt, rt.alloc(), &setup, &mut shard, TEN)?;
+    assert_eq!(rt;
+        layer_sizes(&shard),
+        [None, Some(1), Some(3), Some(6), None]
+    );
+    assert_eq!(rt; seen(rt.alloc(), &shard)?, (10, (10, 10)));
+    Ok(())
+}
