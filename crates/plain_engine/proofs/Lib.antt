@@ -1,0 +1,8 @@
+pub mod SumLaws
+pub mod WorldLaws
+pub mod LockedLaws
+pub mod StandLaws
+pub mod SameLaws
+pub mod PutLaws
+pub mod LookLaws
+pub mod LoadLaws

@@ -1,0 +1,24 @@
+use Rattle.std.proofs.Common.{◌≡◌, ◌+◌, ◌∷◌, length, take, drop, sym, ◌∙◌, ap, arith, length-take-le}
+use Rattle.std.specs.Arc.{arc_value}
+use Rattle.std.proofs.lemmas.List.{length-map}
+use Rattle.std.proofs.lemmas.Result.{err_from_is_err_and}
+use Rattle.batch_store.specs.Batches.{values}
+use Rattle.plain_engine.specs.Loads.{first_refusal}
+use Rattle.plain_engine.proofs.StandLaws.{drop_here}
+use Rattle.plain_engine.proofs.LoadLaws.{refused_here}
+use Rattle.plain_engine.proofs.engine.PlainEngine.from_batches.Goals as goal
+
+pub returns-in_err-load-clause-err : goal.returns-in_err-load-clause-err
+returns-in_err-load-clause-err g c =
+    let v = c.args.setup in
+    let list = c.args.list.now in
+    let i = c.batches.b-index in
+    let inv = c.batches.invariant in
+    let b = arc_value c.b-item.result in
+    let done = values (take i list) in
+    let rest = values (drop (i + 1) list) in
+    let cut : values (drop i list) ≡ b ∷ rest = ap values (drop_here i list c.b-item.result c.batches-test.true c.b-item.is) in
+    let count : c.batches.at ≡ length done = inv.at ∙ sym (length-map (take i list) arc_value ∙ length-take-le i list (omega arith)) in
+    let p = err_from_is_err_and c.from_residual-in_err-load.result c.from_residual-in_err-load.ensures.1 in
+    rw (p.1, p.2)
+    (λ other. refused_here v c.batches.engine.setup c.batches.engine.book.list done (values (drop i list)) rest (values list) b c.batches.at c.in_err-load.field-0.0 inv.setup inv.list count inv.rest cut (c.in_err-load.ensures.err other))

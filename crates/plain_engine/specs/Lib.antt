@@ -1,0 +1,6 @@
+pub mod Object
+pub mod Records
+pub mod World
+pub mod Standing
+pub mod Puts
+pub mod Loads

@@ -1,0 +1,68 @@
+//! Whether two batches are the same, and whether a record holds the batches of the book that it should.
+//!
+//! Two batches are compared by client, number and matrix, cell by cell. No call takes memory.
+ghost use Rattle.std.specs.Prelude.{◌≡◌, ◌<◌, ◌↔◌, IsTrue};
+ghost use Rattle.std.specs.FinMap.{entries};
+ghost use Rattle.plain_engine.specs.Records.{Follows};
+
+use batch_store::{Batch, Book, Shard};
+use hyper_matrix::Hyper;
+
+// Whether two matrices have the same cells.
+fn same_cells(a: &Hyper, b: &Hyper) -> bool
+    ensures { IsTrue result ↔ (entries a.now.counts ≡ entries b.now.counts) }
+{
+    let mut others = b.iter();
+    'cells: for cell in a.iter() {
+        match others.next() {
+            Some(other) => {
+                if other != cell {
+                    return false;
+                }
+            }
+            None => return false,
+        }
+    }
+    others.next().is_none()
+}
+
+// Whether two matrices have the same dimensions and cells.
+fn same_matrix(a: &Hyper, b: &Hyper) -> bool
+    ensures { IsTrue result ↔ (a.now ≡ b.now) }
+{
+    let (rows, cols) = a.dims();
+    let (other_rows, other_cols) = b.dims();
+    rows == other_rows && cols == other_cols && same_cells(a, b)
+}
+
+/// Whether two batches have the same client, number and matrix.
+pub fn same_batch(a: &Batch, b: &Batch) -> bool
+    ensures { IsTrue result ↔ (a.now ≡ b.now) }
+{
+    a.client == b.client && a.number == b.number && same_matrix(&a.matrix, &b.matrix)
+}
+
+/// Whether a shard's record is, in order, the book's batches that concern shard s of k.
+pub fn record_follows(shard: &Shard, book: &Book, s: u64, k: u64) -> bool
+    requires { 0 < k }
+    ensures { IsTrue result ↔ Follows s k shard.now.record_list book.now.list }
+{
+    let mut next = 0u64;
+    'batches: for i in 0..book.len() {
+        let Some(batch) = book.at(i) else {
+            unreachable!()
+        };
+        if batch.concerns(s, k) {
+            match shard.at(next) {
+                Some(held) => {
+                    if !same_batch(held, batch) {
+                        return false;
+                    }
+                }
+                None => return false,
+            }
+            next += 1;
+        }
+    }
+    next == shard.record_len()
+}

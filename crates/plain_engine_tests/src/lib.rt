@@ -1,0 +1,19 @@
+//! Worked examples of the engine of one thread, and a second, plain engine that agrees with it.
+//!
+//! The answers in the tables were worked out by hand from what the calls promise, not taken from a run.
+#![tactic(auto)]
+
+#[cfg(test)]
+mod batches;
+#[cfg(test)]
+mod loads;
+#[cfg(test)]
+mod lookups;
+#[cfg(test)]
+mod model;
+#[cfg(test)]
+mod parts;
+#[cfg(test)]
+mod puts;
+#[cfg(test)]
+mod refusals;

@@ -1,0 +1,93 @@
+//! Engines of lists of batches.
+ghost use Rattle.std.specs.Prelude.{◌≡◌, IfOk};
+ghost use Rattle.batch_store.specs.Batches.{values};
+ghost use Rattle.batch_store.specs.Books.{HaveDims};
+
+use crate::batches::{Cells, batch, small_setup};
+use batch_store::{Batch, Setup};
+use plain_engine::{LoadFault, PlainEngine, Status};
+use std::alloc::Global;
+use std::random::RandomSource;
+use std::sync::Arc;
+use std::test::Fail;
+
+// The client, the number and the cells of each batch of a list.
+type Batches = &'static [(u64, u64, Cells)];
+
+fn list_of(alloc: Global, setup: &Setup, table: Batches) -> Result<Vec<Arc<Batch>>, Fail>
+    ensures { IfOk result (λ list. HaveDims setup.now.rows setup.now.cols (values list.items)) }
+{
+    let mut list = Vec::new(alloc);
+    'batches: for (client, number, cells) in table {
+        list.push(batch(alloc, setup, *client, *number, cells)?)?;
+    }
+    Ok(list)
+}
+
+// What the engine of a list has accepted, or why there is none.
+fn loaded(
+    rt: &impl RandomSource,
+    alloc: Global,
+    setup: Setup,
+    table: Batches,
+) -> Result<Result<Status, LoadFault>, Fail> {
+    let list = list_of(alloc, &setup, table)?;
+    match PlainEngine::from_batches(rt, alloc, setup, &list) {
+        Ok(engine) => Ok(Ok(engine.status())),
+        Err(fault) => Ok(Err(fault)),
+    }
+}
+
+static LISTS: &[(Batches, Result<Status, LoadFault>)] = &[
+    (
+        &[],
+        Ok(Status {
+            batches: 0,
+            total: 0,
+        }),
+    ),
+    (
+        &[(7, 1, &[(0, 0, 5)]), (8, 1, &[(1, 0, 3)])],
+        Ok(Status {
+            batches: 2,
+            total: 8,
+        }),
+    ),
+    (
+        &[(7, 1, &[(0, 0, 5)]), (7, 1, &[(0, 0, 5)])],
+        Err(LoadFault::RepeatedNumber { at: 1 }),
+    ),
+    // A repeat of other cells is told in the same way, and before the total.
+    (
+        &[(7, 1, &[(0, 0, 5)]), (8, 1, &[]), (7, 1, &[(0, 0, 99)])],
+        Err(LoadFault::RepeatedNumber { at: 2 }),
+    ),
+    (
+        &[(7, 1, &[(0, 0, 60)]), (8, 1, &[(0, 0, 41)]), (7, 1, &[])],
+        Err(LoadFault::OverTotal { at: 1 }),
+    ),
+    (
+        &[(7, 1, &[(0, 0, 101)])],
+        Err(LoadFault::OverTotal { at: 0 }),
+    ),
+];
+
+#[test]
+fn lists_are_judged_in_order(rt: HostRuntime) -> Result<(), Fail> {
+    let setup = small_setup()?;
+    for (list, expected) in LISTS {
+        let found = loaded(&rt, rt.alloc(), setup, list)?;
+        assert_eq!(rt; found, *expected);
+    }
+    Ok(())
+}
+
+static FULL: Batches = &[(7, 1, &[(0, 0, 5)]), (8, 1, &[(0, 0, 3)])];
+
+#[test]
+fn a_list_may_be_too_long(rt: HostRuntime) -> Result<(), Fail> {
+    let setup = Setup::new(3, 3, &[2, 4], 2, 100, 1)?;
+    let found = loaded(&rt, rt.alloc(), setup, FULL)?;
+    assert_eq!(rt; found, Err(LoadFault::BookFull { at: 1 }));
+    Ok(())
+}

@@ -1,0 +1,168 @@
+//! Cells, rows, sums and shards of what was put.
+ghost use Rattle.std.specs.Prelude.{◌≡◌, IfOk};
+
+use crate::batches::small_setup;
+use crate::puts::{Step, put_all};
+use batch_store::{Setup, Shard, ShardView};
+use cells::Cell;
+use plain_engine::PlainEngine;
+use std::alloc::{AllocError, Global};
+use std::process::Abort;
+use std::test::Fail;
+
+// Rows 0 and 2 are of shard 0, row 1 is of shard 1.
+static THREE: &[Step] = &[
+    (7, 1, &[(0, 0, 5), (1, 1, 0)], Ok((0, 5))),
+    (8, 1, &[(0, 1, 3), (1, 0, 4)], Ok((1, 12))),
+    (9, 1, &[(2, 2, 1), (0, 0, 2)], Ok((2, 15))),
+];
+
+static SUM: &[(u64, u64, u64)] = &[(0, 0, 7), (0, 1, 3), (1, 0, 4), (1, 1, 0), (2, 2, 1)];
+
+// What an engine has at each place of some more rows and columns than there are.
+static PLACES: &[(u64, u64, Option<u64>)] = &[
+    (0, 0, Some(7)),
+    (0, 1, Some(3)),
+    (0, 2, None),
+    (1, 0, Some(4)),
+    (1, 1, Some(0)),
+    (1, 2, None),
+    (2, 1, None),
+    (2, 2, Some(1)),
+    (3, 0, None),
+    (0, 3, None),
+    (u64::MAX, u64::MAX, None),
+];
+
+#[test]
+fn cells_are_those_of_the_sum(rt: HostRuntime) -> Result<(), Fail> {
+    let setup = small_setup()?;
+    let mut engine = PlainEngine::new(&rt, rt.alloc(), setup)?;
+    put_all(&rt, rt.alloc(), &setup, &mut engine, THREE)?;
+    for (row, col, count) in PLACES {
+        assert_eq!(rt; engine.cell(*row, *col), *count);
+    }
+    Ok(())
+}
+
+static ROWS: &[(u64, u64, u64)] = &[(0, 2, 10), (1, 2, 4), (2, 1, 1), (3, 0, 0), (4, 0, 0)];
+
+#[test]
+fn rows_are_those_of_the_sum(rt: HostRuntime) -> Result<(), Fail> {
+    let setup = small_setup()?;
+    let mut engine = PlainEngine::new(&rt, rt.alloc(), setup)?;
+    put_all(&rt, rt.alloc(), &setup, &mut engine, THREE)?;
+    for (row, entries, total) in ROWS {
+        let sum = engine.row(*row);
+        assert_eq!(rt; (sum.entries, sum.total), (*entries, *total));
+    }
+    Ok(())
+}
+
+/// Whether cells in order are those of a table.
+pub fn same_cells(cells: &[Cell], table: &[(u64, u64, u64)]) -> bool {
+    if cells.len() != table.len() {
+        return false;
+    }
+    for (cell, row) in cells.iter().zip(table) {
+        if (cell.row, cell.col, cell.count) != *row {
+            return false;
+        }
+    }
+    true
+}
+
+#[test]
+fn an_export_is_the_sum(rt: HostRuntime) -> Result<(), Fail> {
+    let setup = small_setup()?;
+    let mut engine = PlainEngine::new(&rt, rt.alloc(), setup)?;
+    put_all(&rt, rt.alloc(), &setup, &mut engine, THREE)?;
+    let sum = engine.export(rt.alloc())?;
+    assert_eq!(rt; sum.dims(), (3, 3));
+    let cells = sum.cells(rt.alloc())?;
+    assert!(rt; same_cells(&cells, SUM));
+    Ok(())
+}
+
+fn sizes(shard: &Shard) -> (u64, u64, u64) {
+    (shard.number(), shard.total(), shard.record_len())
+}
+
+#[test]
+fn shards_have_their_batches(rt: HostRuntime) -> Result<(), Fail> {
+    let setup = small_setup()?;
+    let mut engine = PlainEngine::new(&rt, rt.alloc(), setup)?;
+    put_all(&rt, rt.alloc(), &setup, &mut engine, THREE)?;
+    assert_eq!(rt; engine.shard(0).map(sizes), Some((0, 11, 3)));
+    // The first batch has a stored zero there.
+    assert_eq!(rt; engine.shard(1).map(sizes), Some((1, 4, 2)));
+    assert_eq!(rt; engine.shard(2).map(sizes), None);
+    assert_eq!(rt; engine.shard(u64::MAX).map(sizes), None);
+    assert_eq!(rt; (engine.setup().shards(), engine.setup().limit()), (2, 100));
+    Ok(())
+}
+
+// Ten batches, each with one cell of its own.
+static TEN: &[Step] = &[
+    (7, 1, &[(0, 0, 1)], Ok((0, 1))),
+    (7, 2, &[(0, 1, 1)], Ok((1, 2))),
+    (7, 3, &[(0, 2, 1)], Ok((2, 3))),
+    (7, 4, &[(0, 3, 1)], Ok((3, 4))),
+    (7, 5, &[(0, 4, 1)], Ok((4, 5))),
+    (7, 6, &[(0, 5, 1)], Ok((5, 6))),
+    (7, 7, &[(0, 6, 1)], Ok((6, 7))),
+    (7, 8, &[(0, 7, 1)], Ok((7, 8))),
+    (7, 9, &[(0, 8, 1)], Ok((8, 9))),
+    (7, 10, &[(0, 9, 1)], Ok((9, 10))),
+];
+
+// The entries of the layers 1 to 4.
+fn layers(shard: &Shard) -> [Option<u64>; 4] {
+    [
+        shard.layer_entries(1),
+        shard.layer_entries(2),
+        shard.layer_entries(3),
+        shard.layer_entries(4),
+    ]
+}
+
+// How many batches a view has, and the entries and total of its sum.
+fn seen(alloc: Global, view: &ShardView) -> Result<(u64, u64, u64), AllocError> {
+    let sum = view.sum(alloc)?;
+    Ok((view.record_len(), sum.entries(), sum.total()))
+}
+
+#[test]
+fn layers_keep_their_cuts(rt: HostRuntime) -> Result<(), Fail> {
+    let setup = Setup::new(3, 10, &[2, 4], 1, 100, 10)?;
+    let mut engine = PlainEngine::new(&rt, rt.alloc(), setup)?;
+    put_all(&rt, rt.alloc(), &setup, &mut engine, TEN)?;
+    let shard = engine.shard(0).ok_or(AllocError)?;
+    assert_eq!(rt; layers(shard), [Some(1), Some(3), Some(6), None]);
+    let view = shard.view(rt.alloc())?;
+    assert_eq!(rt; seen(rt.alloc(), &view)?, (10, 10, 10));
+    Ok(())
+}
+
+static FIRST: &[Step] = &[(7, 1, &[(0, 0, 5)], Ok((0, 5)))];
+
+static SECOND: &[Step] = &[(8, 1, &[(0, 0, 3)], Ok((1, 8)))];
+
+// The view of shard 0.
+fn first_view(alloc: Global, engine: &PlainEngine) -> Result<ShardView, Fail> {
+    let shard = engine.shard(0).ok_or(AllocError)?;
+    let view = shard.view(alloc)?;
+    Ok(view)
+}
+
+#[test]
+fn a_view_stays_as_it_was(rt: HostRuntime) -> Result<(), Fail> {
+    let setup = small_setup()?;
+    let mut engine = PlainEngine::new(&rt, rt.alloc(), setup)?;
+    put_all(&rt, rt.alloc(), &setup, &mut engine, FIRST)?;
+    let view = first_view(rt.alloc(), &engine)?;
+    put_all(&rt, rt.alloc(), &setup, &mut engine, SECOND)?;
+    assert_eq!(rt; seen(rt.alloc(), &view)?, (1, 1, 5));
+    assert_eq!(rt; engine.shard(0).map(sizes), Some((0, 8, 2)));
+    Ok(())
+}

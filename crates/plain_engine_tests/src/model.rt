@@ -1,0 +1,304 @@
+//! A second, plain way to do what an engine does: a list of what was accepted, searched from the front, and a map of all
+//! cells. Generated puts, with repeats, reused numbers, totals at the limit and full books, are answered alike.
+ghost use Rattle.std.specs.Prelude.{◌≡◌, ◌<◌, IfOk};
+
+use crate::puts::{Answer, put};
+use batch_store::Setup;
+use cells::Cell;
+use plain_engine::{PlainEngine, PutFault, Status};
+use std::alloc::{AllocError, Global};
+use std::collections::BTreeMap;
+use std::process::Abort;
+use std::random::RandomSource;
+use std::test::Fail;
+
+type Counts = BTreeMap<(u64, u64), u64>;
+
+// An accepted batch: its pair, how many cells it has, its total, and the total of all up to it.
+#[derive(Drop)]
+struct Line {
+    pair: (u64, u64),
+    cells: usize,
+    total: u64,
+    after: u64,
+}
+
+#[derive(Drop)]
+struct Plain {
+    limit: u64,
+    most: usize,
+    lines: Vec<Line>,
+    cells: Counts,
+}
+
+// Adds a count at a place.
+fn add(counts: &mut Counts, place: (u64, u64), count: u64) -> Result<(), AllocError> {
+    let sum = counts.entry(place)?.or_insert(0u64);
+    *sum = sum.wrapping_add(count);
+    Ok(())
+}
+
+// The cells of a list, each place once.
+fn summed(alloc: Global, list: &[(u64, u64, u64)]) -> Result<Counts, AllocError> {
+    let mut counts = BTreeMap::new(alloc);
+    for (row, col, count) in list {
+        add(&mut counts, (*row, *col), *count)?;
+    }
+    Ok(counts)
+}
+
+fn total_of(counts: &Counts) -> u64 {
+    let mut total = 0u64;
+    for (_, count) in counts {
+        total = total.wrapping_add(*count);
+    }
+    total
+}
+
+impl Plain {
+    fn total(&self) -> u64 {
+        match self.lines.last() {
+            Some(line) => line.after,
+            None => 0,
+        }
+    }
+
+    // What a pair that stands in the list is answered.
+    fn repeat(&self, pair: (u64, u64), cells: usize, total: u64) -> Option<Answer> {
+        for (i, line) in self.lines.iter().enumerate() {
+            if line.pair == pair {
+                if line.cells == cells && line.total == total {
+                    return Some(Ok((i as u64, line.after)));
+                }
+                return Some(Err(PutFault::NumberReused));
+            }
+        }
+        None
+    }
+
+    fn take(&mut self, batch: &Counts) -> Result<(), AllocError> {
+        for (place, count) in batch {
+            add(&mut self.cells, *place, *count)?;
+        }
+        Ok(())
+    }
+
+    fn put(
+        &mut self,
+        alloc: Global,
+        pair: (u64, u64),
+        list: &[(u64, u64, u64)],
+    ) -> Result<Answer, AllocError> {
+        let batch = summed(alloc, list)?;
+        let total = total_of(&batch);
+        if let Some(answer) = self.repeat(pair, batch.len(), total) {
+            return Ok(answer);
+        }
+        let accepted = self.total();
+        if total > self.limit.saturating_sub(accepted) {
+            return Ok(Err(PutFault::OverTotal { accepted }));
+        }
+        if self.lines.len() >= self.most {
+            return Ok(Err(PutFault::BookFull));
+        }
+        let place = self.lines.len() as u64;
+        let after = accepted.wrapping_add(total);
+        self.take(&batch)?;
+        self.lines.push(Line {
+            pair,
+            cells: batch.len(),
+            total,
+            after,
+        })?;
+        Ok(Ok((place, after)))
+    }
+
+    fn row(&self, row: u64) -> (u64, u64) {
+        let mut entries = 0u64;
+        let mut total = 0u64;
+        for (place, count) in &self.cells {
+            if place.0 == row {
+                entries = entries.wrapping_add(1);
+                total = total.wrapping_add(*count);
+            }
+        }
+        (entries, total)
+    }
+}
+
+// Numbers that look random.
+#[derive(Drop)]
+struct Stream {
+    state: u64,
+}
+
+impl Stream {
+    fn below(&mut self, limit: u64) -> u64
+        requires { 0 < limit }
+        ensures { result < limit }
+    {
+        self.state = self
+            .state
+            .wrapping_mul(6_364_136_223_846_793_005)
+            .wrapping_add(1_442_695_040_888_963_407);
+        (self.state >> 33) % limit
+    }
+}
+
+const ROWS: u64 = 70;
+
+const COLS: u64 = 4;
+
+// At most three cells, some of them at one place, some of count 0.
+fn cells_for(alloc: Global, seed: u64) -> Result<Vec<(u64, u64, u64)>, AllocError> {
+    let mut stream = Stream { state: seed };
+    let _ = stream.below(2);
+    let mut cells = Vec::new(alloc);
+    let count = stream.below(4);
+    for _ in 0..count {
+        let row = stream.below(4).wrapping_mul(stream.below(24));
+        cells.push((row, stream.below(COLS), stream.below(9)))?;
+    }
+    Ok(cells)
+}
+
+// The pair of a put, and its cells: mostly the same for the same pair, so that repeats are known.
+fn drawn(stream: &mut Stream) -> ((u64, u64), u64) {
+    let client = stream.below(3);
+    let number = stream.below(9);
+    let other = if stream.below(5) == 0 { 1 } else { 0 };
+    (
+        (client, number),
+        client
+            .wrapping_mul(100)
+            .wrapping_add(number.wrapping_mul(10))
+            .wrapping_add(other),
+    )
+}
+
+// A generated put: what the engine answers, and what the plain one does.
+fn put_drawn(
+    alloc: Global,
+    setup: &Setup,
+    engine: &mut PlainEngine,
+    plain: &mut Plain,
+    stream: &mut Stream,
+) -> Result<(Answer, Answer), Fail>
+    requires { engine.old.setup ≡ setup.now }
+    ensures { engine.new.setup ≡ setup.now }
+{
+    let (pair, seed) = drawn(stream);
+    let cells = cells_for(alloc, seed)?;
+    let expected = plain.put(alloc, pair, &cells)?;
+    let answer = put(alloc, setup, engine, pair, &cells)?;
+    Ok((answer, expected))
+}
+
+// Compares a row's cells, one column past the last too, and its sum.
+fn agree_on_row(rt: &impl Abort, engine: &PlainEngine, plain: &Plain, row: u64) {
+    for col in 0..COLS + 1 {
+        assert_eq!(rt;
+            engine.cell(row, col),
+            plain.cells.get(&(row, col)).copied()
+        );
+    }
+    let sum = engine.row(row);
+    assert_eq!(rt; (sum.entries, sum.total), plain.row(row));
+}
+
+fn agree_on_rows(rt: &impl Abort, engine: &PlainEngine, plain: &Plain) {
+    for row in 0..ROWS + 1 {
+        agree_on_row(rt, engine, plain, row);
+    }
+}
+
+fn agree_on_cells(rt: &impl Abort, cells: &[Cell], plain: &Plain) {
+    assert_eq!(rt; cells.len(), plain.cells.len());
+    for (cell, (place, count)) in cells.iter().zip(&plain.cells) {
+        assert_eq!(rt; ((cell.row, cell.col), cell.count), (*place, *count));
+    }
+}
+
+fn agree_on_export(
+    rt: &impl Abort,
+    alloc: Global,
+    engine: &PlainEngine,
+    plain: &Plain,
+) -> Result<(), Fail> {
+    let sum = engine.export(alloc)?;
+    let cells = sum.cells(alloc)?;
+    agree_on_cells(rt, &cells, plain);
+    Ok(())
+}
+
+// Compares the status, and the batches in order.
+fn agree_on_batches(
+    rt: &impl Abort,
+    alloc: Global,
+    engine: &PlainEngine,
+    plain: &Plain,
+) -> Result<(), Fail> {
+    let batches = engine.batches(alloc)?;
+    assert_eq!(rt; batches.len(), plain.lines.len());
+    for (batch, line) in batches.iter().zip(&plain.lines) {
+        assert_eq!(rt;
+            (batch.client, batch.number, batch.total),
+            (line.pair.0, line.pair.1, line.total)
+        );
+    }
+    Ok(())
+}
+
+fn status_of(plain: &Plain) -> Status {
+    Status {
+        batches: plain.lines.len() as u64,
+        total: plain.total(),
+    }
+}
+
+fn agree<R: RandomSource + Abort>(
+    rt: &R,
+    alloc: Global,
+    setup: Setup,
+    steps: u64,
+) -> Result<(), Fail> {
+    let mut engine = PlainEngine::new(rt, alloc, setup)?;
+    let mut plain = Plain {
+        limit: setup.limit(),
+        most: setup.max_batches() as usize,
+        lines: Vec::new(alloc),
+        cells: BTreeMap::new(alloc),
+    };
+    let mut stream = Stream {
+        state: setup.limit(),
+    };
+    'steps: for _ in 0..steps {
+        let (answer, expected) = put_drawn(alloc, &setup, &mut engine, &mut plain, &mut stream)?;
+        assert_eq!(rt; answer, expected);
+        assert_eq!(rt; engine.status(), status_of(&plain));
+    }
+    agree_on_rows(rt, &engine, &plain);
+    agree_on_export(rt, alloc, &engine, &plain)?;
+    agree_on_batches(rt, alloc, &engine, &plain)
+}
+
+/// The number of shards, the cuts, the limit and the most batches.
+type Case = (u64, &'static [u64], u64, u64);
+
+static CASES: &[Case] = &[
+    (1, &[2, 4], 100, 1_000),
+    (1, &[], 1_000, 14),
+    (2, &[1, 3, 9], 60, 1_000),
+    (2, &[1, 2, 3, 4, 5, 6, 7], 1_000, 9),
+    (64, &[1], 150, 20),
+    (64, &[4_096, 65_536], 1_000, 1_000),
+];
+
+#[test]
+fn generated_puts_are_answered_alike(rt: HostRuntime) -> Result<(), Fail> {
+    for (shards, cuts, limit, most) in CASES {
+        let setup = Setup::new(ROWS, COLS, cuts, *shards, *limit, *most)?;
+        agree(&rt, rt.alloc(), setup, 120)?;
+    }
+    Ok(())
+}

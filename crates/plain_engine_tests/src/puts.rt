@@ -1,0 +1,175 @@
+//! Puts: what each of a table is answered.
+ghost use Rattle.std.specs.Prelude.{◌≡◌};
+
+use crate::batches::{Cells, batch, small_setup};
+use batch_store::Setup;
+use plain_engine::PutFault::{BookFull, NumberReused, OverTotal};
+use plain_engine::{PlainEngine, PutFault, Status};
+use std::alloc::Global;
+use std::process::Abort;
+use std::test::Fail;
+
+/// The place and the total of a kept reply, or why there is none.
+pub type Answer = Result<(u64, u64), PutFault>;
+
+/// The client, the number and the cells of a batch that is put, and what is answered.
+pub type Step = (u64, u64, Cells, Answer);
+
+/// Puts the batch of these cells.
+pub fn put(
+    alloc: Global,
+    setup: &Setup,
+    engine: &mut PlainEngine,
+    pair: (u64, u64),
+    cells: &[(u64, u64, u64)],
+) -> Result<Answer, Fail>
+    requires { engine.old.setup ≡ setup.now }
+    ensures { engine.new.setup ≡ setup.now }
+{
+    let b = batch(alloc, setup, pair.0, pair.1, cells)?;
+    match engine.put(alloc, b) {
+        Ok(kept) => Ok(Ok((kept.index, kept.total_after))),
+        Err(fault) => Ok(Err(fault)),
+    }
+}
+
+/// Puts the batches of a table, and compares each answer.
+pub fn put_all(
+    rt: &impl Abort,
+    alloc: Global,
+    setup: &Setup,
+    engine: &mut PlainEngine,
+    steps: &[Step],
+) -> Result<(), Fail>
+    requires { engine.old.setup ≡ setup.now }
+    ensures { engine.new.setup ≡ setup.now }
+{
+    'steps: for step in steps {
+        let answer = put(alloc, setup, engine, (step.0, step.1), step.2)?;
+        assert_eq!(rt; answer, step.3);
+    }
+    Ok(())
+}
+
+// Repeats, and numbers used for other batches: another total, or as many counts in more places. A batch of as many
+// cells with the same total in another place is known all the same.
+static REPEATS: &[Step] = &[
+    (7, 1, &[(0, 0, 5)], Ok((0, 5))),
+    (8, 1, &[(0, 0, 3)], Ok((1, 8))),
+    (7, 1, &[(0, 0, 5)], Ok((0, 5))),
+    (7, 1, &[(0, 0, 6)], Err(NumberReused)),
+    (7, 1, &[(0, 0, 5), (0, 1, 0)], Err(NumberReused)),
+    (7, 1, &[(2, 2, 5)], Ok((0, 5))),
+    (7, 2, &[(0, 0, 6)], Ok((2, 14))),
+];
+
+#[test]
+fn repeats_are_answered_their_replies(rt: HostRuntime) -> Result<(), Fail> {
+    let setup = small_setup()?;
+    let mut engine = PlainEngine::new(&rt, rt.alloc(), setup)?;
+    put_all(&rt, rt.alloc(), &setup, &mut engine, REPEATS)?;
+    assert_eq!(rt;
+        engine.status(),
+        Status {
+            batches: 3,
+            total: 14
+        }
+    );
+    assert_eq!(rt; engine.cell(0, 0), Some(14));
+    Ok(())
+}
+
+// With a limit of 100.
+static WITHIN_100: &[Step] = &[
+    (7, 1, &[(0, 0, 90)], Ok((0, 90))),
+    (8, 1, &[(0, 0, 11)], Err(OverTotal { accepted: 90 })),
+    (8, 1, &[(1, 2, 10)], Ok((1, 100))),
+    (9, 1, &[(0, 0, 0)], Ok((2, 100))),
+    (7, 1, &[(0, 0, 90)], Ok((0, 90))),
+    (9, 2, &[(2, 2, 1)], Err(OverTotal { accepted: 100 })),
+];
+
+#[test]
+fn the_limit_is_kept_exactly(rt: HostRuntime) -> Result<(), Fail> {
+    let setup = small_setup()?;
+    let mut engine = PlainEngine::new(&rt, rt.alloc(), setup)?;
+    put_all(&rt, rt.alloc(), &setup, &mut engine, WITHIN_100)?;
+    assert_eq!(rt;
+        engine.status(),
+        Status {
+            batches: 3,
+            total: 100
+        }
+    );
+    Ok(())
+}
+
+// With at most one batch.
+static AT_MOST_ONE: &[Step] = &[
+    (7, 1, &[(0, 0, 5)], Ok((0, 5))),
+    (8, 1, &[(0, 0, 3)], Err(BookFull)),
+    (8, 1, &[(0, 0, 96)], Err(OverTotal { accepted: 5 })),
+    (7, 1, &[(0, 0, 5)], Ok((0, 5))),
+    (7, 1, &[(0, 0, 101)], Err(NumberReused)),
+];
+
+#[test]
+fn a_full_book_knows_its_batches(rt: HostRuntime) -> Result<(), Fail> {
+    let setup = Setup::new(3, 3, &[2, 4], 2, 100, 1)?;
+    let mut engine = PlainEngine::new(&rt, rt.alloc(), setup)?;
+    put_all(&rt, rt.alloc(), &setup, &mut engine, AT_MOST_ONE)?;
+    let batches = engine.batches(rt.alloc())?;
+    assert_eq!(rt; batches.len(), 1);
+    assert_eq!(rt;
+        (batches[0].client, batches[0].number, batches[0].total),
+        (7, 1, 5)
+    );
+    Ok(())
+}
+
+static EMPTY: &[Step] = &[(9, 1, &[], Ok((0, 0))), (9, 1, &[], Ok((0, 0)))];
+
+#[test]
+fn an_empty_batch_concerns_no_shard(rt: HostRuntime) -> Result<(), Fail> {
+    let setup = small_setup()?;
+    let mut engine = PlainEngine::new(&rt, rt.alloc(), setup)?;
+    put_all(&rt, rt.alloc(), &setup, &mut engine, EMPTY)?;
+    assert_eq!(rt;
+        engine.status(),
+        Status {
+            batches: 1,
+            total: 0
+        }
+    );
+    for s in 0..2 {
+        assert_eq!(rt; engine.shard(s).map(|shard| shard.record_len()), Some(0));
+    }
+    Ok(())
+}
+
+// Two counts of 2^63 and one less, with the greatest limit.
+static GREATEST: &[Step] = &[
+    (
+        7,
+        1,
+        &[(0, 0, 1 << 63), (1, 0, (1 << 63) - 1)],
+        Ok((0, u64::MAX)),
+    ),
+    (7, 2, &[(0, 0, 1)], Err(OverTotal { accepted: u64::MAX })),
+    (
+        7,
+        3,
+        &[(0, 0, u64::MAX)],
+        Err(OverTotal { accepted: u64::MAX }),
+    ),
+    (7, 4, &[(0, 0, 0)], Ok((1, u64::MAX))),
+];
+
+#[test]
+fn the_greatest_total_is_taken(rt: HostRuntime) -> Result<(), Fail> {
+    let setup = Setup::new(3, 3, &[2, 4], 2, u64::MAX, 10)?;
+    let mut engine = PlainEngine::new(&rt, rt.alloc(), setup)?;
+    put_all(&rt, rt.alloc(), &setup, &mut engine, GREATEST)?;
+    assert_eq!(rt; engine.export(rt.alloc())?.total(), u64::MAX);
+    Ok(())
+}

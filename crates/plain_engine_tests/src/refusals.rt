@@ -1,0 +1,141 @@
+//! Growths that are refused. `rt try --test --fail-alloc 1..` refuses each in turn, those of the calls below among them:
+//! after a refusal all is as it was, and the same call made again succeeds.
+ghost use Rattle.std.specs.Prelude.{◌≡◌, IfOk};
+ghost use Rattle.batch_store.specs.Batches.{values};
+ghost use Rattle.batch_store.specs.Books.{HaveDims};
+
+use crate::batches::{batch, small_setup};
+use crate::lookups::same_cells;
+use crate::puts::put;
+use batch_store::{Batch, Setup};
+use plain_engine::{LoadFault, PlainEngine, PutFault, Status};
+use std::alloc::Global;
+use std::process::Abort;
+use std::random::RandomSource;
+use std::sync::Arc;
+use std::test::Fail;
+
+// A batch of both shards of the small setup.
+static BOTH: &[(u64, u64, u64)] = &[(0, 0, 5), (1, 0, 4)];
+
+// The numbers of batches in the records of both shards, and their totals.
+fn records(engine: &PlainEngine) -> [Option<(u64, u64)>; 2] {
+    [
+        engine
+            .shard(0)
+            .map(|shard| (shard.record_len(), shard.total())),
+        engine
+            .shard(1)
+            .map(|shard| (shard.record_len(), shard.total())),
+    ]
+}
+
+// Whether an engine has accepted nothing.
+fn is_empty(engine: &PlainEngine) -> bool {
+    engine.status()
+        == Status {
+            batches: 0,
+            total: 0,
+        }
+        && records(engine) == [Some((0, 0)), Some((0, 0))]
+        && engine.cell(0, 0) == None
+}
+
+// Puts the batch, and again where memory was refused, which is to change nothing.
+fn put_at_last(
+    rt: &impl Abort,
+    alloc: Global,
+    setup: &Setup,
+    engine: &mut PlainEngine,
+) -> Result<Result<(u64, u64), PutFault>, Fail>
+    requires { engine.old.setup ≡ setup.now }
+    ensures { engine.new.setup ≡ setup.now }
+{
+    let first = put(alloc, setup, engine, (7, 1), BOTH)?;
+    if first != Err(PutFault::Memory) {
+        return Ok(first);
+    }
+    assert!(rt; is_empty(engine));
+    put(alloc, setup, engine, (7, 1), BOTH)
+}
+
+#[test]
+fn a_refused_put_changes_nothing(rt: HostRuntime) -> Result<(), Fail> {
+    let setup = small_setup()?;
+    let mut engine = PlainEngine::new(&rt, rt.alloc(), setup)?;
+    let answer = put_at_last(&rt, rt.alloc(), &setup, &mut engine)?;
+    assert_eq!(rt; answer, Ok((0, 9)));
+    assert_eq!(rt; records(&engine), [Some((1, 5)), Some((1, 4))]);
+    // A repeat takes no memory but the batch's own.
+    let again = put(rt.alloc(), &setup, &mut engine, (7, 1), BOTH)?;
+    assert_eq!(rt; again, Ok((0, 9)));
+    Ok(())
+}
+
+// Whether an export has the batch's cells; it is asked for again where memory was refused.
+fn export_at_last(alloc: Global, engine: &PlainEngine) -> Result<bool, Fail> {
+    let sum = match engine.export(alloc) {
+        Ok(sum) => sum,
+        Err(_) => engine.export(alloc)?,
+    };
+    Ok(same_cells(&sum.cells(alloc)?, BOTH))
+}
+
+// How many batches are listed; they are asked for again where memory was refused.
+fn listed_at_last(alloc: Global, engine: &PlainEngine) -> Result<usize, Fail> {
+    let list = match engine.batches(alloc) {
+        Ok(list) => list,
+        Err(_) => engine.batches(alloc)?,
+    };
+    Ok(list.len())
+}
+
+#[test]
+fn refused_reads_succeed_again(rt: HostRuntime) -> Result<(), Fail> {
+    let setup = small_setup()?;
+    let mut engine = PlainEngine::new(&rt, rt.alloc(), setup)?;
+    let _ = put_at_last(&rt, rt.alloc(), &setup, &mut engine)?;
+    assert!(rt; export_at_last(rt.alloc(), &engine)?);
+    assert_eq!(rt; listed_at_last(rt.alloc(), &engine)?, 1);
+    assert_eq!(rt;
+        engine.status(),
+        Status {
+            batches: 1,
+            total: 9
+        }
+    );
+    Ok(())
+}
+
+// What the engine of one batch has accepted; it is made again where memory was refused.
+fn loaded_at_last(
+    rt: &impl RandomSource,
+    alloc: Global,
+    setup: Setup,
+    list: &[Arc<Batch>],
+) -> Result<Status, LoadFault>
+    requires { HaveDims setup.rows setup.cols (values list.now) }
+{
+    match PlainEngine::from_batches(rt, alloc, setup, list) {
+        Err(LoadFault::Memory) => {}
+        Err(fault) => return Err(fault),
+        Ok(engine) => return Ok(engine.status()),
+    }
+    let engine = PlainEngine::from_batches(rt, alloc, setup, list)?;
+    Ok(engine.status())
+}
+
+#[test]
+fn a_refused_load_succeeds_again(rt: HostRuntime) -> Result<(), Fail> {
+    let setup = small_setup()?;
+    let b = batch(rt.alloc(), &setup, 7, 1, BOTH)?;
+    let status = loaded_at_last(&rt, rt.alloc(), setup, &[b])?;
+    assert_eq!(rt;
+        status,
+        Status {
+            batches: 1,
+            total: 9
+        }
+    );
+    Ok(())
+}
