@@ -9,6 +9,7 @@ use Rattle.std.proofs.lemmas.List.{take_more, take_more_set, drop_more, get_or-d
 use Rattle.cells.specs.declared.cell.Cell.{Cell}
 use Rattle.cells.specs.Order.{Follows, NeverFall, Precedes}
 use Rattle.cells.specs.Sums.{cell_total, stands_at, sum_at}
+use Rattle.cells.proofs.SumLaws.{total-append}
 
 -- cells up to `last` are sums of the first cells of a list, and those from i on are still as they were
 pub record AreSums (whole cells : List Cell) (last i : ℕ) : Type 0 where
@@ -18,10 +19,6 @@ pub record AreSums (whole cells : List Cell) (last i : ℕ) : Type 0 where
   pub next : (d : Cell) → i < length cells → Follows (get_or cells last d) (get_or cells i d)
   pub sums : (q : ℕ × ℕ) → sum_at q (take (last + 1) cells ++ drop i cells) ≡ sum_at q whole
   pub total : cell_total (take (last + 1) cells ++ drop i cells) ≡ cell_total whole
-
-total-append : (xs ys : List Cell) → cell_total (xs ++ ys) ≡ cell_total xs + cell_total ys
-total-append [] ys = omega arith
-total-append (x ∷ xs) ys = omega (arith, total-append xs ys)
 
 -- what stands in front doesn't matter
 behind_sum : (q : ℕ × ℕ) (xs ys zs : List Cell) → sum_at q ys ≡ sum_at q zs → sum_at q (xs ++ ys) ≡ sum_at q (xs ++ zs)

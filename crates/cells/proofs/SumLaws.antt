@@ -104,3 +104,8 @@ total_take [] zero = omega arith
 total_take [] (suc n) = omega arith
 total_take (x ∷ cells) zero = omega arith
 total_take (x ∷ cells) (suc n) = omega (arith, total_take cells n)
+
+-- the total of two lists together
+pub total-append : (xs ys : List Cell) → cell_total (xs ++ ys) ≡ cell_total xs + cell_total ys
+total-append [] ys = omega arith
+total-append (x ∷ xs) ys = omega (arith, total-append xs ys)

@@ -1,12 +1,11 @@
 -- What one more block of cells does to a sum.
-use Rattle.std.proofs.Common.{◌≡◌, ℕ, suc, ◌+◌, ◌<◌, ◌≤◌, ◌^◌, List, [], ◌∷◌, ◌++◌, length, Some, map, refl, sym, ◌∙◌, ap, arith, append_assoc, Bool, true, false, cond, ltb, ◌&&◌}
+use Rattle.std.proofs.Common.{◌≡◌, ℕ, ◌+◌, ◌<◌, ◌≤◌, ◌^◌, List, [], ◌∷◌, ◌++◌, length, map, refl, sym, ◌∙◌, ap, arith, append_assoc, Bool, true, false, ltb}
 use Rattle.std.specs.Prelude.{Result, Ok, Err, OnErr, IsTrue, ◌↔◌}
 use Rattle.std.proofs.lemmas.Bool.{ltb-false, ltb-true}
-use Rattle.cells.specs.Bounds.{IsWithin, AreWithin}
+use Rattle.cells.proofs.SumLaws.{total-append}
 use Rattle.cells.specs.declared.cell.Cell.{Cell}
 use Rattle.hyper_matrix.specs.Counts.{Place, ewise_add, total}
 use Rattle.hyper_matrix.specs.Cells.{built_of, cell_total, entry_of}
-use Rattle.hyper_matrix.specs.Refusals.{first_fault}
 use Rattle.std.specs.FinMap.{entries, len, len-entries}
 use Rattle.std.proofs.lemmas.List.{length-map}
 use Rattle.hhm.specs.Sum.{cell_of, cells_in_order, matrix_text}
@@ -18,34 +17,6 @@ use Rattle.layer_cascade.proofs.KeptLemmas.{content-no_layers}
 use Rattle.hyper_matrix.specs.Matrix.{Matrix, matrix}
 use Rattle.hhm.specs.Running.{LayersSum}
 use Rattle.layer_cascade.proofs.CascadeLaws.{content-cascade}
-use Rattle.hyper_matrix.specs.declared.judge.BuildFault.{BuildFault}
-use Rattle.hyper_matrix.specs.declared.judge.BuildFault.TheVariants.{IndexOutOfRange, SumTooLarge}
-
-within_first : (r c : ℕ) (cell : Cell) (cells : List Cell) → AreWithin r c (cell ∷ cells) → IsWithin r c cell
-within_first r c cell cells h = h 0 cell (omega arith)
-
-within_rest : (r c : ℕ) (cell : Cell) (cells : List Cell) → AreWithin r c (cell ∷ cells) → AreWithin r c cells
-within_rest r c cell cells h k d l = h (suc k) d (omega arith)
-
--- cells within the dimensions are no matrix only where their counts pass 64 bits
-pub fault_passes : (r c s : ℕ) (cells : List Cell) (fault : BuildFault) → AreWithin r c cells → first_fault r c s cells ≡ Some fault → 2 ^ 64 ≤ s + cell_total cells
-fault_passes r c s [] fault h e = absurd (cc)
-fault_passes r c s (x ∷ xs) fault h e =
-    step (fault_passes r c (s + x.count) xs fault (within_rest r c x xs h)) (ltb x.row r) (ltb x.col c) (ltb (s + x.count) (2 ^ 64)) refl refl refl e
-  where
-    step : (first_fault r c (s + x.count) xs ≡ Some fault → 2 ^ 64 ≤ s + x.count + cell_total xs) → (p q b : Bool) → ltb x.row r ≡ p → ltb x.col c ≡ q → ltb (s + x.count) (2 ^ 64) ≡ b → cond (p && q) (cond b (first_fault r c (s + x.count) xs) (Some SumTooLarge)) (Some IndexOutOfRange) ≡ Some fault → 2 ^ 64 ≤ s + (x.count + cell_total xs)
-    step rest true true true t u v e = omega (arith, rest e)
-    step rest true true false t u v e = omega (arith, ltb-false (s + x.count) (2 ^ 64) v)
-    step rest true false b t u v e = omega (arith, ltb-false x.col c u, (within_first r c x xs h).1)
-    step rest false q b t u v e = omega (arith, ltb-false x.row r t, (within_first r c x xs h).0)
-
-pub cell_total-append : (xs ys : List Cell) → cell_total (xs ++ ys) ≡ cell_total xs + cell_total ys
-cell_total-append [] ys = omega arith
-cell_total-append (x ∷ xs) ys = let h = cell_total-append xs ys in omega arith
-
--- Cells within the dimensions whose counts fit 64 bits have no fault.
-pub fits_no_fault : {B : Type 0} (n r c : ℕ) (cells : List Cell) (fault : BuildFault) → AreWithin r c cells → n + cell_total cells < 2 ^ 64 → first_fault r c 0 cells ≡ Some fault → B
-fits_no_fault n r c cells fault within fits e = absurd (omega (arith, fits, fault_passes r c 0 cells fault within e))
 
 -- what a test that failed says
 pub not_below : (b : Bool) (m n : ℕ) → (IsTrue b ↔ (m < n)) → b ≡ false → n ≤ m
@@ -67,12 +38,12 @@ total_is rows cols cells layers sum = ap total sum.sum_is ∙ total-built_of cel
 -- Counts that do not fit beside those of the layers pass 64 bits behind their cells.
 pub sum_passes : (layers : Layering) (block : List Cell) → 2 ^ 64 ≤ total (content layers.layers) + cell_total block →
     (rows cols : ℕ) (cells : List Cell) → LayersSum rows cols cells layers → 2 ^ 64 ≤ cell_total (cells ++ block)
-sum_passes layers block passes rows cols cells sum = omega (arith, passes, total_is rows cols cells layers sum, cell_total-append cells block)
+sum_passes layers block passes rows cols cells sum = omega (arith, passes, total_is rows cols cells layers sum, total-append cells block)
 
 -- And those that fit beside them fit behind their cells.
 pub sum_fits : (layers : Layering) (block : List Cell) → total (content layers.layers) + cell_total block < 2 ^ 64 →
     (rows cols : ℕ) (cells : List Cell) → LayersSum rows cols cells layers → cell_total (cells ++ block) < 2 ^ 64
-sum_fits layers block fits rows cols cells sum = omega (arith, fits, total_is rows cols cells layers sum, cell_total-append cells block)
+sum_fits layers block fits rows cols cells sum = omega (arith, fits, total_is rows cols cells layers sum, total-append cells block)
 
 -- What layers hold fits.
 pub layers_fit : (layers : Layering) → IsLayering layers → (rows cols : ℕ) (cells : List Cell) → LayersSum rows cols cells layers → cell_total cells < 2 ^ 64
@@ -102,7 +73,7 @@ no_cells r c cuts layers is = record {
 
 -- What has passed stays so.
 pub stays_passed : (cells block : List Cell) → 2 ^ 64 ≤ cell_total cells → 2 ^ 64 ≤ cell_total (cells ++ block)
-stays_passed cells block h = omega (arith, h, cell_total-append cells block)
+stays_passed cells block h = omega (arith, h, total-append cells block)
 
 -- The sum of the layers is what their cells build, and its counts fit 64 bits together.
 pub layers_sum : (layers : Layering) (m : Matrix) → IsLayering layers → m ≡ matrix layers.rows layers.cols (content layers.layers) →

@@ -12,19 +12,17 @@ use Rattle.std.specs.Prelude.{nat_le}
 use Rattle.std.proofs.lemmas.Option.{none-some, same_Some, slice_get_past}
 use Rattle.hyper_rows.specs.Counts.{Place, place_cmp, count_sum}
 use Rattle.hyper_rows.specs.Rows.{Entries, Rows, at_places, cells_of}
+use Rattle.hyper_matrix.proofs.BlockLaws.{all_cells-append}
 use Rattle.hyper_matrix.specs.Blocks.{all_cells, ends_from}
 use Rattle.hyper_rows.specs.Search.{is_before, first_from, row_cells, TurnsAt, IsRowSum, RowsFull}
 use Rattle.hyper_matrix.specs.BlockSearch.{block_end, BeginsBehind, start_of_block, map_of, HaveRows, rows_at}
 use Rattle.hyper_matrix.specs.RowOf.{IsFirst, HasNoneFrom}
 use Rattle.hyper_rows.proofs.CountLaws.{places_total, exact_places, T_first, T_second, T_both, find_below}
-use Rattle.hyper_rows.proofs.SearchLaws.{AllBefore, EndsIn, ends-append, ends_before, ends_reached, passed, rows_end, sorted_left, sorted_right, before_trans, before_is, get_piece, none_behind, counted_more, counted_le, counted_all, sum-append, before_row, before_col, not_before_same, as_true, as_T}
+use Rattle.hyper_rows.proofs.SearchLaws.{AllBefore, EndsIn, ends-append, ends_before, ends_reached, passed, rows_end, before_trans, before_is, get_piece, none_behind, counted_more, counted_le, counted_all, sum-append, before_row, before_col, not_before_same, as_true, as_T}
+use Rattle.hyper_rows.proofs.OrderLaws.{sorted_front, sorted_back}
 
 pub block_ends : (rows : Rows) → RowsFull rows → 0 < length rows → EndsIn (cells_of rows) (block_end rows)
 block_ends rows f h = subst (λ (r : Rows). EndsIn (cells_of r) (block_end rows)) (take_all (length rows - 1 + 1) rows (omega arith)) (rows_end rows (length rows - 1) f (omega arith))
-
-pub all_cells-append : (xs ys : List Rows) → all_cells (xs ++ ys) ≡ all_cells xs ++ all_cells ys
-all_cells-append [] ys = refl
-all_cells-append (x ∷ xs) ys = ap (λ (l : List (Place × ℕ)). cells_of x ++ l) (all_cells-append xs ys) ∙ sym (append_assoc (cells_of x) (all_cells xs) (all_cells ys))
 
 pub blocks_at : (blocks : List Rows) (i : ℕ) → all_cells blocks ≡ all_cells (take i blocks) ++ all_cells (drop i blocks)
 blocks_at blocks i = ap all_cells (sym (take-append-drop i blocks)) ∙ all_cells-append (take i blocks) (drop i blocks)
@@ -51,7 +49,7 @@ full_block (x ∷ blocks) (suc i) f h = full_block blocks i f.1 (omega arith)
 
 pub block_sorted : (blocks : List Rows) (i : ℕ) → T (is_sorted place_cmp (all_cells blocks)) → i < length blocks → T (is_sorted place_cmp (cells_of (rows_at blocks i)))
 block_sorted blocks i sorted h =
-    sorted_left (cells_of (rows_at blocks i)) (all_cells (drop (i + 1) blocks)) (sorted_right (all_cells (take i blocks)) _ (subst (λ (l : List (Place × ℕ)). T (is_sorted place_cmp l)) (blocks_at blocks i ∙ ap (λ (l : List (Place × ℕ)). all_cells (take i blocks) ++ l) (block_behind blocks i h)) sorted))
+    sorted_front (cells_of (rows_at blocks i)) (all_cells (drop (i + 1) blocks)) (sorted_back (all_cells (take i blocks)) _ (subst (λ (l : List (Place × ℕ)). T (is_sorted place_cmp l)) (blocks_at blocks i ∙ ap (λ (l : List (Place × ℕ)). all_cells (take i blocks) ++ l) (block_behind blocks i h)) sorted))
 
 -- the blocks that end before a place hold only cells before it
 pub blocks_before : (blocks : List Rows) (q : Place) (i : ℕ) → T (is_sorted place_cmp (all_cells blocks)) → HaveRows blocks → (0 < i → RowsFull (rows_at blocks (i - 1))) → TurnsAt (λ k. is_before (block_end (rows_at blocks k)) q) (length blocks) i → AllBefore q (all_cells (take i blocks))
@@ -60,7 +58,7 @@ blocks_before blocks q (suc i) sorted f full t =
     let n = suc i - 1 in
     let lt : n < length blocks = omega (arith, t.within) in
     let block = rows_at blocks n in
-    let here = sorted_left (all_cells (take (n + 1) blocks)) (all_cells (drop (n + 1) blocks)) (subst (λ (l : List (Place × ℕ)). T (is_sorted place_cmp l)) (blocks_at blocks (n + 1)) sorted) in
+    let here = sorted_front (all_cells (take (n + 1) blocks)) (all_cells (drop (n + 1) blocks)) (subst (λ (l : List (Place × ℕ)). T (is_sorted place_cmp l)) (blocks_at blocks (n + 1)) sorted) in
     let ends : EndsIn (all_cells (take (n + 1) blocks)) (block_end block) = subst (λ (l : List (Place × ℕ)). EndsIn l (block_end block)) (sym (blocks_to blocks n lt)) (ends-append (all_cells (take n blocks)) (cells_of block) (block_end block) (block_ends block (full (omega arith)) (full_block blocks n f lt))) in
     subst (λ (k : ℕ). AllBefore q (all_cells (take k blocks))) {x = n + 1} {y = suc i} (omega arith) (ends_before _ _ q ends here (t.before (omega arith)))
 
@@ -244,17 +242,13 @@ module _ (blocks : List Rows) (r i entries total : ℕ) (sorted : T (is_sorted p
   pub blocks_summed_until : i < length blocks → BeginsBehind r (rows_at blocks i) → IsRowSum r (all_cells blocks) entries total
   blocks_summed_until lt b =
       let whole : all_cells (drop i blocks) ≡ cells_of (rows_at blocks i) ++ all_cells (drop (i + 1) blocks) = block_behind blocks i lt in
-      let behind = sorted_right (all_cells (take i blocks)) (all_cells (drop i blocks)) (subst (λ (l : List (Place × ℕ)). T (is_sorted place_cmp l)) (blocks_at blocks i) sorted) in
+      let behind = sorted_back (all_cells (take i blocks)) (all_cells (drop i blocks)) (subst (λ (l : List (Place × ℕ)). T (is_sorted place_cmp l)) (blocks_at blocks i) sorted) in
       let none : row_cells r (all_cells (drop i blocks)) ≡ [] = ap (row_cells r) whole ∙ none_in_block r (rows_at blocks i) (all_cells (drop (i + 1) blocks)) b (subst (λ (l : List (Place × ℕ)). T (is_sorted place_cmp l)) whole behind) in
       subst (λ (l : List (Place × ℕ)). IsRowSum r l entries total) (sym (blocks_at blocks i)) (counted_all r (all_cells (take i blocks)) (all_cells (drop i blocks)) entries total s none)
 
 pub begins_behind : (r : ℕ) (rows : Rows) (d : ℕ × Entries) → RowsFull rows → 0 < length rows → r < (get_or rows 0 d).0 → BeginsBehind r rows
 begins_behind r [] d f h lt = absurd (omega arith)
 begins_behind r (row ∷ rows) d f h lt = (lt, f.0)
-
-pub begins_not : (r : ℕ) (rows : Rows) (d : ℕ × Entries) → BeginsBehind r rows → (0 < length rows) × (r < (get_or rows 0 d).0)
-begins_not r [] d b = absurd b
-begins_not r (row ∷ rows) d b = (omega arith, b.0)
 
 -- the cells by their number, over the blocks
 

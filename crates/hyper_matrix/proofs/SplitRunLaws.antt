@@ -36,13 +36,6 @@ head_behind at (x ∷ []) n zero d e h b = absurd (omega (arith, e.1))
 head_behind at (x ∷ y ∷ hs) n zero d e h b = omega arith
 head_behind at (x ∷ hs) n (suc k) d e h b = omega (arith, head_behind x.1 hs n k d e.1 (omega arith) b)
 
--- and there is one where something is left
-pub head_here : (at : ℕ) (hs : List (ℕ × ℕ)) (row n : ℕ) → EndsAt at (drop row hs) n → at < n → row < length hs
-head_here at [] zero n e h = absurd (omega (arith, e))
-head_here at [] (suc row) n e h = absurd (omega (arith, e))
-head_here at (x ∷ hs) zero n e h = omega arith
-head_here at (x ∷ hs) (suc row) n e h = omega (arith, head_here at hs row n e h)
-
 -- nothing is left at the end
 pub no_head : (n : ℕ) (hs : List (ℕ × ℕ)) → EndsAt n hs n → hs ≡ []
 no_head n [] e = refl

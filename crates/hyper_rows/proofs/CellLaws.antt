@@ -1,12 +1,13 @@
 -- The sum of rows is the sum of the finite maps that they stand for.
-use Rattle.std.proofs.Common.{◌≡◌, ℕ, ◌+◌, ◌<◌, ◌≤◌, ◌⊎◌, false, cond, eqb, T, List, [], ◌∷◌, ◌++◌, Option, Some, None, Ordering, sym, ◌∙◌, ap, subst, refl, inl, inr, arith}
+use Rattle.std.proofs.Common.{◌≡◌, ℕ, ◌+◌, ◌<◌, ◌≤◌, false, cond, eqb, T, List, [], ◌∷◌, ◌++◌, Option, Some, None, Ordering, sym, ◌∙◌, ap, subst, refl, inl, inr, arith}
 use Rattle.std.specs.Option.{option_and_then}
-use Rattle.std.specs.Ordering.{nat_cmp, eq_by_cmp, is_eq, is_lt, ordering_then}
-use Rattle.std.specs.Cmp.{unsigned_tied, nat_cmp_is}
-use Rattle.std.specs.FinMap.{find, get, get-from_entries, from_entries, entries, empty, is_sorted}
+use Rattle.std.specs.Ordering.{nat_cmp, eq_by_cmp, is_eq, ordering_then}
+use Rattle.std.specs.Cmp.{unsigned_tied}
+use Rattle.std.specs.FinMap.{find, get, get-from_entries, from_entries, entries, is_sorted}
 use Rattle.std.specs.FinMap.Entries.{below_all}
 use Rattle.std.proofs.lemmas.Bool.{cases_order, cases_eq, eq-eqb, ne_eqb}
 use Rattle.std.proofs.lemmas.Option.{none-some, same_Some}
+use Rattle.cells.proofs.OrderLaws.{less_place}
 use Rattle.hyper_rows.specs.Counts.{Place, place_cmp, plus, ewise_add, total, count_sum}
 use Rattle.hyper_rows.specs.Merged.{merged}
 use Rattle.hyper_rows.specs.Rows.{Entries, Rows, sum_entries, sum_rows, at_places, cells_of, KeysAbove, AreRising, ColumnsRise, InOrder, counts_of, rows_total}
@@ -181,10 +182,6 @@ counts_of-sum_rows a b x y = same_counts _ _ (λ q.
     ∙ in_both q.1 (found q.0 a) (found q.0 b) (λ es e. columns_at a q.0 es x.columns e) (λ es e. columns_at b q.0 es y.columns e)
     ∙ sym (get-ewise_add (from_entries (cells_of a)) (from_entries (cells_of b)) q ∙ ap (λ o. plus o (get {R = place_cmp} (from_entries (cells_of b)) q)) at_a ∙ ap (plus (option_and_then (found q.1) (found q.0 a))) at_b))
 
-pub less_place : (r c s d : ℕ) → (r < s) ⊎ ((r ≡ s) × (c < d)) → T (is_lt (place_cmp (r, c) (s, d)))
-less_place r c s d (inl h) = subst (λ o. T (is_lt (ordering_then o (nat_cmp c d)))) (nat_cmp_is r s Ordering.Less h) tt
-less_place r c s d (inr h) = subst (λ o. T (is_lt (ordering_then o (nat_cmp c d)))) (nat_cmp_is r s Ordering.Equal h.0) (subst (λ o. T (is_lt o)) (nat_cmp_is c d Ordering.Less h.1) tt)
-
 below_row : (r c s : ℕ) (es : Entries) (rest : List (Place × ℕ)) → r < s → T (below_all place_cmp (r, c) rest) → T (below_all place_cmp (r, c) (at_places s es ++ rest))
 below_row r c s [] rest h b = b
 below_row r c s (e ∷ es) rest h b = T_both _ _ (less_place r c s e.0 (inl h)) (below_row r c s es rest h b)
@@ -222,7 +219,3 @@ sum_of_cells (row ∷ rows) = omega (arith, sum_of_row row.0 row.1 (cells_of row
 pub total-counts_of : (rows : Rows) → InOrder rows → total (counts_of rows) ≡ rows_total rows
 unfolding total
 total-counts_of rows h = ap count_sum (entries-counts_of rows h) ∙ sum_of_cells rows
-
-pub counts_of-nil : counts_of [] ≡ empty
-unfolding counts_of
-counts_of-nil = refl

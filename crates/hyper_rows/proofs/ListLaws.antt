@@ -1,18 +1,12 @@
 -- What a list of cells builds: it doesn't depend on the order of the list, and each place has the sum of its counts.
-use Rattle.std.proofs.Common.{eqb, T, ◌≡◌, ℕ, ◌+◌, ◌<◌, ◌^◌, ◌&&◌, Bool, true, false, cond, ltb, List, [], ◌∷◌, ◌++◌, length, subst, map, Option, Some, None, sym, ◌∙◌, ap, refl, inl, inr, arith}
+use Rattle.std.proofs.Common.{eqb, T, ◌≡◌, ℕ, ◌+◌, ◌<◌, ◌&&◌, Bool, true, false, cond, List, [], ◌∷◌, ◌++◌, length, subst, map, Option, Some, None, sym, ◌∙◌, ap, refl, arith}
 use Rattle.std.specs.Prelude.{IsSome, ◌↔◌, unwrap_or}
 use Rattle.std.proofs.lemmas.List.{map-append}
-use Rattle.std.specs.Ordering.{eq_by_cmp}
-use Rattle.std.specs.List.Sorted.{IsPermutation}
-use Rattle.std.proofs.lemmas.Bool.{lt-ltb, le-ltb, cases_lt, ltb-true}
-use Rattle.std.proofs.lemmas.List.Recursion.{is_sum_by}
-use Rattle.std.proofs.lemmas.List.Sorted.{sum_by-IsPermutation}
 use Rattle.hyper_rows.specs.Counts.{Place, place_cmp, plus, count_at, ewise_add, built, total, count_sum}
 use Rattle.cells.specs.Sums.{sum_at, stands_at}
 use Rattle.hyper_rows.specs.Cells.{entry_of, built_of, cell_total, cells_at}
 use Rattle.cells.specs.declared.cell.Cell.{Cell}
 use Rattle.std.specs.FinMap.{get, get-from_entries, empty, is_sorted, entries}
-use Rattle.std.specs.List.{AllByRecursion}
 use Rattle.hyper_rows.specs.Rows.{Rows, InOrder, cells_of, counts_of}
 use Rattle.hyper_rows.proofs.PlaceLaws.{built-in_order, entries-in_order}
 use Rattle.hyper_rows.proofs.CellLaws.{sorted_rows, same_place}

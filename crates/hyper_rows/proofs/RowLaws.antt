@@ -247,7 +247,7 @@ heads_unmoved first (x ∷ hs) h =
     ∙ ap (λ (r : List (ℕ × ℕ)). x ∷ r) (heads_unmoved first hs (λ k d m. h (suc k) d (omega arith)))
 
 -- the cells are as many as the entries
-length-cells_from : (at : ℕ) (hs : List (ℕ × ℕ)) (es : Entries) (n : ℕ) → EndsAt at hs n → n ≤ length es → at + length (cells_of (rows_from at hs es)) ≡ n
+pub length-cells_from : (at : ℕ) (hs : List (ℕ × ℕ)) (es : Entries) (n : ℕ) → EndsAt at hs n → n ≤ length es → at + length (cells_of (rows_from at hs es)) ≡ n
 length-cells_from at [] es n e h = omega (arith, e)
 length-cells_from at (x ∷ hs) es n e h =
     omega (arith, e.0, ends_le x.1 hs n e.1, length-cells_from x.1 hs es n e.1 h, length-append (at_places x.0 (slice_range es at x.1)) (cells_of (rows_from x.1 hs es)), length-map {B = Place × ℕ} (slice_range es at x.1) (λ (e : ℕ × ℕ). ((x.0, e.0), e.1)), length-take (x.1 - at) (drop at es), length-drop at es)

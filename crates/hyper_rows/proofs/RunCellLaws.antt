@@ -1,9 +1,9 @@
 -- The cells of a run, one after the other.
-use Rattle.std.proofs.Common.{◌≡◌, ℕ, suc, ◌+◌, ◌-◌, ◌<◌, ◌≤◌, List, [], ◌∷◌, ◌++◌, length, get_or, take, drop, sym, ◌∙◌, ap, subst, arith, length-append}
+use Rattle.std.proofs.Common.{◌≡◌, ℕ, suc, ◌+◌, ◌-◌, ◌<◌, ◌≤◌, List, [], ◌∷◌, ◌++◌, length, get_or, take, drop, sym, ◌∙◌, ap, subst, arith}
 use Rattle.std.specs.List.{slice_range}
-use Rattle.std.proofs.lemmas.List.{drop_more, length-map}
+use Rattle.std.proofs.lemmas.List.{drop_more}
 use Rattle.hyper_rows.specs.Counts.{Place}
-use Rattle.hyper_rows.specs.Rows.{Rows, Entries, rows_from, EndsAt, cells_of, at_places}
+use Rattle.hyper_rows.specs.Rows.{Entries, rows_from, EndsAt, cells_of, at_places}
 use Rattle.hyper_rows.proofs.RowLaws.{ends_le}
 
 -- a part of no length
@@ -55,11 +55,6 @@ pub cell_read : (heads : List (ℕ × ℕ)) (es : Entries) (row at end : ℕ) (l
     left ≡ ((row, (get_or es at d).0), (get_or es at d).1) ∷ run_left heads es row (at + 1) end
 cell_read heads es row at end left d h =
     sym h.left_is ∙ ap (λ (s : Entries). at_places row s ++ cells_of (rows_from end heads es)) (slice_first es at end d h.order h.within)
-
--- where no row is left, no cell is
-pub run_ends : (heads : List (ℕ × ℕ)) (es : Entries) (row at end : ℕ) → at ≡ end → heads ≡ [] → run_left heads es row at end ≡ []
-run_ends heads es row at end done none =
-    ap (λ (hs : List (ℕ × ℕ)). run_left hs es row at end) none ∙ ap (λ (s : Entries). at_places row s ++ []) (slice_none es at end done)
 
 pub cell_there : (heads : List (ℕ × ℕ)) (es : Entries) (row at end : ℕ) (left : List (Place × ℕ)) → IsBegun heads es row at end left → at < length es
 cell_there heads es row at end left h = omega (arith, h.order, h.within)

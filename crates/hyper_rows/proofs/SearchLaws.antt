@@ -11,11 +11,12 @@ use Rattle.std.specs.Cmp.{nat_cmp_is}
 use Rattle.std.proofs.lemmas.Bool.{cases_order, cases_lt, lt-ltb, eq-eqb, ne_eqb, ltb-true, leb-true, leb-false, false≢true}
 use Rattle.std.proofs.lemmas.List.{append-nil, take-append-drop, take_more, take_all, drop_more, drop_all, map-append, length-map}
 use Rattle.std.proofs.lemmas.List.Elements.{filter-append}
+use Rattle.hyper_rows.proofs.OrderLaws.{sorted_front, sorted_back}
 use Rattle.hyper_rows.specs.Counts.{Place, place_cmp, count_sum}
 use Rattle.hyper_rows.specs.Rows.{Entries, Rows, at_places, cells_of}
 use Rattle.hyper_rows.specs.Search.{is_before, first_from, row_cells, last_place, row_end, TurnsAt, StandsAt, IsRowSum, RowsFrom, RowsFull}
 use Rattle.hyper_rows.proofs.CountLaws.{places_total, T_first, T_second, T_both}
-use Rattle.hyper_rows.proofs.CellLaws.{less_place}
+use Rattle.cells.proofs.OrderLaws.{less_place}
 use Rattle.hyper_rows.proofs.SortLaws.{not_below}
 
 -- places
@@ -84,14 +85,6 @@ below_left p (x ∷ xs) ys h = T_both _ _ (T_first _ _ h) (below_left p xs ys (T
 below_right : (p : Place) (xs ys : List (Place × ℕ)) → T (below_all place_cmp p (xs ++ ys)) → T (below_all place_cmp p ys)
 below_right p [] ys h = h
 below_right p (x ∷ xs) ys h = below_right p xs ys (T_second _ _ h)
-
-pub sorted_left : (xs ys : List (Place × ℕ)) → T (is_sorted place_cmp (xs ++ ys)) → T (is_sorted place_cmp xs)
-sorted_left [] ys h = tt
-sorted_left (x ∷ xs) ys h = T_both _ _ (below_left x.0 xs ys (T_first _ _ h)) (sorted_left xs ys (T_second _ _ h))
-
-pub sorted_right : (xs ys : List (Place × ℕ)) → T (is_sorted place_cmp (xs ++ ys)) → T (is_sorted place_cmp ys)
-sorted_right [] ys h = h
-sorted_right (x ∷ xs) ys h = sorted_right xs ys (T_second _ _ h)
 
 -- each cell comes before a place
 abbrev pub AllBefore : Place → List (Place × ℕ) → Type 0
@@ -175,7 +168,7 @@ rows_before rows q zero sorted f t = tt
 rows_before rows q (suc i) sorted f t =
     let n = suc i - 1 in
     let lt : n < length rows = omega (arith, t.within) in
-    let here = sorted_left (cells_of (take (n + 1) rows)) (cells_of (drop (n + 1) rows)) (subst (λ (l : List (Place × ℕ)). T (is_sorted place_cmp l)) (cells_at rows (n + 1)) sorted) in
+    let here = sorted_front (cells_of (take (n + 1) rows)) (cells_of (drop (n + 1) rows)) (subst (λ (l : List (Place × ℕ)). T (is_sorted place_cmp l)) (cells_at rows (n + 1)) sorted) in
     subst (λ (k : ℕ). AllBefore q (cells_of (take k rows))) {x = n + 1} {y = suc i} (omega arith) (ends_before _ _ q (rows_end rows n f lt) here (t.before (omega arith)))
 
 -- a row's entries before a column
@@ -186,7 +179,7 @@ entries_before r c es (suc j) sorted t =
     let e = get_or es n (0, 0) in
     let lt : n < length es = omega (arith, t.within) in
     let whole : at_places r es ≡ at_places r (take (n + 1) es) ++ at_places r (drop (n + 1) es) = ap (at_places r) (sym (take-append-drop (n + 1) es)) ∙ places-append r (take (n + 1) es) (drop (n + 1) es) in
-    let here = sorted_left (at_places r (take (n + 1) es)) (at_places r (drop (n + 1) es)) (subst (λ (l : List (Place × ℕ)). T (is_sorted place_cmp l)) whole sorted) in
+    let here = sorted_front (at_places r (take (n + 1) es)) (at_places r (drop (n + 1) es)) (subst (λ (l : List (Place × ℕ)). T (is_sorted place_cmp l)) whole sorted) in
     let ends : EndsIn (at_places r (take (n + 1) es)) (r, e.0) = record { front = at_places r (take n es); count = e.1; is = ap (at_places r) (take_more es n (0, 0) lt) ∙ places-append r (take n es) (e ∷ []) } in
     subst (λ (k : ℕ). AllBefore (r, c) (at_places r (take k es))) {x = n + 1} {y = suc j} (omega arith) (ends_before _ _ (r, c) ends here (before_col r e.0 c (ltb-true e.0 c (t.before (omega arith)))))
 
@@ -234,7 +227,7 @@ pub row_sorted : (rows : Rows) (i : ℕ) → T (is_sorted place_cmp (cells_of ro
 row_sorted rows i sorted lt =
     let row = get_or rows i (0, []) in
     let whole : cells_of rows ≡ cells_of (take i rows) ++ (at_places row.0 row.1 ++ cells_of (drop (i + 1) rows)) = cells_at rows i ∙ ap (λ (l : List (Place × ℕ)). cells_of (take i rows) ++ l) (cells_behind rows i lt) in
-    sorted_left (at_places row.0 row.1) (cells_of (drop (i + 1) rows)) (sorted_right (cells_of (take i rows)) _ (subst (λ (l : List (Place × ℕ)). T (is_sorted place_cmp l)) whole sorted))
+    sorted_front (at_places row.0 row.1) (cells_of (drop (i + 1) rows)) (sorted_back (cells_of (take i rows)) _ (subst (λ (l : List (Place × ℕ)). T (is_sorted place_cmp l)) whole sorted))
 
 -- the same with the row's number and entries as they were read
 pub first_read : (rows : Rows) (q : Place) (i j r : ℕ) (es : Entries) → T (is_sorted place_cmp (cells_of rows)) → RowsFull rows → TurnsAt (λ k. is_before (row_end rows k) q) (length rows) i → i < length rows → r ≡ (get_or rows i (0, [])).0 → es ≡ (get_or rows i (0, [])).1 → StandsAt r es q j → Some ((r, (get_or es j (0, 0)).0), (get_or es j (0, 0)).1) ≡ first_from q (cells_of rows)
@@ -327,7 +320,7 @@ full_behind [] (suc i) f = tt
 full_behind (x ∷ rows) (suc i) f = full_behind rows i f.1
 
 pub sorted_behind : (rows : Rows) (i : ℕ) → T (is_sorted place_cmp (cells_of rows)) → T (is_sorted place_cmp (cells_of (drop i rows)))
-sorted_behind rows i sorted = sorted_right (cells_of (take i rows)) (cells_of (drop i rows)) (subst (λ (l : List (Place × ℕ)). T (is_sorted place_cmp l)) (cells_at rows i) sorted)
+sorted_behind rows i sorted = sorted_back (cells_of (take i rows)) (cells_of (drop i rows)) (subst (λ (l : List (Place × ℕ)). T (is_sorted place_cmp l)) (cells_at rows i) sorted)
 
 -- from the row on where r would begin, no row is below r
 pub rows_from_turn : (rows : Rows) (r i : ℕ) → T (is_sorted place_cmp (cells_of rows)) → RowsFull rows → TurnsAt (λ k. is_before (row_end rows k) (r, 0)) (length rows) i → RowsFrom r (drop i rows)

@@ -1,5 +1,5 @@
 -- Sorted cells made into rows: a cell more at the place of the last, in its row, or in a new row.
-use Rattle.std.proofs.Common.{◌≡◌, ℕ, zero, suc, ◌+◌, ◌-◌, ◌<◌, ◌≤◌, ◌⊎◌, Bool, true, false, cond, T, List, [], ◌∷◌, ◌++◌, length, get_or, take, drop, map, Some, None, sym, ◌∙◌, ap, subst, refl, inl, inr, arith, append_assoc, length-append}
+use Rattle.std.proofs.Common.{◌≡◌, ℕ, ◌+◌, ◌-◌, ◌<◌, ◌≤◌, ◌⊎◌, Bool, true, false, cond, T, List, [], ◌∷◌, ◌++◌, length, get_or, take, drop, map, Some, None, sym, ◌∙◌, ap, subst, refl, inl, inr, arith, append_assoc, length-append}
 use Rattle.std.specs.Ordering.{is_lt, eq_by_cmp}
 use Rattle.std.proofs.lemmas.Bool.{cases_order, cases_lt}
 use Rattle.std.proofs.lemmas.List.{append-nil, drop-append-le, drop_all, map-append, take_more, take_all, get_or_default}
@@ -10,7 +10,7 @@ use Rattle.cells.specs.Order.{NeverFall}
 use Rattle.cells.specs.declared.cell.Cell.{Cell}
 use Rattle.cells.proofs.SumLaws.{total-push, total_take}
 use Rattle.hyper_rows.proofs.CountLaws.{gathered, gathered-append, get-built, same_counts, built-append}
-use Rattle.hyper_rows.proofs.CellLaws.{less_place}
+use Rattle.cells.proofs.OrderLaws.{less_place}
 use Rattle.std.specs.List.{slice_range}
 use Rattle.std.proofs.lemmas.Slice.{between_to_end}
 use Rattle.hyper_rows.proofs.RowLaws.{rows_from-extend, ends-append, rows_from-append}

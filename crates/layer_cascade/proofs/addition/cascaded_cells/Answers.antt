@@ -11,14 +11,25 @@ use Rattle.layer_cascade.proofs.addition.cascaded_cells.Goals as goal
 
 pub into_sum_with_cells-requires-clause-fits : goal.into_sum_with_cells-requires-clause-fits
 into_sum_with_cells-requires-clause-fits c =
-    omega (arith, ap (λ (m : Matrix). total m.counts) c.in_ok-first.ensures, first_total c.replace-first.result c.args.layers.items (omega (arith, c.requires.count))
-    (c.replace-first.ensures.value ∙ c.index_mut.ensures.value ∙ ap (get_or c.args.layers.items 0) (sym c.replace-first.ensures.value)), c.requires.fits)
+    omega (
+      arith,
+      ap (λ (m : Matrix). total m.counts) c.in_ok-first.ensures,
+      first_total c.replace-first.result c.args.layers.items (omega (arith, c.requires.count))
+          (c.replace-first.ensures.value ∙ c.index_mut.ensures.value ∙ ap (get_or c.args.layers.items 0) (sym c.replace-first.ensures.value)),
+      c.requires.fits,
+    )
 
 pub cascaded-requires-clause-fits : goal.cascaded-requires-clause-fits
 cascaded-requires-clause-fits c =
-    omega (arith, ap (λ (m : Matrix). total m.counts) c.in_ok-sum.ensures, ap (λ (m : Matrix). total (ewise_add m.counts (built_of c.args.cells.now))) c.in_ok-first.ensures,
-    first_totals c.replace-first.result c.replace-first.new.dest c.args.cuts.now (built_of c.args.cells.now) (holds_none _ _ _ c.replace-first.ensures.after c.in_ok-none.ensures c.requires.none) c.args.layers.items (omega (arith, c.requires.count))
-    (c.replace-first.ensures.value ∙ c.index_mut.ensures.value ∙ ap (get_or c.args.layers.items 0) (sym c.replace-first.ensures.value)), total-built_of c.args.cells.now, c.requires.fits)
+    omega (
+      arith,
+      ap (λ (m : Matrix). total m.counts) c.in_ok-sum.ensures,
+      ap (λ (m : Matrix). total (ewise_add m.counts (built_of c.args.cells.now))) c.in_ok-first.ensures,
+      first_totals c.replace-first.result c.replace-first.new.dest c.args.cuts.now (built_of c.args.cells.now) (holds_none _ _ _ c.replace-first.ensures.after c.in_ok-none.ensures c.requires.none) c.args.layers.items (omega (arith, c.requires.count))
+          (c.replace-first.ensures.value ∙ c.index_mut.ensures.value ∙ ap (get_or c.args.layers.items 0) (sym c.replace-first.ensures.value)),
+      total-built_of c.args.cells.now,
+      c.requires.fits,
+    )
 
 pub returns-clause-counts : goal.returns-clause-counts
 returns-clause-counts c =
