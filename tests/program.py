@@ -236,8 +236,9 @@ def a_folder_as_input(program):
 def an_output_that_fails(program):
     """Closed, and with room for so many bytes."""
     none = Case("a closed standard output", ["sum"], SMALL, error="hhm: output failed after 0 bytes\n", status=4)
-    with tempfile.TemporaryFile() as output:
-        yield none.name, run(program, none, stdout=output, preexec_fn=lambda: os.close(1))
+    for case in [none, none._replace(name="the version on a closed standard output", words=["--version"])]:
+        with tempfile.TemporaryFile() as output:
+            yield case.name, run(program, case, stdout=output, preexec_fn=lambda: os.close(1))
     long = f"{BANNER}5000 1 5000\n" + "".join(f"{n} 1 {n}\n" for n in range(1, 5_001))
     for text, output, room in [
         (SMALL, SMALL_SUM, 0),

@@ -1,31 +1,25 @@
 //! Worked examples of layers of 3 rows and 3 columns.
+use crate::adding::{add, moved, planned};
 use cells::Cell;
 use hyper_matrix::{BuildFault, Hyper};
-use layer_cascade::{CascadeFault, LayerView, Layers, Plan, are_cuts};
+use layer_cascade::{CascadeFault, LayerView, Layers, are_cuts};
 use std::alloc::{AllocError, Global};
-use std::process::Abort;
 use std::test::Fail;
 
 fn one_cell(alloc: Global, row: u64, col: u64, count: u64) -> Result<Hyper, BuildFault> {
     Hyper::build(alloc, 3, 3, &[Cell { row, col, count }])
 }
 
-/// The plan of a matrix that fits.
-fn planned(alloc: Global, layers: &Layers, m: &Hyper) -> Result<Option<Plan>, AllocError> {
-    let fits = layers.total().checked_add(m.total()).is_some();
-    if layers.dims() != m.dims() || !fits {
-        return Ok(None);
-    }
-    let plan = layers.plan(alloc, m)?;
-    Ok(Some(plan))
-}
-
 /// Adds one cell by a plan.
-fn add(alloc: Global, layers: &mut Layers, row: u64, col: u64, count: u64) -> Result<(), Fail> {
+fn add_cell(
+    alloc: Global,
+    layers: &mut Layers,
+    row: u64,
+    col: u64,
+    count: u64,
+) -> Result<(), Fail> {
     let m = one_cell(alloc, row, col, count)?;
-    if let Some(plan) = planned(alloc, layers, &m)? {
-        layers.commit(plan);
-    }
+    add(alloc, layers, &m)?;
     Ok(())
 }
 
@@ -45,21 +39,11 @@ fn entries_of_sum(alloc: Global, layers: &Layers) -> Result<u64, AllocError> {
     Ok(sum.entries())
 }
 
-/// Adds one more cell of count 7, and looks at the layers.
-fn check_step(
-    rt: &impl Abort,
-    alloc: Global,
-    layers: &mut Layers,
-    (row, col): (u64, u64),
-    added: u64,
-    want: [u64; 3],
-) -> Result<(), Fail> {
-    add(alloc, layers, row, col, 7)?;
-    assert_eq!(rt; sizes(layers), want, "after {added}");
-    assert_eq!(rt; layers.total(), added.saturating_mul(7));
-    assert_eq!(rt; layers.get(row, col), Some(7));
-    assert_eq!(rt; entries_of_sum(alloc, layers)?, added);
-    Ok(())
+/// Whether the layers have these entries, and so many cells of count 7, of which one stands here.
+fn hold(layers: &Layers, (row, col): (u64, u64), added: u64, want: [u64; 3]) -> bool {
+    sizes(layers) == want
+        && layers.total() == added.saturating_mul(7)
+        && layers.get(row, col) == Some(7)
 }
 
 #[test]
@@ -76,34 +60,45 @@ fn distinct_cells_cascade(rt: HostRuntime) -> Result<(), Fail> {
     let mut added = 0u64;
     for (place, want) in steps {
         added = added.saturating_add(1);
-        check_step(&rt, rt.alloc(), &mut layers, place, added, want)?;
+        add_cell(rt.alloc(), &mut layers, place.0, place.1, 7)?;
+        assert!(rt; hold(&layers, place, added, want), "after {added}");
+        assert!(rt;
+            entries_of_sum(rt.alloc(), &layers)? == added,
+            "after {added}"
+        );
     }
-    assert_eq!(rt; layers.get(1, 2), None);
-    assert_eq!(rt; layers.get(3, 0), None);
+    assert!(rt; layers.get(1, 2).is_none() && layers.get(3, 0).is_none());
     Ok(())
+}
+
+fn holds_six_in_the_first(layers: &Layers) -> bool {
+    let row = layers.row_total(1);
+    sizes(layers) == [1, 0, 0] && layers.get(1, 2) == Some(6) && row.entries == 1 && row.total == 6
 }
 
 #[test]
 fn one_cell_stays_in_the_first_layer(rt: HostRuntime) -> Result<(), Fail> {
     let mut layers = Layers::new(rt.alloc(), 3, 3, &[2, 4])?;
     for _ in 0..6 {
-        add(rt.alloc(), &mut layers, 1, 2, 1)?;
+        add_cell(rt.alloc(), &mut layers, 1, 2, 1)?;
     }
-    assert_eq!(rt; sizes(&layers), [1, 0, 0]);
-    assert_eq!(rt; layers.get(1, 2), Some(6));
-    let row = layers.row_total(1);
-    assert_eq!(rt; (row.entries, row.total), (1, 6));
+    assert!(rt; holds_six_in_the_first(&layers));
     Ok(())
+}
+
+/// Whether these are new layers of 3 rows and 5 columns, with the cuts 2 and 4.
+fn are_new(layers: &Layers) -> bool {
+    layers.dims() == (3, 5)
+        && layers.cuts() == [2, 4].as_slice()
+        && sizes(layers) == [0, 0, 0]
+        && layers.layer_entries(0).is_none()
+        && layers.layer_entries(4).is_none()
 }
 
 #[test]
 fn new_layers_are_told(rt: HostRuntime) -> Result<(), Fail> {
     let layers = Layers::new(rt.alloc(), 3, 5, &[2, 4])?;
-    assert_eq!(rt; layers.dims(), (3, 5));
-    assert_eq!(rt; layers.cuts(), [2, 4].as_slice());
-    assert_eq!(rt; sizes(&layers), [0, 0, 0]);
-    assert_eq!(rt; layers.layer_entries(0), None);
-    assert_eq!(rt; layers.layer_entries(4), None);
+    assert!(rt; are_new(&layers));
     Ok(())
 }
 
@@ -122,44 +117,30 @@ fn plan_changes_nothing(alloc: Global, layers: &mut Layers) -> Result<bool, Fail
 #[test]
 fn a_plan_changes_nothing(rt: HostRuntime) -> Result<(), Fail> {
     let mut layers = Layers::new(rt.alloc(), 3, 3, &[])?;
-    add(rt.alloc(), &mut layers, 0, 0, 0)?;
+    add_cell(rt.alloc(), &mut layers, 0, 0, 0)?;
     assert!(rt; plan_changes_nothing(rt.alloc(), &mut layers)?);
     assert_eq!(rt; layers.layer_entries(2), None);
     Ok(())
 }
 
-/// The entries and the total of a view's sum.
-fn seen(alloc: Global, view: &LayerView) -> Result<(u64, u64), AllocError> {
+/// Whether the sum of a view has so many entries and this total.
+fn sees(alloc: Global, view: &LayerView, entries: u64, total: u64) -> Result<bool, AllocError> {
     let sum = view.sum(alloc)?;
-    Ok((sum.entries(), sum.total()))
-}
-
-/// The layers with one more cell, given away.
-fn moved(alloc: Global, layers: Layers, row: u64, col: u64, count: u64) -> Result<Layers, Fail> {
-    let m = one_cell(alloc, row, col, count)?;
-    let fits = layers.total().checked_add(m.total()).is_some();
-    if layers.dims() != m.dims() || !fits {
-        return Ok(layers);
-    }
-    let after = layers.add(alloc, m)?;
-    Ok(after)
+    Ok(sum.entries() == entries && sum.total() == total)
 }
 
 #[test]
 fn a_view_stays_as_it_was(rt: HostRuntime) -> Result<(), Fail> {
     let mut layers = Layers::new(rt.alloc(), 3, 3, &[2])?;
-    add(rt.alloc(), &mut layers, 0, 0, 5)?;
+    add_cell(rt.alloc(), &mut layers, 0, 0, 5)?;
     let view = layers.view(rt.alloc())?;
-    add(rt.alloc(), &mut layers, 0, 0, 3)?;
-    let layers = moved(rt.alloc(), layers, 2, 1, 1)?;
-    assert_eq!(rt; seen(rt.alloc(), &view)?, (1, 5));
-    assert_eq!(rt; (layers.layer_entries(1), layers.total()), (Some(2), 9));
-    drop_layers(layers);
-    assert_eq!(rt; seen(rt.alloc(), &view)?, (1, 5));
+    add_cell(rt.alloc(), &mut layers, 0, 0, 3)?;
+    assert!(rt; sees(rt.alloc(), &view, 1, 5)?);
+    let layers = moved(rt.alloc(), layers, one_cell(rt.alloc(), 2, 1, 1)?)?;
+    assert!(rt; layers.layer_entries(1) == Some(2) && layers.total() == 9);
+    assert!(rt; sees(rt.alloc(), &view, 1, 5)?);
     Ok(())
 }
-
-fn drop_layers(_layers: Layers) {}
 
 fn judged(alloc: Global, cuts: &[u64]) -> Option<CascadeFault> {
     Layers::new(alloc, 3, 3, cuts).err()

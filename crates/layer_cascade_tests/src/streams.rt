@@ -3,6 +3,7 @@ ghost use Rattle.std.specs.Prelude.{◌≡◌, ◌+◌, ◌<◌, ◌^◌};
 ghost use Rattle.hyper_matrix.specs.Counts.{total};
 ghost use Rattle.layer_cascade.specs.Cascade.{content};
 
+use crate::adding::{add, fits, moved};
 use cells::Cell;
 use hyper_matrix::{BuildFault, Hyper};
 use layer_cascade::Layers;
@@ -44,26 +45,9 @@ fn sum_of(alloc: Global, from: u64, to: u64) -> Result<Hyper, BuildFault> {
     }
 }
 
-/// Adds matrix `i` by a plan.
-fn add(alloc: Global, layers: &mut Layers, i: u64) -> Result<(), Fail> {
-    let m = sum_of(alloc, i, i.wrapping_add(1))?;
-    let fits = layers.total().checked_add(m.total()).is_some();
-    if layers.dims() == m.dims() && fits {
-        let plan = layers.plan(alloc, &m)?;
-        layers.commit(plan);
-    }
-    Ok(())
-}
-
-/// The layers with matrix `i`, given away.
-fn moved(alloc: Global, layers: Layers, i: u64) -> Result<Layers, Fail> {
-    let m = sum_of(alloc, i, i.wrapping_add(1))?;
-    let fits = layers.total().checked_add(m.total()).is_some();
-    if layers.dims() != m.dims() || !fits {
-        return Ok(layers);
-    }
-    let after = layers.add(alloc, m)?;
-    Ok(after)
+/// Matrix `i` of the stream.
+fn matrix(alloc: Global, i: u64) -> Result<Hyper, BuildFault> {
+    sum_of(alloc, i, i.wrapping_add(1))
 }
 
 /// Whether two matrices have the same cells.
@@ -123,7 +107,7 @@ const ALL_CUTS: [&[u64]; 6] = [
 fn check_planned(rt: &impl Abort, alloc: Global, cuts: &[u64]) -> Result<(), Fail> {
     let mut layers = Layers::new(alloc, 9, 9, cuts)?;
     for i in 0..20u64 {
-        add(alloc, &mut layers, i)?;
+        add(alloc, &mut layers, &matrix(alloc, i)?)?;
         assert!(rt;
             holds_first(alloc, &layers, i.wrapping_add(1))?,
             "after {i}"
@@ -171,23 +155,20 @@ fn add_while_shared(
 fn moved_while_shared(
     alloc: Global,
     layers: Layers,
+    m: Hyper,
     others: &mut Layers,
-    i: u64,
-) -> Result<Layers, Fail> {
-    let m = sum_of(alloc, i, i.wrapping_add(1))?;
-    let fits = layers.total().checked_add(m.total()).is_some();
-    if layers.dims() != m.dims() || !fits {
-        return Ok(layers);
+) -> Result<Layers, AllocError> {
+    if fits(&layers, &m) {
+        return add_while_shared(alloc, layers, m, others);
     }
-    let after = add_while_shared(alloc, layers, m, others)?;
-    Ok(after)
+    Ok(layers)
 }
 
 fn check_shared(rt: &impl Abort, alloc: Global, cuts: &[u64]) -> Result<(), Fail> {
     let mut layers = Layers::new(alloc, 9, 9, cuts)?;
     let mut others = Layers::new(alloc, 9, 9, cuts)?;
     for i in 0..20u64 {
-        layers = moved_while_shared(alloc, layers, &mut others, i)?;
+        layers = moved_while_shared(alloc, layers, matrix(alloc, i)?, &mut others)?;
         assert!(rt; have_same_sizes(&layers, &others), "after {i}");
         assert!(rt;
             holds_first(alloc, &layers, i.wrapping_add(1))?,
@@ -209,7 +190,7 @@ fn into_sum_is(alloc: Global, layers: Layers, m: &Hyper) -> Result<bool, AllocEr
 fn check_alone(rt: &impl Abort, alloc: Global, cuts: &[u64]) -> Result<(), Fail> {
     let mut layers = Layers::new(alloc, 9, 9, cuts)?;
     for i in 0..20u64 {
-        layers = moved(alloc, layers, i)?;
+        layers = moved(alloc, layers, matrix(alloc, i)?)?;
     }
     assert!(rt; holds_first(alloc, &layers, 20)?);
     assert!(rt; into_sum_is(alloc, layers, &sum_of(alloc, 0, 20)?)?);

@@ -17,7 +17,8 @@ returns-in-Ok-write_sum-clause-ok g c =
       size.cols,
       summed.cells,
       record { reads_text = summed.reads_text; fits = made.1 },
-      subst (λ (m : Matrix). HasTaken g.W.Sink.write_takes g.W.Sink.failure_count c.args.w.now c.write_sum.new.w (matrix_text m)) made.0 c.in-Ok-write_sum.ensures.ok,
+      subst (λ (m : Matrix). HasTaken g.W.Sink.write_takes g.W.Sink.failure_count c.args.w.now c.write_sum.new.w
+          (matrix_text m)) made.0 c.in-Ok-write_sum.ensures.ok,
     )
 
 pub returns-in-Ok-clause-output : goal.returns-in-Ok-clause-output
@@ -30,8 +31,10 @@ returns-in-Ok-clause-output g c fault is =
       size.cols,
       summed.cells,
       record { reads_text = summed.reads_text; fits = made.1 },
-      subst (λ (f : WriteFault). HasStopped g.W.Sink.write_takes g.W.Sink.failure_count c.args.w.now c.write_sum.new.w (sum_text size.rows size.cols summed.cells) f.written) same
-          (subst (λ (m : Matrix). HasStopped g.W.Sink.write_takes g.W.Sink.failure_count c.args.w.now c.write_sum.new.w (matrix_text m) c.in-Err-write_sum.fault.written) made.0
+      subst (λ (f : WriteFault). HasStopped g.W.Sink.write_takes g.W.Sink.failure_count c.args.w.now c.write_sum.new.w
+          (sum_text size.rows size.cols summed.cells) f.written) same
+          (subst (λ (m : Matrix). HasStopped g.W.Sink.write_takes g.W.Sink.failure_count c.args.w.now c.write_sum.new.w
+          (matrix_text m) c.in-Err-write_sum.fault.written) made.0
           c.in-Err-write_sum.ensures.err),
     )
 
@@ -45,7 +48,8 @@ returns-clause-too_large g c is =
       cols = size.cols;
       cells = summed.cells;
       reads_text = summed.reads_text;
-      passes = subst (RefusesSum summed.cells) same (c.in-Err.ensures.err size.rows size.cols summed.cells summed.sum_is);
+      passes = subst (RefusesSum summed.cells) same
+          (c.in-Err.ensures.err size.rows size.cols summed.cells summed.sum_is);
     }
 
 pub returns-clause-memory : goal.returns-clause-memory
@@ -53,5 +57,6 @@ returns-clause-memory g c is =
     let size = c.in_ok-sum.ensures.ok.0 in
     let summed = c.in_ok-sum.ensures.ok.1 in
     let same : c.in-Err.fault ≡ Memory = cc in
-    unsummed_text g.R.Source.read_gives g.R.Source.at_end g.R.Source.failure_count c.args.r.now c.read_running.new.r size.rows size.cols summed.cells summed.reads_text
+    unsummed_text g.R.Source.read_gives g.R.Source.at_end g.R.Source.failure_count c.args.r.now c.read_running.new.r
+    size.rows size.cols summed.cells summed.reads_text
     (subst (RefusesSum summed.cells) same (c.in-Err.ensures.err size.rows size.cols summed.cells summed.sum_is))

@@ -20,11 +20,16 @@ loop-cell-init g c =
       finite = tt;
       failures = refl;
       declared = lines_counted c.args.m.now c.entries.result _ _ c.entries.ensures c.new-writer.ensures.left order;
-      dims = (c.new-writer.ensures.dims.0 ∙ ap (λ d. d.0) c.dims-rows.ensures.value, c.new-writer.ensures.dims.1 ∙ ap (λ d. d.1) c.dims-rows.ensures.value);
+      dims = (
+        c.new-writer.ensures.dims.0 ∙ ap (λ d. d.0) c.dims-rows.ensures.value,
+        c.new-writer.ensures.dims.1
+            ∙ ap (λ d. d.1) c.dims-rows.ensures.value,
+      );
       within = rw same c.iter-cell-items.ensures.within;
       written = (
         head,
-        written_nothing _ _ c.args.w.now head c.new-writer.result c.new-writer.ensures.taken c.new-writer.ensures.pending,
+        written_nothing _ _ c.args.w.now head c.new-writer.result c.new-writer.ensures.taken
+            c.new-writer.ensures.pending,
         text_begins c.args.m.now _ _ c.entries.result _ c.dims-rows.ensures.value c.entries.ensures order,
       );
     }
@@ -53,7 +58,9 @@ returns-in_err-write_cell-clause-err g c =
     let p = err_from_is_err_and c.from_residual.result c.from_residual.ensures.1 in
     let old = c.loop-cell.invariant.written in
     rw (p.1, p.2)
-    (subst (λ (text : List ℕ). HasStopped g.W.Sink.write_takes g.W.Sink.failure_count c.args.w.now c.write_cell.new.w text c.in_err-write_cell.field-0.0.written)
+    (subst (λ (text : List ℕ). HasStopped g.W.Sink.write_takes g.W.Sink.failure_count c.args.w.now c.write_cell.new.w
+    text c.in_err-write_cell.field-0.0.written)
     (line_next old.0 _ c.loop-cell.cell-iterator c.next.new.self c.in-Some.cell c.in-Some.ensures.steps old.2)
-    (has_stopped_longer _ _ c.args.w.now c.write_cell.new.w (old.0 ++ entry_line c.in-Some.cell) (entry_lines (map cell_of c.next.new.self)) _
+    (has_stopped_longer _ _ c.args.w.now c.write_cell.new.w (old.0 ++ entry_line c.in-Some.cell)
+    (entry_lines (map cell_of c.next.new.self)) _
     (c.in_err-write_cell.ensures.err c.args.w.now old.0 old.1)))

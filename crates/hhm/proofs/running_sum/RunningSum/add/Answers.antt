@@ -4,4 +4,5 @@ use Rattle.hhm.proofs.SumLemmas.{stays_passed}
 use Rattle.hhm.proofs.running_sum.RunningSum.add.Goals as goal
 
 pub returns-in-TooLarge-clause-ok : goal.returns-in-TooLarge-clause-ok
-returns-in-TooLarge-clause-ok c rows cols cells is = stays_passed cells c.args.block.now (subst (IsSumOf rows cols cells) c.in-TooLarge.is is)
+returns-in-TooLarge-clause-ok c rows cols cells is =
+    stays_passed cells c.args.block.now (subst (IsSumOf rows cols cells) c.in-TooLarge.is is)

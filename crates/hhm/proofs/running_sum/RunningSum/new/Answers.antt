@@ -6,8 +6,14 @@ use Rattle.hhm.proofs.running_sum.RunningSum.new.Goals as goal
 pub with_block-requires-clause-fits : goal.with_block-requires-clause-fits
 with_block-requires-clause-fits c =
     let fits : cell_total c.args.block.now < 2 ^ 64 = search rules in
-    omega (arith, fits, total_is _ _ [] c.in_ok-none.none (no_cells c.args.rows c.args.cols c.args.cuts.now c.in_ok-none.none c.in_ok-none.ensures))
+    omega (
+      arith,
+      fits,
+      total_is _ _ [] c.in_ok-none.none
+          (no_cells c.args.rows c.args.cols c.args.cuts.now c.in_ok-none.none c.in_ok-none.ensures),
+    )
 
 pub returns-clause-ok : goal.returns-clause-ok
 returns-clause-ok c =
-    c.in_ok-layers.ensures c.args.rows c.args.cols [] (no_cells c.args.rows c.args.cols c.args.cuts.now c.in_ok-none.none c.in_ok-none.ensures)
+    c.in_ok-layers.ensures c.args.rows c.args.cols []
+    (no_cells c.args.rows c.args.cols c.args.cuts.now c.in_ok-none.none c.in_ok-none.ensures)
