@@ -1,10 +1,10 @@
 -- Runs of writes: one call more, one run behind another, and a text that was taken in part.
-use Rattle.std.proofs.Common.{◌≡◌, ℕ, ◌+◌, ◌<◌, ◌≤◌, List, [], ◌∷◌, ◌++◌, length, take, drop, Ok, Err, refl, sym, subst, ◌∙◌, arith, length-append, length-drop}
+use Rattle.std.proofs.Common.{◌≡◌, ℕ, ◌+◌, ◌<◌, ◌≤◌, List, [], ◌∷◌, ◌++◌, length, take, drop, Ok, Err, refl, sym, ap, subst, ◌∙◌, arith, append_assoc, length-append, length-drop}
 use Rattle.std.proofs.lemmas.List.{append-nil, take-append-le, take-append-drop, length-take-le}
 use Rattle.std.proofs.Math.Seq.{take-append_seam, take-append-add}
 use Rattle.byte_io.specs.Writing.{AnyOffer, EachTakes, HasTaken, HasStopped, IsRefusal}
 use Rattle.byte_io.proofs.StreamLemmas.{calls-append, calls_one, bytes_of_calls-append}
-use Rattle.byte_io.specs.Streams.{Answer}
+use Rattle.byte_io.specs.Streams.{Answer, bytes_of_calls}
 
 pub each_takes-append : (xs ys : List Answer) → EachTakes xs → EachTakes ys → EachTakes (xs ++ ys)
 each_takes-append [] ys a b = b
@@ -35,19 +35,20 @@ has_taken_one step failures s t offered bytes h some e = record {
 }
 
 -- the first call that is refused
-pub stopped_at_once : {S : Type 0} (step : S → List ℕ → Answer → S → Type 0) (failures : S → ℕ) (s m t : S) (front rest offered : List ℕ) (last : Answer) →
-    HasTaken step failures s m front → step m offered last t → IsRefusal offered last (failures m) (failures t) → 0 < length rest →
+pub stopped_at_once : {S : Type 0} (step : S → List ℕ → Answer → S → Type 0) (failures : S → ℕ) (s m t : S) (front rest : List ℕ) (last : Answer) →
+    HasTaken step failures s m front → step m rest last t → IsRefusal rest last (failures m) (failures t) → 0 < length rest →
     HasStopped step failures s t (front ++ rest) (length front)
-stopped_at_once step failures s m t front rest offered last a h refused some = record {
+stopped_at_once step failures s m t front rest last a h refused some = record {
   answers = a.answers;
   before = m;
   calls = a.calls;
   each = a.each;
-  offered = offered;
+  offered = rest;
   last = last;
   last_call = h;
-  refused = subst (λ n. IsRefusal offered last n (failures t)) a.none_failed refused;
+  refused = subst (λ n. IsRefusal rest last n (failures t)) a.none_failed refused;
   bytes_are = a.bytes_are ∙ sym (take-append_seam front rest);
+  next = ([], ap (λ l. l ++ rest) (sym a.bytes_are) ∙ ap (λ l. bytes_of_calls a.answers ++ l) (sym (append-nil rest)));
   some_left = omega (arith, length-append front rest);
 }
 
@@ -63,6 +64,11 @@ stopped_behind step failures s m t front text n a b = record {
   last_call = b.last_call;
   refused = subst (λ k. IsRefusal b.offered b.last k (failures t)) a.none_failed b.refused;
   bytes_are = bytes_of_calls-append a.answers b.answers ∙ rw (a.bytes_are, b.bytes_are) (sym (take-append-add front text n));
+  next =
+      let both : bytes_of_calls (a.answers ++ b.answers) ≡ front ++ bytes_of_calls b.answers = bytes_of_calls-append a.answers b.answers ∙ ap (λ l. l ++ bytes_of_calls b.answers) a.bytes_are in (
+        b.next.0,
+        ap (λ l. front ++ l) b.next.1 ∙ sym (append_assoc front (bytes_of_calls b.answers) (b.offered ++ b.next.0)) ∙ ap (λ l. l ++ (b.offered ++ b.next.0)) (sym both),
+      );
   some_left = let e = length-append front text in let h = b.some_left in omega arith;
 }
 
@@ -79,6 +85,10 @@ has_stopped_longer step failures s t text more n a = let h = a.some_left in reco
   last_call = a.last_call;
   refused = a.refused;
   bytes_are = a.bytes_are ∙ sym (take-append-le n text more (omega arith));
+  next = (
+    a.next.0 ++ more,
+    ap (λ l. l ++ more) a.next.1 ∙ append_assoc (bytes_of_calls a.answers) (a.offered ++ a.next.0) more ∙ ap (λ l. bytes_of_calls a.answers ++ l) (append_assoc a.offered a.next.0 more),
+  );
   some_left = let e = length-append text more in omega arith;
 }
 
@@ -103,6 +113,6 @@ pub write_no_more : {S : Type 0} (step : S → List ℕ → Answer → S → Typ
     (0 < length (drop i bytes) → IsRefusal (drop i bytes) last (failures m) (failures t)) → HasStopped step failures s t bytes i
 write_no_more step failures s m t bytes i last within a h refused =
     let some : 0 < length (drop i bytes) = let e = length-drop i bytes in omega arith in
-    let stopped = stopped_at_once step failures s m t (take i bytes) (drop i bytes) (drop i bytes) last a h (refused some) some in
+    let stopped = stopped_at_once step failures s m t (take i bytes) (drop i bytes) last a h (refused some) some in
     let e = length-take-le i bytes (omega arith) in
     subst (λ k. HasStopped step failures s t bytes k) e (subst (λ v. HasStopped step failures s t v (length (take i bytes))) (take-append-drop i bytes) stopped)

@@ -1,5 +1,5 @@
 -- What runs of write calls did to a text that was to be written: all of it was taken, or a front of it.
-use Rattle.std.specs.Prelude.{◌≡◌, ℕ, ◌+◌, ◌<◌, List, [], ◌∷◌, length, take, Ok, Err}
+use Rattle.std.specs.Prelude.{◌≡◌, ℕ, ◌+◌, ◌<◌, List, [], ◌∷◌, ◌++◌, length, take, Ok, Err}
 use Rattle.byte_io.specs.Streams.{Answer, Calls, bytes_of_calls}
 
 -- a call, whatever bytes it was offered
@@ -26,7 +26,7 @@ IsRefusal offered (Ok bytes) before after = (0 < length offered) × (bytes ≡ [
 IsRefusal offered (Err fault) before after = after ≡ before + 1
 
 -- The calls that led from s to t took exactly the first n bytes of the text and not all of it: the last one was a
--- refusal, and each one before it took a byte or more.
+-- refusal of bytes that come next in the text, and each one before it took a byte or more.
 pub record HasStopped {S : Type 0} (step : S → List ℕ → Answer → S → Type 0) (failures : S → ℕ) (s t : S) (text : List ℕ) (n : ℕ) : Type 0 where
   pub answers : List Answer
   pub before : S
@@ -37,4 +37,5 @@ pub record HasStopped {S : Type 0} (step : S → List ℕ → Answer → S → T
   pub last_call : step before offered last t
   pub refused : IsRefusal offered last (failures s) (failures t)
   pub bytes_are : bytes_of_calls answers ≡ take n text
+  pub next : (rest : List ℕ) × (text ≡ bytes_of_calls answers ++ (offered ++ rest))
   pub some_left : n < length text

@@ -4,7 +4,6 @@ use Rattle.mm_text.specs.Lines.{line_at, lines_of, bytes_of}
 use Rattle.mm_text.specs.Texts.{FirstFault, NoFaultWithin, IsGoodEntry}
 use Rattle.mm_text.specs.Stages.{LineState, Holds}
 use Rattle.cells.specs.declared.cell.Cell.{Cell}
-use Rattle.mm_text.specs.declared.stages.Stage.{Stage}
 use Rattle.mm_text.specs.declared.limits.TextLimits.{TextLimits}
 use Rattle.mm_text.specs.declared.fault.MmKind.{MmKind}
 use Rattle.mm_text.specs.declared.fault.MmKind.TheVariants.{Read, Memory}

@@ -93,7 +93,7 @@ fn plain_number(bytes: &[u8]) -> (u64, &[u8])
 
 /// The index that digits before a blank write, counted from 0, and what follows the blank.
 ///
-/// Inlined, since a call for each of a line's two indices takes a fifth of the time of progress it.
+/// Inlined, since a call for each of a line's two indices takes a fifth of the time of reading it.
 #[inline(always)]
 fn plain_index(limit: u64, bytes: &[u8]) -> Option<(u64, &[u8])>
     ensures { IfSome result (λ p. BeginsWithIndex limit bytes.now p.0 p.1.now) }
