@@ -8,6 +8,8 @@ mod batches;
 #[cfg(test)]
 mod books;
 #[cfg(test)]
+mod refused_growth;
+#[cfg(test)]
 mod setups;
 #[cfg(test)]
 mod shards;

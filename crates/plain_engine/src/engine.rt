@@ -61,6 +61,7 @@ impl PlainEngine {
     {
         let book = Book::new(rt, alloc, &setup)?;
         let shards = empty_shards(rt, alloc, &setup)?;
+        // Any call on a book tells what it keeps.
         let _accepted = book.len();
         Ok(PlainEngine {
             setup,
@@ -69,7 +70,8 @@ impl PlainEngine {
         })
     }
 
-    /// The setup.
+    /// The setup. This call also tells what the engine keeps: book and shards belong together, and the shards' totals
+    /// and contents add up to those of the accepted batches.
     pub fn setup(&self) -> Setup
         ensures value { result ≡ self.now.setup }
         ensures kept { IsWhole self.now }
@@ -77,7 +79,7 @@ impl PlainEngine {
         self.setup
     }
 
-    /// How much was accepted. It takes no memory.
+    /// How many batches were accepted, and their total. Constant time, and no memory.
     pub fn status(&self) -> Status
         ensures { result ≡ status_of self.now.book.list }
     {
@@ -94,7 +96,7 @@ impl PlainEngine {
         self.book.look(b)
     }
 
-    /// The accepted batches in order, in a list that shares them.
+    /// The accepted batches in order, in a list that shares them: one growth, and no copy of a batch.
     ///
     /// # Errors
     ///
@@ -105,7 +107,7 @@ impl PlainEngine {
         self.book.list(alloc)
     }
 
-    /// The shard with this number, and `None` from the number of shards on.
+    /// The shard with this number, from 0, and None from the number of shards on.
     pub fn shard(&self, s: u64) -> Option<&Shard>
         ensures { option_copied result ≡ slice_get self.now.shards s }
     {
@@ -120,37 +122,38 @@ impl PlainEngine {
         &self.shards[(row % k) as usize]
     }
 
-    /// The count at a place of the sum of all accepted batches, and `None` where that sum has no entry, as at a place
-    /// outside the dimensions. It takes no memory.
+    /// The count at a place of the sum of all accepted batches, and None where that sum has no entry, as outside the
+    /// dimensions. A stored zero is Some. Bisections in the layers of one shard, and no memory.
     pub fn cell(&self, row: u64, col: u64) -> Option<u64>
         ensures { result ≡ cell_of self.now.book.list row col }
     {
         self.shard_of(row).get(row, col)
     }
 
-    /// How many entries a row of the sum of all accepted batches has, and their total. Both are 0 where it has none, as
-    /// outside the dimensions. It takes no memory.
+    /// How many entries a row of the sum of all accepted batches has, stored zeros included, and the sum of their
+    /// counts. Both are 0 where it has none, as outside the dimensions. One shard is read; no memory.
     pub fn row(&self, row: u64) -> RowSum
         ensures { result ≡ row_sum_of self.now.book.list row }
     {
         self.shard_of(row).row_total(row)
     }
 
-    /// The sum of all accepted batches: the sum of all shards, added in pairs, so that each cell is written once for
-    /// each doubling of the shards.
+    /// The sum of all accepted batches, in the setup's dimensions: the sum of all shards, added in pairs, so that a
+    /// cell is written about once for each doubling of the number of shards, and not once for each shard.
     ///
     /// # Errors
     ///
-    /// A growth was refused.
+    /// A growth was refused. The engine is as it was.
     pub fn export(&self, alloc: Global) -> Result<Hyper, AllocError>
         ensures { IfOk result (λ m. m ≡ export_of self.now.setup self.now.book.list) }
     {
+        // The totals of all shards are within the limit, and the limit is below 2^64.
         let _limit = self.setup.limit();
         let sum = sum_of(&self.shards, alloc, &self.setup)?;
         Ok(sum)
     }
 
-    /// The engine's setup, its book and its shards, as they are. `join_parts` makes an engine of them again.
+    /// The engine's setup, its book and its shards in order, as they are. `join_parts` makes an engine of them again.
     pub fn parts(self) -> (Setup, Book, Vec<Shard>)
         ensures setup { result.0 ≡ self.setup }
         ensures book { result.1 ≡ self.book }
@@ -169,15 +172,17 @@ impl PlainEngine {
 }
 
 impl PlainEngine {
-    /// Puts a batch. The book's verdict comes first: a batch that it knows is answered the reply that it keeps, and one
-    /// that it refuses is refused, both without memory. A fresh batch is prepared in each shard that it concerns; then
-    /// the book admits it, and each of these shards takes in its part. These last steps can't fail.
+    /// Puts a batch of the setup's dimensions. The book's verdict comes first: a batch that it knows is answered the
+    /// reply that it keeps, and one that it refuses is refused, both by one look-up and without memory. A fresh batch
+    /// is prepared in each shard that it concerns, then the book admits it, and each of these shards takes its part in.
+    ///
+    /// A fresh batch is read some three times for each shard, and costs what its parts cost the shards' layers.
     ///
     /// # Errors
     ///
-    /// In this order: `NumberReused`, `OverTotal` or `BookFull`, which the book's verdict tells, and `Memory` where a
-    /// growth was refused. After each the accepted list, the records and the layers are as before. `RecordsDiffer` is
-    /// never answered.
+    /// `NumberReused`, `OverTotal` with the accepted total, or `BookFull`, as the book's verdict tells; and `Memory`
+    /// where a growth was refused, of a fresh batch alone. After each the accepted list, the records and the layers are
+    /// as before; only free places may be more. `RecordsDiffer` is never answered.
     pub fn put(&mut self, alloc: Global, b: Arc<Batch>) -> Result<Kept, PutFault>
         requires rows { (arc_value b).matrix.rows ≡ self.old.setup.rows }
         requires cols { (arc_value b).matrix.cols ≡ self.old.setup.cols }
@@ -201,6 +206,7 @@ impl PlainEngine {
         }
         let k = self.setup.shards();
         let answer = put_from(self.shards.as_mut_slice(), alloc, k, &mut self.book, b);
+        // Any call on the book tells what it keeps.
         let _accepted = self.book.len();
         match answer {
             Ok(kept) => Ok(kept),
@@ -235,6 +241,7 @@ fn empty_shards(
     let mut shards = Vec::with_capacity(alloc, k as usize)?;
     'make: for s in 0..k {
         let shard = Shard::new(rt, alloc, setup, s)?;
+        // Any call on a shard tells what it keeps.
         let _held = shard.number();
         shards.push(shard)?;
     }

@@ -53,8 +53,9 @@ impl PlainEngine {
     ///
     /// # Errors
     ///
-    /// The first batch that isn't fresh is told by its place and why: `RepeatedNumber`, `OverTotal` or `BookFull`.
-    /// `Memory` where a growth was refused: at a batch that is fresh, as are all before it, or before the first.
+    /// The first batch that isn't fresh where those before it were put is told by its place, from 0, and why:
+    /// `RepeatedNumber`, `OverTotal` or `BookFull`. `Memory` where a growth was refused: at a batch that is fresh, as
+    /// are all before it, or before the first.
     pub fn from_batches(
         rt: &impl RandomSource,
         alloc: Global,

@@ -29,6 +29,7 @@ pub fn join_parts(
     if shards.len() as u64 != setup.shards() || !are_together(&setup, &book, &shards) {
         return Err((book, shards));
     }
+    // Any call on a book tells what it keeps.
     let _accepted = book.len();
     Ok(PlainEngine::of_parts(setup, book, shards))
 }

@@ -51,7 +51,8 @@ pub fn put_from(
     requires take { AllTake book.old.setup (arc_value b) shards.old }
     ensures setup { book.new.setup ≡ book.old.setup }
     ensures list { OnOk result (book.new.list ≡ book.old.list ++ arc_value b ∷ []) }
-    ensures kept { IfOk result (λ r. r ≡ kept (length book.old.list) (list_total book.old.list + batch_total (arc_value b))) }
+    ensures kept { IfOk result (λ r. r ≡
+        kept (length book.old.list) (list_total book.old.list + batch_total (arc_value b))) }
     ensures shards { OnOk result (map bare_shard shards.new ≡ map (shard_after (arc_value b)) shards.old) }
     ensures held { OnOk result (AreAllHeld shards.new) }
     ensures same_list { OnErr result (book.new.list ≡ book.old.list) }
@@ -61,6 +62,7 @@ pub fn put_from(
         book.reserve(&b)?;
         return Ok(book.admit(b));
     };
+    // A call on a shard tells what it keeps, here and after the commit.
     let _held = first.total();
     if !b.concerns(first.number(), k) {
         return put_from(rest, alloc, k, book, b);

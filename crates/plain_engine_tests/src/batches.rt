@@ -17,7 +17,8 @@ pub fn small_setup() -> Result<Setup, SetupFault> {
     Setup::new(3, 3, &[2, 4], 2, 100, 10)
 }
 
-fn cells_of(alloc: Global, table: &[(u64, u64, u64)]) -> Result<Vec<Cell>, AllocError> {
+/// The cells of a table, in its order.
+pub fn cells_of(alloc: Global, table: &[(u64, u64, u64)]) -> Result<Vec<Cell>, AllocError> {
     let mut cells = Vec::new(alloc);
     for (row, col, count) in table {
         cells.push(Cell {

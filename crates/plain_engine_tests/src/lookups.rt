@@ -1,10 +1,7 @@
 //! Cells, rows, sums and shards of what was put.
-ghost use Rattle.std.specs.Prelude.{◌≡◌, IfOk};
-
-use crate::batches::small_setup;
-use crate::puts::{Step, put_all};
-use batch_store::{Setup, Shard, ShardView};
-use cells::Cell;
+use crate::batches::{cells_of, small_setup};
+use crate::puts::{Step, engine_of, put_all, sizes};
+use batch_store::{Setup, ShardView};
 use plain_engine::PlainEngine;
 use std::alloc::{AllocError, Global};
 use std::process::Abort;
@@ -37,8 +34,7 @@ static PLACES: &[(u64, u64, Option<u64>)] = &[
 #[test]
 fn cells_are_those_of_the_sum(rt: HostRuntime) -> Result<(), Fail> {
     let setup = small_setup()?;
-    let mut engine = PlainEngine::new(&rt, rt.alloc(), setup)?;
-    put_all(&rt, rt.alloc(), &setup, &mut engine, THREE)?;
+    let engine = engine_of(&rt, rt.alloc(), setup, THREE)?;
     for (row, col, count) in PLACES {
         assert_eq!(rt; engine.cell(*row, *col), *count);
     }
@@ -50,8 +46,7 @@ static ROWS: &[(u64, u64, u64)] = &[(0, 2, 10), (1, 2, 4), (2, 1, 1), (3, 0, 0),
 #[test]
 fn rows_are_those_of_the_sum(rt: HostRuntime) -> Result<(), Fail> {
     let setup = small_setup()?;
-    let mut engine = PlainEngine::new(&rt, rt.alloc(), setup)?;
-    put_all(&rt, rt.alloc(), &setup, &mut engine, THREE)?;
+    let engine = engine_of(&rt, rt.alloc(), setup, THREE)?;
     for (row, entries, total) in ROWS {
         let sum = engine.row(*row);
         assert_eq!(rt; (sum.entries, sum.total), (*entries, *total));
@@ -59,46 +54,38 @@ fn rows_are_those_of_the_sum(rt: HostRuntime) -> Result<(), Fail> {
     Ok(())
 }
 
-/// Whether cells in order are those of a table.
-pub fn same_cells(cells: &[Cell], table: &[(u64, u64, u64)]) -> bool {
-    if cells.len() != table.len() {
-        return false;
-    }
-    for (cell, row) in cells.iter().zip(table) {
-        if (cell.row, cell.col, cell.count) != *row {
-            return false;
-        }
-    }
-    true
+/// Whether the sum of all batches has the cells of a table.
+pub fn exports(
+    alloc: Global,
+    engine: &PlainEngine,
+    table: &[(u64, u64, u64)],
+) -> Result<bool, AllocError> {
+    let sum = engine.export(alloc)?;
+    let cells = sum.cells(alloc)?;
+    let expected = cells_of(alloc, table)?;
+    Ok(sum.dims() == (3, 3) && cells.as_slice() == expected.as_slice())
 }
 
 #[test]
 fn an_export_is_the_sum(rt: HostRuntime) -> Result<(), Fail> {
     let setup = small_setup()?;
-    let mut engine = PlainEngine::new(&rt, rt.alloc(), setup)?;
-    put_all(&rt, rt.alloc(), &setup, &mut engine, THREE)?;
-    let sum = engine.export(rt.alloc())?;
-    assert_eq!(rt; sum.dims(), (3, 3));
-    let cells = sum.cells(rt.alloc())?;
-    assert!(rt; same_cells(&cells, SUM));
+    let engine = engine_of(&rt, rt.alloc(), setup, THREE)?;
+    assert!(rt; exports(rt.alloc(), &engine, SUM)?);
     Ok(())
-}
-
-fn sizes(shard: &Shard) -> (u64, u64, u64) {
-    (shard.number(), shard.total(), shard.record_len())
 }
 
 #[test]
 fn shards_have_their_batches(rt: HostRuntime) -> Result<(), Fail> {
     let setup = small_setup()?;
-    let mut engine = PlainEngine::new(&rt, rt.alloc(), setup)?;
-    put_all(&rt, rt.alloc(), &setup, &mut engine, THREE)?;
-    assert_eq!(rt; engine.shard(0).map(sizes), Some((0, 11, 3)));
-    // The first batch has a stored zero there.
-    assert_eq!(rt; engine.shard(1).map(sizes), Some((1, 4, 2)));
-    assert_eq!(rt; engine.shard(2).map(sizes), None);
-    assert_eq!(rt; engine.shard(u64::MAX).map(sizes), None);
-    assert_eq!(rt; (engine.setup().shards(), engine.setup().limit()), (2, 100));
+    let engine = engine_of(&rt, rt.alloc(), setup, THREE)?;
+    // The first batch has a stored zero in row 1.
+    assert_eq!(rt;
+        (sizes(&engine, 0), sizes(&engine, 1)),
+        (Some((0, 11, 3)), Some((1, 4, 2)))
+    );
+    assert_eq!(rt; (sizes(&engine, 2), sizes(&engine, u64::MAX)), (None, None));
+    let setup = engine.setup();
+    assert_eq!(rt; (setup.shards(), setup.limit()), (2, 100));
     Ok(())
 }
 
@@ -116,14 +103,23 @@ static TEN: &[Step] = &[
     (7, 10, &[(0, 9, 1)], Ok((9, 10))),
 ];
 
-// The entries of the layers 1 to 4.
-fn layers(shard: &Shard) -> [Option<u64>; 4] {
-    [
+// The entries of the layers 1 to 4 of shard 0.
+fn layers(engine: &PlainEngine) -> Option<[Option<u64>; 4]> {
+    let shard = engine.shard(0)?;
+    Some([
         shard.layer_entries(1),
         shard.layer_entries(2),
         shard.layer_entries(3),
         shard.layer_entries(4),
-    ]
+    ])
+}
+
+// The view of shard 0.
+fn first_view(alloc: Global, engine: &PlainEngine) -> Result<ShardView, AllocError> {
+    match engine.shard(0) {
+        Some(shard) => shard.view(alloc),
+        None => Err(AllocError),
+    }
 }
 
 // How many batches a view has, and the entries and total of its sum.
@@ -132,15 +128,18 @@ fn seen(alloc: Global, view: &ShardView) -> Result<(u64, u64, u64), AllocError> 
     Ok((view.record_len(), sum.entries(), sum.total()))
 }
 
+// The same of the view of shard 0.
+fn seen_first(alloc: Global, engine: &PlainEngine) -> Result<(u64, u64, u64), AllocError> {
+    let view = first_view(alloc, engine)?;
+    seen(alloc, &view)
+}
+
 #[test]
 fn layers_keep_their_cuts(rt: HostRuntime) -> Result<(), Fail> {
     let setup = Setup::new(3, 10, &[2, 4], 1, 100, 10)?;
-    let mut engine = PlainEngine::new(&rt, rt.alloc(), setup)?;
-    put_all(&rt, rt.alloc(), &setup, &mut engine, TEN)?;
-    let shard = engine.shard(0).ok_or(AllocError)?;
-    assert_eq!(rt; layers(shard), [Some(1), Some(3), Some(6), None]);
-    let view = shard.view(rt.alloc())?;
-    assert_eq!(rt; seen(rt.alloc(), &view)?, (10, 10, 10));
+    let engine = engine_of(&rt, rt.alloc(), setup, TEN)?;
+    assert_eq!(rt; layers(&engine), Some([Some(1), Some(3), Some(6), None]));
+    assert_eq!(rt; seen_first(rt.alloc(), &engine)?, (10, 10, 10));
     Ok(())
 }
 
@@ -148,21 +147,13 @@ static FIRST: &[Step] = &[(7, 1, &[(0, 0, 5)], Ok((0, 5)))];
 
 static SECOND: &[Step] = &[(8, 1, &[(0, 0, 3)], Ok((1, 8)))];
 
-// The view of shard 0.
-fn first_view(alloc: Global, engine: &PlainEngine) -> Result<ShardView, Fail> {
-    let shard = engine.shard(0).ok_or(AllocError)?;
-    let view = shard.view(alloc)?;
-    Ok(view)
-}
-
 #[test]
 fn a_view_stays_as_it_was(rt: HostRuntime) -> Result<(), Fail> {
     let setup = small_setup()?;
-    let mut engine = PlainEngine::new(&rt, rt.alloc(), setup)?;
-    put_all(&rt, rt.alloc(), &setup, &mut engine, FIRST)?;
+    let mut engine = engine_of(&rt, rt.alloc(), setup, FIRST)?;
     let view = first_view(rt.alloc(), &engine)?;
     put_all(&rt, rt.alloc(), &setup, &mut engine, SECOND)?;
     assert_eq!(rt; seen(rt.alloc(), &view)?, (1, 1, 5));
-    assert_eq!(rt; engine.shard(0).map(sizes), Some((0, 8, 2)));
+    assert_eq!(rt; sizes(&engine, 0), Some((0, 8, 2)));
     Ok(())
 }

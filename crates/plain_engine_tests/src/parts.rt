@@ -3,27 +3,13 @@ ghost use Rattle.std.specs.Prelude.{◌≡◌, IfOk};
 ghost use Rattle.plain_engine.specs.Standing.{HaveSetup};
 
 use crate::batches::small_setup;
-use crate::puts::{Step, put_all};
+use crate::puts::{Step, engine_of};
 use batch_store::{Book, Setup, Shard};
 use plain_engine::{PlainEngine, Status, join_parts};
 use std::alloc::Global;
 use std::process::Abort;
 use std::random::RandomSource;
 use std::test::Fail;
-
-// The engine that has put the batches of a table.
-fn engine_of<R: RandomSource + Abort>(
-    rt: &R,
-    alloc: Global,
-    setup: Setup,
-    steps: &[Step],
-) -> Result<PlainEngine, Fail>
-    ensures { IfOk result (λ e. e.setup ≡ setup) }
-{
-    let mut engine = PlainEngine::new(rt, alloc, setup)?;
-    put_all(rt, alloc, &setup, &mut engine, steps)?;
-    Ok(engine)
-}
 
 fn book_of(engine: PlainEngine) -> Book
     ensures { result.setup ≡ engine.setup }

@@ -1,12 +1,15 @@
 //! Puts: what each of a table is answered.
-ghost use Rattle.std.specs.Prelude.{◌≡◌};
+ghost use Rattle.std.specs.Prelude.{◌≡◌, IfOk};
+ghost use Rattle.std.specs.Arc.{arc_value};
 
 use crate::batches::{Cells, batch, small_setup};
-use batch_store::Setup;
+use batch_store::{Batch, Setup};
 use plain_engine::PutFault::{BookFull, NumberReused, OverTotal};
 use plain_engine::{PlainEngine, PutFault, Status};
-use std::alloc::Global;
+use std::alloc::{AllocError, Global};
 use std::process::Abort;
+use std::random::RandomSource;
+use std::sync::Arc;
 use std::test::Fail;
 
 /// The place and the total of a kept reply, or why there is none.
@@ -14,6 +17,15 @@ pub type Answer = Result<(u64, u64), PutFault>;
 
 /// The client, the number and the cells of a batch that is put, and what is answered.
 pub type Step = (u64, u64, Cells, Answer);
+
+fn answered(alloc: Global, engine: &mut PlainEngine, b: Arc<Batch>) -> Answer
+    requires rows { (arc_value b).matrix.rows ≡ engine.old.setup.rows }
+    requires cols { (arc_value b).matrix.cols ≡ engine.old.setup.cols }
+    ensures { engine.new.setup ≡ engine.old.setup }
+{
+    let kept = engine.put(alloc, b)?;
+    Ok((kept.index, kept.total_after))
+}
 
 /// Puts the batch of these cells.
 pub fn put(
@@ -27,10 +39,7 @@ pub fn put(
     ensures { engine.new.setup ≡ setup.now }
 {
     let b = batch(alloc, setup, pair.0, pair.1, cells)?;
-    match engine.put(alloc, b) {
-        Ok(kept) => Ok(Ok((kept.index, kept.total_after))),
-        Err(fault) => Ok(Err(fault)),
-    }
+    Ok(answered(alloc, engine, b))
 }
 
 /// Puts the batches of a table, and compares each answer.
@@ -51,6 +60,26 @@ pub fn put_all(
     Ok(())
 }
 
+/// The engine that has put the batches of a table.
+pub fn engine_of<R: RandomSource + Abort>(
+    rt: &R,
+    alloc: Global,
+    setup: Setup,
+    steps: &[Step],
+) -> Result<PlainEngine, Fail>
+    ensures { IfOk result (λ e. e.setup ≡ setup) }
+{
+    let mut engine = PlainEngine::new(rt, alloc, setup)?;
+    put_all(rt, alloc, &setup, &mut engine, steps)?;
+    Ok(engine)
+}
+
+/// The number of a shard, its total, and the number of batches in its record.
+pub fn sizes(engine: &PlainEngine, s: u64) -> Option<(u64, u64, u64)> {
+    let shard = engine.shard(s)?;
+    Some((shard.number(), shard.total(), shard.record_len()))
+}
+
 // Repeats, and numbers used for other batches: another total, or as many counts in more places. A batch of as many
 // cells with the same total in another place is known all the same.
 static REPEATS: &[Step] = &[
@@ -66,8 +95,7 @@ static REPEATS: &[Step] = &[
 #[test]
 fn repeats_are_answered_their_replies(rt: HostRuntime) -> Result<(), Fail> {
     let setup = small_setup()?;
-    let mut engine = PlainEngine::new(&rt, rt.alloc(), setup)?;
-    put_all(&rt, rt.alloc(), &setup, &mut engine, REPEATS)?;
+    let engine = engine_of(&rt, rt.alloc(), setup, REPEATS)?;
     assert_eq!(rt;
         engine.status(),
         Status {
@@ -92,8 +120,7 @@ static WITHIN_100: &[Step] = &[
 #[test]
 fn the_limit_is_kept_exactly(rt: HostRuntime) -> Result<(), Fail> {
     let setup = small_setup()?;
-    let mut engine = PlainEngine::new(&rt, rt.alloc(), setup)?;
-    put_all(&rt, rt.alloc(), &setup, &mut engine, WITHIN_100)?;
+    let engine = engine_of(&rt, rt.alloc(), setup, WITHIN_100)?;
     assert_eq!(rt;
         engine.status(),
         Status {
@@ -113,17 +140,23 @@ static AT_MOST_ONE: &[Step] = &[
     (7, 1, &[(0, 0, 101)], Err(NumberReused)),
 ];
 
+// How many batches are accepted, and the client, number and total of the first.
+fn listed(
+    alloc: Global,
+    engine: &PlainEngine,
+) -> Result<Option<(usize, u64, u64, u64)>, AllocError> {
+    let batches = engine.batches(alloc)?;
+    let Some(first) = batches.first() else {
+        return Ok(None);
+    };
+    Ok(Some((batches.len(), first.client, first.number, first.total)))
+}
+
 #[test]
 fn a_full_book_knows_its_batches(rt: HostRuntime) -> Result<(), Fail> {
     let setup = Setup::new(3, 3, &[2, 4], 2, 100, 1)?;
-    let mut engine = PlainEngine::new(&rt, rt.alloc(), setup)?;
-    put_all(&rt, rt.alloc(), &setup, &mut engine, AT_MOST_ONE)?;
-    let batches = engine.batches(rt.alloc())?;
-    assert_eq!(rt; batches.len(), 1);
-    assert_eq!(rt;
-        (batches[0].client, batches[0].number, batches[0].total),
-        (7, 1, 5)
-    );
+    let engine = engine_of(&rt, rt.alloc(), setup, AT_MOST_ONE)?;
+    assert_eq!(rt; listed(rt.alloc(), &engine)?, Some((1, 7, 1, 5)));
     Ok(())
 }
 
@@ -132,8 +165,7 @@ static EMPTY: &[Step] = &[(9, 1, &[], Ok((0, 0))), (9, 1, &[], Ok((0, 0)))];
 #[test]
 fn an_empty_batch_concerns_no_shard(rt: HostRuntime) -> Result<(), Fail> {
     let setup = small_setup()?;
-    let mut engine = PlainEngine::new(&rt, rt.alloc(), setup)?;
-    put_all(&rt, rt.alloc(), &setup, &mut engine, EMPTY)?;
+    let engine = engine_of(&rt, rt.alloc(), setup, EMPTY)?;
     assert_eq!(rt;
         engine.status(),
         Status {
@@ -141,9 +173,10 @@ fn an_empty_batch_concerns_no_shard(rt: HostRuntime) -> Result<(), Fail> {
             total: 0
         }
     );
-    for s in 0..2 {
-        assert_eq!(rt; engine.shard(s).map(|shard| shard.record_len()), Some(0));
-    }
+    assert_eq!(rt;
+        (sizes(&engine, 0), sizes(&engine, 1)),
+        (Some((0, 0, 0)), Some((1, 0, 0)))
+    );
     Ok(())
 }
 
@@ -168,8 +201,7 @@ static GREATEST: &[Step] = &[
 #[test]
 fn the_greatest_total_is_taken(rt: HostRuntime) -> Result<(), Fail> {
     let setup = Setup::new(3, 3, &[2, 4], 2, u64::MAX, 10)?;
-    let mut engine = PlainEngine::new(&rt, rt.alloc(), setup)?;
-    put_all(&rt, rt.alloc(), &setup, &mut engine, GREATEST)?;
+    let engine = engine_of(&rt, rt.alloc(), setup, GREATEST)?;
     assert_eq!(rt; engine.export(rt.alloc())?.total(), u64::MAX);
     Ok(())
 }

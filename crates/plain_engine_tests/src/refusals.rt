@@ -1,15 +1,16 @@
-//! Growths that are refused. `rt try --test --fail-alloc 1..` refuses each in turn, those of the calls below among them:
-//! after a refusal all is as it was, and the same call made again succeeds.
+//! Growths that are refused. `rt try --test --fail-alloc N` refuses the Nth growth of each test, for some N one of the
+//! calls below: after a refusal all is as it was, and the same call made again succeeds.
 ghost use Rattle.std.specs.Prelude.{◌≡◌, IfOk};
 ghost use Rattle.batch_store.specs.Batches.{values};
 ghost use Rattle.batch_store.specs.Books.{HaveDims};
 
-use crate::batches::{batch, small_setup};
-use crate::lookups::same_cells;
-use crate::puts::put;
+use crate::batches::small_setup;
+use crate::loads::{Batches, list_of};
+use crate::lookups::exports;
+use crate::puts::{Step, engine_of, put, sizes};
 use batch_store::{Batch, Setup};
 use plain_engine::{LoadFault, PlainEngine, PutFault, Status};
-use std::alloc::Global;
+use std::alloc::{AllocError, Global};
 use std::process::Abort;
 use std::random::RandomSource;
 use std::sync::Arc;
@@ -18,18 +19,6 @@ use std::test::Fail;
 // A batch of both shards of the small setup.
 static BOTH: &[(u64, u64, u64)] = &[(0, 0, 5), (1, 0, 4)];
 
-// The numbers of batches in the records of both shards, and their totals.
-fn records(engine: &PlainEngine) -> [Option<(u64, u64)>; 2] {
-    [
-        engine
-            .shard(0)
-            .map(|shard| (shard.record_len(), shard.total())),
-        engine
-            .shard(1)
-            .map(|shard| (shard.record_len(), shard.total())),
-    ]
-}
-
 // Whether an engine has accepted nothing.
 fn is_empty(engine: &PlainEngine) -> bool {
     engine.status()
@@ -37,7 +26,8 @@ fn is_empty(engine: &PlainEngine) -> bool {
             batches: 0,
             total: 0,
         }
-        && records(engine) == [Some((0, 0)), Some((0, 0))]
+        && sizes(engine, 0) == Some((0, 0, 0))
+        && sizes(engine, 1) == Some((1, 0, 0))
         && engine.cell(0, 0) == None
 }
 
@@ -65,7 +55,10 @@ fn a_refused_put_changes_nothing(rt: HostRuntime) -> Result<(), Fail> {
     let mut engine = PlainEngine::new(&rt, rt.alloc(), setup)?;
     let answer = put_at_last(&rt, rt.alloc(), &setup, &mut engine)?;
     assert_eq!(rt; answer, Ok((0, 9)));
-    assert_eq!(rt; records(&engine), [Some((1, 5)), Some((1, 4))]);
+    assert_eq!(rt;
+        (sizes(&engine, 0), sizes(&engine, 1)),
+        (Some((0, 5, 1)), Some((1, 4, 1)))
+    );
     // A repeat takes no memory but the batch's own.
     let again = put(rt.alloc(), &setup, &mut engine, (7, 1), BOTH)?;
     assert_eq!(rt; again, Ok((0, 9)));
@@ -73,29 +66,28 @@ fn a_refused_put_changes_nothing(rt: HostRuntime) -> Result<(), Fail> {
 }
 
 // Whether an export has the batch's cells; it is asked for again where memory was refused.
-fn export_at_last(alloc: Global, engine: &PlainEngine) -> Result<bool, Fail> {
-    let sum = match engine.export(alloc) {
-        Ok(sum) => sum,
-        Err(_) => engine.export(alloc)?,
-    };
-    Ok(same_cells(&sum.cells(alloc)?, BOTH))
+fn exported_at_last(alloc: Global, engine: &PlainEngine) -> Result<bool, AllocError> {
+    match exports(alloc, engine, BOTH) {
+        Ok(same) => Ok(same),
+        Err(_) => exports(alloc, engine, BOTH),
+    }
 }
 
 // How many batches are listed; they are asked for again where memory was refused.
-fn listed_at_last(alloc: Global, engine: &PlainEngine) -> Result<usize, Fail> {
-    let list = match engine.batches(alloc) {
-        Ok(list) => list,
-        Err(_) => engine.batches(alloc)?,
-    };
+fn listed_at_last(alloc: Global, engine: &PlainEngine) -> Result<usize, AllocError> {
+    if let Ok(list) = engine.batches(alloc) {
+        return Ok(list.len());
+    }
+    let list = engine.batches(alloc)?;
     Ok(list.len())
 }
 
+static PUT: &[Step] = &[(7, 1, &[(0, 0, 5), (1, 0, 4)], Ok((0, 9)))];
+
 #[test]
 fn refused_reads_succeed_again(rt: HostRuntime) -> Result<(), Fail> {
-    let setup = small_setup()?;
-    let mut engine = PlainEngine::new(&rt, rt.alloc(), setup)?;
-    let _ = put_at_last(&rt, rt.alloc(), &setup, &mut engine)?;
-    assert!(rt; export_at_last(rt.alloc(), &engine)?);
+    let engine = engine_of(&rt, rt.alloc(), small_setup()?, PUT)?;
+    assert!(rt; exported_at_last(rt.alloc(), &engine)?);
     assert_eq!(rt; listed_at_last(rt.alloc(), &engine)?, 1);
     assert_eq!(rt;
         engine.status(),
@@ -125,11 +117,13 @@ fn loaded_at_last(
     Ok(engine.status())
 }
 
+static ONE: Batches = &[(7, 1, &[(0, 0, 5), (1, 0, 4)])];
+
 #[test]
 fn a_refused_load_succeeds_again(rt: HostRuntime) -> Result<(), Fail> {
     let setup = small_setup()?;
-    let b = batch(rt.alloc(), &setup, 7, 1, BOTH)?;
-    let status = loaded_at_last(&rt, rt.alloc(), setup, &[b])?;
+    let list = list_of(rt.alloc(), &setup, ONE)?;
+    let status = loaded_at_last(&rt, rt.alloc(), setup, &list)?;
     assert_eq!(rt;
         status,
         Status {

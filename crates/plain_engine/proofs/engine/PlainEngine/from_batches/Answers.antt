@@ -3,7 +3,6 @@ use Rattle.std.specs.Arc.{arc_value}
 use Rattle.std.proofs.lemmas.List.{length-map}
 use Rattle.std.proofs.lemmas.Result.{err_from_is_err_and}
 use Rattle.batch_store.specs.Batches.{values}
-use Rattle.plain_engine.specs.Loads.{first_refusal}
 use Rattle.plain_engine.proofs.StandLaws.{drop_here}
 use Rattle.plain_engine.proofs.LoadLaws.{refused_here}
 use Rattle.plain_engine.proofs.engine.PlainEngine.from_batches.Goals as goal
