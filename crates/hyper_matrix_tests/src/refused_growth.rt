@@ -1,7 +1,7 @@
 //! What stands after a growth was refused.
 use crate::matrices::{SIDE, Triple, built, cell, has, lent_sum_has};
-use hyper_matrix::Hyper;
 use cells::Cell;
+use hyper_matrix::Hyper;
 use std::alloc::{AllocError, Global};
 use std::test::Fail;
 

@@ -13,10 +13,8 @@ impl Rows {
     /// other rows the number alone is read.
     pub fn push_part(&self, out: &mut Vec<Cell>, s: u64, k: u64) -> Result<(), AllocError>
         requires { 0 < k }
-        ensures {
-            OnOk result (map entry_of out.new.items ≡
-                map entry_of out.old.items ++ part_entries s k (cells_of self.now))
-        }
+        ensures { OnOk result (map entry_of out.new.items ≡
+            map entry_of out.old.items ++ part_entries s k (cells_of self.now)) }
     {
         let mut i = 0;
         'rows: while i < self.row_count() {

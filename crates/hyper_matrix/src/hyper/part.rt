@@ -17,10 +17,8 @@ use std::alloc::{AllocError, Global};
 // Appends the cells of all blocks that lie in the shard, by row and then by column.
 fn push_part(out: &mut Vec<Cell>, blocks: &[Block], s: u64, k: u64) -> Result<(), AllocError>
     requires { 0 < k }
-    ensures {
-        OnOk result (map entry_of out.new.items ≡
-            map entry_of out.old.items ++ part_entries s k (all_cells blocks.now))
-    }
+    ensures { OnOk result (map entry_of out.new.items ≡
+        map entry_of out.old.items ++ part_entries s k (all_cells blocks.now)) }
 {
     for block in blocks {
         block.rows().push_part(out, s, k)?;

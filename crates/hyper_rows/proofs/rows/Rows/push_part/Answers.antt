@@ -10,19 +10,19 @@ pub rows-preserved : goal.rows-preserved
 rows-preserved c = record {
   within = omega (arith, c.rows-test.true, c.row_count.ensures.count);
   told =
-    let rows = c.args.self.now in
-    let rest = part_entries c.args.s c.args.k (cells_of (drop (c.rows.i + 1) rows)) in
-    elim c.if-row-k.branch [
-      then-row-k+in_ok-push_row w ↦
-        ap (λ (v : _). map entry_of v.items ++ rest) w.out-is
-        ∙ row_taken c.args.s c.args.k c.rows.i rows (map entry_of c.rows.out.items) (map entry_of w.push_row.new.out.items) (omega (arith, c.rows-test.true, c.row_count.ensures.count))
-          (ap (λ n. n % c.args.k) (sym c.row-row.ensures) ∙ w.if-row-k.true)
-          (w.in_ok-push_row.ensures ∙ (λ j. map entry_of c.rows.out.items ++ at_places (c.row-row.ensures j) (w.entries.ensures.value j)))
-        ∙ c.rows.invariant.told
-    | else-row-k w ↦
-        ap (λ (v : _). map entry_of v.items ++ rest) w.out-is
-        ∙ row_left c.args.s c.args.k c.rows.i rows (map entry_of c.rows.out.items) (omega (arith, c.rows-test.true, c.row_count.ensures.count))
-          (λ e. w.if-row-k.false (ap (λ n. n % c.args.k) c.row-row.ensures ∙ e))
-        ∙ c.rows.invariant.told
-    ];
+      let rows = c.args.self.now in
+      let rest = part_entries c.args.s c.args.k (cells_of (drop (c.rows.i + 1) rows)) in
+      elim c.if-row-k.branch [
+        | then-row-k+in_ok-push_row w ↦
+            ap (λ (v : _). map entry_of v.items ++ rest) w.out-is
+            ∙ row_taken c.args.s c.args.k c.rows.i rows (map entry_of c.rows.out.items) (map entry_of w.push_row.new.out.items) (omega (arith, c.rows-test.true, c.row_count.ensures.count))
+            (ap (λ n. n % c.args.k) (sym c.row-row.ensures) ∙ w.if-row-k.true)
+            (w.in_ok-push_row.ensures ∙ (λ j. map entry_of c.rows.out.items ++ at_places (c.row-row.ensures j) (w.entries.ensures.value j)))
+            ∙ c.rows.invariant.told
+        | else-row-k w ↦
+            ap (λ (v : _). map entry_of v.items ++ rest) w.out-is
+            ∙ row_left c.args.s c.args.k c.rows.i rows (map entry_of c.rows.out.items) (omega (arith, c.rows-test.true, c.row_count.ensures.count))
+            (λ e. w.if-row-k.false (ap (λ n. n % c.args.k) c.row-row.ensures ∙ e))
+            ∙ c.rows.invariant.told
+      ];
 }
