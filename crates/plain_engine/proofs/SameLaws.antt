@@ -5,7 +5,7 @@ use Rattle.std.proofs.lemmas.List.Elements.{filter-append}
 use Rattle.std.specs.FinMap.{entries}
 use Rattle.hyper_matrix.specs.Counts.{built}
 use Rattle.hyper_matrix.specs.Matrix.{Matrix}
-use Rattle.batch_store.proofs.PartLaws.{built-entries}
+use Rattle.hyper_matrix.proofs.PartLaws.{built-entries}
 use Rattle.batch_store.specs.Batches.{Submission}
 use Rattle.batch_store.specs.Parts.{concerns, concerned}
 use Rattle.plain_engine.specs.Records.{Follows}

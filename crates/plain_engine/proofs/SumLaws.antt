@@ -8,7 +8,7 @@ use Rattle.layer_cascade.proofs.CascadeLaws.{empty-ewise_add}
 use Rattle.batch_store.specs.Batches.{Submission}
 use Rattle.batch_store.specs.Parts.{concerns, record_content, concerned}
 use Rattle.batch_store.specs.Books.{list_total}
-use Rattle.batch_store.proofs.PartLaws.{part_entries, entries-part, built-entries}
+use Rattle.batch_store.proofs.PartLaws.{part-unconcerned}
 use Rattle.plain_engine.specs.Object.{summed}
 
 -- x joins the second of two sums, or the first
@@ -34,25 +34,6 @@ nothing_is q false o h = sym h
 
 pub part-empty : (s k : ℕ) → part empty s k ≡ empty
 part-empty s k = same_counts _ _ (λ q. get-part empty s k q ∙ nothing_is q (in_part s k q) (get empty q) (get-empty place_cmp q))
-
-or_false : (a b : Bool) → (a || b) ≡ false → (a ≡ false) × (b ≡ false)
-or_false true b e = cc
-or_false false b e = (refl, e)
-
-none_in : (s k : ℕ) (es : List (Place × ℕ)) → list_any (λ (e : Place × ℕ). in_part s k e.0) es ≡ false → part_entries s k es ≡ []
-none_in s k [] h = refl
-none_in s k (e ∷ es) h =
-    let p = or_false (in_part s k e.0) (list_any (λ (e : Place × ℕ). in_part s k e.0) es) h in
-    ap (λ b. cond b (e ∷ part_entries s k es) (part_entries s k es)) p.0 ∙ none_in s k es p.1
-
-built-nil : built [] ≡ empty
-unfolding built
-built-nil = refl
-
--- a matrix has no part in a shard that it doesn't concern
-pub part-unconcerned : (s k : ℕ) (m : Counts) → concerns s k m ≡ false → part m s k ≡ empty
-part-unconcerned s k m h =
-    sym (built-entries (part m s k)) ∙ ap built (entries-part m s k ∙ none_in s k (entries m) h) ∙ built-nil
 
 pub summed-append : (xs ys : List Submission) → summed (xs ++ ys) ≡ ewise_add (summed xs) (summed ys)
 summed-append [] ys = sym (empty-ewise_add (summed ys))

@@ -19,7 +19,8 @@ use Rattle.batch_store.proofs.ShardLaws.{record_content-push}
 use Rattle.plain_engine.specs.Object.{summed, verdict_in}
 use Rattle.plain_engine.specs.World.{Part, World, Event, part_for, parts_for, record_at, append_at, Delivers, Admits, Runs, AllFollow, Starts, records_content, flight_content}
 use Rattle.plain_engine.specs.World.Event.{Admit, Deliver}
-use Rattle.plain_engine.proofs.SumLaws.{move_middle, part-unconcerned, summed-push, record_content-concerned}
+use Rattle.plain_engine.proofs.SumLaws.{move_middle, summed-push, record_content-concerned}
+use Rattle.batch_store.proofs.PartLaws.{part-unconcerned}
 
 -- == The sums
 
