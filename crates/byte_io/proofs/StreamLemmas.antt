@@ -15,5 +15,6 @@ calls_one step s t x h = (t, h, refl)
 
 pub bytes_of_calls-append : (xs ys : List Answer) → bytes_of_calls (xs ++ ys) ≡ bytes_of_calls xs ++ bytes_of_calls ys
 bytes_of_calls-append [] ys = refl
-bytes_of_calls-append (Ok bytes ∷ xs) ys = ap (λ b. bytes ++ b) (bytes_of_calls-append xs ys) ∙ sym (append_assoc bytes (bytes_of_calls xs) (bytes_of_calls ys))
+bytes_of_calls-append (Ok bytes ∷ xs) ys = ap (λ b. bytes ++ b) (bytes_of_calls-append xs ys)
+    ∙ sym (append_assoc bytes (bytes_of_calls xs) (bytes_of_calls ys))
 bytes_of_calls-append (Err e ∷ xs) ys = bytes_of_calls-append xs ys

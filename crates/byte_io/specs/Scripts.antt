@@ -1,5 +1,6 @@
 -- A source and a sink in memory: what a call may answer, and what it leaves.
-use Rattle.std.specs.Prelude.{◌≡◌, ◌≢◌, ℕ, ◌+◌, ◌-◌, ◌<◌, List, [], ◌∷◌, length, take, drop, ◌++◌, Option, Some, None, Ok, Err}
+use Rattle.std.specs.Prelude.{◌≡◌, ◌≢◌, ℕ, ◌+◌, ◌-◌, ◌<◌, List, [], ◌∷◌, length, take, drop, ◌++◌, Option, Some, None}
+use Rattle.std.specs.Prelude.{Ok, Err}
 use Rattle.byte_io.specs.Streams.{Answer}
 
 -- a piece before others, unless it is empty
@@ -57,7 +58,8 @@ IsWrite offered s (Err fault) t = (0 < length offered) × (t ≡ record s { fail
 -- A write failed though there was room for some of the bytes: there was no memory to keep them.
 abbrev pub LacksMemory : List ℕ → ScriptState → Answer → ScriptState → Type 0
 LacksMemory offered s (Ok bytes) t = ⊥
-LacksMemory offered s (Err fault) t = (0 < length (take_within s.room offered)) × (t ≡ record s { failures = s.failures + 1 })
+LacksMemory offered s (Err fault) t = (0 < length (take_within s.room offered)) ×
+    (t ≡ record s { failures = s.failures + 1 })
 
 abbrev pub script_gives : ScriptState → Answer → ScriptState → Type 0
 script_gives s answer t = (n : ℕ) × IsRead n s answer t

@@ -13,7 +13,8 @@ EachTakes (Ok bytes ∷ answers) = (0 < length bytes) × EachTakes answers
 EachTakes (Err fault ∷ answers) = ⊥
 
 -- The calls that led from s to t took exactly these bytes, in order.
-pub record HasTaken {S : Type 0} (step : S → List ℕ → Answer → S → Type 0) (failures : S → ℕ) (s t : S) (bytes : List ℕ) : Type 0 where
+pub record HasTaken {S : Type 0} (step : S → List ℕ → Answer → S → Type 0) (failures : S → ℕ) (s t : S)
+    (bytes : List ℕ) : Type 0 where
   pub answers : List Answer
   pub calls : Calls (AnyOffer step) s answers t
   pub each : EachTakes answers
@@ -27,7 +28,8 @@ IsRefusal offered (Err fault) before after = after ≡ before + 1
 
 -- The calls that led from s to t took exactly the first n bytes of the text and not all of it: the last one was a
 -- refusal of bytes that come next in the text, and each one before it took a byte or more.
-pub record HasStopped {S : Type 0} (step : S → List ℕ → Answer → S → Type 0) (failures : S → ℕ) (s t : S) (text : List ℕ) (n : ℕ) : Type 0 where
+pub record HasStopped {S : Type 0} (step : S → List ℕ → Answer → S → Type 0) (failures : S → ℕ) (s t : S)
+    (text : List ℕ) (n : ℕ) : Type 0 where
   pub answers : List Answer
   pub before : S
   pub calls : Calls (AnyOffer step) s answers before

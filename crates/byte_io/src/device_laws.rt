@@ -4,7 +4,8 @@ ghost use Rattle.std.specs.List.{concat};
 ghost use Rattle.std.specs.Io.KnownBytes.{Consumes, Appends};
 ghost use Rattle.byte_io.specs.Streams.{Answer, Calls, bytes_of_calls, MayRead, MayWrite};
 ghost use Rattle.byte_io.specs.Writing.{EachTakes, AnyOffer};
-ghost use Rattle.byte_io.specs.Scripts.{ScriptState, nonempty_pieces, IsRead, IsWrite, LacksMemory, script_gives, script_takes};
+ghost use Rattle.byte_io.specs.Scripts.{ScriptState, nonempty_pieces, IsRead, IsWrite, LacksMemory, script_gives};
+ghost use Rattle.byte_io.specs.Scripts.{script_takes};
 
 /// However a `Script` is read, it gives one list of bytes, its pieces: a front of them until its end, and then all.
 pub fn script_gives_its_pieces()

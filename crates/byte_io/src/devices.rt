@@ -3,7 +3,8 @@
 //! What a device gives or takes is not a function of its state, since a socket's bytes are known to nobody beforehand:
 //! one call is a relation between the state before, the answer and the state after. A contract over many calls says
 //! that there is a list of answers by which they lead from the first state to the last.
-ghost use Rattle.std.specs.Prelude.{◌≡◌, ℕ, ◌+◌, ◌-◌, ◌<◌, ◌≤◌, ◌^◌, List, [], ◌++◌, length, take, Result, Ok, Err, IfOk, OnOk, OnErr, MatchResult, ⊤};
+ghost use Rattle.std.specs.Prelude.{◌≡◌, ℕ, ◌+◌, ◌-◌, ◌<◌, ◌≤◌, ◌^◌, List, [], ◌++◌, length, take, Result, Ok, Err};
+ghost use Rattle.std.specs.Prelude.{IfOk, OnOk, OnErr, MatchResult, ⊤};
 ghost use Rattle.std.specs.Io.KnownBytes.{Consumes, Appends, IsAtEnd, Keeps};
 ghost use Rattle.byte_io.specs.Streams.{Answer, answer_of, MayRead, MayWrite};
 ghost use Rattle.byte_io.specs.declared.fault.DeviceFault.{DeviceFault};

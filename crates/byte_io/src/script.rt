@@ -2,10 +2,12 @@
 //!
 //! A text in pieces is read as it would come over a socket, and what is written can be looked at. Each piece is kept as
 //! it was given, with the place up to which it was read, so that a call copies no more than the bytes that it moves.
-ghost use Rattle.std.specs.Prelude.{◌≡◌, ℕ, ◌+◌, ◌-◌, ◌<◌, ◌≤◌, ◌^◌, List, [], length, take, drop, map, min, vec_len, Some, IfOk, OnOk, OnErr};
+ghost use Rattle.std.specs.Prelude.{◌≡◌, ℕ, ◌+◌, ◌-◌, ◌<◌, ◌≤◌, ◌^◌, List, [], length, take, drop, map, min, vec_len};
+ghost use Rattle.std.specs.Prelude.{Some, IfOk, OnOk, OnErr};
 ghost use Rattle.std.specs.Vec.Iter.{into_iter_items};
 ghost use Rattle.byte_io.specs.Streams.{answer_of};
-ghost use Rattle.byte_io.specs.Scripts.{nonempty_pieces, before_pieces, first_piece, pieces_behind, take_within, limit_less, IsRead, IsWrite, script_gives, script_takes};
+ghost use Rattle.byte_io.specs.Scripts.{nonempty_pieces, before_pieces, first_piece, pieces_behind, take_within};
+ghost use Rattle.byte_io.specs.Scripts.{limit_less, IsRead, IsWrite, script_gives, script_takes};
 
 use crate::devices::{Sink, Source};
 use crate::fault::DeviceFault;
@@ -28,7 +30,8 @@ impl Model for Pieces {
 
     ghost Value = { List (List ℕ) };
 
-    ghost view = { λ p. before_pieces (drop p.given p.present.items) (nonempty_pieces (map (λ piece. piece.items) (into_iter_items p.later))) };
+    ghost view = { λ p. before_pieces (drop p.given p.present.items)
+        (nonempty_pieces (map (λ piece. piece.items) (into_iter_items p.later))) };
 
     ghost invariant = { λ p. p.given ≤ vec_len p.present };
 }
@@ -37,8 +40,10 @@ impl Model for Pieces {
 fn next_piece(present: &mut Vec<u8>, given: &mut usize, later: &mut IntoIter<Vec<u8>>)
     requires { given.old ≤ vec_len present.old }
     ensures within { given.new ≤ vec_len present.new }
-    ensures same { before_pieces (drop given.new present.new.items) (nonempty_pieces (map (λ piece. piece.items) (into_iter_items later.new)))
-        ≡ before_pieces (drop given.old present.old.items) (nonempty_pieces (map (λ piece. piece.items) (into_iter_items later.old))) }
+    ensures same { before_pieces (drop given.new present.new.items)
+        (nonempty_pieces (map (λ piece. piece.items) (into_iter_items later.new)))
+        ≡ before_pieces (drop given.old present.old.items)
+        (nonempty_pieces (map (λ piece. piece.items) (into_iter_items later.old))) }
     ensures last { given.new ≡ vec_len present.new → into_iter_items later.new ≡ [] }
 {
     while *given == present.len() {
@@ -115,7 +120,13 @@ impl Model for Script {
 
     ghost Value = { ScriptState };
 
-    ghost view = { λ s. record { pieces = s.pieces; reads_left = s.reads_left; written = s.written.items; room = s.room; failures = s.failures } };
+    ghost view = { λ s. record {
+      pieces = s.pieces;
+      reads_left = s.reads_left;
+      written = s.written.items;
+      room = s.room;
+      failures = s.failures;
+    } };
 }
 
 impl Script {

@@ -54,7 +54,8 @@ pub fn summed(alloc: Global, cells: &[Cell]) -> Result<Vec<Cell>, AllocError>
     ensures rises { IfOk result (λ list. Rise list.items) }
     ensures sums { IfOk result (λ list. (q : ℕ × ℕ) → sum_at q list.items ≡ sum_at q cells.now) }
     ensures total { IfOk result (λ list. cell_total list.items ≡ cell_total cells.now) }
-    ensures within { IfOk result (λ list. (rows cols : ℕ) → AreWithin rows cols cells.now → AreWithin rows cols list.items) }
+    ensures within { IfOk result (λ list. (rows cols : ℕ) → AreWithin rows cols cells.now →
+        AreWithin rows cols list.items) }
     ensures none { length cells.now ≡ 0 → IsOk result }
 {
     let mut list = sorted(alloc, cells)?;

@@ -1,9 +1,11 @@
 -- A line of decimal numbers: its bytes, its words and their numbers.
-use Rattle.std.proofs.Common.{◌≡◌, ℕ, ◌+◌, ◌-◌, ◌^◌, ◌<◌, ◌≤◌, true, false, ◌&&◌, List, [], ◌∷◌, ◌++◌, length, get_or, refl, ◌∙◌, ap, arith, append_assoc, length-append}
+use Rattle.std.proofs.Common.{◌≡◌, ℕ, ◌+◌, ◌-◌, ◌^◌, ◌<◌, ◌≤◌, true, false, ◌&&◌, List, [], ◌∷◌, ◌++◌, length, get_or}
+use Rattle.std.proofs.Common.{refl, ◌∙◌, ap, arith, append_assoc, length-append}
 use Rattle.std.proofs.lemmas.List.{get_or_append_left}
 use Rattle.std.proofs.lemmas.List.Folds.{list_all-append, list_all_at}
 use Rattle.std.proofs.lemmas.List.Elements.{All-from_get_or}
-use Rattle.std.proofs.lemmas.Str.Parse.{IsNumeralModel, tells_all_ascii_digits, numerals_by_value, without_leading_plus_none}
+use Rattle.std.proofs.lemmas.Str.Parse.{IsNumeralModel, tells_all_ascii_digits, numerals_by_value}
+use Rattle.std.proofs.lemmas.Str.Parse.{without_leading_plus_none}
 use Rattle.std.proofs.lemmas.Fmt.{digits_decimal, digits_value-decimal, decimal_nonempty, length-decimal-le}
 use Rattle.std.specs.Prelude.{Ok, decimal, All}
 use Rattle.std.specs.List.{list_all}
@@ -50,7 +52,8 @@ digit_at n ds d = all_at is_ascii_digit ds 0 d.digits d.some
 
 pub decimal_number : (bad : MmKind) (n : ℕ) (ds : List ℕ) → IsDecimal n ds → number bad ds ≡ Ok n
 decimal_number bad n ds d =
-    number_from bad ds ds n (without_leading_plus_none ds (no_plus (get_or ds 0 0) (digit_at n ds d))) d.digits d.some d.value d.fits
+    number_from bad ds ds n (without_leading_plus_none ds (no_plus (get_or ds 0 0) (digit_at n ds d))) d.digits d.some
+    d.value d.fits
 
 pub decimal_not_negative : (n : ℕ) (ds : List ℕ) → IsDecimal n ds → is_negative ds ≡ false
 decimal_not_negative n ds d = rw (no_minus (get_or ds 0 0) (digit_at n ds d)) refl
@@ -63,7 +66,8 @@ abbrev pub three : List ℕ → List ℕ → List ℕ → List ℕ
 three a b c = a ++ 32 ∷ b ++ 32 ∷ c
 
 no_blank : (n : ℕ) (ds : List ℕ) → IsDecimal n ds → All (λ b. is_blank b ≡ false) ds
-no_blank n ds d = All-from_get_or (λ b. is_blank b ≡ false) ds 0 (λ i l. blank_not (get_or ds i 0) (all_at is_ascii_digit ds i d.digits l))
+no_blank n ds d = All-from_get_or (λ b. is_blank b ≡ false) ds 0
+    (λ i l. blank_not (get_or ds i 0) (all_at is_ascii_digit ds i d.digits l))
 
 module _ (m n k : ℕ) (a b c : List ℕ) (x : IsDecimal m a) (y : IsDecimal n b) (z : IsDecimal k c) where
   from_right : three a b c ≡ a ++ 32 ∷ (b ++ 32 ∷ c)
@@ -72,12 +76,14 @@ module _ (m n k : ℕ) (a b c : List ℕ) (x : IsDecimal m a) (y : IsDecimal n b
   pub three_words : words (three a b c) ≡ a ∷ b ∷ c ∷ []
   three_words =
       ap words from_right ∙ words_word a 32 (b ++ 32 ∷ c) (no_blank m a x) x.some refl
-      ∙ ap (λ ws. a ∷ ws) (words_word b 32 c (no_blank n b y) y.some refl ∙ ap (λ ws. b ∷ ws) (words_one c (no_blank k c z) z.some))
+      ∙ ap (λ ws. a ∷ ws) (words_word b 32 c (no_blank n b y) y.some refl
+      ∙ ap (λ ws. b ∷ ws) (words_one c (no_blank k c z) z.some))
 
   all_plain : list_all is_plain (three a b c) ≡ true
   all_plain =
       let p = plain_digits a x.digits in let q = plain_digits b y.digits in let r = plain_digits c z.digits in
-      ap (list_all is_plain) from_right ∙ list_all-append is_plain a (32 ∷ (b ++ 32 ∷ c)) ∙ rw p (list_all-append is_plain b (32 ∷ c) ∙ rw (q, r) refl)
+      ap (list_all is_plain) from_right ∙ list_all-append is_plain a (32 ∷ (b ++ 32 ∷ c))
+      ∙ rw p (list_all-append is_plain b (32 ∷ c) ∙ rw (q, r) refl)
 
   size_is : length (three a b c) ≡ length a + 1 + length b + 1 + length c
   size_is = omega (arith, length-append (a ++ 32 ∷ b) (32 ∷ c), length-append a (32 ∷ b))
@@ -94,12 +100,14 @@ module _ (m n k : ℕ) (a b c : List ℕ) (x : IsDecimal m a) (y : IsDecimal n b
   pub three_content : content (three a b c) ≡ three a b c
   three_content =
       let last : length (three a b c) - 1 < length (three a b c) = let s = x.some in omega (arith, size_is, s) in
-      let e = (plain_is (get_or (three a b c) (length (three a b c) - 1) 0) (all_at is_plain (three a b c) (length (three a b c) - 1) all_plain last)).1 in
+      let e = (plain_is (get_or (three a b c) (length (three a b c) - 1) 0)
+      (all_at is_plain (three a b c) (length (three a b c) - 1) all_plain last)).1 in
       rw e refl
 
   -- it begins with a digit
   first_digit : is_ascii_digit (get_or (three a b c) 0 0) ≡ true
-  first_digit = let some = x.some in ap (λ l. is_ascii_digit (get_or l 0 0)) from_right ∙ ap is_ascii_digit (get_or_append_left a (32 ∷ (b ++ 32 ∷ c)) 0 0 some) ∙ digit_at m a x
+  first_digit = let some = x.some in ap (λ l. is_ascii_digit (get_or l 0 0)) from_right
+      ∙ ap is_ascii_digit (get_or_append_left a (32 ∷ (b ++ 32 ∷ c)) 0 0 some) ∙ digit_at m a x
 
   pub three_counts : is_skipped (three a b c) ≡ false
   three_counts =

@@ -1,5 +1,6 @@
 -- What a banner looks like.
-use Rattle.std.proofs.Common.{inl, inr, ◌⊎◌, ◌≡◌, ℕ, ◌<◌, Bool, true, false, not, ◌||◌, List, [], ◌∷◌, ◌++◌, length, get_or, drop, refl, sym, ◌∙◌, ap, subst, arith}
+use Rattle.std.proofs.Common.{inl, inr, ◌⊎◌, ◌≡◌, ℕ, ◌<◌, Bool, true, false, not, ◌||◌, List, [], ◌∷◌, ◌++◌, length}
+use Rattle.std.proofs.Common.{get_or, drop, refl, sym, ◌∙◌, ap, subst, arith}
 use Rattle.std.proofs.lemmas.Bool.Decides.{nat_tests}
 use Rattle.std.proofs.lemmas.List.{get_or_append_left}
 use Rattle.std.specs.Cmp.Lexicographic.{same_text}
@@ -15,7 +16,8 @@ use Rattle.mm_text.specs.declared.fault.MmKind.TheVariants.{BadBanner, Unsupport
 use Rattle.mm_text.proofs.BoundLemmas.{ok_bind}
 
 -- a word that passes as a keyword is one that is known
-known_word : (unsupported known : List (List ℕ)) (w : List ℕ) (u : Unit {0}) → keyword unsupported known w ≡ Ok u → is_one_of w known ≡ true
+known_word : (unsupported known : List (List ℕ)) (w : List ℕ) (u : Unit {0}) → keyword unsupported known w ≡ Ok u →
+    is_one_of w known ≡ true
 known_word unsupported known w u e =
     let r = refuse_first (is_one_of w unsupported) Unsupported _ u e in by_test (is_one_of w known) refl r.1
   where
@@ -54,20 +56,25 @@ format_is : (w : List ℕ) (u : Unit {0}) → format w ≡ Ok u → IsKeyword w 
 unfolding format
 format_is w u e = one_word w (codes "coordinate") (known_word (codes "array" ∷ []) (codes "coordinate" ∷ []) w u e)
 
-field_is : (w : List ℕ) (u : Unit {0}) → field w ≡ Ok u → IsKeyword w (codes "integer") ⊎ IsKeyword w (codes "unsigned-integer")
+field_is : (w : List ℕ) (u : Unit {0}) → field w ≡ Ok u → IsKeyword w (codes "integer") ⊎
+    IsKeyword w (codes "unsigned-integer")
 unfolding field
 field_is w u e = two_words w (codes "integer") (codes "unsigned-integer")
-    (known_word (codes "real" ∷ codes "complex" ∷ codes "pattern" ∷ []) (codes "integer" ∷ codes "unsigned-integer" ∷ []) w u e)
+    (known_word (codes "real" ∷ codes "complex" ∷ codes "pattern" ∷ [])
+    (codes "integer" ∷ codes "unsigned-integer" ∷ []) w u e)
 
 symmetry_is : (w : List ℕ) (b : Bool) → symmetry w ≡ Ok b → IsKeyword w (symmetry_keyword b)
 unfolding symmetry
 symmetry_is w b e =
-    let k = ok_bind (keyword (codes "skew-symmetric" ∷ codes "hermitian" ∷ []) (codes "general" ∷ codes "symmetric" ∷ []) w) _ b e in
+    let k = ok_bind (keyword (codes "skew-symmetric" ∷ codes "hermitian" ∷ [])
+    (codes "general" ∷ codes "symmetric" ∷ []) w) _ b e in
     let is : is_one_of w (codes "symmetric" ∷ []) ≡ b = let f = k.2 in cc in
-    let known = known_word (codes "skew-symmetric" ∷ codes "hermitian" ∷ []) (codes "general" ∷ codes "symmetric" ∷ []) w k.0 k.1 in
+    let known = known_word (codes "skew-symmetric" ∷ codes "hermitian" ∷ []) (codes "general" ∷ codes "symmetric" ∷ [])
+    w k.0 k.1 in
     by_test b is (two_words w (codes "general") (codes "symmetric") known)
   where
-    by_test : (v : Bool) → is_one_of w (codes "symmetric" ∷ []) ≡ v → IsKeyword w (codes "general") ⊎ IsKeyword w (codes "symmetric") → IsKeyword w (symmetry_keyword v)
+    by_test : (v : Bool) → is_one_of w (codes "symmetric" ∷ []) ≡ v → IsKeyword w (codes "general") ⊎
+        IsKeyword w (codes "symmetric") → IsKeyword w (symmetry_keyword v)
     by_test true h k = one_word w (codes "symmetric") h
     by_test false h (inl g) = g
     by_test false h (inr s) = absurd (let t : is_one_of w (codes "symmetric" ∷ []) ≡ true = rw s refl in cc)
@@ -86,17 +93,21 @@ five_of (a ∷ b ∷ []) some none = absurd (omega arith)
 five_of (a ∷ b ∷ c ∷ []) some none = absurd (omega arith)
 five_of (a ∷ b ∷ c ∷ d ∷ []) some none = absurd (omega arith)
 five_of (a ∷ b ∷ c ∷ d ∷ e ∷ []) some none = refl
-five_of (a ∷ b ∷ c ∷ d ∷ e ∷ f ∷ fs) some none = absurd (let l : nat_lt 0 (length (f ∷ fs)) ≡ true = grind (arith, nat_tests) in cc)
+five_of (a ∷ b ∷ c ∷ d ∷ e ∷ f ∷ fs) some none =
+    absurd (let l : nat_lt 0 (length (f ∷ fs)) ≡ true = grind (arith, nat_tests) in cc)
 
 -- where the first byte is no blank, the first word begins there
-starts : (line w : List ℕ) (ws : List (List ℕ)) → HasWords line (w ∷ ws) → is_blank (get_or line 0 0) ≡ false → (rest : List ℕ) × (line ≡ w ++ rest)
+starts : (line w : List ℕ) (ws : List (List ℕ)) → HasWords line (w ∷ ws) → is_blank (get_or line 0 0) ≡ false →
+    (rest : List ℕ) × (line ≡ w ++ rest)
 starts line w ws h first = by_blanks h.0 h.2 h.3
   where
-    by_blanks : (blanks : List ℕ) → line ≡ blanks ++ (w ++ h.1) → All (λ b. is_blank b ≡ true) blanks → (rest : List ℕ) × (line ≡ w ++ rest)
+    by_blanks : (blanks : List ℕ) → line ≡ blanks ++ (w ++ h.1) → All (λ b. is_blank b ≡ true) blanks →
+        (rest : List ℕ) × (line ≡ w ++ rest)
     by_blanks [] e all = (h.1, e)
     by_blanks (b ∷ blanks) e all =
         let one : is_blank b ≡ true = all 0 0 (omega arith) in
-        let same : get_or line 0 0 ≡ b = ap (λ l. get_or l 0 0) e in absurd (let f : is_blank b ≡ false = rw same at first in cc)
+        let same : get_or line 0 0 ≡ b = ap (λ l. get_or l 0 0) e in
+        absurd (let f : is_blank b ≡ false = rw same at first in cc)
 
 pub banner_is : (line : List ℕ) (symmetric : Bool) → banner line ≡ Ok symmetric → IsBannerLine line symmetric
 unfolding banner
@@ -109,8 +120,11 @@ banner_is line symmetric e =
     let s = ok_bind (symmetry (word (drop 4 (words line)))) _ symmetric t.2 in
     let x = refuse_first (has_word (drop 5 (words line))) BadBanner _ symmetric s.2 in
     let is : s.0 ≡ symmetric = let y = x.1 in cc in
-    let fifth : IsKeyword (word (drop 4 (words line))) (symmetry_keyword symmetric) = subst (λ b. IsKeyword (word (drop 4 (words line))) (symmetry_keyword b)) is (symmetry_is (word (drop 4 (words line))) s.0 s.1) in
-    let all = subst (HasWords line) (five_of (words line) (keyword_some (word (drop 4 (words line))) symmetric fifth) x.0) (has_its_words line) in
+    let fifth : IsKeyword (word (drop 4 (words line))) (symmetry_keyword symmetric) =
+    subst (λ b. IsKeyword (word (drop 4 (words line))) (symmetry_keyword b)) is
+    (symmetry_is (word (drop 4 (words line))) s.0 s.1) in
+    let all = subst (HasWords line) (five_of (words line) (keyword_some (word (drop 4 (words line))) symmetric fifth)
+    x.0) (has_its_words line) in
     record {
       mark = word (words line);
       object = word (drop 1 (words line));
@@ -118,7 +132,8 @@ banner_is line symmetric e =
       field = word (drop 3 (words line));
       symmetry = word (drop 4 (words line));
       has_words = all;
-      at_start = starts line (word (words line)) (word (drop 1 (words line)) ∷ word (drop 2 (words line)) ∷ word (drop 3 (words line)) ∷ word (drop 4 (words line)) ∷ []) all b.0;
+      at_start = starts line (word (words line)) (word (drop 1 (words line)) ∷ word (drop 2 (words line)) ∷ word
+          (drop 3 (words line)) ∷ word (drop 4 (words line)) ∷ []) all b.0;
       mark_is = mark_is (word (words line)) m.0 m.1;
       object_is = object_is (word (drop 1 (words line))) o.0 o.1;
       format_is = format_is (word (drop 2 (words line))) f.0 f.1;
@@ -153,7 +168,8 @@ unfolding banner
 banner_says line symmetric h =
     let is_word = h.has_words.4 in
     let first : is_blank (get_or line 0 0) ≡ false =
-    ap (λ l. is_blank (get_or l 0 0)) h.at_start.1 ∙ ap is_blank (get_or_append_left h.mark h.at_start.0 0 0 is_word.some) ∙ is_word.solid 0 0 is_word.some in
+    ap (λ l. is_blank (get_or l 0 0)) h.at_start.1
+    ∙ ap is_blank (get_or_append_left h.mark h.at_start.0 0 0 is_word.some) ∙ is_word.solid 0 0 is_word.some in
     rw first (rw (words_are line (h.mark ∷ h.object ∷ h.format ∷ h.field ∷ h.symmetry ∷ []) h.has_words)
     (rw (mark_says h.mark h.mark_is) (rw (object_says h.object h.object_is) (rw (format_says h.format h.format_is)
     (rw (field_says h.field h.field_is) (rw (symmetry_says h.symmetry symmetric h.symmetry_is) refl))))))

@@ -1,5 +1,6 @@
 -- What a size line and an entry's line look like.
-use Rattle.std.proofs.Common.{◌≡◌, ℕ, ◌+◌, ◌<◌, ◌≤◌, Bool, true, false, not, ◌&&◌, List, [], ◌∷◌, length, drop, refl, ap, subst, arith}
+use Rattle.std.proofs.Common.{◌≡◌, ℕ, ◌+◌, ◌<◌, ◌≤◌, Bool, true, false, not, ◌&&◌, List, [], ◌∷◌, length, drop, refl}
+use Rattle.std.proofs.Common.{ap, subst, arith}
 use Rattle.std.proofs.lemmas.Bool.Decides.{nat_tests}
 use Rattle.std.specs.Prelude.{Ok, nat_lt, nat_eq}
 use Rattle.cells.specs.Bounds.{IsDimension}
@@ -7,22 +8,27 @@ use Rattle.mm_text.specs.Words.{words, word, has_word, is_negative}
 use Rattle.mm_text.specs.Judging.{number, is_dimension, size, index, entry}
 use Rattle.mm_laws.specs.Grammar.{HasWords, Writes, IsSizeLine, IsEntryLine}
 use Rattle.mm_laws.proofs.GrammarWords.{has_its_words, words_are}
-use Rattle.mm_laws.proofs.GrammarNumbers.{index_from, index_to, number_writes, writes_number, writes_no_minus, writes_some}
+use Rattle.mm_laws.proofs.GrammarNumbers.{index_from, index_to, number_writes, writes_number, writes_no_minus}
+use Rattle.mm_laws.proofs.GrammarNumbers.{writes_some}
 use Rattle.mm_laws.proofs.SpellsFacts.{refuse_first, size_bounds, entry_within}
-use Rattle.mm_text.specs.declared.fault.MmKind.TheVariants.{BadSize, BadDimension, NotSquare, TooManyEntries, BadEntry, Negative}
+use Rattle.mm_text.specs.declared.fault.MmKind.TheVariants.{BadSize, BadDimension, NotSquare, TooManyEntries, BadEntry}
+use Rattle.mm_text.specs.declared.fault.MmKind.TheVariants.{Negative}
 use Rattle.cells.specs.declared.cell.Cell.{Cell}
 use Rattle.mm_text.specs.declared.size.Size.{Size}
 use Rattle.mm_text.proofs.BoundLemmas.{ok_bind}
 
 -- a third word, and none behind it
-three_of : (ws : List (List ℕ)) → 0 < length (word (drop 2 ws)) → has_word (drop 3 ws) ≡ false → ws ≡ word ws ∷ word (drop 1 ws) ∷ word (drop 2 ws) ∷ []
+three_of : (ws : List (List ℕ)) → 0 < length (word (drop 2 ws)) → has_word (drop 3 ws) ≡ false →
+    ws ≡ word ws ∷ word (drop 1 ws) ∷ word (drop 2 ws) ∷ []
 three_of [] some none = absurd (omega arith)
 three_of (a ∷ []) some none = absurd (omega arith)
 three_of (a ∷ b ∷ []) some none = absurd (omega arith)
 three_of (a ∷ b ∷ c ∷ []) some none = refl
-three_of (a ∷ b ∷ c ∷ d ∷ ds) some none = absurd (let l : nat_lt 0 (length (d ∷ ds)) ≡ true = grind (arith, nat_tests) in cc)
+three_of (a ∷ b ∷ c ∷ d ∷ ds) some none = absurd (let l : nat_lt 0 (length (d ∷ ds)) ≡ true = grind (arith, nat_tests)
+    in cc)
 
-pub entry_line_is : (rows cols : ℕ) (line : List ℕ) (cell : Cell) → entry rows cols line ≡ Ok cell → IsEntryLine rows cols line cell
+pub entry_line_is : (rows cols : ℕ) (line : List ℕ) (cell : Cell) → entry rows cols line ≡ Ok cell →
+    IsEntryLine rows cols line cell
 unfolding entry
 entry_line_is rows cols line cell e =
     let within = entry_within rows cols line cell e in
@@ -35,19 +41,26 @@ entry_line_is rows cols line cell e =
     let row : r.0 ≡ cell.row = ap (λ x. x.row) is in
     let col : c.0 ≡ cell.col = ap (λ x. x.col) is in
     let count : k.0 ≡ cell.count = ap (λ x. x.count) is in
-    let third : Writes (word (drop 2 (words line))) cell.count = subst (Writes (word (drop 2 (words line)))) count (number_writes BadEntry (word (drop 2 (words line))) k.0 k.1) in
+    let third : Writes (word (drop 2 (words line))) cell.count =
+    subst (Writes (word (drop 2 (words line)))) count (number_writes BadEntry (word (drop 2 (words line))) k.0 k.1)
+    in
     record {
       row = word (words line);
       col = word (drop 1 (words line));
       count = word (drop 2 (words line));
-      has_words = subst (HasWords line) (three_of (words line) (writes_some (word (drop 2 (words line))) cell.count third) m.0) (has_its_words line);
-      row_is = subst (λ i. Writes (word (words line)) (i + 1)) row (number_writes BadEntry (word (words line)) (r.0 + 1) (index_to rows r.0 (word (words line)) r.1));
-      col_is = subst (λ i. Writes (word (drop 1 (words line))) (i + 1)) col (number_writes BadEntry (word (drop 1 (words line))) (c.0 + 1) (index_to cols c.0 (word (drop 1 (words line))) c.1));
+      has_words = subst (HasWords line) (three_of (words line)
+          (writes_some (word (drop 2 (words line))) cell.count third) m.0) (has_its_words line);
+      row_is = subst (λ i. Writes (word (words line)) (i + 1)) row
+          (number_writes BadEntry (word (words line)) (r.0 + 1) (index_to rows r.0 (word (words line)) r.1));
+      col_is = subst (λ i. Writes (word (drop 1 (words line))) (i + 1)) col
+          (number_writes BadEntry (word (drop 1 (words line))) (c.0 + 1)
+          (index_to cols c.0 (word (drop 1 (words line))) c.1));
       count_is = third;
       within = within.0;
     }
 
-pub entry_line_says : (rows cols : ℕ) (line : List ℕ) (cell : Cell) → IsEntryLine rows cols line cell → entry rows cols line ≡ Ok cell
+pub entry_line_says : (rows cols : ℕ) (line : List ℕ) (cell : Cell) → IsEntryLine rows cols line cell →
+    entry rows cols line ≡ Ok cell
 unfolding entry
 entry_line_says rows cols line cell h =
     rw (words_are line (h.row ∷ h.col ∷ h.count ∷ []) h.has_words)
@@ -56,7 +69,8 @@ entry_line_says rows cols line cell h =
     (rw (writes_no_minus h.count cell.count h.count_is)
     (rw (writes_number BadEntry h.count cell.count h.count_is) refl))))
 
-pub size_line_is : (symmetric : Bool) (most : ℕ) (line : List ℕ) (s : Size) → size symmetric most line ≡ Ok s → IsSizeLine symmetric line s × (s.entries ≤ most)
+pub size_line_is : (symmetric : Bool) (most : ℕ) (line : List ℕ) (s : Size) → size symmetric most line ≡ Ok s →
+    IsSizeLine symmetric line s × (s.entries ≤ most)
 unfolding size
 size_line_is symmetric most line s e =
     let bounds = size_bounds symmetric most line s e in
@@ -72,14 +86,18 @@ size_line_is symmetric most line s e =
     let rows : r.0 ≡ s.rows = ap (λ x. x.rows) is in
     let cols : c.0 ≡ s.cols = ap (λ x. x.cols) is in
     let entries : n.0 ≡ s.entries = ap (λ x. x.entries) is in
-    let third : Writes (word (drop 2 (words line))) s.entries = subst (Writes (word (drop 2 (words line)))) entries (number_writes BadSize (word (drop 2 (words line))) n.0 n.1) in (
+    let third : Writes (word (drop 2 (words line))) s.entries =
+    subst (Writes (word (drop 2 (words line)))) entries
+    (number_writes BadSize (word (drop 2 (words line))) n.0 n.1) in (
       record {
         rows = word (words line);
         cols = word (drop 1 (words line));
         entries = word (drop 2 (words line));
-        has_words = subst (HasWords line) (three_of (words line) (writes_some (word (drop 2 (words line))) s.entries third) x.0) (has_its_words line);
+        has_words = subst (HasWords line) (three_of (words line)
+            (writes_some (word (drop 2 (words line))) s.entries third) x.0) (has_its_words line);
         rows_are = subst (Writes (word (words line))) rows (number_writes BadSize (word (words line)) r.0 r.1);
-        cols_are = subst (Writes (word (drop 1 (words line)))) cols (number_writes BadSize (word (drop 1 (words line))) c.0 c.1);
+        cols_are = subst (Writes (word (drop 1 (words line)))) cols
+            (number_writes BadSize (word (drop 1 (words line))) c.0 c.1);
         entries_are = third;
         row_bounds = bounds.0;
         col_bounds = bounds.1;
@@ -91,11 +109,13 @@ size_line_is symmetric most line s e =
 pub dimension_test : (n : ℕ) → IsDimension n → is_dimension n ≡ true
 dimension_test n h = let low = h.0 in let high = h.1 in grind (arith, nat_tests)
 
-pub square_test : (symmetric : Bool) (rows cols : ℕ) → (symmetric ≡ true → rows ≡ cols) → (symmetric && not (nat_eq rows cols)) ≡ false
+pub square_test : (symmetric : Bool) (rows cols : ℕ) → (symmetric ≡ true → rows ≡ cols) →
+    (symmetric && not (nat_eq rows cols)) ≡ false
 square_test false rows cols h = refl
 square_test true rows cols h = let e = h refl in grind (arith, nat_tests)
 
-pub size_line_says : (symmetric : Bool) (most : ℕ) (line : List ℕ) (s : Size) → IsSizeLine symmetric line s → s.entries ≤ most → size symmetric most line ≡ Ok s
+pub size_line_says : (symmetric : Bool) (most : ℕ) (line : List ℕ) (s : Size) → IsSizeLine symmetric line s →
+    s.entries ≤ most → size symmetric most line ≡ Ok s
 unfolding size
 size_line_says symmetric most line s h few =
     let fits : nat_lt most s.entries ≡ false = grind (arith, nat_tests) in

@@ -1,5 +1,6 @@
 -- The number that a word writes.
-use Rattle.std.proofs.Common.{inl, inr, ◌⊎◌, ◌≡◌, ℕ, ◌+◌, ◌-◌, ◌^◌, ◌<◌, Bool, true, false, ◌&&◌, ◌||◌, cond, List, [], ◌∷◌, ◌++◌, length, get_or, drop, refl, sym, ◌∙◌, ap, arith}
+use Rattle.std.proofs.Common.{inl, inr, ◌⊎◌, ◌≡◌, ℕ, ◌+◌, ◌-◌, ◌^◌, ◌<◌, Bool, true, false, ◌&&◌, ◌||◌, cond, List, []}
+use Rattle.std.proofs.Common.{◌∷◌, ◌++◌, length, get_or, drop, refl, sym, ◌∙◌, ap, arith}
 use Rattle.std.proofs.lemmas.Bool.Decides.{nat_tests}
 use Rattle.std.proofs.lemmas.List.Elements.{All-from_get_or, All-head, All-tail}
 use Rattle.std.specs.Prelude.{Some, Result, Ok, Err, nat_lt, nat_eq, All}
@@ -16,7 +17,8 @@ use Rattle.mm_text.specs.declared.fault.MmKind.TheVariants.{BadEntry, NumberTooL
 use Rattle.mm_text.proofs.BoundLemmas.{ok_bind}
 
 -- digits behind at most one plus write their value
-pub number_from : (bad : MmKind) (w ds : List ℕ) (n : ℕ) → without_leading_plus w ≡ ds → list_all is_ascii_digit ds ≡ true → 0 < length ds → digits_value 10 ds ≡ n → n < 2 ^ 64 → number bad w ≡ Ok n
+pub number_from : (bad : MmKind) (w ds : List ℕ) (n : ℕ) → without_leading_plus w ≡ ds →
+    list_all is_ascii_digit ds ≡ true → 0 < length ds → digits_value 10 ds ≡ n → n < 2 ^ 64 → number bad w ≡ Ok n
 unfolding number
 number_from bad w ds n plain digits some value fits =
     let test : nat_lt 0 (length ds) ≡ true = grind (arith, nat_tests) in
@@ -43,7 +45,8 @@ index_to limit i w e =
     let d : a.0 ≡ i + 1 = grind (arith, nat_tests, b.0, c) in
     a.1 ∙ ap Ok d
 
-number_to : (bad : MmKind) (w : List ℕ) (n : ℕ) → number bad w ≡ Ok n → (are_digits (without_leading_plus w) ≡ true) × (digits_value 10 (without_leading_plus w) ≡ n)
+number_to : (bad : MmKind) (w : List ℕ) (n : ℕ) → number bad w ≡ Ok n → (are_digits (without_leading_plus w) ≡ true) ×
+    (digits_value 10 (without_leading_plus w) ≡ n)
 unfolding number
 number_to bad w n e = by_digits (are_digits (without_leading_plus w)) refl
   where
@@ -51,15 +54,22 @@ number_to bad w n e = by_digits (are_digits (without_leading_plus w)) refl
     value m true f = cc
     value m false f = cc
 
-    by_digits : (b : Bool) → are_digits (without_leading_plus w) ≡ b → (are_digits (without_leading_plus w) ≡ true) × (digits_value 10 (without_leading_plus w) ≡ n)
+    by_digits : (b : Bool) → are_digits (without_leading_plus w) ≡ b → (are_digits (without_leading_plus w) ≡ true) ×
+        (digits_value 10 (without_leading_plus w) ≡ n)
     by_digits false h = let f = rw h at e in cc
-    by_digits true h = let f = rw h at e in (h, value (digits_value 10 (without_leading_plus w)) (nat_lt (digits_value 10 (without_leading_plus w)) (2 ^ 64)) f)
+    by_digits true h = let f = rw h at e in (
+      h,
+      value (digits_value 10 (without_leading_plus w))
+          (nat_lt (digits_value 10 (without_leading_plus w)) (2 ^ 64)) f,
+    )
 
-pub plus_cases : (w : List ℕ) → (without_leading_plus w ≡ w) ⊎ ((rest : List ℕ) × (w ≡ 43 ∷ rest) × (without_leading_plus w ≡ rest))
+pub plus_cases : (w : List ℕ) → (without_leading_plus w ≡ w) ⊎
+    ((rest : List ℕ) × (w ≡ 43 ∷ rest) × (without_leading_plus w ≡ rest))
 plus_cases [] = inl refl
 plus_cases (b ∷ bs) = by_test (nat_eq b 43) refl
   where
-    by_test : (v : Bool) → nat_eq b 43 ≡ v → (drop (cond (nat_eq b 43) 1 0) (b ∷ bs) ≡ b ∷ bs) ⊎ ((rest : List ℕ) × (b ∷ bs ≡ 43 ∷ rest) × (drop (cond (nat_eq b 43) 1 0) (b ∷ bs) ≡ rest))
+    by_test : (v : Bool) → nat_eq b 43 ≡ v → (drop (cond (nat_eq b 43) 1 0) (b ∷ bs) ≡ b ∷ bs) ⊎
+        ((rest : List ℕ) × (b ∷ bs ≡ 43 ∷ rest) × (drop (cond (nat_eq b 43) 1 0) (b ∷ bs) ≡ rest))
     by_test true h = let plus : b ≡ 43 = grind (arith, nat_tests) in inr (bs, ap (λ c. c ∷ bs) plus, rw h refl)
     by_test false h = inl (rw h refl)
 
@@ -103,9 +113,11 @@ number_writes bad w n e =
 
 pub all_test : (ds : List ℕ) → All (λ b. is_ascii_digit b ≡ true) ds → list_all is_ascii_digit ds ≡ true
 all_test [] h = refl
-all_test (d ∷ ds) h = let one = All-head (λ b. is_ascii_digit b ≡ true) d ds h in rw one (all_test ds (All-tail (λ b. is_ascii_digit b ≡ true) d ds h))
+all_test (d ∷ ds) h = let one = All-head (λ b. is_ascii_digit b ≡ true) d ds h in
+    rw one (all_test ds (All-tail (λ b. is_ascii_digit b ≡ true) d ds h))
 
-pub no_plus : (ds : List ℕ) → list_all is_ascii_digit ds ≡ true → 0 < length ds → (nat_eq (get_or ds 0 0) 43 ≡ false) × (nat_eq (get_or ds 0 0) 45 ≡ false)
+pub no_plus : (ds : List ℕ) → list_all is_ascii_digit ds ≡ true → 0 < length ds → (nat_eq (get_or ds 0 0) 43 ≡ false) ×
+    (nat_eq (get_or ds 0 0) 45 ≡ false)
 no_plus ds h some = by_first (get_or ds 0 0) (all_at is_ascii_digit ds 0 h some)
   where
     by_first : (c : ℕ) → is_ascii_digit c ≡ true → (nat_eq c 43 ≡ false) × (nat_eq c 45 ≡ false)

@@ -1,5 +1,6 @@
 -- The words of a line are what stands between blanks.
-use Rattle.std.proofs.Common.{◌≡◌, ℕ, Bool, true, false, not, List, [], ◌∷◌, ◌++◌, length, refl, sym, ◌∙◌, ap, subst, arith}
+use Rattle.std.proofs.Common.{◌≡◌, ℕ, Bool, true, false, not, List, [], ◌∷◌, ◌++◌, length, refl, sym, ◌∙◌, ap, subst}
+use Rattle.std.proofs.Common.{arith}
 use Rattle.std.proofs.lemmas.Bool.Decides.{nat_tests}
 use Rattle.std.proofs.lemmas.List.{append-nil}
 use Rattle.std.proofs.lemmas.List.Elements.{All-nil, All-cons, All-head, All-tail}
@@ -36,14 +37,24 @@ one_blank_more b line [] h w = All-cons blank b line h w
 one_blank_more b line (word ∷ ws) h w = (b ∷ w.0, w.1, ap (λ l. b ∷ l) w.2, All-cons blank b w.0 h w.3, w.4, w.5, w.6)
 
 -- the words from a first part on
-all_words : (line part : List ℕ) (parts : List (List ℕ)) (rest : List ℕ) → line ≡ part ++ rest → All solid part → EndsWord rest → HasWords rest (filter is_some parts) → HasWords line (filter is_some (part ∷ parts))
+all_words : (line part : List ℕ) (parts : List (List ℕ)) (rest : List ℕ) → line ≡ part ++ rest → All solid part →
+    EndsWord rest → HasWords rest (filter is_some parts) → HasWords line (filter is_some (part ∷ parts))
 all_words line [] parts rest e all ends more = rw e more
 all_words line (b ∷ part) parts rest e all ends more =
     let some : nat_eq (length (b ∷ part)) 0 ≡ false = grind (arith, nat_tests) in
     rw some ([], rest, e, All-nil blank, record { some = omega arith; solid = all }, ends, more)
 
 first_of : (line : List ℕ) → First line
-first_of [] = record { part = []; parts = []; split = refl; rest = []; line_is = refl; all = All-nil solid; ends = tt; more = All-nil blank }
+first_of [] = record {
+  part = [];
+  parts = [];
+  split = refl;
+  rest = [];
+  line_is = refl;
+  all = All-nil solid;
+  ends = tt;
+  more = All-nil blank;
+}
 first_of (b ∷ line) = by_test (is_blank b) refl (first_of line)
   where
     by_test : (v : Bool) → is_blank b ≡ v → First line → First (b ∷ line)
@@ -55,7 +66,8 @@ first_of (b ∷ line) = by_test (is_blank b) refl (first_of line)
       line_is = refl;
       all = All-nil solid;
       ends = h;
-      more = one_blank_more b line (filter is_some (f.part ∷ f.parts)) h (all_words line f.part f.parts f.rest f.line_is f.all f.ends f.more);
+      more = one_blank_more b line (filter is_some (f.part ∷ f.parts)) h
+          (all_words line f.part f.parts f.rest f.line_is f.all f.ends f.more);
     }
     by_test false h f = record {
       part = b ∷ f.part;
@@ -69,11 +81,13 @@ first_of (b ∷ line) = by_test (is_blank b) refl (first_of line)
     }
 
 pub has_its_words : (line : List ℕ) → HasWords line (words line)
-has_its_words line = let f = first_of line in rw f.split (all_words line f.part f.parts f.rest f.line_is f.all f.ends f.more)
+has_its_words line = let f = first_of line in
+    rw f.split (all_words line f.part f.parts f.rest f.line_is f.all f.ends f.more)
 
 skip_blanks : (blanks rest : List ℕ) → AreBlanks blanks → words (blanks ++ rest) ≡ words rest
 skip_blanks [] rest h = refl
-skip_blanks (b ∷ blanks) rest h = words_skip b (blanks ++ rest) (All-head blank b blanks h) ∙ skip_blanks blanks rest (All-tail blank b blanks h)
+skip_blanks (b ∷ blanks) rest h = words_skip b (blanks ++ rest) (All-head blank b blanks h)
+    ∙ skip_blanks blanks rest (All-tail blank b blanks h)
 
 pub words_are : (line : List ℕ) (ws : List (List ℕ)) → HasWords line ws → words line ≡ ws
 words_are line [] h = ap words (sym (append-nil line)) ∙ skip_blanks line [] h
@@ -82,7 +96,8 @@ words_are line (word ∷ ws) h =
   where
     behind : (rest : List ℕ) → EndsWord rest → words rest ≡ ws → words (word ++ rest) ≡ word ∷ ws
     behind [] e w = ap words (append-nil word) ∙ words_one word h.4.solid h.4.some ∙ ap (λ l. word ∷ l) w
-    behind (b ∷ rest) e w = words_word word b rest h.4.solid h.4.some e ∙ ap (λ l. word ∷ l) (sym (words_skip b rest e) ∙ w)
+    behind (b ∷ rest) e w = words_word word b rest h.4.solid h.4.some e
+        ∙ ap (λ l. word ∷ l) (sym (words_skip b rest e) ∙ w)
 
 pub words_have : (line : List ℕ) (ws : List (List ℕ)) → words line ≡ ws → HasWords line ws
 words_have line ws e = subst (HasWords line) e (has_its_words line)

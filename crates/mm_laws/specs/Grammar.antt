@@ -1,5 +1,6 @@
 -- What the lines of a coordinate text look like, as the format has them: with no order in which they are judged.
-use Rattle.std.specs.Prelude.{◌≡◌, ◌⊎◌, ℕ, ◌+◌, ◌<◌, ◌≤◌, ◌^◌, Bool, true, false, List, [], ◌∷◌, ◌++◌, length, flat_map, All, codes}
+use Rattle.std.specs.Prelude.{◌≡◌, ◌⊎◌, ℕ, ◌+◌, ◌<◌, ◌≤◌, ◌^◌, Bool, true, false, List, [], ◌∷◌, ◌++◌, length, flat_map}
+use Rattle.std.specs.Prelude.{All, codes}
 use Rattle.std.specs.List.{AllZip}
 use Rattle.std.specs.Char.{is_ascii_digit}
 use Rattle.std.specs.Str.{str_to_ascii_lowercase}
@@ -28,7 +29,8 @@ EndsWord (b ∷ bs) = is_blank b ≡ true
 -- The line has these words in this order, with blanks between them, and otherwise blanks alone.
 abbrev pub HasWords : List ℕ → List (List ℕ) → Type 0
 HasWords line [] = AreBlanks line
-HasWords line (word ∷ more) = (blanks rest : List ℕ) × (line ≡ blanks ++ (word ++ rest)) × AreBlanks blanks × IsWord word × EndsWord rest × HasWords rest more
+HasWords line (word ∷ more) = (blanks rest : List ℕ) × (line ≡ blanks ++ (word ++ rest)) × AreBlanks blanks ×
+    IsWord word × EndsWord rest × HasWords rest more
 
 -- The word writes this number of at most 64 bits: at most one plus, and then one digit or more.
 pub record Writes (word : List ℕ) (n : ℕ) : Type 0 where

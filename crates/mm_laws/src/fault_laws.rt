@@ -1,5 +1,5 @@
-//! The faults of lines: a law for each row of the table of faults (`docs/FORMATS.md`), in its order. Each says what stands
-//! before the word that is judged, and nothing of what stands behind it.
+//! The faults of lines: a law for each row of the table of faults (`docs/FORMATS.md`), in its order. Each says what
+//! stands before the word that is judged, and nothing of what stands behind it.
 ghost use Rattle.std.specs.Prelude.{◌≡◌, ◌≢◌, ◌⊎◌, ℕ, ◌<◌, ◌≤◌, ◌^◌, Bool, true, List, [], ◌∷◌, Err, codes};
 ghost use Rattle.cells.specs.Bounds.{IsDimension};
 ghost use Rattle.mm_text.specs.Lines.{is_blank};
@@ -44,12 +44,15 @@ pub fn banner_format_faults()
 pub fn banner_field_faults()
     ensures missing { (line object format : List ℕ) → IsMarked line (object ∷ format ∷ []) →
         IsKeyword object (codes "matrix") → IsKeyword format (codes "coordinate") → banner line ≡ Err MmKind.BadBanner }
-    ensures unsupported { (line object format word : List ℕ) (ws : List (List ℕ)) → IsMarked line (object ∷ format ∷ word ∷ ws) →
+    ensures unsupported { (line object format word : List ℕ) (ws : List (List ℕ)) →
+        IsMarked line (object ∷ format ∷ word ∷ ws) →
         IsKeyword object (codes "matrix") → IsKeyword format (codes "coordinate") →
         IsOneOf word (codes "real" ∷ codes "complex" ∷ codes "pattern" ∷ []) → banner line ≡ Err MmKind.Unsupported }
-    ensures other { (line object format word : List ℕ) (ws : List (List ℕ)) → IsMarked line (object ∷ format ∷ word ∷ ws) →
+    ensures other { (line object format word : List ℕ) (ws : List (List ℕ)) →
+        IsMarked line (object ∷ format ∷ word ∷ ws) →
         IsKeyword object (codes "matrix") → IsKeyword format (codes "coordinate") →
-        (IsOneOf word (codes "real" ∷ codes "complex" ∷ codes "pattern" ∷ codes "integer" ∷ codes "unsigned-integer" ∷ []) → ⊥) →
+        (IsOneOf word (codes "real" ∷ codes "complex" ∷ codes "pattern" ∷ codes "integer" ∷ codes
+        "unsigned-integer" ∷ []) → ⊥) →
         banner line ≡ Err MmKind.BadBanner }
 {}
 
@@ -87,15 +90,17 @@ pub fn size_rows_faults()
     ensures number { (symmetric : Bool) (most : ℕ) (line word : List ℕ) (ws : List (List ℕ)) (kind : MmKind) →
         HasWords line (word ∷ ws) → number MmKind.BadSize word ≡ Err kind → size symmetric most line ≡ Err kind }
     ensures range { (symmetric : Bool) (most : ℕ) (line word : List ℕ) (ws : List (List ℕ)) (n : ℕ) →
-        HasWords line (word ∷ ws) → Writes word n → (IsDimension n → ⊥) → size symmetric most line ≡ Err MmKind.BadDimension }
+        HasWords line (word ∷ ws) → Writes word n → (IsDimension n → ⊥) →
+        size symmetric most line ≡ Err MmKind.BadDimension }
 {}
 
-/// The second word of a size line is the number of columns, from 1 to 2^60, and the same as that of rows where the banner
-/// says symmetric.
+/// The second word of a size line is the number of columns, from 1 to 2^60, and the same as that of rows where the
+/// banner says symmetric.
 pub fn size_columns_faults()
     ensures missing { (symmetric : Bool) (most : ℕ) (line row : List ℕ) (rows : ℕ) → HasWords line (row ∷ []) →
         Writes row rows → IsDimension rows → size symmetric most line ≡ Err MmKind.BadSize }
-    ensures number { (symmetric : Bool) (most : ℕ) (line row word : List ℕ) (ws : List (List ℕ)) (rows : ℕ) (kind : MmKind) →
+    ensures number { (symmetric : Bool) (most : ℕ) (line row word : List ℕ) (ws : List (List ℕ)) (rows : ℕ)
+        (kind : MmKind) →
         HasWords line (row ∷ word ∷ ws) → Writes row rows → IsDimension rows →
         number MmKind.BadSize word ≡ Err kind → size symmetric most line ≡ Err kind }
     ensures range { (symmetric : Bool) (most : ℕ) (line row word : List ℕ) (ws : List (List ℕ)) (rows n : ℕ) →
@@ -108,17 +113,24 @@ pub fn size_columns_faults()
 
 /// The third word of a size line is the number of entries, at most the limit, and there is no fourth.
 pub fn size_entries_faults()
-    ensures missing { (symmetric : Bool) (most : ℕ) (line row col : List ℕ) (rows cols : ℕ) → HasWords line (row ∷ col ∷ []) →
+    ensures missing { (symmetric : Bool) (most : ℕ) (line row col : List ℕ) (rows cols : ℕ) →
+        HasWords line (row ∷ col ∷ []) →
         Writes row rows → IsDimension rows → Writes col cols → IsDimension cols → (symmetric ≡ true → rows ≡ cols) →
         size symmetric most line ≡ Err MmKind.BadSize }
-    ensures number { (symmetric : Bool) (most : ℕ) (line row col word : List ℕ) (ws : List (List ℕ)) (rows cols : ℕ) (kind : MmKind) →
-        HasWords line (row ∷ col ∷ word ∷ ws) → Writes row rows → IsDimension rows → Writes col cols → IsDimension cols →
+    ensures number { (symmetric : Bool) (most : ℕ) (line row col word : List ℕ) (ws : List (List ℕ)) (rows cols : ℕ)
+        (kind : MmKind) →
+        HasWords line (row ∷ col ∷ word ∷ ws) → Writes row rows → IsDimension rows → Writes col cols →
+        IsDimension cols →
         (symmetric ≡ true → rows ≡ cols) → number MmKind.BadSize word ≡ Err kind → size symmetric most line ≡ Err kind }
     ensures most { (symmetric : Bool) (most : ℕ) (line row col word : List ℕ) (ws : List (List ℕ)) (rows cols n : ℕ) →
-        HasWords line (row ∷ col ∷ word ∷ ws) → Writes row rows → IsDimension rows → Writes col cols → IsDimension cols →
-        (symmetric ≡ true → rows ≡ cols) → Writes word n → most < n → size symmetric most line ≡ Err MmKind.TooManyEntries }
-    ensures fourth { (symmetric : Bool) (most : ℕ) (line row col third word : List ℕ) (ws : List (List ℕ)) (rows cols n : ℕ) →
-        HasWords line (row ∷ col ∷ third ∷ word ∷ ws) → Writes row rows → IsDimension rows → Writes col cols → IsDimension cols →
+        HasWords line (row ∷ col ∷ word ∷ ws) → Writes row rows → IsDimension rows → Writes col cols →
+        IsDimension cols →
+        (symmetric ≡ true → rows ≡ cols) → Writes word n → most < n →
+        size symmetric most line ≡ Err MmKind.TooManyEntries }
+    ensures fourth { (symmetric : Bool) (most : ℕ) (line row col third word : List ℕ) (ws : List (List ℕ))
+        (rows cols n : ℕ) →
+        HasWords line (row ∷ col ∷ third ∷ word ∷ ws) → Writes row rows → IsDimension rows → Writes col cols →
+        IsDimension cols →
         (symmetric ≡ true → rows ≡ cols) → Writes third n → n ≤ most → size symmetric most line ≡ Err MmKind.BadSize }
 {}
 
@@ -128,7 +140,8 @@ pub fn entry_row_faults()
     ensures number { (rows cols : ℕ) (line word : List ℕ) (ws : List (List ℕ)) (kind : MmKind) →
         HasWords line (word ∷ ws) → number MmKind.BadEntry word ≡ Err kind → entry rows cols line ≡ Err kind }
     ensures range { (rows cols : ℕ) (line word : List ℕ) (ws : List (List ℕ)) (n : ℕ) →
-        HasWords line (word ∷ ws) → Writes word n → (n ≡ 0) ⊎ (rows < n) → entry rows cols line ≡ Err MmKind.IndexOutOfRange }
+        HasWords line (word ∷ ws) → Writes word n → (n ≡ 0) ⊎ (rows < n) →
+        entry rows cols line ≡ Err MmKind.IndexOutOfRange }
 {}
 
 /// The second word of an entry's line is its column, from 1 to the number of columns.
@@ -155,6 +168,7 @@ pub fn entry_count_faults()
         HasWords line (row ∷ col ∷ word ∷ ws) → Writes row i → 1 ≤ i → i ≤ rows → Writes col j → 1 ≤ j → j ≤ cols →
         (IsMinus word → ⊥) → number MmKind.BadEntry word ≡ Err kind → entry rows cols line ≡ Err kind }
     ensures fourth { (rows cols : ℕ) (line row col count word : List ℕ) (ws : List (List ℕ)) (i j n : ℕ) →
-        HasWords line (row ∷ col ∷ count ∷ word ∷ ws) → Writes row i → 1 ≤ i → i ≤ rows → Writes col j → 1 ≤ j → j ≤ cols →
+        HasWords line (row ∷ col ∷ count ∷ word ∷ ws) → Writes row i → 1 ≤ i → i ≤ rows → Writes col j → 1 ≤ j →
+        j ≤ cols →
         Writes count n → entry rows cols line ≡ Err MmKind.BadEntry }
 {}

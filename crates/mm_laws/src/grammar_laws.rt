@@ -1,5 +1,6 @@
 //! What texts, lines and words mean, by what they look like: laws that tie the judgements to the form of the format.
-ghost use Rattle.std.specs.Prelude.{◌≡◌, ◌⊎◌, ℕ, ◌<◌, ◌≤◌, Bool, List, [], ◌∷◌, ◌++◌, length, map, true, false, Ok, All};
+ghost use Rattle.std.specs.Prelude.{◌≡◌, ◌⊎◌, ℕ, ◌<◌, ◌≤◌, Bool, List, [], ◌∷◌, ◌++◌, length, map, true, false, Ok};
+ghost use Rattle.std.specs.Prelude.{All};
 ghost use Rattle.mm_text.specs.Lines.{lines_of, joined, IsLine, content, is_comment, is_skipped};
 ghost use Rattle.mm_text.specs.Words.{words};
 ghost use Rattle.mm_text.specs.Judging.{number, banner, size, entry};
@@ -37,7 +38,8 @@ pub fn words_write_numbers()
 /// more entries than are allowed.
 pub fn taken_lines_have_their_form()
     ensures banner { (line : List ℕ) (symmetric : Bool) → banner line ≡ Ok symmetric → IsBannerLine line symmetric }
-    ensures banner_taken { (line : List ℕ) (symmetric : Bool) → IsBannerLine line symmetric → banner line ≡ Ok symmetric }
+    ensures banner_taken { (line : List ℕ) (symmetric : Bool) → IsBannerLine line symmetric →
+        banner line ≡ Ok symmetric }
     ensures size { (symmetric : Bool) (most : ℕ) (line : List ℕ) (s : Size) →
         size symmetric most line ≡ Ok s → IsSizeLine symmetric line s × (s.entries ≤ most) }
     ensures size_taken { (symmetric : Bool) (most : ℕ) (line : List ℕ) (s : Size) →
@@ -63,7 +65,8 @@ pub fn line_ends_and_skipped_lines_say_nothing()
         lines_of text ≡ lines_of text' → length text' ≤ limits.max_bytes →
         Spells text limits rows cols cells → Spells text' limits rows cols cells }
     ensures returns { (text text' : List ℕ) (limits : TextLimits) (rows cols : ℕ) (cells : List Cell) →
-        All (λ line. content line ≡ line) (lines_of text) → lines_of text' ≡ map (λ line. line ++ 13 ∷ []) (lines_of text) →
+        All (λ line. content line ≡ line) (lines_of text) →
+        lines_of text' ≡ map (λ line. line ++ 13 ∷ []) (lines_of text) →
         length text ≤ limits.max_bytes → length text' ≤ limits.max_bytes →
         (Spells text limits rows cols cells → Spells text' limits rows cols cells)
         × (Spells text' limits rows cols cells → Spells text limits rows cols cells) }

@@ -34,11 +34,14 @@ pub fn wider_limits_spell_the_same()
 pub fn canonical_texts_spell_their_cells()
     ensures spells { (rows cols : ℕ) (cells : List Cell) (limits : TextLimits) →
         IsDimension rows → IsDimension cols → AreWithin rows cols cells → All (λ c. c.count < 2 ^ 64) cells →
-        length cells < 2 ^ 64 → length (canonical rows cols cells) ≤ limits.max_bytes → length cells ≤ limits.max_entries →
+        length cells < 2 ^ 64 → length (canonical rows cols cells) ≤ limits.max_bytes →
+        length cells ≤ limits.max_entries →
         Spells (canonical rows cols cells) limits rows cols cells }
     ensures one_list { (rows cols rows' cols' : ℕ) (cells cells' : List Cell) →
-        IsDimension rows → IsDimension cols → AreWithin rows cols cells → All (λ c. c.count < 2 ^ 64) cells → length cells < 2 ^ 64 →
-        IsDimension rows' → IsDimension cols' → AreWithin rows' cols' cells' → All (λ c. c.count < 2 ^ 64) cells' → length cells' < 2 ^ 64 →
+        IsDimension rows → IsDimension cols → AreWithin rows cols cells → All (λ c. c.count < 2 ^ 64) cells →
+        length cells < 2 ^ 64 →
+        IsDimension rows' → IsDimension cols' → AreWithin rows' cols' cells' → All (λ c. c.count < 2 ^ 64) cells' →
+        length cells' < 2 ^ 64 →
         canonical rows cols cells ≡ canonical rows' cols' cells' → (rows ≡ rows') × (cols ≡ cols') × (cells ≡ cells') }
 {}
 
@@ -47,9 +50,11 @@ pub fn canonical_texts_spell_their_cells()
 /// was read, whatever follows; and where some bytes bear none within them, every text that begins with them has its
 /// first fault, if it has one, behind them.
 pub fn first_faults_stay()
-    ensures stays { (text more : List ℕ) (limits : TextLimits) (kind : MmKind) (line : ℕ) (f : FirstFault text limits kind line) →
+    ensures stays { (text more : List ℕ) (limits : TextLimits) (kind : MmKind) (line : ℕ)
+        (f : FirstFault text limits kind line) →
         f.place ≤ length text → (g : FirstFault (text ++ more) limits kind line) × (g.place ≡ f.place) }
-    ensures came { (text more : List ℕ) (limits : TextLimits) (kind : MmKind) (line : ℕ) (f : FirstFault (text ++ more) limits kind line) →
+    ensures came { (text more : List ℕ) (limits : TextLimits) (kind : MmKind) (line : ℕ)
+        (f : FirstFault (text ++ more) limits kind line) →
         f.place ≤ length text → (g : FirstFault text limits kind line) × (g.place ≡ f.place) }
     ensures none { (text more : List ℕ) (limits : TextLimits) (kind : MmKind) (line : ℕ) → NoFaultWithin text limits →
         (f : FirstFault (text ++ more) limits kind line) → length text < f.place }

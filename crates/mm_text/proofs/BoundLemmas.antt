@@ -1,5 +1,6 @@
 -- The dimensions of a text, and its cells within them.
-use Rattle.std.proofs.Common.{◌≡◌, ℕ, zero, suc, ◌-◌, ◌<◌, ◌||◌, ◌&&◌, Bool, true, false, not, cond, List, [], ◌∷◌, drop, refl, subst, arith}
+use Rattle.std.proofs.Common.{◌≡◌, ℕ, zero, suc, ◌-◌, ◌<◌, ◌||◌, ◌&&◌, Bool, true, false, not, cond, List, [], ◌∷◌}
+use Rattle.std.proofs.Common.{drop, refl, subst, arith}
 use Rattle.std.proofs.lemmas.Bool.Decides.{nat_tests}
 use Rattle.std.proofs.lemmas.List.Elements.{All-append}
 use Rattle.std.specs.Prelude.{Result, Ok, Err, nat_lt, nat_eq, map, flat_map}
@@ -14,11 +15,13 @@ use Rattle.mm_text.specs.declared.size.Size.{Size}
 use Rattle.mm_text.specs.declared.limits.TextLimits.{TextLimits}
 use Rattle.mm_text.specs.declared.stages.Stage.{Stage}
 use Rattle.mm_text.specs.declared.stages.Stage.TheVariants.{AtBanner, AtSize, AtEntries}
-use Rattle.mm_text.specs.declared.fault.MmKind.TheVariants.{BadSize, BadDimension, NotSquare, TooManyEntries, BadEntry, Negative, IndexOutOfRange}
+use Rattle.mm_text.specs.declared.fault.MmKind.TheVariants.{BadSize, BadDimension, NotSquare, TooManyEntries, BadEntry}
+use Rattle.mm_text.specs.declared.fault.MmKind.TheVariants.{Negative, IndexOutOfRange}
 use Rattle.mm_text.specs.Words.{words, word, has_word, is_negative}
 
 -- a chain that gives a value passed each of its steps
-pub ok_bind : {A B : Type 0} (r : Result A MmKind) (f : A → Result B MmKind) (y : B) → (r >>= f) ≡ Ok y → (x : A) × (r ≡ Ok x) × (f x ≡ Ok y)
+pub ok_bind : {A B : Type 0} (r : Result A MmKind) (f : A → Result B MmKind) (y : B) → (r >>= f) ≡ Ok y → (x : A) ×
+    (r ≡ Ok x) × (f x ≡ Ok y)
 ok_bind (Ok x) f y e = (x, refl, e)
 ok_bind (Err k) f y e = cc
 
@@ -29,7 +32,8 @@ ok_refuse false k u e = refl
 pub index_below : (limit : ℕ) (w : List ℕ) (n : ℕ) → index limit w ≡ Ok n → n < limit
 unfolding index
 index_below limit w n e =
-    let a = ok_bind (number BadEntry w) (λ x. refuse_if (nat_eq x 0 || nat_lt limit x) IndexOutOfRange >>= λ u. Ok (x - 1)) n e in
+    let a = ok_bind (number BadEntry w) (λ x. refuse_if (nat_eq x 0 || nat_lt limit x) IndexOutOfRange >>= λ u. Ok
+    (x - 1)) n e in
     let b = ok_bind (refuse_if (nat_eq a.0 0 || nat_lt limit a.0) IndexOutOfRange) (λ u. Ok (a.0 - 1)) n a.2 in
     let t = ok_refuse (nat_eq a.0 0 || nat_lt limit a.0) IndexOutOfRange b.0 b.1 in
     let f : Ok (a.0 - 1) ≡ Ok n = b.2 in
@@ -46,13 +50,20 @@ entry_within : (rows cols : ℕ) (line : List ℕ) (c : Cell) → entry rows col
 unfolding entry
 entry_within rows cols line c e =
     let ws = words line in
-    let a = ok_bind (index rows (word (words line))) (λ row. index cols (word (drop 1 (words line))) >>= λ col. refuse_if (is_negative (word (drop 2 (words line)))) Negative >>= λ u.
-    number BadEntry (word (drop 2 (words line))) >>= λ count. refuse_if (has_word (drop 3 (words line))) BadEntry >>= λ v. Ok (cell_of row col count)) c e in
-    let b = ok_bind (index cols (word (drop 1 (words line)))) (λ col. refuse_if (is_negative (word (drop 2 (words line)))) Negative >>= λ u.
-    number BadEntry (word (drop 2 (words line))) >>= λ count. refuse_if (has_word (drop 3 (words line))) BadEntry >>= λ v. Ok (cell_of a.0 col count)) c a.2 in
+    let a = ok_bind (index rows (word (words line)))
+    (λ row. index cols (word (drop 1 (words line))) >>= λ col. refuse_if (is_negative (word (drop 2 (words line))))
+    Negative >>= λ u.
+    number BadEntry (word (drop 2 (words line))) >>= λ count. refuse_if (has_word (drop 3 (words line))) BadEntry >>=
+    λ v. Ok (cell_of row col count)) c e in
+    let b = ok_bind (index cols (word (drop 1 (words line))))
+    (λ col. refuse_if (is_negative (word (drop 2 (words line)))) Negative >>= λ u.
+    number BadEntry (word (drop 2 (words line))) >>= λ count. refuse_if (has_word (drop 3 (words line))) BadEntry >>=
+    λ v. Ok (cell_of a.0 col count)) c a.2 in
     let d = ok_bind (refuse_if (is_negative (word (drop 2 (words line)))) Negative) (λ u.
-    number BadEntry (word (drop 2 (words line))) >>= λ count. refuse_if (has_word (drop 3 (words line))) BadEntry >>= λ v. Ok (cell_of a.0 b.0 count)) c b.2 in
-    let f = ok_bind (number BadEntry (word (drop 2 (words line)))) (λ count. refuse_if (has_word (drop 3 (words line))) BadEntry >>= λ v. Ok (cell_of a.0 b.0 count)) c d.2 in
+    number BadEntry (word (drop 2 (words line))) >>= λ count. refuse_if (has_word (drop 3 (words line))) BadEntry >>=
+    λ v. Ok (cell_of a.0 b.0 count)) c b.2 in
+    let f = ok_bind (number BadEntry (word (drop 2 (words line))))
+    (λ count. refuse_if (has_word (drop 3 (words line))) BadEntry >>= λ v. Ok (cell_of a.0 b.0 count)) c d.2 in
     let g = ok_bind (refuse_if (has_word (drop 3 (words line))) BadEntry) (λ v. Ok (cell_of a.0 b.0 f.0)) c f.2 in
     let h : Ok (cell_of a.0 b.0 f.0) ≡ Ok c = g.2 in
     let same : cell_of a.0 b.0 f.0 ≡ c = cc in
@@ -74,25 +85,42 @@ pub square_of : (symmetric : Bool) (m n : ℕ) → (symmetric && not (nat_eq m n
 square_of true m n e t = grind (arith, nat_tests)
 square_of false m n e t = cc
 
-pub size_sound : (symmetric : Bool) (most : ℕ) (line : List ℕ) (s : Size) → size symmetric most line ≡ Ok s → SoundSize symmetric s
+pub size_sound : (symmetric : Bool) (most : ℕ) (line : List ℕ) (s : Size) → size symmetric most line ≡ Ok s →
+    SoundSize symmetric s
 unfolding size
 size_sound symmetric most line s e =
-    let a = ok_bind (number BadSize (word (words line))) (λ rows. refuse_if (not (is_dimension rows)) BadDimension >>= λ u. number BadSize (word (drop 1 (words line))) >>= λ cols.
-    refuse_if (not (is_dimension cols)) BadDimension >>= λ u. refuse_if (symmetric && not (nat_eq rows cols)) NotSquare >>= λ u. number BadSize (word (drop 2 (words line))) >>= λ entries.
-    refuse_if (nat_lt most entries) TooManyEntries >>= λ u. refuse_if (has_word (drop 3 (words line))) BadSize >>= λ u. Ok (size_is rows cols entries)) s e in
-    let b = ok_bind (refuse_if (not (is_dimension a.0)) BadDimension) (λ u. number BadSize (word (drop 1 (words line))) >>= λ cols.
-    refuse_if (not (is_dimension cols)) BadDimension >>= λ u. refuse_if (symmetric && not (nat_eq a.0 cols)) NotSquare >>= λ u. number BadSize (word (drop 2 (words line))) >>= λ entries.
-    refuse_if (nat_lt most entries) TooManyEntries >>= λ u. refuse_if (has_word (drop 3 (words line))) BadSize >>= λ u. Ok (size_is a.0 cols entries)) s a.2 in
+    let a = ok_bind (number BadSize (word (words line)))
+    (λ rows. refuse_if (not (is_dimension rows)) BadDimension >>= λ u. number BadSize (word (drop 1 (words line)))
+    >>= λ cols.
+    refuse_if (not (is_dimension cols)) BadDimension >>= λ u. refuse_if (symmetric && not (nat_eq rows cols)) NotSquare
+    >>= λ u. number BadSize (word (drop 2 (words line))) >>= λ entries.
+    refuse_if (nat_lt most entries) TooManyEntries >>= λ u. refuse_if (has_word (drop 3 (words line))) BadSize >>= λ u.
+    Ok (size_is rows cols entries)) s e in
+    let b = ok_bind (refuse_if (not (is_dimension a.0)) BadDimension)
+    (λ u. number BadSize (word (drop 1 (words line))) >>= λ cols.
+    refuse_if (not (is_dimension cols)) BadDimension >>= λ u. refuse_if (symmetric && not (nat_eq a.0 cols)) NotSquare
+    >>= λ u. number BadSize (word (drop 2 (words line))) >>= λ entries.
+    refuse_if (nat_lt most entries) TooManyEntries >>= λ u. refuse_if (has_word (drop 3 (words line))) BadSize >>= λ u.
+    Ok (size_is a.0 cols entries)) s a.2 in
     let d = ok_bind (number BadSize (word (drop 1 (words line)))) (λ cols.
-    refuse_if (not (is_dimension cols)) BadDimension >>= λ u. refuse_if (symmetric && not (nat_eq a.0 cols)) NotSquare >>= λ u. number BadSize (word (drop 2 (words line))) >>= λ entries.
-    refuse_if (nat_lt most entries) TooManyEntries >>= λ u. refuse_if (has_word (drop 3 (words line))) BadSize >>= λ u. Ok (size_is a.0 cols entries)) s b.2 in
-    let f = ok_bind (refuse_if (not (is_dimension d.0)) BadDimension) (λ u. refuse_if (symmetric && not (nat_eq a.0 d.0)) NotSquare >>= λ u. number BadSize (word (drop 2 (words line))) >>= λ entries.
-    refuse_if (nat_lt most entries) TooManyEntries >>= λ u. refuse_if (has_word (drop 3 (words line))) BadSize >>= λ u. Ok (size_is a.0 d.0 entries)) s d.2 in
-    let g = ok_bind (refuse_if (symmetric && not (nat_eq a.0 d.0)) NotSquare) (λ u. number BadSize (word (drop 2 (words line))) >>= λ entries.
-    refuse_if (nat_lt most entries) TooManyEntries >>= λ u. refuse_if (has_word (drop 3 (words line))) BadSize >>= λ u. Ok (size_is a.0 d.0 entries)) s f.2 in
+    refuse_if (not (is_dimension cols)) BadDimension >>= λ u. refuse_if (symmetric && not (nat_eq a.0 cols)) NotSquare
+    >>= λ u. number BadSize (word (drop 2 (words line))) >>= λ entries.
+    refuse_if (nat_lt most entries) TooManyEntries >>= λ u. refuse_if (has_word (drop 3 (words line))) BadSize >>= λ u.
+    Ok (size_is a.0 cols entries)) s b.2 in
+    let f = ok_bind (refuse_if (not (is_dimension d.0)) BadDimension)
+    (λ u. refuse_if (symmetric && not (nat_eq a.0 d.0)) NotSquare >>= λ u. number BadSize
+    (word (drop 2 (words line))) >>= λ entries.
+    refuse_if (nat_lt most entries) TooManyEntries >>= λ u. refuse_if (has_word (drop 3 (words line))) BadSize >>= λ u.
+    Ok (size_is a.0 d.0 entries)) s d.2 in
+    let g = ok_bind (refuse_if (symmetric && not (nat_eq a.0 d.0)) NotSquare)
+    (λ u. number BadSize (word (drop 2 (words line))) >>= λ entries.
+    refuse_if (nat_lt most entries) TooManyEntries >>= λ u. refuse_if (has_word (drop 3 (words line))) BadSize >>= λ u.
+    Ok (size_is a.0 d.0 entries)) s f.2 in
     let h = ok_bind (number BadSize (word (drop 2 (words line)))) (λ entries.
-    refuse_if (nat_lt most entries) TooManyEntries >>= λ u. refuse_if (has_word (drop 3 (words line))) BadSize >>= λ u. Ok (size_is a.0 d.0 entries)) s g.2 in
-    let i = ok_bind (refuse_if (nat_lt most h.0) TooManyEntries) (λ u. refuse_if (has_word (drop 3 (words line))) BadSize >>= λ u. Ok (size_is a.0 d.0 h.0)) s h.2 in
+    refuse_if (nat_lt most entries) TooManyEntries >>= λ u. refuse_if (has_word (drop 3 (words line))) BadSize >>= λ u.
+    Ok (size_is a.0 d.0 entries)) s g.2 in
+    let i = ok_bind (refuse_if (nat_lt most h.0) TooManyEntries)
+    (λ u. refuse_if (has_word (drop 3 (words line))) BadSize >>= λ u. Ok (size_is a.0 d.0 h.0)) s h.2 in
     let j = ok_bind (refuse_if (has_word (drop 3 (words line))) BadSize) (λ u. Ok (size_is a.0 d.0 h.0)) s i.2 in
     let last : Ok (size_is a.0 d.0 h.0) ≡ Ok s = j.2 in
     let same : size_is a.0 d.0 h.0 ≡ s = cc in
@@ -110,19 +138,23 @@ one_cell : (rows cols : ℕ) (c : Cell) → IsWithin rows cols c → AreWithin r
 one_cell rows cols c h zero d l = h
 one_cell rows cols c h (suc k) d l = absurd (omega arith)
 
-two_cells : (rows cols : ℕ) (c e : Cell) → IsWithin rows cols c → IsWithin rows cols e → AreWithin rows cols (c ∷ e ∷ [])
+two_cells : (rows cols : ℕ) (c e : Cell) → IsWithin rows cols c → IsWithin rows cols e →
+    AreWithin rows cols (c ∷ e ∷ [])
 two_cells rows cols c e h i zero d l = h
 two_cells rows cols c e h i (suc k) d l = one_cell rows cols e i k d (omega arith)
 
-cells_within : (symmetric : Bool) (rows cols : ℕ) (c : Cell) → (symmetric ≡ true → rows ≡ cols) → IsWithin rows cols c → AreWithin rows cols (cells_of symmetric c)
+cells_within : (symmetric : Bool) (rows cols : ℕ) (c : Cell) → (symmetric ≡ true → rows ≡ cols) →
+    IsWithin rows cols c → AreWithin rows cols (cells_of symmetric c)
 cells_within false rows cols c square h = one_cell rows cols c h
 cells_within true rows cols c square h = either (not (nat_eq c.row c.col))
   where
     either : (v : Bool) → AreWithin rows cols (cond v (c ∷ record c { row = c.col; col = c.row } ∷ []) (c ∷ []))
     either false = one_cell rows cols c h
-    either true = let e = square refl in two_cells rows cols c (record c { row = c.col; col = c.row }) h (omega (arith, h.1), omega (arith, h.0))
+    either true = let e = square refl in two_cells rows cols c (record c { row = c.col; col = c.row }) h
+        (omega (arith, h.1), omega (arith, h.0))
 
-all_within : (symmetric : Bool) (rows cols : ℕ) (lines : List (List ℕ)) (entries : List Cell) → (symmetric ≡ true → rows ≡ cols) → map (entry rows cols) lines ≡ map Ok entries →
+all_within : (symmetric : Bool) (rows cols : ℕ) (lines : List (List ℕ)) (entries : List Cell) →
+    (symmetric ≡ true → rows ≡ cols) → map (entry rows cols) lines ≡ map Ok entries →
     AreWithin rows cols (flat_map (cells_of symmetric) entries)
 all_within symmetric rows cols [] [] square e = no_cells rows cols
 all_within symmetric rows cols [] (c ∷ cs) square e = cc
@@ -131,10 +163,12 @@ all_within symmetric rows cols (l ∷ ls) (c ∷ cs) square e =
     let one : entry rows cols l ≡ Ok c = cc in
     let more : map (entry rows cols) ls ≡ map Ok cs = cc in
     All-append (IsWithin rows cols) (cells_of symmetric c) (flat_map (cells_of symmetric) cs)
-    (cells_within symmetric rows cols c square (entry_within rows cols l c one)) (all_within symmetric rows cols ls cs square more)
+    (cells_within symmetric rows cols c square (entry_within rows cols l c one))
+    (all_within symmetric rows cols ls cs square more)
 
 -- the cells of a stage are sized by what it declares
-pub stage_sized : (limits : TextLimits) (lines : List (List ℕ)) (given : List Cell) (stage : Stage) → StageIs limits lines given stage → AreSized given (declared_size stage)
+pub stage_sized : (limits : TextLimits) (lines : List (List ℕ)) (given : List Cell) (stage : Stage) →
+    StageIs limits lines given stage → AreSized given (declared_size stage)
 stage_sized limits lines given AtBanner h = h.1
 stage_sized limits lines given (AtSize symmetric) h = h.3
 stage_sized limits lines given (AtEntries symmetric s seen) h =
@@ -146,7 +180,12 @@ stage_sized limits lines given (AtEntries symmetric s seen) h =
     }
 
 -- a text that spells a file has sound dimensions, and its cells lie within them
-pub spells_bounds : (text : List ℕ) (limits : TextLimits) (rows cols : ℕ) (cells : List Cell) → Spells text limits rows cols cells → IsDimension rows × IsDimension cols × AreWithin rows cols cells
+pub spells_bounds : (text : List ℕ) (limits : TextLimits) (rows cols : ℕ) (cells : List Cell) →
+    Spells text limits rows cols cells → IsDimension rows × IsDimension cols × AreWithin rows cols cells
 spells_bounds text limits rows cols cells s =
-    let sound = size_sound s.symmetric limits.max_entries s.second _ s.is_size in
-    (sound.rows, sound.cols, rw s.cells_are (all_within s.symmetric rows cols s.others s.entries sound.square s.are_entries))
+    let sound = size_sound s.symmetric limits.max_entries s.second _ s.is_size in (
+      sound.rows,
+      sound.cols,
+      rw s.cells_are (all_within s.symmetric rows cols s.others s.entries sound.square
+          s.are_entries),
+    )

@@ -1,5 +1,6 @@
 -- The carried front of a line, and what it says of the line.
-use Rattle.std.proofs.Common.{inl, inr, ◌≡◌, ℕ, ◌+◌, ◌<◌, ◌≤◌, Bool, true, false, not, ◌||◌, ◌&&◌, List, [], ◌∷◌, ◌++◌, length, refl, sym, ◌∙◌, ap, arith, length-append}
+use Rattle.std.proofs.Common.{inl, inr, ◌≡◌, ℕ, ◌+◌, ◌<◌, ◌≤◌, Bool, true, false, not, ◌||◌, ◌&&◌, List, [], ◌∷◌, ◌++◌}
+use Rattle.std.proofs.Common.{length, refl, sym, ◌∙◌, ap, arith, length-append}
 use Rattle.std.proofs.lemmas.Bool.Decides.{nat_tests}
 use Rattle.std.proofs.lemmas.List.{append-nil}
 use Rattle.std.specs.Prelude.{nat_eq, nat_lt, Ok, None}
@@ -32,7 +33,8 @@ no_zero : (count : ℕ) → 0 < count → nat_eq count 0 ≡ false
 no_zero count e = grind (arith, nat_tests)
 
 -- the present line is a comment
-module _ (count : ℕ) (rest carry bytes : List ℕ) (c : IsCarried count rest carry) (test : (not (nat_eq count 0) && is_comment (carry ++ bytes)) ≡ true) where
+module _ (count : ℕ) (rest carry bytes : List ℕ) (c : IsCarried count rest carry)
+    (test : (not (nat_eq count 0) && is_comment (carry ++ bytes)) ≡ true) where
   pub comment_is : (0 < count) × (is_comment (rest ++ bytes) ≡ true)
   comment_is =
       let t = both_true (nat_eq count 0) (is_comment (carry ++ bytes)) test in (
@@ -47,7 +49,8 @@ module _ (count : ℕ) (rest carry bytes : List ℕ) (c : IsCarried count rest c
   comment_short = let z = no_zero count comment_is.0 in rw (z, comment_is.1) refl
 
 -- the present line has a limit of length
-module _ (count : ℕ) (rest carry bytes : List ℕ) (c : IsCarried count rest carry) (test : (not (nat_eq count 0) && is_comment (carry ++ bytes)) ≡ false) where
+module _ (count : ℕ) (rest carry bytes : List ℕ) (c : IsCarried count rest carry)
+    (test : (not (nat_eq count 0) && is_comment (carry ++ bytes)) ≡ false) where
   pub carried_all : carry ≡ rest
   carried_all = elim c [
     | inl e ↦ e
@@ -63,26 +66,33 @@ module _ (count : ℕ) (rest carry bytes : List ℕ) (c : IsCarried count rest c
       rw (← carried_all) t
 
   pub cut_long : 1024 < length (content (rest ++ bytes)) → cut_kind (nat_eq count 0) (rest ++ bytes) ≡ LineTooLong
-  cut_long long = let t : nat_lt 1024 (length (content (rest ++ bytes))) ≡ true = grind (arith, nat_tests) in rw (limited_here, t) refl
+  cut_long long = let t : nat_lt 1024 (length (content (rest ++ bytes))) ≡ true = grind (arith, nat_tests) in
+      rw (limited_here, t) refl
 
   pub cut_short : length (content (rest ++ bytes)) ≤ 1024 → cut_kind (nat_eq count 0) (rest ++ bytes) ≡ TooLong
-  cut_short short = let t : nat_lt 1024 (length (content (rest ++ bytes))) ≡ false = grind (arith, nat_tests) in rw (limited_here, t) refl
+  cut_short short = let t : nat_lt 1024 (length (content (rest ++ bytes))) ≡ false = grind (arith, nat_tests) in
+      rw (limited_here, t) refl
 
   pub long_here : 1025 < length carry + length bytes → 1024 < length (content (rest ++ bytes))
-  long_here h = let e = ap length carried_all in let g = content_ge (rest ++ bytes) in omega (arith, length-append rest bytes)
+  long_here h = let e = ap length carried_all in let g = content_ge (rest ++ bytes) in
+      omega (arith, length-append rest bytes)
 
-  pub overlong_here : (limits : TextLimits) (done : List (List ℕ)) (stage : Stage) (given : List Cell) → Keeps limits done stage given count →
+  pub overlong_here : (limits : TextLimits) (done : List (List ℕ)) (stage : Stage) (given : List Cell) →
+      Keeps limits done stage given count →
       1024 < length (content (rest ++ bytes)) → IsOverlong done (rest ++ bytes) LineTooLong
   overlong_here limits done stage given k long = record {
     kind_is = refl;
-    limited = limited_is done (rest ++ bytes) ∙ ap (λ n. nat_eq n 0 || not (is_comment (rest ++ bytes))) (sym k.lines_are) ∙ limited_here;
+    limited = limited_is done (rest ++ bytes) ∙ ap (λ n. nat_eq n 0 || not (is_comment (rest ++ bytes)))
+        (sym k.lines_are) ∙ limited_here;
     long = long;
   }
 
-judged_comment : (limits : TextLimits) (stage : Stage) (count : ℕ) (line : List ℕ) → 0 < count → is_comment line ≡ true → judged limits stage (nat_eq count 0) line ≡ Ok None
+judged_comment : (limits : TextLimits) (stage : Stage) (count : ℕ) (line : List ℕ) → 0 < count →
+    is_comment line ≡ true → judged limits stage (nat_eq count 0) line ≡ Ok None
 judged_comment limits stage count line some comment = let z = no_zero count some in rw (z, comment) refl
 
-pub adds_comment : (limits : TextLimits) (count : ℕ) (carry bytes : List ℕ) (stage : Stage) (block : List Cell) (stage' : Stage) (count' : ℕ) →
+pub adds_comment : (limits : TextLimits) (count : ℕ) (carry bytes : List ℕ) (stage : Stage) (block : List Cell)
+    (stage' : Stage) (count' : ℕ) →
     (not (nat_eq count 0) && is_comment (carry ++ bytes)) ≡ true → stage' ≡ stage → count' ≡ count + 1 →
     AddsLine limits (EndsCarried count carry bytes) (at stage count) block (at stage' count') block
 adds_comment limits count carry bytes stage block stage' count' test s n = rw (s, n) (record {
@@ -92,12 +102,14 @@ adds_comment limits count carry bytes stage block stage' count' test s n = rw (s
   keeps = λ line done given is k.
       let m = comment_is count is.0 carry bytes is.1 test in
       let comment : is_comment line ≡ true = rw is.2 m.1 in
-      rw (append-nil given) (keeps_skip limits done stage given count line k (judged_comment limits stage count line m.0 comment));
+      rw (append-nil given) (keeps_skip limits done stage given count line k
+      (judged_comment limits stage count line m.0 comment));
   size_kept = λ z e. e;
 })
 
 -- a line that was judged whole, where all of its front was carried
-pub adds_carried : (limits : TextLimits) (count : ℕ) (carry bytes whole : List ℕ) (stage : Stage) (block : List Cell) (stage' : Stage) (count' : ℕ) (block' : List Cell) →
+pub adds_carried : (limits : TextLimits) (count : ℕ) (carry bytes whole : List ℕ) (stage : Stage) (block : List Cell)
+    (stage' : Stage) (count' : ℕ) (block' : List Cell) →
     ((rest : List ℕ) → IsCarried count rest carry → whole ≡ rest ++ bytes) →
     AddsLine limits (λ l. l ≡ whole) (at stage count) block (at stage' count') block' →
     AddsLine limits (EndsCarried count carry bytes) (at stage count) block (at stage' count') block'

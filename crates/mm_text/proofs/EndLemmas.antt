@@ -12,7 +12,8 @@ use Rattle.mm_text.specs.declared.limits.TextLimits.{TextLimits}
 use Rattle.mm_text.specs.declared.stages.Stage.{Stage}
 use Rattle.mm_text.specs.declared.stages.Stage.TheVariants.{AtBanner, AtSize, AtEntries}
 
-pub lack_is : (limits : TextLimits) (ls : List (List ℕ)) (cells : List Cell) (stage : Stage) → StageIs limits ls cells stage → lack_of limits ls ≡ lack_at stage
+pub lack_is : (limits : TextLimits) (ls : List (List ℕ)) (cells : List Cell) (stage : Stage) →
+    StageIs limits ls cells stage → lack_of limits ls ≡ lack_at stage
 lack_is limits ls cells AtBanner h = rw h.0 refl
 lack_is limits ls cells (AtSize symmetric) h = rw h.1 refl
 lack_is limits ls cells (AtEntries symmetric s seen) h =
@@ -25,8 +26,10 @@ lack_is limits ls cells (AtEntries symmetric s seen) h =
 same_size : (s : Size) (n : ℕ) → n ≡ s.entries → s ≡ record { rows = s.rows; cols = s.cols; entries = n }
 same_size s n e = rw e refl
 
-pub spells_all : (text : List ℕ) (limits : TextLimits) (cells : List Cell) (symmetric : Bool) (s : Size) (seen count : ℕ) →
-    Keeps limits (lines_of text) (AtEntries symmetric s seen) cells count → length text ≤ limits.max_bytes → s.entries ≤ seen →
+pub spells_all : (text : List ℕ) (limits : TextLimits) (cells : List Cell) (symmetric : Bool) (s : Size)
+    (seen count : ℕ) →
+    Keeps limits (lines_of text) (AtEntries symmetric s seen) cells count → length text ≤ limits.max_bytes →
+    s.entries ≤ seen →
     Spells text limits s.rows s.cols cells
 spells_all text limits cells symmetric s seen count k fits full =
     let e = k.stage_is in

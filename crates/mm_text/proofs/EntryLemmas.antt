@@ -1,5 +1,6 @@
 -- A line of three numerals with a blank between: its bytes, its words, and the entry that it is.
-use Rattle.std.proofs.Common.{inl, inr, ◌⊎◌, ◌≡◌, ℕ, ◌+◌, ◌-◌, ◌<◌, ◌≤◌, Bool, true, false, ◌||◌, List, [], ◌∷◌, ◌++◌, length, drop, get_or, refl, sym, ◌∙◌, ap, arith, append_assoc, length-append}
+use Rattle.std.proofs.Common.{inl, inr, ◌⊎◌, ◌≡◌, ℕ, ◌+◌, ◌-◌, ◌<◌, ◌≤◌, Bool, true, false, ◌||◌, List, [], ◌∷◌, ◌++◌}
+use Rattle.std.proofs.Common.{length, drop, get_or, refl, sym, ◌∙◌, ap, arith, append_assoc, length-append}
 use Rattle.std.proofs.lemmas.Bool.Decides.{nat_tests}
 use Rattle.std.proofs.lemmas.List.{get_or_append_left, drop_more, append-nil}
 use Rattle.std.proofs.Math.Seq.{take-append_seam, get_or-append_seam}
@@ -13,7 +14,8 @@ use Rattle.std.specs.Str.Parse.{digits_value}
 use Rattle.mm_text.specs.Lines.{is_blank, is_line_feed, content, is_skipped, IsLine}
 use Rattle.mm_text.specs.Words.{words}
 use Rattle.mm_text.specs.Judging.{index, entry}
-use Rattle.mm_text.specs.Plain.{IsShortNumeral, BeginsWithDigits, BeginsWithIndex, BeginsWithCount, BeginsWithEntry, IsEntry}
+use Rattle.mm_text.specs.Plain.{IsShortNumeral, BeginsWithDigits, BeginsWithIndex, BeginsWithCount, BeginsWithEntry}
+use Rattle.mm_text.specs.Plain.{IsEntry}
 use Rattle.mm_text.specs.declared.fault.MmKind.TheVariants.{BadEntry}
 use Rattle.cells.specs.declared.cell.Cell.{Cell}
 use Rattle.mm_text.proofs.NumberLemmas.{all_at}
@@ -51,7 +53,8 @@ pub blank_not : (c : ℕ) → is_ascii_digit c ≡ true → is_blank c ≡ false
 blank_not c h = grind (arith, nat_tests)
 
 no_blank : (w : List ℕ) → IsShortNumeral w → All (λ b. is_blank b ≡ false) w
-no_blank w h = All-from_get_or (λ b. is_blank b ≡ false) w 0 (λ i l. blank_not (get_or w i 0) (all_at is_ascii_digit w i h.digits l))
+no_blank w h = All-from_get_or (λ b. is_blank b ≡ false) w 0
+    (λ i l. blank_not (get_or w i 0) (all_at is_ascii_digit w i h.digits l))
 
 pub plain_is : (c : ℕ) → is_plain c ≡ true → (nat_eq c 10 ≡ false) × (nat_eq c 13 ≡ false)
 plain_is c h = (grind (arith, nat_tests), grind (arith, nat_tests))
@@ -78,17 +81,20 @@ module _ (a b c : List ℕ) (s t : ℕ) (x : IsShortNumeral a) (y : IsShortNumer
   plain_line : IsLine (a ++ s ∷ (b ++ t ∷ c))
   plain_line = record {
     no_feed = All-from_get_or (λ k. is_line_feed k ≡ false) (a ++ s ∷ (b ++ t ∷ c)) 0
-        (λ i l. (plain_is (get_or (a ++ s ∷ (b ++ t ∷ c)) i 0) (all_at is_plain (a ++ s ∷ (b ++ t ∷ c)) i all_plain l)).0);
+        (λ i l. (plain_is (get_or (a ++ s ∷ (b ++ t ∷ c)) i 0)
+        (all_at is_plain (a ++ s ∷ (b ++ t ∷ c)) i all_plain l)).0);
   }
 
   plain_content : content (a ++ s ∷ (b ++ t ∷ c)) ≡ a ++ s ∷ (b ++ t ∷ c)
   plain_content =
       let last : length (a ++ s ∷ (b ++ t ∷ c)) - 1 < length (a ++ s ∷ (b ++ t ∷ c)) = omega (arith, size_is, xs) in
-      let e = (plain_is (get_or (a ++ s ∷ (b ++ t ∷ c)) (length (a ++ s ∷ (b ++ t ∷ c)) - 1) 0) (all_at is_plain (a ++ s ∷ (b ++ t ∷ c)) (length (a ++ s ∷ (b ++ t ∷ c)) - 1) all_plain last)).1 in
+      let e = (plain_is (get_or (a ++ s ∷ (b ++ t ∷ c)) (length (a ++ s ∷ (b ++ t ∷ c)) - 1) 0)
+      (all_at is_plain (a ++ s ∷ (b ++ t ∷ c)) (length (a ++ s ∷ (b ++ t ∷ c)) - 1) all_plain last)).1 in
       rw e refl
 
   first_digit : is_ascii_digit (get_or (a ++ s ∷ (b ++ t ∷ c)) 0 0) ≡ true
-  first_digit = ap is_ascii_digit (get_or_append_left a (s ∷ (b ++ t ∷ c)) 0 0 xs) ∙ all_at is_ascii_digit a 0 x.digits xs
+  first_digit = ap is_ascii_digit (get_or_append_left a (s ∷ (b ++ t ∷ c)) 0 0 xs)
+      ∙ all_at is_ascii_digit a 0 x.digits xs
 
   plain_counts : is_skipped (a ++ s ∷ (b ++ t ∷ c)) ≡ false
   plain_counts =
@@ -106,15 +112,25 @@ module _ (a b c : List ℕ) (s t : ℕ) (x : IsShortNumeral a) (y : IsShortNumer
     entry_is = entry_of;
   }
     where
-      entry_of : entry rows cols (content (a ++ s ∷ (b ++ t ∷ c))) ≡ Ok (record { row = row; col = col; count = digits_value 10 c })
-      entry_of = rw (plain_content, three_words) (rw (r, l) (rw (numeral_not_negative c z zs, numeral_number BadEntry c z zs) refl))
+      entry_of : entry rows cols (content (a ++ s ∷ (b ++ t ∷ c))) ≡ Ok (record {
+        row = row;
+        col = col;
+        count = digits_value 10 c;
+      })
+      entry_of = rw (plain_content, three_words) (rw (r, l)
+          (rw (numeral_not_negative c z zs, numeral_number BadEntry c z zs) refl))
 
   pub plain_entry_facts : (rows cols row col : ℕ) → index rows a ≡ Ok row → index cols b ≡ Ok col →
       IsPlainEntry rows cols (a ++ s ∷ (b ++ t ∷ c)) (record { row = row; col = col; count = digits_value 10 c })
-  plain_entry_facts rows cols row col r l = record { is_entry = plain_entry rows cols row col r l; same = plain_content; some = omega (arith, size_is, xs) }
+  plain_entry_facts rows cols row col r l = record {
+    is_entry = plain_entry rows cols row col r l;
+    same = plain_content;
+    some = omega (arith, size_is, xs);
+  }
 
 -- digits and a blank, where the number is in range
-pub begins_with_index : (limit : ℕ) (bytes rest more : List ℕ) (n : ℕ) → BeginsWithDigits bytes n rest → 0 < n → n ≤ limit →
+pub begins_with_index : (limit : ℕ) (bytes rest more : List ℕ) (n : ℕ) → BeginsWithDigits bytes n rest → 0 < n →
+    n ≤ limit →
     0 < length rest → is_blank (get_or rest 0 0) ≡ true → more ≡ drop 1 rest → BeginsWithIndex limit bytes (n - 1) more
 begins_with_index limit bytes rest more n x above within some blank more_is =
     let v = x.value in
@@ -136,11 +152,15 @@ content_push w =
     rw n (rw g (take-append_seam w (13 ∷ [])))
 
 -- a CR at the end changes nothing
-ended_entry : (rows cols : ℕ) (body ending : List ℕ) (cell : Cell) → (ending ≡ []) ⊎ (ending ≡ 13 ∷ []) → IsPlainEntry rows cols body cell → IsEntry rows cols (body ++ ending) cell
+ended_entry : (rows cols : ℕ) (body ending : List ℕ) (cell : Cell) → (ending ≡ []) ⊎ (ending ≡ 13 ∷ []) →
+    IsPlainEntry rows cols body cell → IsEntry rows cols (body ++ ending) cell
 ended_entry rows cols body ending cell e x = elim e [
   | inl none ↦ rw (none, append-nil body) x.is_entry
   | inr cr ↦ rw cr (record {
-    is_line = both_lines body (13 ∷ []) x.is_entry.is_line (record { no_feed = All-from_get_or (λ k. is_line_feed k ≡ false) (13 ∷ []) 0 (λ i l. let z : i ≡ 0 = omega arith in rw z refl) });
+    is_line = both_lines body (13 ∷ []) x.is_entry.is_line (record {
+      no_feed = All-from_get_or (λ k. is_line_feed k ≡ false) (13 ∷ []) 0 (λ i l. let z : i ≡ 0 = omega arith in
+          rw z refl);
+    });
     counted =
         let p = content_push body in
         let some = x.some in
@@ -155,20 +175,27 @@ ended_entry rows cols body ending cell e x = elim e [
 
 -- what the three parts of a plain line say together
 pub begins_with_entry : (rows cols : ℕ) (bytes second third rest : List ℕ) (row col count size : ℕ) →
-    BeginsWithIndex rows bytes row second → BeginsWithIndex cols second col third → BeginsWithCount third count rest → size ≡ length bytes - length rest →
+    BeginsWithIndex rows bytes row second → BeginsWithIndex cols second col third → BeginsWithCount third count rest →
+    size ≡ length bytes - length rest →
     BeginsWithEntry rows cols bytes (record { row = row; col = col; count = count }) size
 begins_with_entry rows cols bytes second third rest row col count size x y z e =
     let p = x.whole in let q = y.whole in let r = z.whole in
     let whole : bytes ≡ ((x.word ++ x.blank ∷ (y.word ++ y.blank ∷ z.word)) ++ z.ending) ++ 10 ∷ rest =
-    p ∙ ap (λ l. x.word ++ x.blank ∷ l) (q ∙ ap (λ l. y.word ++ y.blank ∷ l) r) ∙ regroup x.word y.word z.word z.ending rest x.blank y.blank in
+    p ∙ ap (λ l. x.word ++ x.blank ∷ l) (q ∙ ap (λ l. y.word ++ y.blank ∷ l) r)
+    ∙ regroup x.word y.word z.word z.ending rest x.blank y.blank in
     record {
       line = (x.word ++ x.blank ∷ (y.word ++ y.blank ∷ z.word)) ++ z.ending;
       rest = rest;
       whole = whole;
       is_entry = ended_entry rows cols (x.word ++ x.blank ∷ (y.word ++ y.blank ∷ z.word)) z.ending _ z.ending_is
-          (rw (← z.value) (plain_entry_facts x.word y.word z.word x.blank y.blank x.numeral y.numeral z.numeral x.some y.some z.some x.is_blank_too y.is_blank_too rows cols row col x.index_is y.index_is));
-      size_is = let l = ap length whole in omega (arith, length-append ((x.word ++ x.blank ∷ (y.word ++ y.blank ∷ z.word)) ++ z.ending) (10 ∷ rest));
+          (rw (← z.value) (plain_entry_facts x.word y.word z.word x.blank y.blank x.numeral y.numeral z.numeral x.some
+          y.some z.some x.is_blank_too y.is_blank_too rows cols row col x.index_is y.index_is));
+      size_is = let l = ap length whole in omega (
+        arith,
+        length-append ((x.word ++ x.blank ∷ (y.word ++ y.blank ∷ z.word)) ++ z.ending) (10 ∷ rest),
+      );
     }
   where
-    regroup : (a b c e d : List ℕ) (s t : ℕ) → a ++ s ∷ (b ++ t ∷ (c ++ (e ++ 10 ∷ d))) ≡ ((a ++ s ∷ (b ++ t ∷ c)) ++ e) ++ 10 ∷ d
+    regroup : (a b c e d : List ℕ) (s t : ℕ) → a ++ s ∷ (b ++ t ∷ (c ++ (e ++ 10 ∷ d)))
+        ≡ ((a ++ s ∷ (b ++ t ∷ c)) ++ e) ++ 10 ∷ d
     regroup a b c e d s t = simp append_assoc

@@ -20,7 +20,8 @@ pub record IsReadFault (text : List ℕ) (limits : TextLimits) (failed : Type 0)
   pub none_within : NoFaultWithin text limits
   pub line_is : line ≡ line_at text (length text)
 
--- Memory ran out for the cells of this line, a good entry that was read to its end: its LF, or the text's end. Its place
+-- Memory ran out for the cells of this line, a good entry that was read to its end: its LF, or the text's end. Its
+-- place
 -- is behind the line, whose LF isn't counted, and up to there the text bears no fault.
 pub record IsMemoryFault (text : List ℕ) (limits : TextLimits) (ended : Type 0) (line : ℕ) : Type 0 where
   pub before : List (List ℕ)
@@ -48,5 +49,6 @@ pub record IsUnread (answers : List Answer) (kind : MmKind) (line : ℕ) : Type 
 
 -- These bytes show a fault, whatever text within the limit they continue and whatever follows them.
 abbrev pub Shows : TextLimits → List ℕ → LineState → MmKind → ℕ → Type 0
-Shows limits bytes old kind line = (text more : List ℕ) (given : List Cell) → length text + length bytes ≤ limits.max_bytes →
+Shows limits bytes old kind line = (text more : List ℕ) (given : List Cell) →
+    length text + length bytes ≤ limits.max_bytes →
     Holds limits text old given → Explains ((text ++ bytes) ++ more) limits ⊥ ⊥ kind line

@@ -1,11 +1,14 @@
 -- What a line's words mean, judged from left to right: the value that they spell, or the first fault.
-use Rattle.std.specs.Prelude.{ℕ, ◌-◌, ◌^◌, Bool, not, ◌&&◌, ◌||◌, ◌==◌, if◌then◌else◌, nat_lt, nat_le, List, [], ◌∷◌, drop, slice_index, Option, Some, None, Result, Ok, Err, codes}
+use Rattle.std.specs.Prelude.{ℕ, ◌-◌, ◌^◌, Bool, not, ◌&&◌, ◌||◌, ◌==◌, if◌then◌else◌, nat_lt, nat_le, List, [], ◌∷◌}
+use Rattle.std.specs.Prelude.{drop, slice_index, Option, Some, None, Result, Ok, Err, codes}
 use Rattle.std.specs.List.{list_any}
 use Rattle.std.specs.Str.{str_eq_ignore_ascii_case}
 use Rattle.mm_text.specs.Lines.{is_blank}
 use Rattle.mm_text.specs.Words.{words, word, has_word, number_of, is_negative}
 use Rattle.mm_text.specs.declared.fault.MmKind.{MmKind}
-use Rattle.mm_text.specs.declared.fault.MmKind.TheVariants.{BadBanner, Unsupported, BadSize, BadDimension, NotSquare, TooManyEntries, BadEntry, Negative, NumberTooLarge, IndexOutOfRange}
+use Rattle.mm_text.specs.declared.fault.MmKind.TheVariants.{BadBanner, Unsupported, BadSize, BadDimension, NotSquare}
+use Rattle.mm_text.specs.declared.fault.MmKind.TheVariants.{TooManyEntries, BadEntry, Negative, NumberTooLarge}
+use Rattle.mm_text.specs.declared.fault.MmKind.TheVariants.{IndexOutOfRange}
 use Rattle.cells.specs.declared.cell.Cell.{Cell}
 use Rattle.mm_text.specs.declared.size.Size.{Size}
 
@@ -38,7 +41,8 @@ unfoldable pub format : List ℕ → Result (Unit {0}) MmKind
 format w = keyword (codes "array" ∷ []) (codes "coordinate" ∷ []) w
 
 unfoldable pub field : List ℕ → Result (Unit {0}) MmKind
-field w = keyword (codes "real" ∷ codes "complex" ∷ codes "pattern" ∷ []) (codes "integer" ∷ codes "unsigned-integer" ∷ []) w
+field w = keyword (codes "real" ∷ codes "complex" ∷ codes "pattern" ∷ [])
+    (codes "integer" ∷ codes "unsigned-integer" ∷ []) w
 
 unfoldable pub symmetry : List ℕ → Result Bool MmKind
 symmetry w = do

@@ -1,5 +1,6 @@
 -- What a reader of texts has read of its source, and what one more block adds to it.
-use Rattle.std.specs.Prelude.{◌≡◌, ℕ, ◌+◌, ◌-◌, ◌<◌, ◌≤◌, Bool, true, false, List, [], ◌∷◌, ◌++◌, length, take, drop, Option, Some, None, Ok}
+use Rattle.std.specs.Prelude.{◌≡◌, ℕ, ◌+◌, ◌-◌, ◌<◌, ◌≤◌, Bool, true, false, List, [], ◌∷◌, ◌++◌, length, take, drop}
+use Rattle.std.specs.Prelude.{Option, Some, None, Ok}
 use Rattle.cells.specs.Bounds.{IsDimension, AreWithin}
 use Rattle.byte_io.specs.Streams.{Answer, Calls, bytes_of_calls}
 use Rattle.mm_text.specs.Faults.{Explains}
@@ -21,7 +22,8 @@ pending reader = take (reader.end - reader.start) (drop reader.start reader.piec
 
 -- The reader works under these limits, the source has given it these answers, and it has handed out these cells:
 -- those of the whole lines that it has judged, which bear no fault.
-pub record HasRead (limits : TextLimits) (answers : List Answer) (given : List Cell) (reader : TextReader) : Type 0 where
+pub record HasRead (limits : TextLimits) (answers : List Answer) (given : List Cell) (reader : TextReader) : Type
+    0 where
   pub limits_are : reader.limits ≡ limits
   pub judged : List ℕ
   pub beyond : List ℕ
@@ -33,14 +35,16 @@ pub record HasRead (limits : TextLimits) (answers : List Answer) (given : List C
   pub reads : length answers ≤ length (bytes_of_calls answers)
 
 -- These answers spell a text to its end, with these cells.
-pub record SpelledBy (limits : TextLimits) (answers : List Answer) (given : List Cell) (reader : TextReader) : Type 0 where
+pub record SpelledBy (limits : TextLimits) (answers : List Answer) (given : List Cell) (reader : TextReader) : Type
+    0 where
   pub size : Size
   pub size_is : size_of reader ≡ Some size
   pub spells : Spells (bytes_of_calls answers) limits size.rows size.cols given
   pub reads : length answers ≤ limits.max_bytes + 2
 
 -- A block was handed out: the calls of the source, and the cells that were added. The text goes on.
-pub record GoesOn {S : Type 0} (gives : S → Answer → S → Type 0) (source source' : S) (reader reader' : TextReader) (block block' : List Cell) : Type 0 where
+pub record GoesOn {S : Type 0} (gives : S → Answer → S → Type 0) (source source' : S) (reader reader' : TextReader)
+    (block block' : List Cell) : Type 0 where
   pub answers : List Answer
   pub calls : Calls gives source answers source'
   pub cells : List Cell
@@ -49,7 +53,8 @@ pub record GoesOn {S : Type 0} (gives : S → Answer → S → Type 0) (source s
       HasRead limits before given reader → HasRead limits (before ++ answers) (given ++ cells) reader'
 
 -- The last block was handed out: the source has ended, and all of its answers spell a text with all of the cells.
-pub record Ends {S : Type 0} (gives : S → Answer → S → Type 0) (at_end : S → Type 0) (source source' : S) (reader reader' : TextReader) (block block' : List Cell) : Type 0 where
+pub record Ends {S : Type 0} (gives : S → Answer → S → Type 0) (at_end : S → Type 0) (source source' : S)
+    (reader reader' : TextReader) (block block' : List Cell) : Type 0 where
   pub answers : List Answer
   pub calls : Calls gives source answers source'
   pub ended : at_end source'
@@ -59,24 +64,30 @@ pub record Ends {S : Type 0} (gives : S → Answer → S → Type 0) (at_end : S
       HasRead limits before given reader → SpelledBy limits (before ++ answers) (given ++ cells) reader'
 
 -- what reading a block does: more is to come, or the text has ended
-abbrev pub ReadsBlock : {S : Type 0} → (S → Answer → S → Type 0) → (S → Type 0) → S → S → TextReader → TextReader → List Cell → List Cell → Bool → Type 0
-ReadsBlock gives at_end source source' reader reader' block block' true = GoesOn gives source source' reader reader' block block'
-ReadsBlock gives at_end source source' reader reader' block block' false = Ends gives at_end source source' reader reader' block block'
+abbrev pub ReadsBlock : {S : Type 0} → (S → Answer → S → Type 0) → (S → Type 0) → S → S → TextReader → TextReader →
+    List Cell → List Cell → Bool → Type 0
+ReadsBlock gives at_end source source' reader reader' block block' true =
+    GoesOn gives source source' reader reader' block block'
+ReadsBlock gives at_end source source' reader reader' block block' false =
+    Ends gives at_end source source' reader reader' block block'
 
 -- All that was read explains this fault, and the cells that were handed out are those of its first lines.
-pub record ExplainedBy (limits : TextLimits) (answers : List Answer) (given : List Cell) (ended failed : Type 0) (kind : MmKind) (line : ℕ) : Type 0 where
+pub record ExplainedBy (limits : TextLimits) (answers : List Answer) (given : List Cell) (ended failed : Type 0)
+    (kind : MmKind) (line : ℕ) : Type 0 where
   pub explains : Explains (bytes_of_calls answers) limits ended failed kind line
   pub begins : BeginsWith limits (bytes_of_calls answers) given
   pub reads : length answers ≤ limits.max_bytes + 2
 
 -- The reading stopped with this fault, and the block holds these cells more.
-pub record Stops {S : Type 0} (gives : S → Answer → S → Type 0) (ended failed : Type 0) (source source' : S) (reader : TextReader) (block block' : List Cell) (kind : MmKind) (line : ℕ) : Type 0 where
+pub record Stops {S : Type 0} (gives : S → Answer → S → Type 0) (ended failed : Type 0) (source source' : S)
+    (reader : TextReader) (block block' : List Cell) (kind : MmKind) (line : ℕ) : Type 0 where
   pub answers : List Answer
   pub calls : Calls gives source answers source'
   pub cells : List Cell
   pub block_is : block' ≡ block ++ cells
   pub explained : (limits : TextLimits) (before : List Answer) (given : List Cell) →
-      HasRead limits before given reader → ExplainedBy limits (before ++ answers) (given ++ cells) ended failed kind line
+      HasRead limits before given reader → ExplainedBy limits (before ++ answers) (given ++ cells) ended failed kind
+      line
 
 -- Cells that were handed out stand behind a size line, and lie within its dimensions.
 pub record SizedCells (given : List Cell) (size : Size) : Type 0 where
@@ -97,7 +108,8 @@ pub record TakesPending (reader reader' : TextReader) (block block' : List Cell)
   pub size_kept : (s : Size) → size_of reader ≡ Some s → size_of reader' ≡ Some s
 
 -- One read gave so many bytes.
-pub record Fills {S : Type 0} (gives : S → Answer → S → Type 0) (source source' : S) (reader reader' : TextReader) (n : ℕ) : Type 0 where
+pub record Fills {S : Type 0} (gives : S → Answer → S → Type 0) (source source' : S) (reader reader' : TextReader)
+    (n : ℕ) : Type 0 where
   pub bytes : List ℕ
   pub gave : gives source (Ok bytes) source'
   pub size_is : length bytes ≡ n

@@ -1,10 +1,12 @@
 -- What a text spells, and its first fault.
-use Rattle.std.specs.Prelude.{◌≡◌, ℕ, ◌+◌, ◌*◌, ◌<◌, ◌≤◌, Bool, true, List, [], ◌∷◌, ◌++◌, length, map, flat_map, nat_lt, if◌then◌else◌, Option, Some, None, Ok, Err}
+use Rattle.std.specs.Prelude.{◌≡◌, ℕ, ◌+◌, ◌*◌, ◌<◌, ◌≤◌, Bool, true, List, [], ◌∷◌, ◌++◌, length, map, flat_map}
+use Rattle.std.specs.Prelude.{nat_lt, if◌then◌else◌, Option, Some, None, Ok, Err}
 pub use Rattle.mm_text.specs.Canonical.{numbers_line, canonical}
 use Rattle.mm_text.specs.Lines.{lines_of, bytes_of, line_at, content, counts, is_limited, counted, OverrunsAt}
 use Rattle.mm_text.specs.Judging.{◌>>=◌, refuse_if, banner, size, entry, cells_of, fault_of}
 use Rattle.mm_text.specs.declared.fault.MmKind.{MmKind}
-use Rattle.mm_text.specs.declared.fault.MmKind.TheVariants.{BadBanner, LineTooLong, BadSize, TooFewEntries, ExtraText, TooLong}
+use Rattle.mm_text.specs.declared.fault.MmKind.TheVariants.{BadBanner, LineTooLong, BadSize, TooFewEntries, ExtraText}
+use Rattle.mm_text.specs.declared.fault.MmKind.TheVariants.{TooLong}
 use Rattle.cells.specs.declared.cell.Cell.{Cell}
 use Rattle.mm_text.specs.declared.limits.TextLimits.{TextLimits}
 
@@ -20,7 +22,11 @@ pub record Spells (text : List ℕ) (limits : TextLimits) (rows cols : ℕ) (cel
   pub lines : counted (lines_of text) ≡ first ∷ second ∷ others
   pub symmetric : Bool
   pub is_banner : banner first ≡ Ok symmetric
-  pub is_size : size symmetric limits.max_entries second ≡ Ok (record { rows = rows; cols = cols; entries = length others })
+  pub is_size : size symmetric limits.max_entries second ≡ Ok (record {
+    rows = rows;
+    cols = cols;
+    entries = length others;
+  })
   pub entries : List Cell
   pub are_entries : map (entry rows cols) others ≡ map Ok entries
   pub cells_are : cells ≡ flat_map (cells_of symmetric) entries

@@ -13,7 +13,8 @@ pub record WriterState : Type 0 where
   pub left : ℕ
 
 -- The calls that led from s to t took the front of the text, and the rest of it is pending.
-pub record HasWritten {S : Type 0} (step : S → List ℕ → Answer → S → Type 0) (failures : S → ℕ) (s t : S) (text : List ℕ) (writer : WriterState) : Type 0 where
+pub record HasWritten {S : Type 0} (step : S → List ℕ → Answer → S → Type 0) (failures : S → ℕ) (s t : S)
+    (text : List ℕ) (writer : WriterState) : Type 0 where
   pub front : List ℕ
   pub has_taken : HasTaken step failures s t front
   pub taken_is : writer.taken ≡ length front

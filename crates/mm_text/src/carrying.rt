@@ -3,7 +3,8 @@
 //! What was read of the present line is carried until its LF comes. A line that is too long shows it at once, and of
 //! a comment, which may have any length, no more is carried than its first byte. So what is carried fits in a buffer
 //! of `CARRY` bytes, which is made once.
-ghost use Rattle.std.specs.Prelude.{◌≡◌, ℕ, ◌+◌, ◌<◌, ◌≤◌, ◌^◌, ◌++◌, ◌∷◌, [], ◌==◌, not, ◌&&◌, List, OnOk, OnErr, IfErr, IfOk, length, vec_len, vec_capacity, true, false, take, drop};
+ghost use Rattle.std.specs.Prelude.{◌≡◌, ℕ, ◌+◌, ◌<◌, ◌≤◌, ◌^◌, ◌++◌, ◌∷◌, [], ◌==◌, not, ◌&&◌, List, OnOk, OnErr};
+ghost use Rattle.std.specs.Prelude.{IfErr, IfOk, length, vec_len, vec_capacity, true, false, take, drop};
 ghost use Rattle.mm_text.specs.Lines.{is_comment, IsLine};
 ghost use Rattle.mm_text.specs.Stages.{IsCarried, cut_kind, AddsLine, EndsCarried, Keeps, LineFault, Advances};
 ghost use Rattle.mm_text.specs.Faults.{Shows};
@@ -98,9 +99,11 @@ impl LineReader {
         ensures line { IfErr result (λ f. f.line ≡ self.old.progress.lines + 1) }
         ensures err { IfErr result (λ f. (rest : List ℕ) (done : List (List ℕ)) (given : List Cell) →
             IsCarried self.old.progress.lines rest self.old.carry.items →
-            Keeps limits done self.old.progress.stage given self.old.progress.lines → LineFault limits done (rest ++ bytes.now) f.kind) }
+            Keeps limits done self.old.progress.stage given self.old.progress.lines →
+            LineFault limits done (rest ++ bytes.now) f.kind) }
         ensures kept { OnErr result (block.new.items ≡ block.old.items) }
-        ensures lacks { IfErr result (λ f. f.kind ≡ MmKind.Memory → vec_capacity block.old < length block.old.items + 2) }
+        ensures lacks { IfErr result (λ f. f.kind ≡ MmKind.Memory →
+            vec_capacity block.old < length block.old.items + 2) }
         ensures grows { vec_capacity block.old ≤ vec_capacity block.new }
     {
         if self.is_comment_here(bytes) {
@@ -133,9 +136,11 @@ impl LineReader {
         ensures line { IfErr result (λ f. f.line ≡ self.old.progress.lines + 1) }
         ensures err { IfErr result (λ f. (rest : List ℕ) (done : List (List ℕ)) (given : List Cell) →
             IsCarried self.old.progress.lines rest self.old.carry.items →
-            Keeps limits done self.old.progress.stage given self.old.progress.lines → LineFault limits done (rest ++ bytes.now) f.kind) }
+            Keeps limits done self.old.progress.stage given self.old.progress.lines →
+            LineFault limits done (rest ++ bytes.now) f.kind) }
         ensures kept { OnErr result (block.new.items ≡ block.old.items) }
-        ensures lacks { IfErr result (λ f. f.kind ≡ MmKind.Memory → vec_capacity block.old < length block.old.items + 2) }
+        ensures lacks { IfErr result (λ f. f.kind ≡ MmKind.Memory →
+            vec_capacity block.old < length block.old.items + 2) }
         ensures grows { vec_capacity block.old ≤ vec_capacity block.new }
     {
         if self.carry.is_empty() {

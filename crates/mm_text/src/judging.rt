@@ -3,7 +3,8 @@ ghost use Rattle.std.specs.Prelude.{◌≡◌, ℕ, ◌<◌, ◌^◌, slice_inde
 ghost use Rattle.std.specs.Str.{str_eq_ignore_ascii_case};
 ghost use Rattle.mm_text.specs.Lines.{is_blank};
 ghost use Rattle.mm_text.specs.Words.{words, word, has_word};
-ghost use Rattle.mm_text.specs.Judging.{mark, object, format, field, symmetry, banner, size, index, entry, is_dimension};
+ghost use Rattle.mm_text.specs.Judging.{mark, object, format, field, symmetry, banner, size, index, entry};
+ghost use Rattle.mm_text.specs.Judging.{is_dimension};
 
 use crate::fault::MmKind;
 use crate::limits::MAX_DIMENSION;

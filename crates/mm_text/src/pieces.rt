@@ -1,7 +1,8 @@
 //! Judges the lines of one piece of a text.
 //!
 //! Lines are cut at LF by `memchr`. One that stands whole in the piece is judged there and copied nowhere.
-ghost use Rattle.std.specs.Prelude.{◌≡◌, ℕ, ◌+◌, ◌*◌, ◌<◌, ◌≤◌, ◌^◌, List, OnOk, OnErr, IfErr, IfOk, IfSome, IfNone, length, vec_len, vec_capacity, slice_index, take, drop, Some};
+ghost use Rattle.std.specs.Prelude.{◌≡◌, ℕ, ◌+◌, ◌*◌, ◌<◌, ◌≤◌, ◌^◌, List, OnOk, OnErr, IfErr, IfOk, IfSome, IfNone};
+ghost use Rattle.std.specs.Prelude.{length, vec_len, vec_capacity, slice_index, take, drop, Some};
 ghost use Rattle.mm_text.specs.Lines.{IsLine};
 ghost use Rattle.mm_text.specs.Stages.{state_of, Advances, StopsWithin, Holds, EndsLast, EndsText, EndsWithin};
 ghost use Rattle.mm_text.specs.Faults.{Shows, Explains};
@@ -17,7 +18,8 @@ use memchr::memchr;
 
 /// Where the first LF stands.
 fn line_end(bytes: &[u8]) -> Option<usize>
-    ensures some { IfSome result (λ n. (n < length bytes.now) × IsLine (take n bytes.now) × (slice_index bytes.now n ≡ 10)) }
+    ensures some { IfSome result (λ n. (n < length bytes.now) × IsLine (take n bytes.now) ×
+        (slice_index bytes.now n ≡ 10)) }
     ensures none { IfNone result (IsLine bytes.now) }
 {
     memchr(b'\n', bytes)
@@ -41,7 +43,8 @@ impl LineReader {
             (state_of self.old) block.old.items (state_of self.new) block.new.items) }
         ensures err { IfErr result (λ f. Shows limits bytes.now (state_of self.old) f.kind f.line) }
         ensures kept { OnErr result (block.new.items ≡ block.old.items) }
-        ensures lacks { IfErr result (λ f. f.kind ≡ MmKind.Memory → vec_capacity block.old < length block.old.items + 2) }
+        ensures lacks { IfErr result (λ f. f.kind ≡ MmKind.Memory →
+            vec_capacity block.old < length block.old.items + 2) }
         ensures grows { vec_capacity block.old ≤ vec_capacity block.new }
     {
         match line_end(bytes) {
@@ -53,8 +56,8 @@ impl LineReader {
         }
     }
 
-    /// Takes the plain lines with which these bytes begin, where no front of a line is carried, and gives how many bytes
-    /// they took.
+    /// Takes the plain lines with which these bytes begin, where no front of a line is carried, and gives how many
+    /// bytes they took.
     fn take_plain_lines(
         &mut self,
         bytes: &[u8],
@@ -70,7 +73,8 @@ impl LineReader {
         ensures few { IfOk result (λ n. length block.new.items ≤ length block.old.items + 2 * n) }
         ensures ok { IfOk result (λ n. (limits : TextLimits) → Advances limits (take n bytes.now)
             (state_of self.old) block.old.items (state_of self.new) block.new.items) }
-        ensures err { IfErr result (λ f. (limits : TextLimits) → Shows limits bytes.now (state_of self.old) f.kind f.line) }
+        ensures err { IfErr result (λ f. (limits : TextLimits) →
+            Shows limits bytes.now (state_of self.old) f.kind f.line) }
         ensures kept { OnErr result ((limits : TextLimits) →
             StopsWithin limits bytes.now (state_of self.old) block.old.items block.new.items) }
         ensures lacks { IfErr result (λ f. f.kind ≡ MmKind.Memory → vec_capacity block.old < most) }
@@ -151,11 +155,13 @@ impl LineReader {
     fn end_last(&mut self, limits: TextLimits, block: &mut Vec<Cell>) -> Result<(), MmFault>
         requires lines { self.old.progress.lines + 1 < 2 ^ 64 }
         ensures bound { self.new.progress.lines ≤ self.old.progress.lines + 1 }
-        ensures ok { OnOk result (EndsLast limits (state_of self.old) block.old.items self.new.progress block.new.items) }
+        ensures ok { OnOk result (EndsLast limits (state_of self.old) block.old.items self.new.progress
+            block.new.items) }
         ensures err { IfErr result (λ f. (text : List ℕ) (given : List Cell) →
             Holds limits text (state_of self.old) given → Explains text limits (Unit {0}) ⊥ f.kind f.line) }
         ensures kept { OnErr result (block.new.items ≡ block.old.items) }
-        ensures lacks { IfErr result (λ f. f.kind ≡ MmKind.Memory → vec_capacity block.old < length block.old.items + 2) }
+        ensures lacks { IfErr result (λ f. f.kind ≡ MmKind.Memory →
+            vec_capacity block.old < length block.old.items + 2) }
         ensures grows { vec_capacity block.old ≤ vec_capacity block.new }
     {
         if self.carry.is_empty() {
@@ -168,11 +174,13 @@ impl LineReader {
     pub fn end_text(&mut self, limits: TextLimits, block: &mut Vec<Cell>) -> Result<(), MmFault>
         requires lines { self.old.progress.lines + 1 < 2 ^ 64 }
         ensures bound { self.new.progress.lines ≤ self.old.progress.lines + 1 }
-        ensures ok { OnOk result (EndsText limits (state_of self.old) block.old.items self.new.progress.stage block.new.items) }
+        ensures ok { OnOk result (EndsText limits (state_of self.old) block.old.items self.new.progress.stage
+            block.new.items) }
         ensures err { IfErr result (λ f. (text : List ℕ) (given : List Cell) →
             Holds limits text (state_of self.old) given → Explains text limits (Unit {0}) ⊥ f.kind f.line) }
         ensures kept { OnErr result (EndsWithin limits (state_of self.old) block.old.items block.new.items) }
-        ensures lacks { IfErr result (λ f. f.kind ≡ MmKind.Memory → vec_capacity block.old < length block.old.items + 2) }
+        ensures lacks { IfErr result (λ f. f.kind ≡ MmKind.Memory →
+            vec_capacity block.old < length block.old.items + 2) }
         ensures grows { vec_capacity block.old ≤ vec_capacity block.new }
     {
         let line = self.progress.lines + 1;

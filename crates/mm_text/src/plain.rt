@@ -7,10 +7,12 @@
 //!
 //! An index is read by eight digits, as a word, and then digit by digit: where it has 18, a line takes two thirds of
 //! the time that digit by digit takes. A count is read digit by digit, since most have few.
-ghost use Rattle.std.specs.Prelude.{◌≡◌, ℕ, ◌+◌, ◌*◌, ◌<◌, ◌≤◌, ◌^◌, [], length, take, IfOk, IfErr, IfSome, OnOk, OnErr, vec_len, vec_capacity};
+ghost use Rattle.std.specs.Prelude.{◌≡◌, ℕ, ◌+◌, ◌*◌, ◌<◌, ◌≤◌, ◌^◌, [], length, take, IfOk, IfErr, IfSome, OnOk};
+ghost use Rattle.std.specs.Prelude.{OnErr, vec_len, vec_capacity};
 ghost use Rattle.std.specs.Int.{w64, to_le_bytes};
 ghost use Rattle.std.specs.Int.Digits.{AllBelowBase, number_from_digits};
-ghost use Rattle.mm_text.specs.Plain.{GoesOnWithDigits, BeginsWithEight, BeginsWithDigits, BeginsWithIndex, BeginsWithCount, BeginsWithEntry};
+ghost use Rattle.mm_text.specs.Plain.{GoesOnWithDigits, BeginsWithEight, BeginsWithDigits, BeginsWithIndex};
+ghost use Rattle.mm_text.specs.Plain.{BeginsWithCount, BeginsWithEntry};
 ghost use Rattle.mm_text.specs.Stages.{state, Advances, StopsWithin};
 ghost use Rattle.mm_text.specs.Faults.{Shows};
 ghost use Rattle.mm_text.specs.declared.limits.TextLimits.{TextLimits};
@@ -158,7 +160,8 @@ pub fn take_entries(
     ensures ok { IfOk result (λ n. (limits : TextLimits) → Advances limits (take n bytes.now)
         (state [] progress.old.stage progress.old.lines) block.old.items
         (state [] progress.new.stage progress.new.lines) block.new.items) }
-    ensures err { IfErr result (λ f. (limits : TextLimits) → Shows limits bytes.now (state [] progress.old.stage progress.old.lines) f.kind f.line) }
+    ensures err { IfErr result (λ f. (limits : TextLimits) →
+        Shows limits bytes.now (state [] progress.old.stage progress.old.lines) f.kind f.line) }
     ensures kept { OnErr result ((limits : TextLimits) →
         StopsWithin limits bytes.now (state [] progress.old.stage progress.old.lines) block.old.items block.new.items) }
     ensures lacks { IfErr result (λ f. f.kind ≡ MmKind.Memory → vec_capacity block.old < most) }

@@ -2,7 +2,8 @@
 //!
 //! Nothing is kept of a line but what it declares: which line comes next, the size line's numbers, and how many
 //! entries were seen. A line costs one pass over its words.
-ghost use Rattle.std.specs.Prelude.{◌≡◌, ℕ, ◌+◌, ◌<◌, ◌≤◌, ◌^◌, ◌++◌, List, OnOk, OnErr, IfOk, IfErr, IsSome, length, vec_capacity, Bool, true, Some};
+ghost use Rattle.std.specs.Prelude.{◌≡◌, ℕ, ◌+◌, ◌<◌, ◌≤◌, ◌^◌, ◌++◌, List, OnOk, OnErr, IfOk, IfErr, IsSome, length};
+ghost use Rattle.std.specs.Prelude.{vec_capacity, Bool, true, Some};
 ghost use Rattle.std.specs.List.{list_all};
 ghost use Rattle.mm_text.specs.Lines.{content, is_comment, is_skipped, is_blank};
 ghost use Rattle.mm_text.specs.Stages.{judged, Keeps, LineFault, is_symmetric, added, AddsLine, lack_at};
@@ -130,14 +131,16 @@ impl Progress {
         block: &mut Vec<Cell>,
     ) -> Result<(), MmFault>
         requires { self.old.lines + 1 < 2 ^ 64 }
-        ensures ok { OnOk result (AddsLine limits (λ l. l ≡ line.now) self.old block.old.items self.new block.new.items) }
+        ensures ok { OnOk result (AddsLine limits (λ l. l ≡ line.now) self.old block.old.items self.new
+            block.new.items) }
         ensures count { OnOk result (self.new.lines ≡ self.old.lines + 1) }
         ensures bound { self.new.lines ≤ self.old.lines + 1 }
         ensures line { IfErr result (λ f. f.line ≡ self.old.lines + 1) }
         ensures err { IfErr result (λ f. (done : List (List ℕ)) (given : List Cell) →
             Keeps limits done self.old.stage given self.old.lines → LineFault limits done line.now f.kind) }
         ensures kept { OnErr result (block.new.items ≡ block.old.items) }
-        ensures lacks { IfErr result (λ f. f.kind ≡ MmKind.Memory → vec_capacity block.old < length block.old.items + 2) }
+        ensures lacks { IfErr result (λ f. f.kind ≡ MmKind.Memory →
+            vec_capacity block.old < length block.old.items + 2) }
         ensures grows { vec_capacity block.old ≤ vec_capacity block.new }
     {
         match judge_line(limits, self.stage, self.lines == 0, line) {
@@ -168,7 +171,8 @@ impl Progress {
 
     /// The dimensions, where the text has ended and nothing is missing.
     pub fn end_size(&self) -> Result<Size, MmKind>
-        ensures ok { IfOk result (λ s. (symmetric : Bool) × (seen : ℕ) × (self.now.stage ≡ Stage.AtEntries symmetric s seen) × (s.entries ≤ seen)) }
+        ensures ok { IfOk result (λ s. (symmetric : Bool) × (seen : ℕ) ×
+            (self.now.stage ≡ Stage.AtEntries symmetric s seen) × (s.entries ≤ seen)) }
         ensures err { IfErr result (λ kind. lack_at self.now.stage ≡ Some kind) }
     {
         match self.stage {

@@ -7,7 +7,8 @@
 //!
 //! It works by blocks so that a caller can sum a text that it has no room for: `read_matrix` asks for one block that
 //! holds everything, a sum for blocks of a few thousand cells.
-ghost use Rattle.std.specs.Prelude.{◌≡◌, ◌≢◌, ℕ, ◌+◌, ◌<◌, ◌≤◌, ◌^◌, List, [], length, Option, Result, Ok, Err, take, Some, IsTrue, IfOk, IfErr, OnOk, OnErr, vec_len, vec_capacity};
+ghost use Rattle.std.specs.Prelude.{◌≡◌, ◌≢◌, ℕ, ◌+◌, ◌<◌, ◌≤◌, ◌^◌, List, [], length, Option, Result, Ok, Err, take};
+ghost use Rattle.std.specs.Prelude.{Some, IsTrue, IfOk, IfErr, OnOk, OnErr, vec_len, vec_capacity};
 ghost use Rattle.mm_text.specs.Lines.{IsLine};
 ghost use Rattle.mm_text.specs.declared.size.Size.{Size};
 ghost use Rattle.mm_text.specs.declared.limits.TextLimits.{TextLimits};
@@ -101,7 +102,8 @@ fn bytes_within(came: usize, room: u64) -> usize
 }
 
 impl TextReader {
-    ghost use Rattle.mm_text.specs.Readings.{size_of, HasRead, AreSized, ReadsBlock, Stops, pending, TakesPending, Fills, Finishes, AddsFirst, ShowsRead};
+    ghost use Rattle.mm_text.specs.Readings.{size_of, HasRead, AreSized, ReadsBlock, Stops, pending, TakesPending};
+    ghost use Rattle.mm_text.specs.Readings.{Fills, Finishes, AddsFirst, ShowsRead};
 
     /// A reader that has read nothing. The limit is at most `MOST_BYTES`.
     ///
@@ -162,7 +164,8 @@ impl TextReader {
     fn take_front(&mut self) -> Result<(), MmFault>
         ensures same { self.new.room ≡ self.old.room }
         ensures empty { self.new.start ≡ self.new.end }
-        ensures ok { OnOk result (IsLine (pending self.old) → (block : List Cell) → TakesPending self.old self.new block block) }
+        ensures ok { OnOk result (IsLine (pending self.old) → (block : List Cell) →
+            TakesPending self.old self.new block block) }
         ensures err { IfErr result (λ f. IsLine (pending self.old) → ShowsRead self.old ⊥ ⊥ f.kind f.line) }
         ensures kind { IfErr result (λ f. f.kind ≡ MmKind.LineTooLong) }
     {
@@ -177,7 +180,8 @@ impl TextReader {
         ensures same { self.new.room ≡ self.old.room }
         ensures ok { OnOk result (TakesPending self.old self.new block.old.items block.new.items) }
         ensures room { OnOk result (length block.new.items ≤ most) }
-        ensures empty { OnOk result (length block.new.items + 1 < most → (self.new.start ≡ self.new.end) × (0 < self.new.room)) }
+        ensures empty { OnOk result (length block.new.items + 1 < most → (self.new.start ≡ self.new.end) ×
+            (0 < self.new.room)) }
         ensures err { IfErr result (λ f. ShowsRead self.old ⊥ ⊥ f.kind f.line) }
         ensures kept { OnErr result (AddsFirst self.old block.old.items block.new.items) }
         ensures lacks { IfErr result (λ f. f.kind ≡ MmKind.Memory → vec_capacity block.old < most) }
@@ -205,7 +209,9 @@ impl TextReader {
         ensures same { OnOk result (self.new.lines.progress ≡ self.old.lines.progress) }
         ensures no_failure { OnOk result (R.failure_count r.new ≡ R.failure_count r.old) }
         ensures failure { OnErr result (R.failure_count r.new ≡ R.failure_count r.old + 1) }
-        ensures err { IfErr result (λ f. (f.kind ≡ MmKind.Read) × ((e : DeviceFault) × R.read_gives r.old (Err e) r.new) × ShowsRead self.old ⊥ (Unit {0}) MmKind.Read f.line) }
+        ensures err { IfErr result (λ f. (f.kind ≡ MmKind.Read) ×
+            ((e : DeviceFault) × R.read_gives r.old (Err e) r.new) ×
+            ShowsRead self.old ⊥ (Unit {0}) MmKind.Read f.line) }
     {
         let most = bytes_wanted(self.piece.len(), self.room);
         match read_piece(r, &mut self.piece, most) {
@@ -227,7 +233,8 @@ impl TextReader {
         ensures room { OnOk result (length block.new.items ≤ length block.old.items + 2) }
         ensures err { IfErr result (λ f. ShowsRead self.old (Unit {0}) ⊥ f.kind f.line) }
         ensures kept { OnErr result (AddsFirst self.old block.old.items block.new.items) }
-        ensures lacks { IfErr result (λ f. f.kind ≡ MmKind.Memory → vec_capacity block.old < length block.old.items + 2) }
+        ensures lacks { IfErr result (λ f. f.kind ≡ MmKind.Memory →
+            vec_capacity block.old < length block.old.items + 2) }
         ensures grows { vec_capacity block.old ≤ vec_capacity block.new }
     {
         self.room = 0;
@@ -253,8 +260,11 @@ impl TextReader {
         requires failures { R.failure_count r.old + 1 < 2 ^ 64 }
         requires most { 2 ≤ most }
         requires room { length block.old.items ≤ most }
-        ensures ok { IfOk result (λ more. ReadsBlock R.read_gives R.at_end r.old r.new self.old self.new block.old.items block.new.items more) }
-        ensures err { IfErr result (λ f. Stops R.read_gives (R.at_end r.new) (R.failure_count r.new ≡ R.failure_count r.old + 1) r.old r.new self.old block.old.items block.new.items f.kind f.line) }
+        ensures ok { IfOk result (λ more. ReadsBlock R.read_gives R.at_end r.old r.new self.old self.new
+            block.old.items block.new.items more) }
+        ensures err { IfErr result (λ f. Stops R.read_gives (R.at_end r.new)
+            (R.failure_count r.new ≡ R.failure_count r.old + 1) r.old r.new self.old block.old.items block.new.items
+            f.kind f.line) }
         ensures room { OnOk result (length block.new.items ≤ most) }
         ensures full { IfOk result (λ more. IsTrue more → most ≤ length block.new.items + 1) }
         ensures size { OnOk result ((s : Size) → size_of self.old ≡ Some s → size_of self.new ≡ Some s) }

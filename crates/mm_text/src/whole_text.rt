@@ -33,7 +33,8 @@ pub fn read_matrix<R: Source>(
         × Spells (bytes_of_calls answers) limits m.rows m.cols m.cells.items) }
     ensures err { IfErr result (λ f. (answers : List Answer) × Calls R.read_gives r.old answers r.new
         × (length answers ≤ limits.max_bytes + 2)
-        × (Explains (bytes_of_calls answers) limits (R.at_end r.new) (R.failure_count r.new ≡ R.failure_count r.old + 1) f.kind f.line
+        × (Explains (bytes_of_calls answers) limits (R.at_end r.new)
+        (R.failure_count r.new ≡ R.failure_count r.old + 1) f.kind f.line
         ⊎ IsUnread answers f.kind f.line)) }
     ensures failures { IfErr result (λ f. f.kind ≢ MmKind.Read → R.failure_count r.new ≡ R.failure_count r.old) }
     ensures no_failure { OnOk result (R.failure_count r.new ≡ R.failure_count r.old) }

@@ -4,7 +4,8 @@
 //! Lines are formatted into a buffer in the writer itself, which is handed on when another line might not fit. So a
 //! text is written in one pass with no memory, and a sink that takes what it is offered gets about 16 KiB a call: a
 //! call for each line would cost more than the formatting.
-ghost use Rattle.std.specs.Prelude.{◌≡◌, ℕ, ◌+◌, ◌-◌, ◌*◌, ◌<◌, ◌≤◌, ◌^◌, List, [], ◌++◌, length, drop, IfOk, OnOk, IfErr};
+ghost use Rattle.std.specs.Prelude.{◌≡◌, ℕ, ◌+◌, ◌-◌, ◌*◌, ◌<◌, ◌≤◌, ◌^◌, List, [], ◌++◌, length, drop, IfOk, OnOk};
+ghost use Rattle.std.specs.Prelude.{IfErr};
 ghost use Rattle.arrayvec.specs.ArrayString.{array_string_len};
 ghost use Rattle.cells.specs.Bounds.{IsDimension, IsWithin, AreWithin};
 ghost use Rattle.mm_text.specs.Canonical.{numbers_line, canonical_head, entry_line, entry_lines, canonical};
@@ -57,9 +58,16 @@ impl Model for TextWriter {
 
     ghost Value = { WriterState };
 
-    ghost view = { λ w. record { rows = w.rows; cols = w.cols; taken = w.taken; pending = w.buffer.bytes; left = w.left } };
+    ghost view = { λ w. record {
+      rows = w.rows;
+      cols = w.cols;
+      taken = w.taken;
+      pending = w.buffer.bytes;
+      left = w.left;
+    } };
 
-    ghost invariant = { λ w. IsDimension w.rows × IsDimension w.cols × (w.taken + length w.buffer.bytes + 63 * w.left < 2 ^ 80) };
+    ghost invariant = { λ w. IsDimension w.rows × IsDimension w.cols ×
+        (w.taken + length w.buffer.bytes + 63 * w.left < 2 ^ 80) };
 }
 
 impl TextWriter {
@@ -225,7 +233,8 @@ pub fn write_matrix<W: Sink>(
     requires cols { IsDimension cols }
     requires within { AreWithin rows cols cells.now }
     ensures ok { OnOk result (HasTaken W.write_takes W.failure_count w.old w.new (canonical rows cols cells.now)) }
-    ensures err { IfErr result (λ f. HasStopped W.write_takes W.failure_count w.old w.new (canonical rows cols cells.now) f.written) }
+    ensures err { IfErr result (λ f. HasStopped W.write_takes W.failure_count w.old w.new
+        (canonical rows cols cells.now) f.written) }
 {
     let mut writer = TextWriter::new(rows, cols, cells.len() as u64);
     writer.write_cells(w, cells)?;

@@ -9,9 +9,17 @@ abbrev none : Cell
 none = record { row = 0; col = 0; count = 0 }
 
 pub overflow_add-sum : goal.overflow_add-sum
-overflow_add-sum c = omega (arith, c.loop-cell.invariant, total-push (take c.loop-cell.cell-index c.args.cells.now) (get_or c.args.cells.now c.loop-cell.cell-index none), ap cell_total (take_more c.args.cells.now c.loop-cell.cell-index none c.loop-cell-test.true), total_take c.args.cells.now (c.loop-cell.cell-index + 1))
+overflow_add-sum c = omega (
+  arith,
+  c.loop-cell.invariant,
+  total-push (take c.loop-cell.cell-index c.args.cells.now) (get_or c.args.cells.now c.loop-cell.cell-index none),
+  ap cell_total (take_more c.args.cells.now c.loop-cell.cell-index none c.loop-cell-test.true),
+  total_take c.args.cells.now (c.loop-cell.cell-index + 1),
+)
 
 pub loop-cell-preserved : goal.loop-cell-preserved
 loop-cell-preserved c =
-    ap (λ n. n + (get_or c.args.cells.now c.loop-cell.cell-index none).count) c.loop-cell.invariant ∙ sym (total-push (take c.loop-cell.cell-index c.args.cells.now) (get_or c.args.cells.now c.loop-cell.cell-index none))
+    ap (λ n. n + (get_or c.args.cells.now c.loop-cell.cell-index none).count) c.loop-cell.invariant
+    ∙ sym (total-push (take c.loop-cell.cell-index c.args.cells.now)
+    (get_or c.args.cells.now c.loop-cell.cell-index none))
     ∙ sym (ap cell_total (take_more c.args.cells.now c.loop-cell.cell-index none c.loop-cell-test.true))

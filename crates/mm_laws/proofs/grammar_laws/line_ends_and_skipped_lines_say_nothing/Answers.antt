@@ -5,8 +5,10 @@ pub returns-clause-last : goal.returns-clause-last
 returns-clause-last c = spells_lines
 
 pub returns-clause-returns : goal.returns-clause-returns
-returns-clause-returns c = λ text text' limits rows cols cells plain is fits fits'.
-    (returns_more text text' limits rows cols cells plain is fits', returns_less text text' limits rows cols cells plain is fits)
+returns-clause-returns c = λ text text' limits rows cols cells plain is fits fits'. (
+  returns_more text text' limits rows cols cells plain is fits',
+  returns_less text text' limits rows cols cells plain is fits,
+)
 
 pub returns-clause-skipped : goal.returns-clause-skipped
 returns-clause-skipped c = λ text text' limits rows cols cells first before after line is is' skipped short fits fits'. (

@@ -8,4 +8,5 @@ pub returns-clause-came : goal.returns-clause-came
 returns-clause-came c = first_came
 
 pub returns-clause-none : goal.returns-clause-none
-returns-clause-none c = λ text more limits kind line none f. none_stays text more limits none f.first.turn f.place kind line f.first.stands
+returns-clause-none c = λ text more limits kind line none f. none_stays text more limits none f.first.turn f.place kind
+    line f.first.stands

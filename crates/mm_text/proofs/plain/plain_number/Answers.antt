@@ -7,7 +7,8 @@ more_digits-requires c = let h = eight_less _ _ _ c.in-Some.ensures in omega (ar
 
 pub returns-in_default-eight_digits : goal.returns-in_default-eight_digits
 returns-in_default-eight_digits c =
-    digits_alone c.args.bytes.now _ _ (eight_more 11 0 c.in-Some.high c.args.bytes.now _ _ c.in-Some.high _ c.in-Some.ensures (omega arith) c.more_digits.ensures)
+    digits_alone c.args.bytes.now _ _ (eight_more 11 0 c.in-Some.high c.args.bytes.now _ _ c.in-Some.high _
+    c.in-Some.ensures (omega arith) c.more_digits.ensures)
 
 pub overflow_mul-high : goal.overflow_mul-high
 overflow_mul-high c = let h = eight_less _ _ _ c.in-Some.ensures in omega (arith, h)
@@ -26,5 +27,7 @@ more_digits-requires-2 c =
 
 pub returns : goal.returns
 returns c =
-    let low = eight_more 3 c.in-Some.high _ c.in-Some.rest.now _ _ c.in-Some-eight_digits.low _ c.in-Some-eight_digits.ensures (omega arith) c.more_digits-2.ensures in
-    digits_alone c.args.bytes.now _ _ (eight_more 11 0 c.in-Some.high c.args.bytes.now _ _ c.in-Some.high _ c.in-Some.ensures (omega arith) low)
+    let low = eight_more 3 c.in-Some.high _ c.in-Some.rest.now _ _ c.in-Some-eight_digits.low _
+    c.in-Some-eight_digits.ensures (omega arith) c.more_digits-2.ensures in
+    digits_alone c.args.bytes.now _ _ (eight_more 11 0 c.in-Some.high c.args.bytes.now _ _ c.in-Some.high _
+    c.in-Some.ensures (omega arith) low)

@@ -1,4 +1,5 @@
-use Rattle.std.proofs.Common.{◌≡◌, ◌++◌, ◌+◌, ◌≤◌, arith, take, drop, length, refl, ◌∷◌, [], true, false, subst, length-append}
+use Rattle.std.proofs.Common.{◌≡◌, ◌++◌, ◌+◌, ◌≤◌, arith, take, drop, length, refl, ◌∷◌, [], true, false, subst}
+use Rattle.std.proofs.Common.{length-append}
 use Rattle.std.specs.Prelude.{Result, Ok, Err, OnOk, OnErr, is_err}
 use Rattle.std.specs.declared.alloc.AllocError.{AllocError}
 use Rattle.std.proofs.lemmas.List.{take-append-drop, take_rest}
@@ -42,9 +43,13 @@ entries-init c = record {
 pub returns-then-is_err-clause-err : goal.returns-then-is_err-clause-err
 returns-then-is_err-clause-err c = λ limits.
     let b = rw (take_rest c.args.bytes.now c.entries.start) at c.in-Some.ensures in
-    subst (λ bytes. Shows limits bytes (state [] c.args.progress.now.stage c.args.progress.now.lines) Memory (c.entries.lines + 1)) (take-append-drop c.entries.start c.args.bytes.now)
-    (shows_later limits (take c.entries.start c.args.bytes.now) (drop c.entries.start c.args.bytes.now) [] [] _ _ _ _ _ _ Memory (c.entries.lines + 1) (c.entries.invariant.advances limits)
-    (shows_memory limits c.in-AtEntries.symmetric c.in-AtEntries.size c.entries.seen c.entries.lines b.line c.in-Some.cell b.is_entry c.entries-test.true (drop c.entries.start c.args.bytes.now) b.rest (c.entries.lines + 1) b.whole refl))
+    subst (λ bytes. Shows limits bytes (state [] c.args.progress.now.stage c.args.progress.now.lines) Memory
+    (c.entries.lines + 1)) (take-append-drop c.entries.start c.args.bytes.now)
+    (shows_later limits (take c.entries.start c.args.bytes.now) (drop c.entries.start c.args.bytes.now) [] [] _ _ _ _ _
+    _ Memory (c.entries.lines + 1) (c.entries.invariant.advances limits)
+    (shows_memory limits c.in-AtEntries.symmetric c.in-AtEntries.size c.entries.seen c.entries.lines b.line
+    c.in-Some.cell b.is_entry c.entries-test.true (drop c.entries.start c.args.bytes.now) b.rest
+    (c.entries.lines + 1) b.whole refl))
 
 failed : {P : Type 0} (r : Result (Unit {0}) AllocError) → true ≡ is_err r → OnErr r P → P
 failed (Ok x) e h = cc
@@ -55,7 +60,8 @@ returns-then-is_err-clause-kept c = λ limits. record {
   front = c.entries.start;
   within = c.entries.invariant.within;
   reached = state [] (AtEntries c.in-AtEntries.symmetric c.in-AtEntries.size c.entries.seen) c.entries.lines;
-  advances = rw (failed c.push_cells.result c.if-is_err.ensures.value c.push_cells.ensures.err) (c.entries.invariant.advances limits);
+  advances = rw (failed c.push_cells.result c.if-is_err.ensures.value c.push_cells.ensures.err)
+      (c.entries.invariant.advances limits);
 }
 
 pub returns-then-is_err-clause-lacks : goal.returns-then-is_err-clause-lacks
@@ -70,7 +76,8 @@ pub entries-preserved : goal.entries-preserved
 entries-preserved c =
     let b = rw (take_rest c.args.bytes.now c.entries.start) at c.in-Some.ensures in
     let within = line_within c.args.bytes.now b.line b.rest c.entries.start c.in-Some.len b.whole b.size_is in
-    let block : c.push_cells.new.cells.items ≡ c.entries.block.items ++ cells_of c.in-AtEntries.symmetric c.in-Some.cell = used c.push_cells.result c.if-is_err.ensures.value c.push_cells.ensures.ok in
+    let block : c.push_cells.new.cells.items ≡ c.entries.block.items ++ cells_of c.in-AtEntries.symmetric
+    c.in-Some.cell = used c.push_cells.result c.if-is_err.ensures.value c.push_cells.ensures.ok in
     let few = few_cells c.in-AtEntries.symmetric c.in-Some.cell in
     let count = length-append c.entries.block.items (cells_of c.in-AtEntries.symmetric c.in-Some.cell) in
     let size : length c.push_cells.new.cells.items ≤ length c.entries.block.items + 2 = rw block (omega arith) in
@@ -81,7 +88,10 @@ entries-preserved c =
       room = let t = c.if-most-len-gt1.true in let l = c.len.ensures in omega arith;
       few = let h = i.few in let s = within.1 in omega arith;
       grows = let g = c.push_cells.ensures.grows in let h = i.grows in omega arith;
-      advances = λ limits. rw (line_behind c.args.bytes.now b.line b.rest c.entries.start c.in-Some.len b.whole b.size_is)
-          (advances_append limits (take c.entries.start c.args.bytes.now) (b.line ++ 10 ∷ []) [] [] [] _ _ _ _ _ _ _ _ _ (i.advances limits)
-          (advances_entry limits c.in-AtEntries.symmetric c.in-AtEntries.size c.entries.seen c.entries.lines b.line c.in-Some.cell b.is_entry c.entries-test.true _ _ block));
+      advances = λ limits. rw (line_behind c.args.bytes.now b.line b.rest c.entries.start c.in-Some.len b.whole
+          b.size_is)
+          (advances_append limits (take c.entries.start c.args.bytes.now) (b.line ++ 10 ∷ []) [] [] [] _ _ _ _ _ _ _ _
+          _ (i.advances limits)
+          (advances_entry limits c.in-AtEntries.symmetric c.in-AtEntries.size c.entries.seen c.entries.lines b.line
+          c.in-Some.cell b.is_entry c.entries-test.true _ _ block));
     }

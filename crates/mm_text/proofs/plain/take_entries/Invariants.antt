@@ -11,7 +11,9 @@ invariant-entries l = record {
   room : length l.block.items ≤ l.most;
   few : length l.block.items ≤ length l.fn.block.items + 2 * l.start;
   grows : vec_capacity l.fn.block ≤ vec_capacity l.block;
-  advances : (limits : TextLimits) → Advances limits (take l.start l.bytes) (state [] l.fn.progress.stage l.fn.progress.lines) l.fn.block.items (state [] (AtEntries l.symmetric l.size l.seen) l.lines) l.block.items;
+  advances : (limits : TextLimits) → Advances limits (take l.start l.bytes)
+      (state [] l.fn.progress.stage l.fn.progress.lines) l.fn.block.items
+      (state [] (AtEntries l.symmetric l.size l.seen) l.lines) l.block.items;
 }
 
 abbrev pub decreases-entries : goal.decreases-entries

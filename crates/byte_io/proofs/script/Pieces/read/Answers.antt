@@ -13,6 +13,7 @@ returns-clause-rest c =
     let count = rw (c.as_slice.ensures.value, take_rest present given) at c.min-count.ensures in
     let within = c.next_piece.ensures.within in
     let after = pieces_after_read c.min-count.result (length c.args.buf.now) (drop given present) later count
-    (λ none. ap (λ l. nonempty_pieces (map (λ piece. piece.items) l)) (c.next_piece.ensures.last (omega (arith, none, length-drop given present)))) in
+    (λ none. ap (λ l. nonempty_pieces (map (λ piece. piece.items) l))
+    (c.next_piece.ensures.last (omega (arith, none, length-drop given present)))) in
     ap (λ l. before_pieces l later) (sym (drop-drop c.min-count.result given present)) ∙ after
     ∙ ap (λ l. pieces_behind (length c.args.buf.now) l) (c.next_piece.ensures.same ∙ c.self.view_is)

@@ -9,8 +9,10 @@ pub returns-in_err-end_in_place-in-Some-clause-err : goal.returns-in_err-end_in_
 returns-in_err-end_in_place-in-Some-clause-err c =
     let p = err_from_is_err_and c.from_residual.result c.from_residual.ensures.1 in
     let s = c.in-Some.ensures.some in
-    rw (p.1, p.2) (shows_line c.args.limits c.args.bytes.now (take c.in-Some.len c.args.bytes.now) (drop (c.in-Some.len + 1) c.args.bytes.now) c.args.self.now.carry.items _ _ _ _
-    (piece_cut c.args.bytes.now c.in-Some.len s.0 (eq-eqb (get_or c.args.bytes.now c.in-Some.len 0) 10 s.2)) s.1 c.in_err-end_in_place-in-Some.ensures.line c.in_err-end_in_place-in-Some.ensures.err)
+    rw (p.1, p.2) (shows_line c.args.limits c.args.bytes.now (take c.in-Some.len c.args.bytes.now)
+    (drop (c.in-Some.len + 1) c.args.bytes.now) c.args.self.now.carry.items _ _ _ _
+    (piece_cut c.args.bytes.now c.in-Some.len s.0 (eq-eqb (get_or c.args.bytes.now c.in-Some.len 0) 10 s.2)) s.1
+    c.in_err-end_in_place-in-Some.ensures.line c.in_err-end_in_place-in-Some.ensures.err)
 
 pub returns-in-None-clause-ok : goal.returns-in-None-clause-ok
 returns-in-None-clause-ok c = advances_none c.args.limits _ _ _ _

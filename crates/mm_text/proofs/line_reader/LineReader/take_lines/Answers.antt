@@ -18,7 +18,8 @@ returns-in_err-taken-clause-err c =
     let p = err_from_is_err_and c.from_residual.result c.from_residual.ensures.1 in
     let s = c.in_err-taken.ensures.err in
     let whole = take-append-drop c.lines.start c.args.bytes.now in
-    let later = shows_later c.args.limits (take c.lines.start c.args.bytes.now) (drop c.lines.start c.args.bytes.now) c.args.self.now.carry.items _ _ _ _ _ _ _ _ _ c.lines.invariant.advances
+    let later = shows_later c.args.limits (take c.lines.start c.args.bytes.now) (drop c.lines.start c.args.bytes.now)
+    c.args.self.now.carry.items _ _ _ _ _ _ _ _ _ c.lines.invariant.advances
     (rw (take_rest c.args.bytes.now c.lines.start) at s) in
     rw (p.1, p.2) (rw whole at later)
 
@@ -26,25 +27,34 @@ pub returns-in_err-taken-clause-kept : goal.returns-in_err-taken-clause-kept
 returns-in_err-taken-clause-kept c =
     let p = err_from_is_err_and c.from_residual.result c.from_residual.ensures.1 in
     let s = rw (take_rest c.args.bytes.now c.lines.start) at c.in_err-taken.ensures.kept in
-    rw p.1 (stops_later c.args.limits c.args.bytes.now c.lines.start c.args.self.now.carry.items _ _ _ _ _ _ _ _ c.lines.invariant.within c.lines.invariant.advances s)
+    rw p.1 (stops_later c.args.limits c.args.bytes.now c.lines.start c.args.self.now.carry.items _ _ _ _ _ _ _ _
+    c.lines.invariant.within c.lines.invariant.advances s)
 
 pub returns-then-taken-eq0-clause-ok : goal.returns-then-taken-eq0-clause-ok
 returns-then-taken-eq0-clause-ok c =
     let none : c.in_ok-taken.taken ≡ 0 = c.if-taken-eq0.true in
     let a = rw none at c.in_ok-taken.ensures.ok in
-    let all = advances_append c.args.limits (take c.lines.start c.args.bytes.now) [] c.args.self.now.carry.items _ _ _ _ _ _ _ _ _ _ _ c.lines.invariant.advances a in
+    let all = advances_append c.args.limits (take c.lines.start c.args.bytes.now) [] c.args.self.now.carry.items _ _ _
+    _ _ _ _ _ _ _ _ c.lines.invariant.advances a in
     rw append-nil at all
 
 pub lines-preserved : goal.lines-preserved
 lines-preserved c =
     let a = rw (take_rest c.args.bytes.now c.lines.start) at c.in_ok-taken.ensures.ok in
     let n = c.in_ok-taken.ensures.within in
-    let cut : take (c.lines.start + c.in_ok-taken.taken) c.args.bytes.now ≡ take c.lines.start c.args.bytes.now ++ take c.in_ok-taken.taken (drop c.lines.start c.args.bytes.now) =
+    let cut : take (c.lines.start + c.in_ok-taken.taken) c.args.bytes.now ≡ take c.lines.start c.args.bytes.now ++ take
+    c.in_ok-taken.taken (drop c.lines.start c.args.bytes.now) =
     take_two c.args.bytes.now c.lines.start c.in_ok-taken.taken in
     record {
-      within = let i = c.lines.invariant.within in omega (arith, length-take (length c.args.bytes.now - c.lines.start) (drop c.lines.start c.args.bytes.now), length-drop c.lines.start c.args.bytes.now);
+      within = let i = c.lines.invariant.within in omega (
+        arith,
+        length-take (length c.args.bytes.now - c.lines.start) (drop c.lines.start c.args.bytes.now),
+        length-drop c.lines.start c.args.bytes.now,
+      );
       count = let h = c.in_ok-taken.ensures.count in let i = c.lines.invariant.count in omega arith;
       room = let r = c.in_ok-taken.ensures.room in let t = c.lines-test.true in let l = c.len.ensures in omega arith;
       grows = let g = c.take_next.ensures.grows in let i = c.lines.invariant.grows in omega arith;
-      advances = rw cut (advances_append c.args.limits (take c.lines.start c.args.bytes.now) (take c.in_ok-taken.taken (drop c.lines.start c.args.bytes.now)) c.args.self.now.carry.items _ _ _ _ _ _ _ _ _ _ _ c.lines.invariant.advances a);
+      advances = rw cut (advances_append c.args.limits (take c.lines.start c.args.bytes.now)
+          (take c.in_ok-taken.taken (drop c.lines.start c.args.bytes.now)) c.args.self.now.carry.items _ _ _ _ _ _ _ _
+          _ _ _ c.lines.invariant.advances a);
     }

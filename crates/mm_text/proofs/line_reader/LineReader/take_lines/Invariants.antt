@@ -8,7 +8,8 @@ invariant-lines l = record {
   count : l.self.progress.lines ≤ l.fn.self.progress.lines + l.start;
   room : length l.block.items ≤ l.most;
   grows : vec_capacity l.fn.block ≤ vec_capacity l.block;
-  advances : Advances l.limits (take l.start l.bytes) (state_of l.fn.self) l.fn.block.items (state_of l.self) l.block.items;
+  advances : Advances l.limits (take l.start l.bytes) (state_of l.fn.self) l.fn.block.items (state_of l.self)
+      l.block.items;
 }
 
 abbrev pub decreases-lines : goal.decreases-lines

@@ -19,17 +19,20 @@ pub returns-clause-kept : goal.returns-clause-kept
 returns-clause-kept c =
     let none : c.in_ok-taken.taken ≡ 0 = omega arith in
     let s = rw none at c.in_ok-taken.ensures.ok in
-    on_err_weaker c.take_line.result (λ e. stops_later c.args.limits c.args.bytes.now 0 c.args.self.now.carry.items _ _ _ _ _ _ _ _ (omega arith) (s c.args.limits)
+    on_err_weaker c.take_line.result (λ e. stops_later c.args.limits c.args.bytes.now 0 c.args.self.now.carry.items _ _
+    _ _ _ _ _ _ (omega arith) (s c.args.limits)
     (stops_at_once c.args.limits c.args.bytes.now _ _ _ _ _ e)) c.take_line.ensures.kept
 
 pub returns-clause-ok : goal.returns-clause-ok
 returns-clause-ok c =
     let none : c.in_ok-taken.taken ≡ 0 = omega arith in
     let s = rw none at c.in_ok-taken.ensures.ok in
-    IfOk-weaker c.take_line.result _ _ (λ n a. advances_append c.args.limits [] (take n c.args.bytes.now) c.args.self.now.carry.items _ _ _ _ _ _ _ _ _ _ _ (s c.args.limits) a) c.take_line.ensures.ok
+    IfOk-weaker c.take_line.result _ _ (λ n a. advances_append c.args.limits [] (take n c.args.bytes.now)
+    c.args.self.now.carry.items _ _ _ _ _ _ _ _ _ _ _ (s c.args.limits) a) c.take_line.ensures.ok
 
 pub returns-clause-err : goal.returns-clause-err
 returns-clause-err c =
     let none : c.in_ok-taken.taken ≡ 0 = omega arith in
     let s = rw none at c.in_ok-taken.ensures.ok in
-    IfErr-weaker c.take_line.result _ _ (λ f h. shows_later c.args.limits [] c.args.bytes.now c.args.self.now.carry.items _ _ _ _ _ _ _ f.kind f.line (s c.args.limits) h) c.take_line.ensures.err
+    IfErr-weaker c.take_line.result _ _ (λ f h. shows_later c.args.limits [] c.args.bytes.now
+    c.args.self.now.carry.items _ _ _ _ _ _ _ f.kind f.line (s c.args.limits) h) c.take_line.ensures.err

@@ -15,11 +15,17 @@ returns-in_err-taken-clause-kept c =
 
 pub returns-clause-ok : goal.returns-clause-ok
 returns-clause-ok c =
-    takes_pending c.args.self.now _ c.in_ok-taken.taken c.args.block.now.items c.take_lines.new.block.items refl refl refl refl refl
+    takes_pending c.args.self.now _ c.in_ok-taken.taken c.args.block.now.items c.take_lines.new.block.items refl refl
+    refl refl refl
     (rw c.deref.ensures.value at c.in_ok-taken.ensures.within) (rw c.deref.ensures.value at c.in_ok-taken.ensures.ok)
 
 pub returns-clause-rest : goal.returns-clause-rest
 returns-clause-rest c = λ room.
     let line = rw c.deref.ensures.value at c.in_ok-taken.ensures.rest room in
     let n = rw c.deref.ensures.value at c.in_ok-taken.ensures.within in
-    rw (pending_rest c.args.self.now.piece.items c.args.self.now.start c.args.self.now.end c.in_ok-taken.taken (omega (arith, length-take (c.args.self.now.end - c.args.self.now.start) (drop c.args.self.now.start c.args.self.now.piece.items)))) line
+    rw (pending_rest c.args.self.now.piece.items c.args.self.now.start c.args.self.now.end c.in_ok-taken.taken
+    (omega (
+      arith,
+      length-take (c.args.self.now.end - c.args.self.now.start)
+          (drop c.args.self.now.start c.args.self.now.piece.items),
+    ))) line

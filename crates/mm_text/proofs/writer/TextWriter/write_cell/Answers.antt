@@ -10,4 +10,5 @@ returns-in_err-make_room-clause-err g c =
 
 pub returns-clause-ok : goal.returns-clause-ok
 returns-clause-ok g c = λ s text h.
-    written_more _ _ s _ text _ _ _ (c.in_ok-make_room.ensures.ok s text h) c.push_cell.ensures.taken c.push_cell.ensures.pending
+    written_more _ _ s _ text _ _ _ (c.in_ok-make_room.ensures.ok s text h) c.push_cell.ensures.taken
+    c.push_cell.ensures.pending

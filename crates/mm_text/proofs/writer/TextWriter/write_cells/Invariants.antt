@@ -10,5 +10,6 @@ invariant-loop-cell g l = record {
   failures : g.W.Sink.failure_count l.w ≡ g.W.Sink.failure_count l.initial.w;
   written : (s : g.row.W.Denot) (text : List ℕ) →
       HasWritten g.W.Sink.write_takes g.W.Sink.failure_count s l.initial.w text l.initial.self →
-      HasWritten g.W.Sink.write_takes g.W.Sink.failure_count s l.w (text ++ entry_lines (take l.cell-index l.cells)) l.self;
+      HasWritten g.W.Sink.write_takes g.W.Sink.failure_count s l.w (text ++ entry_lines (take l.cell-index l.cells))
+      l.self;
 }
