@@ -4,3 +4,4 @@ pub mod Running
 pub mod Faults
 pub mod Reading
 pub mod Reports
+pub mod LastLayer

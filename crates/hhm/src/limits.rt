@@ -11,5 +11,9 @@ pub const TEXT_LIMITS: TextLimits = TextLimits {
 /// The most cells of a text's list that go into the layers at once.
 pub const BLOCK_CELLS: usize = 4_096;
 
+/// Entries: the most that the first part of the last layer takes, at most 65 bytes each, so some 4 MB. Measured on two
+/// million cells with the cut 4,096: with 32,768 a tenth slower, with 131,072 as fast.
+pub const LATEST_ENTRIES: u64 = 65_536;
+
 /// The most digits that a number of an option has.
 pub const MAX_DIGITS: usize = 20;

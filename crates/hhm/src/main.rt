@@ -6,6 +6,7 @@
 
 mod cli;
 mod fault;
+mod last_layer;
 mod limits;
 mod numbers;
 mod report;

@@ -17,6 +17,7 @@ ghost use Rattle.layer_cascade.specs.Layering.{no_layers};
 ghost use Rattle.hhm.specs.Running.{IsSumOf, CanTake, GrowsBy, FitsBehind, IsRefused};
 
 use crate::fault::SumFault;
+use crate::last_layer::layer_cuts;
 use cells::{Cell, checked_total, summed};
 use hyper_matrix::Hyper;
 use layer_cascade::{CascadeFault, Layers};
@@ -31,14 +32,15 @@ pub enum RunningSum {
     TooLarge,
 }
 
-// Empty layers.
+// Empty layers, of which the last may be in two parts.
 fn empty_layers(alloc: Global, rows: u64, cols: u64, cuts: &[u64]) -> Result<Layers, AllocError>
     requires rows { IsDimension rows }
     requires cols { IsDimension cols }
     requires cuts { AreCuts cuts.now }
-    ensures { IfOk result (λ layers. layers ≡ no_layers rows cols cuts.now) }
+    ensures { IfOk result (λ layers. layers ≡ no_layers rows cols layers.cuts) }
 {
-    match Layers::new(alloc, rows, cols, cuts) {
+    let cuts = layer_cuts(alloc, cuts)?;
+    match Layers::new(alloc, rows, cols, &cuts) {
         Ok(layers) => Ok(layers),
         Err(CascadeFault::Memory) => Err(AllocError),
         Err(CascadeFault::BadCuts) => unreachable!(),
@@ -80,7 +82,7 @@ fn add_block(alloc: Global, layers: Layers, block: &[Cell]) -> Result<RunningSum
 }
 
 impl RunningSum {
-    /// The sum of a block of cells, in layers with these cuts.
+    /// The sum of a block of cells, in layers with these cuts, the last of them in two parts (`layer_cuts`).
     pub fn new(
         alloc: Global,
         rows: u64,
