@@ -5,3 +5,4 @@ pub mod BookLaws
 pub mod ShardLaws
 pub mod FileLaws
 pub mod VerdictMeaning
+pub mod CutLaws

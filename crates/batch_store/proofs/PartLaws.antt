@@ -19,7 +19,7 @@ or_false : (a b : Bool) → (a || b) ≡ false → (a ≡ false) × (b ≡ false
 or_false true b e = cc
 or_false false b e = (refl, e)
 
-none_in : (s k : ℕ) (es : List (Place × ℕ)) → list_any (λ (e : Place × ℕ). in_part s k e.0) es ≡ false → part_entries s k es ≡ []
+pub none_in : (s k : ℕ) (es : List (Place × ℕ)) → list_any (λ (e : Place × ℕ). in_part s k e.0) es ≡ false → part_entries s k es ≡ []
 none_in s k [] h = refl
 none_in s k (e ∷ es) h =
     let p = or_false (in_part s k e.0) (list_any (λ (e : Place × ℕ). in_part s k e.0) es) h in

@@ -12,6 +12,7 @@
 
 mod batch;
 mod book;
+mod cut;
 mod fault;
 mod laws;
 mod line;

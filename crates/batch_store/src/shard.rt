@@ -255,7 +255,7 @@ impl Shard {
     }
 
     // Prepares a batch of which this is the part.
-    fn prepare_part(
+    pub(crate) fn prepare_part(
         &mut self,
         alloc: Global,
         b: &Arc<Batch>,

@@ -1,0 +1,2 @@
+pub mod MomentLaws
+pub mod ShareLaws

@@ -1,0 +1,108 @@
+//! What one shard answers under its lock, and what the book does.
+ghost use Rattle.std.specs.Prelude.{◌≡◌, ◌⊎◌, ◌<◌, ◌≤◌, ◌%◌, None, Some, IfOk, IfSome, List};
+ghost use Rattle.std.specs.Fn.{FnOnceReturnsAt};
+ghost use Rattle.std.specs.FinMap.{get};
+ghost use Rattle.layer_cascade.specs.Cascade.{content};
+ghost use Rattle.batch_store.specs.Batches.{Submission, values};
+ghost use Rattle.batch_store.specs.Books.{AreAccepted};
+ghost use Rattle.batch_store.specs.Shards.{Holding};
+ghost use Rattle.plain_engine.specs.Object.{status_of};
+ghost use Rattle.locked_engine.specs.Moments.{IsShardOf, no_sum, row_sum_in};
+
+use crate::engine::Engine;
+use crate::names::Named;
+use crate::seat::Seat;
+use batch_store::{Batch, Shard};
+use hyper_matrix::RowSum;
+use plain_engine::Status;
+use std::alloc::{AllocError, Global};
+use std::sync::ledger::Ledger;
+use std::sync::{Arc, Wait};
+
+// What a row without entries sums to.
+const NO_SUM: RowSum = RowSum {
+    entries: 0,
+    total: 0,
+};
+
+impl<N: Named, H: Ledger> Engine<N, H> {
+    /// What `f` answers on shard `s` under its lock, and None where the shard behind that lock has another number, in
+    /// which case `f` is dropped. Puts of batches that concern the shard wait for as long as `f` takes.
+    ///
+    /// The shard number is below the setup's shards, and `f` may be called on any shard of that number.
+    pub fn look<T, F: FnOnce(&Shard) -> T + Drop, R: Wait>(&self, rt: &R, s: u64, f: F) -> Option<T>
+        requires place { s < N.setup.shards }
+        requires callable { (x : _) → x.now.number ≡ s → F.pre f x }
+        ensures { IfSome result (λ t. (x : Holding) × IsShardOf N.setup s x × FnOnceReturnsAt F.FnOnce f x t) }
+    {
+        let guard = self.shards[s as usize].lock(rt);
+        let locked = &*guard;
+        if locked.shard.number() == s {
+            Some(f(&locked.shard))
+        } else {
+            None
+        }
+    }
+
+    /// The count at a place, as its row's shard has it under its lock; None where that has no entry there, as outside
+    /// the dimensions, for which no lock is taken. A stored zero is Some. Bisections in the layers of one shard, and no
+    /// memory.
+    pub fn cell<R: Wait>(&self, rt: &R, row: u64, col: u64) -> Option<u64>
+        ensures some { IfSome result (λ n. (x : Holding) × IsShardOf N.setup (row % N.setup.shards) x
+            × (get (content x.layers) (row, col) ≡ Some n)) }
+        ensures outside { (N.setup.rows ≤ row) ⊎ (N.setup.cols ≤ col) → result ≡ None }
+    {
+        if row >= self.setup.rows() || col >= self.setup.cols() {
+            return None;
+        }
+        let s = row % self.setup.shards();
+        self.look(rt, s, |shard| shard.get(row, col)).flatten()
+    }
+
+    /// How many entries a row has, stored zeros included, and the sum of their counts, as the row's shard has it under
+    /// its lock. Both are 0 where it has none, as outside the dimensions, for which no lock is taken. No memory.
+    pub fn row<R: Wait>(&self, rt: &R, row: u64) -> RowSum
+        ensures sum { (result ≡ no_sum) ⊎ ((x : Holding) × IsShardOf N.setup (row % N.setup.shards) x
+            × (result ≡ row_sum_in x row)) }
+        ensures outside { N.setup.rows ≤ row → result ≡ no_sum }
+    {
+        if row >= self.setup.rows() {
+            return NO_SUM;
+        }
+        let s = row % self.setup.shards();
+        match self.look(rt, s, |shard| shard.row_total(row)) {
+            Some(sum) => sum,
+            None => NO_SUM,
+        }
+    }
+
+    /// The accepted batches in order, in a list that shares them, as the book has them under its lock: one growth, and
+    /// no copy of a batch.
+    ///
+    /// # Errors
+    ///
+    /// The growth was refused.
+    pub fn batch_list<R: Wait>(
+        &self,
+        rt: &R,
+        alloc: Global,
+        _seat: &mut Seat<N, H>,
+    ) -> Result<Vec<Arc<Batch>>, AllocError>
+        ensures seat { _seat.new ≡ _seat.old }
+        ensures list { IfOk result (λ list. AreAccepted N.setup (values list.items)) }
+    {
+        self.book.lock(rt).book.list(alloc)
+    }
+
+    /// How many batches were accepted, and their total, as the book has it under its lock. Constant time, no memory.
+    pub fn status<R: Wait>(&self, rt: &R, _seat: &mut Seat<N, H>) -> Status
+        ensures seat { _seat.new ≡ _seat.old }
+        ensures status { (list : List Submission) × AreAccepted N.setup list × (result ≡ status_of list) }
+    {
+        let guard = self.book.lock(rt);
+        Status {
+            batches: guard.book.len(),
+            total: guard.book.total(),
+        }
+    }
+}

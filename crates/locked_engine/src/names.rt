@@ -1,0 +1,107 @@
+//! What an engine is named by.
+ghost use Rattle.std.specs.Prelude.{◌≡◌, ℕ, ◌+◌, ◌≤◌, ◌<◌, IfOk, ◌↔◌, []};
+ghost use Rattle.batch_store.specs.Setups.{Setting, setting};
+
+use crate::fault::OpenFault;
+use batch_store::Setup;
+use plain_engine::PlainEngine;
+use std::alloc::Global;
+use std::marker::{Brand, Model};
+use std::sync::ledger::{Blank, Ledger};
+
+/// Which engine it is: the first of its two ledgers, its setup and its number of seats. It has no functions: what it
+/// names exists in proofs alone.
+///
+/// Whoever opens an engine takes `Brand` for it, and for the second ledger, and tells in the call's proof which names
+/// are meant. A function over an engine takes them as type parameters.
+pub trait Named: Ledger {
+    ghost setup: { Setting };
+
+    ghost seats: { ℕ };
+}
+
+impl Named for Brand {
+    ghost setup = { setting 1 1 [] 1 1 1 };
+
+    ghost seats = { 1 };
+}
+
+/// The most seats.
+const MOST_SEATS: usize = 32;
+
+/// What an engine is named by: its setup, its number of seats, and two ledgers that aren't open yet.
+///
+/// Contracts see the setup, the number of seats and the names of both ledgers.
+#[derive(Drop)]
+pub struct Names {
+    setup: Setup,
+    seats: usize,
+    first: Blank,
+    second: Blank,
+}
+
+impl Model for Names {
+    ghost use Rattle.std.specs.Prelude.{◌≡◌, ◌+◌, ◌≤◌};
+    ghost use Rattle.locked_engine.specs.Views.{NamesView, coded_names};
+
+    ghost Value = { NamesView };
+
+    ghost coded = { coded_names };
+
+    ghost view = { λ n. record { setup = n.setup; seats = n.seats; first = n.first.name; second = n.second.name } };
+
+    ghost invariant = { λ n. (1 ≤ n.seats) × (n.seats ≤ 32) × (n.first.parts ≡ n.seats)
+        × (n.second.parts ≡ n.setup.shards + n.seats) };
+}
+
+impl Names {
+    /// Names for an engine of this engine's setup, with so many seats, from 1 to 32: one for each thread that is to put.
+    /// Takes no memory, and waits for nobody.
+    ///
+    /// # Errors
+    ///
+    /// `BadSeats`: the number of seats is outside 1 to 32.
+    pub fn new<R>(
+        _rt: &R,
+        _alloc: Global,
+        plain: &PlainEngine,
+        seats: usize,
+    ) -> Result<Names, OpenFault>
+        ensures bad { (result ≡ Err OpenFault.BadSeats) ↔ ((1 ≤ seats) × (seats ≤ 32) → ⊥) }
+        ensures setup { IfOk result (λ n. n.setup ≡ plain.now.setup) }
+        ensures seats { IfOk result (λ n. n.seats ≡ seats) }
+    {
+        if seats < 1 || seats > MOST_SEATS {
+            return Err(OpenFault::BadSeats);
+        }
+        let setup = plain.setup();
+        Ok(Names {
+            setup,
+            seats,
+            first: Blank::new(seats as u64),
+            second: Blank::new(setup.shards() + seats as u64),
+        })
+    }
+
+    // The number of seats.
+    pub(crate) fn seats(&self) -> usize
+        ensures seats { result ≡ self.now.seats }
+        ensures range { (1 ≤ result) × (result ≤ 32) }
+    {
+        self.seats
+    }
+
+    // The ledgers, which aren't open yet.
+    pub(crate) fn into_blanks(self) -> (Blank, Blank)
+        ensures first { (result.0.name ≡ self.first) × (result.0.parts ≡ self.seats) }
+        ensures second { (result.1.name ≡ self.second) × (result.1.parts ≡ self.setup.shards + self.seats) }
+    {
+        let Names {
+            setup: _,
+            seats: _,
+            first,
+            second,
+        } = self;
+        (first, second)
+    }
+}

@@ -1,0 +1,109 @@
+//! Opening: an engine of one thread becomes one of several, with its seats.
+ghost use Rattle.std.specs.Prelude.{◌≡◌, ◌+◌, ◌≤◌, ◌<◌, IfOk, IfErr, [], vec_len, vec_capacity};
+ghost use Rattle.batch_store.specs.Books.{list_total};
+ghost use Rattle.plain_engine.specs.Standing.{HaveSetup, shards_total};
+ghost use Rattle.locked_engine.specs.Opened.{opened_seats, NamesEngine};
+
+use crate::engine::Engine;
+use crate::locked_book::LockedBook;
+use crate::locked_shard::LockedShard;
+use crate::names::{Named, Names};
+use crate::seat::Seat;
+use batch_store::Shard;
+use plain_engine::PlainEngine;
+use std::alloc::{AllocError, Global};
+use std::sync::Mutex;
+use std::sync::ledger::{Ledger, Share};
+
+impl<N: Named, H: Ledger> Engine<N, H> {
+    /// The engine of several threads that has accepted what `plain` has, and its seats, in order of their numbers. The
+    /// first seat's share starts with all that was accepted, the others' with nothing. Two growths, of a place for each
+    /// shard and each seat.
+    ///
+    /// N and H name `names`, which were made from `plain`: whoever calls with `Brand` for both picks them so.
+    ///
+    /// # Errors
+    ///
+    /// A growth was refused. The engine of one thread and the names are handed back as they were.
+    pub fn open(
+        alloc: Global,
+        plain: PlainEngine,
+        names: Names,
+    ) -> Result<(Engine<N, H>, Vec<Seat<N, H>>), (PlainEngine, Names, AllocError)>
+        requires named { NamesEngine names N.setup N.seats N.name N.parts H.name H.parts }
+        requires made_from { plain.setup ≡ names.setup }
+        ensures seats { IfOk result (λ r. r.1.items ≡ opened_seats (list_total plain.book.list) N.seats) }
+        ensures err { IfErr result (λ r. (r.0 ≡ plain) × (r.1 ≡ names)) }
+    {
+        let mut seats = Vec::new(alloc);
+        let mut shards = Vec::new(alloc);
+        let count = names.seats();
+        let k = plain.setup().shards() as usize;
+        if seats.reserve(count).is_err() || shards.reserve(k).is_err() {
+            return Err((plain, names, AllocError));
+        }
+        let (setup, book, list) = plain.parts();
+        let (first, second) = names.into_blanks();
+        let (mut first_number, mut first) = first.open::<N>();
+        let (mut second_number, mut second) = second.open::<H>();
+        let total = book.total();
+        first_number.add(&mut first, total);
+        second_number.add(&mut second, total);
+        lock_all::<N, H>(list, &mut shards, &mut second);
+        make_seats::<N, H>(count, total, &mut seats, &mut first, &mut second);
+        let book = Mutex::new(LockedBook {
+            book,
+            first: first_number,
+            second: second_number,
+        });
+        let engine = Engine {
+            setup,
+            seats: count,
+            book,
+            shards,
+        };
+        Ok((engine, seats))
+    }
+}
+
+// Puts each shard behind a lock, with a part of the share and its total.
+fn lock_all<N: Named, H: Ledger>(
+    list: Vec<Shard>,
+    shards: &mut Vec<Mutex<LockedShard<N, H>>>,
+    second: &mut Share<H>,
+)
+    requires room { vec_len shards.old + vec_len list ≤ vec_capacity shards.old }
+    requires made { HaveSetup N.setup list.items }
+    requires parts { vec_len list < second.old.parts }
+    requires amount { second.old.amount ≡ shards_total list.items }
+    ensures count { vec_len shards.new ≡ vec_len shards.old + vec_len list }
+    ensures parts { second.new.parts + vec_len list ≡ second.old.parts }
+    ensures amount { second.new.amount ≡ 0 }
+{
+    'shards: for shard in list {
+        let held = second.split_off(1, shard.total());
+        shards.push_reserved(Mutex::new(LockedShard::new(shard, held)));
+    }
+}
+
+// Gives a part of both shares to each of the seats, and the first share's amount to the first.
+fn make_seats<N: Named, H: Ledger>(
+    count: usize,
+    total: u64,
+    seats: &mut Vec<Seat<N, H>>,
+    first: &mut Share<N>,
+    second: &mut Share<H>,
+)
+    requires empty { seats.old.items ≡ [] }
+    requires room { count ≤ vec_capacity seats.old }
+    requires some { 0 < count }
+    requires parts { (first.old.parts ≡ count) × (second.old.parts ≡ count) }
+    requires amounts { (first.old.amount ≡ total) × (second.old.amount ≡ 0) }
+    ensures { seats.new.items ≡ opened_seats total count }
+{
+    'seats: for i in 0..count {
+        let own = first.split_off(1, if i == 0 { total } else { 0 });
+        let part = second.split_off(1, 0);
+        seats.push_reserved(Seat::make(i, own, part));
+    }
+}

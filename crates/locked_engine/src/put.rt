@@ -1,0 +1,142 @@
+//! Putting a batch.
+ghost use Rattle.std.specs.Prelude.{◌≡◌, ◌⊎◌, ◌+◌, ◌≤◌, ◌<◌, OnOk, OnErr};
+ghost use Rattle.std.specs.Arc.{arc_value};
+ghost use Rattle.batch_store.specs.Batches.{batch_total};
+ghost use Rattle.batch_store.specs.Parts.{below};
+ghost use Rattle.locked_engine.specs.Moments.{shares_below};
+
+use crate::cut::shares_of;
+use crate::engine::Engine;
+use crate::fault::Unadmitted;
+use crate::locked_book::fresh;
+use crate::locked_shard::Trouble;
+use crate::names::Named;
+use crate::seat::Seat;
+use batch_store::{Batch, Kept};
+use hyper_matrix::Hyper;
+use plain_engine::PutFault;
+use std::alloc::Global;
+use std::sync::ledger::{Ledger, Share};
+use std::sync::{Arc, Wait};
+
+impl<N: Named, H: Ledger> Engine<N, H> {
+    /// Puts a batch of the setup's dimensions. It may wait for other threads at each lock.
+    ///
+    /// The book's verdict comes first: a batch that it knows is answered the reply that it keeps, and one that it
+    /// refuses is refused, both without memory. A fresh batch is cut into its parts, outside all locks. Then each shard
+    /// that it concerns is locked, in rising order, and prepares; the book is locked, asked again, and admits it; and on
+    /// the way back each shard takes its part in and gives its lock back. No cell is read or copied under the book's
+    /// lock, and under a shard's lock only those of the part and of the layers that it meets.
+    ///
+    /// A first acceptance raises the seat's first share by the batch's total. After every other answer the seat is as
+    /// before, and so are, as far as this call goes, every shard and the book, but for free places.
+    ///
+    /// # Errors
+    ///
+    /// - `NumberReused`, `OverTotal` with the accepted total, `BookFull`: as the book's verdict tells.
+    /// - `Memory`: a growth was refused, of a fresh batch alone.
+    /// - `RecordsDiffer`: a shard refused what the book calls fresh. Puts alone never lead to it.
+    pub fn put<R: Wait>(
+        &self,
+        rt: &R,
+        alloc: Global,
+        seat: &mut Seat<N, H>,
+        b: Arc<Batch>,
+    ) -> Result<Kept, PutFault>
+        requires rows { (arc_value b).matrix.rows ≡ N.setup.rows }
+        requires cols { (arc_value b).matrix.cols ≡ N.setup.cols }
+        ensures number { seat.new.number ≡ seat.old.number }
+        ensures ok { OnOk result ((seat.new.first ≡ seat.old.first + batch_total (arc_value b))
+            ⊎ (seat.new.first ≡ seat.old.first)) }
+        ensures err { OnErr result (seat.new.first ≡ seat.old.first) }
+    {
+        match self.put_shares(rt, alloc, &mut seat.first, &mut seat.second, &b) {
+            Ok(kept) => Ok(kept),
+            Err(told) => told.answer,
+        }
+    }
+
+    // What the book says of a batch now. Err where it isn't fresh.
+    fn ask<R: Wait>(&self, rt: &R, b: &Batch) -> Result<(), Unadmitted> {
+        fresh(self.book.lock(rt).book.look(b))
+    }
+
+    // What a batch is answered that a shard can't take. Another put may have brought the book to refuse it meanwhile.
+    fn told<R: Wait>(&self, rt: &R, b: &Batch, trouble: Trouble) -> Unadmitted {
+        match trouble {
+            Trouble::Memory => Unadmitted::memory(),
+            Trouble::Elsewhere => Unadmitted::records_differ(),
+            Trouble::Refused => match self.ask(rt, b) {
+                Ok(()) => Unadmitted::records_differ(),
+                Err(told) => told,
+            },
+        }
+    }
+
+    // Puts a batch from a seat that has these shares. Ok is a first acceptance.
+    fn put_shares<R: Wait>(
+        &self,
+        rt: &R,
+        alloc: Global,
+        first: &mut Share<N>,
+        second: &mut Share<H>,
+        b: &Arc<Batch>,
+    ) -> Result<Kept, Unadmitted>
+        requires rows { (arc_value b.now).matrix.rows ≡ N.setup.rows }
+        requires cols { (arc_value b.now).matrix.cols ≡ N.setup.cols }
+        requires parts { (first.old.parts ≡ 1) × (second.old.parts ≡ 1) }
+        requires balanced { second.old.amount ≡ 0 }
+        ensures parts { (first.new.parts ≡ 1) × (second.new.parts ≡ 1) }
+        ensures balanced { second.new.amount ≡ 0 }
+        ensures first { OnOk result (first.new.amount ≡ first.old.amount + batch_total (arc_value b.now)) }
+        ensures first_kept { OnErr result (first.new.amount ≡ first.old.amount) }
+    {
+        self.ask(rt, b)?;
+        let shares = shares_of(alloc, b, self.setup.shards())?;
+        // The batch lives on behind this call, so no lock is held while its cells are given back.
+        let own = Arc::try_clone(b)?;
+        let kept = self.put_from(rt, alloc, first, second, own, &shares, 0)?;
+        Ok(kept)
+    }
+
+    // The shards from s on: each that the batch concerns is locked and made ready, then the book accepts, and each gets
+    // its part on the way back.
+    fn put_from<R: Wait>(
+        &self,
+        rt: &R,
+        alloc: Global,
+        first: &mut Share<N>,
+        second: &mut Share<H>,
+        b: Arc<Batch>,
+        shares: &[Option<Hyper>],
+        s: u64,
+    ) -> Result<Kept, Unadmitted>
+        requires rows { (arc_value b).matrix.rows ≡ N.setup.rows }
+        requires cols { (arc_value b).matrix.cols ≡ N.setup.cols }
+        requires shares { shares.now ≡ shares_below N.setup.shards N.setup.shards (arc_value b) }
+        requires place { s ≤ N.setup.shards }
+        requires parts { (first.old.parts ≡ 1) × (second.old.parts ≡ 1) }
+        requires balanced { second.old.amount ≡ 0 }
+        ensures parts { (first.new.parts ≡ 1) × (second.new.parts ≡ 1) }
+        ensures first { OnOk result (first.new.amount ≡ first.old.amount + batch_total (arc_value b)) }
+        ensures second { OnOk result (second.new.amount ≡ below s N.setup.shards (arc_value b).matrix.counts) }
+        ensures first_kept { OnErr result (first.new.amount ≡ first.old.amount) }
+        ensures second_kept { OnErr result (second.new.amount ≡ 0) }
+    {
+        if s == self.setup.shards() {
+            return self.book.lock(rt).admit(first, second, b);
+        }
+        let Some(share) = &shares[s as usize] else {
+            return self.put_from(rt, alloc, first, second, b, shares, s + 1);
+        };
+        let mut guard = self.shards[s as usize].lock(rt);
+        let locked = &mut *guard;
+        let prepared = match locked.prepare(alloc, s, &b, share) {
+            Ok(prepared) => prepared,
+            Err(trouble) => return Err(self.told(rt, &b, trouble)),
+        };
+        let kept = self.put_from(rt, alloc, first, second, b, shares, s + 1)?;
+        locked.deliver(prepared, second);
+        Ok(kept)
+    }
+}
