@@ -7,3 +7,4 @@ pub mod SessionLemmas
 pub mod PutLemmas
 pub mod StreamLemmas
 pub mod RoundLemmas
+pub mod PlainLemmas

@@ -4,6 +4,7 @@ use Rattle.wire_proto.specs.Frames.{front, Gives, Message, frames, frames_by, fr
 use Rattle.wire_proto.specs.Keeping.{Event}
 use Rattle.wire_proto.specs.Answering.{Answers, asked, unasked}
 use Rattle.wire_proto.specs.Sessions.{AnswersAll}
+use Rattle.wire_proto.specs.Plain.{GoOn}
 use Rattle.wire_proto.specs.declared.request.Request.{Request}
 use Rattle.wire_proto.specs.declared.request.Request.TheVariants.{Put, Cell, Row, Status, Export, Save, Stop}
 use Rattle.wire_proto.specs.declared.request.FrameFault.{FrameFault}
@@ -57,11 +58,7 @@ gives_frames bytes [] kept e = ap frames e
 gives_frames bytes (r ∷ rs) kept a = frames_request bytes r a.0 a.1 ∙ ap (λ ms. Ok r ∷ ms) (gives_frames a.0 rs kept a.2)
 
 -- a Stop is never answered in the middle
-abbrev NoStops : List Request → Type 0
-NoStops [] = Unit {0}
-NoStops (r ∷ rs) = (r ≡ Stop → ⊥) × NoStops rs
-
-goes_on : {S : Type 0} (gives : S → Event → S → Type 0) (setup : Setting) (r : Request) (reply : List ℕ) (s t : S) → Answers gives setup r reply s t → r ≡ Stop → ⊥
+pub goes_on : {S : Type 0} (gives : S → Event → S → Type 0) (setup : Setting) (r : Request) (reply : List ℕ) (s t : S) → Answers gives setup r reply s t → r ≡ Stop → ⊥
 goes_on gives setup Stop reply s t (asked e a h i) is = a
 goes_on gives setup Stop reply s t (unasked a h) is = a
 goes_on gives setup (Put x y z) reply s t h is = cc
@@ -71,7 +68,7 @@ goes_on gives setup Status reply s t h is = cc
 goes_on gives setup Export reply s t h is = cc
 goes_on gives setup Save reply s t h is = cc
 
-none_stops : {S : Type 0} (gives : S → Event → S → Type 0) (setup : Setting) (s t : S) (rs : List Request) (bytes : List ℕ) → AnswersAll gives setup s rs bytes t → NoStops rs
+pub none_stops : {S : Type 0} (gives : S → Event → S → Type 0) (setup : Setting) (s t : S) (rs : List Request) (bytes : List ℕ) → AnswersAll gives setup s rs bytes t → GoOn rs
 none_stops gives setup s t [] bytes a = tt
 none_stops gives setup s t (r ∷ rs) bytes a = (goes_on gives setup r a.1 s a.0 a.3, none_stops gives setup a.0 t rs a.2 a.5)
 
@@ -84,7 +81,7 @@ up_more Export ms h = refl
 up_more Save ms h = refl
 up_more Stop ms h = absurd (h refl)
 
-up_all : (rs : List Request) (ms : List Message) → NoStops rs → up_to_stop (map (λ r. Ok r) rs ++ ms) ≡ map (λ r. Ok r) rs ++ up_to_stop ms
+up_all : (rs : List Request) (ms : List Message) → GoOn rs → up_to_stop (map (λ r. Ok r) rs ++ ms) ≡ map (λ r. Ok r) rs ++ up_to_stop ms
 up_all [] ms h = refl
 up_all (r ∷ rs) ms h = up_more r (map (λ r. Ok r) rs ++ ms) h.0 ∙ ap (λ l. Ok r ∷ l) (up_all rs ms h.1)
 

@@ -7,3 +7,4 @@ pub mod PutTexts
 pub mod Spelled
 pub mod Closing
 pub mod Sessions
+pub mod Plain
