@@ -1,0 +1,40 @@
+-- A call of a keeper and the reply that it leads to.
+use Rattle.std.proofs.Common.{◌≡◌, ℕ, ◌<◌, ◌≤◌, List, length, refl, sym, ap, Option, Some, Result, Ok}
+use Rattle.std.proofs.lemmas.Bool.{lt-ltb, le-ltb}
+use Rattle.hyper_rows.specs.declared.search.RowSum.{RowSum}
+use Rattle.wire_proto.specs.Keeping.{Event, cell, row, status, export, save}
+use Rattle.wire_proto.specs.Replies.{value, row_sum, counts, save_reply, text, text_reply, matrix_text, refused}
+use Rattle.wire_proto.specs.Answering.{Answers, asked}
+use Rattle.hyper_matrix.specs.Matrix.{Matrix}
+use Rattle.wire_proto.specs.declared.request.Request.TheVariants.{Cell as CellAt, Row, Status, Export, Save}
+use Rattle.batch_store.specs.Setups.{Setting}
+use Rattle.plain_engine.specs.declared.status.Status.{Status as Counted}
+use Rattle.wire_proto.specs.declared.keeper.SaveRefusal.{SaveRefusal}
+
+pub cell_answered : {S : Type 0} (gives : S → Event → S → Type 0) (setup : Setting) (s t : S) (r c : ℕ) (count : Option ℕ) (reply : List ℕ) →
+    r < setup.rows → c < setup.cols → gives s (cell r c count) t → reply ≡ value count → Answers gives setup (CellAt r c) reply s t
+cell_answered gives setup s t r c count reply a b h e = asked (cell r c count) (count, a, b, refl) h (ap (λ x. Some x) (sym e))
+
+pub row_answered : {S : Type 0} (gives : S → Event → S → Type 0) (setup : Setting) (s t : S) (r : ℕ) (sum : RowSum) (reply : List ℕ) →
+    r < setup.rows → gives s (row r sum) t → reply ≡ row_sum sum → Answers gives setup (Row r) reply s t
+row_answered gives setup s t r sum reply a h e = asked (row r sum) (sum, a, refl) h (ap (λ x. Some x) (sym e))
+
+pub status_answered : {S : Type 0} (gives : S → Event → S → Type 0) (setup : Setting) (s t : S) (n : Counted) (reply : List ℕ) →
+    gives s (status n) t → reply ≡ counts n → Answers gives setup Status reply s t
+status_answered gives setup s t n reply h e = asked (status n) (n, refl) h (ap (λ x. Some x) (sym e))
+
+pub save_answered : {S : Type 0} (gives : S → Event → S → Type 0) (setup : Setting) (s t : S) (answer : Result ℕ SaveRefusal) (reply : List ℕ) →
+    gives s (save answer) t → save_reply answer ≡ Some reply → Answers gives setup Save reply s t
+save_answered gives setup s t answer reply h e = asked (save answer) (answer, refl) h e
+
+pub export_answered : {S : Type 0} (gives : S → Event → S → Type 0) (setup : Setting) (s t : S) (m : Matrix) (reply : List ℕ) →
+    gives s (export (Ok m)) t → reply ≡ text_reply (matrix_text m) → Answers gives setup Export reply s t
+export_answered gives setup s t m reply h e = asked (export (Ok m)) (Ok m, refl) h (ap (λ x. Some x) (sym e))
+
+pub text_carried : (bytes : List ℕ) → length bytes ≤ 16777216 → text bytes ≡ text_reply bytes
+unfolding text_reply
+text_carried bytes short = rw (le-ltb 16777216 (length bytes) short) refl
+
+pub text_refused : (bytes reply : List ℕ) → 16777216 < length bytes → reply ≡ refused 40 0 → reply ≡ text_reply bytes
+unfolding text_reply
+text_refused bytes reply long e = rw (lt-ltb 16777216 (length bytes) long) e

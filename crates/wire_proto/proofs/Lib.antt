@@ -1,0 +1,10 @@
+pub mod FrontLemmas
+pub mod AskLemmas
+pub mod TextLemmas
+pub mod SendLemmas
+pub mod LinkLemmas
+pub mod SessionLemmas
+pub mod PutLemmas
+pub mod StreamLemmas
+pub mod RoundLemmas
+pub mod PlainLemmas

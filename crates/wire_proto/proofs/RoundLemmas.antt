@@ -1,0 +1,111 @@
+-- What is spelled as a frame is read again, whatever follows.
+use Rattle.std.proofs.Common.{◌≡◌, ℕ, ◌+◌, ◌<◌, ◌≤◌, ◌^◌, true, List, [], ◌++◌, length, take, drop, refl, sym, ◌∙◌, ap, arith, length-append, Some, None, Ok}
+use Rattle.std.proofs.lemmas.List.{take_at, drop_at, drop-drop}
+use Rattle.std.proofs.lemmas.Bool.{le-ltb, le-leb}
+use Rattle.std.proofs.lemmas.Nat.{from_be_bytes-to_be_bytes_4, from_be_bytes-to_be_bytes_8}
+use Rattle.wire_proto.specs.Frames.{front, frame, head_bytes, number, head_len, head_kind, head_fault, fault_of_kind, length_fits, request_of, number_at, request_frame, HasFrame}
+use Rattle.wire_proto.specs.declared.request.Request.{Request}
+use Rattle.wire_proto.specs.declared.request.Request.TheVariants.{Put, Cell, Row, Status, Export, Save, Stop}
+use Rattle.wire_proto.proofs.FrontLemmas.{front_whole}
+
+kind_read : (k : ℕ) (body more : List ℕ) → head_kind (frame k body ++ more) ≡ k
+unfolding head_kind frame head_bytes
+kind_read k body more = refl
+
+len_read : (k : ℕ) (body more : List ℕ) → length body < 2 ^ 32 → head_len (frame k body ++ more) ≡ length body
+unfolding head_len frame head_bytes
+len_read k body more h = from_be_bytes-to_be_bytes_4 (length body) h
+
+tail_read : (k : ℕ) (body more : List ℕ) → drop 5 (frame k body ++ more) ≡ body ++ more
+unfolding frame head_bytes
+tail_read k body more = refl
+
+frame_len : (k : ℕ) (body more : List ℕ) → length (frame k body ++ more) ≡ 5 + (length body + length more)
+unfolding frame head_bytes
+frame_len k body more = let e = length-append body more in omega arith
+
+faultless_head : (k n : ℕ) → n ≤ 16777216 → length_fits k n ≡ Some true → head_fault k n ≡ None
+unfolding head_fault
+faultless_head k n h e = rw (le-ltb 16777216 n h) (ap fault_of_kind e)
+
+pub front_of_frame : (k : ℕ) (body more : List ℕ) → length body ≤ 16777216 → length_fits k (length body) ≡ Some true →
+    front (frame k body ++ more) ≡ Some (Ok (request_of k body), more)
+front_of_frame k body more short fits =
+    let b = frame k body ++ more in
+    let ek = kind_read k body more in
+    let el = len_read k body more (omega arith) in
+    let n = frame_len k body more in
+    let fault : head_fault (head_kind b) (head_len b) ≡ None = rw (ek, el) (faultless_head k (length body) short fits) in
+    let all = front_whole b (omega arith) fault (omega (arith, el, n)) in
+    let front_is : take (head_len b) (drop 5 b) ≡ body = rw (el, tail_read k body more) (take_at body more (length body) refl) in
+    let rest_is : drop (5 + head_len b) b ≡ more = sym (drop-drop (head_len b) 5 b) ∙ rw (el, tail_read k body more) (drop_at body more (length body) refl) in
+    all ∙ rw (ek, front_is, rest_is) refl
+
+number_first : (n : ℕ) (more : List ℕ) → n < 2 ^ 64 → number_at 0 (number n ++ more) ≡ n
+unfolding number_at number
+number_first n more h = from_be_bytes-to_be_bytes_8 n h
+
+number_second : (m n : ℕ) (more : List ℕ) → n < 2 ^ 64 → number_at 8 (number m ++ number n ++ more) ≡ n
+unfolding number_at number
+number_second m n more h = from_be_bytes-to_be_bytes_8 n h
+
+pair_second : (m n : ℕ) → n < 2 ^ 64 → number_at 8 (number m ++ number n) ≡ n
+unfolding number_at number
+pair_second m n h = from_be_bytes-to_be_bytes_8 n h
+
+lone : (n : ℕ) → n < 2 ^ 64 → number_at 0 (number n) ≡ n
+unfolding number_at number
+lone n h = from_be_bytes-to_be_bytes_8 n h
+
+put_fits : (n : ℕ) → 16 ≤ n → length_fits 1 n ≡ Some true
+unfolding length_fits
+put_fits n h = ap (λ b. Some b) (le-leb 16 n h)
+
+length_number : (n : ℕ) → length (number n) ≡ 8
+unfolding number
+length_number n = refl
+
+pair_fits : (m n : ℕ) → length_fits 2 (length (number m ++ number n)) ≡ Some true
+unfolding length_fits number
+pair_fits m n = refl
+
+one_fits : (n : ℕ) → length_fits 3 (length (number n)) ≡ Some true
+unfolding length_fits number
+one_fits n = refl
+
+put_tail : (client n : ℕ) (text : List ℕ) → drop 16 (number client ++ number n ++ text) ≡ text
+unfolding number
+put_tail client n text = refl
+
+put_second : (m n : ℕ) (text : List ℕ) → n < 2 ^ 64 → number_at 8 (number m ++ number n ++ text) ≡ n
+put_second m n text h = number_second m n text h
+
+put_first : (m n : ℕ) (text : List ℕ) → m < 2 ^ 64 → number_at 0 (number m ++ number n ++ text) ≡ m
+unfolding number_at number
+put_first m n text h = from_be_bytes-to_be_bytes_8 m h
+
+put_read : (client n : ℕ) (text : List ℕ) → client < 2 ^ 64 → n < 2 ^ 64 → request_of 1 (number client ++ number n ++ text) ≡ Put client n text
+unfolding request_of
+put_read client n text h k = rw (put_first client n text h, put_second client n text k, put_tail client n text) refl
+
+cell_read : (row col : ℕ) → row < 2 ^ 64 → col < 2 ^ 64 → request_of 2 (number row ++ number col) ≡ Cell row col
+unfolding request_of
+cell_read row col h k = rw (number_first row (number col) h, pair_second row col k) refl
+
+row_read : (row : ℕ) → row < 2 ^ 64 → request_of 3 (number row) ≡ Row row
+unfolding request_of
+row_read row h = rw (lone row h) refl
+
+-- the front of a request's frame
+pub front_again : (r : Request) (more : List ℕ) → HasFrame r → front (request_frame r ++ more) ≡ Some (Ok r, more)
+unfolding request_of length_fits
+front_again (Put client n text) more h =
+    let long : 16 ≤ length (number client ++ number n ++ text) = omega (arith, length-append (number client ++ number n) text, length-append (number client) (number n), length_number client, length_number n) in
+    front_of_frame 1 (number client ++ number n ++ text) more h.short (put_fits _ long)
+    ∙ ap (λ x. Some (Ok x, more)) (put_read client n text h.numbers.0 h.numbers.1)
+front_again (Cell row col) more h = front_of_frame 2 (number row ++ number col) more h.short (pair_fits row col) ∙ ap (λ x. Some (Ok x, more)) (cell_read row col h.numbers.0 h.numbers.1)
+front_again (Row row) more h = front_of_frame 3 (number row) more h.short (one_fits row) ∙ ap (λ x. Some (Ok x, more)) (row_read row h.numbers)
+front_again Status more h = front_of_frame 4 [] more h.short refl
+front_again Export more h = front_of_frame 5 [] more h.short refl
+front_again Save more h = front_of_frame 6 [] more h.short refl
+front_again Stop more h = front_of_frame 7 [] more h.short refl

@@ -1,0 +1,94 @@
+-- How one request is answered.
+--     PutsBatch       the text of a Put spells a matrix of the setup's dimensions, and this is the batch of its cells
+--     RefusesText     the text is refused, with this code and detail, before the keeper is asked
+--     Asks            the calls of a keeper that a request leads to
+--     Refuses         the replies that a request gets without a call
+--     Answers         a request gets this reply, and leads the keeper from one state to another
+--     RunsOut         memory ran out for this request, before the call that it leads to or in it
+use Rattle.std.specs.Prelude.{◌≡◌, ℕ, ◌+◌, ◌<◌, ◌≤◌, ◌^◌, List, Option, Some, None, Result}
+use Rattle.std.specs.declared.alloc.AllocError.{AllocError}
+use Rattle.cells.specs.declared.cell.Cell.{Cell}
+use Rattle.mm_text.specs.Texts.{Spells, FirstFault}
+use Rattle.mm_text.specs.declared.limits.TextLimits.{TextLimits}
+use Rattle.mm_text.specs.declared.fault.MmKind.{MmKind}
+use Rattle.mm_text.specs.declared.fault.MmKind.TheVariants as kinds
+use Rattle.hyper_rows.specs.declared.search.RowSum.{RowSum}
+use Rattle.hyper_matrix.specs.Matrix.{Matrix, matrix}
+use Rattle.hyper_matrix.specs.Cells.{built_of, cell_total}
+use Rattle.batch_store.specs.Setups.{Setting}
+use Rattle.batch_store.specs.Batches.{Submission, submission}
+use Rattle.batch_store.specs.declared.verdict.Kept.{Kept}
+use Rattle.plain_engine.specs.declared.status.Status.{Status as Counted}
+use Rattle.plain_engine.specs.declared.fault.PutFault.{PutFault}
+use Rattle.wire_proto.specs.Keeping.{Event, put, cell, row, status, export, save}
+use Rattle.wire_proto.specs.Replies.{reply_of, refused}
+use Rattle.wire_proto.specs.declared.request.Request.{Request}
+use Rattle.wire_proto.specs.declared.request.Request.TheVariants.{Put, Cell as CellAt, Row, Status, Export, Save, Stop}
+use Rattle.wire_proto.specs.declared.keeper.SaveRefusal.{SaveRefusal}
+
+-- the limits of a Put's text
+abbrev pub put_limits : TextLimits
+put_limits = record { max_bytes = 16777216; max_entries = 1048576 }
+
+-- the kinds of faults of a text are numbered
+abbrev pub kind_number : MmKind → ℕ
+kind_number kinds.Read = 1
+kind_number kinds.Memory = 2
+kind_number kinds.BadBanner = 3
+kind_number kinds.Unsupported = 4
+kind_number kinds.LineTooLong = 5
+kind_number kinds.BadSize = 6
+kind_number kinds.BadDimension = 7
+kind_number kinds.NotSquare = 8
+kind_number kinds.TooManyEntries = 9
+kind_number kinds.BadEntry = 10
+kind_number kinds.Negative = 11
+kind_number kinds.NumberTooLarge = 12
+kind_number kinds.IndexOutOfRange = 13
+kind_number kinds.TooFewEntries = 14
+kind_number kinds.ExtraText = 15
+kind_number kinds.TooLong = 16
+
+pub record PutsBatch (setup : Setting) (client n : ℕ) (bytes : List ℕ) (batch : Submission) : Type 0 where
+  pub cells : List Cell
+  pub spells : Spells bytes put_limits setup.rows setup.cols cells
+  pub fits : cell_total cells < 2 ^ 64
+  pub batch_is : batch ≡ submission client n (matrix setup.rows setup.cols (built_of cells))
+
+-- The text has a first fault; or it spells a matrix of other dimensions, or cells whose counts don't fit 64 bits.
+pub data RefusesText (setup : Setting) (bytes : List ℕ) (code detail : ℕ) : Type 0 where
+  faulty : (kind : MmKind) (line : ℕ) → FirstFault bytes put_limits kind line →
+      code ≡ 100 + kind_number kind → detail ≡ line → RefusesText setup bytes code detail
+  differs : (rows cols : ℕ) (cells : List Cell) → Spells bytes put_limits rows cols cells →
+      ((rows ≡ setup.rows) × (cols ≡ setup.cols) → ⊥) → code ≡ 20 → detail ≡ 0 → RefusesText setup bytes code detail
+  too_large : (cells : List Cell) → Spells bytes put_limits setup.rows setup.cols cells →
+      2 ^ 64 ≤ cell_total cells → code ≡ 21 → detail ≡ 0 → RefusesText setup bytes code detail
+
+abbrev pub Asks : Setting → Request → Event → Type 0
+Asks setup (Put client n bytes) e =
+    (batch : Submission) × (answer : Result Kept PutFault) × PutsBatch setup client n bytes batch × (e ≡ put batch answer)
+Asks setup (CellAt r c) e = (count : Option ℕ) × (r < setup.rows) × (c < setup.cols) × (e ≡ cell r c count)
+Asks setup (Row r) e = (sum : RowSum) × (r < setup.rows) × (e ≡ row r sum)
+Asks setup Status e = (s : Counted) × (e ≡ status s)
+Asks setup Export e = (answer : Result Matrix AllocError) × (e ≡ export answer)
+Asks setup Save e = (answer : Result ℕ SaveRefusal) × (e ≡ save answer)
+Asks setup Stop e = ⊥
+
+abbrev pub Refuses : Setting → Request → List ℕ → Type 0
+Refuses setup (Put client n bytes) reply =
+    (code : ℕ) × (detail : ℕ) × RefusesText setup bytes code detail × (reply ≡ refused code detail)
+Refuses setup (CellAt r c) reply = ((r < setup.rows) × (c < setup.cols) → ⊥) × (reply ≡ refused 41 0)
+Refuses setup (Row r) reply = (r < setup.rows → ⊥) × (reply ≡ refused 41 0)
+Refuses setup Status reply = ⊥
+Refuses setup Export reply = ⊥
+Refuses setup Save reply = ⊥
+Refuses setup Stop reply = ⊥
+
+-- `gives s e t`: the keeper may answer this call in state s, and then stands in state t.
+pub data Answers {S : Type 0} (gives : S → Event → S → Type 0) (setup : Setting) (r : Request) (reply : List ℕ) (s t : S) : Type 0 where
+  asked : (e : Event) → Asks setup r e → gives s e t → reply_of e ≡ Some reply → Answers gives setup r reply s t
+  unasked : Refuses setup r reply → t ≡ s → Answers gives setup r reply s t
+
+pub data RunsOut {S : Type 0} (gives : S → Event → S → Type 0) (setup : Setting) (r : Request) (s t : S) : Type 0 where
+  before_call : t ≡ s → RunsOut gives setup r s t
+  in_call : (e : Event) → Asks setup r e → gives s e t → reply_of e ≡ None → RunsOut gives setup r s t

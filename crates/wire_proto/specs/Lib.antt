@@ -1,0 +1,10 @@
+pub mod Frames
+pub mod Looks
+pub mod Keeping
+pub mod Replies
+pub mod Answering
+pub mod PutTexts
+pub mod Spelled
+pub mod Closing
+pub mod Sessions
+pub mod Plain

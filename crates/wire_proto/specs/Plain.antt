@@ -1,0 +1,116 @@
+-- Sessions over the engine of one thread, whose state is the list of accepted batches alone.
+--     PlainGives          what the engine answers to a call, and the list that it leaves
+--     AnswersMessages     these bytes answer the messages, one after another: each request as a keeper does, a Stop and
+--                         a bad header as the last
+--     IsAnswered          the same over the engine of one thread: of the list before and the messages, the bytes and
+--                         the list after are a function
+--     EndsPlain           how a session over it ends, by cases
+use Rattle.std.specs.Prelude.{◌≡◌, ◌⊎◌, ℕ, ◌+◌, ◌<◌, ◌≤◌, List, [], ◌∷◌, ◌++◌, length, take, map, None, Ok, Err}
+use Rattle.byte_io.specs.Streams.{Answer}
+use Rattle.byte_io.specs.Writing.{HasStopped}
+use Rattle.batch_store.specs.Setups.{Setting}
+use Rattle.batch_store.specs.Batches.{Submission}
+use Rattle.plain_engine.specs.Object.{Puts, cell_of, row_sum_of, export_of, status_of}
+use Rattle.wire_proto.specs.Frames.{Message, front, Gives, messages}
+use Rattle.wire_proto.specs.Keeping.{Event, put, cell, row, status, export, save}
+use Rattle.wire_proto.specs.Replies.{stopping, refused, fault_code}
+use Rattle.wire_proto.specs.Answering.{Answers}
+use Rattle.wire_proto.specs.Sessions.{Talks}
+use Rattle.wire_proto.specs.declared.request.Request.{Request}
+use Rattle.wire_proto.specs.declared.request.Request.TheVariants.{Stop}
+use Rattle.wire_proto.specs.declared.request.FrameFault.{FrameFault}
+use Rattle.wire_proto.specs.declared.keeper.SaveRefusal.TheVariants.{SaveOff}
+use Rattle.wire_proto.specs.declared.ended.Ended.{Ended}
+use Rattle.wire_proto.specs.declared.ended.Ended.TheVariants.{Closed, ReadFault, WriteFault, BadFrame, Memory, Stopped, TooManyTurns}
+
+abbrev pub PlainGives : Setting → List Submission → Event → List Submission → Type 0
+PlainGives v list (put batch answer) after = Puts v list batch answer after
+PlainGives v list (cell r c count) after = (count ≡ cell_of list r c) × (after ≡ list)
+PlainGives v list (row r sum) after = (sum ≡ row_sum_of list r) × (after ≡ list)
+PlainGives v list (status s) after = (s ≡ status_of list) × (after ≡ list)
+PlainGives v list (export (Ok m)) after = (m ≡ export_of v list) × (after ≡ list)
+PlainGives v list (export (Err e)) after = after ≡ list
+PlainGives v list (save answer) after = (answer ≡ Err SaveOff) × (after ≡ list)
+
+abbrev pub AnswersMessages : {S : Type 0} → (S → Event → S → Type 0) → Setting → S → List Message → List ℕ → S → Type 0
+AnswersMessages gives setup s [] bytes t = (bytes ≡ []) × (t ≡ s)
+AnswersMessages gives setup s (Ok Stop ∷ ms) bytes t = (bytes ≡ stopping) × (t ≡ s)
+AnswersMessages gives setup s (Ok r ∷ ms) bytes t =
+    (m : _) × (reply : List ℕ) × (more : List ℕ) × Answers gives setup r reply s m × (bytes ≡ reply ++ more) × AnswersMessages gives setup m ms more t
+AnswersMessages gives setup s (Err fault ∷ ms) bytes t = (bytes ≡ refused (fault_code fault) 0) × (t ≡ s)
+
+abbrev pub IsAnswered : Setting → List Submission → List Message → List ℕ → List Submission → Type 0
+IsAnswered v list ms bytes after = AnswersMessages (PlainGives v) v list ms bytes after
+
+-- these are requests, none of them a Stop
+abbrev pub GoOn : List Request → Type 0
+GoOn [] = Unit {0}
+GoOn (r ∷ rs) = (r ≡ Stop → ⊥) × GoOn rs
+
+module _ {L : Type 0} (reads : L → Answer → L → Type 0) (writes : L → List ℕ → Answer → L → Type 0) (failures : L → ℕ) (v : Setting) where
+  -- The link gave these bytes, and took the answers to their messages.
+  pub record Exchange (l l' : L) (list after : List Submission) (turns : ℕ) : Type 0 where
+    pub given : List ℕ
+    pub taken : List ℕ
+    pub talks : Talks reads writes l l' given taken turns
+    pub answers : IsAnswered v list (messages given) taken after
+
+  -- The same, of a session that ended between two replies: no message was a Stop or a bad header, and these bytes of
+  -- what the link gave stand behind the last of them.
+  pub record Between (l l' : L) (list after : List Submission) (kept : List ℕ) (turns : ℕ) : Type 0 where
+    pub exchange : Exchange l l' list after turns
+    pub requests : List Request
+    pub cut : Gives exchange.given requests kept
+    pub none : front kept ≡ None
+    pub go_on : GoOn requests
+
+  -- The same, of a session whose last message is this one.
+  pub record WithLast (l l' : L) (list after : List Submission) (turns : ℕ) (last : Message) : Type 0 where
+    pub exchange : Exchange l l' list after turns
+    pub before : List Message
+    pub last_is : messages exchange.given ≡ before ++ last ∷ []
+
+  -- The link took the answers to the first of these messages, and then these bytes; behind those answers stands a list.
+  pub record Partly (l l' : L) (list : List Submission) (turns : ℕ) (replies behind : List ℕ) (mid : List Submission) (rest : List Message) : Type 0 where
+    pub given : List ℕ
+    pub talks : Talks reads writes l l' given (replies ++ behind) turns
+    pub requests : List Request
+    pub split : messages given ≡ map (λ r. Ok r) requests ++ rest
+    pub answers : IsAnswered v list (map (λ r. Ok r) requests) replies mid
+
+  -- Memory ran out behind some messages: so the last reply is that it did, and nothing of the next message was kept.
+  pub record OutOfMemory (l l' : L) (list after : List Submission) (turns : ℕ) : Type 0 where
+    pub replies : List ℕ
+    pub rest : List Message
+    pub partly : Partly l l' list turns replies (refused 1 0) after rest
+
+  -- The link refused to take more of a reply: of that to the next message, whose batch stays accepted if it was, or of
+  -- that which says that memory ran out.
+  pub record Broken (l l' : L) (list after : List Submission) (turns n : ℕ) : Type 0 where
+    pub replies : List ℕ
+    pub reply : List ℕ
+    pub some : ℕ
+    pub mid : List Submission
+    pub rest : List Message
+    pub partly : Partly l l' list turns replies (take some reply) mid rest
+    pub proper : some < length reply
+    pub count : n ≡ length replies + some
+    pub reply_is :
+        ((m : Message) × (others : List Message) × (rest ≡ m ∷ others) × IsAnswered v mid (m ∷ []) reply after)
+        ⊎ ((reply ≡ refused 1 0) × (after ≡ mid))
+    pub at : L
+    pub unfailed : failures at ≡ failures l
+    pub refused_by : HasStopped writes failures at l' reply some
+
+  -- how a session of at most `most` turns ends
+  abbrev pub EndsPlain : (L → Type 0) → L → L → List Submission → List Submission → ℕ → ℕ → Ended → Type 0
+  EndsPlain at_end l l' list after most turns (Closed rest) =
+      (kept : List ℕ) × (length kept ≡ rest) × at_end l' × Between l l' list after kept turns
+  EndsPlain at_end l l' list after most turns ReadFault =
+      (kept : List ℕ) × (failures l' ≡ failures l + 1) × Between l l' list after kept turns
+  EndsPlain at_end l l' list after most turns TooManyTurns =
+      (kept : List ℕ) × (turns ≡ most) × (b : Between l l' list after kept turns) × (most ≤ length b.exchange.given)
+  EndsPlain at_end l l' list after most turns Stopped = WithLast l l' list after turns (Ok Stop)
+  EndsPlain at_end l l' list after most turns BadFrame = (fault : FrameFault) × WithLast l l' list after turns (Err fault)
+  EndsPlain at_end l l' list after most turns Memory = OutOfMemory l l' list after turns
+  EndsPlain at_end l l' list after most turns (WriteFault n) = Broken l l' list after turns n

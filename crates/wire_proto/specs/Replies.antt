@@ -1,0 +1,92 @@
+-- Reply frames.
+use Rattle.std.specs.Prelude.{ℕ, nat_lt, if◌then◌else◌, List, [], ◌∷◌, ◌++◌, length, map, Option, Some, None, Result, Ok, Err}
+use Rattle.std.specs.Int.{w16, to_be_bytes}
+use Rattle.std.specs.FinMap.{entries}
+use Rattle.std.specs.declared.alloc.AllocError.{AllocError}
+use Rattle.cells.specs.declared.cell.Cell.{Cell}
+use Rattle.mm_text.specs.Canonical.{canonical}
+use Rattle.hyper_matrix.specs.Counts.{Place, Counts}
+use Rattle.hyper_rows.specs.declared.search.RowSum.{RowSum}
+use Rattle.hyper_matrix.specs.Matrix.{Matrix}
+use Rattle.batch_store.specs.declared.verdict.Kept.{Kept}
+use Rattle.plain_engine.specs.declared.status.Status.{Status}
+use Rattle.plain_engine.specs.declared.fault.PutFault.{PutFault}
+use Rattle.plain_engine.specs.declared.fault.PutFault.TheVariants.{Memory, NumberReused, OverTotal, BookFull, RecordsDiffer}
+use Rattle.wire_proto.specs.Frames.{frame, number}
+use Rattle.wire_proto.specs.Keeping.{Event, put, cell, row, status, export, save}
+use Rattle.wire_proto.specs.declared.request.FrameFault.{FrameFault}
+use Rattle.wire_proto.specs.declared.request.FrameFault.TheVariants.{Memory as NoMemory, TooLarge, UnknownKind, BadLength}
+use Rattle.wire_proto.specs.declared.keeper.SaveRefusal.{SaveRefusal}
+use Rattle.wire_proto.specs.declared.keeper.SaveRefusal.TheVariants.{Memory as SaveMemory, SaveOff, SaveFailed}
+
+abbrev pub accepted : Kept → List ℕ
+accepted kept = frame 129 (number kept.index ++ number kept.total_after)
+
+abbrev pub value : Option ℕ → List ℕ
+value (Some count) = frame 130 (1 ∷ number count)
+value None = frame 130 (0 ∷ number 0)
+
+abbrev pub row_sum : RowSum → List ℕ
+row_sum sum = frame 131 (number sum.entries ++ number sum.total)
+
+abbrev pub counts : Status → List ℕ
+counts s = frame 132 (number s.batches ++ number s.total)
+
+abbrev pub text : List ℕ → List ℕ
+text bytes = frame 133 bytes
+
+abbrev pub saved : ℕ → List ℕ
+saved batches = frame 134 (number batches)
+
+abbrev pub stopping : List ℕ
+stopping = frame 135 []
+
+abbrev pub refused : ℕ → ℕ → List ℕ
+refused code detail = frame 255 (to_be_bytes w16 code ++ number detail)
+
+abbrev pub fault_code : FrameFault → ℕ
+fault_code NoMemory = 1
+fault_code TooLarge = 50
+fault_code UnknownKind = 51
+fault_code BadLength = 52
+
+-- the canonical text of a matrix: its cells by row and then by column
+abbrev pub cell_of : Place × ℕ → Cell
+cell_of entry = record { row = entry.0.0; col = entry.0.1; count = entry.1 }
+
+abbrev pub cells_in_order : Counts → List Cell
+cells_in_order counts = map cell_of (entries counts)
+
+unfoldable pub matrix_text : Matrix → List ℕ
+matrix_text m = canonical m.rows m.cols (cells_in_order m.counts)
+
+-- how the answer of a call is spelled; None where memory ran out
+abbrev pub put_reply : Result Kept PutFault → Option (List ℕ)
+put_reply (Ok kept) = Some (accepted kept)
+put_reply (Err Memory) = None
+put_reply (Err NumberReused) = Some (refused 30 0)
+put_reply (Err (OverTotal total)) = Some (refused 31 total)
+put_reply (Err BookFull) = Some (refused 32 0)
+put_reply (Err RecordsDiffer) = Some (refused 33 0)
+
+-- a text of more bytes than a body may have is refused
+unfoldable pub text_reply : List ℕ → List ℕ
+text_reply bytes = if nat_lt 16777216 (length bytes) then refused 40 0 else text bytes
+
+abbrev pub export_reply : Result Matrix AllocError → Option (List ℕ)
+export_reply (Ok m) = Some (text_reply (matrix_text m))
+export_reply (Err e) = None
+
+abbrev pub save_reply : Result ℕ SaveRefusal → Option (List ℕ)
+save_reply (Ok batches) = Some (saved batches)
+save_reply (Err SaveMemory) = None
+save_reply (Err SaveOff) = Some (refused 43 0)
+save_reply (Err SaveFailed) = Some (refused 42 0)
+
+abbrev pub reply_of : Event → Option (List ℕ)
+reply_of (put batch answer) = put_reply answer
+reply_of (cell r c count) = Some (value count)
+reply_of (row r sum) = Some (row_sum sum)
+reply_of (status s) = Some (counts s)
+reply_of (export answer) = export_reply answer
+reply_of (save answer) = save_reply answer

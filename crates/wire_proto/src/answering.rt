@@ -1,0 +1,105 @@
+//! Answers the requests that have come.
+ghost use Rattle.std.specs.Prelude.{◌≡◌, ℕ, ◌+◌, ◌*◌, ◌<◌, ◌≤◌, ◌^◌, List, length, Some, None, Ok, Err, IfOk, IfErr, OnOk};
+ghost use Rattle.wire_proto.specs.Frames.{front};
+ghost use Rattle.wire_proto.specs.Closing.{Closes, ended_of};
+ghost use Rattle.wire_proto.specs.Replies.{refused as refused_reply, fault_code};
+ghost use Rattle.wire_proto.specs.Sessions.{OneAnswered, OneEnds, Carries, CarriesToEnd};
+
+use crate::asking::ask;
+use crate::ended::Ended;
+use crate::frames::Frames;
+use crate::keeper::Keeper;
+use crate::replies::{refused, stopping};
+use crate::request::{FrameFault, Request};
+use crate::sending::{close, send_reply};
+use byte_io::{Link, Sink};
+use std::alloc::Global;
+
+/// Answers one request, and gives how many bytes are written then.
+pub fn answer<L: Sink, K: Keeper>(
+    alloc: Global,
+    link: &mut L,
+    keeper: &mut K,
+    request: Request,
+    written: u128,
+) -> Result<u128, Ended>
+    requires ready { L.failure_count link.old + 1 < 2 ^ 64 }
+    requires fact { K.fact keeper.old }
+    requires room { written + 2 ^ 25 < 2 ^ 128 }
+    ensures ok { IfOk result (λ w. OneAnswered L.write_takes L.failure_count K.gives (K.setup_of keeper.old) request link.old link.new keeper.old keeper.new written w) }
+    ensures err { IfErr result (λ e. (kept rest : List ℕ) → front kept ≡ Some (Ok request, rest) →
+        OneEnds L.write_takes L.failure_count K.gives (K.setup_of keeper.old) kept link.old link.new keeper.old keeper.new written e) }
+    ensures fact { K.fact keeper.new }
+    ensures setup { K.setup_of keeper.new ≡ K.setup_of keeper.old }
+{
+    if let Request::Stop = &request {
+        return Err(close(link, &stopping(), written, Ended::Stopped));
+    }
+    match ask(alloc, keeper, request) {
+        Ok(reply) => send_reply(link, &reply, written),
+        Err(_) => Err(close(link, &refused(1, 0), written, Ended::Memory)),
+    }
+}
+
+/// The code that a fault is refused with.
+fn code_of(fault: FrameFault) -> u16
+    ensures { result ≡ fault_code fault }
+{
+    match fault {
+        FrameFault::Memory => 1,
+        FrameFault::TooLarge => 50,
+        FrameFault::UnknownKind => 51,
+        FrameFault::BadLength => 52,
+    }
+}
+
+/// How a session ends after a fault.
+fn end_of(fault: FrameFault) -> Ended
+    ensures { result ≡ ended_of fault }
+{
+    match fault {
+        FrameFault::Memory => Ended::Memory,
+        FrameFault::TooLarge | FrameFault::UnknownKind | FrameFault::BadLength => Ended::BadFrame,
+    }
+}
+
+/// Refuses a bad header, or says that memory ran out.
+pub fn refuse<L: Sink>(link: &mut L, fault: FrameFault, written: u128) -> Ended
+    requires ready { L.failure_count link.old + 1 < 2 ^ 64 }
+    requires room { written + 2 ^ 25 < 2 ^ 128 }
+    ensures { Closes L.write_takes L.failure_count link.old link.new (refused_reply (fault_code fault) 0) written (ended_of fault) result }
+{
+    close(link, &refused(code_of(fault), 0), written, end_of(fault))
+}
+
+/// Answers each whole request that has come, in order.
+pub fn answer_all<L: Link, K: Keeper>(
+    alloc: Global,
+    link: &mut L,
+    keeper: &mut K,
+    frames: &mut Frames,
+    before: u128,
+) -> Result<u128, Ended>
+    requires ready { L.Sink.failure_count link.old + 1 < 2 ^ 64 }
+    requires fact { K.fact keeper.old }
+    requires room { before + 2 ^ 25 * length frames.old < 2 ^ 127 }
+    ensures ok { IfOk result (λ w. Carries L.Source.read_gives L.Sink.write_takes L.Sink.failure_count K.gives (K.setup_of keeper.old) link.old link.new keeper.old keeper.new frames.old frames.new before w 0) }
+    ensures none { OnOk result (front frames.new ≡ None) }
+    ensures room { IfOk result (λ w. w + 2 ^ 25 * length frames.new ≤ before + 2 ^ 25 * length frames.old) }
+    ensures failures { OnOk result (L.Sink.failure_count link.new ≡ L.Sink.failure_count link.old) }
+    ensures err { IfErr result (λ e. CarriesToEnd L.Source.read_gives L.Sink.write_takes L.Sink.failure_count K.gives (K.setup_of keeper.old) link.old link.new keeper.old keeper.new frames.old before e) }
+    ensures fact { K.fact keeper.new }
+    ensures setup { K.setup_of keeper.new ≡ K.setup_of keeper.old }
+{
+    let mut written = before;
+    'requests: loop {
+        match frames.next(alloc) {
+            Ok(None) => return Ok(written),
+            Ok(Some(request)) => match answer(alloc, link, keeper, request, written) {
+                Ok(sum) => written = sum,
+                Err(ended) => return Err(ended),
+            },
+            Err(fault) => return Err(refuse(link, fault, written)),
+        }
+    }
+}

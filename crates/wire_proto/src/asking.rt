@@ -1,0 +1,165 @@
+//! Asks the keeper what a request asks, and spells the reply.
+ghost use Rattle.std.specs.Prelude.{◌≡◌, ◌≢◌, ℕ, ◌+◌, ◌<◌, ◌≤◌, Some, None, IfOk, OnErr};
+ghost use Rattle.wire_proto.specs.Replies.{put_reply, text_reply, matrix_text};
+ghost use Rattle.wire_proto.specs.Answering.{Answers, RunsOut};
+ghost use Rattle.wire_proto.specs.Spelled.{spelled, fits_reply};
+
+use crate::exporting::text_length;
+use crate::keeper::{Keeper, SaveRefusal};
+use crate::replies::{Short, accepted, counts, refused, row_sum, saved, value};
+use crate::request::Request;
+use crate::texts::{PutRefusal, batch_of};
+use batch_store::Kept;
+use bytes::Bytes;
+use hyper_matrix::Hyper;
+use plain_engine::PutFault;
+use std::alloc::{AllocError, Global};
+
+/// What is sent: a short reply, or the text of a matrix with its length.
+#[derive(Drop)]
+pub enum Spelled {
+    Short(Short),
+    Text { matrix: Hyper, len: u32 },
+}
+
+pub fn ask_cell<K: Keeper>(keeper: &mut K, row: u64, col: u64) -> Short
+    requires { K.fact keeper.old }
+    ensures reply { Answers K.gives (K.setup_of keeper.old) (Request.Cell row col) result.items keeper.old keeper.new }
+    ensures fact { K.fact keeper.new }
+    ensures setup { K.setup_of keeper.new ≡ K.setup_of keeper.old }
+{
+    let setup = keeper.setup();
+    if row >= setup.rows() || col >= setup.cols() {
+        return refused(41, 0);
+    }
+    value(keeper.cell(row, col))
+}
+
+pub fn ask_row<K: Keeper>(keeper: &mut K, row: u64) -> Short
+    requires { K.fact keeper.old }
+    ensures reply { Answers K.gives (K.setup_of keeper.old) (Request.Row row) result.items keeper.old keeper.new }
+    ensures fact { K.fact keeper.new }
+    ensures setup { K.setup_of keeper.new ≡ K.setup_of keeper.old }
+{
+    if row >= keeper.setup().rows() {
+        return refused(41, 0);
+    }
+    row_sum(keeper.row(row))
+}
+
+pub fn ask_status<K: Keeper>(keeper: &mut K) -> Short
+    requires { K.fact keeper.old }
+    ensures reply { Answers K.gives (K.setup_of keeper.old) Request.Status result.items keeper.old keeper.new }
+    ensures fact { K.fact keeper.new }
+    ensures setup { K.setup_of keeper.new ≡ K.setup_of keeper.old }
+{
+    counts(keeper.status())
+}
+
+pub fn ask_save<K: Keeper>(alloc: Global, keeper: &mut K) -> Result<Short, AllocError>
+    requires { K.fact keeper.old }
+    ensures reply { IfOk result (λ short. Answers K.gives (K.setup_of keeper.old) Request.Save short.items keeper.old keeper.new) }
+    ensures none { OnErr result (RunsOut K.gives (K.setup_of keeper.old) Request.Save keeper.old keeper.new) }
+    ensures fact { K.fact keeper.new }
+    ensures setup { K.setup_of keeper.new ≡ K.setup_of keeper.old }
+{
+    match keeper.save(alloc) {
+        Ok(batches) => Ok(saved(batches)),
+        Err(SaveRefusal::Memory) => Err(AllocError),
+        Err(SaveRefusal::SaveOff) => Ok(refused(43, 0)),
+        Err(SaveRefusal::SaveFailed) => Ok(refused(42, 0)),
+    }
+}
+
+/// The reply that carries the text of a matrix, or refuses it as too large.
+fn reply_to_export(matrix: Hyper) -> Spelled
+    ensures reply { spelled result ≡ text_reply (matrix_text matrix) }
+    ensures short { fits_reply result }
+{
+    match text_length(&matrix) {
+        Some(len) => Spelled::Text { matrix, len },
+        None => Spelled::Short(refused(40, 0)),
+    }
+}
+
+pub fn ask_export<K: Keeper>(alloc: Global, keeper: &mut K) -> Result<Spelled, AllocError>
+    requires { K.fact keeper.old }
+    ensures reply { IfOk result (λ s. Answers K.gives (K.setup_of keeper.old) Request.Export (spelled s) keeper.old keeper.new) }
+    ensures short { IfOk result (λ s. fits_reply s) }
+    ensures none { OnErr result (RunsOut K.gives (K.setup_of keeper.old) Request.Export keeper.old keeper.new) }
+    ensures fact { K.fact keeper.new }
+    ensures setup { K.setup_of keeper.new ≡ K.setup_of keeper.old }
+{
+    match keeper.export(alloc) {
+        Ok(matrix) => Ok(reply_to_export(matrix)),
+        Err(error) => Err(error),
+    }
+}
+
+/// The reply to a put that the keeper answered; an Err where memory ran out.
+fn reply_to_put(answer: Result<Kept, PutFault>) -> Result<Short, AllocError>
+    ensures reply { IfOk result (λ short. put_reply answer ≡ Some short.items) }
+    ensures none { OnErr result (put_reply answer ≡ None) }
+{
+    match answer {
+        Ok(kept) => Ok(accepted(kept)),
+        Err(PutFault::Memory) => Err(AllocError),
+        Err(PutFault::NumberReused) => Ok(refused(30, 0)),
+        Err(PutFault::OverTotal { accepted }) => Ok(refused(31, accepted)),
+        Err(PutFault::BookFull) => Ok(refused(32, 0)),
+        Err(PutFault::RecordsDiffer) => Ok(refused(33, 0)),
+    }
+}
+
+pub fn ask_put<K: Keeper>(
+    alloc: Global,
+    keeper: &mut K,
+    client: u64,
+    number: u64,
+    text: Bytes,
+) -> Result<Short, AllocError>
+    requires { K.fact keeper.old }
+    ensures reply { IfOk result (λ short. Answers K.gives (K.setup_of keeper.old) (Request.Put client number text) short.items keeper.old keeper.new) }
+    ensures none { OnErr result (RunsOut K.gives (K.setup_of keeper.old) (Request.Put client number text) keeper.old keeper.new) }
+    ensures fact { K.fact keeper.new }
+    ensures setup { K.setup_of keeper.new ≡ K.setup_of keeper.old }
+{
+    let setup = keeper.setup();
+    match batch_of(alloc, &setup, client, number, text.as_slice()) {
+        Err(PutRefusal::Memory) => Err(AllocError),
+        Err(PutRefusal::Refused { code, detail }) => Ok(refused(code, detail)),
+        Ok(batch) => {
+            let answer = keeper.put(alloc, batch);
+            reply_to_put(answer)
+        }
+    }
+}
+
+/// Asks what a request asks, but for a Stop.
+pub fn ask<K: Keeper>(
+    alloc: Global,
+    keeper: &mut K,
+    request: Request,
+) -> Result<Spelled, AllocError>
+    requires fact { K.fact keeper.old }
+    requires goes_on { request ≢ Request.Stop }
+    ensures reply { IfOk result (λ s. Answers K.gives (K.setup_of keeper.old) request (spelled s) keeper.old keeper.new) }
+    ensures short { IfOk result (λ s. fits_reply s) }
+    ensures none { OnErr result (RunsOut K.gives (K.setup_of keeper.old) request keeper.old keeper.new) }
+    ensures fact { K.fact keeper.new }
+    ensures setup { K.setup_of keeper.new ≡ K.setup_of keeper.old }
+{
+    match request {
+        Request::Put {
+            client,
+            number,
+            text,
+        } => Ok(Spelled::Short(ask_put(alloc, keeper, client, number, text)?)),
+        Request::Cell { row, col } => Ok(Spelled::Short(ask_cell(keeper, row, col))),
+        Request::Row { row } => Ok(Spelled::Short(ask_row(keeper, row))),
+        Request::Status => Ok(Spelled::Short(ask_status(keeper))),
+        Request::Export => ask_export(alloc, keeper),
+        Request::Save => Ok(Spelled::Short(ask_save(alloc, keeper)?)),
+        Request::Stop => unreachable!(),
+    }
+}

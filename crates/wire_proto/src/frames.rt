@@ -1,0 +1,114 @@
+//! Cuts the bytes of a link into requests.
+ghost use Rattle.std.specs.Prelude.{◌≡◌, ◌++◌, [], ◌+◌, ◌≤◌, length, take, drop, true, Some, IfOk, OnOk, OnErr};
+ghost use Rattle.wire_proto.specs.Frames.{NextGives, request_of, length_fits};
+
+use crate::heads::{Look, look_at};
+use crate::limits::HEAD;
+use crate::request::{FrameFault, Request};
+use bytes::{Buf, Bytes, BytesMut};
+use std::alloc::{AllocError, Global};
+use std::marker::Model;
+
+/// The bytes that a link gave and that aren't handed out yet. Contracts see them as a list of bytes.
+///
+/// A Put's text is a view of the buffer: no byte of it is copied. The buffer grows by doubling, so a frame that comes in
+/// many pieces takes time in proportion to its bytes.
+#[derive(Drop)]
+pub struct Frames {
+    bytes: BytesMut,
+}
+
+impl Model for Frames {
+    ghost use Rattle.std.specs.Prelude.{ℕ, List};
+
+    ghost Value = { List ℕ };
+
+    ghost view = { λ f. f.bytes.items };
+}
+
+/// The request that a whole frame spells, of a kind and a length that fit.
+#[tactic(auto, unfolding(crate::specs::Frames::request_of, crate::specs::Frames::length_fits, crate::specs::Frames::number_at))]
+fn open(kind: u8, mut body: Bytes) -> Request
+    requires { length_fits kind (length body) ≡ Some true }
+    ensures { result ≡ request_of kind body }
+{
+    match kind {
+        1 => {
+            let client = body.get_u64();
+            let number = body.get_u64();
+            Request::Put {
+                client,
+                number,
+                text: body,
+            }
+        }
+        2 => {
+            let row = body.get_u64();
+            let col = body.get_u64();
+            Request::Cell { row, col }
+        }
+        3 => Request::Row {
+            row: body.get_u64(),
+        },
+        4 => Request::Status,
+        5 => Request::Export,
+        6 => Request::Save,
+        _ => Request::Stop,
+    }
+}
+
+/// Takes a whole frame off the front. An Err changes nothing.
+fn cut(bytes: &mut BytesMut, kind: u8, len: u32) -> Result<Request, AllocError>
+    requires whole { 5 + len ≤ length bytes.old.items }
+    requires fits { length_fits kind len ≡ Some true }
+    ensures ok { IfOk result (λ r. r ≡ request_of kind (take len (drop 5 bytes.old.items))) }
+    ensures rest { OnOk result (bytes.new.items ≡ drop (5 + len) bytes.old.items) }
+    ensures err { OnErr result (bytes.new ≡ bytes.old) }
+{
+    let mut body = bytes.freeze_to(HEAD + len as usize)?;
+    body.advance(HEAD);
+    Ok(open(kind, body))
+}
+
+impl Frames {
+    /// No bytes. It takes no memory.
+    pub fn new(alloc: Global) -> Frames
+        ensures { result ≡ [] }
+    {
+        Frames {
+            bytes: BytesMut::new(alloc),
+        }
+    }
+
+    /// How many bytes are kept.
+    pub fn len(&self) -> usize
+        ensures { result ≡ length self.now }
+    {
+        self.bytes.len()
+    }
+
+    /// Takes the next bytes of the link. An Err changes nothing.
+    pub fn feed(&mut self, _alloc: Global, piece: &[u8]) -> Result<(), AllocError>
+        ensures ok { OnOk result (self.new ≡ self.old ++ piece.now) }
+        ensures err { OnErr result (self.new ≡ self.old) }
+    {
+        self.bytes.extend_from_slice(piece)
+    }
+
+    /// The next request, once its frame is whole; None where it isn't yet.
+    ///
+    /// A header is judged as soon as its five bytes are there. A bad one stays at the front, so the same fault is
+    /// answered from then on, whatever is fed. Memory changes nothing.
+    pub fn next(&mut self, _alloc: Global) -> Result<Option<Request>, FrameFault>
+        ensures { NextGives self.old result self.new }
+    {
+        match look_at(self.bytes.as_slice()) {
+            Look::Part => Ok(None),
+            Look::Bad(fault) => Err(fault),
+            Look::Whole { kind, len } => match cut(&mut self.bytes, kind, len) {
+                Ok(request) => Ok(Some(request)),
+                Err(_) => Err(FrameFault::Memory),
+            },
+        }
+    }
+}

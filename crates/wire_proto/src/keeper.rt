@@ -1,0 +1,93 @@
+//! What a session asks of the store behind it.
+ghost use Rattle.std.specs.Prelude.{◌≡◌, ◌<◌};
+ghost use Rattle.std.specs.Arc.{arc_value};
+ghost use Rattle.batch_store.specs.Setups.{Setting};
+ghost use Rattle.wire_proto.specs.Keeping.{Event, put as putting, cell as looking, row as summing, status as counting, export as exporting, save as saving};
+
+use batch_store::{Batch, Kept, Setup};
+use hyper_matrix::{Hyper, RowSum};
+use plain_engine::{PutFault, Status};
+use std::alloc::{AllocError, Global};
+use std::sync::Arc;
+
+/// Why nothing was saved.
+#[derive(Clone, Copy, Debug, PartialEq, Eq)]
+pub enum SaveRefusal {
+    /// A growth was refused.
+    Memory,
+    /// There is no place to save to.
+    SaveOff,
+    /// The place refused it. What was saved before stands as it was.
+    SaveFailed,
+}
+
+/// A store of batches as a session sees it.
+///
+/// What a call answers is a relation between the state before, the call with its answer, and the state after, since
+/// others may use the store at the same time. `fact` is whatever the keeper keeps across its calls: a session keeps it
+/// too, however it ends.
+pub trait Keeper {
+    // What a call may answer, and the state that it leaves.
+    ghost gives: { Self → Event → Self → Type 0 };
+
+    // What the keeper keeps across its calls.
+    ghost fact: { Self → Type 0 };
+
+    // What is fixed of the store.
+    ghost setup_of: { Self → Setting };
+
+    /// What is fixed of the store.
+    fn setup(&self) -> Setup
+        ensures { result ≡ setup_of self.now };
+
+    /// Accepts a batch of the setup's dimensions, gives the reply that it keeps for it, or refuses it.
+    fn put(&mut self, alloc: Global, batch: Arc<Batch>) -> Result<Kept, PutFault>
+        requires fact { fact self.old }
+        requires rows { (arc_value batch).matrix.rows ≡ (setup_of self.old).rows }
+        requires cols { (arc_value batch).matrix.cols ≡ (setup_of self.old).cols }
+        ensures gives { gives self.old (putting (arc_value batch) result) self.new }
+        ensures fact { fact self.new }
+        ensures setup { setup_of self.new ≡ setup_of self.old };
+
+    /// The count at a place of the sum of all batches, where it has an entry. Row and column count from 0.
+    fn cell(&mut self, row: u64, col: u64) -> Option<u64>
+        requires fact { fact self.old }
+        requires row { row < (setup_of self.old).rows }
+        requires col { col < (setup_of self.old).cols }
+        ensures gives { gives self.old (looking row col result) self.new }
+        ensures fact { fact self.new }
+        ensures setup { setup_of self.new ≡ setup_of self.old };
+
+    /// The entries of a row of the sum of all batches, and their total.
+    fn row(&mut self, row: u64) -> RowSum
+        requires fact { fact self.old }
+        requires row { row < (setup_of self.old).rows }
+        ensures gives { gives self.old (summing row result) self.new }
+        ensures fact { fact self.new }
+        ensures setup { setup_of self.new ≡ setup_of self.old };
+
+    /// How many batches were accepted, and their total.
+    fn status(&mut self) -> Status
+        requires fact { fact self.old }
+        ensures gives { gives self.old (counting result) self.new }
+        ensures fact { fact self.new }
+        ensures setup { setup_of self.new ≡ setup_of self.old };
+
+    /// The sum of all batches.
+    ///
+    /// # Errors
+    ///
+    /// A growth was refused.
+    fn export(&mut self, alloc: Global) -> Result<Hyper, AllocError>
+        requires fact { fact self.old }
+        ensures gives { gives self.old (exporting result) self.new }
+        ensures fact { fact self.new }
+        ensures setup { setup_of self.new ≡ setup_of self.old };
+
+    /// Saves what was accepted, and answers how many batches that are.
+    fn save(&mut self, alloc: Global) -> Result<u64, SaveRefusal>
+        requires fact { fact self.old }
+        ensures gives { gives self.old (saving result) self.new }
+        ensures fact { fact self.new }
+        ensures setup { setup_of self.new ≡ setup_of self.old };
+}

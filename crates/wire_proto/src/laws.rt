@@ -1,0 +1,36 @@
+//! Laws of the definitions.
+ghost use Rattle.std.specs.Prelude.{◌≡◌, ◌≢◌, ℕ, List, [], ◌∷◌, ◌++◌, map, Option, Some, None, Ok, Err};
+ghost use Rattle.wire_proto.specs.Frames.{HasFrame, request_frame, front, Gives, frames, messages};
+ghost use Rattle.wire_proto.specs.Sessions.{AnswersAll};
+ghost use Rattle.wire_proto.specs.declared.request.Request.{Request};
+ghost use Rattle.wire_proto.specs.declared.request.FrameFault.{FrameFault};
+ghost use Rattle.batch_store.specs.Setups.{Setting};
+
+use crate::keeper::Keeper;
+
+/// A request's frame is read as that request, whatever follows it.
+pub fn frames_are_read_again()
+    ensures { (r : Request) (more : List ℕ) → HasFrame r → front (request_frame r ++ more) ≡ Some (Ok r, more) }
+{}
+
+/// However a stream is cut: the requests that `next` gave, and then the frames of what is kept, are the frames of all
+/// bytes that were fed.
+pub fn frames_come_in_any_pieces()
+    ensures start { Gives [] [] [] }
+    ensures fed { (fed piece kept : List ℕ) (given : List Request) → Gives fed given kept → Gives (fed ++ piece) given (kept ++ piece) }
+    ensures given { (fed kept rest : List ℕ) (given : List Request) (r : Request) → Gives fed given kept → front kept ≡ Some (Ok r, rest) →
+        Gives fed (given ++ r ∷ []) rest }
+    ensures whole { (fed kept : List ℕ) (given : List Request) → Gives fed given kept → frames fed ≡ map (λ r. Ok r) given ++ frames kept }
+    ensures none { (kept : List ℕ) → front kept ≡ None → frames kept ≡ [] }
+    ensures bad { (kept rest : List ℕ) (fault : FrameFault) → front kept ≡ Some (Err fault, rest) → frames kept ≡ Err fault ∷ [] }
+{}
+
+/// What a session has answered are the messages of what its link gave, up to those of what it keeps.
+pub fn sessions_answer_messages<K: Keeper>()
+    ensures answered { (setup : Setting) (s t : K) (given replies kept : List ℕ) (requests : List Request) →
+        Gives given requests kept → AnswersAll K.gives setup s requests replies t → messages given ≡ map (λ r. Ok r) requests ++ messages kept }
+    ensures none { (kept : List ℕ) → front kept ≡ None → messages kept ≡ [] }
+    ensures stop { (kept rest : List ℕ) → front kept ≡ Some (Ok Request.Stop, rest) → messages kept ≡ Ok Request.Stop ∷ [] }
+    ensures bad { (kept rest : List ℕ) (fault : FrameFault) → front kept ≡ Some (Err fault, rest) → messages kept ≡ Err fault ∷ [] }
+    ensures request { (kept rest : List ℕ) (r : Request) → front kept ≡ Some (Ok r, rest) → r ≢ Request.Stop → messages kept ≡ Ok r ∷ messages rest }
+{}

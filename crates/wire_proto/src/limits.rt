@@ -1,0 +1,16 @@
+//! Every limit of frames and sessions, with its unit.
+
+/// The bytes of the longest body of a frame.
+pub const MOST_BODY: u32 = 16_777_216;
+
+/// The bytes of a header: the length of the body, and its kind.
+pub const HEAD: usize = 5;
+
+/// The bytes of the longest reply but a text.
+pub const SHORT: usize = 21;
+
+/// How many bytes are asked of the link at once.
+pub const PIECE: usize = 65_536;
+
+/// The most entry lines that the text of a Put may declare.
+pub const MOST_ENTRIES: u64 = 1_048_576;

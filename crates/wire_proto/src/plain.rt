@@ -1,0 +1,106 @@
+//! The keeper over the engine of one thread.
+ghost use Rattle.std.specs.Prelude.{◌≡◌, ℕ, ◌+◌, ◌<◌, ◌≤◌, ◌^◌, ⊤};
+ghost use Rattle.wire_proto.specs.Plain.{PlainGives, EndsPlain};
+
+use crate::ended::Ended;
+use crate::keeper::{Keeper, SaveRefusal};
+use crate::serving::serve;
+use batch_store::{Batch, Kept, Setup};
+use byte_io::Link;
+use hyper_matrix::{Hyper, RowSum};
+use plain_engine::{PlainEngine, PutFault, Status};
+use std::alloc::{AllocError, Global};
+use std::sync::Arc;
+
+/// An engine of one thread, lent to a session.
+///
+/// Its state is the list of accepted batches alone, and each answer follows from it, but for want of memory. It saves
+/// nothing.
+#[derive(Drop)]
+pub struct PlainKeeper<'a> {
+    engine: &'a mut PlainEngine,
+}
+
+impl<'a> PlainKeeper<'a> {
+    /// A keeper over this engine.
+    pub fn new(engine: &'a mut PlainEngine) -> PlainKeeper<'a>
+        ensures same_reference { result.engine.ghost_name ≡ engine.entry.ghost_name }
+        ensures engine { result.engine.now ≡ engine.old }
+    {
+        PlainKeeper { engine }
+    }
+}
+
+impl<'a> Keeper for PlainKeeper<'a> {
+    ghost gives = { λ s e t. (t.engine.ghost_name ≡ s.engine.ghost_name)
+        × (t.engine.now.setup ≡ s.engine.now.setup)
+        × PlainGives s.engine.now.setup s.engine.now.book.list e t.engine.now.book.list };
+
+    ghost fact = { λ s. ⊤ };
+
+    ghost setup_of = { λ s. s.engine.now.setup };
+
+    fn setup(&self) -> Setup {
+        self.engine.setup()
+    }
+
+    fn put(&mut self, alloc: Global, batch: Arc<Batch>) -> Result<Kept, PutFault> {
+        self.engine.put(alloc, batch)
+    }
+
+    fn cell(&mut self, row: u64, col: u64) -> Option<u64> {
+        self.engine.cell(row, col)
+    }
+
+    fn row(&mut self, row: u64) -> RowSum {
+        self.engine.row(row)
+    }
+
+    fn status(&mut self) -> Status {
+        self.engine.status()
+    }
+
+    fn export(&mut self, alloc: Global) -> Result<Hyper, AllocError> {
+        self.engine.export(alloc)
+    }
+
+    fn save(&mut self, _alloc: Global) -> Result<u64, SaveRefusal> {
+        Err(SaveRefusal::SaveOff)
+    }
+}
+
+// Serves one link over a keeper, whose engine stays the one that it was lent.
+fn serve_plain<L: Link>(
+    alloc: Global,
+    link: &mut L,
+    keeper: &mut PlainKeeper<'_>,
+    max_turns: u64,
+) -> Ended
+    requires { L.Sink.failure_count link.old + 1 < 2 ^ 64 }
+    ensures same_reference { keeper.new.engine.ghost_name ≡ keeper.old.engine.ghost_name }
+    ensures ends { (turns : ℕ) × (turns ≤ max_turns)
+        × EndsPlain L.Source.read_gives L.Sink.write_takes L.Sink.failure_count keeper.old.engine.now.setup L.Source.at_end link.old link.new keeper.old.engine.now.book.list keeper.new.engine.now.book.list max_turns turns result }
+    ensures setup { keeper.new.engine.now.setup ≡ keeper.old.engine.now.setup }
+{
+    serve(alloc, link, keeper, max_turns)
+}
+
+/// Serves one link over an engine of one thread, until the session ends.
+///
+/// What the engine had accepted before and has accepted then are two lists; which follows from which, and what the link
+/// took, is told by the bytes that it gave, for each end (specs/Plain.antt). A batch whose reply was lost stays
+/// accepted. Time and memory are those of `serve`.
+pub fn serve_engine<L: Link>(
+    alloc: Global,
+    link: &mut L,
+    engine: &mut PlainEngine,
+    max_turns: u64,
+) -> Ended
+    requires { L.Sink.failure_count link.old + 1 < 2 ^ 64 }
+    ensures ends { (turns : ℕ) × (turns ≤ max_turns)
+        × EndsPlain L.Source.read_gives L.Sink.write_takes L.Sink.failure_count engine.old.setup L.Source.at_end link.old link.new engine.old.book.list engine.new.book.list max_turns turns result }
+    ensures setup { engine.new.setup ≡ engine.old.setup }
+{
+    let mut keeper = PlainKeeper::new(engine);
+    serve_plain(alloc, link, &mut keeper, max_turns)
+}

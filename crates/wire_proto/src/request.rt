@@ -1,0 +1,140 @@
+//! Requests, and the frames that carry them.
+ghost use Rattle.std.specs.Prelude.{◌≡◌, ◌<◌, ◌≤◌, ◌↔◌, ◌++◌, length, IfOk, OnOk, Err};
+ghost use Rattle.wire_proto.specs.Frames.{number, head_bytes, kind_of, body_of, request_frame};
+
+use crate::limits::MOST_BODY;
+use bytes::Bytes;
+use std::alloc::{AllocError, Global};
+
+/// What a client asks. Rows and columns count from 0.
+#[derive(Drop)]
+pub enum Request {
+    Put {
+        client: u64,
+        number: u64,
+        text: Bytes,
+    },
+    Cell {
+        row: u64,
+        col: u64,
+    },
+    Row {
+        row: u64,
+    },
+    Status,
+    Export,
+    Save,
+    Stop,
+}
+
+/// What is wrong with the bytes of a link, or that memory ran out.
+#[derive(Clone, Copy, Debug, PartialEq, Eq)]
+pub enum FrameFault {
+    Memory,
+    TooLarge,
+    UnknownKind,
+    BadLength,
+}
+
+/// Why a request has no frame, or that memory ran out.
+#[derive(Clone, Copy, Debug, PartialEq, Eq)]
+pub enum EncodeFault {
+    Memory,
+    TooLarge,
+}
+
+impl From<AllocError> for EncodeFault {
+    ghost use Rattle.wire_proto.specs.declared.request.EncodeFault.TheVariants.{Memory};
+
+    ghost from_gives = { λ _ e. e ≡ Memory };
+
+    fn from(_error: AllocError) -> EncodeFault {
+        EncodeFault::Memory
+    }
+}
+
+/// Appends a number of eight bytes.
+#[tactic(auto, unfolding(crate::specs::Frames::number))]
+fn push_number(out: &mut Vec<u8>, n: u64) -> Result<(), AllocError>
+    ensures { OnOk result (out.new.items ≡ out.old.items ++ number n) }
+{
+    out.extend_from_slice(&n.to_be_bytes())
+}
+
+/// Appends the head of a frame.
+#[tactic(auto, unfolding(crate::specs::Frames::head_bytes))]
+fn push_head(out: &mut Vec<u8>, kind: u8, len: u32) -> Result<(), AllocError>
+    ensures { OnOk result (out.new.items ≡ out.old.items ++ head_bytes kind len) }
+{
+    out.extend_from_slice(&len.to_be_bytes())?;
+    out.extend_from_slice(&[kind])
+}
+
+/// The kind of a request's frame.
+fn kind(request: &Request) -> u8
+    ensures { result ≡ kind_of request.now }
+{
+    match request {
+        Request::Put { .. } => 1,
+        Request::Cell { .. } => 2,
+        Request::Row { .. } => 3,
+        Request::Status => 4,
+        Request::Export => 5,
+        Request::Save => 6,
+        Request::Stop => 7,
+    }
+}
+
+/// The length of the body.
+#[tactic(auto, unfolding(crate::specs::Frames::number))]
+fn body_len(request: &Request) -> usize
+    ensures { result ≡ length (body_of request.now) }
+{
+    match request {
+        Request::Put { text, .. } => 16 + text.len(),
+        Request::Cell { .. } => 16,
+        Request::Row { .. } => 8,
+        Request::Status | Request::Export | Request::Save | Request::Stop => 0,
+    }
+}
+
+/// Appends the body.
+fn push_body(out: &mut Vec<u8>, request: &Request) -> Result<(), AllocError>
+    ensures { OnOk result (out.new.items ≡ out.old.items ++ body_of request.now) }
+{
+    match request {
+        Request::Put {
+            client,
+            number,
+            text,
+        } => {
+            push_number(out, *client)?;
+            push_number(out, *number)?;
+            out.extend_from_slice(text.as_slice())?;
+            Ok(())
+        }
+        Request::Cell { row, col } => {
+            push_number(out, *row)?;
+            push_number(out, *col)?;
+            Ok(())
+        }
+        Request::Row { row } => push_number(out, *row),
+        Request::Status | Request::Export | Request::Save | Request::Stop => Ok(()),
+    }
+}
+
+/// The bytes of a request's frame. TooLarge exactly where its body is too long.
+#[tactic(auto, unfolding(crate::specs::Frames::frame))]
+pub fn encode_request(alloc: Global, request: &Request) -> Result<Vec<u8>, EncodeFault>
+    ensures ok { IfOk result (λ v. v.items ≡ request_frame request.now) }
+    ensures too_large { (result ≡ Err EncodeFault.TooLarge) ↔ (16777216 < length (body_of request.now)) }
+{
+    let len = body_len(request);
+    if len > MOST_BODY as usize {
+        return Err(EncodeFault::TooLarge);
+    }
+    let mut out = Vec::new(alloc);
+    push_head(&mut out, kind(request), len as u32)?;
+    push_body(&mut out, request)?;
+    Ok(out)
+}

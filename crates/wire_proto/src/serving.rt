@@ -1,0 +1,123 @@
+//! A session: reads a link turn by turn, and answers each whole request.
+ghost use Rattle.std.specs.Prelude.{◌≡◌, ℕ, ◌+◌, ◌*◌, ◌<◌, ◌≤◌, ◌^◌, List, length, ◌++◌, None, IfOk, IfErr, OnOk, OnErr};
+ghost use Rattle.byte_io.specs.Streams.{answer_of};
+ghost use Rattle.wire_proto.specs.Frames.{front};
+ghost use Rattle.wire_proto.specs.Sessions.{Ends, Carries, CarriesToEnd, TurnEnds};
+
+use crate::answering::{answer_all, refuse};
+use crate::ended::Ended;
+use crate::frames::Frames;
+use crate::keeper::Keeper;
+use crate::limits::PIECE;
+use crate::request::FrameFault;
+use byte_io::{DeviceFault, Link, Source};
+use std::alloc::{AllocError, Global};
+
+/// A buffer for one read.
+fn empty_piece(alloc: Global) -> Result<Vec<u8>, AllocError>
+    ensures { IfOk result (λ v. length v.items ≡ 65536) }
+{
+    vec![in alloc; 0u8; PIECE]
+}
+
+/// Takes in what one read gave, and answers each request that is whole then.
+fn take_piece<L: Link, K: Keeper>(
+    alloc: Global,
+    link: &mut L,
+    keeper: &mut K,
+    frames: &mut Frames,
+    piece: &[u8],
+    written: u128,
+) -> Result<u128, Ended>
+    requires ready { L.Sink.failure_count link.old + 1 < 2 ^ 64 }
+    requires fact { K.fact keeper.old }
+    requires room { written + 2 ^ 25 * (length frames.old + length piece.now) < 2 ^ 127 }
+    ensures ok { IfOk result (λ w. Carries L.Source.read_gives L.Sink.write_takes L.Sink.failure_count K.gives (K.setup_of keeper.old) link.old link.new keeper.old keeper.new (frames.old ++ piece.now) frames.new written w 0) }
+    ensures none { OnOk result (front frames.new ≡ None) }
+    ensures room { IfOk result (λ w. w + 2 ^ 25 * length frames.new ≤ written + 2 ^ 25 * (length frames.old + length piece.now)) }
+    ensures failures { OnOk result (L.Sink.failure_count link.new ≡ L.Sink.failure_count link.old) }
+    ensures err { IfErr result (λ e. CarriesToEnd L.Source.read_gives L.Sink.write_takes L.Sink.failure_count K.gives (K.setup_of keeper.old) link.old link.new keeper.old keeper.new (frames.old ++ piece.now) written e) }
+    ensures fact { K.fact keeper.new }
+    ensures setup { K.setup_of keeper.new ≡ K.setup_of keeper.old }
+{
+    match frames.feed(alloc, piece) {
+        Ok(()) => answer_all(alloc, link, keeper, frames, written),
+        Err(_) => Err(refuse(link, FrameFault::Memory, written)),
+    }
+}
+
+/// One turn: a read, and the answers to what is whole then.
+fn take_turn<L: Link, K: Keeper>(
+    alloc: Global,
+    link: &mut L,
+    keeper: &mut K,
+    frames: &mut Frames,
+    piece: &mut Vec<u8>,
+    written: u128,
+) -> Result<u128, Ended>
+    requires ready { L.Sink.failure_count link.old + 1 < 2 ^ 64 }
+    requires fact { K.fact keeper.old }
+    requires piece { length piece.old.items ≡ 65536 }
+    requires none { front frames.old ≡ None }
+    requires room { written + 2 ^ 25 * (length frames.old + 65536) < 2 ^ 127 }
+    ensures piece { length piece.new.items ≡ 65536 }
+    ensures ok { IfOk result (λ w. Carries L.Source.read_gives L.Sink.write_takes L.Sink.failure_count K.gives (K.setup_of keeper.old) link.old link.new keeper.old keeper.new frames.old frames.new written w 1) }
+    ensures none { OnOk result (front frames.new ≡ None) }
+    ensures room { IfOk result (λ w. w + 2 ^ 25 * length frames.new ≤ written + 2 ^ 25 * (length frames.old + 65536)) }
+    ensures failures { OnOk result (L.Sink.failure_count link.new ≡ L.Sink.failure_count link.old) }
+    ensures err { IfErr result (λ e. TurnEnds L.Source.read_gives L.Sink.write_takes L.Sink.failure_count K.gives (K.setup_of keeper.old) L.Source.at_end link.old link.new keeper.old keeper.new frames.old written e) }
+    ensures fact { K.fact keeper.new }
+    ensures setup { K.setup_of keeper.new ≡ K.setup_of keeper.old }
+{
+    match read_piece(link, piece) {
+        Err(_) => Err(Ended::ReadFault),
+        Ok(0) => Err(Ended::Closed {
+            rest: frames.len() as u64,
+        }),
+        Ok(count) => take_piece(alloc, link, keeper, frames, &piece[..count], written),
+    }
+}
+
+/// Reads into a buffer.
+fn read_piece<L: Link>(link: &mut L, piece: &mut Vec<u8>) -> Result<usize, DeviceFault>
+    requires { L.Sink.failure_count link.old + 1 < 2 ^ 64 }
+    ensures len { length piece.new.items ≡ length piece.old.items }
+    ensures bound { IfOk result (λ n. n ≤ length piece.old.items) }
+    ensures gives { L.Source.read_gives link.old (answer_of result piece.new.items) link.new }
+    ensures end { IfOk result (λ n. n ≡ 0 → 0 < length piece.old.items → L.Source.at_end link.new) }
+    ensures ok { OnOk result (L.Sink.failure_count link.new ≡ L.Sink.failure_count link.old) }
+    ensures err { OnErr result (L.Sink.failure_count link.new ≡ L.Sink.failure_count link.old + 1) }
+{
+    link.read(piece.as_mut_slice())
+}
+
+/// Serves one link until the session ends.
+///
+/// A turn is one read of at most 65,536 bytes. All whole frames read so far are answered in order, each reply written
+/// whole before the next frame is looked at.
+pub fn serve<L: Link, K: Keeper>(
+    alloc: Global,
+    link: &mut L,
+    keeper: &mut K,
+    max_turns: u64,
+) -> Ended
+    requires ready { L.Sink.failure_count link.old + 1 < 2 ^ 64 }
+    requires fact { K.fact keeper.old }
+    ensures ends { (turns : ℕ) × (turns ≤ max_turns) × Ends L.Source.read_gives L.Sink.write_takes L.Sink.failure_count K.gives (K.setup_of keeper.old) L.Source.at_end link.old link.new keeper.old keeper.new max_turns turns result }
+    ensures fact { K.fact keeper.new }
+    ensures setup { K.setup_of keeper.new ≡ K.setup_of keeper.old }
+{
+    let mut frames = Frames::new(alloc);
+    let mut written = 0;
+    let mut piece = match empty_piece(alloc) {
+        Ok(piece) => piece,
+        Err(_) => return refuse(link, FrameFault::Memory, written),
+    };
+    for turn in 0..max_turns {
+        match take_turn(alloc, link, keeper, &mut frames, &mut piece, written) {
+            Ok(sum) => written = sum,
+            Err(ended) => return ended,
+        }
+    }
+    Ended::TooManyTurns
+}

@@ -1,0 +1,122 @@
+//! Reads the text of a Put.
+ghost use Rattle.std.specs.Prelude.{◌≡◌, ◌≢◌, ◌≤◌, IfOk, IfErr, []};
+ghost use Rattle.mm_text.specs.Texts.{Spells, FirstFault};
+ghost use Rattle.wire_proto.specs.Answering.{put_limits, kind_number};
+ghost use Rattle.wire_proto.specs.PutTexts.{HandsOut, Leads};
+
+use crate::limits::{MOST_BODY, MOST_ENTRIES};
+use batch_store::{Batch, BatchFault, Setup};
+use byte_io::{DeviceFault, Source};
+use mm_text::{MmFault, MmFile, MmKind, TextLimits, read_matrix};
+use std::alloc::Global;
+use std::sync::Arc;
+
+const LIMITS: TextLimits = TextLimits {
+    max_bytes: MOST_BODY as u64,
+    max_entries: MOST_ENTRIES,
+};
+
+/// Why a Put is refused before the keeper is asked.
+#[derive(Clone, Copy)]
+pub enum PutRefusal {
+    Memory,
+    Refused { code: u16, detail: u64 },
+}
+
+/// A text in memory, as a source that never fails.
+#[derive(Drop)]
+struct SliceSource<'a> {
+    left: &'a [u8],
+}
+
+impl<'a> Source for SliceSource<'a> {
+    ghost read_gives = { λ s answer t. HandsOut s.left.now answer t.left.now };
+
+    ghost at_end = { λ s. s.left.now ≡ [] };
+
+    ghost failure_count = { λ s. 0 };
+
+    fn read(&mut self, buf: &mut [u8]) -> Result<usize, DeviceFault> {
+        let n = self.left.len().min(buf.len());
+        let (front, rest) = self.left.split_at(n);
+        buf[..n].copy_from_slice(front);
+        self.left = rest;
+        Ok(n)
+    }
+
+    fn failures(&self) -> u64 {
+        0
+    }
+}
+
+/// The matrix that a text spells, or its first fault.
+fn spelled_file(alloc: Global, text: &[u8]) -> Result<MmFile, MmFault>
+    ensures ok { IfOk result (λ m. Spells text.now put_limits m.rows m.cols m.cells.items) }
+    ensures err { IfErr result (λ f. f.kind ≢ MmKind.Memory → FirstFault text.now put_limits f.kind f.line) }
+{
+    let mut source = SliceSource { left: text };
+    match read_matrix(alloc, &mut source, LIMITS) {
+        Ok(file) => Ok(file),
+        Err(fault) => Err(fault),
+    }
+}
+
+/// The number of a kind of fault.
+fn number_of(kind: MmKind) -> u16
+    ensures value { result ≡ kind_number kind }
+    ensures short { result ≤ 16 }
+{
+    match kind {
+        MmKind::Read => 1,
+        MmKind::Memory => 2,
+        MmKind::BadBanner => 3,
+        MmKind::Unsupported => 4,
+        MmKind::LineTooLong => 5,
+        MmKind::BadSize => 6,
+        MmKind::BadDimension => 7,
+        MmKind::NotSquare => 8,
+        MmKind::TooManyEntries => 9,
+        MmKind::BadEntry => 10,
+        MmKind::Negative => 11,
+        MmKind::NumberTooLarge => 12,
+        MmKind::IndexOutOfRange => 13,
+        MmKind::TooFewEntries => 14,
+        MmKind::ExtraText => 15,
+        MmKind::TooLong => 16,
+    }
+}
+
+/// The batch that a Put's text spells, or the first refusal.
+///
+/// The text is read where it lies; of it only the cells are kept, and of these only the batch's matrix.
+pub fn batch_of(
+    alloc: Global,
+    setup: &Setup,
+    client: u64,
+    number: u64,
+    text: &[u8],
+) -> Result<Arc<Batch>, PutRefusal>
+    ensures { Leads setup.now client number text.now result }
+{
+    match spelled_file(alloc, text) {
+        Ok(file) => match Batch::make(alloc, setup, client, number, &file) {
+            Ok(batch) => Ok(batch),
+            Err(BatchFault::Memory) => Err(PutRefusal::Memory),
+            Err(BatchFault::DimensionsDiffer) => Err(PutRefusal::Refused {
+                code: 20,
+                detail: 0,
+            }),
+            Err(BatchFault::SumTooLarge) => Err(PutRefusal::Refused {
+                code: 21,
+                detail: 0,
+            }),
+        },
+        Err(fault) => match fault.kind {
+            MmKind::Memory => Err(PutRefusal::Memory),
+            kind => Err(PutRefusal::Refused {
+                code: 100 + number_of(kind),
+                detail: fault.line,
+            }),
+        },
+    }
+}
