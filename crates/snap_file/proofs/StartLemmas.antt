@@ -1,0 +1,31 @@
+-- A reading that begins.
+use Rattle.std.proofs.Common.{◌≡◌, ℕ, List, [], ◌++◌, Result, refl, sym, arith}
+use Rattle.byte_io.specs.declared.fault.DeviceFault.{DeviceFault}
+use Rattle.snap_file.specs.Table.{whole, reading_of}
+use Rattle.snap_file.specs.Outcomes.{ReaderState, HasRead, Stops}
+use Rattle.snap_file.specs.declared.fault.SnapFault.TheVariants.{Memory}
+
+starts : (more : List ℕ) → reading_of ([] ++ more) ≡ whole (record { at = 0; rest = more })
+unfolding reading_of
+starts more = refl
+
+pub read_begun : {S : Type 0} (gives : S → Result (List ℕ) DeviceFault → S → Type 0) (failures : S → ℕ) (m : ℕ) (s : S) (reader : ReaderState) →
+    reader.pending ≡ [] → reader.taken ≡ 0 → reader.max_bytes ≡ m → HasRead gives failures m s s reader whole
+read_begun gives failures m s reader pending taken limit = record {
+  answers = [];
+  calls = refl;
+  each = tt;
+  front = [];
+  bytes_are = sym pending;
+  are_bytes = λ i. omega arith;
+  taken_is = taken;
+  limit_is = limit;
+  within = omega arith;
+  few = omega arith;
+  none_failed = refl;
+  resumes = starts;
+}
+
+-- memory was refused before the first read
+pub stops_first : {S : Type 0} (gives : S → Result (List ℕ) DeviceFault → S → Type 0) (failures : S → ℕ) (ended : Type 0) (m : ℕ) (s : S) → Stops gives failures ended m s s Memory
+stops_first gives failures ended m s = record { answers = []; calls = refl; few = omega arith; explains = tt; unfailed = λ n. refl }

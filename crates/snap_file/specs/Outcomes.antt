@@ -1,0 +1,116 @@
+-- The first fault of a list of bytes, and what a reader of a source tells of one.
+use Rattle.std.specs.Prelude.{◌≡◌, ℕ, ◌+◌, ◌*◌, ◌<◌, ◌≤◌, List, [], ◌++◌, length, Result, Ok, Err}
+use Rattle.byte_io.specs.Streams.{Calls, bytes_of_calls}
+use Rattle.byte_io.specs.Writing.{EachTakes}
+use Rattle.byte_io.specs.declared.fault.DeviceFault.{DeviceFault}
+use Rattle.batch_store.specs.Setups.{Setting}
+use Rattle.snap_file.specs.Spelling.{IsBytes, IsSnapshot}
+use Rattle.snap_file.specs.Table.{Reading, fault_at, reading_of}
+use Rattle.batch_store.specs.Batches.{Submission}
+use Rattle.snap_file.specs.declared.fault.SnapFault.{SnapFault}
+use Rattle.snap_file.specs.declared.fault.SnapFault.TheVariants.{Read, Memory, Truncated, TooLong}
+
+-- A place is the number of bytes that were read when a fault shows; the end of the bytes counts as one byte more.
+-- Two judgements are made at a place, in this order.
+pub data Turn : Type 0 where
+  at_limit : Turn
+  in_field : Turn
+
+abbrev pub turn_number : Turn → ℕ
+turn_number at_limit = 0
+turn_number in_field = 1
+
+-- Byte number max_bytes + 1 was read.
+pub record TooManyBytes (max_bytes : ℕ) (bytes : List ℕ) (place : ℕ) (kind : SnapFault) : Type 0 where
+  pub longer : max_bytes < length bytes
+  pub place_is : place ≡ max_bytes + 1
+  pub kind_is : kind ≡ TooLong
+
+-- A fault of this kind shows at this place and turn.
+abbrev pub FaultAt : Turn → ℕ → List ℕ → ℕ → SnapFault → Type 0
+FaultAt at_limit max_bytes bytes place kind = TooManyBytes max_bytes bytes place kind
+FaultAt in_field max_bytes bytes place kind = reading_of bytes ≡ fault_at kind place
+
+-- the order of judging: by place, and at one place by turn
+abbrev pub moment : ℕ → Turn → ℕ
+moment place turn = 2 * place + turn_number turn
+
+-- The first fault of the bytes, at this place.
+pub record FirstFaultAt (max_bytes : ℕ) (bytes : List ℕ) (place : ℕ) (kind : SnapFault) : Type 0 where
+  pub turn : Turn
+  pub stands : FaultAt turn max_bytes bytes place kind
+  pub least : (t : Turn) (p : ℕ) (k : SnapFault) → FaultAt t max_bytes bytes p k → moment place turn ≤ moment p t
+
+-- What was read has this first fault; one that shows at the end is told only where the source had ended.
+pub record IsTold (max_bytes : ℕ) (bytes : List ℕ) (ended : Type 0) (kind : SnapFault) : Type 0 where
+  pub place : ℕ
+  pub first : FirstFaultAt max_bytes bytes place kind
+  pub at_end : length bytes < place → ended
+
+-- The source failed, and what was read before bears no fault but Truncated.
+pub record IsReadFault (max_bytes : ℕ) (bytes : List ℕ) (failed : Type 0) : Type 0 where
+  pub failed_now : failed
+  pub none_but : (place : ℕ) (kind : SnapFault) → FirstFaultAt max_bytes bytes place kind → kind ≡ Truncated
+
+-- what a fault of a reading says of the bytes that were read
+abbrev pub Explains : ℕ → List ℕ → Type 0 → Type 0 → SnapFault → Type 0
+Explains max_bytes bytes ended failed Read = IsReadFault max_bytes bytes failed
+Explains max_bytes bytes ended failed Memory = Unit {0}
+Explains max_bytes bytes ended failed kind = IsTold max_bytes bytes ended kind
+
+-- what a reader holds: the bytes that came and were not judged yet, how many were judged, and the most that may come
+pub record ReaderState : Type 0 where
+  pub pending : List ℕ
+  pub taken : ℕ
+  pub max_bytes : ℕ
+
+-- The calls that led from s to t gave bytes of which the front was judged without a fault; `left` is still to be read.
+pub record HasRead {S : Type 0} (gives : S → Result (List ℕ) DeviceFault → S → Type 0) (failures : S → ℕ) (max_bytes : ℕ) (s t : S) (reader : ReaderState) (left : Reading) : Type 0 where
+  pub answers : List (Result (List ℕ) DeviceFault)
+  pub calls : Calls gives s answers t
+  pub each : EachTakes answers
+  pub front : List ℕ
+  pub bytes_are : bytes_of_calls answers ≡ front ++ reader.pending
+  pub are_bytes : IsBytes (bytes_of_calls answers)
+  pub taken_is : reader.taken ≡ length front
+  pub limit_is : reader.max_bytes ≡ max_bytes
+  pub within : length front ≤ max_bytes
+  pub few : length answers ≤ max_bytes + 1
+  pub none_failed : failures t ≡ failures s
+  pub resumes : (more : List ℕ) → reading_of (front ++ more) ≡ left (record { at = length front; rest = more })
+
+-- One more call gave nothing: the source has ended.
+pub record HasEnded {S : Type 0} (gives : S → Result (List ℕ) DeviceFault → S → Type 0) (failures : S → ℕ) (ended : Type 0) (max_bytes : ℕ) (s t : S) (reader : ReaderState) (left : Reading) : Type 0 where
+  pub before : S
+  pub has_read : HasRead gives failures max_bytes s before reader left
+  pub gave : gives before (Ok []) t
+  pub at_end : ended
+  pub none_failed : failures t ≡ failures before
+
+-- One more call failed.
+pub record HasFailed {S : Type 0} (gives : S → Result (List ℕ) DeviceFault → S → Type 0) (failures : S → ℕ) (max_bytes : ℕ) (s t : S) (want : ℕ) (left : Reading) : Type 0 where
+  pub before : S
+  pub reader : ReaderState
+  pub has_read : HasRead gives failures max_bytes s before reader left
+  pub fault : DeviceFault
+  pub gave : gives before (Err fault) t
+  pub short : length reader.pending < want
+  pub room : reader.taken + want ≤ max_bytes + 1
+  pub failed : failures t ≡ failures before + 1
+
+-- The reading ended with this fault.
+pub record Stops {S : Type 0} (gives : S → Result (List ℕ) DeviceFault → S → Type 0) (failures : S → ℕ) (ended : Type 0) (max_bytes : ℕ) (s t : S) (kind : SnapFault) : Type 0 where
+  pub answers : List (Result (List ℕ) DeviceFault)
+  pub calls : Calls gives s answers t
+  pub few : length answers ≤ max_bytes + 2
+  pub explains : Explains max_bytes (bytes_of_calls answers) ended (failures t ≡ failures s + 1) kind
+  pub unfailed : (kind ≡ Read → ⊥) → failures t ≡ failures s
+
+-- The source gave a snapshot of these contents, and ended.
+pub record ReadsSnapshot {S : Type 0} (gives : S → Result (List ℕ) DeviceFault → S → Type 0) (failures : S → ℕ) (ended : Type 0) (max_bytes : ℕ) (s t : S) (setup : Setting) (list : List Submission) : Type 0 where
+  pub answers : List (Result (List ℕ) DeviceFault)
+  pub calls : Calls gives s answers t
+  pub few : length answers ≤ max_bytes + 2
+  pub at_end : ended
+  pub none_failed : failures t ≡ failures s
+  pub snapshot : IsSnapshot max_bytes (bytes_of_calls answers) setup list

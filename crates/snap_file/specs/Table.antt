@@ -1,0 +1,176 @@
+-- The table of fields, read from the front: each field is judged as soon as its bytes are there.
+--
+-- A `Reading` is what is still to be read, as a function of the bytes that are left. A `Part` is read before what
+-- follows it, and hands on a value. So the parts below list the fields of a file in their order, each with its
+-- judgements behind it.
+use Rattle.std.specs.Prelude.{ℕ, zero, suc, ◌+◌, ◌-◌, ◌^◌, Bool, not, ◌&&◌, ◌||◌, ◌==◌, if◌then◌else◌, nat_lt, nat_le, List, [], ◌∷◌, ◌++◌, length, take, drop, Result, Ok, Err}
+use Rattle.std.specs.Int.{Width, w8, w32, w64, byte_len, from_be_bytes}
+use Rattle.cells.specs.declared.cell.Cell.{Cell}
+use Rattle.hyper_matrix.specs.Matrix.{matrix}
+use Rattle.hyper_matrix.specs.Cells.{built_of}
+use Rattle.batch_store.specs.Setups.{Setting}
+use Rattle.snap_file.specs.Spelling.{mark, version, stands_in}
+use Rattle.batch_store.specs.Batches.{Submission}
+use Rattle.snap_file.specs.declared.head.Head.{Head}
+use Rattle.snap_file.specs.declared.fault.SnapFault.{SnapFault}
+use Rattle.snap_file.specs.declared.fault.SnapFault.TheVariants.{BadMark, BadVersion, BadHead, BadBatch, OutOfOrder, RepeatedNumber, TotalDiffers, Truncated, ExtraBytes}
+
+-- how many bytes were read, and those that are left
+pub record Input : Type 0 where
+  pub at : ℕ
+  pub rest : List ℕ
+
+-- a fault, and the number of bytes that were read when it shows; the end of the bytes counts as one more
+pub record Fault : Type 0 where
+  pub kind : SnapFault
+  pub place : ℕ
+
+pub record Contents : Type 0 where
+  pub setup : Setting
+  pub batches : List Submission
+
+abbrev pub Reading : Type 0
+Reading = Input → Result Contents Fault
+
+abbrev pub Part : Type 0 → Type 0
+Part A = (A → Reading) → Reading
+
+infixl 10 ◌>>=◌
+abbrev pub ◌>>=◌ : {A B : Type 0} → Part A → (A → Part B) → Part B
+(p >>= f) k = p (λ x. f x k)
+
+abbrev pub give : {A : Type 0} → A → Part A
+give x k = k x
+
+abbrev pub fault_at : SnapFault → ℕ → Result Contents Fault
+fault_at kind place = Err (record { kind = kind; place = place })
+
+-- a field of this width. One of which bytes are missing is Truncated, whatever those that are there
+unfoldable pub number : Width → Part ℕ
+number w k input =
+    if nat_lt (length input.rest) (byte_len w)
+    then fault_at Truncated (input.at + length input.rest + 1)
+    else k (from_be_bytes w (take (byte_len w) input.rest)) (record { at = input.at + byte_len w; rest = drop (byte_len w) input.rest })
+
+-- the judgement of the field that was read last
+unfoldable pub refuse_if : Bool → SnapFault → Part (Unit {0})
+refuse_if test kind k input = if test then fault_at kind input.at else k tt input
+
+-- a number from low to high
+abbrev pub outside : ℕ → ℕ → ℕ → Bool
+outside low high n = nat_lt n low || nat_lt high n
+
+-- a field that is to be from low to high
+abbrev pub field_in : Width → ℕ → ℕ → SnapFault → Part ℕ
+field_in w low high kind = do
+  n ← number w
+  _ ← refuse_if (outside low high n) kind
+  give n
+
+-- one place stands before another, by row, then column
+abbrev pub is_below : ℕ → ℕ → ℕ → ℕ → Bool
+is_below row col least_row least_col = nat_lt row least_row || ((row == least_row) && nat_lt col least_col)
+
+-- n more cuts, behind those that were read; each is at least `least`, one above the one before
+unfoldable pub cuts_behind : ℕ → ℕ → List ℕ → Part (List ℕ)
+cuts_behind zero least cuts = give cuts
+cuts_behind (suc n) least cuts = do
+  cut ← field_in w64 least (2 ^ 40) BadHead
+  cuts_behind n (cut + 1) (cuts ++ cut ∷ [])
+
+unfoldable pub head : Part Head
+head = do
+  _ ← field_in w64 mark mark BadMark
+  _ ← field_in w32 version version BadVersion
+  rows ← field_in w64 1 (2 ^ 60) BadHead
+  cols ← field_in w64 1 (2 ^ 60) BadHead
+  cut_count ← field_in w8 0 7 BadHead
+  cuts ← cuts_behind cut_count 1 []
+  shards ← field_in w8 1 64 BadHead
+  limit ← field_in w64 1 (2 ^ 64 - 1) BadHead
+  max_batches ← field_in w64 1 1000000 BadHead
+  batches ← field_in w64 0 max_batches BadHead
+  total ← field_in w64 0 limit BadHead
+  give (record {
+    setup = record { rows = rows; cols = cols; cuts = cuts; shards = shards; limit = limit; max_batches = max_batches };
+    batches = batches;
+    total = total;
+  })
+
+-- the cells of a batch that were read, the least place that the next one may have, and the sum of all counts in the
+-- file so far
+pub record Tally : Type 0 where
+  pub cells : List Cell
+  pub least_row : ℕ
+  pub least_col : ℕ
+  pub counted : ℕ
+
+-- n more cells, behind those that were read; total is the head's
+unfoldable pub cells_behind : Head → ℕ → Tally → Part Tally
+cells_behind h zero tally = give tally
+cells_behind h (suc n) tally = do
+  row ← number w64
+  _ ← refuse_if (nat_le h.setup.rows row) BadBatch
+  col ← number w64
+  _ ← refuse_if (nat_le h.setup.cols col) BadBatch
+  _ ← refuse_if (is_below row col tally.least_row tally.least_col) OutOfOrder
+  count ← number w64
+  _ ← refuse_if (nat_lt h.total (tally.counted + count)) TotalDiffers
+  cells_behind h n (record { cells = tally.cells ++ (record { row = row; col = col; count = count }) ∷ []; least_row = row; least_col = col + 1; counted = tally.counted + count })
+
+-- the batches that were read, and the sum of all counts so far
+pub record Progress : Type 0 where
+  pub batches : List Submission
+  pub counted : ℕ
+
+abbrev pub no_cells : ℕ → Tally
+no_cells counted = record { cells = []; least_row = 0; least_col = 0; counted = counted }
+
+-- the batch of these cells
+abbrev pub with_batch : Head → Progress → ℕ → ℕ → Tally → Progress
+with_batch h p client batch_number tally = record {
+  batches = p.batches ++ (record { client = client; number = batch_number; matrix = matrix h.setup.rows h.setup.cols (built_of tally.cells) }) ∷ [];
+  counted = tally.counted;
+}
+
+unfoldable pub batch : Head → Progress → Part Progress
+batch h p = do
+  client ← number w64
+  batch_number ← number w64
+  _ ← refuse_if (stands_in client batch_number p.batches) RepeatedNumber
+  entry_count ← number w64
+  tally ← cells_behind h entry_count (no_cells p.counted)
+  give (with_batch h p client batch_number tally)
+
+unfoldable pub batches_behind : Head → ℕ → Progress → Part Progress
+batches_behind h zero p = give p
+batches_behind h (suc n) p = do
+  next ← batch h p
+  batches_behind h n next
+
+-- no byte is left
+unfoldable pub end : Contents → Reading
+end contents input = if length input.rest == 0 then Ok contents else fault_at ExtraBytes (input.at + 1)
+
+abbrev pub nothing_yet : Progress
+nothing_yet = record { batches = []; counted = 0 }
+
+abbrev pub contents : Setting → List Submission → Contents
+contents s list = record { setup = s; batches = list }
+
+abbrev pub contents_of : Head → Progress → Contents
+contents_of h p = record { setup = h.setup; batches = p.batches }
+
+-- the whole file
+abbrev pub body : Head → Reading
+body h = batches_behind h h.batches nothing_yet (λ p. refuse_if (not (p.counted == h.total)) TotalDiffers (λ _. end (contents_of h p)))
+
+abbrev pub whole : Reading
+whole = head body
+
+abbrev pub from_front : List ℕ → Input
+from_front bytes = record { at = 0; rest = bytes }
+
+-- what the bytes are read as
+unfoldable pub reading_of : List ℕ → Result Contents Fault
+reading_of bytes = whole (from_front bytes)

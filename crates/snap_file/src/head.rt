@@ -1,0 +1,113 @@
+//! Reads the head of a file.
+ghost use Rattle.std.specs.Prelude.{◌≡◌, ◌≢◌, ℕ, ◌+◌, ◌<◌, ◌≤◌, ◌^◌, List, [], length, take, Result, IfOk, OnOk, IfErr};
+ghost use Rattle.cells.specs.Bounds.{IsDimension};
+ghost use Rattle.layer_cascade.specs.Cuts.{AreCuts};
+ghost use Rattle.batch_store.specs.Setups.{setting};
+ghost use Rattle.snap_file.specs.Table.{Reading, head, cuts_behind};
+ghost use Rattle.snap_file.specs.Outcomes.{HasRead, Stops};
+
+use crate::fault::SnapFault;
+use crate::limits::{
+    MARK, MOST_BATCHES, MOST_CUT, MOST_CUTS, MOST_DIMENSION, MOST_SHARDS, VERSION,
+};
+use crate::reader::ByteReader;
+use batch_store::Setup;
+use byte_io::Source;
+
+/// What the head of a file says: the setup, how many batches follow, and the sum of all their counts.
+#[derive(Drop)]
+pub struct Head {
+    pub setup: Setup,
+    pub batches: u64,
+    pub total: u64,
+}
+
+// The setup of values that lie within their ranges, with the first so many of the cuts.
+fn setup_of(
+    rows: u64,
+    cols: u64,
+    cuts: [u64; 7],
+    cut_count: usize,
+    shards: u64,
+    limit: u64,
+    max_batches: u64,
+) -> Setup
+    requires few { cut_count ≤ 7 }
+    requires dims { IsDimension rows × IsDimension cols }
+    requires cuts { AreCuts (take cut_count cuts) }
+    requires shards { (1 ≤ shards) × (shards ≤ 64) }
+    requires limit { 1 ≤ limit }
+    requires batches { (1 ≤ max_batches) × (max_batches ≤ 1000000) }
+    ensures { result ≡ setting rows cols (take cut_count cuts) shards limit max_batches }
+{
+    let listed = &cuts[..cut_count];
+    match Setup::new(rows, cols, listed, shards, limit, max_batches) {
+        Ok(setup) => setup,
+        Err(_) => unreachable!(),
+    }
+}
+
+/// Reads so many cuts.
+fn read_cuts<R: Source>(
+    reader: &mut ByteReader,
+    r: &mut R,
+    count: u8,
+) -> Result<[u64; 7], SnapFault>
+    requires failures { R.failure_count r.old + 1 < 2 ^ 64 }
+    requires few { count ≤ 7 }
+    ensures cuts { IfOk result (λ cuts. AreCuts (take count cuts)) }
+    ensures ok { IfOk result (λ cuts. (s : R) (max_bytes : ℕ) (k : List ℕ → Reading) →
+        HasRead R.read_gives R.failure_count max_bytes s r.old reader.old (cuts_behind count 1 [] k) →
+        HasRead R.read_gives R.failure_count max_bytes s r.new reader.new (k (take count cuts))) }
+    ensures err { IfErr result (λ f. (s : R) (max_bytes : ℕ) (k : List ℕ → Reading) →
+        HasRead R.read_gives R.failure_count max_bytes s r.old reader.old (cuts_behind count 1 [] k) →
+        Stops R.read_gives R.failure_count (R.at_end r.new) max_bytes s r.new f) }
+    ensures no_failure { OnOk result (R.failure_count r.new ≡ R.failure_count r.old) }
+{
+    let mut cuts = [0u64; 7];
+    let mut least = 1u64;
+    for i in 0..count as usize {
+        let cut = reader.next_u64_in(r, least, MOST_CUT, SnapFault::BadHead)?;
+        cuts[i] = cut;
+        least = cut + 1;
+    }
+    Ok(cuts)
+}
+
+/// Reads the head.
+pub fn read_head<R: Source>(reader: &mut ByteReader, r: &mut R) -> Result<Head, SnapFault>
+    requires failures { R.failure_count r.old + 1 < 2 ^ 64 }
+    ensures ok { IfOk result (λ h. (s : R) (max_bytes : ℕ) (k : Head → Reading) →
+        HasRead R.read_gives R.failure_count max_bytes s r.old reader.old (head k) →
+        HasRead R.read_gives R.failure_count max_bytes s r.new reader.new (k h)) }
+    ensures err { IfErr result (λ f. (s : R) (max_bytes : ℕ) (k : Head → Reading) →
+        HasRead R.read_gives R.failure_count max_bytes s r.old reader.old (head k) →
+        Stops R.read_gives R.failure_count (R.at_end r.new) max_bytes s r.new f) }
+    ensures no_failure { OnOk result (R.failure_count r.new ≡ R.failure_count r.old) }
+{
+    let _mark = reader.next_u64_in(r, MARK, MARK, SnapFault::BadMark)?;
+    let _version = reader.next_u32_in(r, VERSION, VERSION, SnapFault::BadVersion)?;
+    let rows = reader.next_u64_in(r, 1, MOST_DIMENSION, SnapFault::BadHead)?;
+    let cols = reader.next_u64_in(r, 1, MOST_DIMENSION, SnapFault::BadHead)?;
+    let cut_count = reader.next_u8_in(r, 0, MOST_CUTS, SnapFault::BadHead)?;
+    let cuts = read_cuts(reader, r, cut_count)?;
+    let shards = reader.next_u8_in(r, 1, MOST_SHARDS, SnapFault::BadHead)?;
+    let limit = reader.next_u64_in(r, 1, u64::MAX, SnapFault::BadHead)?;
+    let max_batches = reader.next_u64_in(r, 1, MOST_BATCHES, SnapFault::BadHead)?;
+    let batches = reader.next_u64_in(r, 0, max_batches, SnapFault::BadHead)?;
+    let total = reader.next_u64_in(r, 0, limit, SnapFault::BadHead)?;
+    let setup = setup_of(
+        rows,
+        cols,
+        cuts,
+        cut_count as usize,
+        shards as u64,
+        limit,
+        max_batches,
+    );
+    Ok(Head {
+        setup,
+        batches,
+        total,
+    })
+}

@@ -1,0 +1,44 @@
+//! Laws of the definitions.
+ghost use Rattle.std.specs.Prelude.{◌≡◌, ℕ, ◌≤◌, ◌⊎◌, List, [], ◌++◌, length};
+ghost use Rattle.batch_store.specs.Setups.{Setting};
+ghost use Rattle.snap_file.specs.Spelling.{IsBytes, IsSnapshot};
+ghost use Rattle.snap_file.specs.Outcomes.{FirstFaultAt};
+ghost use Rattle.batch_store.specs.Batches.{Submission};
+ghost use Rattle.snap_file.specs.declared.fault.SnapFault.{SnapFault};
+
+/// Bytes have one first fault at most, at one place.
+pub fn one_first_fault()
+    ensures { (max_bytes : ℕ) (bytes : List ℕ) (p q : ℕ) (j k : SnapFault) →
+        FirstFaultAt max_bytes bytes p j → FirstFaultAt max_bytes bytes q k → (p ≡ q) × (j ≡ k) }
+{}
+
+/// Bytes are a snapshot of one setup and one list of batches at most.
+pub fn one_snapshot_spelled()
+    ensures { (max_bytes : ℕ) (bytes : List ℕ) (s t : Setting) (xs ys : List Submission) →
+        IsSnapshot max_bytes bytes s xs → IsSnapshot max_bytes bytes t ys → (s ≡ t) × (xs ≡ ys) }
+{}
+
+/// A snapshot has no fault.
+pub fn snapshot_or_faulty()
+    ensures { (max_bytes : ℕ) (bytes : List ℕ) (s : Setting) (list : List Submission) (place : ℕ) (kind : SnapFault) →
+        IsSnapshot max_bytes bytes s list → FirstFaultAt max_bytes bytes place kind → ⊥ }
+{}
+
+/// Bytes are a snapshot, or have a first fault.
+pub fn every_file_is_a_snapshot_or_has_a_fault()
+    ensures { (max_bytes : ℕ) (bytes : List ℕ) → IsBytes bytes →
+        ((s : Setting) × (list : List Submission) × IsSnapshot max_bytes bytes s list)
+        ⊎ ((place : ℕ) × (kind : SnapFault) × FirstFaultAt max_bytes bytes place kind) }
+{}
+
+/// No snapshot is a proper front of another, whatever the limits.
+pub fn no_snapshot_begins_another()
+    ensures { (m n : ℕ) (bytes more : List ℕ) (s t : Setting) (xs ys : List Submission) →
+        IsSnapshot m bytes s xs → IsSnapshot n (bytes ++ more) t ys → more ≡ [] }
+{}
+
+/// A fault that shows within the bytes stays the first, however they go on.
+pub fn shown_fault_stays()
+    ensures { (max_bytes : ℕ) (bytes more : List ℕ) (place : ℕ) (kind : SnapFault) →
+        FirstFaultAt max_bytes bytes place kind → place ≤ length bytes → FirstFaultAt max_bytes (bytes ++ more) place kind }
+{}

@@ -1,0 +1,23 @@
+//! Snapshot files: a setup and a list of batches as bytes, and back.
+#![tactic(auto)]
+
+mod batch;
+mod fault;
+mod head;
+mod laws;
+mod limits;
+mod read;
+mod reader;
+mod snapshot;
+mod tally;
+mod write;
+mod writer;
+
+pub use fault::SnapFault;
+pub use laws::{
+    every_file_is_a_snapshot_or_has_a_fault, no_snapshot_begins_another, one_first_fault,
+    one_snapshot_spelled, shown_fault_stays, snapshot_or_faulty,
+};
+pub use read::read_snapshot;
+pub use snapshot::Snapshot;
+pub use write::write_snapshot;

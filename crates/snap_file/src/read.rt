@@ -1,0 +1,58 @@
+//! Reads snapshots.
+ghost use Rattle.std.specs.Prelude.{◌≡◌, ◌+◌, ◌<◌, ◌^◌, IfOk, IfErr};
+ghost use Rattle.snap_file.specs.Outcomes.{ReadsSnapshot, Stops};
+
+use crate::batch::read_batches;
+use crate::fault::SnapFault;
+use crate::head::read_head;
+use crate::reader::ByteReader;
+use crate::snapshot::Snapshot;
+use byte_io::Source;
+use std::alloc::{AllocError, Global};
+
+impl From<AllocError> for SnapFault {
+    ghost use Rattle.std.specs.Prelude.{◌≡◌};
+    ghost use Rattle.snap_file.specs.declared.fault.SnapFault.TheVariants.{Memory};
+
+    ghost from_gives = { λ _ e. e ≡ Memory };
+
+    fn from(_: AllocError) -> SnapFault {
+        SnapFault::Memory
+    }
+}
+
+/// Reads a snapshot from `r` to its end, of at most `max_bytes` bytes, in at most `max_bytes + 2` reads.
+///
+/// Takes time in proportion to the bytes, and for each batch in the logarithm of their number. The memory is that of
+/// the batches, 64 KiB that are read at once, one run of at most 4,096 cells, and a place in a tree for each pair of
+/// client and number: nothing is reserved by a number that the file declares. `r` must have failed less than 2^64 - 1
+/// times before.
+///
+/// # Errors
+///
+/// The first fault of the bytes in the order of the format, each as soon as its bytes are there: `BadMark`, `BadVersion`,
+/// `BadHead`, `BadBatch`, `OutOfOrder`, `RepeatedNumber`, `TotalDiffers`, `ExtraBytes`, `Truncated` where the source
+/// ended, and `TooLong` at byte `max_bytes + 1`. `Read` where a read failed, and `Memory` where a growth was refused.
+/// What was read has been read, and nothing of it is kept.
+pub fn read_snapshot<R: Source>(
+    alloc: Global,
+    r: &mut R,
+    max_bytes: u64,
+) -> Result<Snapshot, SnapFault>
+    requires { R.failure_count r.old + 1 < 2 ^ 64 }
+    // The source ended, and what it gave is the file of exactly this setup and list.
+    ensures ok { IfOk result (λ snapshot.
+        ReadsSnapshot R.read_gives R.failure_count (R.at_end r.new) max_bytes r.old r.new snapshot.setup snapshot.list) }
+    // What it gave has this first fault; or a read failed, or memory was refused.
+    ensures err { IfErr result (λ fault.
+        Stops R.read_gives R.failure_count (R.at_end r.new) max_bytes r.old r.new fault) }
+{
+    let mut reader = ByteReader::new(alloc, max_bytes)?;
+    let head = read_head(&mut reader, r)?;
+    let batches = read_batches(alloc, &mut reader, r, &head)?;
+    reader.expect_end(r)?;
+    Ok(Snapshot {
+        setup: head.setup,
+        batches,
+    })
+}

@@ -1,0 +1,463 @@
+//! Fields of numbers, read from a source in pieces.
+ghost use Rattle.std.specs.Prelude.{◌≡◌, ◌≢◌, ℕ, ◌+◌, ◌-◌, ◌<◌, ◌≤◌, ◌^◌, List, [], ◌++◌, length, take, drop, Result, Ok, Err, IfOk, OnOk, IfErr, OnErr, IsTrue, IsFalse, true, false};
+ghost use Rattle.std.specs.Int.{Width, w8, w32, w64, byte_len, from_be_bytes};
+ghost use Rattle.snap_file.specs.Spelling.{IsBytes};
+ghost use Rattle.snap_file.specs.Table.{Reading, Contents, number, refuse_if, outside, field_in, end};
+ghost use Rattle.snap_file.specs.Outcomes.{HasRead, HasEnded, HasFailed, Stops, ReadsSnapshot};
+ghost use Rattle.snap_file.specs.Fills.{Fills};
+ghost use Rattle.snap_file.specs.declared.fault.SnapFault.{SnapFault};
+
+use crate::fault::SnapFault;
+use byte_io::{DeviceFault, Source};
+use std::alloc::{AllocError, Global};
+use std::marker::Model;
+
+/// How many bytes are asked of the source at once, less those that are pending.
+const PIECE: usize = 65_536;
+
+/// Bytes that came from a source and were not judged yet.
+#[derive(Drop)]
+pub struct ByteReader {
+    piece: Vec<u8>,
+    start: usize,
+    end: usize,
+    taken: u64,
+    max_bytes: u64,
+}
+
+impl Model for ByteReader {
+    ghost use Rattle.std.specs.Prelude.{ℕ, ◌-◌, ◌≤◌, length, take, drop};
+    ghost use Rattle.snap_file.specs.Outcomes.{ReaderState};
+
+    ghost Value = { ReaderState };
+
+    ghost view = { λ r. record { pending = take (r.end - r.start) (drop r.start r.piece.items); taken = r.taken; max_bytes = r.max_bytes } };
+
+    ghost invariant = { λ r. (r.start ≤ r.end) × (r.end ≤ length r.piece.items) × (16 ≤ length r.piece.items) × (r.taken ≤ r.max_bytes) };
+}
+
+/// Moves so many bytes from `start` on to the front.
+fn move_front(piece: &mut [u8], start: usize, count: usize)
+    requires { start + count ≤ length piece.old }
+    ensures len { length piece.new ≡ length piece.old }
+    ensures front { take count piece.new ≡ take count (drop start piece.old) }
+{
+    for i in 0..count {
+        piece[i] = piece[start + i];
+    }
+}
+
+/// The same of a buffer that grows elsewhere.
+fn move_bytes(piece: &mut Vec<u8>, start: usize, count: usize)
+    requires { start + count ≤ length piece.old.items }
+    ensures len { length piece.new.items ≡ length piece.old.items }
+    ensures front { take count piece.new.items ≡ take count (drop start piece.old.items) }
+{
+    move_front(piece.as_mut_slice(), start, count);
+}
+
+/// Reads behind the first bytes of the buffer.
+fn read_back<R: Source>(r: &mut R, piece: &mut [u8], count: usize) -> Result<usize, DeviceFault>
+    requires failures { R.failure_count r.old + 1 < 2 ^ 64 }
+    requires room { count < length piece.old }
+    ensures len { length piece.new ≡ length piece.old }
+    ensures front { take count piece.new ≡ take count piece.old }
+    ensures bound { IfOk result (λ n. count + n ≤ length piece.new) }
+    ensures bytes { IsBytes piece.new }
+    ensures gives { IfOk result (λ n. R.read_gives r.old (Ok (take n (drop count piece.new))) r.new) }
+    ensures end { IfOk result (λ n. n ≡ 0 → R.at_end r.new) }
+    ensures fails { IfErr result (λ e. R.read_gives r.old (Err e) r.new) }
+    ensures ok { OnOk result (R.failure_count r.new ≡ R.failure_count r.old) }
+    ensures err { OnErr result (R.failure_count r.new ≡ R.failure_count r.old + 1) }
+{
+    r.read(&mut piece[count..])
+}
+
+/// The same of a buffer that grows elsewhere.
+fn read_behind<R: Source>(
+    r: &mut R,
+    piece: &mut Vec<u8>,
+    count: usize,
+) -> Result<usize, DeviceFault>
+    requires failures { R.failure_count r.old + 1 < 2 ^ 64 }
+    requires room { count < length piece.old.items }
+    ensures len { length piece.new.items ≡ length piece.old.items }
+    ensures front { take count piece.new.items ≡ take count piece.old.items }
+    ensures bound { IfOk result (λ n. count + n ≤ length piece.new.items) }
+    ensures bytes { IsBytes piece.new.items }
+    ensures gives { IfOk result (λ n. R.read_gives r.old (Ok (take n (drop count piece.new.items))) r.new) }
+    ensures end { IfOk result (λ n. n ≡ 0 → R.at_end r.new) }
+    ensures fails { IfErr result (λ e. R.read_gives r.old (Err e) r.new) }
+    ensures ok { OnOk result (R.failure_count r.new ≡ R.failure_count r.old) }
+    ensures err { OnErr result (R.failure_count r.new ≡ R.failure_count r.old + 1) }
+{
+    read_back(r, piece.as_mut_slice(), count)
+}
+
+/// A buffer of so many bytes.
+fn empty_piece(alloc: Global, len: usize) -> Result<Vec<u8>, AllocError>
+    ensures { IfOk result (λ v. length v.items ≡ len) }
+{
+    vec![in alloc; 0u8; len]
+}
+
+/// The judgement of a field.
+pub fn refuse(test: bool, kind: SnapFault) -> Result<(), SnapFault>
+    ensures ok { OnOk result (test ≡ false) }
+    ensures err { IfErr result (λ f. (f ≡ kind) × (test ≡ true)) }
+{
+    if test { Err(kind) } else { Ok(()) }
+}
+
+/// How many bytes a field needs: all of its own, or the one that is too many.
+fn bytes_wanted(width: usize, room: u64) -> usize
+    requires { (1 ≤ width) × (width ≤ 8) }
+    ensures most { result ≤ width }
+    ensures some { 1 ≤ result }
+    ensures within { result ≤ room + 1 }
+    ensures whole { width ≤ room → result ≡ width }
+    ensures beyond { room < width → result ≡ room + 1 }
+{
+    if room < width as u64 {
+        room as usize + 1
+    } else {
+        width
+    }
+}
+
+/// Whether a number is not from `low` to `high`.
+fn is_outside(n: u64, low: u64, high: u64) -> bool
+    ensures { result ≡ outside low high n }
+{
+    n < low || n > high
+}
+
+fn u64_at(p: &[u8]) -> u64
+    requires { length p.now ≡ 8 }
+    ensures { result ≡ from_be_bytes w64 p.now }
+{
+    u64::from_be_bytes([p[0], p[1], p[2], p[3], p[4], p[5], p[6], p[7]])
+}
+
+fn u32_at(p: &[u8]) -> u32
+    requires { length p.now ≡ 4 }
+    ensures { result ≡ from_be_bytes w32 p.now }
+{
+    u32::from_be_bytes([p[0], p[1], p[2], p[3]])
+}
+
+fn u8_at(p: &[u8]) -> u8
+    requires { length p.now ≡ 1 }
+    ensures { result ≡ from_be_bytes w8 p.now }
+{
+    p[0]
+}
+
+impl ByteReader {
+    /// A reader that has read nothing.
+    pub fn new(alloc: Global, max_bytes: u64) -> Result<ByteReader, AllocError>
+        ensures pending { IfOk result (λ reader. reader.pending ≡ []) }
+        ensures taken { IfOk result (λ reader. reader.taken ≡ 0) }
+        ensures limit { IfOk result (λ reader. reader.max_bytes ≡ max_bytes) }
+    {
+        let piece = empty_piece(alloc, PIECE)?;
+        Ok(ByteReader {
+            piece,
+            start: 0,
+            end: 0,
+            taken: 0,
+            max_bytes,
+        })
+    }
+
+    /// How many bytes are pending.
+    fn len(&self) -> usize
+        ensures { result ≡ length self.now.pending }
+    {
+        self.end - self.start
+    }
+
+    /// How many bytes may still be judged.
+    fn room(&self) -> u64
+        ensures { result + self.now.taken ≡ self.now.max_bytes }
+    {
+        self.max_bytes - self.taken
+    }
+
+    /// One read, behind what is pending.
+    fn fill<R: Source>(&mut self, r: &mut R) -> Result<usize, DeviceFault>
+        requires failures { R.failure_count r.old + 1 < 2 ^ 64 }
+        requires short { length self.old.pending < 8 }
+        ensures taken { self.new.taken ≡ self.old.taken }
+        ensures limit { self.new.max_bytes ≡ self.old.max_bytes }
+        ensures ok { IfOk result (λ n. Fills R.read_gives r.old r.new self.old.pending self.new.pending n) }
+        ensures end { IfOk result (λ n. n ≡ 0 → R.at_end r.new) }
+        ensures err { IfErr result (λ e. R.read_gives r.old (Err e) r.new × (self.new.pending ≡ self.old.pending)) }
+        ensures no_failure { OnOk result (R.failure_count r.new ≡ R.failure_count r.old) }
+        ensures failure { OnErr result (R.failure_count r.new ≡ R.failure_count r.old + 1) }
+    {
+        let start = self.start;
+        let count = self.end - start;
+        move_bytes(&mut self.piece, start, count);
+        self.start = 0;
+        self.end = count;
+        match read_behind(r, &mut self.piece, count) {
+            Ok(n) => {
+                self.end = count + n;
+                Ok(n)
+            }
+            Err(e) => Err(e),
+        }
+    }
+
+    /// Reads until so many bytes are pending (true), or the source has ended (false).
+    fn need<R: Source>(&mut self, r: &mut R, want: usize) -> Result<bool, SnapFault>
+        requires failures { R.failure_count r.old + 1 < 2 ^ 64 }
+        requires want { want ≤ 8 }
+        requires room { self.old.taken + want ≤ self.old.max_bytes + 1 }
+        ensures taken { self.new.taken ≡ self.old.taken }
+        ensures limit { self.new.max_bytes ≡ self.old.max_bytes }
+        ensures yes { IfOk result (λ b. IsTrue b → want ≤ length self.new.pending) }
+        ensures no { IfOk result (λ b. IsFalse b → length self.new.pending < want) }
+        ensures read { IfOk result (λ b. IsTrue b → (s : R) (max_bytes : ℕ) (left : Reading) →
+            HasRead R.read_gives R.failure_count max_bytes s r.old self.old left →
+            HasRead R.read_gives R.failure_count max_bytes s r.new self.new left) }
+        ensures ended { IfOk result (λ b. IsFalse b → (s : R) (max_bytes : ℕ) (left : Reading) →
+            HasRead R.read_gives R.failure_count max_bytes s r.old self.old left →
+            HasEnded R.read_gives R.failure_count (R.at_end r.new) max_bytes s r.new self.new left) }
+        ensures err { IfErr result (λ f. (f ≡ SnapFault.Read) × ((s : R) (max_bytes : ℕ) (left : Reading) →
+            HasRead R.read_gives R.failure_count max_bytes s r.old self.old left →
+            HasFailed R.read_gives R.failure_count max_bytes s r.new want left)) }
+        ensures no_failure { OnOk result (R.failure_count r.new ≡ R.failure_count r.old) }
+    {
+        'pieces: while self.len() < want {
+            match self.fill(r) {
+                Ok(0) => return Ok(false),
+                Ok(_) => {}
+                Err(_) => return Err(SnapFault::Read),
+            }
+        }
+        Ok(true)
+    }
+
+    /// Reads until a field of so many bytes is pending.
+    fn need_field<R: Source>(&mut self, r: &mut R, width: usize) -> Result<(), SnapFault>
+        requires failures { R.failure_count r.old + 1 < 2 ^ 64 }
+        requires width { (1 ≤ width) × (width ≤ 8) }
+        ensures pending { OnOk result (width ≤ length self.new.pending) }
+        ensures room { OnOk result (self.new.taken + width ≤ self.new.max_bytes) }
+        ensures ok { OnOk result ((s : R) (max_bytes : ℕ) (left : Reading) →
+            HasRead R.read_gives R.failure_count max_bytes s r.old self.old left →
+            HasRead R.read_gives R.failure_count max_bytes s r.new self.new left) }
+        ensures err { IfErr result (λ f. (s : R) (max_bytes : ℕ) (w : Width) (k : ℕ → Reading) → byte_len w ≡ width →
+            HasRead R.read_gives R.failure_count max_bytes s r.old self.old (number w k) →
+            Stops R.read_gives R.failure_count (R.at_end r.new) max_bytes s r.new f) }
+        ensures no_failure { OnOk result (R.failure_count r.new ≡ R.failure_count r.old) }
+    {
+        let room = self.room();
+        let want = bytes_wanted(width, room);
+        match self.need(r, want) {
+            Err(fault) => Err(fault),
+            Ok(false) => Err(SnapFault::Truncated),
+            Ok(true) => {
+                if room < width as u64 {
+                    Err(SnapFault::TooLong)
+                } else {
+                    Ok(())
+                }
+            }
+        }
+    }
+
+    /// The number in the next 8 bytes.
+    fn take_u64(&mut self) -> u64
+        requires pending { 8 ≤ length self.old.pending }
+        requires room { self.old.taken + 8 ≤ self.old.max_bytes }
+        ensures value { result ≡ from_be_bytes w64 (take 8 self.old.pending) }
+        ensures pending { self.new.pending ≡ drop 8 self.old.pending }
+        ensures taken { self.new.taken ≡ self.old.taken + 8 }
+        ensures limit { self.new.max_bytes ≡ self.old.max_bytes }
+    {
+        let start = self.start;
+        let n = u64_at(&self.piece[start..start + 8]);
+        self.start = start + 8;
+        self.taken += 8;
+        n
+    }
+
+    /// The number in the next 4 bytes.
+    fn take_u32(&mut self) -> u32
+        requires pending { 4 ≤ length self.old.pending }
+        requires room { self.old.taken + 4 ≤ self.old.max_bytes }
+        ensures value { result ≡ from_be_bytes w32 (take 4 self.old.pending) }
+        ensures pending { self.new.pending ≡ drop 4 self.old.pending }
+        ensures taken { self.new.taken ≡ self.old.taken + 4 }
+        ensures limit { self.new.max_bytes ≡ self.old.max_bytes }
+    {
+        let start = self.start;
+        let n = u32_at(&self.piece[start..start + 4]);
+        self.start = start + 4;
+        self.taken += 4;
+        n
+    }
+
+    /// The number in the next 1 bytes.
+    fn take_u8(&mut self) -> u8
+        requires pending { 1 ≤ length self.old.pending }
+        requires room { self.old.taken + 1 ≤ self.old.max_bytes }
+        ensures value { result ≡ from_be_bytes w8 (take 1 self.old.pending) }
+        ensures pending { self.new.pending ≡ drop 1 self.old.pending }
+        ensures taken { self.new.taken ≡ self.old.taken + 1 }
+        ensures limit { self.new.max_bytes ≡ self.old.max_bytes }
+    {
+        let start = self.start;
+        let n = u8_at(&self.piece[start..start + 1]);
+        self.start = start + 1;
+        self.taken += 1;
+        n
+    }
+
+    /// The next field of 8 bytes.
+    pub fn next_u64<R: Source>(&mut self, r: &mut R) -> Result<u64, SnapFault>
+        requires { R.failure_count r.old + 1 < 2 ^ 64 }
+        ensures ok { IfOk result (λ n. (s : R) (max_bytes : ℕ) (k : ℕ → Reading) →
+            HasRead R.read_gives R.failure_count max_bytes s r.old self.old (number w64 k) →
+            HasRead R.read_gives R.failure_count max_bytes s r.new self.new (k n)) }
+        ensures err { IfErr result (λ f. (s : R) (max_bytes : ℕ) (k : ℕ → Reading) →
+            HasRead R.read_gives R.failure_count max_bytes s r.old self.old (number w64 k) →
+            Stops R.read_gives R.failure_count (R.at_end r.new) max_bytes s r.new f) }
+        ensures no_failure { OnOk result (R.failure_count r.new ≡ R.failure_count r.old) }
+    {
+        self.need_field(r, 8)?;
+        Ok(self.take_u64())
+    }
+
+    /// The next field of 8 bytes, which is to be from `low` to `high`.
+    pub fn next_u64_in<R: Source>(
+        &mut self,
+        r: &mut R,
+        low: u64,
+        high: u64,
+        kind: SnapFault,
+    ) -> Result<u64, SnapFault>
+        requires failures { R.failure_count r.old + 1 < 2 ^ 64 }
+        requires judged { kind ≢ SnapFault.Read }
+        ensures bounds { IfOk result (λ n. (low ≤ n) × (n ≤ high)) }
+        ensures ok { IfOk result (λ n. (s : R) (max_bytes : ℕ) (k : ℕ → Reading) →
+            HasRead R.read_gives R.failure_count max_bytes s r.old self.old (field_in w64 low high kind k) →
+            HasRead R.read_gives R.failure_count max_bytes s r.new self.new (k n)) }
+        ensures err { IfErr result (λ f. (s : R) (max_bytes : ℕ) (k : ℕ → Reading) →
+            HasRead R.read_gives R.failure_count max_bytes s r.old self.old (field_in w64 low high kind k) →
+            Stops R.read_gives R.failure_count (R.at_end r.new) max_bytes s r.new f) }
+        ensures no_failure { OnOk result (R.failure_count r.new ≡ R.failure_count r.old) }
+    {
+        let n = self.next_u64(r)?;
+        let wrong = is_outside(n, low, high);
+        refuse(wrong, kind)?;
+        Ok(n)
+    }
+
+    /// The next field of 4 bytes.
+    pub fn next_u32<R: Source>(&mut self, r: &mut R) -> Result<u32, SnapFault>
+        requires { R.failure_count r.old + 1 < 2 ^ 64 }
+        ensures ok { IfOk result (λ n. (s : R) (max_bytes : ℕ) (k : ℕ → Reading) →
+            HasRead R.read_gives R.failure_count max_bytes s r.old self.old (number w32 k) →
+            HasRead R.read_gives R.failure_count max_bytes s r.new self.new (k n)) }
+        ensures err { IfErr result (λ f. (s : R) (max_bytes : ℕ) (k : ℕ → Reading) →
+            HasRead R.read_gives R.failure_count max_bytes s r.old self.old (number w32 k) →
+            Stops R.read_gives R.failure_count (R.at_end r.new) max_bytes s r.new f) }
+        ensures no_failure { OnOk result (R.failure_count r.new ≡ R.failure_count r.old) }
+    {
+        self.need_field(r, 4)?;
+        Ok(self.take_u32())
+    }
+
+    /// The next field of 4 bytes, which is to be from `low` to `high`.
+    pub fn next_u32_in<R: Source>(
+        &mut self,
+        r: &mut R,
+        low: u32,
+        high: u32,
+        kind: SnapFault,
+    ) -> Result<u32, SnapFault>
+        requires failures { R.failure_count r.old + 1 < 2 ^ 64 }
+        requires judged { kind ≢ SnapFault.Read }
+        ensures bounds { IfOk result (λ n. (low ≤ n) × (n ≤ high)) }
+        ensures ok { IfOk result (λ n. (s : R) (max_bytes : ℕ) (k : ℕ → Reading) →
+            HasRead R.read_gives R.failure_count max_bytes s r.old self.old (field_in w32 low high kind k) →
+            HasRead R.read_gives R.failure_count max_bytes s r.new self.new (k n)) }
+        ensures err { IfErr result (λ f. (s : R) (max_bytes : ℕ) (k : ℕ → Reading) →
+            HasRead R.read_gives R.failure_count max_bytes s r.old self.old (field_in w32 low high kind k) →
+            Stops R.read_gives R.failure_count (R.at_end r.new) max_bytes s r.new f) }
+        ensures no_failure { OnOk result (R.failure_count r.new ≡ R.failure_count r.old) }
+    {
+        let n = self.next_u32(r)?;
+        let wrong = is_outside(n as u64, low as u64, high as u64);
+        refuse(wrong, kind)?;
+        Ok(n)
+    }
+
+    /// The next field of 1 bytes.
+    pub fn next_u8<R: Source>(&mut self, r: &mut R) -> Result<u8, SnapFault>
+        requires { R.failure_count r.old + 1 < 2 ^ 64 }
+        ensures ok { IfOk result (λ n. (s : R) (max_bytes : ℕ) (k : ℕ → Reading) →
+            HasRead R.read_gives R.failure_count max_bytes s r.old self.old (number w8 k) →
+            HasRead R.read_gives R.failure_count max_bytes s r.new self.new (k n)) }
+        ensures err { IfErr result (λ f. (s : R) (max_bytes : ℕ) (k : ℕ → Reading) →
+            HasRead R.read_gives R.failure_count max_bytes s r.old self.old (number w8 k) →
+            Stops R.read_gives R.failure_count (R.at_end r.new) max_bytes s r.new f) }
+        ensures no_failure { OnOk result (R.failure_count r.new ≡ R.failure_count r.old) }
+    {
+        self.need_field(r, 1)?;
+        Ok(self.take_u8())
+    }
+
+    /// The next field of 1 bytes, which is to be from `low` to `high`.
+    pub fn next_u8_in<R: Source>(
+        &mut self,
+        r: &mut R,
+        low: u8,
+        high: u8,
+        kind: SnapFault,
+    ) -> Result<u8, SnapFault>
+        requires failures { R.failure_count r.old + 1 < 2 ^ 64 }
+        requires judged { kind ≢ SnapFault.Read }
+        ensures bounds { IfOk result (λ n. (low ≤ n) × (n ≤ high)) }
+        ensures ok { IfOk result (λ n. (s : R) (max_bytes : ℕ) (k : ℕ → Reading) →
+            HasRead R.read_gives R.failure_count max_bytes s r.old self.old (field_in w8 low high kind k) →
+            HasRead R.read_gives R.failure_count max_bytes s r.new self.new (k n)) }
+        ensures err { IfErr result (λ f. (s : R) (max_bytes : ℕ) (k : ℕ → Reading) →
+            HasRead R.read_gives R.failure_count max_bytes s r.old self.old (field_in w8 low high kind k) →
+            Stops R.read_gives R.failure_count (R.at_end r.new) max_bytes s r.new f) }
+        ensures no_failure { OnOk result (R.failure_count r.new ≡ R.failure_count r.old) }
+    {
+        let n = self.next_u8(r)?;
+        let wrong = is_outside(n as u64, low as u64, high as u64);
+        refuse(wrong, kind)?;
+        Ok(n)
+    }
+
+    /// Reads on to the end of the source, at which no byte may be left.
+    pub fn expect_end<R: Source>(&mut self, r: &mut R) -> Result<(), SnapFault>
+        requires { R.failure_count r.old + 1 < 2 ^ 64 }
+        ensures ok { OnOk result ((s : R) (max_bytes : ℕ) (contents : Contents) →
+            HasRead R.read_gives R.failure_count max_bytes s r.old self.old (end contents) →
+            ReadsSnapshot R.read_gives R.failure_count (R.at_end r.new) max_bytes s r.new contents.setup contents.batches) }
+        ensures err { IfErr result (λ f. (s : R) (max_bytes : ℕ) (contents : Contents) →
+            HasRead R.read_gives R.failure_count max_bytes s r.old self.old (end contents) →
+            Stops R.read_gives R.failure_count (R.at_end r.new) max_bytes s r.new f) }
+    {
+        let room = self.room();
+        match self.need(r, 1) {
+            Err(fault) => Err(fault),
+            Ok(false) => Ok(()),
+            Ok(true) => {
+                if room == 0 {
+                    Err(SnapFault::TooLong)
+                } else {
+                    Err(SnapFault::ExtraBytes)
+                }
+            }
+        }
+    }
+}

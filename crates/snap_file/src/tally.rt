@@ -1,0 +1,108 @@
+//! Reads the cells of a batch.
+ghost use Rattle.std.specs.Prelude.{◌≡◌, ℕ, List, suc, ◌+◌, ◌<◌, ◌≤◌, ◌^◌, nat_lt, OnOk, IfErr};
+ghost use Rattle.cells.specs.Sums.{cell_total};
+ghost use Rattle.cells.specs.declared.cell.Cell.{Cell};
+ghost use Rattle.snap_file.specs.Table.{Reading, Tally, cells_behind, is_below};
+ghost use Rattle.snap_file.specs.Outcomes.{HasRead, Stops};
+ghost use Rattle.snap_file.specs.Tallies.{tally_of, IsRun};
+
+use crate::fault::SnapFault;
+use crate::head::Head;
+use crate::reader::{ByteReader, refuse};
+use byte_io::Source;
+use cells::Cell;
+
+/// The cells that were read, the least place that the next one may have, and the sum of all counts so far.
+#[derive(Drop)]
+pub struct CellTally {
+    pub cells: Vec<Cell>,
+    pub least_row: u64,
+    pub least_col: u64,
+    pub counted: u64,
+}
+
+/// Whether one place stands before another, by row, then column.
+fn stands_before(row: u64, col: u64, least_row: u64, least_col: u64) -> bool
+    ensures { result ≡ is_below row col least_row least_col }
+{
+    row < least_row || (row == least_row && col < least_col)
+}
+
+/// Whether a count more passes the total.
+fn passes(total: u64, counted: u64, count: u64) -> bool
+    requires { counted ≤ total }
+    ensures { result ≡ nat_lt total (counted + count) }
+{
+    total - counted < count
+}
+
+/// Reads one more cell.
+pub fn read_cell<R: Source>(
+    reader: &mut ByteReader,
+    r: &mut R,
+    head: &Head,
+    tally: &mut CellTally,
+) -> Result<(), SnapFault>
+    requires failures { R.failure_count r.old + 1 < 2 ^ 64 }
+    requires counted { tally.old.counted ≤ head.now.total }
+    requires run { IsRun head.now.setup.rows head.now.setup.cols tally.old.cells.items tally.old.least_row tally.old.least_col }
+    ensures counted { OnOk result (tally.new.counted ≤ head.now.total) }
+    ensures run { OnOk result (IsRun head.now.setup.rows head.now.setup.cols tally.new.cells.items tally.new.least_row tally.new.least_col) }
+    ensures added { OnOk result (tally.new.counted + cell_total tally.old.cells.items ≡ tally.old.counted + cell_total tally.new.cells.items) }
+    ensures ok { OnOk result ((s : R) (max_bytes n : ℕ) (done : List Cell) (k : Tally → Reading) →
+        HasRead R.read_gives R.failure_count max_bytes s r.old reader.old (cells_behind head.now (suc n) (tally_of done tally.old) k) →
+        HasRead R.read_gives R.failure_count max_bytes s r.new reader.new (cells_behind head.now n (tally_of done tally.new) k)) }
+    ensures err { IfErr result (λ f. (s : R) (max_bytes n : ℕ) (done : List Cell) (k : Tally → Reading) →
+        HasRead R.read_gives R.failure_count max_bytes s r.old reader.old (cells_behind head.now (suc n) (tally_of done tally.old) k) →
+        Stops R.read_gives R.failure_count (R.at_end r.new) max_bytes s r.new f) }
+    ensures no_failure { OnOk result (R.failure_count r.new ≡ R.failure_count r.old) }
+{
+    let row = reader.next_u64(r)?;
+    let far_row = row >= head.setup.rows();
+    refuse(far_row, SnapFault::BadBatch)?;
+    let col = reader.next_u64(r)?;
+    let far_col = col >= head.setup.cols();
+    refuse(far_col, SnapFault::BadBatch)?;
+    let early = stands_before(row, col, tally.least_row, tally.least_col);
+    refuse(early, SnapFault::OutOfOrder)?;
+    let count = reader.next_u64(r)?;
+    let over = passes(head.total, tally.counted, count);
+    refuse(over, SnapFault::TotalDiffers)?;
+    match tally.cells.push(Cell { row, col, count }) {
+        Err(_) => Err(SnapFault::Memory),
+        Ok(()) => {
+            tally.least_row = row;
+            tally.least_col = col + 1;
+            tally.counted += count;
+            Ok(())
+        }
+    }
+}
+
+/// Reads so many more cells.
+pub fn read_cells<R: Source>(
+    reader: &mut ByteReader,
+    r: &mut R,
+    head: &Head,
+    tally: &mut CellTally,
+    count: u64,
+) -> Result<(), SnapFault>
+    requires failures { R.failure_count r.old + 1 < 2 ^ 64 }
+    requires counted { tally.old.counted ≤ head.now.total }
+    requires run { IsRun head.now.setup.rows head.now.setup.cols tally.old.cells.items tally.old.least_row tally.old.least_col }
+    ensures counted { OnOk result (tally.new.counted ≤ head.now.total) }
+    ensures run { OnOk result (IsRun head.now.setup.rows head.now.setup.cols tally.new.cells.items tally.new.least_row tally.new.least_col) }
+    ensures added { OnOk result (tally.new.counted + cell_total tally.old.cells.items ≡ tally.old.counted + cell_total tally.new.cells.items) }
+    ensures ok { OnOk result ((s : R) (max_bytes : ℕ) (done : List Cell) (k : Tally → Reading) →
+        HasRead R.read_gives R.failure_count max_bytes s r.old reader.old (cells_behind head.now count (tally_of done tally.old) k) →
+        HasRead R.read_gives R.failure_count max_bytes s r.new reader.new (k (tally_of done tally.new))) }
+    ensures err { IfErr result (λ f. (s : R) (max_bytes : ℕ) (done : List Cell) (k : Tally → Reading) →
+        HasRead R.read_gives R.failure_count max_bytes s r.old reader.old (cells_behind head.now count (tally_of done tally.old) k) →
+        Stops R.read_gives R.failure_count (R.at_end r.new) max_bytes s r.new f) }
+    ensures no_failure { OnOk result (R.failure_count r.new ≡ R.failure_count r.old) }
+{
+    for i in 0..count {
+        read_cell(reader, r, head, tally)?;
+    }
+    Ok(())
+}
