@@ -6,3 +6,4 @@ pub mod Fills
 pub mod Tallies
 pub mod Lists
 pub mod Snapshots
+pub mod Files

@@ -3,6 +3,7 @@
 
 mod batch;
 mod fault;
+mod file;
 mod head;
 mod laws;
 mod limits;
@@ -13,7 +14,8 @@ mod tally;
 mod write;
 mod writer;
 
-pub use fault::SnapFault;
+pub use fault::{FileFault, SaveFault, SnapFault};
+pub use file::{load, save};
 pub use laws::{
     every_file_is_a_snapshot_or_has_a_fault, no_snapshot_begins_another, one_first_fault,
     one_snapshot_spelled, shown_fault_stays, snapshot_or_faulty,

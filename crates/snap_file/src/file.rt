@@ -1,0 +1,112 @@
+//! Snapshots as files.
+//!
+//! Nothing is known beforehand of a real file's bytes, so what these calls do to one is shown by tests: the contracts
+//! that they rest on are those of `write_snapshot` and `read_snapshot`.
+ghost use Rattle.batch_store.specs.Batches.{values};
+ghost use Rattle.batch_store.specs.Books.{AreAccepted};
+
+use crate::fault::{FileFault, SaveFault};
+use crate::read::read_snapshot;
+use crate::snapshot::Snapshot;
+use crate::write::write_snapshot;
+use batch_store::{Batch, Setup};
+use byte_io::Counted;
+use std::alloc::{AllocError, Global};
+use std::fs::{self, OpenFile};
+use std::io;
+use std::rt::Files;
+use std::sync::Arc;
+
+/// What is written stands under the path with this behind it, until it is whole.
+const UNFINISHED: &str = ".new";
+
+// The path with `UNFINISHED` behind it.
+fn unfinished(alloc: Global, path: &str) -> Result<String, AllocError> {
+    let mut name = String::new(alloc);
+    name.push_str(path)?;
+    name.push_str(UNFINISHED)?;
+    Ok(name)
+}
+
+// Writes a snapshot to a new file and syncs it.
+fn write_file<R: Files>(
+    rt: &R,
+    path: &str,
+    setup: &Setup,
+    batches: &[Arc<Batch>],
+) -> Result<(), SaveFault>
+    requires { AreAccepted setup.now (values batches.now) }
+{
+    let file = match fs::create(rt, path) {
+        Ok(file) => file,
+        Err(_) => return Err(SaveFault::Create),
+    };
+    let mut sink = Counted::new(file);
+    match write_snapshot(&mut sink, setup, batches) {
+        Ok(()) => {}
+        Err(fault) => return Err(SaveFault::Write(fault)),
+    }
+    match sink.into_inner().sync_all() {
+        Ok(()) => Ok(()),
+        Err(_) => Err(SaveFault::Sync),
+    }
+}
+
+/// Saves a snapshot under `path`: writes it to a file whose name has `.new` behind it, syncs that, and renames it to
+/// `path`. Before the rename no call is made on `path`, so where it fails the file there is as it was; what stands
+/// under the other name then is of no use, and the next save writes over it.
+///
+/// The list is one that a book keeps: no client and number twice, the setup's dimensions, and within both limits.
+///
+/// # Errors
+///
+/// `Memory` for the name, `Create`, `Write`, `Sync` or `Rename` where that step failed.
+pub fn save<R: Files>(
+    rt: &R,
+    alloc: Global,
+    path: &str,
+    setup: &Setup,
+    batches: &[Arc<Batch>],
+) -> Result<(), SaveFault>
+    requires { AreAccepted setup.now (values batches.now) }
+{
+    let name = match unfinished(alloc, path) {
+        Ok(name) => name,
+        Err(_) => return Err(SaveFault::Memory),
+    };
+    write_file(rt, name.as_str(), setup, batches)?;
+    match fs::rename(rt, name.as_str(), path) {
+        Ok(()) => Ok(()),
+        Err(_) => Err(SaveFault::Rename),
+    }
+}
+
+/// Loads the snapshot under `path`, of at most `max_bytes` bytes, as `read_snapshot` reads it.
+///
+/// # Errors
+///
+/// `NotFound` where the file system says that there is no such file, `OpenFailed` for any other fault of opening, `Snap`
+/// with the file's first fault or a failed read, and `Memory` where memory was refused.
+pub fn load<R: Files>(
+    rt: &R,
+    alloc: Global,
+    path: &str,
+    max_bytes: u64,
+) -> Result<Snapshot, FileFault> {
+    let file = match fs::open(rt, path) {
+        Ok(file) => file,
+        Err(error) => return Err(opening_fault(error.kind())),
+    };
+    let mut source = Counted::new(file);
+    let snapshot = read_snapshot(alloc, &mut source, max_bytes)?;
+    Ok(snapshot)
+}
+
+// Why a file wasn't opened.
+fn opening_fault(kind: io::ErrorKind) -> FileFault {
+    match kind {
+        io::ErrorKind::NotFound => FileFault::NotFound,
+        io::ErrorKind::OutOfMemory => FileFault::Memory,
+        _ => FileFault::OpenFailed,
+    }
+}
