@@ -3,4 +3,5 @@ pub mod Sum
 pub mod Running
 pub mod Faults
 pub mod Reading
+pub mod Checks
 pub mod Reports

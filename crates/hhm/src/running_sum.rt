@@ -31,8 +31,8 @@ pub enum RunningSum {
     TooLarge,
 }
 
-// Empty layers.
-fn empty_layers(alloc: Global, rows: u64, cols: u64, cuts: &[u64]) -> Result<Layers, AllocError>
+/// Empty layers.
+pub fn empty_layers(alloc: Global, rows: u64, cols: u64, cuts: &[u64]) -> Result<Layers, AllocError>
     requires rows { IsDimension rows }
     requires cols { IsDimension cols }
     requires cuts { AreCuts cuts.now }
