@@ -151,6 +151,74 @@ NO_LISTS = [
 # Lists that are no cuts: a number outside 1 to 2^40, numbers that don't rise, or more than seven.
 BAD_CUTS = ["0", "0,1", str(2**40 + 1), f"1,{2**40 + 1}", "4,4", "5,4", "1,2,3,4,5,6,7,8", str(MOST), "0" * 20]
 
+def field(value, size=8):
+    """A field of a snapshot: unsigned, the highest byte first."""
+    return value.to_bytes(size, "big")
+
+
+def fields(*values):
+    """Fields of eight bytes."""
+    return b"".join(field(value) for value in values)
+
+
+def snapshot(batches, total, rows=3, cols=3, cuts=(2, 4), shards=2, limit=100, most=10, count=None):
+    """The bytes of a snapshot. A batch is its client, its number, and its cells; a cell is a row, a column and a count."""
+    head = b"HHMSNAP\n" + field(1, 4) + fields(rows, cols) + field(len(cuts), 1) + fields(*cuts) + field(shards, 1)
+    head += fields(limit, most, len(batches) if count is None else count, total)
+    return head + b"".join(
+        fields(client, number, len(cells)) + b"".join(fields(*cell) for cell in cells)
+        for client, number, cells in batches
+    )
+
+
+ONE = [(7, 1, [(0, 0, 5)])]
+TWO = [(7, 1, [(0, 0, 5), (2, 1, 0)]), (8, 1, [(0, 0, 3), (0, 2, 4)])]
+FAR = [(1, 1, [(SIZE - 1, SIZE - 1, MOST)])]
+MANY = [(1, n, [(n, col, 1) for col in range(1_000)]) for n in range(10)]
+
+# A snapshot, and the line of it.
+SNAPSHOTS = [
+    (snapshot(ONE, 5), "rows 3 cols 3 shards 2 batches 1 total 5 entries 1"),
+    (snapshot(TWO, 12), "rows 3 cols 3 shards 2 batches 2 total 12 entries 3"),
+    (snapshot([], 0), "rows 3 cols 3 shards 2 batches 0 total 0 entries 0"),
+    (snapshot([(9, 1, [])], 0), "rows 3 cols 3 shards 2 batches 1 total 0 entries 0"),
+    (
+        snapshot(FAR, MOST, SIZE, SIZE, (1, 2, 3, 4, 5, 6, 2**40), 64, MOST, 1_000_000),
+        f"rows {SIZE} cols {SIZE} shards 64 batches 1 total {MOST} entries 1",
+    ),
+    (
+        snapshot(MANY, 10_000, 10, 1_000, (), 1, 10_000),
+        "rows 10 cols 1000 shards 1 batches 10 total 10000 entries 10000",
+    ),
+    (
+        snapshot([(1, n, MANY[0][2]) for n in range(10)], 10_000, 10, 1_000, (), 1, 10_000),
+        "rows 10 cols 1000 shards 1 batches 10 total 10000 entries 1000",
+    ),
+]
+
+# Bytes that are no snapshot, and the fault that is told of them.
+NO_SNAPSHOTS = [
+    (b"", "Truncated"),
+    (SMALL.encode(), "BadMark"),
+    (snapshot(ONE, 5)[:-1], "Truncated"),
+    (snapshot(ONE, 5) + b"\0", "ExtraBytes"),
+    (snapshot(ONE, 5).replace(b"HHMSNAP\n", b"HHMSNAP\r"), "BadMark"),
+    (b"HHMSNAP\n" + field(2, 4), "BadVersion"),
+    (snapshot(ONE, 5, rows=0), "BadHead"),
+    (snapshot(ONE, 5, cuts=(4, 4)), "BadHead"),
+    (snapshot(ONE, 5, limit=4), "BadHead"),
+    (snapshot(ONE, 5, most=0), "BadHead"),
+    (snapshot(ONE, 6), "TotalDiffers"),
+    (snapshot(ONE, 4), "TotalDiffers"),
+    (snapshot([], 1) + b"\0", "TotalDiffers"),
+    (snapshot([(7, 1, [(3, 0, 5)])], 5), "BadBatch"),
+    (snapshot([(7, 1, [(0, 3, 5)])], 5), "BadBatch"),
+    (snapshot([(7, 1, [(0, 1, 2), (0, 0, 3)])], 5), "OutOfOrder"),
+    (snapshot([(7, 1, [(0, 0, 2), (0, 0, 3)])], 5), "OutOfOrder"),
+    (snapshot(ONE + ONE, 10), "RepeatedNumber"),
+    (snapshot([(7, 1, [])], 0, count=2), "Truncated"),
+]
+
 # Command lines that are not read.
 NO_COMMANDS = [
     [],
@@ -159,6 +227,9 @@ NO_COMMANDS = [
     ["sum", "--cuts"],
     ["sum", "--cuts", "1", "--cuts", "2"],
     ["sum", "--cut", "1"],
+    ["check"],
+    ["check", "a", "b"],
+    ["check", "--cuts", "1", "a"],
 ]
 
 
@@ -188,7 +259,7 @@ def table():
     for words in NO_COMMANDS:
         yield Case(f"hhm {' '.join(words)}", words, error=SOME, status=2)
     yield Case("an argument that isn't UTF-8", ["sum", b"--cuts=\xff"], error=SOME, status=2)
-    for words in [["--help"], ["sum", "--help"]]:
+    for words in [["--help"], ["sum", "--help"], ["check", "--help"]]:
         yield Case(f"hhm {' '.join(words)}", words, output=SOME)
     yield Case("hhm --version", ["--version"], output="hhm 0.1.0\n")
 
@@ -284,6 +355,44 @@ def a_limit_of_memory(program):
         yield case.name, run(program, case, preexec_fn=with_little_memory)
 
 
+def checked(name, path, fault, status):
+    """A check that writes nothing but the line of its fault."""
+    return Case(name, ["check", path], error=f"hhm: {fault}\n", status=status)
+
+
+def snapshots(program):
+    """Files that are snapshots, files that aren't, and paths that are no files."""
+    with tempfile.TemporaryDirectory() as folder:
+        path = os.path.join(folder, "file")
+        for held, line in SNAPSHOTS:
+            with open(path, "wb") as file:
+                file.write(held)
+            yield f"check: {line}", run(program, Case("", ["check", path], output=line + "\n"))
+        for held, fault in NO_SNAPSHOTS:
+            with open(path, "wb") as file:
+                file.write(held)
+            yield f"check: {fault}, {len(held)} bytes", run(program, checked("", path, f"snapshot: {fault}", 3))
+        for case in [
+            checked("check of nothing", os.path.join(folder, "nothing"), "file: NotFound", 4),
+            checked("check in no folder", os.path.join(folder, "no", "file"), "file: NotFound", 4),
+            checked("check below a file", os.path.join(path, "file"), "file: OpenFailed", 4),
+            checked("check of a folder", folder, "snapshot: Read", 4),
+            checked("check of /dev/zero", "/dev/zero", "snapshot: BadMark", 3),
+            checked("check of /dev/null", "/dev/null", "snapshot: Truncated", 3),
+        ]:
+            yield case.name, run(program, case)
+        if os.getuid() != 0:
+            os.chmod(path, 0)
+            case = checked("check without permission", path, "file: OpenFailed", 4)
+            yield case.name, run(program, case)
+            os.chmod(path, 0o600)
+        with open(path, "wb") as file:
+            file.write(snapshot(ONE, 5))
+        case = Case("check on a closed output", ["check", path], error="hhm: output failed after 0 bytes\n", status=4)
+        with tempfile.TemporaryFile() as output:
+            yield case.name, run(program, case, stdout=output, preexec_fn=lambda: os.close(1))
+
+
 def the_example(program):
     """The example of README.md: the block there is what the program writes."""
     with open(os.path.join(HERE, "..", "README.md"), encoding="utf-8") as readme:
@@ -294,7 +403,9 @@ def the_example(program):
         yield case.name, run(program, case, stdin=text)
 
 
-DEVICES = [a_folder_as_input, an_output_that_fails, an_input_that_stays_open, a_limit_of_memory, the_example]
+DEVICES = [
+    a_folder_as_input, an_output_that_fails, an_input_that_stays_open, a_limit_of_memory, snapshots, the_example,
+]  # fmt: skip
 
 
 def results(program):

@@ -3,5 +3,6 @@ pub mod Sum
 pub mod Running
 pub mod Faults
 pub mod Reading
+pub mod Checks
 pub mod Reports
 pub mod LastLayer

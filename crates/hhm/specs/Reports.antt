@@ -8,7 +8,13 @@ use Rattle.hhm.specs.declared.fault.SumFault.TheVariants.{BadCuts, Text, SumTooL
 use Rattle.hhm.specs.declared.numbers.ListFault.{ListFault}
 use Rattle.hhm.specs.declared.numbers.ListFault.TheVariants as list
 use Rattle.hhm.specs.declared.report.Fault.{Fault}
-use Rattle.hhm.specs.declared.report.Fault.TheVariants.{BadNumber, Sum}
+use Rattle.hhm.specs.declared.report.Fault.TheVariants.{BadNumber, Sum, Check}
+use Rattle.hhm.specs.declared.fault.CheckFault.{CheckFault}
+use Rattle.hhm.specs.declared.fault.CheckFault.TheVariants as check
+use Rattle.snap_file.specs.declared.fault.FileFault.{FileFault}
+use Rattle.snap_file.specs.declared.fault.FileFault.TheVariants as file
+use Rattle.snap_file.specs.declared.fault.SnapFault.{SnapFault}
+use Rattle.snap_file.specs.declared.fault.SnapFault.TheVariants as snap
 
 abbrev pub fault_of_list : ListFault → Fault
 fault_of_list list.BadNumber = BadNumber
@@ -26,6 +32,21 @@ sum_status SumTooLarge = 3
 sum_status (Output fault) = 4
 sum_status Memory = 5
 
+-- a read that failed is the device's fault, and all else the file's
+abbrev pub snapshot_status : SnapFault → ℕ
+snapshot_status snap.Read = 4
+snapshot_status _ = 3
+
+abbrev pub file_status : FileFault → ℕ
+file_status (file.Snap fault) = snapshot_status fault
+file_status _ = 4
+
+abbrev pub check_status : CheckFault → ℕ
+check_status (check.File fault) = file_status fault
+check_status check.Memory = 5
+check_status (check.Output fault) = 4
+
 abbrev pub fault_status : Fault → ℕ
 fault_status BadNumber = 2
 fault_status (Sum fault) = sum_status fault
+fault_status (Check fault) = check_status fault

@@ -26,6 +26,19 @@ one line on standard error:
   hhm: output failed after N bytes status 4
   hhm: memory                      status 5";
 
+const CHECK_HELP: &str = "\
+Reads the snapshot in the file PATH to its end, and writes one line to standard
+output, where E is the number of cells of the sum of all batches:
+
+  rows R cols C shards K batches B total T entries E
+
+A fault is one line on standard error:
+
+  hhm: file: NotFound, OpenFailed  status 4
+  hhm: snapshot: KIND              status 3 (KIND Read: 4)
+  hhm: output failed after N bytes status 4
+  hhm: memory                      status 5";
+
 const CUTS_HELP: &str =
     "The cuts of the layers, rising, each 1 to 1099511627776, at most 7, with commas between; or none";
 
@@ -41,14 +54,27 @@ fn sum_command<'a>(alloc: Global) -> Result<Command<'a>, AllocError> {
         .arg(cuts)
 }
 
+fn check_command<'a>(alloc: Global) -> Result<Command<'a>, AllocError> {
+    let path = Arg::new(alloc, "path")
+        .value_name("PATH")
+        .required(true)
+        .help("The snapshot's file");
+    Command::new(alloc, "check")
+        .about("Read a snapshot, and say in one line what it holds")
+        .after_help(CHECK_HELP)
+        .arg(path)
+}
+
 /// The command line of the program.
 pub fn command<'a>(alloc: Global) -> Result<Command<'a>, AllocError> {
     let sum = sum_command(alloc)?;
+    let check = check_command(alloc)?;
     Command::new(alloc, "hhm")
         .bin_name("hhm")?
         .version("0.1.0")
         .about(ABOUT)
         .subcommand_required(true)
         .arg_required_else_help(true)
-        .subcommand(sum)
+        .subcommand(sum)?
+        .subcommand(check)
 }

@@ -1,9 +1,10 @@
-//! Why `sum` doesn't write a sum.
+//! Why `sum` doesn't write a sum, and `check` no line.
 ghost use Rattle.std.specs.Prelude.{◌≡◌};
 ghost use Rattle.hhm.specs.declared.fault.SumFault.TheVariants.{Memory, Text};
 
 use byte_io::WriteFault;
 use mm_text::MmFault;
+use snap_file::FileFault;
 use std::alloc::AllocError;
 
 /// Why a sum was not written.
@@ -35,5 +36,30 @@ impl From<AllocError> for SumFault {
 
     fn from(_: AllocError) -> SumFault {
         SumFault::Memory
+    }
+}
+
+/// Why the line of a snapshot was not written.
+#[derive(Clone, Copy, Debug, PartialEq, Eq)]
+pub enum CheckFault {
+    /// The file could not be opened or read, or is no snapshot. The fault is never want of memory.
+    File(FileFault),
+    /// There was no memory: for the batches, or for their sum.
+    Memory,
+    /// The sink failed, or took nothing of what it was offered.
+    Output(WriteFault),
+}
+
+impl From<FileFault> for CheckFault {
+    ghost use Rattle.std.specs.Prelude.{◌≡◌};
+    ghost use Rattle.hhm.specs.Checks.{fault_of_file};
+
+    ghost from_gives = { λ fault e. e ≡ fault_of_file fault };
+
+    fn from(fault: FileFault) -> CheckFault {
+        match fault {
+            FileFault::Memory => CheckFault::Memory,
+            fault => CheckFault::File(fault),
+        }
     }
 }

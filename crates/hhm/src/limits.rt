@@ -14,6 +14,11 @@ pub const BLOCK_CELLS: usize = 4_096;
 /// Entries: the most that the first part of the last layer takes, at most 65 bytes each, so some 4 MB. Measured on two
 /// million cells with the cut 4,096: with 32,768 a tenth slower, with 131,072 as fast.
 pub const LATEST_ENTRIES: u64 = 65_536;
+/// The most bytes of a snapshot that the program reads.
+pub const SNAPSHOT_BYTES: u64 = 1 << 40;
+
+/// The cuts of the layers in which `check` adds batches up.
+pub const CHECK_CUTS: [u64; 3] = [4_096, 65_536, 1_048_576];
 
 /// The most digits that a number of an option has.
 pub const MAX_DIGITS: usize = 20;

@@ -4,6 +4,7 @@
 //! fault in one line on standard error. What a sum is, and that it is what is written, stands in `sum`.
 #![tactic(auto)]
 
+mod check;
 mod cli;
 mod fault;
 mod last_layer;
@@ -15,6 +16,7 @@ mod sum;
 #[cfg(test)]
 mod sum_tests;
 
+use crate::check::run_check;
 use crate::numbers::read_list;
 use crate::report::Fault;
 use crate::sum::run_sum;
@@ -61,6 +63,10 @@ fn run_matches(rt: &HostRuntime, matches: &ArgMatches) -> Result<ExitCode, Fault
     if let Some(sum) = matches.subcommand_matches("sum") {
         let list = sum.get_str("cuts").unwrap_or(cli::DEFAULT_SUM_CUTS);
         run_sum_word(rt, list)?;
+    }
+    if let Some(check) = matches.subcommand_matches("check") {
+        let path = check.get_str("path").unwrap_or("");
+        run_check(rt, rt.alloc(), path, &mut Counted::new(rt.stdout()))?;
     }
     Ok(ExitCode::SUCCESS)
 }

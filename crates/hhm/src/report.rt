@@ -2,12 +2,13 @@
 ghost use Rattle.std.specs.Prelude.{◌≡◌};
 ghost use Rattle.hhm.specs.Reports.{fault_of_list, fault_status};
 ghost use Rattle.hhm.specs.declared.fault.SumFault.TheVariants.{Memory, Output};
-ghost use Rattle.hhm.specs.declared.report.Fault.TheVariants.{Sum};
+ghost use Rattle.hhm.specs.declared.report.Fault.TheVariants.{Sum, Check};
 
-use crate::fault::SumFault;
+use crate::fault::{CheckFault, SumFault};
 use crate::numbers::ListFault;
 use byte_io::WriteFault;
 use mm_text::{MmFault, MmKind};
+use snap_file::{FileFault, SnapFault};
 use std::alloc::AllocError;
 use std::fmt;
 use std::process::ExitCode;
@@ -19,6 +20,8 @@ pub enum Fault {
     BadNumber,
     /// `sum` wrote no sum, or not all of it.
     Sum(SumFault),
+    /// `check` wrote no line, or not all of it.
+    Check(CheckFault),
 }
 
 impl From<SumFault> for Fault {
@@ -26,6 +29,14 @@ impl From<SumFault> for Fault {
 
     fn from(fault: SumFault) -> Fault {
         Fault::Sum(fault)
+    }
+}
+
+impl From<CheckFault> for Fault {
+    ghost from_gives = { λ fault e. e ≡ Check fault };
+
+    fn from(fault: CheckFault) -> Fault {
+        Fault::Check(fault)
     }
 }
 
@@ -70,6 +81,14 @@ impl fmt::Display for Fault {
             Fault::Sum(SumFault::Output(WriteFault { written })) => {
                 write!(f, "output failed after {written} bytes")
             }
+            Fault::Check(CheckFault::File(FileFault::Snap(kind))) => {
+                write!(f, "snapshot: {kind:?}")
+            }
+            Fault::Check(CheckFault::File(kind)) => write!(f, "file: {kind:?}"),
+            Fault::Check(CheckFault::Memory) => write!(f, "memory"),
+            Fault::Check(CheckFault::Output(WriteFault { written })) => {
+                write!(f, "output failed after {written} bytes")
+            }
         }
     }
 }
@@ -94,6 +113,11 @@ impl Fault {
             Fault::Sum(SumFault::SumTooLarge) => 3,
             Fault::Sum(SumFault::Output(_)) => 4,
             Fault::Sum(SumFault::Memory) => 5,
+            Fault::Check(CheckFault::File(FileFault::Snap(SnapFault::Read))) => 4,
+            Fault::Check(CheckFault::File(FileFault::Snap(_))) => 3,
+            Fault::Check(CheckFault::File(_)) => 4,
+            Fault::Check(CheckFault::Memory) => 5,
+            Fault::Check(CheckFault::Output(_)) => 4,
         }
     }
 

@@ -32,8 +32,8 @@ pub enum RunningSum {
     TooLarge,
 }
 
-// Empty layers, of which the last may be in two parts.
-fn empty_layers(alloc: Global, rows: u64, cols: u64, cuts: &[u64]) -> Result<Layers, AllocError>
+/// Empty layers, of which the last may be in two parts.
+pub fn empty_layers(alloc: Global, rows: u64, cols: u64, cuts: &[u64]) -> Result<Layers, AllocError>
     requires rows { IsDimension rows }
     requires cols { IsDimension cols }
     requires cuts { AreCuts cuts.now }

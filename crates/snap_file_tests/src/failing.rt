@@ -1,0 +1,42 @@
+//! Reads and writes that fail in mid-stream.
+
+use crate::bytes::{MOST_BYTES, ONE, TWO, read, source};
+use byte_io::{Script, Source, WriteFault};
+use snap_file::{SnapFault, read_snapshot, write_snapshot};
+use std::process::Abort;
+use std::test::Fail;
+
+#[test]
+fn each_read_fails_in_turn(rt: HostRuntime) -> Result<(), Fail> {
+    for bytes in [ONE, TWO] {
+        // One byte a read, and one read more at the end.
+        for failing in 0..=bytes.len() as u64 {
+            let mut script = source(rt.alloc(), bytes, 1, Some(failing))?;
+            let answer = read_snapshot(rt.alloc(), &mut script, MOST_BYTES);
+            assert_eq!(rt; answer.err(), Some(SnapFault::Read), "read {failing}");
+            assert_eq!(rt; script.failures(), 1);
+        }
+        let later = bytes.len() as u64 + 1;
+        let mut script = source(rt.alloc(), bytes, 1, Some(later))?;
+        let answer = read_snapshot(rt.alloc(), &mut script, MOST_BYTES);
+        assert_eq!(rt; answer.err(), None);
+    }
+    Ok(())
+}
+
+#[test]
+fn each_write_fails_in_turn(rt: HostRuntime) -> Result<(), Fail> {
+    let snapshot = read(rt.alloc(), TWO, TWO.len(), MOST_BYTES)??;
+    for room in 0..TWO.len() {
+        let mut script = Script::new(rt.alloc(), Vec::new(rt.alloc()), None, Some(room as u64));
+        // Any use of it tells what it keeps.
+        let batches = &snapshot.batches;
+        let answer = write_snapshot(&mut script, &snapshot.setup, batches);
+        let fault = WriteFault {
+            written: room as u128,
+        };
+        assert_eq!(rt; answer, Err(fault));
+        assert!(rt; script.written() == &TWO[..room.min(TWO.len())]);
+    }
+    Ok(())
+}

@@ -1,0 +1,20 @@
+//! Snapshots as bytes and as files: a worked example, each of its prefixes, each field at its bounds and past them, a
+//! script that fails at each read and each write, and real files.
+//!
+//! The bytes were worked out by hand from the format, not taken from a run.
+#![tactic(auto)]
+
+#[cfg(test)]
+mod bytes;
+#[cfg(test)]
+mod examples;
+#[cfg(test)]
+mod failing;
+#[cfg(test)]
+mod fields;
+#[cfg(test)]
+mod files;
+#[cfg(test)]
+mod prefixes;
+#[cfg(test)]
+mod refused_growth;
