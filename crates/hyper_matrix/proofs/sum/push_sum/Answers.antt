@@ -13,16 +13,16 @@ pub set_sorted-requires-clause-sorted : goal.set_sorted-requires-clause-sorted
 set_sorted-requires-clause-sorted c = never_fall c.args.cells.now c.requires.cells
 
 pub set_sum-requires : goal.set_sum-requires
-set_sum-requires c = omega (arith, ap rows_total c.rows.ensures, sum_of_cells c.args.block, piece_total c.set_sorted.new.self c.args.cells.now c.in_ok-set_sorted.ensures.told, c.requires.fits)
+set_sum-requires c = omega (arith, ap rows_total c.rows-then-saturating_add-le-BLOCK_CELLS.ensures, sum_of_cells c.args.block, piece_total c.set_sorted.new.self c.args.cells.now c.in_ok-set_sorted.ensures.told, c.requires.fits)
 
 pub push_changed-requires-clause-some : goal.push_changed-requires-clause-some
-push_changed-requires-clause-some c = sum_some c.args.block c.set_sorted.new.self _ c.requires.other.some (c.in_ok-set_sum.ensures ∙ ap (λ (r : Rows). sum_rows r c.set_sorted.new.self) c.rows.ensures)
+push_changed-requires-clause-some c = sum_some c.args.block c.set_sorted.new.self _ c.requires.other.some (c.in_ok-set_sum.ensures ∙ ap (λ (r : Rows). sum_rows r c.set_sorted.new.self) c.rows-then-saturating_add-le-BLOCK_CELLS.ensures)
 
 pub push_changed-requires-clause-rising : goal.push_changed-requires-clause-rising
-push_changed-requires-clause-rising c = sum_rising c.args.block c.set_sorted.new.self _ c.requires.other c.requires.sorted c.in_ok-set_sorted.ensures.order (c.in_ok-set_sum.ensures ∙ ap (λ (r : Rows). sum_rows r c.set_sorted.new.self) c.rows.ensures)
+push_changed-requires-clause-rising c = sum_rising c.args.block c.set_sorted.new.self _ c.requires.other c.requires.sorted c.in_ok-set_sorted.ensures.order (c.in_ok-set_sum.ensures ∙ ap (λ (r : Rows). sum_rows r c.set_sorted.new.self) c.rows-then-saturating_add-le-BLOCK_CELLS.ensures)
 
 pub returns-then-saturating_add-le-BLOCK_CELLS-clause-sum : goal.returns-then-saturating_add-le-BLOCK_CELLS-clause-sum
-returns-then-saturating_add-le-BLOCK_CELLS-clause-sum c = grows_sum c.args.out.now.items c.push_changed.new.out.items c.args.block c.set_sorted.new.self c.set_sum.new.self c.args.cells.now c.requires.other c.requires.sorted c.in_ok-set_sorted.ensures.order c.in_ok-set_sorted.ensures.told (c.in_ok-set_sum.ensures ∙ ap (λ (r : Rows). sum_rows r c.set_sorted.new.self) c.rows.ensures) c.in_ok-push_changed.ensures.grows
+returns-then-saturating_add-le-BLOCK_CELLS-clause-sum c = grows_sum c.args.out.now.items c.push_changed.new.out.items c.args.block c.set_sorted.new.self c.set_sum.new.self c.args.cells.now c.requires.other c.requires.sorted c.in_ok-set_sorted.ensures.order c.in_ok-set_sorted.ensures.told (c.in_ok-set_sum.ensures ∙ ap (λ (r : Rows). sum_rows r c.set_sorted.new.self) c.rows-then-saturating_add-le-BLOCK_CELLS.ensures) c.in_ok-push_changed.ensures.grows
 
 pub set_sum-requires-2 : goal.set_sum-requires-2
 set_sum-requires-2 c = omega (arith, ap rows_total c.rows-2.ensures, sum_of_cells c.args.block, piece_total c.set_sorted.new.self c.args.cells.now c.in_ok-set_sorted.ensures.told, c.requires.fits)
