@@ -3,7 +3,8 @@
 //! `mm_text` says by `specs/` what a text spells and which of its faults is the first. Here stand the laws that a
 //! reader of those definitions would want to see: that every text spells exactly one file or has exactly one first
 //! fault, that lines, words and numbers have the form that the format gives them, and that a canonical text spells its
-//! list. For each row of the table of faults a law says which word is judged, and what is wrong with it. Each law is a function without parameters and with an empty body, whose `ensures` is the statement.
+//! list. For each row of the table of faults a law says which word is judged, and what is wrong with it. Each law is a
+//! function without parameters and with an empty body, whose `ensures` is the statement.
 #![tactic(auto)]
 
 mod fault_laws;
