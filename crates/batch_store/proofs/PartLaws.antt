@@ -1,4 +1,5 @@
 -- The laws of the shards' shares.
+use Rattle.std.proofs.lemmas.Bool.{or_parts}
 use Rattle.std.proofs.Common.{◌≡◌, ℕ, suc, ◌+◌, ◌<◌, ◌≤◌, Bool, true, false, cond, ◌||◌, List, [], ◌∷◌, refl, sym, ◌∙◌, ap, arith}
 use Rattle.std.specs.List.{list_any}
 use Rattle.std.specs.FinMap.{entries, empty}
@@ -15,14 +16,10 @@ use Rattle.batch_store.specs.Parts.{part_of, below, concerns, concerned, list_be
 pub part_of-le : (s k : ℕ) (m : Counts) → part_of s k m ≤ total m
 part_of-le s k m = omega (arith, total-part m s k, total-entries m, part_sum-le s k (entries m))
 
-or_false : (a b : Bool) → (a || b) ≡ false → (a ≡ false) × (b ≡ false)
-or_false true b e = cc
-or_false false b e = (refl, e)
-
 pub none_in : (s k : ℕ) (es : List (Place × ℕ)) → list_any (λ (e : Place × ℕ). in_part s k e.0) es ≡ false → part_entries s k es ≡ []
 none_in s k [] h = refl
 none_in s k (e ∷ es) h =
-    let p = or_false (in_part s k e.0) (list_any (λ (e : Place × ℕ). in_part s k e.0) es) h in
+    let p = or_parts (in_part s k e.0) (list_any (λ (e : Place × ℕ). in_part s k e.0) es) h in
     ap (λ b. cond b (e ∷ part_entries s k es) (part_entries s k es)) p.0 ∙ none_in s k es p.1
 
 -- a matrix has nothing in a shard that it doesn't concern

@@ -1,4 +1,5 @@
 -- What a shard's fields come to.
+use Rattle.std.proofs.lemmas.Bool.{or_parts}
 use Rattle.std.proofs.Common.{◌≡◌, ℕ, zero, suc, ◌+◌, ◌<◌, ◌≤◌, Bool, true, false, cond, eqb, ◌&&◌, ◌||◌, List, [], ◌∷◌, ◌++◌, length, replicate, Option, None, Some, is_some, refl, sym, ◌∙◌, ap, subst, arith}
 use Rattle.std.specs.List.{AllByRecursion}
 use Rattle.std.specs.Arc.{arc_value}
@@ -55,14 +56,10 @@ no_value : {X : Type 0} (o : Option X) → is_some o ≡ false → o ≡ None
 no_value None h = refl
 no_value (Some x) h = cc
 
-or_false : (a b : Bool) → (a || b) ≡ false → (a ≡ false) × (b ≡ false)
-or_false true b e = cc
-or_false false b e = (refl, e)
-
 pub none_stands : (b : Submission) (list : List Submission) → stands b.client b.number list ≡ false → AllByRecursion (λ (e : Entry). same_pair e (entry_of b) ≡ false) (entries_of list)
 none_stands b [] h = tt
 none_stands b (x ∷ xs) h =
-    let p = or_false (eqb b.client x.client && eqb b.number x.number) (stands b.client b.number xs) h in
+    let p = or_parts (eqb b.client x.client && eqb b.number x.number) (stands b.client b.number xs) h in
     (same_pair_flips (entry_of x) (entry_of b) ∙ p.0, none_stands b xs p.1)
 
 keyed_push : (held : Held) (e : Pair × Arc Submission Global) → AreKeyed held → e.0.client ≡ (arc_value e.1).client → e.0.number ≡ (arc_value e.1).number → AreKeyed (held ++ e ∷ [])

@@ -2,7 +2,7 @@
 use Rattle.std.proofs.Common.{◌≡◌, ℕ, zero, suc, ◌+◌, ◌<◌, Bool, true, false, eqb, ltb, leb, ◌&&◌, List, [], ◌∷◌, length, take, get_or, Option, None, Some, position, refl, sym, ◌∙◌, ap, arith}
 use Rattle.std.specs.Prelude.{if◌then◌else◌}
 use Rattle.std.specs.List.{IsDistinct, AllByRecursion}
-use Rattle.std.proofs.lemmas.Bool.{ltb-true, ltb-false, lt-ltb, le-ltb, leb-true, leb-false, le-leb, lt-leb, eq-eqb, eqb-true}
+use Rattle.std.proofs.lemmas.Bool.{and_parts, ltb-true, ltb-false, lt-ltb, le-ltb, leb-true, leb-false, le-leb, lt-leb, eq-eqb, eqb-true}
 use Rattle.std.proofs.lemmas.List.{get_or-map, length-map}
 use Rattle.std.proofs.lemmas.List.Quantifiers.{position-Some}
 use Rattle.std.proofs.lemmas.Option.{slice_get-get_or, slice_get_within, get_or_from_slice_get}
@@ -12,14 +12,10 @@ use Rattle.batch_store.specs.declared.verdict.Verdict.TheVariants.{Fresh, Known,
 use Rattle.batch_store.specs.Verdicts.{verdict_of, verdict_at, verdict_on_new, same_pair, pair_of, total_of_entries, kept, HasPair, IsVerdict}
 use Rattle.batch_store.proofs.VerdictLaws.{none_same, same_pair_flips}
 
-both_true : (a b : Bool) → (a && b) ≡ true → (a ≡ true) × (b ≡ true)
-both_true true b h = (refl, h)
-both_true false b h = cc
-
 -- the test of two pairs, both ways
 same_pair_is : (b e : Entry) → same_pair b e ≡ true → pair_of e ≡ pair_of b
 same_pair_is b e h =
-    let p = both_true (eqb b.client e.client) (eqb b.number e.number) h in
+    let p = and_parts (eqb b.client e.client) (eqb b.number e.number) h in
     λ i. (sym (eqb-true b.client e.client p.0) i, sym (eqb-true b.number e.number p.1) i)
 
 pair_is_same : (b e : Entry) → pair_of e ≡ pair_of b → same_pair b e ≡ true

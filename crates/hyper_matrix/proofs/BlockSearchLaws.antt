@@ -7,7 +7,7 @@ use Rattle.std.specs.FinMap.Entries.{below_all}
 use Rattle.std.proofs.lemmas.Bool.{cases_lt, leb-true, leb-false, false≢true}
 use Rattle.std.proofs.lemmas.List.{append-nil, take-append-drop, take_all, drop_all}
 use Rattle.std.proofs.lemmas.Cmp.{tied_itself}
-use Rattle.hyper_rows.proofs.SortLaws.{not_below}
+use Rattle.hyper_rows.proofs.BuildLaws.{not_below}
 use Rattle.std.specs.Prelude.{nat_le}
 use Rattle.std.proofs.lemmas.Option.{none-some, same_Some, slice_get_past}
 use Rattle.hyper_rows.specs.Counts.{Place, place_cmp, count_sum}

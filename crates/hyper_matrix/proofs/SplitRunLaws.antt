@@ -16,17 +16,17 @@ nothing_between : {X : Type 0} (xs : List X) (i : ℕ) → slice_range xs i i �
 nothing_between xs i = ap (λ n. take n (drop i xs)) {x = i - i} {y = 0} (omega arith)
 
 -- the cells up to q, and those from q on: q lies in row k or at its end
-pub cut_cells : (at : ℕ) (hs : List (ℕ × ℕ)) (es : Entries) (n k q : ℕ) (d : ℕ × ℕ) → EndsAt at hs n → k < length hs → start_from at hs k < q → q ≤ (get_or hs k d).1 → cells_of (rows_from at hs es) ≡ cells_of (rows_from at (take k hs ++ ((get_or hs k d).0, q) ∷ []) es) ++ cells_of (rows_from q (drop k hs) es)
-cut_cells at [] es n k q d e h s b = absurd (omega arith)
-cut_cells at (x ∷ hs) es n zero q d e h s b =
+pub split_heads_cells : (at : ℕ) (hs : List (ℕ × ℕ)) (es : Entries) (n k q : ℕ) (d : ℕ × ℕ) → EndsAt at hs n → k < length hs → start_from at hs k < q → q ≤ (get_or hs k d).1 → cells_of (rows_from at hs es) ≡ cells_of (rows_from at (take k hs ++ ((get_or hs k d).0, q) ∷ []) es) ++ cells_of (rows_from q (drop k hs) es)
+split_heads_cells at [] es n k q d e h s b = absurd (omega arith)
+split_heads_cells at (x ∷ hs) es n zero q d e h s b =
     let rest = cells_of (rows_from x.1 hs es) in
     let first = at_places x.0 (slice_range es at q) in
     let second = at_places x.0 (slice_range es q x.1) in
     ap (λ (p : Entries). at_places x.0 p ++ rest) (two_parts es at q x.1 (omega (arith, s)) b)
     ∙ ap (λ (r : List (Place × ℕ)). r ++ rest) (map-append (λ (e : ℕ × ℕ). ((x.0, e.0), e.1)) (slice_range es at q) (slice_range es q x.1))
     ∙ append_assoc first second rest ∙ ap (λ (r : List (Place × ℕ)). r ++ (second ++ rest)) (sym (append-nil first))
-cut_cells at (x ∷ hs) es n (suc k) q d e h s b =
-    ap (λ (r : List (Place × ℕ)). at_places x.0 (slice_range es at x.1) ++ r) (cut_cells x.1 hs es n k q d e.1 (omega arith) s b)
+split_heads_cells at (x ∷ hs) es n (suc k) q d e h s b =
+    ap (λ (r : List (Place × ℕ)). at_places x.0 (slice_range es at x.1) ++ r) (split_heads_cells x.1 hs es n k q d e.1 (omega arith) s b)
     ∙ sym (append_assoc (at_places x.0 (slice_range es at x.1)) (cells_of (rows_from x.1 (take k hs ++ ((get_or hs k d).0, q) ∷ []) es)) (cells_of (rows_from q (drop k hs) es)))
 
 -- there is a head behind one that ends too early
@@ -55,12 +55,12 @@ module _ (hs : List (ℕ × ℕ)) (es : Entries) (row from last to n : ℕ) (end
   reaches = subst (λ (h : ℕ × ℕ). to ≤ h.1) (sym (here (0, 0))) cut.behind
 
   -- the rows that are cut off end at `to`
-  pub cut_ends : EndsAt from (split_heads hs row last to) to
-  cut_ends = ends-append from (slice_range hs row last) (((get_or hs last (0, 0)).0, to) ∷ []) (start_from from (drop row hs) (last - row)) to (ends-take from (drop row hs) n (last - row) ends) (cut.before, refl)
+  pub split_ends : EndsAt from (split_heads hs row last to) to
+  split_ends = ends-append from (slice_range hs row last) (((get_or hs last (0, 0)).0, to) ∷ []) (start_from from (drop row hs) (last - row)) to (ends-take from (drop row hs) n (last - row) ends) (cut.before, refl)
 
-  pub cut_told : cells_of (rows_from from (drop row hs) es) ≡ cells_of (rows_from from (split_heads hs row last to) es) ++ cells_of (rows_from to (drop last hs) es)
-  cut_told =
-      cut_cells from (drop row hs) es n (last - row) to (0, 0) ends in_range cut.before reaches
+  pub split_told : cells_of (rows_from from (drop row hs) es) ≡ cells_of (rows_from from (split_heads hs row last to) es) ++ cells_of (rows_from to (drop last hs) es)
+  split_told =
+      split_heads_cells from (drop row hs) es n (last - row) to (0, 0) ends in_range cut.before reaches
       ∙ ap (λ (r : ℕ). cells_of (rows_from from (slice_range hs row last ++ (r, to) ∷ []) es) ++ cells_of (rows_from to (drop (last - row) (drop row hs)) es)) (ap (λ (h : ℕ × ℕ). h.0) (here (0, 0)))
       ∙ ap (λ (r : List (ℕ × ℕ)). cells_of (rows_from from (split_heads hs row last to) es) ++ cells_of (rows_from to r es)) behind_here
 
@@ -80,29 +80,29 @@ module _ (hs : List (ℕ × ℕ)) (es : Entries) (row from last to n : ℕ) (end
   after_told is =
       let h = get_or hs last (0, 0) in
       let rest = drop (last + 1) hs in
-      cut_told ∙ ap (λ (r : List (Place × ℕ)). cells_of (rows_from from (split_heads hs row last to) es) ++ r)
+      split_told ∙ ap (λ (r : List (Place × ℕ)). cells_of (rows_from from (split_heads hs row last to) es) ++ r)
       (ap (λ (r : List (ℕ × ℕ)). cells_of (rows_from to r es)) rest_here
       ∙ ap (λ k. at_places h.0 (slice_range es to k) ++ cells_of (rows_from k rest es)) is
       ∙ ap (λ (p : Entries). at_places h.0 p ++ cells_of (rows_from to rest es)) (nothing_between es to))
 
   -- heads that are to be moved to the front can be
-  pub cut_fits : to < 2 ^ 64 → (k : ℕ) (d : ℕ × ℕ) → k < length (slice_range hs row last) → Fit from 0 (get_or (slice_range hs row last) k d).1
-  cut_fits h k d lt =
+  pub split_fits : to < 2 ^ 64 → (k : ℕ) (d : ℕ × ℕ) → k < length (slice_range hs row last) → Fit from 0 (get_or (slice_range hs row last) k d).1
+  split_fits h k d lt =
       let within = ends_within from (slice_range hs row last) (start_from from (drop row hs) (last - row)) (ends-take from (drop row hs) n (last - row) ends) k d lt in
       (within.0, omega (arith, within.0, within.1, cut.before))
 
   -- moved to the front, they are rows of their own
-  pub cut_rows : (hs' : List (ℕ × ℕ)) (es' : Entries) → from < to → to ≤ length es → hs' ≡ heads_moved from 0 (slice_range hs row last) ++ ((get_or hs last (0, 0)).0, to - from) ∷ [] → es' ≡ slice_range es from to → AreRows hs' es' × (rows_of hs' es' ≡ rows_from from (split_heads hs row last to) es)
+  pub split_rows : (hs' : List (ℕ × ℕ)) (es' : Entries) → from < to → to ≤ length es → hs' ≡ heads_moved from 0 (slice_range hs row last) ++ ((get_or hs last (0, 0)).0, to - from) ∷ [] → es' ≡ slice_range es from to → AreRows hs' es' × (rows_of hs' es' ≡ rows_from from (split_heads hs row last to) es)
   unfolding AreRows rows_of
-  cut_rows hs' es' more inside is_heads is_entries =
+  split_rows hs' es' more inside is_heads is_entries =
       let gs = split_heads hs row last to in
       let moved : hs' ≡ heads_moved from 0 gs =
       is_heads ∙ ap (λ k. heads_moved from 0 (slice_range hs row last) ++ ((get_or hs last (0, 0)).0, k) ∷ []) {x = to - from} {y = to - from + 0} (omega arith)
       ∙ sym (map-append (λ (h : ℕ × ℕ). (h.0, h.1 - from + 0)) (slice_range hs row last) (((get_or hs last (0, 0)).0, to) ∷ [])) in
       let all : length es' ≡ to - from + 0 = omega (arith, ap length is_entries, length-take (to - from) (drop from es), length-drop from es) in (
-        subst (λ (r : List (ℕ × ℕ)). EndsAt 0 r (length es')) (sym moved) (subst (λ k. EndsAt 0 (heads_moved from 0 gs) k) (sym all) (subst (λ k. EndsAt k (heads_moved from 0 gs) (to - from + 0)) {x = from - from + 0} {y = 0} (omega arith) (moved_ends 0 from to from gs (omega arith) cut_ends))),
+        subst (λ (r : List (ℕ × ℕ)). EndsAt 0 r (length es')) (sym moved) (subst (λ k. EndsAt 0 (heads_moved from 0 gs) k) (sym all) (subst (λ k. EndsAt k (heads_moved from 0 gs) (to - from + 0)) {x = from - from + 0} {y = 0} (omega arith) (moved_ends 0 from to from gs (omega arith) split_ends))),
         ap (λ (r : List (ℕ × ℕ)). rows_from 0 r es') moved ∙ ap (rows_from 0 (heads_moved from 0 gs)) is_entries
-            ∙ ap (λ k. rows_from k (heads_moved from 0 gs) (slice_range es from to)) {x = 0} {y = from - from + 0} (omega arith) ∙ moved_rows [] es from to from gs (omega arith) cut_ends,
+            ∙ ap (λ k. rows_from k (heads_moved from 0 gs) (slice_range es from to)) {x = 0} {y = from - from + 0} (omega arith) ∙ moved_rows [] es from to from gs (omega arith) split_ends,
       )
 
 above_cut : {X : Type 0} (j : ℕ) (xs : List (ℕ × X)) (k : ℕ) (d : ℕ × X) (v : X) → KeysAbove j xs → k < length xs → KeysAbove j (take k xs ++ ((get_or xs k d).0, v) ∷ [])
@@ -137,9 +137,9 @@ heads_rise at [] es a = tt
 heads_rise at (x ∷ hs) es a = (above_heads x.0 x.1 hs es a.0, heads_rise x.1 hs es a.1)
 
 -- the numbers of the rows that are cut off rise
-pub cut_rising : (hs : List (ℕ × ℕ)) (es : Entries) (row from last to : ℕ) → AreRising (rows_of hs es) → EndsIn hs row from last to → AreRising (rows_from from (split_heads hs row last to) es)
+pub split_rising : (hs : List (ℕ × ℕ)) (es : Entries) (row from last to : ℕ) → AreRising (rows_of hs es) → EndsIn hs row from last to → AreRising (rows_from from (split_heads hs row last to) es)
 unfolding rows_of
-cut_rising hs es row from last to a cut =
+split_rising hs es row from last to a cut =
     let heads = heads_rise 0 hs es a in
     let at_last : get_or (drop row hs) (last - row) (0, 0) ≡ get_or hs last (0, 0) = get_or-drop row hs (last - row) (0, 0) ∙ ap (λ k. get_or hs k (0, 0)) (omega (arith, cut.order)) in
     rising_rows from (split_heads hs row last to) es (subst (λ (h : ℕ × ℕ). AreRising (slice_range hs row last ++ (h.0, to) ∷ [])) at_last

@@ -37,8 +37,8 @@ pub split_cells : (cells : List Cell) (j e : ℕ) → j ≤ e → map entry_of (
 split_cells cells j e h = ap (map entry_of) (split_at cells j e h) ∙ map-append entry_of (slice_range cells j e) (drop e cells)
 
 -- what stands below the first place of a list in order stands before the list
-pub ends_left : (piece left : List (Place × ℕ)) (k : Place) → IsFirst k left → T (is_sorted place_cmp left) → AllPlaces (λ p. Less p k) piece → Precede piece left
-ends_left piece left k first order below = all_map (λ p. Less p k) (λ p. AllPlaces (Less p) left) (λ p h. before_first p k left first order h) piece below
+pub ends_left : (added left : List (Place × ℕ)) (k : Place) → IsFirst k left → T (is_sorted place_cmp left) → AllPlaces (λ p. Less p k) added → Precede added left
+ends_left added left k first order below = all_map (λ p. Less p k) (λ p. AllPlaces (Less p) left) (λ p h. before_first p k left first order h) added below
 
 -- what stands before a list in order stands before what begins at that list's first place or behind it
 pub ends_right : (block left right : List (Place × ℕ)) (k : Place) → IsFirst k left → T (is_sorted place_cmp (block ++ left)) → BeginsFrom k right → T (is_sorted place_cmp right) → Precede block right
@@ -49,8 +49,8 @@ in_block : (block : Rows) → IsBlock block → T (is_sorted place_cmp (cells_of
 in_block block b sorted = record { numbers = b.numbers; columns = columns_rise block sorted }
 
 -- the numbers of a sum's rows rise
-pub sum_rising : (block piece sum : Rows) → IsBlock block → T (is_sorted place_cmp (cells_of block)) → InOrder piece → sum ≡ sum_rows block piece → AreRising sum
-sum_rising block piece sum b sorted order is = subst AreRising (sym is) (in_order-sum_rows block piece (in_block block b sorted) order).numbers
+pub sum_rising : (block added sum : Rows) → IsBlock block → T (is_sorted place_cmp (cells_of block)) → InOrder added → sum ≡ sum_rows block added → AreRising sum
+sum_rising block added sum b sorted order is = subst AreRising (sym is) (in_order-sum_rows block added (in_block block b sorted) order).numbers
 
 -- a sum of rows has rows where the first has
 some_merged : {X : Type 0} (f : X → X → X) (x : ℕ × X) (xs ys : List (ℕ × X)) → 0 < length (merged f (x ∷ xs) ys)
@@ -61,20 +61,20 @@ some_merged f x xs (y ∷ ys) = elim (cases_order x.0 y.0) [
   | inr (inr more) ↦ subst (λ r. 0 < length r) (sym (merged_greater f x y xs ys more)) (omega arith)
 ]
 
-pub sum_some : (block piece sum : Rows) → 0 < length block → sum ≡ sum_rows block piece → 0 < length sum
-sum_some [] piece sum some is = absurd (omega arith)
-sum_some (x ∷ block) piece sum some is = subst (λ (r : Rows). 0 < length r) (sym is) (some_merged sum_entries x block piece)
+pub sum_some : (block added sum : Rows) → 0 < length block → sum ≡ sum_rows block added → 0 < length sum
+sum_some [] added sum some is = absurd (omega arith)
+sum_some (x ∷ block) added sum some is = subst (λ (r : Rows). 0 < length r) (sym is) (some_merged sum_entries x block added)
 
 -- where no rows are added, the rows stay
 pub sum_none : (rows none sum : Rows) → none ≡ [] → sum ≡ sum_rows rows none → sum ≡ rows
 sum_none rows none sum empty is = is ∙ ap (sum_rows rows) empty ∙ merged-nil sum_entries rows
 
 -- the totals of a block and of other rows make that of their sum
-pub sum_total : (block piece sum : Rows) → IsBlock block → T (is_sorted place_cmp (cells_of block)) → InOrder piece → sum ≡ sum_rows block piece → rows_total sum ≡ rows_total block + rows_total piece
-sum_total block piece sum b sorted order is =
+pub sum_total : (block added sum : Rows) → IsBlock block → T (is_sorted place_cmp (cells_of block)) → InOrder added → sum ≡ sum_rows block added → rows_total sum ≡ rows_total block + rows_total added
+sum_total block added sum b sorted order is =
     let first = in_block block b sorted in
-    ap rows_total is ∙ sym (total-counts_of (sum_rows block piece) (in_order-sum_rows block piece first order)) ∙ ap total (counts_of-sum_rows block piece first order)
-    ∙ total-ewise_add (counts_of block) (counts_of piece) ∙ omega (arith, total-counts_of block first, total-counts_of piece order)
+    ap rows_total is ∙ sym (total-counts_of (sum_rows block added) (in_order-sum_rows block added first order)) ∙ ap total (counts_of-sum_rows block added first order)
+    ∙ total-ewise_add (counts_of block) (counts_of added) ∙ omega (arith, total-counts_of block first, total-counts_of added order)
 
 -- where the first block begins, all of them begin
 pub first_of_blocks : (blocks : List Rows) (d : Rows) (k : Place) → 0 < length blocks → IsFirst k (cells_of (get_or blocks 0 d)) → IsFirst k (all_cells blocks)
@@ -83,7 +83,7 @@ first_of_blocks (block ∷ blocks) d k h first = first_front k (cells_of block) 
 
 -- the first block and its cells are added up and go over to what is done
 pub sum_step : (old rest : List Rows) (block : Rows) (cells : List Cell) (j e : ℕ) (out new : List Rows) → old ≡ block ∷ rest → j ≤ e → T (is_sorted place_cmp (all_cells out ++ all_cells old)) → T (is_sorted place_cmp (all_cells out ++ map entry_of (drop j cells))) → Precede (map entry_of (slice_range cells j e)) (all_cells rest) → Precede (cells_of block) (map entry_of (drop e cells)) → GrowsBySum out new (cells_of block) (map entry_of (slice_range cells j e)) → T (is_sorted place_cmp (all_cells new ++ all_cells rest)) × (T (is_sorted place_cmp (all_cells new ++ map entry_of (drop e cells))) × (ewise_add (built (all_cells new)) (ewise_add (built (all_cells rest)) (built (map entry_of (drop e cells)))) ≡ ewise_add (built (all_cells out)) (ewise_add (built (all_cells old)) (built (map entry_of (drop j cells))))))
-sum_step old rest block cells j e out new is g front other cut_left cut_right grows =
+sum_step old rest block cells j e out new is g front other stand_left stand_right grows =
     let done = all_cells out in
     let a = cells_of block in
     let p = map entry_of (slice_range cells j e) in
@@ -95,9 +95,9 @@ sum_step old rest block cells j e out new is g front other cut_left cut_right gr
     let front' : T (is_sorted place_cmp (done ++ (a ++ left))) = subst (λ (r : List (Place × ℕ)). T (is_sorted place_cmp (done ++ r))) here front in
     let other' : T (is_sorted place_cmp (done ++ (p ++ right))) = subst (λ (r : List (Place × ℕ)). T (is_sorted place_cmp (done ++ r))) there other in
     let told : all_cells new ≡ done ++ s = grows.grows.told in (
-      subst (λ (r : List (Place × ℕ)). T (is_sorted place_cmp (r ++ left))) (sym told) (next_left done a p left right s front' other' grows.sorted grows.sums cut_left),
+      subst (λ (r : List (Place × ℕ)). T (is_sorted place_cmp (r ++ left))) (sym told) (next_left done a p left right s front' other' grows.sorted grows.sums stand_left),
       (
-        subst (λ (r : List (Place × ℕ)). T (is_sorted place_cmp (r ++ right))) (sym told) (next_right done a p left right s front' other' grows.sorted grows.sums cut_right),
+        subst (λ (r : List (Place × ℕ)). T (is_sorted place_cmp (r ++ right))) (sym told) (next_right done a p left right s front' other' grows.sorted grows.sums stand_right),
         ap (λ (r : List (Place × ℕ)). ewise_add (built r) (ewise_add (built left) (built right))) told
             ∙ next_sum done a p left right s front' other' grows.sorted grows.sums
             ∙ ap (λ (r : List (Place × ℕ)). ewise_add (built done) (ewise_add (built r) (built (p ++ right)))) (sym here)
@@ -106,16 +106,16 @@ sum_step old rest block cells j e out new is g front other cut_left cut_right gr
     )
 
 -- the rows of a block's sum with cells were added behind
-pub grows_sum : (old new : List Rows) (block piece sum : Rows) (cells : List Cell) → IsBlock block → T (is_sorted place_cmp (cells_of block)) → InOrder piece → built (cells_of piece) ≡ built_of cells → sum ≡ sum_rows block piece → Grows old new (cells_of sum) → GrowsBySum old new (cells_of block) (map entry_of cells)
-grows_sum old new block piece sum cells b sorted order told is grows =
+pub grows_sum : (old new : List Rows) (block added sum : Rows) (cells : List Cell) → IsBlock block → T (is_sorted place_cmp (cells_of block)) → InOrder added → built (cells_of added) ≡ built_of cells → sum ≡ sum_rows block added → Grows old new (cells_of sum) → GrowsBySum old new (cells_of block) (map entry_of cells)
+grows_sum old new block added sum cells b sorted order told is grows =
     let first = in_block block b sorted in
-    let all : InOrder sum = subst InOrder (sym is) (in_order-sum_rows block piece first order) in
+    let all : InOrder sum = subst InOrder (sym is) (in_order-sum_rows block added first order) in
     record {
       cells = cells_of sum;
       grows = grows;
       sorted = sorted_rows sum all.numbers all.columns;
-      sums = sym (counts_of-built sum all) ∙ ap counts_of is ∙ counts_of-sum_rows block piece first order
-          ∙ ap (λ (m : Counts). ewise_add m (counts_of piece)) (counts_of-built block first) ∙ ap (ewise_add (built (cells_of block))) (counts_of-built piece order ∙ told);
+      sums = sym (counts_of-built sum all) ∙ ap counts_of is ∙ counts_of-sum_rows block added first order
+          ∙ ap (λ (m : Counts). ewise_add m (counts_of added)) (counts_of-built block first) ∙ ap (ewise_add (built (cells_of block))) (counts_of-built added order ∙ told);
     }
 
 -- a block alone
@@ -124,8 +124,8 @@ grows_shared old new block [] sorted none grows = record { cells = cells_of bloc
 grows_shared old new block (x ∷ cells) sorted none grows = absurd (omega arith)
 
 -- the totals of a block and of the rows of cells
-pub piece_total : (piece : Rows) (cells : List Cell) → built (cells_of piece) ≡ built_of cells → rows_total piece ≡ cell_total cells
-piece_total piece cells told = sym (sum_of_cells piece) ∙ sym (total-built (cells_of piece)) ∙ ap total told ∙ total-built_of cells
+pub added_total : (added : Rows) (cells : List Cell) → built (cells_of added) ≡ built_of cells → rows_total added ≡ cell_total cells
+added_total added cells told = sym (sum_of_cells added) ∙ sym (total-built (cells_of added)) ∙ ap total told ∙ total-built_of cells
 
 -- a part of cells has no more than the whole
 pub part_total : (cells : List Cell) (j e : ℕ) → j ≤ e → cell_total (slice_range cells j e) ≤ cell_total cells

@@ -1,14 +1,15 @@
 //! A long run of rows, split into blocks.
 //!
 //! Each block copies its entries and its heads once, one slice of each, the entries to memory with room for
-//! `BLOCK_CELLS`: a sum can be made there later, and never needs more.
+//! `BLOCK_CELLS`, and the heads too where they are more than half as many: a sum can be made there later, and never
+//! needs more.
 ghost use Rattle.std.specs.Prelude.{◌≡◌, ℕ, ◌+◌, ◌-◌, ◌<◌, ◌≤◌, ◌^◌, ◌++◌, OnOk, IfOk, length, drop};
 ghost use Rattle.hyper_rows.specs.Rows.{AreRising, EndsAt, rows_from, cells_of};
 ghost use Rattle.hyper_matrix.specs.Blocks.{AreBlocks, Grows, EndsIn, split_heads};
 
 use crate::block::Block;
 use crate::limits::BLOCK_CELLS;
-use hyper_rows::{Rows, push_heads};
+use hyper_rows::{Rows, push_heads, row_room};
 use std::alloc::{AllocError, Global};
 
 // The row in which the cell before `to` stands, where row `row` begins at `from`.
@@ -47,7 +48,7 @@ fn part(
     requires within { to ≤ length entries.now }
     ensures { IfOk result (λ rows. rows ≡ rows_from from (split_heads heads.now row last to) entries.now) }
 {
-    let mut part_heads = Vec::with_capacity(alloc, last - row + 1)?;
+    let mut part_heads = Vec::with_capacity(alloc, row_room(last - row + 1, BLOCK_CELLS))?;
     push_heads(&mut part_heads, &heads[row..last], from, 0)?;
     part_heads.push((heads[last].0, to - from))?;
     let mut part_entries = Vec::with_capacity(alloc, BLOCK_CELLS)?;

@@ -4,7 +4,7 @@
 //! block that gets none goes over as it is, by what is kept beside its pointer: nothing behind that is read. Any other
 //! is added up in spare rows, and the block and the spare rows exchange theirs, so that the next sum is made in the
 //! memory that the block had. So a block that nobody shares takes memory for a sum of up to `BLOCK_CELLS` cells only
-//! where its rows are more than that memory has room for. A block that is shared stays as it was where it is shared, and
+//! where its rows are more than that memory has room for, which is once or twice in its life (`row_room`). A block that is shared stays as it was where it is shared, and
 //! the sum takes memory of its own; a sum of more cells is split into new blocks, and the old one is freed.
 //!
 //! So a small matrix joins a large one for the price of the blocks that it touches and of a pointer for each other. A
@@ -24,7 +24,7 @@ use crate::blocks::push_all_cells;
 use crate::limits::{BLOCK_CELLS, LISTED_BLOCKS};
 use crate::split_run::push_run;
 use cells::Cell;
-use hyper_rows::Rows;
+use hyper_rows::{Rows, row_room};
 use std::alloc::{AllocError, Global};
 use std::collections::VecDeque;
 
@@ -119,7 +119,12 @@ fn push_sum(
         return Ok(());
     }
     spare.added.set_sorted(alloc, cells)?;
+    let rows = block
+        .rows()
+        .row_count()
+        .saturating_add(spare.added.row_count());
     if block.cell_count().saturating_add(cells.len()) <= BLOCK_CELLS {
+        spare.sum.reserve_rows(row_room(rows, spare.room))?;
         spare.sum.set_sum(alloc, block.rows(), &spare.added)?;
         push_changed(alloc, out, block, &mut spare.sum, spare.room)?;
         return Ok(());

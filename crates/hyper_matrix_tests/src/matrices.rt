@@ -1,7 +1,7 @@
 //! Matrices for tests, and what each must answer.
-ghost use Rattle.cells.specs.Bounds.{IsDimension};
+ghost use Rattle.cells.specs.Bounds.{AreWithin, IsDimension};
 
-use cells::Cell;
+use cells::{Cell, checked_total, rises};
 use hyper_matrix::{Entry, Hyper};
 use std::alloc::{AllocError, Global};
 
@@ -106,6 +106,36 @@ pub fn own_sum_has(alloc: Global, a: Hyper, b: Hyper, want: &[Cell]) -> Result<b
     Ok(false)
 }
 
+/// Whether a matrix that was given away and a list of cells in order have this sum.
+pub fn list_sum_has(
+    alloc: Global,
+    a: Hyper,
+    list: &[Cell],
+    want: &[Cell],
+) -> Result<bool, AllocError>
+    requires { AreWithin a.rows a.cols list.now }
+{
+    let fits = match checked_total(list) {
+        Some(sum) => a.total().checked_add(sum).is_some(),
+        None => false,
+    };
+    if fits && rises(list) {
+        let sum = a.into_sum_with_cells(alloc, list)?;
+        return has(alloc, &sum, want);
+    }
+    Ok(false)
+}
+
+// The same, of a copy and the cells of another matrix.
+fn listed_sum_has(alloc: Global, a: &Hyper, b: &Hyper, want: &[Cell]) -> Result<bool, AllocError> {
+    if a.dims() != b.dims() {
+        return Ok(false);
+    }
+    let list = b.cells(alloc)?;
+    let a = a.copy(alloc)?;
+    list_sum_has(alloc, a, &list, want)
+}
+
 // The same, of copies that share all blocks.
 fn copies_sum_has(alloc: Global, a: &Hyper, b: &Hyper, want: &[Cell]) -> Result<bool, AllocError> {
     let a = a.copy(alloc)?;
@@ -113,9 +143,10 @@ fn copies_sum_has(alloc: Global, a: &Hyper, b: &Hyper, want: &[Cell]) -> Result<
     own_sum_has(alloc, a, b, want)
 }
 
-/// Whether two matrices add up to these cells either way round: as copies, lent, and given away.
+/// Whether two matrices add up to these cells either way round: as copies, as a list of cells, lent, and given away.
 pub fn adds_up(alloc: Global, a: Hyper, b: Hyper, want: &[Cell]) -> Result<bool, AllocError> {
     let copied = copies_sum_has(alloc, &a, &b, want)? && copies_sum_has(alloc, &b, &a, want)?;
     let lent = lent_sum_has(alloc, &a, &b, want)? && lent_sum_has(alloc, &b, &a, want)?;
-    Ok(copied && lent && own_sum_has(alloc, a, b, want)?)
+    let listed = listed_sum_has(alloc, &a, &b, want)? && listed_sum_has(alloc, &b, &a, want)?;
+    Ok(copied && lent && listed && own_sum_has(alloc, a, b, want)?)
 }

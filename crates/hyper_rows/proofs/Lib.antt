@@ -3,7 +3,7 @@ pub mod MergeLaws
 pub mod RowLaws
 pub mod CellLaws
 pub mod PlaceLaws
-pub mod SortLaws
+pub mod BuildLaws
 pub mod OrderLaws
 pub mod RowEndLaws
 pub mod SearchLaws

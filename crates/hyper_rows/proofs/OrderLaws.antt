@@ -12,7 +12,7 @@ use Rattle.cells.specs.Order.{Follows, NeverFall, Precedes, Rise}
 use Rattle.cells.specs.declared.cell.Cell.{Cell}
 use Rattle.hyper_rows.proofs.CountLaws.{places_total, T_first, T_second, T_both, is_less, less_not_equal, built-append, ewise_add_comm, ewise_add_assoc}
 use Rattle.cells.proofs.OrderLaws.{less_place}
-use Rattle.hyper_rows.proofs.SortLaws.{not_below}
+use Rattle.hyper_rows.proofs.BuildLaws.{not_below}
 use Rattle.hyper_rows.proofs.PlaceLaws.{built-in_order, places_of_sum, same_tie}
 
 pub before_before : (p q r : Place) → Less p q → Less q r → Less p r

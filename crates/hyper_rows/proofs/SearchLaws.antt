@@ -17,7 +17,7 @@ use Rattle.hyper_rows.specs.Rows.{Entries, Rows, at_places, cells_of}
 use Rattle.hyper_rows.specs.Search.{is_before, first_from, row_cells, last_place, row_end, TurnsAt, StandsAt, IsRowSum, RowsFrom, RowsFull}
 use Rattle.hyper_rows.proofs.CountLaws.{places_total, T_first, T_second, T_both}
 use Rattle.cells.proofs.OrderLaws.{less_place}
-use Rattle.hyper_rows.proofs.SortLaws.{not_below}
+use Rattle.hyper_rows.proofs.BuildLaws.{not_below}
 
 -- places
 
@@ -153,6 +153,7 @@ cells_to rows i h = let row = get_or rows i (0, []) in ap cells_of (take_more ro
 pub cells_at : (rows : Rows) (i : ℕ) → cells_of rows ≡ cells_of (take i rows) ++ cells_of (drop i rows)
 cells_at rows i = ap cells_of (sym (take-append-drop i rows)) ∙ cells-append (take i rows) (drop i rows)
 
+-- the cells from row i on are those of row i and those behind it
 pub cells_behind : (rows : Rows) (i : ℕ) → i < length rows → cells_of (drop i rows) ≡ at_places (get_or rows i (0, [])).0 (get_or rows i (0, [])).1 ++ cells_of (drop (i + 1) rows)
 cells_behind rows i h = ap cells_of (drop_more rows i (0, []) h)
 

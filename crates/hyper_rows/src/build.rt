@@ -8,7 +8,7 @@ ghost use Rattle.hyper_rows.specs.Rows.{AreRows, InOrder, rows_of, cells_of};
 ghost use Rattle.hyper_rows.specs.Cells.{cell_total, built_of};
 ghost use Rattle.cells.specs.Order.{NeverFall};
 
-use crate::rows::Rows;
+use crate::rows::{Rows, row_room};
 use cells::Cell;
 use std::alloc::{AllocError, Global};
 
@@ -89,7 +89,8 @@ fn count_rows(cells: &[Cell]) -> usize {
     rows
 }
 
-/// The rows of a list of cells that is in order, with room for so many entries, or more if the list has more.
+/// The rows of a list of cells that is in order, with room for so many entries, or more if the list has more, and for
+/// `row_room` of its rows.
 pub fn rows_of_sorted(alloc: Global, cells: &[Cell], room: usize) -> Result<Rows, AllocError>
     requires some { 0 < length cells.now }
     requires sorted { NeverFall cells.now }
@@ -97,7 +98,7 @@ pub fn rows_of_sorted(alloc: Global, cells: &[Cell], room: usize) -> Result<Rows
     ensures order { IfOk result InOrder }
     ensures told { IfOk result (λ rows. built (cells_of rows) ≡ built_of cells.now) }
 {
-    let mut heads = Vec::with_capacity(alloc, count_rows(cells))?;
+    let mut heads = Vec::with_capacity(alloc, row_room(count_rows(cells), room))?;
     let mut entries = Vec::with_capacity(alloc, room.max(cells.len()))?;
     push_cells(&mut heads, &mut entries, cells)?;
     Ok(Rows::from_parts(heads, entries))

@@ -286,6 +286,18 @@ fn push_sums(
     Ok(())
 }
 
+/// How many rows to make room for where there are so many, in a run with room for `room` entries: all that may come,
+/// where half of them are there. A run that grows in the memory of another then finds room for its rows too.
+pub fn row_room(rows: usize, room: usize) -> usize
+    ensures { rows ≤ result }
+{
+    if room / 2 < rows && rows < room {
+        room
+    } else {
+        rows
+    }
+}
+
 impl Rows {
     /// No rows. Takes no memory.
     pub fn new(alloc: Global) -> Rows
@@ -365,6 +377,14 @@ impl Rows {
         push_sums(&mut heads, &mut entries, a, b)?;
         *self = Rows { heads, entries };
         Ok(())
+    }
+
+    /// Makes room for so many rows in all. The rows stay as they are, also where memory is refused.
+    pub fn reserve_rows(&mut self, rows: usize) -> Result<(), AllocError>
+        ensures { self.new ≡ self.old }
+    {
+        self.heads
+            .reserve_exact(rows.saturating_sub(self.heads.len()))
     }
 
     /// The number of cells.

@@ -1,4 +1,5 @@
 -- The number that a word writes.
+use Rattle.std.proofs.lemmas.Bool.{and_parts}
 use Rattle.std.proofs.Common.{inl, inr, ◌⊎◌, ◌≡◌, ℕ, ◌+◌, ◌-◌, ◌^◌, ◌<◌, Bool, true, false, ◌&&◌, ◌||◌, cond, List, []}
 use Rattle.std.proofs.Common.{◌∷◌, ◌++◌, length, get_or, drop, refl, sym, ◌∙◌, ap, arith}
 use Rattle.std.proofs.lemmas.Bool.Decides.{nat_tests}
@@ -73,14 +74,10 @@ plus_cases (b ∷ bs) = by_test (nat_eq b 43) refl
     by_test true h = let plus : b ≡ 43 = grind (arith, nat_tests) in inr (bs, ap (λ c. c ∷ bs) plus, rw h refl)
     by_test false h = inl (rw h refl)
 
-both_true : (v w : Bool) → (v && w) ≡ true → (v ≡ true) × (w ≡ true)
-both_true true w e = (refl, e)
-both_true false w e = cc
-
 -- the digits of a number, as facts
 pub digit_facts : (ds : List ℕ) → are_digits ds ≡ true → (0 < length ds) × All (λ b. is_ascii_digit b ≡ true) ds
 digit_facts ds h =
-    let b = both_true (nat_lt 0 (length ds)) (list_all is_ascii_digit ds) h in
+    let b = and_parts (nat_lt 0 (length ds)) (list_all is_ascii_digit ds) h in
     let some : 0 < length ds = grind (arith, nat_tests, b.0) in
     (some, All-from_get_or (λ b. is_ascii_digit b ≡ true) ds 0 (λ i l. all_at is_ascii_digit ds i b.1 l))
 

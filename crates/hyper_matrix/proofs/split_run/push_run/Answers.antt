@@ -3,7 +3,7 @@ use Rattle.std.proofs.lemmas.List.{append-nil}
 use Rattle.hyper_rows.specs.Counts.{Place}
 use Rattle.hyper_rows.specs.Rows.{AreRising}
 use Rattle.hyper_matrix.specs.Blocks.{all_cells}
-use Rattle.hyper_matrix.proofs.SplitRunLaws.{whole_ends, whole_rows, cut_rising, no_cells}
+use Rattle.hyper_matrix.proofs.SplitRunLaws.{whole_ends, whole_rows, split_rising, no_cells}
 use Rattle.hyper_matrix.proofs.split_run.push_run.Goals as goal
 
 pub split-init : goal.split-init
@@ -16,7 +16,7 @@ split-init c = record {
 
 pub push_part-requires-clause-rising : goal.push_part-requires-clause-rising
 push_part-requires-clause-rising c =
-    subst AreRising (sym c.in_ok-block.ensures) (cut_rising c.parts.result.0.now c.parts.result.1.now c.split.row c.split.from c.row_ending-last.result c.min-to.result (subst AreRising (sym c.parts.ensures.rows) c.requires.rising) c.row_ending-last.ensures)
+    subst AreRising (sym c.in_ok-block.ensures) (split_rising c.parts.result.0.now c.parts.result.1.now c.split.row c.split.from c.row_ending-last.result c.min-to.result (subst AreRising (sym c.parts.ensures.rows) c.requires.rising) c.row_ending-last.ensures)
 
 pub returns : goal.returns
 returns c = record {

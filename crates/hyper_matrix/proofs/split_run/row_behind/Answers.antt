@@ -1,5 +1,5 @@
 use Rattle.std.proofs.Common.{length}
-use Rattle.hyper_matrix.proofs.SplitRunLaws.{within_row, after_row, cut_told, after_told}
+use Rattle.hyper_matrix.proofs.SplitRunLaws.{within_row, after_row, split_told, after_told}
 use Rattle.hyper_matrix.proofs.split_run.row_behind.Goals as goal
 
 pub returns-then-heads-last-clause-ends : goal.returns-then-heads-last-clause-ends
@@ -12,4 +12,4 @@ pub returns-else-heads-last-clause-ends : goal.returns-else-heads-last-clause-en
 returns-else-heads-last-clause-ends c = within_row c.args.heads.now c.args.entries.now c.args.row c.args.from c.args.last c.args.to (length c.args.entries.now) c.requires.ends c.requires.split c.if-heads-last.false
 
 pub returns-else-heads-last-clause-cells : goal.returns-else-heads-last-clause-cells
-returns-else-heads-last-clause-cells c = cut_told c.args.heads.now c.args.entries.now c.args.row c.args.from c.args.last c.args.to (length c.args.entries.now) c.requires.ends c.requires.split
+returns-else-heads-last-clause-cells c = split_told c.args.heads.now c.args.entries.now c.args.row c.args.from c.args.last c.args.to (length c.args.entries.now) c.requires.ends c.requires.split

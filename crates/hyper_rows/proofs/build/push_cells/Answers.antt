@@ -1,6 +1,6 @@
 use Rattle.std.proofs.Common.{inl, inr, sym, ap, ◌∙◌, arith}
 use Rattle.cells.specs.declared.cell.Cell.{Cell}
-use Rattle.hyper_rows.proofs.SortLaws.{next_place, here_next, step_row, step_column, step_same, step_fits, all_done, first_open}
+use Rattle.hyper_rows.proofs.BuildLaws.{next_place, here_next, step_row, step_column, step_same, step_fits, all_done, first_open}
 use Rattle.std.proofs.lemmas.List.{get_or_default}
 use Rattle.hyper_rows.proofs.build.push_cells.Goals as goal
 
