@@ -68,3 +68,7 @@ pub seen_together : (r c : ℕ) (vs left right : List Sight) (sum rest : Matrix)
 seen_together r c vs left right sum rest cut is other =
     (λ i. matrix (is i).rows (is i).cols (ewise_add (is i).counts (other i).counts))
     ∙ ap (matrix r c) (sym (sights-append left right) ∙ ap sights_content (sym cut))
+
+-- the sum of views of shards is that of what the shards hold
+pub sum_shown : (v w : Setting) (vs ws : List Sight) (xs : List Holding) (sum : Matrix) → sum ≡ matrix w.rows w.cols (sights_content ws) → w ≡ v → ws ≡ vs → Show vs xs → sum ≡ matrix v.rows v.cols (shards_content xs)
+sum_shown v w vs ws xs sum is setup views shown = is ∙ (λ i. matrix (setup i).rows (setup i).cols (sights_content (views i))) ∙ ap (matrix v.rows v.cols) (show_content vs xs shown)

@@ -1,0 +1,542 @@
+//! Threads that put generated batches at once, with repeats of each other's pairs, up to the limit and past it, while
+//! others look, export and ask for the status. Afterwards a plain model of the accepted list says what each answer, each
+//! record and the sum must be.
+ghost use Rattle.std.specs.Prelude.{◌≡◌, ◌<◌};
+ghost use Rattle.locked_engine.specs.Opened.{NamesEngine};
+
+use crate::opened::{Answer, put, unopened};
+use batch_store::{Batch, Setup, Shard};
+use cells::Cell;
+use locked_engine::{Engine, Named, Names, PutFault, Seat};
+use plain_engine::PlainEngine;
+use std::alloc::{AllocError, Global};
+use std::collections::BTreeMap;
+use std::marker::Brand;
+use std::process::Abort;
+use std::sync::atomic::{AtomicU64, Ordering};
+use std::sync::ledger::Ledger;
+use std::sync::{Arc, Wait};
+use std::test::Fail;
+use std::thread;
+use std::thread::Threads;
+
+const ROWS: u64 = 60;
+
+const COLS: u64 = 5;
+
+const SHARDS: u64 = 4;
+
+// Reached when some two thirds of the pairs were accepted.
+const LIMIT: u64 = 30_000;
+
+const CLIENTS: u64 = 5;
+
+const NUMBERS: u64 = 1_000;
+
+const WRITERS: u64 = 4;
+
+const READERS: u64 = 2;
+
+const PUTS_EACH: u64 = 2_000;
+
+type Counts = BTreeMap<(u64, u64), u64>;
+
+// Numbers that look random.
+#[derive(Drop)]
+struct Stream {
+    state: u64,
+}
+
+impl Stream {
+    fn below(&mut self, limit: u64) -> u64
+        requires { 0 < limit }
+        ensures { result < limit }
+    {
+        self.state = self
+            .state
+            .wrapping_mul(6_364_136_223_846_793_005)
+            .wrapping_add(1_442_695_040_888_963_407);
+        (self.state >> 33) % limit
+    }
+}
+
+// A pair, and whether its other batch is meant: mostly the same one is put, so that repeats are known.
+#[derive(Clone, Copy, Debug, PartialEq, Eq)]
+struct Draw {
+    client: u64,
+    number: u64,
+    other: bool,
+}
+
+// At most five cells, some of them at one place, some of count 0.
+fn cells_for(alloc: Global, draw: Draw) -> Result<Vec<(u64, u64, u64)>, AllocError> {
+    let seed = draw
+        .client
+        .wrapping_mul(NUMBERS)
+        .wrapping_add(draw.number)
+        .wrapping_mul(2);
+    let mut stream = Stream {
+        state: if draw.other {
+            seed.wrapping_add(1)
+        } else {
+            seed
+        },
+    };
+    let _ = stream.below(2);
+    let mut cells = Vec::new(alloc);
+    let count = stream.below(6);
+    for _ in 0..count {
+        cells.push((stream.below(ROWS), stream.below(COLS), stream.below(9)))?;
+    }
+    Ok(cells)
+}
+
+// A put, and what it was answered.
+#[derive(Clone, Copy)]
+struct Line {
+    draw: Draw,
+    answer: Answer,
+}
+
+// A seat from which a thread puts, and what it was answered. `ended` once all puts were answered.
+#[derive(Drop)]
+struct Writer<N: Named, H: Ledger> {
+    seat: Seat<N, H>,
+    lines: Vec<Line>,
+    ended: bool,
+}
+
+fn put_draw<N: Named, H: Ledger, R: Wait>(
+    rt: &R,
+    alloc: Global,
+    engine: &Engine<N, H>,
+    writer: &mut Writer<N, H>,
+    draw: Draw,
+) -> Result<(), AllocError> {
+    let cells = cells_for(alloc, draw)?;
+    let answer = put(
+        rt,
+        alloc,
+        engine,
+        &mut writer.seat,
+        (draw.client, draw.number),
+        &cells,
+    )?;
+    writer.lines.push(Line { draw, answer })?;
+    Ok(())
+}
+
+fn put_all_draws<N: Named, H: Ledger, R: Wait>(
+    rt: &R,
+    alloc: Global,
+    engine: &Engine<N, H>,
+    writer: &mut Writer<N, H>,
+) -> Result<(), AllocError> {
+    let mut stream = Stream {
+        state: writer.seat.number() as u64,
+    };
+    for _ in 0..PUTS_EACH {
+        let draw = Draw {
+            client: stream.below(CLIENTS),
+            number: stream.below(NUMBERS),
+            other: stream.below(8) == 0,
+        };
+        put_draw(rt, alloc, engine, writer, draw)?;
+    }
+    Ok(())
+}
+
+fn write<N: Named, H: Ledger, R: Wait>(
+    rt: &R,
+    alloc: Global,
+    engine: &Engine<N, H>,
+    writer: &mut Writer<N, H>,
+    ended: &AtomicU64,
+) {
+    writer.ended = put_all_draws(rt, alloc, engine, writer).is_ok();
+    ended.fetch_add(1, Ordering::SeqCst);
+}
+
+// A seat from which a thread reads. `fits` as long as nothing that it reads shrinks, and no total passes a later one.
+#[derive(Drop)]
+struct Reader<N: Named, H: Ledger> {
+    seat: Seat<N, H>,
+    batches: u64,
+    total: u64,
+    fits: bool,
+}
+
+// Reads once: the sum of all shards, one of them, and then the status and the list.
+fn read_once<N: Named, H: Ledger, R: Wait>(
+    rt: &R,
+    alloc: Global,
+    engine: &Engine<N, H>,
+    reader: &mut Reader<N, H>,
+) -> Result<bool, AllocError> {
+    let exported = engine.export(rt, alloc)?.total();
+    let s = reader.batches % engine.setup().shards();
+    let held = engine.look(rt, s, |shard| (shard.number(), shard.total()));
+    let status = engine.status(rt, &mut reader.seat);
+    let list = engine.batch_list(rt, alloc, &mut reader.seat)?;
+    let grows = reader.total <= exported && reader.batches <= status.batches;
+    let fits = match held {
+        Some((number, total)) => number == s && total <= status.total,
+        None => false,
+    };
+    reader.total = exported;
+    reader.batches = status.batches;
+    Ok(
+        grows
+            && fits
+            && exported <= status.total
+            && status.total <= LIMIT
+            && status.batches <= list.len() as u64,
+    )
+}
+
+fn read<N: Named, H: Ledger, R: Wait>(
+    rt: &R,
+    alloc: Global,
+    engine: &Engine<N, H>,
+    reader: &mut Reader<N, H>,
+    ended: &AtomicU64,
+) {
+    for _ in 0..1_000_000 {
+        if !read_once(rt, alloc, engine, reader).unwrap_or(false) {
+            return;
+        }
+        if ended.load(Ordering::SeqCst) == WRITERS {
+            break;
+        }
+    }
+    reader.fits = true;
+}
+
+// All at once.
+fn run<N: Named + Send + Sync, H: Ledger + Send + Sync, R: Threads + Wait + Sync>(
+    rt: &R,
+    alloc: Global,
+    engine: &Engine<N, H>,
+    writers: &mut [Writer<N, H>],
+    readers: &mut [Reader<N, H>],
+    ended: &AtomicU64,
+) {
+    thread::scope(thread::scope_env(), rt, |scope| {
+        for writer in writers {
+            if scope
+                .spawn(move || write(rt, alloc, engine, writer, ended))
+                .is_err()
+            {
+                break;
+            }
+        }
+        for reader in readers {
+            if scope
+                .spawn(move || read(rt, alloc, engine, reader, ended))
+                .is_err()
+            {
+                break;
+            }
+        }
+    });
+}
+
+// An accepted batch as the model has it: what was drawn, how many cells it has, its total, and the total before it.
+#[derive(Drop)]
+struct Accepted {
+    draw: Draw,
+    cells: Counts,
+    total: u64,
+    before: u64,
+}
+
+// Adds a count at a place.
+fn add(counts: &mut Counts, place: (u64, u64), count: u64) -> Result<(), AllocError> {
+    let sum = counts.entry(place)?.or_insert(0u64);
+    *sum = sum.wrapping_add(count);
+    Ok(())
+}
+
+// The cells that are drawn, each place once.
+fn summed(alloc: Global, draw: Draw) -> Result<Counts, AllocError> {
+    let mut counts = BTreeMap::new(alloc);
+    for (row, col, count) in &cells_for(alloc, draw)? {
+        add(&mut counts, (*row, *col), *count)?;
+    }
+    Ok(counts)
+}
+
+fn total_of(counts: &Counts) -> u64 {
+    let mut total = 0u64;
+    for (_, count) in counts {
+        total = total.wrapping_add(*count);
+    }
+    total
+}
+
+// Whether a list of cells has these counts, in order.
+fn are_cells(cells: &[Cell], counts: &Counts) -> bool {
+    if cells.len() != counts.len() {
+        return false;
+    }
+    for (cell, (place, count)) in cells.iter().zip(counts) {
+        if (cell.row, cell.col) != *place || cell.count != *count {
+            return false;
+        }
+    }
+    true
+}
+
+// Which of the two batches of its pair an accepted batch is, and None where it is neither.
+fn drawn(alloc: Global, b: &Batch) -> Result<Option<Draw>, AllocError> {
+    let cells = b.matrix.cells(alloc)?;
+    for other in [false, true] {
+        let draw = Draw {
+            client: b.client,
+            number: b.number,
+            other,
+        };
+        if are_cells(&cells, &summed(alloc, draw)?) {
+            return Ok(Some(draw));
+        }
+    }
+    Ok(None)
+}
+
+// The accepted list, the place of each pair in it, and the sum of all its batches.
+#[derive(Drop)]
+struct Model {
+    list: Vec<Accepted>,
+    places: BTreeMap<(u64, u64), usize>,
+    sum: Counts,
+    total: u64,
+}
+
+impl Model {
+    // Takes in a batch that was accepted next. False where its pair was accepted before.
+    fn take(&mut self, alloc: Global, draw: Draw) -> Result<bool, AllocError> {
+        let cells = summed(alloc, draw)?;
+        let total = total_of(&cells);
+        let new = self
+            .places
+            .insert((draw.client, draw.number), self.list.len())?
+            .is_none();
+        for (place, count) in &cells {
+            add(&mut self.sum, *place, *count)?;
+        }
+        self.list.push(Accepted {
+            draw,
+            cells,
+            total,
+            before: self.total,
+        })?;
+        self.total = self.total.wrapping_add(total);
+        Ok(new)
+    }
+
+    // Whether the batch that was drawn stands at a place of the list, or one of as many cells and the same total, and
+    // the totals up to there are these.
+    fn has(&self, cells: &Counts, draw: Draw, index: u64, after: u64) -> bool {
+        match self.list.get(index as usize) {
+            Some(line) => {
+                (line.draw.client, line.draw.number) == (draw.client, draw.number)
+                    && line.cells.len() == cells.len()
+                    && line.total == total_of(cells)
+                    && line.before.wrapping_add(line.total) == after
+            }
+            None => false,
+        }
+    }
+
+    // Whether a put may have been answered so, at some moment.
+    fn allows(&self, alloc: Global, line: &Line) -> Result<bool, AllocError> {
+        let draw = line.draw;
+        let cells = summed(alloc, draw)?;
+        let total = total_of(&cells);
+        let place = self.places.get(&(draw.client, draw.number)).copied();
+        let found = place.and_then(|place| self.list.get(place));
+        Ok(match line.answer {
+            Ok((index, after)) => self.has(&cells, draw, index, after),
+            Err(PutFault::NumberReused) => match found {
+                Some(line) => line.cells.len() != cells.len() || line.total != total,
+                None => false,
+            },
+            Err(PutFault::OverTotal { accepted }) => {
+                accepted <= self.total
+                    && total > LIMIT.saturating_sub(accepted)
+                    && match found {
+                        Some(line) => line.before >= accepted,
+                        None => true,
+                    }
+            }
+            Err(_) => false,
+        })
+    }
+}
+
+// The model of the batches of an engine. None where one of them is none that was drawn, or a pair stands twice.
+fn model_of(alloc: Global, batches: &[Arc<Batch>]) -> Result<Option<Model>, AllocError> {
+    let mut model = Model {
+        list: Vec::new(alloc),
+        places: BTreeMap::new(alloc),
+        sum: BTreeMap::new(alloc),
+        total: 0,
+    };
+    for b in batches {
+        match drawn(alloc, b)? {
+            Some(draw) => {
+                if !model.take(alloc, draw)? {
+                    return Ok(None);
+                }
+            }
+            None => return Ok(None),
+        }
+    }
+    Ok(Some(model))
+}
+
+// Whether a batch has a cell in shard s.
+fn concerns(cells: &Counts, s: u64) -> bool {
+    cells.iter().any(|(place, _)| place.0 % SHARDS == s)
+}
+
+// The total of the counts in shard s.
+fn total_in(cells: &Counts, s: u64) -> u64 {
+    let mut total = 0u64;
+    for (place, count) in cells {
+        if place.0 % SHARDS == s {
+            total = total.wrapping_add(*count);
+        }
+    }
+    total
+}
+
+// Compares a shard's record, in order, and its total.
+fn agree_on_shard(rt: &impl Abort, shard: &Shard, model: &Model, s: u64) {
+    let mut next = 0u64;
+    for line in &model.list {
+        if concerns(&line.cells, s) {
+            let pair = shard.at(next).map(|b| (b.client, b.number));
+            assert_eq!(rt; pair, Some((line.draw.client, line.draw.number)));
+            next = next.wrapping_add(1);
+        }
+    }
+    assert_eq!(rt; shard.record_len(), next);
+    assert_eq!(rt; shard.total(), total_in(&model.sum, s));
+}
+
+// Each answer is one that the model allows, and each accepted batch was answered to somebody. There were repeats, and
+// the limit was reached.
+fn agree_on_answers(
+    rt: &impl Abort,
+    alloc: Global,
+    lines: &[Line],
+    model: &Model,
+) -> Result<(), Fail> {
+    let mut told = BTreeMap::new(alloc);
+    let mut accepted = 0usize;
+    let mut refused = 0usize;
+    for line in lines {
+        assert!(rt; model.allows(alloc, line)?);
+        match line.answer {
+            Ok((index, _)) => {
+                told.insert(index, ())?;
+                accepted = accepted.wrapping_add(1);
+            }
+            Err(PutFault::OverTotal { accepted: _ }) => refused = refused.wrapping_add(1),
+            Err(_) => {}
+        }
+    }
+    assert_eq!(rt; told.len(), model.list.len());
+    assert!(rt; accepted > model.list.len() && refused > 0);
+    Ok(())
+}
+
+// Compares all that an engine has with the model of its batches.
+fn agree(rt: &impl Abort, alloc: Global, closed: &PlainEngine, lines: &[Line]) -> Result<(), Fail> {
+    let batches = closed.batches(alloc)?;
+    let model = model_of(alloc, &batches)?.ok_or("a batch that nobody put, or one twice")?;
+    let status = closed.status();
+    assert_eq!(rt;
+        (status.batches as usize, status.total),
+        (model.list.len(), model.total)
+    );
+    assert!(rt; model.total <= LIMIT);
+    agree_on_answers(rt, alloc, lines, &model)?;
+    let sum = closed.export(alloc)?;
+    assert!(rt; are_cells(&sum.cells(alloc)?, &model.sum));
+    for s in 0..SHARDS {
+        let shard = closed.shard(s).ok_or("no shard")?;
+        agree_on_shard(rt, shard, &model, s);
+    }
+    Ok(())
+}
+
+#[test]
+fn threads_agree_with_a_plain_model(rt: HostRuntime) -> Result<(), Fail> {
+    let setup = Setup::new(ROWS, COLS, &[16, 64], SHARDS, LIMIT, 1_000_000)?;
+    let seats = (WRITERS + READERS) as usize;
+    let (plain, names) = unopened(&rt, rt.alloc(), setup, seats)?;
+    put_at_once::<Brand, Brand, _>(&rt, rt.alloc(), plain, names)
+}
+
+fn put_at_once<N: Named + Send + Sync, H: Ledger + Send + Sync, R: Threads + Wait + Abort + Sync>(
+    rt: &R,
+    alloc: Global,
+    plain: PlainEngine,
+    names: Names,
+) -> Result<(), Fail>
+    requires named { NamesEngine names N.setup N.seats N.name N.parts H.name H.parts }
+    requires made_from { plain.setup ≡ names.setup }
+{
+    let (engine, seats) = Engine::<N, H>::open(alloc, plain, names).map_err(|_| "open")?;
+    let (mut writers, mut readers) = seated(alloc, seats)?;
+    let ended = AtomicU64::new(0);
+    run(
+        rt,
+        alloc,
+        &engine,
+        writers.as_mut_slice(),
+        readers.as_mut_slice(),
+        &ended,
+    );
+    let mut seats = Vec::new(alloc);
+    let mut lines = Vec::new(alloc);
+    for writer in writers {
+        assert!(rt; writer.ended);
+        seats.push(writer.seat)?;
+        lines.extend_from_slice(&writer.lines)?;
+    }
+    for reader in readers {
+        assert!(rt; reader.fits);
+        seats.push(reader.seat)?;
+    }
+    let closed = engine.close(rt, alloc, seats).map_err(|_| "close")?;
+    agree(rt, alloc, &closed, &lines)
+}
+
+// Writers at the first seats, readers at the others.
+fn seated<N: Named, H: Ledger>(
+    alloc: Global,
+    seats: Vec<Seat<N, H>>,
+) -> Result<(Vec<Writer<N, H>>, Vec<Reader<N, H>>), AllocError> {
+    let mut writers = Vec::new(alloc);
+    let mut readers = Vec::new(alloc);
+    for seat in seats {
+        if (writers.len() as u64) < WRITERS {
+            writers.push(Writer {
+                seat,
+                lines: Vec::new(alloc),
+                ended: false,
+            })?;
+        } else {
+            readers.push(Reader {
+                seat,
+                batches: 0,
+                total: 0,
+                fits: false,
+            })?;
+        }
+    }
+    Ok((writers, readers))
+}
