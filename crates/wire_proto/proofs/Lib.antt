@@ -8,3 +8,5 @@ pub mod PutLemmas
 pub mod StreamLemmas
 pub mod RoundLemmas
 pub mod PlainLemmas
+pub mod DecodeLemmas
+pub mod OneAnswer
