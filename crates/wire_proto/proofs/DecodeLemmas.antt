@@ -79,7 +79,7 @@ says_again stopping h n = refl
 says_again (refused code detail) h n = rw (code_read code detail h.0, detail_read code detail h.1) refl
 
 -- a frame's kind and body, and its length
-frame_kind : (bytes : List ℕ) (r : Said) → bytes ≡ reply_frame r → head_kind bytes ≡ said_kind r
+pub frame_kind : (bytes : List ℕ) (r : Said) → bytes ≡ reply_frame r → head_kind bytes ≡ said_kind r
 frame_kind bytes r e = ap head_kind (e ∙ as_frame r ∙ sym (append-nil (frame (said_kind r) (said_body r)))) ∙ kind_read (said_kind r) (said_body r) []
 
 frame_body : (bytes : List ℕ) (r : Said) → bytes ≡ reply_frame r → drop 5 bytes ≡ said_body r

@@ -10,3 +10,4 @@ pub mod RoundLemmas
 pub mod PlainLemmas
 pub mod DecodeLemmas
 pub mod OneAnswer
+pub mod Repeats

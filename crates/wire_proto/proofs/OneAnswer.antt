@@ -34,12 +34,12 @@ same_cells : (setup : Setting) (bytes : List ℕ) (cells cells' : List Cell) →
     Spells bytes put_limits setup.rows setup.cols cells → Spells bytes put_limits setup.rows setup.cols cells' → cells ≡ cells'
 same_cells setup bytes cells cells' a b = (one_file bytes put_limits setup.rows setup.cols setup.rows setup.cols cells cells' a b).2
 
-one_batch : (setup : Setting) (client n : ℕ) (bytes : List ℕ) (b b' : Submission) → PutsBatch setup client n bytes b → PutsBatch setup client n bytes b' → b ≡ b'
+pub one_batch : (setup : Setting) (client n : ℕ) (bytes : List ℕ) (b b' : Submission) → PutsBatch setup client n bytes b → PutsBatch setup client n bytes b' → b ≡ b'
 one_batch setup client n bytes b b' p q =
     p.batch_is ∙ ap (λ cells. submission client n (matrix setup.rows setup.cols (built_of cells))) (same_cells setup bytes p.cells q.cells p.spells q.spells) ∙ sym q.batch_is
 
 -- a text that makes a batch isn't refused
-never_both : (setup : Setting) (client n : ℕ) (bytes : List ℕ) (b : Submission) (code detail : ℕ) → PutsBatch setup client n bytes b → RefusesText setup bytes code detail → ⊥
+pub never_both : (setup : Setting) (client n : ℕ) (bytes : List ℕ) (b : Submission) (code detail : ℕ) → PutsBatch setup client n bytes b → RefusesText setup bytes code detail → ⊥
 never_both setup client n bytes b code detail p (faulty kind line f i j) = spells_faultless bytes put_limits setup.rows setup.cols p.cells p.spells kind line f
 never_both setup client n bytes b code detail p (differs rows cols cells s d i j) =
     let one = one_file bytes put_limits rows cols setup.rows setup.cols cells p.cells s p.spells in d (one.0, one.1)
@@ -62,7 +62,7 @@ one_refusal setup bytes c d c' d' (too_large cells s n i j) (differs rows' cols'
 one_refusal setup bytes c d c' d' (too_large cells s n i j) (too_large cells' s' n' i' j') = (i ∙ sym i', j ∙ sym j')
 
 -- a put that is replied to is the object's
-put_is : (v : Setting) (list : List Submission) (b : Submission) (answer : Result Kept PutFault) (t : List Submission) (w : List ℕ) →
+pub put_is : (v : Setting) (list : List Submission) (b : Submission) (answer : Result Kept PutFault) (t : List Submission) (w : List ℕ) →
     Puts v list b answer t → put_reply answer ≡ Some w → (answer ≡ answer_of v list b) × (t ≡ list_after v list b)
 put_is v list b (Ok k) t w h e = h
 put_is v list b (Err fault.Memory) t w h e = absurd (cc)

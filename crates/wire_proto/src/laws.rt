@@ -1,7 +1,10 @@
 //! Laws of the definitions.
 ghost use Rattle.std.specs.Prelude.{◌≡◌, ◌≢◌, ℕ, List, [], ◌∷◌, ◌++◌, map, Option, Some, None, Ok, Err};
 ghost use Rattle.wire_proto.specs.Frames.{Message, HasFrame, request_frame, front, Gives, frames, messages};
-ghost use Rattle.wire_proto.specs.Plain.{IsAnswered};
+ghost use Rattle.wire_proto.specs.Plain.{IsAnswered, PlainGives, FreshPuts};
+ghost use Rattle.wire_proto.specs.Answering.{Answers};
+ghost use Rattle.wire_proto.specs.Replies.{accepted};
+ghost use Rattle.batch_store.specs.declared.verdict.Kept.{Kept};
 ghost use Rattle.batch_store.specs.Batches.{Submission};
 ghost use Rattle.wire_proto.specs.Sessions.{AnswersAll};
 ghost use Rattle.wire_proto.specs.declared.request.Request.{Request};
@@ -49,4 +52,20 @@ pub fn messages_have_one_answer()
     ensures some { (setup : Setting) (list : List Submission) (ms : List Message) → (bytes : List ℕ) × (after : List Submission) × IsAnswered setup list ms bytes after }
     ensures one { (setup : Setting) (list after after' : List Submission) (ms : List Message) (bytes bytes' : List ℕ) →
         IsAnswered setup list ms bytes after → IsAnswered setup list ms bytes' after' → (bytes ≡ bytes') × (after ≡ after') }
+{}
+
+/// What a session adds to the accepted list: the batches of its puts that were fresh, in order, each once.
+pub fn sessions_accept_fresh_batches()
+    ensures { (setup : Setting) (list after : List Submission) (requests : List Request) (replies : List ℕ) →
+        AnswersAll (PlainGives setup) setup list requests replies after →
+        (more : List Submission) × (after ≡ list ++ more) × FreshPuts setup list requests more }
+{}
+
+/// Two puts with one client and one number that are both answered Accepted, in one session or in two, get the same bytes.
+pub fn repeats_get_their_reply()
+    ensures { (setup : Setting) (list mid later after : List Submission) (client number : ℕ) (text other first second between : List ℕ) (requests : List Request) (kept kept' : Kept) →
+        Answers (PlainGives setup) setup (Request.Put client number text) first list mid → first ≡ accepted kept →
+        AnswersAll (PlainGives setup) setup mid requests between later →
+        Answers (PlainGives setup) setup (Request.Put client number other) second later after → second ≡ accepted kept' →
+        first ≡ second }
 {}

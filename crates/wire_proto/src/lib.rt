@@ -30,7 +30,7 @@ pub use frames::Frames;
 pub use keeper::{Keeper, SaveRefusal};
 pub use laws::{
     bad_headers_stay, frames_are_read_again, frames_come_in_any_pieces, messages_have_one_answer,
-    sessions_answer_messages,
+    repeats_get_their_reply, sessions_accept_fresh_batches, sessions_answer_messages,
 };
 pub use plain::{PlainKeeper, serve_engine};
 pub use request::{EncodeFault, FrameFault, Request, encode_request};
