@@ -122,7 +122,26 @@ front_more b more r rest e =
     let body = body_more b more (head_len b) whole in
     all ∙ rw (ek, el, body, tail, heads) refl
 
-pub front_bad_more : (b more : List ℕ) (f : FrameFault) (rest : List ℕ) → front b ≡ Some (Err f, rest) → head_fault (head_kind b) (head_len b) ≡ Some f → front (b ++ more) ≡ Some (Err f, b ++ more)
-front_bad_more b more f rest e h =
+-- a faultless header is no bad front
+never_part_by : (b : List ℕ) (f : FrameFault) (rest : List ℕ) (v : Bool) → nat_lt (length b) (5 + head_len b) ≡ v → head_fault (head_kind b) (head_len b) ≡ None → 5 ≤ length b → front b ≡ Some (Err f, rest) → ⊥
+never_part_by b f rest true t h l e = let n = front_part b l h (ltb-true (length b) (5 + head_len b) t) in cc
+never_part_by b f rest false t h l e =
+    let both : ◌≡◌ {A = Result Request FrameFault × List ℕ} (Ok (request_of (head_kind b) (take (head_len b) (drop 5 b))), drop (5 + head_len b) b) (Err f, rest) =
+    some_is _ _ (sym (front_whole b l h (ltb-false (length b) (5 + head_len b) t)) ∙ e) in
+    let heads : ◌≡◌ {A = Result Request FrameFault} (Ok (request_of (head_kind b) (take (head_len b) (drop 5 b)))) (Err f) = ap (λ (p : Result Request FrameFault × List ℕ). p.0) both in cc
+
+never_part : (b : List ℕ) (f : FrameFault) (rest : List ℕ) → head_fault (head_kind b) (head_len b) ≡ None → 5 ≤ length b → front b ≡ Some (Err f, rest) → ⊥
+never_part b f rest h l e = never_part_by b f rest (nat_lt (length b) (5 + head_len b)) refl h l e
+
+-- what fault a bad front has
+bad_by : (b : List ℕ) (f : FrameFault) (rest : List ℕ) (o : Option FrameFault) → head_fault (head_kind b) (head_len b) ≡ o → 5 ≤ length b → front b ≡ Some (Err f, rest) → o ≡ Some f
+bad_by b f rest (Some g) h l e =
+    let both : ◌≡◌ {A = Result Request FrameFault × List ℕ} (Err g, b) (Err f, rest) = some_is _ _ (sym (front_bad b g l h) ∙ e) in
+    let heads : ◌≡◌ {A = Result Request FrameFault} (Err g) (Err f) = ap (λ (p : Result Request FrameFault × List ℕ). p.0) both in cc
+bad_by b f rest None h l e = absurd (never_part b f rest h l e)
+
+pub front_bad_more : (b more : List ℕ) (f : FrameFault) (rest : List ℕ) → front b ≡ Some (Err f, rest) → front (b ++ more) ≡ Some (Err f, b ++ more)
+front_bad_more b more f rest e =
     let five = headed b (Err f, rest) e in
+    let h = bad_by b f rest (head_fault (head_kind b) (head_len b)) refl five e in
     front_bad (b ++ more) f (omega (arith, five, length-append b more)) (rw (head_kind_more b more five, head_len_more b more five) h)

@@ -8,3 +8,6 @@ pub mod PutLemmas
 pub mod StreamLemmas
 pub mod RoundLemmas
 pub mod PlainLemmas
+pub mod DecodeLemmas
+pub mod OneAnswer
+pub mod Repeats

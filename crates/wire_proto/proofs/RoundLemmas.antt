@@ -8,7 +8,7 @@ use Rattle.wire_proto.specs.declared.request.Request.{Request}
 use Rattle.wire_proto.specs.declared.request.Request.TheVariants.{Put, Cell, Row, Status, Export, Save, Stop}
 use Rattle.wire_proto.proofs.FrontLemmas.{front_whole}
 
-kind_read : (k : ℕ) (body more : List ℕ) → head_kind (frame k body ++ more) ≡ k
+pub kind_read : (k : ℕ) (body more : List ℕ) → head_kind (frame k body ++ more) ≡ k
 unfolding head_kind frame head_bytes
 kind_read k body more = refl
 
@@ -16,11 +16,11 @@ len_read : (k : ℕ) (body more : List ℕ) → length body < 2 ^ 32 → head_le
 unfolding head_len frame head_bytes
 len_read k body more h = from_be_bytes-to_be_bytes_4 (length body) h
 
-tail_read : (k : ℕ) (body more : List ℕ) → drop 5 (frame k body ++ more) ≡ body ++ more
+pub tail_read : (k : ℕ) (body more : List ℕ) → drop 5 (frame k body ++ more) ≡ body ++ more
 unfolding frame head_bytes
 tail_read k body more = refl
 
-frame_len : (k : ℕ) (body more : List ℕ) → length (frame k body ++ more) ≡ 5 + (length body + length more)
+pub frame_len : (k : ℕ) (body more : List ℕ) → length (frame k body ++ more) ≡ 5 + (length body + length more)
 unfolding frame head_bytes
 frame_len k body more = let e = length-append body more in omega arith
 
@@ -41,7 +41,7 @@ front_of_frame k body more short fits =
     let rest_is : drop (5 + head_len b) b ≡ more = sym (drop-drop (head_len b) 5 b) ∙ rw (el, tail_read k body more) (drop_at body more (length body) refl) in
     all ∙ rw (ek, front_is, rest_is) refl
 
-number_first : (n : ℕ) (more : List ℕ) → n < 2 ^ 64 → number_at 0 (number n ++ more) ≡ n
+pub number_first : (n : ℕ) (more : List ℕ) → n < 2 ^ 64 → number_at 0 (number n ++ more) ≡ n
 unfolding number_at number
 number_first n more h = from_be_bytes-to_be_bytes_8 n h
 
@@ -49,11 +49,11 @@ number_second : (m n : ℕ) (more : List ℕ) → n < 2 ^ 64 → number_at 8 (nu
 unfolding number_at number
 number_second m n more h = from_be_bytes-to_be_bytes_8 n h
 
-pair_second : (m n : ℕ) → n < 2 ^ 64 → number_at 8 (number m ++ number n) ≡ n
+pub pair_second : (m n : ℕ) → n < 2 ^ 64 → number_at 8 (number m ++ number n) ≡ n
 unfolding number_at number
 pair_second m n h = from_be_bytes-to_be_bytes_8 n h
 
-lone : (n : ℕ) → n < 2 ^ 64 → number_at 0 (number n) ≡ n
+pub lone : (n : ℕ) → n < 2 ^ 64 → number_at 0 (number n) ≡ n
 unfolding number_at number
 lone n h = from_be_bytes-to_be_bytes_8 n h
 

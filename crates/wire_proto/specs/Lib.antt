@@ -8,3 +8,4 @@ pub mod Spelled
 pub mod Closing
 pub mod Sessions
 pub mod Plain
+pub mod Decoding

@@ -4,20 +4,22 @@
 --                         a bad header as the last
 --     IsAnswered          the same over the engine of one thread: of the list before and the messages, the bytes and
 --                         the list after are a function
+--     FreshPuts           the batches that requests add to the list: each that was fresh, in order, once
 --     EndsPlain           how a session over it ends, by cases
 use Rattle.std.specs.Prelude.{◌≡◌, ◌⊎◌, ℕ, ◌+◌, ◌<◌, ◌≤◌, List, [], ◌∷◌, ◌++◌, length, take, map, None, Ok, Err}
 use Rattle.byte_io.specs.Streams.{Answer}
 use Rattle.byte_io.specs.Writing.{HasStopped}
 use Rattle.batch_store.specs.Setups.{Setting}
 use Rattle.batch_store.specs.Batches.{Submission}
-use Rattle.plain_engine.specs.Object.{Puts, cell_of, row_sum_of, export_of, status_of}
+use Rattle.plain_engine.specs.Object.{Puts, verdict_in, cell_of, row_sum_of, export_of, status_of}
+use Rattle.batch_store.specs.declared.verdict.Verdict.TheVariants.{Fresh}
 use Rattle.wire_proto.specs.Frames.{Message, front, Gives, messages}
 use Rattle.wire_proto.specs.Keeping.{Event, put, cell, row, status, export, save}
 use Rattle.wire_proto.specs.Replies.{stopping, refused, fault_code}
-use Rattle.wire_proto.specs.Answering.{Answers}
+use Rattle.wire_proto.specs.Answering.{Answers, PutsBatch}
 use Rattle.wire_proto.specs.Sessions.{Talks}
 use Rattle.wire_proto.specs.declared.request.Request.{Request}
-use Rattle.wire_proto.specs.declared.request.Request.TheVariants.{Stop}
+use Rattle.wire_proto.specs.declared.request.Request.TheVariants.{Put, Stop}
 use Rattle.wire_proto.specs.declared.request.FrameFault.{FrameFault}
 use Rattle.wire_proto.specs.declared.keeper.SaveRefusal.TheVariants.{SaveOff}
 use Rattle.wire_proto.specs.declared.ended.Ended.{Ended}
@@ -41,6 +43,18 @@ AnswersMessages gives setup s (Err fault ∷ ms) bytes t = (bytes ≡ refused (f
 
 abbrev pub IsAnswered : Setting → List Submission → List Message → List ℕ → List Submission → Type 0
 IsAnswered v list ms bytes after = AnswersMessages (PlainGives v) v list ms bytes after
+
+-- the request puts this batch, which is fresh
+abbrev pub PutsFresh : Setting → List Submission → Request → Submission → Type 0
+PutsFresh v list (Put client n bytes) batch = PutsBatch v client n bytes batch × (verdict_in v list batch ≡ Fresh)
+PutsFresh v list r batch = ⊥
+
+-- These requests, one after another, add just these batches to the list: each puts one that is fresh, or none.
+abbrev pub FreshPuts : Setting → List Submission → List Request → List Submission → Type 0
+FreshPuts v list [] more = more ≡ []
+FreshPuts v list (r ∷ rs) more =
+    (((batch : Submission) → PutsFresh v list r batch → ⊥) × FreshPuts v list rs more)
+    ⊎ ((batch : Submission) × (rest : List Submission) × PutsFresh v list r batch × (more ≡ batch ∷ rest) × FreshPuts v (list ++ batch ∷ []) rs rest)
 
 -- these are requests, none of them a Stop
 abbrev pub GoOn : List Request → Type 0

@@ -3,7 +3,7 @@ ghost use Rattle.std.specs.Prelude.{◌≡◌, ◌++◌, [], ◌+◌, ◌≤◌,
 ghost use Rattle.wire_proto.specs.Frames.{NextGives, request_of, length_fits};
 
 use crate::heads::{Look, look_at};
-use crate::limits::HEAD;
+use crate::limits::{HEAD, ROOMY};
 use crate::request::{FrameFault, Request};
 use bytes::{Buf, Bytes, BytesMut};
 use std::alloc::{AllocError, Global};
@@ -12,10 +12,13 @@ use std::marker::Model;
 /// The bytes that a link gave and that aren't handed out yet. Contracts see them as a list of bytes.
 ///
 /// A Put's text is a view of the buffer: no byte of it is copied. The buffer grows by doubling, so a frame that comes in
-/// many pieces takes time in proportion to its bytes.
+/// many pieces takes time in proportion to its bytes, and what a header declares takes no memory. Once a long frame was
+/// handed out, what is left is moved to a new buffer, so that its memory goes with the last view of it.
 #[derive(Drop)]
 pub struct Frames {
     bytes: BytesMut,
+    // The most bytes that the buffer has held.
+    most: usize,
 }
 
 impl Model for Frames {
@@ -70,6 +73,21 @@ fn cut(bytes: &mut BytesMut, kind: u8, len: u32) -> Result<Request, AllocError>
     Ok(open(kind, body))
 }
 
+/// Moves the bytes to a new buffer, if this one held many and few are left; where there is no memory for that, they
+/// stay.
+fn give_back(alloc: Global, bytes: &mut BytesMut, most: &mut usize)
+    ensures { bytes.new.items ≡ bytes.old.items }
+{
+    if *most <= ROOMY || bytes.len() > ROOMY / 2 {
+        return;
+    }
+    let mut fresh = BytesMut::new(alloc);
+    if fresh.extend_from_slice(bytes.as_slice()).is_ok() {
+        *most = bytes.len();
+        *bytes = fresh;
+    }
+}
+
 impl Frames {
     /// No bytes. It takes no memory.
     pub fn new(alloc: Global) -> Frames
@@ -77,6 +95,7 @@ impl Frames {
     {
         Frames {
             bytes: BytesMut::new(alloc),
+            most: 0,
         }
     }
 
@@ -92,18 +111,23 @@ impl Frames {
         ensures ok { OnOk result (self.new ≡ self.old ++ piece.now) }
         ensures err { OnErr result (self.new ≡ self.old) }
     {
-        self.bytes.extend_from_slice(piece)
+        self.bytes.extend_from_slice(piece)?;
+        self.most = self.most.max(self.bytes.len());
+        Ok(())
     }
 
     /// The next request, once its frame is whole; None where it isn't yet.
     ///
     /// A header is judged as soon as its five bytes are there. A bad one stays at the front, so the same fault is
     /// answered from then on, whatever is fed. Memory changes nothing.
-    pub fn next(&mut self, _alloc: Global) -> Result<Option<Request>, FrameFault>
+    pub fn next(&mut self, alloc: Global) -> Result<Option<Request>, FrameFault>
         ensures { NextGives self.old result self.new }
     {
         match look_at(self.bytes.as_slice()) {
-            Look::Part => Ok(None),
+            Look::Part => {
+                give_back(alloc, &mut self.bytes, &mut self.most);
+                Ok(None)
+            }
             Look::Bad(fault) => Err(fault),
             Look::Whole { kind, len } => match cut(&mut self.bytes, kind, len) {
                 Ok(request) => Ok(Some(request)),

@@ -1,6 +1,11 @@
 //! Laws of the definitions.
 ghost use Rattle.std.specs.Prelude.{◌≡◌, ◌≢◌, ℕ, List, [], ◌∷◌, ◌++◌, map, Option, Some, None, Ok, Err};
-ghost use Rattle.wire_proto.specs.Frames.{HasFrame, request_frame, front, Gives, frames, messages};
+ghost use Rattle.wire_proto.specs.Frames.{Message, HasFrame, request_frame, front, Gives, frames, messages};
+ghost use Rattle.wire_proto.specs.Plain.{IsAnswered, PlainGives, FreshPuts};
+ghost use Rattle.wire_proto.specs.Answering.{Answers};
+ghost use Rattle.wire_proto.specs.Replies.{accepted};
+ghost use Rattle.batch_store.specs.declared.verdict.Kept.{Kept};
+ghost use Rattle.batch_store.specs.Batches.{Submission};
 ghost use Rattle.wire_proto.specs.Sessions.{AnswersAll};
 ghost use Rattle.wire_proto.specs.declared.request.Request.{Request};
 ghost use Rattle.wire_proto.specs.declared.request.FrameFault.{FrameFault};
@@ -33,4 +38,34 @@ pub fn sessions_answer_messages<K: Keeper>()
     ensures stop { (kept rest : List ℕ) → front kept ≡ Some (Ok Request.Stop, rest) → messages kept ≡ Ok Request.Stop ∷ [] }
     ensures bad { (kept rest : List ℕ) (fault : FrameFault) → front kept ≡ Some (Err fault, rest) → messages kept ≡ Err fault ∷ [] }
     ensures request { (kept rest : List ℕ) (r : Request) → front kept ≡ Some (Ok r, rest) → r ≢ Request.Stop → messages kept ≡ Ok r ∷ messages rest }
+{}
+
+/// A bad header is the same fault, whatever follows it: what stands in front stays the same, and so do the frames.
+pub fn bad_headers_stay()
+    ensures front { (kept rest more : List ℕ) (fault : FrameFault) → front kept ≡ Some (Err fault, rest) → front (kept ++ more) ≡ Some (Err fault, kept ++ more) }
+    ensures frames { (kept rest more : List ℕ) (fault : FrameFault) → front kept ≡ Some (Err fault, rest) → frames (kept ++ more) ≡ Err fault ∷ [] }
+{}
+
+/// Over the engine of one thread the messages are answered in one way alone: of the accepted list before and the messages,
+/// the bytes and the list after are a function.
+pub fn messages_have_one_answer()
+    ensures some { (setup : Setting) (list : List Submission) (ms : List Message) → (bytes : List ℕ) × (after : List Submission) × IsAnswered setup list ms bytes after }
+    ensures one { (setup : Setting) (list after after' : List Submission) (ms : List Message) (bytes bytes' : List ℕ) →
+        IsAnswered setup list ms bytes after → IsAnswered setup list ms bytes' after' → (bytes ≡ bytes') × (after ≡ after') }
+{}
+
+/// What a session adds to the accepted list: the batches of its puts that were fresh, in order, each once.
+pub fn sessions_accept_fresh_batches()
+    ensures { (setup : Setting) (list after : List Submission) (requests : List Request) (replies : List ℕ) →
+        AnswersAll (PlainGives setup) setup list requests replies after →
+        (more : List Submission) × (after ≡ list ++ more) × FreshPuts setup list requests more }
+{}
+
+/// Two puts with one client and one number that are both answered Accepted, in one session or in two, get the same bytes.
+pub fn repeats_get_their_reply()
+    ensures { (setup : Setting) (list mid later after : List Submission) (client number : ℕ) (text other first second between : List ℕ) (requests : List Request) (kept kept' : Kept) →
+        Answers (PlainGives setup) setup (Request.Put client number text) first list mid → first ≡ accepted kept →
+        AnswersAll (PlainGives setup) setup mid requests between later →
+        Answers (PlainGives setup) setup (Request.Put client number other) second later after → second ≡ accepted kept' →
+        first ≡ second }
 {}

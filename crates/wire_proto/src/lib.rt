@@ -9,6 +9,7 @@
 
 mod answering;
 mod asking;
+mod decoding;
 mod ended;
 mod exporting;
 mod frames;
@@ -23,10 +24,14 @@ mod sending;
 mod serving;
 mod texts;
 
+pub use decoding::{Reply, decode_reply};
 pub use ended::Ended;
 pub use frames::Frames;
 pub use keeper::{Keeper, SaveRefusal};
-pub use laws::{frames_are_read_again, frames_come_in_any_pieces, sessions_answer_messages};
+pub use laws::{
+    bad_headers_stay, frames_are_read_again, frames_come_in_any_pieces, messages_have_one_answer,
+    repeats_get_their_reply, sessions_accept_fresh_batches, sessions_answer_messages,
+};
 pub use plain::{PlainKeeper, serve_engine};
 pub use request::{EncodeFault, FrameFault, Request, encode_request};
 pub use serving::serve;

@@ -14,3 +14,6 @@ pub const PIECE: usize = 65_536;
 
 /// The most entry lines that the text of a Put may declare.
 pub const MOST_ENTRIES: u64 = 1_048_576;
+
+/// How many bytes a buffer may have held and still be kept for the next frames.
+pub const ROOMY: usize = 262_144;
