@@ -1,6 +1,7 @@
 -- The laws of the shards' shares.
 use Rattle.std.proofs.lemmas.Bool.{or_parts}
-use Rattle.std.proofs.Common.{◌≡◌, ℕ, suc, ◌+◌, ◌<◌, ◌≤◌, Bool, true, false, cond, ◌||◌, List, [], ◌∷◌, refl, sym, ◌∙◌, ap, arith}
+use Rattle.std.proofs.Common.{◌≡◌, ℕ, suc, ◌+◌, ◌<◌, ◌≤◌, Bool, true, false, cond, ◌||◌, List, [], ◌∷◌, refl, sym, ◌∙◌}
+use Rattle.std.proofs.Common.{ap, arith}
 use Rattle.std.specs.List.{list_any}
 use Rattle.std.specs.FinMap.{entries, empty}
 use Rattle.hyper_rows.specs.Parts.{part_entries}
@@ -16,7 +17,8 @@ use Rattle.batch_store.specs.Parts.{part_of, below, concerns, concerned, list_be
 pub part_of-le : (s k : ℕ) (m : Counts) → part_of s k m ≤ total m
 part_of-le s k m = omega (arith, total-part m s k, total-entries m, part_sum-le s k (entries m))
 
-pub none_in : (s k : ℕ) (es : List (Place × ℕ)) → list_any (λ (e : Place × ℕ). in_part s k e.0) es ≡ false → part_entries s k es ≡ []
+pub none_in : (s k : ℕ) (es : List (Place × ℕ)) → list_any (λ (e : Place × ℕ). in_part s k e.0) es ≡ false →
+    part_entries s k es ≡ []
 none_in s k [] h = refl
 none_in s k (e ∷ es) h =
     let p = or_parts (in_part s k e.0) (list_any (λ (e : Place × ℕ). in_part s k e.0) es) h in
@@ -31,7 +33,8 @@ unfolding built
 built-nothing = refl
 
 pub part-unconcerned : (s k : ℕ) (m : Counts) → concerns s k m ≡ false → part m s k ≡ empty
-part-unconcerned s k m none = sym (built-entries (part m s k)) ∙ ap built (entries-part m s k ∙ none_in s k (entries m) none) ∙ built-nothing
+part-unconcerned s k m none = sym (built-entries (part m s k))
+    ∙ ap built (entries-part m s k ∙ none_in s k (entries m) none) ∙ built-nothing
 
 -- no cell lies below shard 0
 pub below-zero : (k : ℕ) (m : Counts) → below 0 k m ≡ 0
@@ -39,7 +42,8 @@ below-zero k m = total-empty
 
 -- a shard more is its part more
 pub below-suc : (s k : ℕ) (m : Counts) → below (s + 1) k m ≡ below s k m + part_of s k m
-below-suc s k m = ap (λ n. below n k m) {x = s + 1} {y = suc s} (omega arith) ∙ total-ewise_add (parts m s k) (part m s k)
+below-suc s k m = ap (λ n. below n k m) {x = s + 1} {y = suc s} (omega arith)
+    ∙ total-ewise_add (parts m s k) (part m s k)
 
 -- every cell lies below shard k
 pub below-all : (k : ℕ) (m : Counts) → 0 < k → below k k m ≡ total m
@@ -50,20 +54,31 @@ list_below-zero k [] = refl
 list_below-zero k (b ∷ bs) = omega (arith, below-zero k b.matrix.counts, list_below-zero k bs)
 
 -- a shard more is the content of its record more
-pub list_below-suc : (s k : ℕ) (list : List Submission) → list_below (s + 1) k list ≡ list_below s k list + total (record_content s k list)
+pub list_below-suc : (s k : ℕ) (list : List Submission) →
+    list_below (s + 1) k list ≡ list_below s k list + total (record_content s k list)
 list_below-suc s k [] = omega (arith, total-empty)
 list_below-suc s k (b ∷ bs) =
-    omega (arith, below-suc s k b.matrix.counts, list_below-suc s k bs, total-ewise_add (part b.matrix.counts s k) (record_content s k bs))
+    omega (
+      arith,
+      below-suc s k b.matrix.counts,
+      list_below-suc s k bs,
+      total-ewise_add (part b.matrix.counts s k) (record_content s k bs),
+    )
 
 pub list_below-all : (k : ℕ) (list : List Submission) → 0 < k → list_below k k list ≡ list_total list
 list_below-all k [] pos = refl
 list_below-all k (b ∷ bs) pos = omega (arith, below-all k b.matrix.counts pos, list_below-all k bs pos)
 
 -- batches with no cell in a shard add nothing
-pub record_content-concerned : (s k : ℕ) (list : List Submission) → record_content s k (concerned s k list) ≡ record_content s k list
+pub record_content-concerned : (s k : ℕ) (list : List Submission) →
+    record_content s k (concerned s k list) ≡ record_content s k list
 record_content-concerned s k [] = refl
 record_content-concerned s k (b ∷ bs) = by (concerns s k b.matrix.counts) refl (record_content-concerned s k bs)
   where
-    by : (x : Bool) → concerns s k b.matrix.counts ≡ x → record_content s k (concerned s k bs) ≡ record_content s k bs → record_content s k (cond x (b ∷ concerned s k bs) (concerned s k bs)) ≡ ewise_add (part b.matrix.counts s k) (record_content s k bs)
+    by : (x : Bool) → concerns s k b.matrix.counts ≡ x →
+        record_content s k (concerned s k bs) ≡ record_content s k bs →
+        record_content s k (cond x (b ∷ concerned s k bs) (concerned s k bs)) ≡ ewise_add (part b.matrix.counts s k)
+        (record_content s k bs)
     by true here rest = ap (ewise_add (part b.matrix.counts s k)) rest
-    by false none rest = rest ∙ sym (empty-ewise_add (record_content s k bs)) ∙ ap (λ m. ewise_add m (record_content s k bs)) (sym (part-unconcerned s k b.matrix.counts none))
+    by false none rest = rest ∙ sym (empty-ewise_add (record_content s k bs))
+        ∙ ap (λ m. ewise_add m (record_content s k bs)) (sym (part-unconcerned s k b.matrix.counts none))

@@ -1,6 +1,7 @@
 -- What a shard's fields come to.
 use Rattle.std.proofs.lemmas.Bool.{or_parts}
-use Rattle.std.proofs.Common.{◌≡◌, ℕ, zero, suc, ◌+◌, ◌<◌, ◌≤◌, Bool, true, false, cond, eqb, ◌&&◌, ◌||◌, List, [], ◌∷◌, ◌++◌, length, replicate, Option, None, Some, is_some, refl, sym, ◌∙◌, ap, subst, arith}
+use Rattle.std.proofs.Common.{◌≡◌, ℕ, zero, suc, ◌+◌, ◌<◌, ◌≤◌, Bool, true, false, cond, eqb, ◌&&◌, ◌||◌, List, [], ◌∷◌}
+use Rattle.std.proofs.Common.{◌++◌, length, replicate, Option, None, Some, is_some, refl, sym, ◌∙◌, ap, subst, arith}
 use Rattle.std.specs.List.{AllByRecursion}
 use Rattle.std.specs.Arc.{arc_value}
 use Rattle.std.specs.declared.sync.Arc.{Arc}
@@ -20,7 +21,8 @@ use Rattle.batch_store.specs.Batches.{Submission, entry_of, entries_of}
 use Rattle.batch_store.specs.Verdicts.{same_pair}
 use Rattle.batch_store.specs.Parts.{part_of, parts_of, record_content}
 use Rattle.batch_store.specs.Books.{same_key}
-use Rattle.batch_store.specs.Shards.{Holding, holding, Preparation, shard_total, AreHeld, stands, IsReady, recorded, AreKeyed, KeepsShard}
+use Rattle.batch_store.specs.Shards.{Holding, holding, Preparation, shard_total, AreHeld, stands, IsReady, recorded}
+use Rattle.batch_store.specs.Shards.{AreKeyed, KeepsShard}
 use Rattle.batch_store.proofs.VerdictLaws.{distinct_nil, distinct_push, same_pair_flips}
 use Rattle.batch_store.proofs.BookLaws.{dims_push}
 
@@ -38,17 +40,21 @@ content-push [] m = ewise_add-empty m ∙ sym (empty-ewise_add m)
 content-push (x ∷ xs) m = ap (ewise_add x) (content-push xs m) ∙ sym (ewise_add_assoc x (content xs) m)
 
 -- one batch more adds its part
-pub record_content-push : (s k : ℕ) (list : List Submission) (b : Submission) → record_content s k (list ++ b ∷ []) ≡ ewise_add (record_content s k list) (part b.matrix.counts s k)
-record_content-push s k list b = ap content (map-append (λ (x : Submission). part x.matrix.counts s k) list (b ∷ [])) ∙ content-push (parts_of s k list) (part b.matrix.counts s k)
+pub record_content-push : (s k : ℕ) (list : List Submission) (b : Submission) →
+    record_content s k (list ++ b ∷ []) ≡ ewise_add (record_content s k list) (part b.matrix.counts s k)
+record_content-push s k list b = ap content (map-append (λ (x : Submission). part x.matrix.counts s k) list (b ∷ []))
+    ∙ content-push (parts_of s k list) (part b.matrix.counts s k)
 
 -- the key that is looked up stands among the batches, or not
-pub stands_is : (p : Pair) (client number : ℕ) (held : Held) → p.client ≡ client → p.number ≡ number → AreKeyed held → is_some (lookup (same_key p) held) ≡ stands client number (recorded held)
+pub stands_is : (p : Pair) (client number : ℕ) (held : Held) → p.client ≡ client → p.number ≡ number → AreKeyed held →
+    is_some (lookup (same_key p) held) ≡ stands client number (recorded held)
 stands_is p client number [] c n h = refl
 stands_is p client number (e ∷ es) c n h =
     (λ i. is_some (cond (eqb (c i) (h.0 i) && eqb (n i) (h.1 i)) (Some e.1) (lookup (same_key p) es)))
     ∙ by (eqb client (arc_value e.1).client && eqb number (arc_value e.1).number) (stands_is p client number es c n h.2)
   where
-    by : (b : Bool) → is_some (lookup (same_key p) es) ≡ stands client number (recorded es) → is_some (cond b (Some e.1) (lookup (same_key p) es)) ≡ (b || stands client number (recorded es))
+    by : (b : Bool) → is_some (lookup (same_key p) es) ≡ stands client number (recorded es) →
+        is_some (cond b (Some e.1) (lookup (same_key p) es)) ≡ (b || stands client number (recorded es))
     by true rest = refl
     by false rest = rest
 
@@ -56,21 +62,26 @@ no_value : {X : Type 0} (o : Option X) → is_some o ≡ false → o ≡ None
 no_value None h = refl
 no_value (Some x) h = cc
 
-pub none_stands : (b : Submission) (list : List Submission) → stands b.client b.number list ≡ false → AllByRecursion (λ (e : Entry). same_pair e (entry_of b) ≡ false) (entries_of list)
+pub none_stands : (b : Submission) (list : List Submission) → stands b.client b.number list ≡ false →
+    AllByRecursion (λ (e : Entry). same_pair e (entry_of b) ≡ false) (entries_of list)
 none_stands b [] h = tt
 none_stands b (x ∷ xs) h =
     let p = or_parts (eqb b.client x.client && eqb b.number x.number) (stands b.client b.number xs) h in
     (same_pair_flips (entry_of x) (entry_of b) ∙ p.0, none_stands b xs p.1)
 
-keyed_push : (held : Held) (e : Pair × Arc Submission Global) → AreKeyed held → e.0.client ≡ (arc_value e.1).client → e.0.number ≡ (arc_value e.1).number → AreKeyed (held ++ e ∷ [])
+keyed_push : (held : Held) (e : Pair × Arc Submission Global) → AreKeyed held → e.0.client ≡ (arc_value e.1).client →
+    e.0.number ≡ (arc_value e.1).number → AreKeyed (held ++ e ∷ [])
 keyed_push [] e h c n = (c, n, tt)
 keyed_push (x ∷ xs) e h c n = (h.0, h.1, keyed_push xs e h.2 c n)
 
 -- a shard without batches
-pub shard_begins : (v : Setting) (s : ℕ) (layers : Layering) (held : Held) (cuts : List ℕ) → IsSetting v → IsLayering layers → s < v.shards → cuts ≡ v.cuts → layers ≡ no_layers v.rows v.cols cuts → held ≡ [] → KeepsShard v s layers held
+pub shard_begins : (v : Setting) (s : ℕ) (layers : Layering) (held : Held) (cuts : List ℕ) → IsSetting v →
+    IsLayering layers → s < v.shards → cuts ≡ v.cuts → layers ≡ no_layers v.rows v.cols cuts → held ≡ [] →
+    KeepsShard v s layers held
 shard_begins v s layers held cuts sound kept here is_cuts is none =
     let is' : layers ≡ no_layers v.rows v.cols v.cuts = is ∙ ap (no_layers v.rows v.cols) is_cuts in
-    let nothing : content layers.layers ≡ empty = ap (λ (l : Layering). content l.layers) is' ∙ content-empty (length v.cuts + 1) in
+    let nothing : content layers.layers ≡ empty = ap (λ (l : Layering). content l.layers) is'
+    ∙ content-empty (length v.cuts + 1) in
     let same : layers.cuts ≡ v.cuts = ap (λ (l : Layering). l.cuts) is' in
     subst (λ (h : Held). KeepsShard v s layers h) (sym none) (record {
       told = record {
@@ -90,8 +101,11 @@ shard_begins v s layers held cuts sound kept here is_cuts is none =
     })
 
 -- the record after a batch that wasn't there
-pub held_push : (s : Setting) (n : ℕ) (layers : List Counts) (list : List Submission) (b : Submission) → AreHeld s n layers list → length layers ≡ length s.cuts + 1 → stands b.client b.number list ≡ false → b.matrix.rows ≡ s.rows → b.matrix.cols ≡ s.cols
-    → total (content layers) + part_of n s.shards b.matrix.counts ≤ s.limit → AreHeld s n (cascade layers s.cuts (part b.matrix.counts n s.shards)) (list ++ b ∷ [])
+pub held_push : (s : Setting) (n : ℕ) (layers : List Counts) (list : List Submission) (b : Submission) →
+    AreHeld s n layers list → length layers ≡ length s.cuts + 1 → stands b.client b.number list ≡ false →
+    b.matrix.rows ≡ s.rows → b.matrix.cols ≡ s.cols
+    → total (content layers) + part_of n s.shards b.matrix.counts ≤ s.limit →
+    AreHeld s n (cascade layers s.cuts (part b.matrix.counts n s.shards)) (list ++ b ∷ [])
 held_push s n layers list b h count absent rows cols fits =
     let m = part b.matrix.counts n s.shards in
     let added = content-cascade layers s.cuts m count in
@@ -106,18 +120,23 @@ held_push s n layers list b h count absent rows cols fits =
       within = omega (arith, ap total added, total-ewise_add (content layers) m, fits);
     }
 
-module _ (s : Setting) (n free : ℕ) (layers : Layering) (held : Held) (v : Holding) (keeps : KeepsShard s n layers held) (view : holding s n layers.layers (recorded held) free ≡ v) where
+module _ (s : Setting) (n free : ℕ) (layers : Layering) (held : Held) (v : Holding)
+    (keeps : KeepsShard s n layers held) (view : holding s n layers.layers (recorded held) free ≡ v) where
   -- a pair that isn't in the record is under no key
-  pub absent_held : (p : Pair) (q : Preparation) → p.client ≡ q.batch.client → p.number ≡ q.batch.number → stands q.batch.client q.batch.number v.record_list ≡ false → lookup (same_key p) held ≡ None
+  pub absent_held : (p : Pair) (q : Preparation) → p.client ≡ q.batch.client → p.number ≡ q.batch.number →
+      stands q.batch.client q.batch.number v.record_list ≡ false → lookup (same_key p) held ≡ None
   absent_held p q client number absent =
-      no_value (lookup (same_key p) held) (stands_is p q.batch.client q.batch.number held client number keeps.keyed ∙ ap (λ (w : Holding). stands q.batch.client q.batch.number w.record_list) view ∙ absent)
+      no_value (lookup (same_key p) held) (stands_is p q.batch.client q.batch.number held client number keeps.keyed
+      ∙ ap (λ (w : Holding). stands q.batch.client q.batch.number w.record_list) view ∙ absent)
 
   -- the shard after a preparation was put in place
-  module _ (q : Preparation) (ready : IsReady v q) (after plan : Layering) (told : plan ≡ q.planned) (is : after ≡ plan) where
+  module _ (q : Preparation) (ready : IsReady v q) (after plan : Layering) (told : plan ≡ q.planned)
+      (is : after ≡ plan) where
     ready_now : IsReady (holding s n layers.layers (recorded held) free) q
     ready_now = subst (λ (w : Holding). IsReady w q) (sym view) ready
 
-    after_is : after ≡ layering s.rows s.cols s.cuts (cascade layers.layers s.cuts (part q.batch.matrix.counts n s.shards))
+    after_is : after ≡ layering s.rows s.cols s.cuts
+        (cascade layers.layers s.cuts (part q.batch.matrix.counts n s.shards))
     after_is = is ∙ told ∙ ready_now.planned
 
     pub total_committed : total (content after.layers) ≡ shard_total v + q.amount
@@ -129,17 +148,25 @@ module _ (s : Setting) (n free : ℕ) (layers : Layering) (held : Held) (v : Hol
         ∙ ap (λ (k : ℕ). total (content layers.layers) + k) (sym ready_now.amount)
         ∙ ap (λ (w : Holding). shard_total w + q.amount) view
 
-    pub keeps_committed : (held' : Held) (p : Pair) (batch : Arc Submission Global) → arc_value batch ≡ q.batch → p.client ≡ q.batch.client → p.number ≡ q.batch.number → held' ≡ held ++ (p, batch) ∷ [] → KeepsShard s n after held'
+    pub keeps_committed : (held' : Held) (p : Pair) (batch : Arc Submission Global) → arc_value batch ≡ q.batch →
+        p.client ≡ q.batch.client → p.number ≡ q.batch.number → held' ≡ held ++ (p, batch) ∷ [] →
+        KeepsShard s n after held'
     keeps_committed held' p batch same client number more =
         let r = ready_now in
-        let list : recorded held' ≡ recorded held ++ q.batch ∷ [] = ap recorded more ∙ map-append (λ (e : Pair × Arc Submission Global). arc_value e.1) held ((p, batch) ∷ []) ∙ ap (λ (b : Submission). recorded held ++ b ∷ []) same in
+        let list : recorded held' ≡ recorded held ++ q.batch ∷ [] = ap recorded more
+        ∙ map-append (λ (e : Pair × Arc Submission Global). arc_value e.1) held ((p, batch) ∷ [])
+        ∙ ap (λ (b : Submission). recorded held ++ b ∷ []) same in
         let layers' = ap (λ (l : Layering). l.layers) after_is in
         record {
-          told = subst (λ (bs : List Submission). AreHeld s n after.layers bs) (sym list) (subst (λ (l : List Counts). AreHeld s n l (recorded held ++ q.batch ∷ [])) (sym layers')
-              (held_push s n layers.layers (recorded held) q.batch keeps.told keeps.count r.absent r.rows r.cols (omega (arith, r.fits, r.amount))));
+          told = subst (λ (bs : List Submission). AreHeld s n after.layers bs) (sym list)
+              (subst (λ (l : List Counts). AreHeld s n l (recorded held ++ q.batch ∷ [])) (sym layers')
+              (held_push s n layers.layers (recorded held) q.batch keeps.told keeps.count r.absent r.rows r.cols
+              (omega (arith, r.fits, r.amount))));
           rows = ap (λ (l : Layering). l.rows) after_is;
           cols = ap (λ (l : Layering). l.cols) after_is;
           cuts = ap (λ (l : Layering). l.cuts) after_is;
-          count = ap length layers' ∙ length-cascade layers.layers s.cuts (part q.batch.matrix.counts n s.shards) ∙ keeps.count;
-          keyed = subst AreKeyed (sym more) (keyed_push held (p, batch) keeps.keyed (client ∙ sym (ap (λ (b : Submission). b.client) same)) (number ∙ sym (ap (λ (b : Submission). b.number) same)));
+          count = ap length layers' ∙ length-cascade layers.layers s.cuts (part q.batch.matrix.counts n s.shards)
+              ∙ keeps.count;
+          keyed = subst AreKeyed (sym more) (keyed_push held (p, batch) keeps.keyed (client
+              ∙ sym (ap (λ (b : Submission). b.client) same)) (number ∙ sym (ap (λ (b : Submission). b.number) same)));
         }

@@ -9,7 +9,8 @@ use Rattle.std.specs.Coded.{Coded, code_by, coded×, coded_ℕ, coded_list}
 use Rattle.cells.specs.Bounds.{IsDimension}
 use Rattle.layer_cascade.specs.Cuts.{AreCuts}
 use Rattle.batch_store.specs.declared.fault.SetupFault.{SetupFault}
-use Rattle.batch_store.specs.declared.fault.SetupFault.TheVariants.{BadDimension, BadCuts, BadShards, BadLimit, BadBatches}
+use Rattle.batch_store.specs.declared.fault.SetupFault.TheVariants.{BadDimension, BadCuts, BadShards, BadLimit}
+use Rattle.batch_store.specs.declared.fault.SetupFault.TheVariants.{BadBatches}
 
 pub record Setting : Type 0 where
   pub rows : ℕ

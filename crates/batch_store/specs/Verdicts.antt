@@ -6,7 +6,8 @@
 --     IsVerdict limit most es b r
 --         the same told by what each verdict means, in any order
 -- All numbers are whole numbers: no sum wraps.
-use Rattle.std.specs.Prelude.{◌≡◌, ℕ, ◌+◌, ◌<◌, ◌≤◌, Bool, ◌==◌, ◌&&◌, nat_lt, nat_le, if◌then◌else◌, List, [], ◌∷◌, length, take, map, position, slice_index_or, slice_get, Option, Some, None, Contains}
+use Rattle.std.specs.Prelude.{◌≡◌, ℕ, ◌+◌, ◌<◌, ◌≤◌, Bool, ◌==◌, ◌&&◌, nat_lt, nat_le, if◌then◌else◌, List, [], ◌∷◌}
+use Rattle.std.specs.Prelude.{length, take, map, position, slice_index_or, slice_get, Option, Some, None, Contains}
 use Rattle.batch_store.specs.declared.verdict.Entry.{Entry}
 use Rattle.batch_store.specs.declared.verdict.Kept.{Kept}
 use Rattle.batch_store.specs.declared.verdict.Verdict.{Verdict}

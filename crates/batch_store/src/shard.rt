@@ -4,7 +4,8 @@
 //! `prepare` makes every growth and changes nothing that can be seen, and `commit` puts what was prepared in place and
 //! can't fail. The record is a map from client and number to the batch, in the order of acceptance, hashed with a seed
 //! drawn for each shard, since clients choose the keys.
-ghost use Rattle.std.specs.Prelude.{◌≡◌, ℕ, ◌+◌, ◌<◌, ◌≤◌, ◌++◌, [], ◌∷◌, ◌↔◌, IfOk, IfErr, IsTrue, None, false, option_map, replicate, length, slice_get};
+ghost use Rattle.std.specs.Prelude.{◌≡◌, ℕ, ◌+◌, ◌<◌, ◌≤◌, ◌++◌, [], ◌∷◌, ◌↔◌, IfOk, IfErr, IsTrue, None, false};
+ghost use Rattle.std.specs.Prelude.{option_map, replicate, length, slice_get};
 ghost use Rattle.std.specs.Arc.{arc_value};
 ghost use Rattle.std.specs.FinMap.{empty, get as get_count, len};
 ghost use Rattle.indexmap.specs.IndexMap.{get, spare};

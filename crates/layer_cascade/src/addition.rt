@@ -189,8 +189,10 @@ pub fn cascaded_cells(
     requires rises { Rise cells.now }
     requires within { AreWithin (arc_value empty.now).rows (arc_value empty.now).cols cells.now }
     requires fits { total (content (all_counts (values layers.items))) + cell_total cells.now < 2 ^ 64 }
-    ensures counts { IfOk result (λ after. all_counts (values after.items) ≡ cascade (all_counts (values layers.items)) cuts.now (built_of cells.now)) }
-    ensures dims { IfOk result (λ after. HaveDims (arc_value empty.now).rows (arc_value empty.now).cols (values after.items)) }
+    ensures counts { IfOk result (λ after. all_counts (values after.items) ≡ cascade (all_counts (values layers.items))
+        cuts.now (built_of cells.now)) }
+    ensures dims { IfOk result (λ after. HaveDims (arc_value empty.now).rows (arc_value empty.now).cols
+        (values after.items)) }
 {
     let mut layers = layers;
     let none = Arc::try_clone(empty)?;

@@ -220,7 +220,8 @@ impl Layers {
         requires rises { Rise cells.now }
         requires within { AreWithin self.rows self.cols cells.now }
         requires fits { total (content self.layers) + cell_total cells.now < 2 ^ 64 }
-        ensures added { IfOk result (λ after. after ≡ record self { layers = cascade self.layers self.cuts (built_of cells.now) }) }
+        ensures added { IfOk result (λ after. after ≡ record self
+            { layers = cascade self.layers self.cuts (built_of cells.now) }) }
         ensures kept { IsLayering self }
     {
         let layers = cascaded_cells(alloc, self.layers, &self.cuts, &self.empty, cells)?;

@@ -1,5 +1,6 @@
 -- What look-ups in one shard say of the whole, and what halves of the shards hold.
-use Rattle.std.proofs.Common.{◌≡◌, ℕ, zero, suc, ◌+◌, ◌<◌, ◌≤◌, ◌%◌, Bool, true, false, cond, eqb, List, [], ◌∷◌, ◌++◌, length, take, drop, get_or, Option, None, refl, sym, ◌∙◌, ap, subst, arith}
+use Rattle.std.proofs.Common.{◌≡◌, ℕ, zero, suc, ◌+◌, ◌<◌, ◌≤◌, ◌%◌, Bool, true, false, cond, eqb, List, [], ◌∷◌, ◌++◌}
+use Rattle.std.proofs.Common.{length, take, drop, get_or, Option, None, refl, sym, ◌∙◌, ap, subst, arith}
 use Rattle.std.specs.FinMap.{get, empty}
 use Rattle.std.proofs.lemmas.Bool.{eq-eqb}
 use Rattle.std.proofs.lemmas.Bool.Decides.{nat_tests}
@@ -17,14 +18,18 @@ use Rattle.plain_engine.specs.Object.{summed}
 use Rattle.plain_engine.specs.Standing.{StandsAt, Stand, HaveSetup, shards_total, shards_content}
 use Rattle.plain_engine.proofs.StandLaws.{holds_part}
 
-pub stands_here : (v : Setting) (list : List Submission) (i j : ℕ) (xs : List Holding) (x : Holding) → Stand v list i xs → j < length xs → x ≡ get_or xs j x → StandsAt v list (i + j) x
+pub stands_here : (v : Setting) (list : List Submission) (i j : ℕ) (xs : List Holding) (x : Holding) →
+    Stand v list i xs → j < length xs → x ≡ get_or xs j x → StandsAt v list (i + j) x
 stands_here v list i j [] x h below is = absurd (omega arith)
-stands_here v list i zero (y ∷ ys) x h below is = subst (λ (n : ℕ). StandsAt v list n x) {x = i} {y = i + 0} (omega arith) (subst (StandsAt v list i) (sym is) h.0)
+stands_here v list i zero (y ∷ ys) x h below is =
+    subst (λ (n : ℕ). StandsAt v list n x) {x = i} {y = i + 0} (omega arith) (subst (StandsAt v list i) (sym is) h.0)
 stands_here v list i (suc j) (y ∷ ys) x h below is =
-    subst (λ (n : ℕ). StandsAt v list n x) {x = (i + 1) + j} {y = i + suc j} (omega arith) (stands_here v list (i + 1) j ys x h.1 (omega arith) is)
+    subst (λ (n : ℕ). StandsAt v list n x) {x = (i + 1) + j} {y = i + suc j} (omega arith)
+    (stands_here v list (i + 1) j ys x h.1 (omega arith) is)
 
 -- a shard has the cells of its rows
-pub get-shard : (v : Setting) (list : List Submission) (x : Holding) (row col : ℕ) → StandsAt v list (row % v.shards) x → get (content x.layers) (row, col) ≡ get (summed list) (row, col)
+pub get-shard : (v : Setting) (list : List Submission) (x : Holding) (row col : ℕ) →
+    StandsAt v list (row % v.shards) x → get (content x.layers) (row, col) ≡ get (summed list) (row, col)
 get-shard v list x row col h =
     let i = row % v.shards in
     let m = summed list in
@@ -37,13 +42,15 @@ row_of-part m r k = same_counts _ _ (λ q.
     get-row_of (part m (r % k) k) r q ∙ ap (λ (o : Option ℕ). cond (eqb q.0 r) o None) (get-part m (r % k) k q)
     ∙ by q (eqb q.0 r) refl ∙ sym (get-row_of m r q))
   where
-    by : (q : Place) (b : Bool) → eqb q.0 r ≡ b → cond b (cond (in_part (r % k) k q) (get m q) None) None ≡ cond b (get m q) None
+    by : (q : Place) (b : Bool) → eqb q.0 r ≡ b →
+        cond b (cond (in_part (r % k) k q) (get m q) None) None ≡ cond b (get m q) None
     by q true is =
         let same : q.0 ≡ r = grind (arith, nat_tests) in
         ap (λ (b : Bool). cond b (get m q) None) (eq-eqb (q.0 % k) (r % k) (ap (λ (n : ℕ). n % k) same))
     by q false is = refl
 
-pub row_of-shard : (v : Setting) (list : List Submission) (x : Holding) (row : ℕ) → StandsAt v list (row % v.shards) x → row_of (content x.layers) row ≡ row_of (summed list) row
+pub row_of-shard : (v : Setting) (list : List Submission) (x : Holding) (row : ℕ) →
+    StandsAt v list (row % v.shards) x → row_of (content x.layers) row ≡ row_of (summed list) row
 row_of-shard v list x row h =
     ap (λ (c : Counts). row_of c row) (holds_part v list (row % v.shards) x h) ∙ row_of-part (summed list) row v.shards
 
@@ -64,35 +71,42 @@ have_drop v zero (x ∷ xs) h = h
 have_drop v (suc n) [] h = tt
 have_drop v (suc n) (x ∷ xs) h = have_drop v n xs h.1
 
-pub have_push : (v : Setting) (xs : List Holding) (x : Holding) → HaveSetup v xs → x.setup ≡ v → HaveSetup v (xs ++ x ∷ [])
+pub have_push : (v : Setting) (xs : List Holding) (x : Holding) → HaveSetup v xs → x.setup ≡ v →
+    HaveSetup v (xs ++ x ∷ [])
 have_push v [] x h is = (is, tt)
 have_push v (y ∷ ys) x h is = (h.0, have_push v ys x h.1 is)
 
-pub have_pop : (v : Setting) (xs : List Holding) (x : Holding) → HaveSetup v (xs ++ x ∷ []) → HaveSetup v xs × (x.setup ≡ v)
+pub have_pop : (v : Setting) (xs : List Holding) (x : Holding) → HaveSetup v (xs ++ x ∷ []) → HaveSetup v xs ×
+    (x.setup ≡ v)
 have_pop v [] x h = (tt, h.0)
 have_pop v (y ∷ ys) x h =
     let rest = have_pop v ys x h.1 in
     ((h.0, rest.0), rest.1)
 
-pub contents-append : (xs ys : List Holding) → shards_content (xs ++ ys) ≡ ewise_add (shards_content xs) (shards_content ys)
+pub contents-append : (xs ys : List Holding) →
+    shards_content (xs ++ ys) ≡ ewise_add (shards_content xs) (shards_content ys)
 contents-append [] ys = sym (empty-ewise_add (shards_content ys))
-contents-append (x ∷ xs) ys = ap (ewise_add (content x.layers)) (contents-append xs ys) ∙ sym (ewise_add_assoc (content x.layers) (shards_content xs) (shards_content ys))
+contents-append (x ∷ xs) ys = ap (ewise_add (content x.layers)) (contents-append xs ys)
+    ∙ sym (ewise_add_assoc (content x.layers) (shards_content xs) (shards_content ys))
 
 pub totals-append : (xs ys : List Holding) → shards_total (xs ++ ys) ≡ shards_total xs + shards_total ys
 totals-append [] ys = omega arith
 totals-append (x ∷ xs) ys = omega (arith, totals-append xs ys)
 
 -- one shard alone
-pub held_alone : (v : Setting) (xs : List Holding) (x : Holding) → HaveSetup v xs → 1 ≤ length xs → length xs < 2 → x ≡ get_or xs 0 x → matrix x.setup.rows x.setup.cols (content x.layers) ≡ matrix v.rows v.cols (shards_content xs)
+pub held_alone : (v : Setting) (xs : List Holding) (x : Holding) → HaveSetup v xs → 1 ≤ length xs → length xs < 2 →
+    x ≡ get_or xs 0 x → matrix x.setup.rows x.setup.cols (content x.layers) ≡ matrix v.rows v.cols (shards_content xs)
 held_alone v [] x made some few is = absurd (omega arith)
 held_alone v (y ∷ z ∷ zs) x made some few is = absurd (omega arith)
 held_alone v (y ∷ []) x made some few is =
     let setup : x.setup ≡ v = ap (λ (w : Holding). w.setup) is ∙ made.0 in
-    let held : content x.layers ≡ ewise_add (content y.layers) empty = ap (λ (w : Holding). content w.layers) is ∙ sym (ewise_add-empty (content y.layers)) in
+    let held : content x.layers ≡ ewise_add (content y.layers) empty = ap (λ (w : Holding). content w.layers) is
+    ∙ sym (ewise_add-empty (content y.layers)) in
     λ i. matrix (setup i).rows (setup i).cols (held i)
 
 -- two halves together
-pub held_together : (v : Setting) (xs left right : List Holding) (sum rest : Matrix) → xs ≡ left ++ right → sum ≡ matrix v.rows v.cols (shards_content left) → rest ≡ matrix v.rows v.cols (shards_content right)
+pub held_together : (v : Setting) (xs left right : List Holding) (sum rest : Matrix) → xs ≡ left ++ right →
+    sum ≡ matrix v.rows v.cols (shards_content left) → rest ≡ matrix v.rows v.cols (shards_content right)
     → record sum { counts = ewise_add sum.counts rest.counts } ≡ matrix v.rows v.cols (shards_content xs)
 held_together v xs left right sum rest cut is other =
     (λ i. matrix (is i).rows (is i).cols (ewise_add (is i).counts (other i).counts))

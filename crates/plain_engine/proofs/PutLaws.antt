@@ -1,5 +1,6 @@
 -- What a put leaves.
-use Rattle.std.proofs.Common.{◌≡◌, ℕ, zero, suc, ◌+◌, Bool, true, false, cond, ◌||◌, List, [], ◌∷◌, ◌++◌, map, length, take, refl, sym, ◌∙◌, ap, subst, arith, append-nil}
+use Rattle.std.proofs.Common.{◌≡◌, ℕ, zero, suc, ◌+◌, Bool, true, false, cond, ◌||◌, List, [], ◌∷◌, ◌++◌, map, length}
+use Rattle.std.proofs.Common.{take, refl, sym, ◌∙◌, ap, subst, arith, append-nil}
 use Rattle.std.specs.List.{AllByRecursion}
 use Rattle.std.proofs.lemmas.List.Elements.{filter-append}
 use Rattle.hyper_matrix.specs.Counts.{total}
@@ -27,40 +28,58 @@ neither : (a b : Bool) → a ≡ false → b ≡ false → (a || b) ≡ false
 neither a b p q = ap (λ x. x || b) p ∙ q
 
 -- a pair that isn't in a list isn't among those that concern a shard
-absent_there : (b : Submission) (s k : ℕ) (list : List Submission) → AllByRecursion (λ (e : Entry). same_pair e (entry_of b) ≡ false) (entries_of list) → stands b.client b.number (concerned s k list) ≡ false
+absent_there : (b : Submission) (s k : ℕ) (list : List Submission) →
+    AllByRecursion (λ (e : Entry). same_pair e (entry_of b) ≡ false) (entries_of list) →
+    stands b.client b.number (concerned s k list) ≡ false
 absent_there b s k [] h = refl
 absent_there b s k (x ∷ xs) h = by (concerns s k x.matrix.counts) (absent_there b s k xs h.1)
   where
-    by : (t : Bool) → stands b.client b.number (concerned s k xs) ≡ false → stands b.client b.number (cond t (x ∷ concerned s k xs) (concerned s k xs)) ≡ false
+    by : (t : Bool) → stands b.client b.number (concerned s k xs) ≡ false →
+        stands b.client b.number (cond t (x ∷ concerned s k xs) (concerned s k xs)) ≡ false
     by true rest = neither _ _ (same_pair_flips (entry_of b) (entry_of x) ∙ h.0) rest
     by false rest = rest
 
-pub takes_fresh : (v : Setting) (list : List Submission) (b : Submission) (i : ℕ) (x : Holding) → verdict_in v list b ≡ Fresh → StandsAt v list i x → Takes v b x
+pub takes_fresh : (v : Setting) (list : List Submission) (b : Submission) (i : ℕ) (x : Holding) →
+    verdict_in v list b ≡ Fresh → StandsAt v list i x → Takes v b x
 takes_fresh v list b i x fresh h =
     let is = fresh_is v.limit v.max_batches (entries_of list) (entry_of b) fresh in
     let k = v.shards in
     let held : shard_total x ≡ part_of i k (summed list) = ap total (holds_part v list i x h) in
-    let more : amount_in x b ≡ part_of i k b.matrix.counts = λ j. part_of (h.number j) (h.setup j).shards b.matrix.counts in
+    let more : amount_in x b ≡ part_of i k b.matrix.counts =
+    λ j. part_of (h.number j) (h.setup j).shards b.matrix.counts in
     record {
       setup = h.setup;
-      absent = ap (stands b.client b.number) h.follows ∙ absent_there b i k list (none_same (entry_of b) (entries_of list) is.new_pair);
-      fits = omega (arith, held, more, part_of-le i k (summed list), part_of-le i k b.matrix.counts, total-summed list, is.fits);
+      absent = ap (stands b.client b.number) h.follows
+          ∙ absent_there b i k list (none_same (entry_of b) (entries_of list) is.new_pair);
+      fits = omega (
+        arith,
+        held,
+        more,
+        part_of-le i k (summed list),
+        part_of-le i k b.matrix.counts,
+        total-summed list,
+        is.fits,
+      );
     }
 
-pub all_take : (v : Setting) (list : List Submission) (b : Submission) (i : ℕ) (xs : List Holding) → verdict_in v list b ≡ Fresh → Stand v list i xs → AllTake v b xs
+pub all_take : (v : Setting) (list : List Submission) (b : Submission) (i : ℕ) (xs : List Holding) →
+    verdict_in v list b ≡ Fresh → Stand v list i xs → AllTake v b xs
 all_take v list b i [] fresh h = tt
 all_take v list b i (x ∷ xs) fresh h = (takes_fresh v list b i x fresh h.0, all_take v list b (i + 1) xs fresh h.1)
 
 -- == The shards after it
 
 module _ (v : Setting) (list : List Submission) (b : Submission) where
-  more_concerned : (i : ℕ) → concerned i v.shards (list ++ b ∷ []) ≡ concerned i v.shards list ++ cond (concerns i v.shards b.matrix.counts) (b ∷ []) []
+  more_concerned : (i : ℕ) → concerned i v.shards (list ++ b ∷ []) ≡ concerned i v.shards list ++ cond
+      (concerns i v.shards b.matrix.counts) (b ∷ []) []
   more_concerned i = filter-append (λ (x : Submission). concerns i v.shards x.matrix.counts) list (b ∷ [])
 
-  stands_after : (i : ℕ) (x y : Holding) → StandsAt v list i x → AreHeld y.setup y.number y.layers y.record_list → bare_shard y ≡ shard_after b x → StandsAt v (list ++ b ∷ []) i y
+  stands_after : (i : ℕ) (x y : Holding) → StandsAt v list i x → AreHeld y.setup y.number y.layers y.record_list →
+      bare_shard y ≡ shard_after b x → StandsAt v (list ++ b ∷ []) i y
   stands_after i x y h held is = by (concerns x.number x.setup.shards b.matrix.counts) refl is
     where
-      placed : y.setup ≡ x.setup → y.number ≡ x.number → Follows i v.shards y.record_list (list ++ b ∷ []) → StandsAt v (list ++ b ∷ []) i y
+      placed : y.setup ≡ x.setup → y.number ≡ x.number → Follows i v.shards y.record_list (list ++ b ∷ []) →
+          StandsAt v (list ++ b ∷ []) i y
       placed setup number follows =
           let at = number ∙ h.number in
           let with = setup ∙ h.setup in
@@ -72,17 +91,24 @@ module _ (v : Setting) (list : List Submission) (b : Submission) where
           }
 
       by : (t : Bool) → concerns x.number x.setup.shards b.matrix.counts ≡ t
-          → bare_shard y ≡ cond t (holding x.setup x.number (cascade x.layers x.setup.cuts (part_in x b)) (x.record_list ++ b ∷ []) 0) (bare_shard x) → StandsAt v (list ++ b ∷ []) i y
+          → bare_shard y ≡ cond t (holding x.setup x.number (cascade x.layers x.setup.cuts (part_in x b))
+          (x.record_list ++ b ∷ []) 0) (bare_shard x) → StandsAt v (list ++ b ∷ []) i y
       by true here same =
-          let this : concerns i v.shards b.matrix.counts ≡ true = (λ j. concerns (sym h.number j) (sym h.setup j).shards b.matrix.counts) ∙ here in
+          let this : concerns i v.shards b.matrix.counts ≡ true =
+          (λ j. concerns (sym h.number j) (sym h.setup j).shards b.matrix.counts) ∙ here in
           placed (ap (λ (z : Holding). z.setup) same) (ap (λ (z : Holding). z.number) same)
-          (ap (λ (z : Holding). z.record_list) same ∙ ap (λ bs. bs ++ b ∷ []) h.follows ∙ sym (more_concerned i ∙ ap (λ (t : Bool). concerned i v.shards list ++ cond t (b ∷ []) []) this))
+          (ap (λ (z : Holding). z.record_list) same ∙ ap (λ bs. bs ++ b ∷ []) h.follows
+          ∙ sym (more_concerned i ∙ ap (λ (t : Bool). concerned i v.shards list ++ cond t (b ∷ []) []) this))
       by false other same =
-          let this : concerns i v.shards b.matrix.counts ≡ false = (λ j. concerns (sym h.number j) (sym h.setup j).shards b.matrix.counts) ∙ other in
+          let this : concerns i v.shards b.matrix.counts ≡ false =
+          (λ j. concerns (sym h.number j) (sym h.setup j).shards b.matrix.counts) ∙ other in
           placed (ap (λ (z : Holding). z.setup) same) (ap (λ (z : Holding). z.number) same)
-          (ap (λ (z : Holding). z.record_list) same ∙ h.follows ∙ sym (more_concerned i ∙ ap (λ (t : Bool). concerned i v.shards list ++ cond t (b ∷ []) []) this ∙ append-nil (concerned i v.shards list)))
+          (ap (λ (z : Holding). z.record_list) same ∙ h.follows
+          ∙ sym (more_concerned i ∙ ap (λ (t : Bool). concerned i v.shards list ++ cond t (b ∷ []) []) this
+          ∙ append-nil (concerned i v.shards list)))
 
-  pub stand_after : (i : ℕ) (xs ys : List Holding) → Stand v list i xs → AreAllHeld ys → map bare_shard ys ≡ map (shard_after b) xs → Stand v (list ++ b ∷ []) i ys
+  pub stand_after : (i : ℕ) (xs ys : List Holding) → Stand v list i xs → AreAllHeld ys →
+      map bare_shard ys ≡ map (shard_after b) xs → Stand v (list ++ b ∷ []) i ys
   stand_after i [] [] h held is = tt
   stand_after i [] (y ∷ ys) h held is = absurd cc
   stand_after i (x ∷ xs) [] h held is = absurd cc
@@ -96,10 +122,12 @@ module _ (v : Setting) (list : List Submission) (b : Submission) where
     number = ap (λ (z : Holding). z.number) same ∙ h.number;
     setup = ap (λ (z : Holding). z.setup) same ∙ h.setup;
     follows = ap (λ (z : Holding). z.record_list) same ∙ h.follows;
-    sums = ap (λ (z : Holding). content z.layers) same ∙ h.sums ∙ ap (record_content i v.shards) (sym (ap (λ (z : Holding). z.record_list) same));
+    sums = ap (λ (z : Holding). content z.layers) same ∙ h.sums
+        ∙ ap (record_content i v.shards) (sym (ap (λ (z : Holding). z.record_list) same));
   }
 
-  pub stand_same : (i : ℕ) (xs ys : List Holding) → Stand v list i xs → map bare_shard ys ≡ map bare_shard xs → Stand v list i ys
+  pub stand_same : (i : ℕ) (xs ys : List Holding) → Stand v list i xs → map bare_shard ys ≡ map bare_shard xs →
+      Stand v list i ys
   stand_same i [] [] h is = tt
   stand_same i [] (y ∷ ys) h is = absurd cc
   stand_same i (x ∷ xs) [] h is = absurd cc
@@ -108,27 +136,33 @@ module _ (v : Setting) (list : List Submission) (b : Submission) where
       let rest : map bare_shard ys ≡ map bare_shard xs = cc in
       (stands_same i x y h.0 first, stand_same (i + 1) xs ys h.1 rest)
 
-length-alike : {A B C : Type 0} (f : A → C) (g : B → C) (xs : List A) (ys : List B) → map f xs ≡ map g ys → length xs ≡ length ys
+length-alike : {A B C : Type 0} (f : A → C) (g : B → C) (xs : List A) (ys : List B) → map f xs ≡ map g ys →
+    length xs ≡ length ys
 length-alike f g [] [] h = refl
 length-alike f g [] (y ∷ ys) h = absurd cc
 length-alike f g (x ∷ xs) [] h = absurd cc
 length-alike f g (x ∷ xs) (y ∷ ys) h = let rest : map f xs ≡ map g ys = cc in ap suc (length-alike f g xs ys rest)
 
-module _ (v : Setting) (book after : Register) (xs ys : List Holding) (keeps : KeepsEngine v book xs) (setup : after.setup ≡ book.setup) where
-  pub keeps_after : (b : Submission) → AreAccepted after.setup after.list → after.list ≡ book.list ++ b ∷ [] → AreAllHeld ys → map bare_shard ys ≡ map (shard_after b) xs → KeepsEngine v after ys
+module _ (v : Setting) (book after : Register) (xs ys : List Holding) (keeps : KeepsEngine v book xs)
+    (setup : after.setup ≡ book.setup) where
+  pub keeps_after : (b : Submission) → AreAccepted after.setup after.list → after.list ≡ book.list ++ b ∷ [] →
+      AreAllHeld ys → map bare_shard ys ≡ map (shard_after b) xs → KeepsEngine v after ys
   keeps_after b accepted more held is = record {
     of_setup = setup ∙ keeps.of_setup;
     accepted = subst (λ (w : Setting). AreAccepted w after.list) (setup ∙ keeps.of_setup) accepted;
     count = length-alike bare_shard (shard_after b) ys xs is ∙ keeps.count;
-    stand = subst (λ (l : List Submission). Stand v l 0 ys) (sym more) (stand_after v book.list b 0 xs ys keeps.stand held is);
+    stand = subst (λ (l : List Submission). Stand v l 0 ys) (sym more)
+        (stand_after v book.list b 0 xs ys keeps.stand held is);
   }
 
-  pub keeps_same : (b : Submission) → after.list ≡ book.list → map bare_shard ys ≡ map bare_shard xs → KeepsEngine v after ys
+  pub keeps_same : (b : Submission) → after.list ≡ book.list → map bare_shard ys ≡ map bare_shard xs →
+      KeepsEngine v after ys
   keeps_same b same is = record {
     of_setup = setup ∙ keeps.of_setup;
     accepted = subst (AreAccepted v) (sym same) keeps.accepted;
     count = length-alike bare_shard bare_shard ys xs is ∙ keeps.count;
-    stand = subst (λ (l : List Submission). Stand v l 0 ys) (sym same) (stand_same v book.list b 0 xs ys keeps.stand is);
+    stand = subst (λ (l : List Submission). Stand v l 0 ys) (sym same)
+        (stand_same v book.list b 0 xs ys keeps.stand is);
   }
 
 -- a list that was written back whole

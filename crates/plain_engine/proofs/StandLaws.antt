@@ -1,5 +1,6 @@
 -- Shards at their places.
-use Rattle.std.proofs.Common.{◌≡◌, ℕ, zero, suc, ◌+◌, ◌<◌, ◌↔◌, List, [], ◌∷◌, ◌++◌, length, replicate, take, drop, get_or, sym, ◌∙◌, ap, subst, arith, add-one, drop-cons, length-take-le, length-append}
+use Rattle.std.proofs.Common.{◌≡◌, ℕ, zero, suc, ◌+◌, ◌<◌, ◌↔◌, List, [], ◌∷◌, ◌++◌, length, replicate, take, drop}
+use Rattle.std.proofs.Common.{get_or, sym, ◌∙◌, ap, subst, arith, add-one, drop-cons, length-take-le, length-append}
 use Rattle.std.specs.FinMap.{empty}
 use Rattle.hyper_matrix.specs.Counts.{Counts, total, ewise_add, part, parts}
 use Rattle.hyper_matrix.proofs.CountLaws.{ewise_add-empty, ewise_add_assoc, parts_whole, total-empty, total-ewise_add}
@@ -12,21 +13,28 @@ use Rattle.batch_store.specs.Books.{Register}
 use Rattle.batch_store.specs.Shards.{Holding, AreHeld}
 use Rattle.plain_engine.specs.Object.{summed}
 use Rattle.plain_engine.specs.Records.{Follows}
-use Rattle.plain_engine.specs.Standing.{Standing, standing, StandsAt, Stand, KeepsEngine, IsWhole, AreEmpty, HaveSetup, AreTogether, shards_total, shards_content}
+use Rattle.plain_engine.specs.Standing.{Standing, standing, StandsAt, Stand, KeepsEngine, IsWhole, AreEmpty, HaveSetup}
+use Rattle.plain_engine.specs.Standing.{AreTogether, shards_total, shards_content}
 use Rattle.plain_engine.proofs.SumLaws.{total-summed, record_content-concerned}
 
 -- a shard more, at the next place
-pub stand_push : (v : Setting) (list : List Submission) (i : ℕ) (xs : List Holding) (x : Holding) → Stand v list i xs → StandsAt v list (i + length xs) x → Stand v list i (xs ++ x ∷ [])
+pub stand_push : (v : Setting) (list : List Submission) (i : ℕ) (xs : List Holding) (x : Holding) → Stand v list i xs →
+    StandsAt v list (i + length xs) x → Stand v list i (xs ++ x ∷ [])
 stand_push v list i [] x h here = (subst (λ (n : ℕ). StandsAt v list n x) {x = i + 0} {y = i} (omega arith) here, tt)
-stand_push v list i (y ∷ ys) x h here =
-    (h.0, stand_push v list (i + 1) ys x h.1 (subst (λ (n : ℕ). StandsAt v list n x) {x = i + suc (length ys)} {y = (i + 1) + length ys} (omega arith) here))
+stand_push v list i (y ∷ ys) x h here = (
+  h.0,
+  stand_push v list (i + 1) ys x h.1 (subst (λ (n : ℕ). StandsAt v list n x) {x = i + suc (length ys)}
+      {y = (i + 1) + length ys} (omega arith) here),
+)
 
-pub empty_push : (v : Setting) (xs : List Holding) (x : Holding) → AreEmpty v xs → x.layers ≡ replicate (length v.cuts + 1) empty → AreEmpty v (xs ++ x ∷ [])
+pub empty_push : (v : Setting) (xs : List Holding) (x : Holding) → AreEmpty v xs →
+    x.layers ≡ replicate (length v.cuts + 1) empty → AreEmpty v (xs ++ x ∷ [])
 empty_push v [] x h none = (none, tt)
 empty_push v (y ∷ ys) x h none = (h.0, empty_push v ys x h.1 none)
 
 -- a shard as it was made stands at the place of its number
-pub stands_new : (v : Setting) (i : ℕ) (x : Holding) → x.setup ≡ v → x.number ≡ i → x.record_list ≡ [] → AreHeld x.setup x.number x.layers x.record_list → StandsAt v [] i x
+pub stands_new : (v : Setting) (i : ℕ) (x : Holding) → x.setup ≡ v → x.number ≡ i → x.record_list ≡ [] →
+    AreHeld x.setup x.number x.layers x.record_list → StandsAt v [] i x
 stands_new v i x setup number none held = record {
   number = number;
   setup = setup;
@@ -40,20 +48,25 @@ pub record MakesShards (v : Setting) (n : ℕ) (xs : List Holding) : Type 0 wher
   pub layers : AreEmpty v xs
   pub stand : Stand v [] 0 xs
 
-pub makes_next : (v : Setting) (n : ℕ) (xs ys : List Holding) (x : Holding) → MakesShards v n xs → ys ≡ xs ++ x ∷ [] → x.layers ≡ replicate (length v.cuts + 1) empty → StandsAt v [] n x → MakesShards v (n + 1) ys
+pub makes_next : (v : Setting) (n : ℕ) (xs ys : List Holding) (x : Holding) → MakesShards v n xs → ys ≡ xs ++ x ∷ [] →
+    x.layers ≡ replicate (length v.cuts + 1) empty → StandsAt v [] n x → MakesShards v (n + 1) ys
 makes_next v n xs ys x h is layers here = record {
   count = ap length is ∙ omega (arith, length-append xs (x ∷ []), h.count);
   layers = subst (AreEmpty v) (sym is) (empty_push v xs x h.layers layers);
-  stand = subst (Stand v [] 0) (sym is) (stand_push v [] 0 xs x h.stand (subst (λ (m : ℕ). StandsAt v [] m x) {x = n} {y = 0 + length xs} (omega (arith, h.count)) here));
+  stand = subst (Stand v [] 0) (sym is) (stand_push v [] 0 xs x h.stand
+      (subst (λ (m : ℕ). StandsAt v [] m x) {x = n} {y = 0 + length xs} (omega (arith, h.count)) here));
 }
 
 -- a shard at its place holds its part of the list
-pub holds_part : (v : Setting) (list : List Submission) (i : ℕ) (x : Holding) → StandsAt v list i x → content x.layers ≡ part (summed list) i v.shards
+pub holds_part : (v : Setting) (list : List Submission) (i : ℕ) (x : Holding) → StandsAt v list i x →
+    content x.layers ≡ part (summed list) i v.shards
 holds_part v list i x h = h.sums ∙ ap (record_content i v.shards) h.follows ∙ record_content-concerned i v.shards list
 
-contents_from : (v : Setting) (list : List Submission) (i : ℕ) (xs : List Holding) → Stand v list i xs → ewise_add (parts (summed list) i v.shards) (shards_content xs) ≡ parts (summed list) (i + length xs) v.shards
+contents_from : (v : Setting) (list : List Submission) (i : ℕ) (xs : List Holding) → Stand v list i xs →
+    ewise_add (parts (summed list) i v.shards) (shards_content xs) ≡ parts (summed list) (i + length xs) v.shards
 contents_from v list i [] h =
-    ewise_add-empty (parts (summed list) i v.shards) ∙ ap (λ (n : ℕ). parts (summed list) n v.shards) {x = i} {y = i + 0} (omega arith)
+    ewise_add-empty (parts (summed list) i v.shards)
+    ∙ ap (λ (n : ℕ). parts (summed list) n v.shards) {x = i} {y = i + 0} (omega arith)
 contents_from v list i (x ∷ xs) h =
     let m = summed list in
     let k = v.shards in
@@ -65,17 +78,23 @@ contents_from v list i (x ∷ xs) h =
 
 pub total-shards_content : (xs : List Holding) → total (shards_content xs) ≡ shards_total xs
 total-shards_content [] = total-empty
-total-shards_content (x ∷ xs) = omega (arith, total-ewise_add (content x.layers) (shards_content xs), total-shards_content xs)
+total-shards_content (x ∷ xs) = omega (
+  arith,
+  total-ewise_add (content x.layers) (shards_content xs),
+  total-shards_content xs,
+)
 
 -- all shards together hold the list
-pub contents_whole : (v : Setting) (list : List Submission) (xs : List Holding) → 0 < v.shards → length xs ≡ v.shards → Stand v list 0 xs → shards_content xs ≡ summed list
+pub contents_whole : (v : Setting) (list : List Submission) (xs : List Holding) → 0 < v.shards → length xs ≡ v.shards →
+    Stand v list 0 xs → shards_content xs ≡ summed list
 contents_whole v list xs pos count h =
     sym (empty-ewise_add (shards_content xs))
     ∙ contents_from v list 0 xs h
     ∙ ap (λ (n : ℕ). parts (summed list) n v.shards) {x = 0 + length xs} {y = v.shards} (omega (arith, count))
     ∙ parts_whole (summed list) v.shards pos
 
-pub whole : (v : Setting) (book : Register) (xs : List Holding) (e : Standing) → KeepsEngine v book xs → standing v book xs ≡ e → IsWhole e
+pub whole : (v : Setting) (book : Register) (xs : List Holding) (e : Standing) → KeepsEngine v book xs →
+    standing v book xs ≡ e → IsWhole e
 whole v book xs e keeps view =
     let sums = contents_whole v book.list xs (omega (arith, keeps.accepted.sound.shards.0)) keeps.count keeps.stand in
     subst IsWhole view (record {
@@ -84,22 +103,29 @@ whole v book xs e keeps view =
       sums = sums;
     })
 
-pub drop_here : {A : Type 0} (i : ℕ) (xs : List A) (x : A) → i < length xs → x ≡ get_or xs i x → drop i xs ≡ x ∷ drop (i + 1) xs
+pub drop_here : {A : Type 0} (i : ℕ) (xs : List A) (x : A) → i < length xs → x ≡ get_or xs i x →
+    drop i xs ≡ x ∷ drop (i + 1) xs
 drop_here i xs x here is = rw (add-one, drop-cons xs i x) (ap (λ y. y ∷ drop (suc i) xs) (sym is))
 
-pub take_here : {A : Type 0} (i : ℕ) (xs : List A) (x : A) → i < length xs → x ≡ get_or xs i x → take (i + 1) xs ≡ take i xs ++ x ∷ []
+pub take_here : {A : Type 0} (i : ℕ) (xs : List A) (x : A) → i < length xs → x ≡ get_or xs i x →
+    take (i + 1) xs ≡ take i xs ++ x ∷ []
 take_here i [] x here is = absurd (omega arith)
-take_here zero (y ∷ ys) x here is = ap (λ (n : ℕ). take n (y ∷ ys)) {x = 0 + 1} {y = 1} (omega arith) ∙ ap (λ z. z ∷ []) (sym is)
-take_here (suc i) (y ∷ ys) x here is = ap (λ (n : ℕ). take n (y ∷ ys)) {x = suc i + 1} {y = suc (i + 1)} (omega arith) ∙ ap (λ zs. y ∷ zs) (take_here i ys x (omega arith) is)
+take_here zero (y ∷ ys) x here is = ap (λ (n : ℕ). take n (y ∷ ys)) {x = 0 + 1} {y = 1} (omega arith)
+    ∙ ap (λ z. z ∷ []) (sym is)
+take_here (suc i) (y ∷ ys) x here is = ap (λ (n : ℕ). take n (y ∷ ys)) {x = suc i + 1} {y = suc (i + 1)} (omega arith)
+    ∙ ap (λ zs. y ∷ zs) (take_here i ys x (omega arith) is)
 
-have_setup_at : (v : Setting) (i : ℕ) (xs : List Holding) (x : Holding) → HaveSetup v xs → i < length xs → x ≡ get_or xs i x → x.setup ≡ v
+have_setup_at : (v : Setting) (i : ℕ) (xs : List Holding) (x : Holding) → HaveSetup v xs → i < length xs →
+    x ≡ get_or xs i x → x.setup ≡ v
 have_setup_at v i [] x h here is = absurd (omega arith)
 have_setup_at v zero (y ∷ ys) x h here is = ap (λ (z : Holding). z.setup) is ∙ h.0
 have_setup_at v (suc i) (y ∷ ys) x h here is = have_setup_at v i ys x h.1 (omega arith) is
 
-module _ (v : Setting) (list : List Submission) (xs : List Holding) (i : ℕ) (x : Holding) (here : i < length xs) (is : x ≡ get_or xs i x) (number : x.number ≡ i) (follows : Follows i v.shards x.record_list list) where
+module _ (v : Setting) (list : List Submission) (xs : List Holding) (i : ℕ) (x : Holding) (here : i < length xs)
+    (is : x ≡ get_or xs i x) (number : x.number ≡ i) (follows : Follows i v.shards x.record_list list) where
   -- the shard at place i joins those before it
-  pub stand_next : HaveSetup v xs → AreHeld x.setup x.number x.layers x.record_list → Stand v list 0 (take i xs) → Stand v list 0 (take (i + 1) xs)
+  pub stand_next : HaveSetup v xs → AreHeld x.setup x.number x.layers x.record_list → Stand v list 0 (take i xs) →
+      Stand v list 0 (take (i + 1) xs)
   stand_next made held before =
       let setup : x.setup ≡ v = have_setup_at v i xs x made here is in
       let this : StandsAt v list i x = record {
@@ -109,10 +135,12 @@ module _ (v : Setting) (list : List Submission) (xs : List Holding) (i : ℕ) (x
         sums = held.sums ∙ (λ j. record_content (number j) (setup j).shards x.record_list);
       } in
       let place : i ≡ 0 + length (take i xs) = omega (arith, length-take-le i xs (omega arith)) in
-      subst (Stand v list 0) (sym (take_here i xs x here is)) (stand_push v list 0 (take i xs) x before (subst (λ (n : ℕ). StandsAt v list n x) place this))
+      subst (Stand v list 0) (sym (take_here i xs x here is))
+      (stand_push v list 0 (take i xs) x before (subst (λ (n : ℕ). StandsAt v list n x) place this))
 
   -- those from it on belong together if those behind it do
-  pub together_next : (P : Type 0) → P ↔ AreTogether v.shards list i (drop i xs) → P ↔ AreTogether v.shards list (i + 1) (drop (i + 1) xs)
+  pub together_next : (P : Type 0) → P ↔ AreTogether v.shards list i (drop i xs) →
+      P ↔ AreTogether v.shards list (i + 1) (drop (i + 1) xs)
   together_next P rest =
       let cut = drop_here i xs x here is in (
         λ all. (subst (AreTogether v.shards list i) cut (rest.0 all)).2,

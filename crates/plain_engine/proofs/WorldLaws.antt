@@ -1,5 +1,6 @@
 -- What every lawful run keeps.
-use Rattle.std.proofs.Common.{◌≡◌, ℕ, zero, suc, ◌+◌, ◌<◌, ◌≤◌, inl, inr, Bool, true, false, cond, eqb, ◌&&◌, List, [], ◌∷◌, ◌++◌, length, refl, sym, ◌∙◌, ap, subst, arith}
+use Rattle.std.proofs.Common.{◌≡◌, ℕ, zero, suc, ◌+◌, ◌<◌, ◌≤◌, inl, inr, Bool, true, false, cond, eqb, ◌&&◌, List, []}
+use Rattle.std.proofs.Common.{◌∷◌, ◌++◌, length, refl, sym, ◌∙◌, ap, subst, arith}
 use Rattle.std.specs.List.{IsDistinct, AllByRecursion}
 use Rattle.std.proofs.lemmas.List.{map-append}
 use Rattle.std.proofs.lemmas.Bool.{cases_lt}
@@ -17,34 +18,42 @@ use Rattle.batch_store.specs.Books.{AreDistinct}
 use Rattle.batch_store.proofs.VerdictLaws.{fresh_is, none_same, distinct_push}
 use Rattle.batch_store.proofs.ShardLaws.{record_content-push}
 use Rattle.plain_engine.specs.Object.{summed, verdict_in}
-use Rattle.plain_engine.specs.World.{Part, World, Event, part_for, parts_for, record_at, append_at, Delivers, Admits, Runs, AllFollow, Starts, records_content, flight_content}
+use Rattle.plain_engine.specs.World.{Part, World, Event, part_for, parts_for, record_at, append_at, Delivers, Admits}
+use Rattle.plain_engine.specs.World.{Runs, AllFollow, Starts, records_content, flight_content}
 use Rattle.plain_engine.specs.World.Event.{Admit, Deliver}
 use Rattle.plain_engine.proofs.SumLaws.{move_middle, summed-push, record_content-concerned}
 use Rattle.batch_store.proofs.PartLaws.{part-unconcerned}
 
 -- == The sums
 
-pub flight_content-append : (k : ℕ) (xs ys : List Part) → flight_content k (xs ++ ys) ≡ ewise_add (flight_content k xs) (flight_content k ys)
+pub flight_content-append : (k : ℕ) (xs ys : List Part) →
+    flight_content k (xs ++ ys) ≡ ewise_add (flight_content k xs) (flight_content k ys)
 flight_content-append k [] ys = sym (empty-ewise_add (flight_content k ys))
 flight_content-append k (p ∷ ps) ys =
     let m = part p.batch.matrix.counts p.shard k in
-    ap (ewise_add m) (flight_content-append k ps ys) ∙ sym (ewise_add_assoc m (flight_content k ps) (flight_content k ys))
+    ap (ewise_add m) (flight_content-append k ps ys)
+    ∙ sym (ewise_add_assoc m (flight_content k ps) (flight_content k ys))
 
 -- the parts of a batch for the first n shards are its parts
 flight_content-parts_for : (b : Submission) (k n : ℕ) → flight_content k (parts_for b k n) ≡ parts b.matrix.counts n k
 flight_content-parts_for b k zero = refl
 flight_content-parts_for b k (suc n) = by (concerns n k b.matrix.counts) refl (flight_content-parts_for b k n)
   where
-    by : (x : Bool) → concerns n k b.matrix.counts ≡ x → flight_content k (parts_for b k n) ≡ parts b.matrix.counts n k → flight_content k (cond x (parts_for b k n ++ part_for b n ∷ []) (parts_for b k n)) ≡ ewise_add (parts b.matrix.counts n k) (part b.matrix.counts n k)
+    by : (x : Bool) → concerns n k b.matrix.counts ≡ x →
+        flight_content k (parts_for b k n) ≡ parts b.matrix.counts n k →
+        flight_content k (cond x (parts_for b k n ++ part_for b n ∷ []) (parts_for b k n)) ≡ ewise_add
+        (parts b.matrix.counts n k) (part b.matrix.counts n k)
     by true is rest =
         flight_content-append k (parts_for b k n) (part_for b n ∷ [])
         ∙ ap (ewise_add (flight_content k (parts_for b k n))) (ewise_add-empty (part b.matrix.counts n k))
         ∙ ap (λ (m : Counts). ewise_add m (part b.matrix.counts n k)) rest
     by false is rest =
-        rest ∙ sym (ewise_add-empty (parts b.matrix.counts n k)) ∙ ap (ewise_add (parts b.matrix.counts n k)) (sym (part-unconcerned n k b.matrix.counts is))
+        rest ∙ sym (ewise_add-empty (parts b.matrix.counts n k))
+        ∙ ap (ewise_add (parts b.matrix.counts n k)) (sym (part-unconcerned n k b.matrix.counts is))
 
 -- a batch more in record s adds its part
-records_content-append_at : (i k : ℕ) (rs : List (List Submission)) (s : ℕ) (b : Submission) → s < length rs → records_content i k (append_at rs s b) ≡ ewise_add (records_content i k rs) (part b.matrix.counts (i + s) k)
+records_content-append_at : (i k : ℕ) (rs : List (List Submission)) (s : ℕ) (b : Submission) → s < length rs →
+    records_content i k (append_at rs s b) ≡ ewise_add (records_content i k rs) (part b.matrix.counts (i + s) k)
 records_content-append_at i k [] s b h = absurd (omega arith)
 records_content-append_at i k (r ∷ rs) zero b h =
     let rest = records_content (i + 1) k rs in
@@ -57,7 +66,8 @@ records_content-append_at i k (r ∷ rs) (suc s) b h =
     let own = record_content i k r in
     ap (ewise_add own) (records_content-append_at (i + 1) k rs s b (omega arith))
     ∙ sym (ewise_add_assoc own (records_content (i + 1) k rs) (part b.matrix.counts ((i + 1) + s) k))
-    ∙ ap (λ (n : ℕ). ewise_add (ewise_add own (records_content (i + 1) k rs)) (part b.matrix.counts n k)) {x = (i + 1) + s} {y = i + suc s} (omega arith)
+    ∙ ap (λ (n : ℕ). ewise_add (ewise_add own (records_content (i + 1) k rs)) (part b.matrix.counts n k))
+    {x = (i + 1) + s} {y = i + suc s} (omega arith)
 
 pub length-append_at : (rs : List (List Submission)) (s : ℕ) (b : Submission) → length (append_at rs s b) ≡ length rs
 length-append_at [] s b = refl
@@ -65,23 +75,31 @@ length-append_at (r ∷ rs) zero b = refl
 length-append_at (r ∷ rs) (suc s) b = ap suc (length-append_at rs s b)
 
 -- records that follow a list have its parts
-records_content-follow : (i k : ℕ) (rs : List (List Submission)) (list : List Submission) → ((s : ℕ) → s < length rs → record_at rs s ≡ concerned (i + s) k list)
+records_content-follow : (i k : ℕ) (rs : List (List Submission)) (list : List Submission) →
+    ((s : ℕ) → s < length rs → record_at rs s ≡ concerned (i + s) k list)
     → ewise_add (parts (summed list) i k) (records_content i k rs) ≡ parts (summed list) (i + length rs) k
 records_content-follow i k [] list h =
-    ewise_add-empty (parts (summed list) i k) ∙ ap (λ (n : ℕ). parts (summed list) n k) {x = i} {y = i + 0} (omega arith)
+    ewise_add-empty (parts (summed list) i k) ∙ ap (λ (n : ℕ). parts (summed list) n k) {x = i} {y = i + 0}
+    (omega arith)
 records_content-follow i k (r ∷ rs) list h =
     let m = summed list in
-    let here : record_content i k r ≡ part m i k = ap (record_content i k) (h 0 (omega arith) ∙ ap (λ (n : ℕ). concerned n k list) {x = i + 0} {y = i} (omega arith)) ∙ record_content-concerned i k list in
-    let next : (s : ℕ) → s < length rs → record_at rs s ≡ concerned ((i + 1) + s) k list = λ s below. h (suc s) (omega arith) ∙ ap (λ (n : ℕ). concerned n k list) {x = i + suc s} {y = (i + 1) + s} (omega arith) in
+    let here : record_content i k r ≡ part m i k =
+    ap (record_content i k) (h 0 (omega arith) ∙ ap (λ (n : ℕ). concerned n k list) {x = i + 0} {y = i}
+    (omega arith)) ∙ record_content-concerned i k list in
+    let next : (s : ℕ) → s < length rs → record_at rs s ≡ concerned ((i + 1) + s) k list =
+    λ s below. h (suc s) (omega arith) ∙ ap (λ (n : ℕ). concerned n k list) {x = i + suc s} {y = (i + 1) + s}
+    (omega arith) in
     sym (ewise_add_assoc (parts m i k) (record_content i k r) (records_content (i + 1) k rs))
     ∙ ap (λ (c : Counts). ewise_add (ewise_add (parts m i k) c) (records_content (i + 1) k rs)) here
     ∙ ap (λ (n : ℕ). ewise_add (parts m n k) (records_content (i + 1) k rs)) {x = suc i} {y = i + 1} (omega arith)
     ∙ records_content-follow (i + 1) k rs list next
     ∙ ap (λ (n : ℕ). parts m n k) {x = (i + 1) + length rs} {y = i + suc (length rs)} (omega arith)
 
-pub records_content-whole : (k : ℕ) (rs : List (List Submission)) (list : List Submission) → 0 < k → length rs ≡ k → AllFollow k rs list → records_content 0 k rs ≡ summed list
+pub records_content-whole : (k : ℕ) (rs : List (List Submission)) (list : List Submission) → 0 < k → length rs ≡ k →
+    AllFollow k rs list → records_content 0 k rs ≡ summed list
 records_content-whole k rs list pos count follow =
-    let at : (s : ℕ) → s < length rs → record_at rs s ≡ concerned (0 + s) k list = λ s below. follow s (omega arith) ∙ ap (λ (n : ℕ). concerned n k list) {x = s} {y = 0 + s} (omega arith) in
+    let at : (s : ℕ) → s < length rs → record_at rs s ≡ concerned (0 + s) k list = λ s below. follow s (omega arith)
+    ∙ ap (λ (n : ℕ). concerned n k list) {x = s} {y = 0 + s} (omega arith) in
     sym (empty-ewise_add (records_content 0 k rs))
     ∙ records_content-follow 0 k rs list at
     ∙ ap (λ (n : ℕ). parts (summed list) n k) {x = 0 + length rs} {y = k} (omega arith)
@@ -96,7 +114,8 @@ below-append : (n : ℕ) (xs ys : List Part) → AreBelow n xs → AreBelow n ys
 below-append n [] ys h g = g
 below-append n (p ∷ ps) ys h g = (h.0, below-append n ps ys h.1 g)
 
-below-split : (n : ℕ) (xs : List Part) (p : Part) (ys : List Part) → AreBelow n (xs ++ p ∷ ys) → (p.shard < n) × AreBelow n (xs ++ ys)
+below-split : (n : ℕ) (xs : List Part) (p : Part) (ys : List Part) → AreBelow n (xs ++ p ∷ ys) → (p.shard < n) ×
+    AreBelow n (xs ++ ys)
 below-split n [] p ys h = (h.0, h.1)
 below-split n (x ∷ xs) p ys h =
     let rest = below-split n xs p ys h.1 in
@@ -106,7 +125,8 @@ below-parts_for : (b : Submission) (k n m : ℕ) → m ≤ n → AreBelow n (par
 below-parts_for b k n zero h = tt
 below-parts_for b k n (suc m) h = by (concerns m k b.matrix.counts) (below-parts_for b k n m (omega arith))
   where
-    by : (x : Bool) → AreBelow n (parts_for b k m) → AreBelow n (cond x (parts_for b k m ++ part_for b m ∷ []) (parts_for b k m))
+    by : (x : Bool) → AreBelow n (parts_for b k m) →
+        AreBelow n (cond x (parts_for b k m ++ part_for b m ∷ []) (parts_for b k m))
     by true rest = below-append n (parts_for b k m) (part_for b m ∷ []) rest (omega arith, tt)
     by false rest = rest
 
@@ -123,10 +143,12 @@ agrees-start v w st = record {
   sums =
       sym (records_content-whole v.shards w.records w.book st.some st.count st.follow)
       ∙ sym (ewise_add-empty (records_content 0 v.shards w.records))
-      ∙ ap (λ (ps : List Part). ewise_add (records_content 0 v.shards w.records) (flight_content v.shards ps)) (sym st.flight);
+      ∙ ap (λ (ps : List Part). ewise_add (records_content 0 v.shards w.records) (flight_content v.shards ps))
+      (sym st.flight);
 }
 
-agrees-admit : (v : Setting) (w : World) (b : Submission) (u : World) → 0 < v.shards → Admits v w b u → Agrees v w → Agrees v u
+agrees-admit : (v : Setting) (w : World) (b : Submission) (u : World) → 0 < v.shards → Admits v w b u → Agrees v w →
+    Agrees v u
 agrees-admit v w b u pos a inv =
     let k = v.shards in
     let rs = records_content 0 k w.records in
@@ -141,7 +163,8 @@ agrees-admit v w b u pos a inv =
           ∙ ap (ewise_add rs) (ap (ewise_add fl) (sym own) ∙ sym (flight_content-append k w.flight (parts_for b k k)));
     })
 
-agrees-deliver : (v : Setting) (w : World) (b : Submission) (s : ℕ) (u : World) → Delivers w b s u → Agrees v w → Agrees v u
+agrees-deliver : (v : Setting) (w : World) (b : Submission) (s : ℕ) (u : World) → Delivers w b s u → Agrees v w →
+    Agrees v u
 agrees-deliver v w b s u d inv =
     let k = v.shards in
     let rs = records_content 0 k w.records in
@@ -149,29 +172,37 @@ agrees-deliver v w b s u d inv =
     let fst = flight_content k d.before in
     let snd = flight_content k d.behind in
     let there = below-split k d.before (part_for b s) d.behind (subst (AreBelow k) d.was inv.below) in
-    let flight : flight_content k w.flight ≡ ewise_add fst (ewise_add m snd) = ap (flight_content k) d.was ∙ flight_content-append k d.before (part_for b s ∷ d.behind) in
-    let grown : records_content 0 k (append_at w.records s b) ≡ ewise_add rs m = records_content-append_at 0 k w.records s b (omega (arith, there.0, inv.count)) ∙ ap (λ (n : ℕ). ewise_add rs (part b.matrix.counts n k)) {x = 0 + s} {y = s} (omega arith) in
+    let flight : flight_content k w.flight ≡ ewise_add fst (ewise_add m snd) = ap (flight_content k) d.was
+    ∙ flight_content-append k d.before (part_for b s ∷ d.behind) in
+    let grown : records_content 0 k (append_at w.records s b) ≡ ewise_add rs m =
+    records_content-append_at 0 k w.records s b (omega (arith, there.0, inv.count))
+    ∙ ap (λ (n : ℕ). ewise_add rs (part b.matrix.counts n k)) {x = 0 + s} {y = s} (omega arith) in
     subst (λ (x : World). Agrees v x) (sym d.now) (record {
       count = length-append_at w.records s b ∙ inv.count;
       below = there.1;
       sums =
           inv.sums ∙ ap (ewise_add rs) flight ∙ move_middle rs m fst snd
           ∙ ap (λ (c : Counts). ewise_add c (ewise_add fst snd)) (sym grown)
-          ∙ ap (ewise_add (records_content 0 k (append_at w.records s b))) (sym (flight_content-append k d.before d.behind));
+          ∙ ap (ewise_add (records_content 0 k (append_at w.records s b)))
+          (sym (flight_content-append k d.before d.behind));
     })
 
 agrees-run : (v : Setting) (es : List Event) (w u : World) → 0 < v.shards → Runs v w es u → Agrees v w → Agrees v u
 agrees-run v [] w u pos run inv = subst (λ (x : World). Agrees v x) (sym run) inv
-agrees-run v (Admit b ∷ es) w u pos run inv = agrees-run v es run.0 u pos run.1.1 (agrees-admit v w b run.0 pos run.1.0 inv)
-agrees-run v (Deliver b s ∷ es) w u pos run inv = agrees-run v es run.0 u pos run.1.1 (agrees-deliver v w b s run.0 run.1.0 inv)
+agrees-run v (Admit b ∷ es) w u pos run inv =
+    agrees-run v es run.0 u pos run.1.1 (agrees-admit v w b run.0 pos run.1.0 inv)
+agrees-run v (Deliver b s ∷ es) w u pos run inv =
+    agrees-run v es run.0 u pos run.1.1 (agrees-deliver v w b s run.0 run.1.0 inv)
 
 pub run_agrees : (v : Setting) (w : World) (es : List Event) (u : World) → Starts v w → Runs v w es u → Agrees v u
 run_agrees v w es u st run = agrees-run v es w u st.some run (agrees-start v w st)
 
-pub run_lands : (v : Setting) (w : World) (es : List Event) (u : World) → Starts v w → Runs v w es u → u.flight ≡ [] → records_content 0 v.shards u.records ≡ summed u.book
+pub run_lands : (v : Setting) (w : World) (es : List Event) (u : World) → Starts v w → Runs v w es u → u.flight ≡ [] →
+    records_content 0 v.shards u.records ≡ summed u.book
 run_lands v w es u st run none =
     let rs = records_content 0 v.shards u.records in
-    sym ((run_agrees v w es u st run).sums ∙ ap (λ (ps : List Part). ewise_add rs (flight_content v.shards ps)) none ∙ ewise_add-empty rs)
+    sym ((run_agrees v w es u st run).sums ∙ ap (λ (ps : List Part). ewise_add rs (flight_content v.shards ps)) none
+    ∙ ewise_add-empty rs)
 
 -- == Distinct pairs, by counting
 
@@ -196,14 +227,17 @@ count-append : (c n : ℕ) (xs ys : List Submission) → pair_count c n (xs ++ y
 count-append c n [] ys = omega arith
 count-append c n (x ∷ xs) ys = omega (arith, count-append c n xs ys)
 
-flight-append : (c n s : ℕ) (xs ys : List Part) → flight_count c n s (xs ++ ys) ≡ flight_count c n s xs + flight_count c n s ys
+flight-append : (c n s : ℕ) (xs ys : List Part) →
+    flight_count c n s (xs ++ ys) ≡ flight_count c n s xs + flight_count c n s ys
 flight-append c n s [] ys = omega arith
 flight-append c n s (x ∷ xs) ys = omega (arith, flight-append c n s xs ys)
 
 both_same : (a b c d : ℕ) → (eqb a c && eqb b d) ≡ true → (a ≡ c) × (b ≡ d)
 both_same a b c d h = (grind (arith, nat_tests), grind (arith, nat_tests))
 
-none_counted : (x : Submission) (xs : List Submission) → AllByRecursion (λ (e : Entry). same_pair (entry_of x) e ≡ false) (entries_of xs) → pair_count x.client x.number xs ≡ 0
+none_counted : (x : Submission) (xs : List Submission) →
+    AllByRecursion (λ (e : Entry). same_pair (entry_of x) e ≡ false) (entries_of xs) →
+    pair_count x.client x.number xs ≡ 0
 none_counted x [] h = refl
 none_counted x (y ∷ ys) h = omega (arith, ap one_if h.0, none_counted x ys h.1)
 
@@ -223,7 +257,8 @@ zero_none : (t : Bool) (m : ℕ) → one_if t + m ≡ 0 → (t ≡ false) × (m 
 zero_none true m h = absurd (omega arith)
 zero_none false m h = (refl, omega arith)
 
-counted_none : (x : Submission) (xs : List Submission) → pair_count x.client x.number xs ≡ 0 → AllByRecursion (λ (e : Entry). same_pair (entry_of x) e ≡ false) (entries_of xs)
+counted_none : (x : Submission) (xs : List Submission) → pair_count x.client x.number xs ≡ 0 →
+    AllByRecursion (λ (e : Entry). same_pair (entry_of x) e ≡ false) (entries_of xs)
 counted_none x [] h = tt
 counted_none x (y ∷ ys) h =
     let p = zero_none (is_pair x.client x.number y) (pair_count x.client x.number ys) h in
@@ -241,9 +276,13 @@ counted_distinct (x ∷ xs) h =
     (counted_none x xs own, counted_distinct xs rest)
 
 -- the list after a fresh batch has distinct pairs
-pub distinct-fresh : (v : Setting) (list : List Submission) (b : Submission) → AreDistinct list → verdict_in v list b ≡ Fresh → AreDistinct (list ++ b ∷ [])
+pub distinct-fresh : (v : Setting) (list : List Submission) (b : Submission) → AreDistinct list →
+    verdict_in v list b ≡ Fresh → AreDistinct (list ++ b ∷ [])
 distinct-fresh v list b h fresh =
-    subst (IsDistinct same_pair) (sym (map-append entry_of list (b ∷ []))) (distinct_push (entries_of list) (entry_of b) h (none_same (entry_of b) (entries_of list) (fresh_is v.limit v.max_batches (entries_of list) (entry_of b) fresh).new_pair))
+    subst (IsDistinct same_pair) (sym (map-append entry_of list (b ∷ [])))
+    (distinct_push (entries_of list) (entry_of b) h
+    (none_same (entry_of b) (entries_of list) (fresh_is v.limit v.max_batches (entries_of list) (entry_of b)
+    fresh).new_pair))
 
 -- the parts of one batch are for different shards
 parts_none : (c n s : ℕ) (b : Submission) (k m : ℕ) → m ≤ s → flight_count c n s (parts_for b k m) ≡ 0
@@ -253,30 +292,40 @@ parts_none c n s b k (suc m) h = by (concerns m k b.matrix.counts) (parts_none c
     other : eqb m s ≡ false
     other = grind (arith, nat_tests)
 
-    by : (x : Bool) → flight_count c n s (parts_for b k m) ≡ 0 → flight_count c n s (cond x (parts_for b k m ++ part_for b m ∷ []) (parts_for b k m)) ≡ 0
-    by true rest = omega (arith, flight-append c n s (parts_for b k m) (part_for b m ∷ []), ap (λ (t : Bool). one_if (t && is_pair c n b)) other, rest)
+    by : (x : Bool) → flight_count c n s (parts_for b k m) ≡ 0 →
+        flight_count c n s (cond x (parts_for b k m ++ part_for b m ∷ []) (parts_for b k m)) ≡ 0
+    by true rest = omega (
+      arith,
+      flight-append c n s (parts_for b k m) (part_for b m ∷ []),
+      ap (λ (t : Bool). one_if (t && is_pair c n b)) other,
+      rest,
+    )
     by false rest = rest
 
 parts_once : (c n s : ℕ) (b : Submission) (k m : ℕ) → flight_count c n s (parts_for b k m) ≤ one_if (is_pair c n b)
 parts_once c n s b k zero = omega arith
 parts_once c n s b k (suc m) = by (concerns m k b.matrix.counts) (parts_once c n s b k m)
   where
-    here : (t : Bool) → eqb m s ≡ t → flight_count c n s (parts_for b k m) ≤ one_if (is_pair c n b) → flight_count c n s (parts_for b k m) + one_if (t && is_pair c n b) ≤ one_if (is_pair c n b)
+    here : (t : Bool) → eqb m s ≡ t → flight_count c n s (parts_for b k m) ≤ one_if (is_pair c n b) →
+        flight_count c n s (parts_for b k m) + one_if (t && is_pair c n b) ≤ one_if (is_pair c n b)
     here true is rest =
         let same : m ≡ s = grind (arith, nat_tests) in
         omega (arith, parts_none c n s b k m (omega arith))
     here false is rest = omega (arith, rest)
 
-    by : (x : Bool) → flight_count c n s (parts_for b k m) ≤ one_if (is_pair c n b) → flight_count c n s (cond x (parts_for b k m ++ part_for b m ∷ []) (parts_for b k m)) ≤ one_if (is_pair c n b)
+    by : (x : Bool) → flight_count c n s (parts_for b k m) ≤ one_if (is_pair c n b) →
+        flight_count c n s (cond x (parts_for b k m ++ part_for b m ∷ []) (parts_for b k m)) ≤ one_if (is_pair c n b)
     by true rest = omega (arith, flight-append c n s (parts_for b k m) (part_for b m ∷ []), here (eqb m s) refl rest)
     by false rest = rest
 
-pub record_at-same : (rs : List (List Submission)) (s : ℕ) (b : Submission) → s < length rs → record_at (append_at rs s b) s ≡ record_at rs s ++ b ∷ []
+pub record_at-same : (rs : List (List Submission)) (s : ℕ) (b : Submission) → s < length rs →
+    record_at (append_at rs s b) s ≡ record_at rs s ++ b ∷ []
 record_at-same [] s b h = absurd (omega arith)
 record_at-same (r ∷ rs) zero b h = refl
 record_at-same (r ∷ rs) (suc s) b h = record_at-same rs s b (omega arith)
 
-pub record_at-other : (rs : List (List Submission)) (s t : ℕ) (b : Submission) → (s ≡ t → ⊥) → record_at (append_at rs s b) t ≡ record_at rs t
+pub record_at-other : (rs : List (List Submission)) (s t : ℕ) (b : Submission) → (s ≡ t → ⊥) →
+    record_at (append_at rs s b) t ≡ record_at rs t
 record_at-other [] s t b h = refl
 record_at-other (r ∷ rs) zero zero b h = absurd (h refl)
 record_at-other (r ∷ rs) zero (suc t) b h = refl
@@ -284,12 +333,15 @@ record_at-other (r ∷ rs) (suc s) zero b h = refl
 record_at-other (r ∷ rs) (suc s) (suc t) b h = record_at-other rs s t b (λ e. h (ap suc e))
 
 -- a batch more in record s, counted in record t
-append_counted : (c n : ℕ) (rs : List (List Submission)) (s t : ℕ) (b : Submission) → pair_count c n (record_at (append_at rs s b) t) ≤ pair_count c n (record_at rs t) + one_if (eqb s t && is_pair c n b)
+append_counted : (c n : ℕ) (rs : List (List Submission)) (s t : ℕ) (b : Submission) →
+    pair_count c n (record_at (append_at rs s b) t) ≤ pair_count c n (record_at rs t) + one_if
+    (eqb s t && is_pair c n b)
 append_counted c n [] s t b = omega arith
 append_counted c n (r ∷ rs) zero zero b = omega (arith, count-append c n r (b ∷ []))
 append_counted c n (r ∷ rs) zero (suc t) b = omega arith
 append_counted c n (r ∷ rs) (suc s) zero b = omega arith
-append_counted c n (r ∷ rs) (suc s) (suc t) b = omega (arith, append_counted c n rs s t b, ap (λ (x : Bool). one_if (x && is_pair c n b)) (shift s t))
+append_counted c n (r ∷ rs) (suc s) (suc t) b =
+    omega (arith, append_counted c n rs s t b, ap (λ (x : Bool). one_if (x && is_pair c n b)) (shift s t))
   where
     shift : (s t : ℕ) → eqb (suc s) (suc t) ≡ eqb s t
     shift s t = grind (arith, nat_tests)
@@ -297,13 +349,15 @@ append_counted c n (r ∷ rs) (suc s) (suc t) b = omega (arith, append_counted c
 -- no pair stands more often in a record and in flight for its shard than in the book, where it stands once at most
 pub record AreCounted (w : World) : Type 0 where
   pub distinct : AreDistinct w.book
-  pub counted : (c n s : ℕ) → pair_count c n (record_at w.records s) + flight_count c n s w.flight ≤ pair_count c n w.book
+  pub counted : (c n s : ℕ) → pair_count c n (record_at w.records s) + flight_count c n s w.flight ≤ pair_count c n
+      w.book
 
 filter_counted : (c n s k : ℕ) (list : List Submission) → pair_count c n (concerned s k list) ≤ pair_count c n list
 filter_counted c n s k [] = omega arith
 filter_counted c n s k (b ∷ bs) = by (concerns s k b.matrix.counts) (filter_counted c n s k bs)
   where
-    by : (x : Bool) → pair_count c n (concerned s k bs) ≤ pair_count c n bs → pair_count c n (cond x (b ∷ concerned s k bs) (concerned s k bs)) ≤ one_if (is_pair c n b) + pair_count c n bs
+    by : (x : Bool) → pair_count c n (concerned s k bs) ≤ pair_count c n bs →
+        pair_count c n (cond x (b ∷ concerned s k bs) (concerned s k bs)) ≤ one_if (is_pair c n b) + pair_count c n bs
     by true rest = omega (arith, rest)
     by false rest = omega (arith, rest)
 
@@ -327,7 +381,13 @@ counted-admit : (v : Setting) (w : World) (b : Submission) (u : World) → Admit
 counted-admit v w b u a inv =
     subst AreCounted (sym a.now) (record {
       distinct = distinct-fresh v w.book b inv.distinct a.fresh;
-      counted = λ c n s. omega (arith, inv.counted c n s, count-append c n w.book (b ∷ []), flight-append c n s w.flight (parts_for b v.shards v.shards), parts_once c n s b v.shards v.shards);
+      counted = λ c n s. omega (
+        arith,
+        inv.counted c n s,
+        count-append c n w.book (b ∷ []),
+        flight-append c n s w.flight (parts_for b v.shards v.shards),
+        parts_once c n s b v.shards v.shards,
+      );
     })
 
 counted-deliver : (w : World) (b : Submission) (s : ℕ) (u : World) → Delivers w b s u → AreCounted w → AreCounted u
@@ -347,9 +407,15 @@ counted-deliver w b s u d inv =
 counted-run : (v : Setting) (es : List Event) (w u : World) → Runs v w es u → AreCounted w → AreCounted u
 counted-run v [] w u run inv = subst AreCounted (sym run) inv
 counted-run v (Admit b ∷ es) w u run inv = counted-run v es run.0 u run.1.1 (counted-admit v w b run.0 run.1.0 inv)
-counted-run v (Deliver b s ∷ es) w u run inv = counted-run v es run.0 u run.1.1 (counted-deliver w b s run.0 run.1.0 inv)
+counted-run v (Deliver b s ∷ es) w u run inv =
+    counted-run v es run.0 u run.1.1 (counted-deliver w b s run.0 run.1.0 inv)
 
-pub run_distinct : (v : Setting) (w : World) (es : List Event) (u : World) (s : ℕ) → Starts v w → Runs v w es u → AreDistinct (record_at u.records s)
+pub run_distinct : (v : Setting) (w : World) (es : List Event) (u : World) (s : ℕ) → Starts v w → Runs v w es u →
+    AreDistinct (record_at u.records s)
 run_distinct v w es u s st run =
     let inv = counted-run v es w u run (counted-start v w st) in
-    counted_distinct (record_at u.records s) (λ c n. omega (arith, inv.counted c n s, distinct_counted c n u.book inv.distinct))
+    counted_distinct (record_at u.records s) (λ c n. omega (
+      arith,
+      inv.counted c n s,
+      distinct_counted c n u.book inv.distinct,
+    ))

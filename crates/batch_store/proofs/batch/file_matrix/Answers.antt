@@ -3,10 +3,13 @@ use Rattle.batch_store.proofs.FileLaws.{too_large, unrefused, never_outside}
 use Rattle.batch_store.proofs.batch.file_matrix.Goals as goal
 
 pub returns-in-Err-Memory-clause-err : goal.returns-in-Err-Memory-clause-err
-returns-in-Err-Memory-clause-err c = unrefused _ _ _ c.args.file.now.cells.items c.deref.ensures.value (c.build.ensures.memory (c.in-Err-Memory.is ∙ ap Err c.in-Err-Memory.field-0-is))
+returns-in-Err-Memory-clause-err c = unrefused _ _ _ c.args.file.now.cells.items c.deref.ensures.value
+    (c.build.ensures.memory (c.in-Err-Memory.is ∙ ap Err c.in-Err-Memory.field-0-is))
 
 pub unreachable-requires : goal.unreachable-requires
-unreachable-requires c = never_outside _ _ _ c.args.file.now.cells.items c.args.file.now.within c.deref.ensures.value (c.build.ensures.index.0 (c.in-Err-IndexOutOfRange.is ∙ ap Err c.in-Err-IndexOutOfRange.field-0-is))
+unreachable-requires c = never_outside _ _ _ c.args.file.now.cells.items c.args.file.now.within c.deref.ensures.value
+    (c.build.ensures.index.0 (c.in-Err-IndexOutOfRange.is ∙ ap Err c.in-Err-IndexOutOfRange.field-0-is))
 
 pub returns-in-Err-SumTooLarge-clause-err : goal.returns-in-Err-SumTooLarge-clause-err
-returns-in-Err-SumTooLarge-clause-err c = too_large _ _ _ c.args.file.now.cells.items c.deref.ensures.value (c.build.ensures.sum.0 (c.in-Err-SumTooLarge.is ∙ ap Err c.in-Err-SumTooLarge.field-0-is))
+returns-in-Err-SumTooLarge-clause-err c = too_large _ _ _ c.args.file.now.cells.items c.deref.ensures.value
+    (c.build.ensures.sum.0 (c.in-Err-SumTooLarge.is ∙ ap Err c.in-Err-SumTooLarge.field-0-is))

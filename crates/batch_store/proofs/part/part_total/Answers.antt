@@ -13,7 +13,8 @@ add-init c = record {
   finite = tt;
   rest = omega (
     arith,
-    ap (λ es. count_sum (part_entries c.args.s c.args.k es)) (c.into_iter-cell-iterator.ensures.into_iter_gives ∙ c.iter-cell-items.ensures.order),
+    ap (λ es. count_sum (part_entries c.args.s c.args.k es)) (c.into_iter-cell-iterator.ensures.into_iter_gives
+        ∙ c.iter-cell-items.ensures.order),
     total-part c.args.m.now.counts c.args.s c.args.k,
   );
 }
@@ -21,5 +22,15 @@ add-init c = record {
 pub overflow_add-total : goal.overflow_add-total
 overflow_add-total c =
     let this = ap (λ es. count_sum (part_entries c.args.s c.args.k es)) c.in-Some.ensures.steps in
-    let more = part_sum-more c.args.s c.args.k (entry_of c.in-Some.cell) c.next.new.self (eq-eqb _ _ c.if-cell-k.true) in
-    record { fits = omega (arith, this, more, c.add.invariant.rest, part_of-le c.args.s c.args.k c.args.m.now.counts, c.total-bound.ensures.fits) }
+    let more = part_sum-more c.args.s c.args.k (entry_of c.in-Some.cell) c.next.new.self (eq-eqb _ _ c.if-cell-k.true)
+    in
+    record {
+      fits = omega (
+        arith,
+        this,
+        more,
+        c.add.invariant.rest,
+        part_of-le c.args.s c.args.k c.args.m.now.counts,
+        c.total-bound.ensures.fits,
+      );
+    }

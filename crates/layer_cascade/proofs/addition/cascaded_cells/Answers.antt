@@ -15,7 +15,8 @@ into_sum_with_cells-requires-clause-fits c =
       arith,
       ap (λ (m : Matrix). total m.counts) c.in_ok-first.ensures,
       first_total c.replace-first.result c.args.layers.items (omega (arith, c.requires.count))
-          (c.replace-first.ensures.value ∙ c.index_mut.ensures.value ∙ ap (get_or c.args.layers.items 0) (sym c.replace-first.ensures.value)),
+          (c.replace-first.ensures.value ∙ c.index_mut.ensures.value
+          ∙ ap (get_or c.args.layers.items 0) (sym c.replace-first.ensures.value)),
       c.requires.fits,
     )
 
@@ -25,8 +26,11 @@ cascaded-requires-clause-fits c =
       arith,
       ap (λ (m : Matrix). total m.counts) c.in_ok-sum.ensures,
       ap (λ (m : Matrix). total (ewise_add m.counts (built_of c.args.cells.now))) c.in_ok-first.ensures,
-      first_totals c.replace-first.result c.replace-first.new.dest c.args.cuts.now (built_of c.args.cells.now) (holds_none _ _ _ c.replace-first.ensures.after c.in_ok-none.ensures c.requires.none) c.args.layers.items (omega (arith, c.requires.count))
-          (c.replace-first.ensures.value ∙ c.index_mut.ensures.value ∙ ap (get_or c.args.layers.items 0) (sym c.replace-first.ensures.value)),
+      first_totals c.replace-first.result c.replace-first.new.dest c.args.cuts.now (built_of c.args.cells.now)
+          (holds_none _ _ _ c.replace-first.ensures.after c.in_ok-none.ensures c.requires.none) c.args.layers.items
+          (omega (arith, c.requires.count))
+          (c.replace-first.ensures.value ∙ c.index_mut.ensures.value
+          ∙ ap (get_or c.args.layers.items 0) (sym c.replace-first.ensures.value)),
       total-built_of c.args.cells.now,
       c.requires.fits,
     )
@@ -34,6 +38,11 @@ cascaded-requires-clause-fits c =
 pub returns-clause-counts : goal.returns-clause-counts
 returns-clause-counts c =
     c.in_ok-after.ensures.counts
-    ∙ ap (cascade (all_counts (values (set c.args.layers.items 0 c.replace-first.new.dest))) c.args.cuts.now) (ap (λ (m : Matrix). m.counts) c.in_ok-sum.ensures ∙ ap (λ (m : Matrix). ewise_add m.counts (built_of c.args.cells.now)) c.in_ok-first.ensures)
-    ∙ first_cascade c.replace-first.result c.replace-first.new.dest c.args.cuts.now (built_of c.args.cells.now) (holds_none _ _ _ c.replace-first.ensures.after c.in_ok-none.ensures c.requires.none) c.args.layers.items (omega (arith, c.requires.count))
-    (c.replace-first.ensures.value ∙ c.index_mut.ensures.value ∙ ap (get_or c.args.layers.items 0) (sym c.replace-first.ensures.value))
+    ∙ ap (cascade (all_counts (values (set c.args.layers.items 0 c.replace-first.new.dest))) c.args.cuts.now)
+    (ap (λ (m : Matrix). m.counts) c.in_ok-sum.ensures
+    ∙ ap (λ (m : Matrix). ewise_add m.counts (built_of c.args.cells.now)) c.in_ok-first.ensures)
+    ∙ first_cascade c.replace-first.result c.replace-first.new.dest c.args.cuts.now (built_of c.args.cells.now)
+    (holds_none _ _ _ c.replace-first.ensures.after c.in_ok-none.ensures c.requires.none) c.args.layers.items
+    (omega (arith, c.requires.count))
+    (c.replace-first.ensures.value ∙ c.index_mut.ensures.value
+    ∙ ap (get_or c.args.layers.items 0) (sym c.replace-first.ensures.value))

@@ -14,7 +14,10 @@ sum_of-requires t c =
     let right = c.split_at.result.1.now in
     let e = c.split_at.ensures in (
       search rules,
-      (subst (HaveSetup v) (sym e.front) (have_take v _ xs c.requires.made), omega (arith, ap shards_total e.by_index.0, totals-append left right, c.requires.fits)),
+      (
+        subst (HaveSetup v) (sym e.front) (have_take v _ xs c.requires.made),
+        omega (arith, ap shards_total e.by_index.0, totals-append left right, c.requires.fits),
+      ),
     )
 
 pub sum_of-requires-in_default : goal.sum_of-requires-in_default
@@ -25,7 +28,10 @@ sum_of-requires-in_default t c =
     let right = c.split_at.result.1.now in
     let e = c.split_at.ensures in (
       search rules,
-      (subst (HaveSetup v) (sym e.back) (have_drop v _ xs c.requires.made), omega (arith, ap shards_total e.by_index.0, totals-append left right, c.requires.fits)),
+      (
+        subst (HaveSetup v) (sym e.back) (have_drop v _ xs c.requires.made),
+        omega (arith, ap shards_total e.by_index.0, totals-append left right, c.requires.fits),
+      ),
     )
 
 pub into_sum-requires-clause-fits : goal.into_sum-requires-clause-fits
@@ -45,9 +51,12 @@ into_sum-requires-clause-fits t c =
 
 pub returns-in_ok-held-in-len1 : goal.returns-in_ok-held-in-len1
 returns-in_ok-held-in-len1 t c =
-    c.in_ok-held-in-len1.ensures ∙ held_alone c.args.setup.now c.args.shards.now c.shard-item.result c.requires.made c.in-len1.len_at_least c.in-len1.len_below c.shard-item.is
+    c.in_ok-held-in-len1.ensures ∙ held_alone c.args.setup.now c.args.shards.now c.shard-item.result c.requires.made
+    c.in-len1.len_at_least c.in-len1.len_below c.shard-item.is
 
 pub returns-in_ok-whole-in_default : goal.returns-in_ok-whole-in_default
 returns-in_ok-whole-in_default t c =
     c.in_ok-whole-in_default.ensures
-    ∙ held_together c.args.setup.now c.args.shards.now c.split_at.result.0.now c.split_at.result.1.now c.in_ok-sum-in_default.sum c.in_ok-rest-in_default.rest c.split_at.ensures.by_index.0 c.in_ok-sum-in_default.ensures c.in_ok-rest-in_default.ensures
+    ∙ held_together c.args.setup.now c.args.shards.now c.split_at.result.0.now c.split_at.result.1.now
+    c.in_ok-sum-in_default.sum c.in_ok-rest-in_default.rest c.split_at.ensures.by_index.0
+    c.in_ok-sum-in_default.ensures c.in_ok-rest-in_default.ensures

@@ -13,10 +13,15 @@ shards-preserved c =
     let i = c.shards.shard-index in
     let inv = c.shards.invariant in
     let number : x.number ≡ i = omega (arith, c.number.ensures.value, c.if-number-place.false, inv.at) in
-    let told : Follows c.shards.place c.shards-k.result x.record_list list = c.record_follows.ensures.0 c.if-not-record_follows.false in
-    let follows : Follows i v.shards x.record_list list = subst (λ (n : ℕ). Follows n v.shards x.record_list list) inv.at (subst (λ (k : ℕ). Follows c.shards.place k x.record_list list) c.shards-k.ensures.value told) in
+    let told : Follows c.shards.place c.shards-k.result x.record_list list =
+    c.record_follows.ensures.0 c.if-not-record_follows.false in
+    let follows : Follows i v.shards x.record_list list =
+    subst (λ (n : ℕ). Follows n v.shards x.record_list list) inv.at
+    (subst (λ (k : ℕ). Follows c.shards.place k x.record_list list) c.shards-k.ensures.value told) in
     record {
       at = omega (arith, inv.at);
-      stand = stand_next v list xs i x c.shards-test.true c.shard-item.is number follows c.requires c.number.ensures.kept inv.stand;
-      rest = together_next v list xs i x c.shards-test.true c.shard-item.is number follows (AreTogether v.shards list 0 xs) inv.rest;
+      stand = stand_next v list xs i x c.shards-test.true c.shard-item.is number follows c.requires
+          c.number.ensures.kept inv.stand;
+      rest = together_next v list xs i x c.shards-test.true c.shard-item.is number follows
+          (AreTogether v.shards list 0 xs) inv.rest;
     }

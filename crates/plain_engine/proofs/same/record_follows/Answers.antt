@@ -15,10 +15,14 @@ returns-then-not-same_batch c = (
       let held = c.args.shard.now.record_list in
       let inv = c.batches.invariant in
       let b = arc_value c.in-Some.batch.now in
-      let here : concerns c.args.s c.args.k b.matrix.counts ≡ true = ap (λ (x : Submission). concerns c.args.s c.args.k x.matrix.counts) (sym c.deref.ensures) ∙ sym c.concerns.ensures ∙ c.if-concerns.true in
-      let there = held_next c.args.s c.args.k c.args.book.now.list c.batches.i b (sym c.in-Some.ensures) held c.batches.next inv.within inv.so_far here follows in
+      let here : concerns c.args.s c.args.k b.matrix.counts ≡ true =
+      ap (λ (x : Submission). concerns c.args.s c.args.k x.matrix.counts) (sym c.deref.ensures)
+      ∙ sym c.concerns.ensures ∙ c.if-concerns.true in
+      let there = held_next c.args.s c.args.k c.args.book.now.list c.batches.i b (sym c.in-Some.ensures) held
+      c.batches.next inv.within inv.so_far here follows in
       let same : arc_value c.in-Some-at.held.now ≡ b = same_Some _ _ (c.in-Some-at.ensures ∙ there) in
-      sym c.if-not-same_batch.true ∙ c.same_batch.ensures.1 (c.deref-in-Some-at.ensures ∙ same ∙ sym c.deref-in-Some-at-2.ensures),
+      sym c.if-not-same_batch.true ∙ c.same_batch.ensures.1 (c.deref-in-Some-at.ensures ∙ same
+      ∙ sym c.deref-in-Some-at-2.ensures),
 )
 
 pub returns-in-None : goal.returns-in-None
@@ -28,8 +32,11 @@ returns-in-None c = (
       let held = c.args.shard.now.record_list in
       let inv = c.batches.invariant in
       let b = arc_value c.in-Some.batch.now in
-      let here : concerns c.args.s c.args.k b.matrix.counts ≡ true = ap (λ (x : Submission). concerns c.args.s c.args.k x.matrix.counts) (sym c.deref.ensures) ∙ sym c.concerns.ensures ∙ c.if-concerns.true in
-      let there = held_next c.args.s c.args.k c.args.book.now.list c.batches.i b (sym c.in-Some.ensures) held c.batches.next inv.within inv.so_far here follows in
+      let here : concerns c.args.s c.args.k b.matrix.counts ≡ true =
+      ap (λ (x : Submission). concerns c.args.s c.args.k x.matrix.counts) (sym c.deref.ensures)
+      ∙ sym c.concerns.ensures ∙ c.if-concerns.true in
+      let there = held_next c.args.s c.args.k c.args.book.now.list c.batches.i b (sym c.in-Some.ensures) held
+      c.batches.next inv.within inv.so_far here follows in
       let none : None ≡ Some b = c.in-None.ensures ∙ there in
       absurd cc,
 )
@@ -45,17 +52,21 @@ batches-preserved c =
     let n = c.batches.next in
     let b = arc_value c.in-Some.batch.now in
     let at : slice_get list i ≡ Some b = sym c.in-Some.ensures in
-    let test : concerns s k b.matrix.counts ≡ c.concerns.result = ap (λ (x : Submission). concerns s k x.matrix.counts) (sym c.deref.ensures) ∙ sym c.concerns.ensures in
-    let up : concerned s k (take (suc i) list) ≡ concerned s k (take (i + 1) list) = ap (λ (m : ℕ). concerned s k (take m list)) {x = suc i} {y = i + 1} (omega arith) in
+    let test : concerns s k b.matrix.counts ≡ c.concerns.result =
+    ap (λ (x : Submission). concerns s k x.matrix.counts) (sym c.deref.ensures) ∙ sym c.concerns.ensures in
+    let up : concerned s k (take (suc i) list) ≡ concerned s k (take (i + 1) list) =
+    ap (λ (m : ℕ). concerned s k (take m list)) {x = suc i} {y = i + 1} (omega arith) in
     elim c.if-concerns.branch [
       | then-concerns+in-Some-at+else-not-same_batch w ↦
-          let same : arc_value w.in-Some-at.held.now ≡ b = sym w.deref-in-Some-at.ensures ∙ w.same_batch.ensures.0 w.if-not-same_batch.false ∙ w.deref-in-Some-at-2.ensures in
+          let same : arc_value w.in-Some-at.held.now ≡ b = sym w.deref-in-Some-at.ensures
+          ∙ w.same_batch.ensures.0 w.if-not-same_batch.false ∙ w.deref-in-Some-at-2.ensures in
           let there : slice_get held n ≡ Some b = sym w.in-Some-at.ensures ∙ ap Some same in
           let here : concerns s k b.matrix.counts ≡ true = test ∙ w.if-concerns.true in
           record {
             within = omega (arith, within_list held n b there, w.next-is);
             few = omega (arith, w.next-is, inv.few);
-            so_far = ap (λ (m : ℕ). take m held) (w.next-is ∙ add-one n) ∙ next_taken s k list i b at held n inv.so_far here there ∙ up;
+            so_far = ap (λ (m : ℕ). take m held) (w.next-is ∙ add-one n)
+                ∙ next_taken s k list i b at held n inv.so_far here there ∙ up;
           }
       | else-concerns w ↦
           let other : concerns s k b.matrix.counts ≡ false = test ∙ w.if-concerns.false in

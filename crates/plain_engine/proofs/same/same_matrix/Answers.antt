@@ -10,6 +10,10 @@ returns-then-cols-other_cols c =
     let b = c.args.b.now in
     let first = λ (p : ℕ × ℕ). p.0 in
     let second = λ (p : ℕ × ℕ). p.1 in
-    let rows : a.rows ≡ b.rows = sym (ap first c.dims-rows.ensures.value) ∙ c.if-cols-other_cols.true.0 ∙ ap first c.dims-other_rows.ensures.value in
-    let cols : a.cols ≡ b.cols = sym (ap second c.dims-rows.ensures.value) ∙ c.if-cols-other_cols.true.1 ∙ ap second c.dims-other_rows.ensures.value in
-    (λ h. same_matrices a b rows cols (c.same_cells.ensures.0 h), λ e. c.same_cells.ensures.1 (ap (λ (m : Matrix). entries m.counts) e))
+    let rows : a.rows ≡ b.rows = sym (ap first c.dims-rows.ensures.value) ∙ c.if-cols-other_cols.true.0
+    ∙ ap first c.dims-other_rows.ensures.value in
+    let cols : a.cols ≡ b.cols = sym (ap second c.dims-rows.ensures.value) ∙ c.if-cols-other_cols.true.1
+    ∙ ap second c.dims-other_rows.ensures.value in (
+      λ h. same_matrices a b rows cols (c.same_cells.ensures.0 h),
+      λ e. c.same_cells.ensures.1 (ap (λ (m : Matrix). entries m.counts) e),
+    )

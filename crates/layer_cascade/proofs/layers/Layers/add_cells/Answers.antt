@@ -13,6 +13,11 @@ pub invariant_of-result : goal.invariant_of-result
 invariant_of-result c =
     let rows = ap (λ (m : Matrix). m.rows) c.self.invariant.none ∙ ap (λ (w : Layering). w.rows) c.self.view_is in
     let cols = ap (λ (m : Matrix). m.cols) c.self.invariant.none ∙ ap (λ (w : Layering). w.cols) c.self.view_is in
-    keeps_added _ _ _ (values c.self.inside.layers.items) _ _ (matrix c.args.self.rows c.args.self.cols (built_of c.args.cells.now)) c.args.self c.self.invariant c.self.view_is (omega (arith, c.requires.fits, total-built_of c.args.cells.now)) refl refl
-    (c.in_ok-layers.ensures.counts ∙ ap (λ k. cascade (all_counts (values c.self.inside.layers.items)) k (built_of c.args.cells.now)) c.deref.ensures.value)
-    (subst (λ k. HaveDims c.args.self.rows k (values c.in_ok-layers.layers.items)) cols (subst (λ k. HaveDims k (arc_value c.self.inside.empty).cols (values c.in_ok-layers.layers.items)) rows c.in_ok-layers.ensures.dims))
+    keeps_added _ _ _ (values c.self.inside.layers.items) _ _
+    (matrix c.args.self.rows c.args.self.cols (built_of c.args.cells.now)) c.args.self c.self.invariant
+    c.self.view_is (omega (arith, c.requires.fits, total-built_of c.args.cells.now)) refl refl
+    (c.in_ok-layers.ensures.counts ∙ ap (λ k. cascade (all_counts (values c.self.inside.layers.items)) k
+    (built_of c.args.cells.now)) c.deref.ensures.value)
+    (subst (λ k. HaveDims c.args.self.rows k (values c.in_ok-layers.layers.items)) cols
+    (subst (λ k. HaveDims k (arc_value c.self.inside.empty).cols (values c.in_ok-layers.layers.items)) rows
+    c.in_ok-layers.ensures.dims))

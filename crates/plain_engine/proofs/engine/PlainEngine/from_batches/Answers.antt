@@ -16,8 +16,12 @@ returns-in_err-load-clause-err g c =
     let b = arc_value c.b-item.result in
     let done = values (take i list) in
     let rest = values (drop (i + 1) list) in
-    let cut : values (drop i list) ≡ b ∷ rest = ap values (drop_here i list c.b-item.result c.batches-test.true c.b-item.is) in
-    let count : c.batches.at ≡ length done = inv.at ∙ sym (length-map (take i list) arc_value ∙ length-take-le i list (omega arith)) in
+    let cut : values (drop i list) ≡ b ∷ rest = ap values
+    (drop_here i list c.b-item.result c.batches-test.true c.b-item.is) in
+    let count : c.batches.at ≡ length done = inv.at
+    ∙ sym (length-map (take i list) arc_value ∙ length-take-le i list (omega arith)) in
     let p = err_from_is_err_and c.from_residual-in_err-load.result c.from_residual-in_err-load.ensures.1 in
     rw (p.1, p.2)
-    (λ other. refused_here v c.batches.engine.setup c.batches.engine.book.list done (values (drop i list)) rest (values list) b c.batches.at c.in_err-load.field-0.0 inv.setup inv.list count inv.rest cut (c.in_err-load.ensures.err other))
+    (λ other. refused_here v c.batches.engine.setup c.batches.engine.book.list done (values (drop i list)) rest
+    (values list) b c.batches.at c.in_err-load.field-0.0 inv.setup inv.list count inv.rest cut
+    (c.in_err-load.ensures.err other))

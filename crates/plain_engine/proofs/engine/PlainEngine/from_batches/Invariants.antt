@@ -10,5 +10,6 @@ invariant-batches g l = record {
   at : l.at ≡ l.b-index;
   list : l.engine.book.list ≡ values (take l.b-index l.list);
   dims : HaveDims l.fn.setup.rows l.fn.setup.cols (values (drop l.b-index l.list));
-  rest : first_refusal l.fn.setup [] (values l.list) ≡ first_refusal l.fn.setup (values (take l.b-index l.list)) (values (drop l.b-index l.list));
+  rest : first_refusal l.fn.setup [] (values l.list) ≡ first_refusal l.fn.setup (values (take l.b-index l.list))
+      (values (drop l.b-index l.list));
 }

@@ -11,7 +11,13 @@ returns c =
     let x = c.index.result.now in
     let j = c.args.row % c.shards-k.result in
     let same : j ≡ c.args.row % v.shards = ap (λ (k : ℕ). c.args.row % k) c.shards-k.ensures.value in
-    let below : j < length xs = omega (arith, c.self.invariant.count, c.shards-k.ensures.value, c.shards-k.ensures.kept.shards.0) in
+    let below : j < length xs = omega (
+      arith,
+      c.self.invariant.count,
+      c.shards-k.ensures.value,
+      c.shards-k.ensures.kept.shards.0,
+    ) in
     let here : StandsAt v list (0 + j) x = stands_here v list 0 j xs x c.self.invariant.stand below c.index.ensures in
-    let at : StandsAt v list (c.args.row % v.shards) x = subst (λ (n : ℕ). StandsAt v list n x) {x = 0 + j} {y = c.args.row % v.shards} (omega (arith, same)) here in
+    let at : StandsAt v list (c.args.row % v.shards) x =
+    subst (λ (n : ℕ). StandsAt v list n x) {x = 0 + j} {y = c.args.row % v.shards} (omega (arith, same)) here in
     subst (λ (e : Standing). StandsAt e.setup e.book.list (c.args.row % e.setup.shards) x) c.self.view_is at
