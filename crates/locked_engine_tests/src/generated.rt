@@ -27,17 +27,17 @@ const COLS: u64 = 5;
 const SHARDS: u64 = 4;
 
 // Reached when some two thirds of the pairs were accepted.
-const LIMIT: u64 = 30_000;
+const LIMIT: u64 = 90_000;
 
 const CLIENTS: u64 = 5;
 
-const NUMBERS: u64 = 1_000;
+const NUMBERS: u64 = 3_000;
 
 const WRITERS: u64 = 4;
 
 const READERS: u64 = 2;
 
-const PUTS_EACH: u64 = 2_000;
+const PUTS_EACH: u64 = 8_000;
 
 type Counts = BTreeMap<(u64, u64), u64>;
 
