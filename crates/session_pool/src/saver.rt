@@ -1,5 +1,5 @@
 //! Saves of what an engine has accepted, one after the other.
-ghost use Rattle.std.specs.Prelude.{◌≡◌, List, length, None, Ok, Err, IfOk, ◌↔◌};
+ghost use Rattle.std.specs.Prelude.{◌≡◌, List, length, None, Ok, Err, IfOk, ◌↔◌, true};
 ghost use Rattle.batch_store.specs.Batches.{Submission, values};
 ghost use Rattle.batch_store.specs.Books.{AreAccepted};
 
@@ -28,6 +28,13 @@ impl Saver {
             path,
             turn: Mutex::new(()),
         }
+    }
+
+    /// Whether there is no path to save to.
+    pub fn is_off(&self) -> bool
+        ensures { (result ≡ true) ↔ (self.now.path ≡ None) }
+    {
+        self.path.is_none()
     }
 
     /// Saves the batches that an engine has accepted, as its book has them at a moment of the call, and answers how many
