@@ -16,8 +16,8 @@ use std::sync::ledger::Ledger;
 
 impl<N: Named, H: Ledger> Engine<N, H> {
     /// The sum of all shards, in the setup's dimensions. Each shard is locked for as long as its view takes, a pointer
-    /// for each of its layers, one shard after another; the views are added when no lock is held. So each shard is as of
-    /// a moment of its own, and a batch that is put meanwhile may be in some of them and not yet in others.
+    /// for each of its layers, one shard after another; the views are added when no lock is held. So each shard is as
+    /// of a moment of its own, and a batch that is put meanwhile may be in some of them and not yet in others.
     ///
     /// The views are added in pairs, so a cell is written about once for each doubling of the number of shards.
     ///

@@ -1,10 +1,10 @@
-//! The engine of several threads: a book of accepted batches and the shards that hold their parts, each behind a lock of
-//! its own.
+//! The engine of several threads: a book of accepted batches and the shards that hold their parts, each behind a lock
+//! of its own.
 //!
 //! A put takes the locks of the shards that its batch concerns in rising order, has each of them prepare, takes the
-//! book's lock for the verdict and the admission, and on its way back commits in each shard and gives its lock back. All
-//! that can be refused comes before the admission, and nothing after it can fail. So a batch is accepted in the book and
-//! in all its shards, or nowhere, and batches with rows in different shards are put side by side.
+//! book's lock for the verdict and the admission, and on its way back commits in each shard and gives its lock back.
+//! All that can be refused comes before the admission, and nothing after it can fail. So a batch is accepted in the
+//! book and in all its shards, or nowhere, and batches with rows in different shards are put side by side.
 //!
 //! What no lock can know, that the shards together hold exactly what the book accepted, is counted by two ledgers
 //! (`std::sync::ledger`), which take no bytes and no time: the book's total is the number of both. Of the first each

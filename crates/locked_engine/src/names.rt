@@ -55,8 +55,8 @@ impl Model for Names {
 }
 
 impl Names {
-    /// Names for an engine of this engine's setup, with so many seats, from 1 to 32: one for each thread that is to put.
-    /// Takes no memory, and waits for nobody.
+    /// Names for an engine of this engine's setup, with so many seats, from 1 to 32: one for each thread that is to
+    /// put. Takes no memory, and waits for nobody.
     ///
     /// # Errors
     ///

@@ -24,8 +24,8 @@ impl<N: Named, H: Ledger> Engine<N, H> {
     ///
     /// The book's verdict comes first: a batch that it knows is answered the reply that it keeps, and one that it
     /// refuses is refused, both without memory. A fresh batch is cut into its parts, outside all locks. Then each shard
-    /// that it concerns is locked, in rising order, and prepares; the book is locked, asked again, and admits it; and on
-    /// the way back each shard takes its part in and gives its lock back. No cell is read or copied under the book's
+    /// that it concerns is locked, in rising order, and prepares; the book is locked, asked again, and admits it; and
+    /// on the way back each shard takes its part in and gives its lock back. No cell is read or copied under the book's
     /// lock, and under a shard's lock only those of the part and of the layers that it meets.
     ///
     /// A first acceptance raises the seat's first share by the batch's total. After every other answer the seat is as

@@ -1,6 +1,6 @@
 //! Threads that put generated batches at once, with repeats of each other's pairs, up to the limit and past it, while
-//! others look, export and ask for the status. Afterwards a plain model of the accepted list says what each answer, each
-//! record and the sum must be.
+//! others look, export and ask for the status. Afterwards a plain model of the accepted list says what each answer,
+//! each record and the sum must be.
 ghost use Rattle.std.specs.Prelude.{◌≡◌, ◌<◌};
 ghost use Rattle.locked_engine.specs.Opened.{NamesEngine};
 
