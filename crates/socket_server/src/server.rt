@@ -1,0 +1,312 @@
+//! The server, from its settings to its last line.
+ghost use Rattle.std.specs.Prelude.{◌≡◌, ◌+◌, ◌<◌, ◌≤◌, ◌^◌, List, None, Err, IfOk, OnOk};
+ghost use Rattle.batch_store.specs.Batches.{Submission};
+ghost use Rattle.batch_store.specs.Books.{AreAccepted};
+ghost use Rattle.plain_engine.specs.Object.{status_of};
+ghost use Rattle.locked_engine.specs.Opened.{NamesEngine};
+
+use crate::fault::ServerFault;
+use crate::host::Host;
+use crate::numbers::SessionNumbers;
+use crate::serving::{Doors, close_all, serve_doors};
+use crate::settings::{MOST_WORKERS, Settings};
+use crate::start::starting_engine;
+use crate::stop::StopGate;
+use byte_io::{Sink, WriteFault, write_all};
+use locked_engine::{Engine, Named, Names, Seat, Status};
+use plain_engine::PlainEngine;
+use session_pool::{Disk, Saver};
+use std::alloc::Global;
+use std::marker::Brand;
+use std::net::{Net, TcpListener, TcpStream};
+use std::os::unix::net::UnixListener;
+use std::random::RandomSource;
+use std::sync::Wait;
+use std::sync::ledger::Ledger;
+use std::thread::Threads;
+use std::time::Clock;
+
+// Where a server listens, how many sessions it takes, and where it saves.
+#[derive(Drop)]
+struct Plan {
+    tcp: Option<String>,
+    unix: Option<String>,
+    sessions: u64,
+    saver: Saver,
+}
+
+// Writes a line, and counts its bytes.
+fn tell<W: Sink>(out: &mut W, written: &mut u128, line: &str) -> Result<(), ServerFault>
+    requires { W.failure_count out.old + 1 < 2 ^ 64 }
+    ensures { OnOk result (W.failure_count out.new ≡ W.failure_count out.old) }
+{
+    match write_all(out, line.as_bytes()) {
+        Ok(()) => {
+            *written = written.saturating_add(line.len() as u128);
+            Ok(())
+        }
+        Err(fault) => Err(ServerFault::Output(WriteFault {
+            written: written.saturating_add(fault.written),
+        })),
+    }
+}
+
+// A listener at the address, if one is given, which is told with the port that it got.
+fn bind_tcp<R: Net<Listener = TcpListener, Stream = TcpStream>, W: Sink>(
+    rt: &R,
+    alloc: Global,
+    address: Option<String>,
+    out: &mut W,
+    written: &mut u128,
+) -> Result<Option<TcpListener>, ServerFault>
+    requires { W.failure_count out.old + 1 < 2 ^ 64 }
+    ensures { OnOk result (W.failure_count out.new ≡ W.failure_count out.old) }
+{
+    let Some(address) = address else {
+        return Ok(None);
+    };
+    let Ok(listener) = TcpListener::bind(rt, address.as_str()) else {
+        return Err(ServerFault::Listen(address));
+    };
+    let Ok(own) = listener.local_addr() else {
+        return Err(ServerFault::Listen(address));
+    };
+    let Ok(line) = format!(in alloc; "listening tcp {own}\n") else {
+        return Err(ServerFault::Memory);
+    };
+    tell(out, written, line.as_str())?;
+    Ok(Some(listener))
+}
+
+// Serves at the listeners that are bound, closes the engine and saves.
+fn serve_bound<
+    N: Named + Send + Sync,
+    H: Ledger + Send + Sync,
+    R: Threads + Wait + Clock + Disk + Net<Listener = TcpListener, Stream = TcpStream> + Sync,
+>(
+    rt: &R,
+    alloc: Global,
+    engine: Engine<N, H>,
+    mut seats: Vec<Seat<N, H>>,
+    tcp: Option<TcpListener>,
+    unix: Option<UnixListener>,
+    path: Option<String>,
+    sessions: u64,
+    saver: &Saver,
+) -> Result<Status, ServerFault>
+    ensures { IfOk result (λ s. (list : List Submission) × AreAccepted N.setup list × (s ≡ status_of list)) }
+{
+    let own = match &tcp {
+        Some(listener) => listener.local_addr().ok(),
+        None => None,
+    };
+    let doors = Doors {
+        tcp,
+        unix,
+        gate: StopGate::new(own, path),
+        numbers: SessionNumbers::new(sessions),
+    };
+    serve_doors(rt, alloc, &engine, seats.as_mut_slice(), &doors, saver)?;
+    close_all(rt, alloc, engine, seats, saver)
+}
+
+// Binds the Unix socket, serves there too, and removes its path.
+fn serve_unix<
+    N: Named + Send + Sync,
+    H: Ledger + Send + Sync,
+    R: Threads
+        + Wait
+        + Clock
+        + Disk
+        + Host
+        + Net<Listener = TcpListener, Stream = TcpStream>
+        + Sync,
+    W: Sink,
+>(
+    rt: &R,
+    alloc: Global,
+    engine: Engine<N, H>,
+    seats: Vec<Seat<N, H>>,
+    tcp: Option<TcpListener>,
+    path: String,
+    sessions: u64,
+    saver: &Saver,
+    out: &mut W,
+    written: &mut u128,
+) -> Result<Status, ServerFault>
+    requires { W.failure_count out.old + 1 < 2 ^ 64 }
+    ensures failures { OnOk result (W.failure_count out.new ≡ W.failure_count out.old) }
+    ensures status { IfOk result (λ s. (list : List Submission) × AreAccepted N.setup list × (s ≡ status_of list)) }
+{
+    let Ok(own) = format!(in alloc; "{path}") else {
+        return Err(ServerFault::Memory);
+    };
+    let Ok(line) = format!(in alloc; "listening unix {path}\n") else {
+        return Err(ServerFault::Memory);
+    };
+    let Ok(listener) = rt.bind_unix(path.as_str()) else {
+        return Err(ServerFault::Listen(path));
+    };
+    let outcome = match tell(out, written, line.as_str()) {
+        Ok(()) => serve_bound(
+            rt,
+            alloc,
+            engine,
+            seats,
+            tcp,
+            Some(listener),
+            Some(own),
+            sessions,
+            saver,
+        ),
+        Err(fault) => Err(fault),
+    };
+    rt.remove(path.as_str());
+    outcome
+}
+
+// Opens the engine, and serves at the addresses.
+fn serve_named<
+    N: Named + Send + Sync,
+    H: Ledger + Send + Sync,
+    R: Threads
+        + Wait
+        + Clock
+        + Disk
+        + Host
+        + Net<Listener = TcpListener, Stream = TcpStream>
+        + Sync,
+    W: Sink,
+>(
+    rt: &R,
+    alloc: Global,
+    plain: PlainEngine,
+    names: Names,
+    plan: Plan,
+    out: &mut W,
+    written: &mut u128,
+) -> Result<Status, ServerFault>
+    requires failures { W.failure_count out.old + 1 < 2 ^ 64 }
+    requires named { NamesEngine names N.setup N.seats N.name N.parts H.name H.parts }
+    requires made_from { plain.setup ≡ names.setup }
+    ensures failures { OnOk result (W.failure_count out.new ≡ W.failure_count out.old) }
+    ensures status { IfOk result (λ s. (list : List Submission) × AreAccepted names.setup list × (s ≡ status_of list)) }
+{
+    let Ok((engine, seats)) = Engine::<N, H>::open(alloc, plain, names) else {
+        return Err(ServerFault::Memory);
+    };
+    let Plan {
+        tcp,
+        unix,
+        sessions,
+        saver,
+    } = plan;
+    let listener = bind_tcp(rt, alloc, tcp, out, written)?;
+    match unix {
+        Some(path) => serve_unix(
+            rt, alloc, engine, seats, listener, path, sessions, &saver, out, written,
+        ),
+        None => serve_bound(
+            rt, alloc, engine, seats, listener, None, None, sessions, &saver,
+        ),
+    }
+}
+
+// Serves by so many workers, from an engine of this setup.
+fn serve_plan<
+    R: Threads
+        + Wait
+        + Clock
+        + Disk
+        + Host
+        + RandomSource
+        + Net<Listener = TcpListener, Stream = TcpStream>
+        + Sync,
+    W: Sink,
+>(
+    rt: &R,
+    alloc: Global,
+    plain: PlainEngine,
+    workers: u64,
+    plan: Plan,
+    out: &mut W,
+) -> Result<Status, ServerFault>
+    requires failures { W.failure_count out.old + 1 < 2 ^ 64 }
+    requires workers { (1 ≤ workers) × (workers ≤ 32) }
+    ensures { IfOk result (λ s. (list : List Submission) × AreAccepted plain.setup list × (s ≡ status_of list)) }
+{
+    let Ok(names) = Names::new(rt, alloc, &plain, workers as usize) else {
+        return Err(ServerFault::Memory);
+    };
+    let mut written = 0;
+    let status = serve_named::<Brand, Brand, R, W>(
+        rt,
+        alloc,
+        plain,
+        names,
+        plan,
+        out,
+        &mut written,
+    )?;
+    let Ok(line) = format!(in alloc;
+        "stopped batches {} total {}\n",
+        status.batches, status.total
+    ) else {
+        return Err(ServerFault::Memory);
+    };
+    tell(out, &mut written, line.as_str())?;
+    Ok(status)
+}
+
+/// Serves at TCP and Unix addresses until a session ends with a Stop or all sessions were numbered, and answers what was
+/// accepted, which was saved where a snapshot's path is given.
+///
+/// Writes a line for each listener once it is bound, `listening tcp ADDRESS` with the port that it got or
+/// `listening unix PATH`, and at the end `stopped batches B total T`. The Unix socket's path is removed before any answer.
+///
+/// It may wait for as long as clients keep their connections open: at the end each session that was accepted is served
+/// to its own end.
+///
+/// # Errors
+///
+/// As `ServerFault` says. `BadWorkers` and `NoAddress` are judged in this order and before anything is done.
+pub fn run_server<
+    R: Threads
+        + Wait
+        + Clock
+        + Disk
+        + Host
+        + RandomSource
+        + Net<Listener = TcpListener, Stream = TcpStream>
+        + Sync,
+    W: Sink,
+>(rt: &R, alloc: Global, settings: Settings, out: &mut W) -> Result<Status, ServerFault>
+    requires { W.failure_count out.old + 1 < 2 ^ 64 }
+    ensures few { settings.workers < 1 → result ≡ Err ServerFault.BadWorkers }
+    ensures many { 32 < settings.workers → result ≡ Err ServerFault.BadWorkers }
+    ensures nowhere { 1 ≤ settings.workers → settings.workers ≤ 32 → settings.tcp ≡ None → settings.unix ≡ None → result ≡ Err ServerFault.NoAddress }
+    ensures status { IfOk result (λ s. (list : List Submission) × AreAccepted settings.setup list × (s ≡ status_of list)) }
+{
+    let Settings {
+        tcp,
+        unix,
+        setup,
+        workers,
+        snapshot,
+        sessions,
+    } = settings;
+    if workers < 1 || workers > MOST_WORKERS {
+        return Err(ServerFault::BadWorkers);
+    }
+    if tcp.is_none() && unix.is_none() {
+        return Err(ServerFault::NoAddress);
+    }
+    let plain = starting_engine(rt, alloc, setup, &snapshot)?;
+    let plan = Plan {
+        tcp,
+        unix,
+        sessions,
+        saver: Saver::new(snapshot),
+    };
+    serve_plan(rt, alloc, plain, workers, plan, out)
+}
