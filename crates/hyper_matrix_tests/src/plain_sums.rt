@@ -17,9 +17,9 @@ const SHAPES: [Shape; 9] = [
     (256, SIDE, 1),
     (257, SIDE, 1),
     (300, SIDE, SIDE),
-    (1500, 1, SIDE),
-    (1500, 50, 50),
-    (1500, SIDE, SIDE),
+    (1000, 1, SIDE),
+    (1000, 50, 50),
+    (1000, SIDE, SIDE),
 ];
 
 // The next number of a fixed row of numbers below 2^32 that look random (Knuth's MMIX).
