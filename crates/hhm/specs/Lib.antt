@@ -6,3 +6,4 @@ pub mod Reading
 pub mod Checks
 pub mod Reports
 pub mod LastLayer
+pub mod Serving

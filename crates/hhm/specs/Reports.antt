@@ -8,7 +8,7 @@ use Rattle.hhm.specs.declared.fault.SumFault.TheVariants.{BadCuts, Text, SumTooL
 use Rattle.hhm.specs.declared.numbers.ListFault.{ListFault}
 use Rattle.hhm.specs.declared.numbers.ListFault.TheVariants as list
 use Rattle.hhm.specs.declared.report.Fault.{Fault}
-use Rattle.hhm.specs.declared.report.Fault.TheVariants.{BadNumber, Sum, Check}
+use Rattle.hhm.specs.declared.report.Fault.TheVariants.{BadNumber, Setup, Sum, Check}
 use Rattle.hhm.specs.declared.fault.CheckFault.{CheckFault}
 use Rattle.hhm.specs.declared.fault.CheckFault.TheVariants as check
 use Rattle.snap_file.specs.declared.fault.FileFault.{FileFault}
@@ -48,5 +48,6 @@ check_status (check.Output fault) = 4
 
 abbrev pub fault_status : Fault → ℕ
 fault_status BadNumber = 2
+fault_status (Setup fault) = 2
 fault_status (Sum fault) = sum_status fault
 fault_status (Check fault) = check_status fault

@@ -1,5 +1,6 @@
 //! The command line: the words of the program, as `clap` reads them.
 
+use crate::serve_cli::serve_command;
 use clap::{Arg, Command};
 use std::alloc::{AllocError, Global};
 
@@ -69,6 +70,7 @@ fn check_command<'a>(alloc: Global) -> Result<Command<'a>, AllocError> {
 pub fn command<'a>(alloc: Global) -> Result<Command<'a>, AllocError> {
     let sum = sum_command(alloc)?;
     let check = check_command(alloc)?;
+    let serve = serve_command(alloc)?;
     Command::new(alloc, "hhm")
         .bin_name("hhm")?
         .version("0.1.0")
@@ -76,5 +78,6 @@ pub fn command<'a>(alloc: Global) -> Result<Command<'a>, AllocError> {
         .subcommand_required(true)
         .arg_required_else_help(true)
         .subcommand(sum)?
-        .subcommand(check)
+        .subcommand(check)?
+        .subcommand(serve)
 }

@@ -12,6 +12,8 @@ mod limits;
 mod numbers;
 mod report;
 mod running_sum;
+mod serve;
+mod serve_cli;
 mod sum;
 #[cfg(test)]
 mod sum_tests;
@@ -19,17 +21,35 @@ mod sum_tests;
 use crate::check::run_check;
 use crate::numbers::read_list;
 use crate::report::Fault;
+use crate::serve::{ServeFault, settings_of};
 use crate::sum::run_sum;
 use byte_io::{Counted, write_all};
 use clap::error::ErrorKind;
 use clap::{ArgMatches, Error};
+use socket_server::{ServerFault, Settings, run_server};
 use std::alloc::AllocError;
 use std::process::ExitCode;
 use std::{env, io};
 
+/// What a command line has come to.
+#[derive(Drop)]
+enum Outcome {
+    /// All of it was done.
+    Ended(ExitCode),
+    /// A server is to be run.
+    Serve(Settings),
+}
+
 fn main(rt: HostRuntime) -> ExitCode {
     match run(&rt) {
-        Ok(code) => code,
+        Ok(Outcome::Ended(code)) => code,
+        Ok(Outcome::Serve(settings)) => {
+            let mut out = Counted::new(rt.stdout());
+            match run_server(&rt, rt.alloc(), settings, &mut out) {
+                Ok(_) => ExitCode::SUCCESS,
+                Err(fault) => tell_server_fault(&rt, fault),
+            }
+        }
         Err(fault) => {
             let _ = eprintln!(rt; "hhm: {fault}");
             fault.exit_code()
@@ -37,8 +57,15 @@ fn main(rt: HostRuntime) -> ExitCode {
     }
 }
 
-/// Reads the command line, and does what it asks for.
-fn run(rt: &HostRuntime) -> Result<ExitCode, Fault> {
+/// Says a server's fault in one line on standard error.
+fn tell_server_fault(rt: &HostRuntime, fault: ServerFault) -> ExitCode {
+    let fault = ServeFault { fault };
+    let _ = eprintln!(rt; "hhm: {fault}");
+    ExitCode::from(fault.status())
+}
+
+/// Reads the command line, and does what it asks for, but for a server.
+fn run(rt: &HostRuntime) -> Result<Outcome, Fault> {
     let alloc = rt.alloc();
     let args = match env::args(rt) {
         Ok(args) => args,
@@ -47,28 +74,31 @@ fn run(rt: &HostRuntime) -> Result<ExitCode, Fault> {
         }
         Err(_) => {
             let _ = eprintln!(rt; "error: the command line is not UTF-8");
-            return Ok(ExitCode::from(2));
+            return Ok(Outcome::Ended(ExitCode::from(2)));
         }
     };
     let words: Vec<String> = args.collect(alloc)?;
     let command = cli::command(alloc)?;
     match command.try_get_matches_from(words.as_slice()) {
         Ok(matches) => run_matches(rt, &matches),
-        Err(error) => tell(rt, &error),
+        Err(error) => Ok(Outcome::Ended(tell(rt, &error)?)),
     }
 }
 
-/// Does what a command line that was read asks for.
-fn run_matches(rt: &HostRuntime, matches: &ArgMatches) -> Result<ExitCode, Fault> {
+/// Does what a command line that was read asks for, but for a server.
+fn run_matches(rt: &HostRuntime, matches: &ArgMatches) -> Result<Outcome, Fault> {
     if let Some(sum) = matches.subcommand_matches("sum") {
         let list = sum.get_str("cuts").unwrap_or(cli::DEFAULT_SUM_CUTS);
         run_sum_word(rt, list)?;
+    }
+    if let Some(serve) = matches.subcommand_matches("serve") {
+        return Ok(Outcome::Serve(settings_of(rt.alloc(), serve)?));
     }
     if let Some(check) = matches.subcommand_matches("check") {
         let path = check.get_str("path").unwrap_or("");
         run_check(rt, rt.alloc(), path, &mut Counted::new(rt.stdout()))?;
     }
-    Ok(ExitCode::SUCCESS)
+    Ok(Outcome::Ended(ExitCode::SUCCESS))
 }
 
 /// Sums the text on standard input, and writes the sum to standard output.

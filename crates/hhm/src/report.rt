@@ -2,10 +2,11 @@
 ghost use Rattle.std.specs.Prelude.{◌≡◌};
 ghost use Rattle.hhm.specs.Reports.{fault_of_list, fault_status};
 ghost use Rattle.hhm.specs.declared.fault.SumFault.TheVariants.{Memory, Output};
-ghost use Rattle.hhm.specs.declared.report.Fault.TheVariants.{Sum, Check};
+ghost use Rattle.hhm.specs.declared.report.Fault.TheVariants.{Setup, Sum, Check};
 
 use crate::fault::{CheckFault, SumFault};
 use crate::numbers::ListFault;
+use batch_store::SetupFault;
 use byte_io::WriteFault;
 use mm_text::{MmFault, MmKind};
 use snap_file::{FileFault, SnapFault};
@@ -18,6 +19,8 @@ use std::process::ExitCode;
 pub enum Fault {
     /// A number or a list of an option doesn't have its form.
     BadNumber,
+    /// A server's dimensions, cuts, shards or limits are out of range.
+    Setup(SetupFault),
     /// `sum` wrote no sum, or not all of it.
     Sum(SumFault),
     /// `check` wrote no line, or not all of it.
@@ -29,6 +32,14 @@ impl From<SumFault> for Fault {
 
     fn from(fault: SumFault) -> Fault {
         Fault::Sum(fault)
+    }
+}
+
+impl From<SetupFault> for Fault {
+    ghost from_gives = { λ fault e. e ≡ Setup fault };
+
+    fn from(fault: SetupFault) -> Fault {
+        Fault::Setup(fault)
     }
 }
 
@@ -72,6 +83,7 @@ impl fmt::Display for Fault {
     fn fmt<W: fmt::Write>(&self, f: &mut fmt::Formatter<W>) -> fmt::Result {
         match *self {
             Fault::BadNumber => write!(f, "settings: BadNumber"),
+            Fault::Setup(kind) => write!(f, "settings: {kind:?}"),
             Fault::Sum(SumFault::BadCuts) => write!(f, "settings: BadCuts"),
             Fault::Sum(SumFault::Text(MmFault { kind, line })) => {
                 write!(f, "text: {kind:?} at line {line}")
@@ -100,6 +112,7 @@ impl Fault {
     {
         match self {
             Fault::BadNumber => 2,
+            Fault::Setup(_) => 2,
             Fault::Sum(SumFault::BadCuts) => 2,
             Fault::Sum(
                 SumFault::Text(

@@ -1,4 +1,4 @@
-use Rattle.std.proofs.Common.{ap, sym, ◌∙◌}
+use Rattle.std.proofs.Common.{◌+◌, length, ap, sym, ◌∙◌}
 use Rattle.layer_cascade.specs.Cascade.{content}
 use Rattle.layer_cascade.specs.Layering.{Layering}
 use Rattle.layer_cascade.proofs.KeptLemmas.{content-no_layers}
@@ -9,7 +9,7 @@ pub loop-batch-init : goal.loop-batch-init
 loop-batch-init c = record {
   rows = ap (λ (v : Layering). v.rows) c.in_ok-layers.ensures ∙ c.rows.ensures.value;
   cols = ap (λ (v : Layering). v.cols) c.in_ok-layers.ensures ∙ c.cols.ensures.value;
-  sum = ap (λ (v : Layering). content v.layers) c.in_ok-layers.ensures ∙ content-no_layers 4;
+  sum = ap (λ (v : Layering). content v.layers) c.in_ok-layers.ensures ∙ content-no_layers (length c.in_ok-layers.layers.cuts + 1);
 }
 
 pub with_batch-requires-clause-rows : goal.with_batch-requires-clause-rows

@@ -1,0 +1,102 @@
+//! `serve`: its options, and what the program says of a server's faults.
+ghost use Rattle.std.specs.Prelude.{◌≡◌};
+ghost use Rattle.hhm.specs.Serving.{server_status};
+
+use crate::numbers::{read_list, read_number};
+use crate::report::Fault;
+use batch_store::Setup;
+use byte_io::WriteFault;
+use clap::ArgMatches;
+use snap_file::{FileFault, SaveFault, SnapFault};
+use socket_server::{ServerFault, Settings};
+use std::alloc::{AllocError, Global};
+use std::fmt;
+
+/// Why a server was not run, or didn't end well, as the program tells it.
+#[derive(Drop)]
+pub struct ServeFault {
+    pub fault: ServerFault,
+}
+
+/// The line that stands behind `hhm: ` on standard error.
+impl fmt::Display for ServeFault {
+    fn fmt<W: fmt::Write>(&self, f: &mut fmt::Formatter<W>) -> fmt::Result {
+        match &self.fault {
+            ServerFault::Memory => write!(f, "memory"),
+            ServerFault::BadWorkers => write!(f, "settings: BadWorkers"),
+            ServerFault::NoAddress => write!(f, "settings: NoAddress"),
+            ServerFault::SnapshotDiffers => write!(f, "settings: SnapshotDiffers"),
+            ServerFault::File(FileFault::Snap(kind)) => write!(f, "snapshot: {kind:?}"),
+            ServerFault::File(kind) => write!(f, "file: {kind:?}"),
+            ServerFault::Listen(address) => write!(f, "listen failed: {address}"),
+            ServerFault::NoWorker => write!(f, "no worker"),
+            ServerFault::RecordsDiffer => write!(f, "records differ"),
+            ServerFault::Save(SaveFault::Write(_)) => write!(f, "file: Write"),
+            ServerFault::Save(kind) => write!(f, "file: {kind:?}"),
+            ServerFault::Output(WriteFault { written }) => {
+                write!(f, "output failed after {written} bytes")
+            }
+        }
+    }
+}
+
+impl ServeFault {
+    /// The status: 2 for settings, 3 for what a snapshot says, 4 for a device, an address or a thread, 5 for memory, 6 for
+    /// records that differ.
+    pub fn status(&self) -> u8
+        ensures { result ≡ server_status self.now.fault }
+    {
+        match &self.fault {
+            ServerFault::BadWorkers => 2,
+            ServerFault::NoAddress => 2,
+            ServerFault::SnapshotDiffers => 2,
+            ServerFault::File(FileFault::Snap(SnapFault::Read)) => 4,
+            ServerFault::File(FileFault::Snap(_)) => 3,
+            ServerFault::File(_) => 4,
+            ServerFault::Listen(_) => 4,
+            ServerFault::NoWorker => 4,
+            ServerFault::Save(_) => 4,
+            ServerFault::Output(_) => 4,
+            ServerFault::Memory => 5,
+            ServerFault::RecordsDiffer => 6,
+        }
+    }
+}
+
+// The number of an option.
+fn number_of(matches: &ArgMatches, name: &str) -> Result<u64, Fault> {
+    let word = matches.get_str(name).unwrap_or("");
+    match read_number(word.as_bytes()) {
+        Some(number) => Ok(number),
+        None => Err(Fault::BadNumber),
+    }
+}
+
+// The word of an option, if it is given.
+fn word_of(alloc: Global, matches: &ArgMatches, name: &str) -> Result<Option<String>, AllocError> {
+    match matches.get_str(name) {
+        Some(word) => Ok(Some(word.to_string(alloc)?)),
+        None => Ok(None),
+    }
+}
+
+/// The settings that the options spell. All numbers are read before the setup is judged.
+pub fn settings_of(alloc: Global, matches: &ArgMatches) -> Result<Settings, Fault> {
+    let rows = number_of(matches, "rows")?;
+    let cols = number_of(matches, "cols")?;
+    let cuts = read_list(alloc, matches.get_str("cuts").unwrap_or(""))?;
+    let shards = number_of(matches, "shards")?;
+    let workers = number_of(matches, "workers")?;
+    let limit = number_of(matches, "limit")?;
+    let max_batches = number_of(matches, "max-batches")?;
+    let sessions = number_of(matches, "sessions")?;
+    let setup = Setup::new(rows, cols, &cuts, shards, limit, max_batches)?;
+    Ok(Settings {
+        tcp: word_of(alloc, matches, "tcp")?,
+        unix: word_of(alloc, matches, "unix")?,
+        setup,
+        workers,
+        snapshot: word_of(alloc, matches, "snapshot")?,
+        sessions,
+    })
+}
