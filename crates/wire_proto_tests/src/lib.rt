@@ -1,0 +1,22 @@
+//! Worked examples of frames and sessions, as tables of what is sent and what comes back, and a second, plain session
+//! that agrees with `serve_engine` on generated ones.
+//!
+//! The answers in the tables were worked out by hand from the layout of frames, not taken from a run.
+#![tactic(auto)]
+
+#[cfg(test)]
+mod asks;
+#[cfg(test)]
+mod cuts;
+#[cfg(test)]
+mod failures;
+#[cfg(test)]
+mod frames;
+#[cfg(test)]
+mod hex;
+#[cfg(test)]
+mod model;
+#[cfg(test)]
+mod replies;
+#[cfg(test)]
+mod sessions;
