@@ -1,206 +1,487 @@
 #!/usr/bin/env python3
-"""Runs the built program's server with clients over both sockets, and compares what it answers and how it ends.
+"""Starts the built program as a server, speaks to it over both sockets, and compares all that it answers.
 
     python3 tests/server.py PATH-TO-HHM
 
-What is wanted was worked out by hand from docs/FORMATS.md, and never comes from the program's own output. It prints a
-line for each case that fails and at the end `N passed, M failed`; the status is 1 where one fails. Linux, and nothing
-but Python's own library.
+What is wanted was worked out by hand from docs/FORMATS.md. It prints a line for each check that fails and at the end
+`N passed, M failed`; the status is 1 where one fails. Linux, and nothing but Python's own library and the client of
+clients/python.
 """
 import os
+import random
+import resource
+import signal
 import socket
 import struct
 import subprocess
 import sys
 import tempfile
+import threading
+import time
 
-BANNER = b"%%MatrixMarket matrix coordinate integer general\n"
-SIZE = ["--rows", "3", "--cols", "3"]
-ANYWHERE = ["--tcp", "127.0.0.1:0"]
-ACCEPTED, VALUE, ROW_SUM, COUNTS, TEXT, SAVED, STOPPING, REFUSED = 0x81, 0x82, 0x83, 0x84, 0x85, 0x86, 0x87, 0xFF
+HERE = os.path.dirname(os.path.abspath(__file__))
+sys.path.insert(0, os.path.join(HERE, "..", "clients", "python"))
+from hhm_client import BANNER, Client, Refused, Status, cells_of, put_frame  # noqa: E402
 
-# Words behind `serve`, the line behind `hhm: `, and the status.
-REFUSALS = [
-    ([*SIZE, "--workers", "x"], "settings: BadNumber", 2),
-    ([*SIZE, "--cuts", "1,,2"], "settings: BadNumber", 2),
-    (["--rows", "0", "--cols", "3", "--workers", "0"], "settings: BadDimension", 2),
-    ([*SIZE, "--cuts", "4,4"], "settings: BadCuts", 2),
-    ([*SIZE, "--shards", "65"], "settings: BadShards", 2),
-    ([*SIZE, "--limit", "0"], "settings: BadLimit", 2),
-    ([*SIZE, "--max-batches", "1000001"], "settings: BadBatches", 2),
-    ([*SIZE, "--workers", "0"], "settings: BadWorkers", 2),
-    ([*SIZE, "--workers", "33"], "settings: BadWorkers", 2),
-    (SIZE, "settings: NoAddress", 2),
-    ([*SIZE, "--tcp", "256.0.0.1:0"], "listen failed: 256.0.0.1:0", 4),
-    ([*SIZE, "--unix", "/nowhere/at/all"], "listen failed: /nowhere/at/all", 4),
-    ([*SIZE, *ANYWHERE, "--sessions", "0", "--snapshot", "/nowhere/at/all"], "file: Create", 4),
-    ([*SIZE, *ANYWHERE, "--snapshot", __file__], "snapshot: BadMark", 3),
-    ([*SIZE, *ANYWHERE, "--snapshot", "/"], "snapshot: Read", 4),
-]
+PROGRAM = ""
+FOLDER = ""
+SMALL = ["--rows", "3", "--cols", "3", "--cuts", "2,4", "--shards", "2", "--limit", "100", "--max-batches", "10"]
+WAIT = 30
+
+passed = 0
+failed = 0
+
+
+def check(name, got, wanted):
+    """Counts a comparison, and tells of it where it fails."""
+    global passed, failed
+    if got == wanted:
+        passed += 1
+    else:
+        failed += 1
+        print(f"FAILED {name}: got {got!r}, wanted {wanted!r}")
 
 
 def text(count):
-    """A matrix whose only count is at row 1 and column 1."""
+    """A text of three rows and columns with one entry, at the first place."""
     return BANNER + b"3 3 1\n1 1 %d\n" % count
 
 
-def numbers(*values):
-    return struct.pack(f">{len(values)}Q", *values)
+def accepted(index, total):
+    return struct.pack(">IBQQ", 16, 0x81, index, total)
 
 
-class Client:
-    """A connection, each of whose calls gives the kind and the body of the reply."""
-
-    def __init__(self, address):
-        kind = socket.AF_INET if isinstance(address, tuple) else socket.AF_UNIX
-        self.link = socket.socket(kind)
-        self.link.settimeout(60)
-        self.link.connect(address)
-
-    def send(self, kind, body=b""):
-        self.link.sendall(struct.pack(">IB", len(body), kind) + body)
-
-    def receive(self):
-        size, kind = struct.unpack(">IB", self.link.recv(5, socket.MSG_WAITALL))
-        return kind, self.link.recv(size, socket.MSG_WAITALL) if size else b""
-
-    def ask(self, kind, body=b""):
-        self.send(kind, body)
-        return self.receive()
-
-    def put(self, client, number, matrix):
-        return self.ask(1, numbers(client, number) + matrix)
-
-    def close(self):
-        self.link.close()
+def refused(code, detail=0):
+    return struct.pack(">IBHQ", 10, 0xFF, code, detail)
 
 
 class Server:
-    """The program, serving. `tcp` and `unix` are its addresses."""
+    """The program with the word serve, on a Unix socket and on a port of its own choice."""
 
-    def __init__(self, program, *words):
-        self.process = subprocess.Popen([program, "serve", *SIZE, *words], stdout=subprocess.PIPE, text=True)
-        self.tcp = self.unix = None
-        for word in words:
-            if word in ("--tcp", "--unix"):
-                _, kind, address = self.process.stdout.readline().rstrip("\n").split(" ", 2)
-                if kind == "tcp":
-                    host, port = address.rsplit(":", 1)
-                    self.tcp = (host, int(port))
-                else:
-                    self.unix = address
+    def __init__(self, words, tcp=True, unix=True):
+        self.path = os.path.join(FOLDER, "socket") if unix else None
+        if unix and os.path.exists(self.path):
+            os.remove(self.path)
+        addresses = (["--tcp", "127.0.0.1:0"] if tcp else []) + (["--unix", self.path] if unix else [])
+        self.process = subprocess.Popen(
+            [PROGRAM, "serve", *addresses, *words], stdout=subprocess.PIPE, stderr=subprocess.PIPE, text=True
+        )
+        self.tcp = None
+        if tcp:
+            self.tcp = self.process.stdout.readline().removeprefix("listening tcp ").strip()
+        if unix:
+            check("the line of the Unix socket", self.process.stdout.readline(), f"listening unix {self.path}\n")
 
-    def end(self):
-        """The last lines of the server, and its status."""
-        rest, _ = self.process.communicate(timeout=60)
-        return rest, self.process.returncode
+    def __enter__(self):
+        return self
 
+    def __exit__(self, *_):
+        if self.process.poll() is None:
+            self.process.kill()
+        self.process.communicate()
 
-def refusals(program):
-    for words, line, status in REFUSALS:
-        run = subprocess.run([program, "serve", *words], capture_output=True, text=True, timeout=60)
-        yield f"serve {' '.join(words)}", (run.stderr, run.returncode) == (f"hhm: {line}\n", status)
+    def client(self, client=0, unix=True, **more):
+        where = {"unix": self.path} if unix else {"tcp": self.tcp}
+        return Client(client=client, rows=3, cols=3, timeout=WAIT, **where, **more)
 
+    def link(self, unix=True):
+        """A connection without the client."""
+        if unix:
+            link = socket.socket(socket.AF_UNIX)
+            link.settimeout(WAIT)
+            link.connect(self.path)
+        else:
+            host, port = self.tcp.rsplit(":", 1)
+            link = socket.create_connection((host, int(port)), WAIT)
+        return link
 
-def sessions(program, folder):
-    """Both sockets, a repeat, a reused number, queries, an export, a bad header, a save, a Stop, and a start from the file."""
-    path, snapshot = os.path.join(folder, "socket"), os.path.join(folder, "snapshot")
-    server = Server(program, *ANYWHERE, "--unix", path, "--snapshot", snapshot)
-    client = Client(server.tcp)
-    yield "a first batch", client.put(7, 1, text(5)) == (ACCEPTED, numbers(0, 5))
-    other = Client(server.unix)
-    yield "a second one over the other socket", other.put(8, 1, text(3)) == (ACCEPTED, numbers(1, 8))
-    yield "a repeat gets its reply again", other.put(7, 1, text(5)) == (ACCEPTED, numbers(0, 5))
-    yield "a number that is used again", other.put(7, 1, text(6)) == (REFUSED, b"\0\x1e" + numbers(0))
-    yield "a cell", client.ask(2, numbers(0, 0)) == (VALUE, b"\1" + numbers(8))
-    yield "a cell out of range", client.ask(2, numbers(3, 0)) == (REFUSED, b"\0\x29" + numbers(0))
-    yield "a row", client.ask(3, numbers(0)) == (ROW_SUM, numbers(1, 8))
-    yield "the status", client.ask(4) == (COUNTS, numbers(2, 8))
-    yield "an export", client.ask(5) == (TEXT, text(8))
-    bad = Client(server.unix)
-    bad.link.sendall(b"\xff" * 5)
-    yield "a bad header", bad.receive() == (REFUSED, b"\0\x32" + numbers(0)) and bad.link.recv(1) == b""
-    yield "a save", client.ask(6) == (SAVED, numbers(2))
-    other.close()
-    yield "a Stop", client.ask(7) == (STOPPING, b"")
-    yield "the end", server.end() == ("stopped batches 2 total 8\n", 0)
-    yield "the path is removed", not os.path.exists(path)
-    check = subprocess.run([program, "check", snapshot], capture_output=True, text=True, timeout=60)
-    yield "the snapshot", check.stdout == "rows 3 cols 3 shards 8 batches 2 total 8 entries 1\n"
-    server = Server(program, "--unix", path, "--snapshot", snapshot, "--sessions", "1")
-    client = Client(server.unix)
-    yield "what was saved is there again", client.put(7, 1, text(5)) == (ACCEPTED, numbers(0, 5))
-    client.close()
-    yield "the only session ends the server", server.end() == ("stopped batches 2 total 8\n", 0)
-    differs = subprocess.run(
-        [program, "serve", *SIZE, *ANYWHERE, "--snapshot", snapshot, "--limit", "9"],
-        capture_output=True, text=True, timeout=60,
-    )  # fmt: skip
-    yield "another limit", (differs.stderr, differs.returncode) == ("hhm: settings: SnapshotDiffers\n", 2)
+    def talk(self, pieces, unix=True):
+        """All that is answered to these pieces, of which each is sent by itself."""
+        with self.link(unix) as link:
+            for piece in pieces:
+                link.sendall(piece)
+            link.shutdown(socket.SHUT_WR)
+            answer = b""
+            while more := link.recv(65536):
+                answer += more
+        return answer
 
+    def ends(self, name, batches, total):
+        """Waits for the end after a Stop, and compares what is written then."""
+        output, error = self.process.communicate(timeout=WAIT)
+        check(f"{name}: last line", output, f"stopped batches {batches} total {total}\n")
+        check(f"{name}: errors", error, "")
+        check(f"{name}: status", self.process.returncode, 0)
+        if self.path:
+            check(f"{name}: the path is gone", os.path.exists(self.path), False)
 
-def killed(program, folder):
-    """A batch that came after the last save is sent again to a server that was started anew, and counts once."""
-    snapshot = os.path.join(folder, "kept")
-    server = Server(program, *ANYWHERE, "--snapshot", snapshot)
-    client = Client(server.tcp)
-    client.put(7, 1, text(5))
-    client.ask(6)
-    client.put(7, 2, text(3))
-    server.process.kill()
-    server.end()
-    server = Server(program, *ANYWHERE, "--snapshot", snapshot)
-    client = Client(server.tcp)
-    yield "after a kill: the saved batch", client.put(7, 1, text(5)) == (ACCEPTED, numbers(0, 5))
-    yield "after a kill: the lost batch", client.put(7, 2, text(3)) == (ACCEPTED, numbers(1, 8))
-    client.ask(7)
-    yield "after a kill: the end", server.end() == ("stopped batches 2 total 8\n", 0)
+    def stop(self, name, batches, total):
+        with self.client() as hhm:
+            hhm.stop()
+        self.ends(name, batches, total)
 
 
-def many(program):
-    """More connections than workers, a thousand in turn, and frames that are sent ahead."""
-    server = Server(program, *ANYWHERE, "--workers", "2")
-    waiting = [Client(server.tcp) for _ in range(50)]
-    for number, client in enumerate(waiting):
-        client.send(1, numbers(1, number) + text(1))
-    served = 0
-    for client in waiting:
-        served += client.receive()[0] == ACCEPTED
-        client.close()
-    yield "fifty at once", served == 50
-    served = 0
-    for number in range(1000):
-        client = Client(server.tcp)
-        served += client.put(2, number, text(1))[0] == ACCEPTED
-        client.close()
-    yield "a thousand in turn", served == 1000
-    client = Client(server.tcp)
-    client.link.sendall(struct.pack(">IB", 0, 4) * 2000)
-    yield "frames sent ahead", all(client.receive() == (COUNTS, numbers(1050, 1050)) for _ in range(2000))
-    client.ask(7)
-    yield "the end of many", server.end() == ("stopped batches 1050 total 1050\n", 0)
+def settings_are_refused():
+    """Each bad option is a line on standard error and a status, and nothing is served."""
+    unix = os.path.join(FOLDER, "refused")
+    folder = os.path.join(FOLDER, "folder.snap")
+    other = os.path.join(FOLDER, "text.snap")
+    empty = os.path.join(FOLDER, "empty.snap")
+    os.makedirs(folder, exist_ok=True)
+    with open(other, "w") as file:
+        file.write("%%MatrixMarket matrix coordinate integer general\n1 1 0\n")
+    with open(empty, "w"):
+        pass
+    size = ["--rows", "3", "--cols", "3"]
+    at = ["--unix", unix]
+    taken = socket.socket()
+    taken.bind(("127.0.0.1", 0))
+    taken.listen(1)
+    used = "127.0.0.1:%d" % taken.getsockname()[1]
+    table = [
+        (size, "settings: NoAddress", 2),
+        ([*at, "--rows", "x", "--cols", "3"], "settings: BadNumber", 2),
+        ([*at, "--rows", "18446744073709551616", "--cols", "3"], "settings: BadNumber", 2),
+        ([*at, "--rows", "0", "--cols", "3"], "settings: BadDimension", 2),
+        ([*at, "--rows", "3", "--cols", "1152921504606846977"], "settings: BadDimension", 2),
+        ([*at, *size, "--cuts", "1,,2"], "settings: BadNumber", 2),
+        ([*at, *size, "--cuts", "4,4"], "settings: BadCuts", 2),
+        ([*at, *size, "--cuts", "1,2,3,4,5,6,7,8"], "settings: BadCuts", 2),
+        ([*at, *size, "--shards", "0"], "settings: BadShards", 2),
+        ([*at, *size, "--shards", "65"], "settings: BadShards", 2),
+        ([*at, *size, "--limit", "0"], "settings: BadLimit", 2),
+        ([*at, *size, "--max-batches", "0"], "settings: BadBatches", 2),
+        ([*at, *size, "--max-batches", "1000001"], "settings: BadBatches", 2),
+        ([*at, *size, "--workers", "0"], "settings: BadWorkers", 2),
+        ([*at, *size, "--workers", "33"], "settings: BadWorkers", 2),
+        ([*at, *size, "--limit", "0", "--workers", "0"], "settings: BadLimit", 2),
+        ([*size, "--workers", "0"], "settings: BadWorkers", 2),
+        ([*at, *size, "--snapshot", folder], "snapshot: Read", 4),
+        ([*at, *size, "--snapshot", other], "snapshot: BadMark", 3),
+        ([*at, *size, "--snapshot", empty], "snapshot: Truncated", 3),
+        ([*size, "--tcp", used], f"listen failed: {used}", 4),
+        ([*size, "--tcp", "nowhere"], "listen failed: nowhere", 4),
+        ([*size, "--tcp", "256.0.0.1:0"], "listen failed: 256.0.0.1:0", 4),
+        ([*size, "--unix", FOLDER], f"listen failed: {FOLDER}", 4),
+        ([*size, "--unix", "/nowhere/at/all"], "listen failed: /nowhere/at/all", 4),
+    ]
+    for words, line, status in table:
+        run = subprocess.run([PROGRAM, "serve", *words], capture_output=True, text=True, timeout=WAIT)
+        check(f"serve {' '.join(words)}", (run.stdout, run.stderr, run.returncode), ("", f"hhm: {line}\n", status))
+    check("no path is left", os.path.exists(unix), False)
+    taken.close()
+    words = ["serve", *size, "--tcp", "127.0.0.1:0", "--sessions", "0", "--snapshot", "/nowhere/at/all"]
+    run = subprocess.run([PROGRAM, *words], capture_output=True, text=True, timeout=WAIT)
+    check("a last save that fails", (run.stderr, run.returncode), ("hhm: file: Create\n", 4))
+    for words in [["serve"], ["serve", *at], ["serve", *at, *size, "--unknown"]]:
+        run = subprocess.run([PROGRAM, *words], capture_output=True, text=True, timeout=WAIT)
+        check(f"{' '.join(words)}: status and output", (run.stdout, run.returncode), ("", 2))
 
 
-def results(program):
-    with tempfile.TemporaryDirectory() as folder:
-        yield from refusals(program)
-        yield from sessions(program, folder)
-        yield from killed(program, folder)
-        yield from many(program)
+def frames_are_answered(unix):
+    """Frames in one piece, and cut at each byte; bad headers; queries out of range; a stop."""
+    puts = put_frame(7, 1, text(5)) + put_frame(8, 1, text(3)) + struct.pack(">IBQQ", 16, 2, 0, 0)
+    first = accepted(0, 5) + accepted(1, 8) + struct.pack(">IBBQ", 9, 0x82, 1, 8)
+    name = "unix" if unix else "tcp"
+    with Server(SMALL) as server:
+        check(f"{name}: frames at once", server.talk([puts], unix), first)
+        for place in range(1, len(puts), 1 if unix else 7):
+            check(f"{name}: cut at {place}", server.talk([puts[:place], puts[place:]], unix), first)
+        check(f"{name}: byte by byte", server.talk([puts[i : i + 1] for i in range(len(puts))], unix), first)
+        check(f"{name}: without the last byte", server.talk([puts[:-1]], unix), first[:42])
+        for frame, reply in [
+            (bytes.fromhex("01000001 04"), refused(50)),
+            (bytes.fromhex("00000000 09"), refused(51)),
+            (bytes.fromhex("00000000 00"), refused(51)),
+            (bytes.fromhex("00000001 04 00"), refused(52)),
+            (bytes.fromhex("0000000f 01") + bytes(15), refused(52)),
+            (struct.pack(">IBQQ", 16, 2, 3, 0), refused(41)),
+            (struct.pack(">IBQQ", 16, 2, 0, 3), refused(41)),
+            (struct.pack(">IBQ", 8, 3, 3), refused(41)),
+            (struct.pack(">IB", 0, 6), refused(43)),
+            (struct.pack(">IBQQ", 16, 2, 2, 2), struct.pack(">IBBQ", 9, 0x82, 0, 0)),
+            (struct.pack(">IBQ", 8, 3, 0), struct.pack(">IBQQ", 16, 0x83, 1, 8)),
+            (struct.pack(">IB", 0, 4), struct.pack(">IBQQ", 16, 0x84, 2, 8)),
+            (struct.pack(">IB", 0, 5), struct.pack(">IB", 61, 0x85) + text(8)),
+            (put_frame(7, 1, text(6)), refused(30)),
+            (put_frame(9, 1, text(93)), refused(31, 8)),
+            (put_frame(9, 1, BANNER + b"2 3 1\n1 1 1\n"), refused(20)),
+            (put_frame(9, 1, BANNER + b"3 3 2\n1 1 18446744073709551615\n1 1 1\n"), refused(21)),
+            (put_frame(9, 1, b""), refused(103, 1)),
+            (put_frame(9, 1, BANNER + b"3 3 1\n1 1 -1\n"), refused(111, 3)),
+            (put_frame(9, 1, BANNER + b"3 3 1048577\n"), refused(109, 2)),
+        ]:
+            check(f"{name}: the frame {frame[:21].hex()}", server.talk([frame], unix), reply)
+        # After a bad header nothing more is answered, and of a session nothing after its Stop.
+        status = struct.pack(">IB", 0, 4)
+        check(f"{name}: after a bad header", server.talk([bytes.fromhex("00000000 09") + status], unix), refused(51))
+        stop = struct.pack(">IB", 0, 7)
+        check(f"{name}: Stop and more", server.talk([stop + status], unix), struct.pack(">IB", 0, 0x87))
+        server.ends(name, 2, 8)
+
+
+def client_asks(unix):
+    """The client's calls, and its command line."""
+    with Server(SMALL) as server:
+        with server.client(7, unix) as hhm:
+            check("client: put", hhm.put(1, [(0, 0, 5)]), (0, 5))
+            check("client: put again", hhm.put(1, [(0, 0, 5)]), (0, 5))
+            check("client: no cells", hhm.put(2, []), (1, 5))
+            check("client: a stored zero", hhm.put(3, [(0, 1, 0)]), (2, 5))
+            check("client: ahead", list(hhm.put_all(((n, [(1, 2, 1)]) for n in range(4, 7)), depth=2)),
+                  [(4, (3, 6)), (5, (4, 7)), (6, (5, 8))])
+            check("client: cells", [hhm.cell(0, 0), hhm.cell(0, 1), hhm.cell(1, 2), hhm.cell(2, 2)], [5, 0, 3, None])
+            check("client: row", hhm.row(0), (2, 5))
+            check("client: status", hhm.status(), Status(6, 8))
+            check("client: export", list(cells_of(hhm.export())), [(0, 0, 5), (0, 1, 0), (1, 2, 3)])
+            for name, call in [("NumberReused", lambda: hhm.put(1, [(0, 0, 6)])), ("OutOfRange", lambda: hhm.row(3)),
+                               ("OverTotal", lambda: hhm.put(9, [(0, 0, 93)])), ("SaveOff", hhm.save)]:
+                try:
+                    call()
+                    check(f"client: {name}", "an answer", name)
+                except Refused as fault:
+                    check(f"client: {name}", fault.name, name)
+        where = ["--unix", server.path] if unix else ["--tcp", server.tcp]
+        tool = [sys.executable, os.path.join(HERE, "..", "clients", "python", "hhm_client.py"), *where]
+        for words, given, output, status in [
+            (["put", "9", "9"], text(1), "index 6 total_after 9\n", 0),
+            (["put", "9", "9"], text(2), "", 1),
+            (["cell", "0", "0"], b"", "6\n", 0),
+            (["cell", "2", "2"], b"", "none\n", 0),
+            (["row", "1"], b"", "entries 1 total 3\n", 0),
+            (["status"], b"", "batches 7 total 9\n", 0),
+            (["export"], b"", (BANNER + b"3 3 3\n1 1 6\n1 2 0\n2 3 3\n").decode(), 0),
+            (["stop"], b"", "stopping\n", 0),
+        ]:
+            run = subprocess.run([*tool, *words], input=given, capture_output=True, timeout=WAIT)
+            check(f"client {' '.join(words)}", (run.stdout.decode(), run.returncode), (output, status))
+        server.ends("client", 7, 9)
+
+
+def a_log_is_counted():
+    """The example of the client: a log in numbered batches, twice, of which the second run counts nothing more."""
+    chance = random.Random(11)
+    log = os.path.join(FOLDER, "log")
+    counts = {}
+    with open(log, "w") as file:
+        for _ in range(25000):
+            source, destination = chance.randrange(40), chance.randrange(300)
+            place = (10 << 24) + source, (192 << 24) + (168 << 16) + destination
+            counts[place] = counts.get(place, 0) + 1
+            file.write(f"10.0.0.{source} 192.168.{destination >> 8}.{destination & 255}\n")
+        file.write("no address\n10.0.0.1 192.168.0.1 7\n")
+        counts[(10 << 24) + 1, (192 << 24) + (168 << 16) + 1] += 7
+    with Server(["--rows", str(1 << 32), "--cols", str(1 << 32)], tcp=False) as server:
+        for _ in range(2):
+            words = [sys.executable, os.path.join(HERE, "..", "clients", "python", "count_log.py")]
+            run = subprocess.run([*words, "--unix", server.path, "--client", "3", log],
+                                 capture_output=True, text=True, timeout=WAIT)
+            check("the example", run.stdout, "batches 3 skipped lines 1 accepted total 25007\n")
+        with server.client() as hhm:
+            check("the example's sum", list(cells_of(hhm.export())), [(r, c, n) for (r, c), n in sorted(counts.items())])
+        server.stop("the example", 3, 25007)
+
+
+def lost_replies_count_once():
+    """A batch whose reply nobody read is sent again, over another socket too, and counts once."""
+    with Server(SMALL) as server:
+        for unix in [True, False]:
+            with server.link(unix) as link:
+                link.sendall(put_frame(7, 1, text(5)))
+            with server.client(7, not unix) as hhm:
+                check("a lost reply", hhm.put_text(1, text(5)), (0, 5))
+        server.stop("lost replies", 1, 5)
+
+
+def snapshots_outlive_a_kill():
+    """What was saved is there after a kill, at any moment of a save; what came later is sent again."""
+    path = os.path.join(FOLDER, "kept.snap")
+    words = [*SMALL, "--snapshot", path]
+    with Server(words) as server:
+        with server.client(7) as hhm:
+            hhm.put(1, [(0, 0, 5)])
+            check("saved", hhm.save(), 1)
+            hhm.put(2, [(1, 1, 2)])
+        server.process.send_signal(signal.SIGKILL)
+        server.process.wait(WAIT)
+    run = subprocess.run([PROGRAM, "check", path], capture_output=True, text=True, timeout=WAIT)
+    check("check", run.stdout, "rows 3 cols 3 shards 2 batches 1 total 5 entries 1\n")
+    with Server(words) as server:
+        with server.client(7) as hhm:
+            check("after a kill", hhm.status(), Status(1, 5))
+            check("the saved batch again", hhm.put(1, [(0, 0, 5)]), (0, 5))
+            check("the lost batch again", hhm.put(2, [(1, 1, 2)]), (1, 7))
+        server.stop("after a kill", 2, 7)
+    with Server(words) as server:
+        with server.client(7) as hhm:
+            check("after a stop", hhm.status(), Status(2, 7))
+        server.stop("after a stop", 2, 7)
+    run = subprocess.run([PROGRAM, "serve", "--unix", os.path.join(FOLDER, "x"), *SMALL[:-1], "11", "--snapshot", path],
+                         capture_output=True, text=True, timeout=WAIT)
+    check("another setup", (run.stderr, run.returncode), ("hhm: settings: SnapshotDiffers\n", 2))
+
+
+def saves_are_whole(kills):
+    """A kill during saves leaves a file that is whole: the one before, or a later one."""
+    path = os.path.join(FOLDER, "torn.snap")
+    size = ["--rows", "1000000", "--cols", "1000000", "--snapshot", path]
+    saved = 0
+    for turn in range(kills):
+        with Server(size, tcp=False) as server:
+            with Client(unix=server.path, client=turn, rows=10**6, cols=10**6, timeout=WAIT) as hhm:
+                before = hhm.status().batches
+                check("nothing is lost", before >= saved, True)
+                hhm.put(0, [(n, n, 1) for n in range(5000)])
+                saved = hhm.save()
+                check("a save has all", saved, before + 1)
+                hhm.put(1, [(n, n + 1, 1) for n in range(5000)])
+            with server.link() as link:
+                link.sendall(struct.pack(">IB", 0, 6))
+                time.sleep(random.random() * 0.01)
+                server.process.send_signal(signal.SIGKILL)
+            server.process.wait(WAIT)
+        run = subprocess.run([PROGRAM, "check", path], capture_output=True, text=True, timeout=WAIT)
+        words = run.stdout.split()
+        check("the file is whole", run.returncode, 0)
+        check("it is one of the two", int(words[7]) in (saved, saved + 1), True)
+        saved = int(words[7])
+
+
+def many_put_at_once():
+    """Clients at once, each batch twice: each counts once."""
+    with Server(["--rows", "100", "--cols", "100", "--cuts", "16,64", "--workers", "4"]) as server:
+        faults = []
+
+        def put(client):
+            try:
+                where = {"unix": server.path} if client % 2 else {"tcp": server.tcp}
+                with Client(client=client, rows=100, cols=100, timeout=WAIT, **where) as hhm:
+                    batches = [(n, [((n * 7 + k) % 100, client, n + k) for k in range(20)]) for n in range(50)]
+                    first = dict(hhm.put_all(batches, depth=8))
+                    again = dict(hhm.put_all(batches, depth=8))
+                    check(f"client {client}: the same replies", first, again)
+            except Exception as fault:  # a thread's fault would be lost
+                faults.append(fault)
+
+        threads = [threading.Thread(target=put, args=(client,)) for client in range(12)]
+        for thread in threads:
+            thread.start()
+        for thread in threads:
+            thread.join()
+        check("no thread failed", faults, [])
+        sums = {}
+        for client in range(12):
+            for n in range(50):
+                for k in range(20):
+                    place = ((n * 7 + k) % 100, client)
+                    sums[place] = sums.get(place, 0) + n + k
+        with server.client(unix=False) as hhm:
+            check("the sum of all", list(cells_of(hhm.export())), [(r, c, n) for (r, c), n in sorted(sums.items())])
+        server.stop("many at once", 600, sum(sums.values()))
+
+
+def bad_clients_do_no_harm():
+    """Garbage, half frames, resets and clients that leave."""
+    with Server(SMALL) as server:
+        with server.client(7) as hhm:
+            hhm.put(1, [(0, 0, 5)])
+        chance = random.Random(3)
+        for turn in range(200):
+            with server.link(turn % 2 == 0) as link:
+                link.sendall(chance.randbytes(chance.randrange(1, 300)))
+                if turn % 3 == 0:
+                    link.setsockopt(socket.SOL_SOCKET, socket.SO_LINGER, struct.pack("ii", 1, 0))
+        with server.client(7) as hhm:
+            check("after garbage", hhm.cell(0, 0), 5)
+            batches = hhm.status().batches
+        check("nothing was accepted of it", batches, 1)
+        server.stop("garbage", 1, 5)
+
+
+def connections_come_and_go(turns, at_once):
+    """Many connections in turn, and many at once."""
+    with Server([*SMALL, "--workers", "2"]) as server:
+        for turn in range(turns):
+            with server.client(7, turn % 2 == 0) as hhm:
+                if hhm.put(1, [(0, 0, 5)]) != (0, 5):
+                    check("in turn", "another reply", (0, 5))
+        answers = []
+
+        def ask():
+            answers.append(server.talk([struct.pack(">IB", 0, 4)], False))
+
+        threads = [threading.Thread(target=ask) for _ in range(at_once)]
+        for thread in threads:
+            thread.start()
+        for thread in threads:
+            thread.join()
+        check("at once", answers.count(struct.pack(">IBQQ", 16, 0x84, 1, 5)), at_once)
+        server.stop("come and go", 1, 5)
+
+
+def many_frames_in_one_go(count):
+    """Puts that are all sent before a reply is read, and each replied to."""
+    with Server(["--rows", "3", "--cols", "3"]) as server:
+        with server.link() as link:
+            frames = b"".join(put_frame(7, n, text(1)) for n in range(count))
+            sender = threading.Thread(target=link.sendall, args=(frames,))
+            sender.start()
+            wanted = b"".join(accepted(n, n + 1) for n in range(count))
+            got = bytearray()
+            while len(got) < len(wanted) and (more := link.recv(1 << 20)):
+                got += more
+            sender.join()
+            check("all frames in one go", bytes(got) == wanted, True)
+        server.stop("all frames in one go", count, count)
+
+
+def stops_in_order():
+    """After a Stop the sessions that are open go on to their ends, and then the server ends."""
+    with Server([*SMALL, "--workers", "2"]) as server:
+        open_one = server.client(8, False)
+        open_one.put(1, [(0, 0, 3)])
+        with server.client(7) as hhm:
+            hhm.stop()
+        check("an open session goes on", open_one.put(2, [(1, 1, 1)]), (1, 4))
+        check("the server waits for it", server.process.poll(), None)
+        open_one.close()
+        server.ends("an open session", 2, 4)
+    with Server([*SMALL, "--sessions", "1"]) as server:
+        with server.client(7) as hhm:
+            check("the only session", hhm.put(1, [(0, 0, 3)]), (0, 3))
+        server.ends("one session", 1, 3)
+    for turn in range(5):
+        with Server(SMALL) as server:
+            stops = [server.link(n % 2 == 0) for n in range(4)]
+            for link in stops:
+                link.sendall(struct.pack(">IB", 0, 7))
+            for link in stops:
+                link.close()
+            server.ends(f"four Stops {turn}", 0, 0)
 
 
 def main():
-    if len(sys.argv) != 2:
-        print(__doc__.strip())
-        sys.exit(2)
-    passed = failed = 0
-    for name, is_well in results(os.path.abspath(sys.argv[1])):
-        passed, failed = passed + bool(is_well), failed + (not is_well)
-        if not is_well:
-            print(f"FAILED {name}")
+    global PROGRAM, FOLDER
+    PROGRAM = os.path.abspath(sys.argv[1])
+    resource.setrlimit(resource.RLIMIT_NOFILE, (4096, resource.getrlimit(resource.RLIMIT_NOFILE)[1]))
+    random.seed(5)
+    with tempfile.TemporaryDirectory() as FOLDER:
+        settings_are_refused()
+        for unix in [True, False]:
+            frames_are_answered(unix)
+            client_asks(unix)
+        a_log_is_counted()
+        lost_replies_count_once()
+        snapshots_outlive_a_kill()
+        saves_are_whole(10)
+        many_put_at_once()
+        bad_clients_do_no_harm()
+        connections_come_and_go(1000, 500)
+        many_frames_in_one_go(20000)
+        stops_in_order()
     print(f"{passed} passed, {failed} failed")
-    sys.exit(1 if failed else 0)
+    return 1 if failed else 0
 
 
 if __name__ == "__main__":
-    main()
+    sys.exit(main())

@@ -1,0 +1,404 @@
+#!/usr/bin/env python3
+"""A client of `hhm serve`, and a command line for it. Python 3.8 or later, its standard library alone.
+
+    with Client(unix="/run/hhm/hhm.sock", client=7, rows=1 << 60, cols=1 << 60) as hhm:
+        hhm.put(1, [(0, 0, 5), (2, 1, 7)])     # batch 1 of client 7: cells (row, column, count), counted from 0
+        print(hhm.cell(0, 0), hhm.row(2), hhm.status())
+
+A batch counts once. It is known by two numbers, the client's and its own: where the reply to a put is lost, `put`
+connects again and sends the same batch with the same numbers, and the server answers what it answered first. So give
+each batch a number that it keeps whatever fails, such as its place in a file or in a queue, and never use one for two
+different batches. Two clients that put at the same time have different client numbers.
+
+The frames are described in docs/FORMATS.md. A refusal of the server is a `Refused` with its name; a fault of the
+connection that outlasts all attempts is an `OSError`. A `Client` is for one thread at a time.
+"""
+import argparse
+import socket
+import struct
+import sys
+import time
+from typing import Iterable, Iterator, NamedTuple, Optional, Tuple, Union
+
+MOST_BODY = 16_777_216
+MOST_ENTRIES = 1_048_576
+BANNER = b"%%MatrixMarket matrix coordinate integer general\n"
+
+PUT, CELL, ROW, STATUS, EXPORT, SAVE, STOP = range(1, 8)
+ACCEPTED, VALUE, ROW_SUM, COUNTS, TEXT, SAVED, STOPPING = range(0x81, 0x88)
+REFUSED = 0xFF
+
+CODES = {
+    1: "Memory",
+    20: "DimensionsDiffer",
+    21: "SumTooLarge",
+    30: "NumberReused",
+    31: "OverTotal",
+    32: "BookFull",
+    33: "RecordsDiffer",
+    40: "ReplyTooLarge",
+    41: "OutOfRange",
+    42: "SaveFailed",
+    43: "SaveOff",
+    50: "TooLarge",
+    51: "UnknownKind",
+    52: "BadLength",
+    103: "BadBanner",
+    104: "Unsupported",
+    105: "LineTooLong",
+    106: "BadSize",
+    107: "BadDimension",
+    108: "NotSquare",
+    109: "TooManyEntries",
+    110: "BadEntry",
+    111: "Negative",
+    112: "NumberTooLarge",
+    113: "IndexOutOfRange",
+    114: "TooFewEntries",
+    115: "ExtraText",
+    116: "TooLong",
+}
+
+Cells = Iterable[Tuple[int, int, int]]
+Text = Union[bytes, bytearray, memoryview]
+
+
+class Accepted(NamedTuple):
+    """The place of a batch in the list of accepted batches, from 0, and the accepted total with it."""
+
+    index: int
+    total_after: int
+
+
+class RowSum(NamedTuple):
+    """How many cells a row has, stored zeros included, and the sum of their counts."""
+
+    entries: int
+    total: int
+
+
+class Status(NamedTuple):
+    """How many batches were accepted, and their total."""
+
+    batches: int
+    total: int
+
+
+class Refused(Exception):
+    """The server refused a request, and nothing was changed.
+
+    `name` says why, as docs/FORMATS.md has it; `detail` is the line of a text's fault, the accepted total of an
+    OverTotal, and else 0.
+    """
+
+    def __init__(self, code: int, detail: int):
+        self.code = code
+        self.name = CODES.get(code, f"code {code}")
+        self.detail = detail
+        where = f" at line {detail}" if code > 100 else f": {detail} accepted" if code == 31 else ""
+        super().__init__(self.name + where)
+
+
+class BadReply(OSError):
+    """What came is no reply to what was asked."""
+
+
+def text_of(rows: int, cols: int, cells: Cells) -> bytes:
+    """The Matrix Market text of cells (row, column, count) that are counted from 0."""
+    lines = [b"%d %d %d\n" % (row + 1, col + 1, count) for row, col, count in cells]
+    return b"%b%d %d %d\n%b" % (BANNER, rows, cols, len(lines), b"".join(lines))
+
+
+def cells_of(text: bytes) -> Iterator[Tuple[int, int, int]]:
+    """The cells of a text that the server wrote, (row, column, count), counted from 0."""
+    for line in text.split(b"\n")[2:-1]:
+        row, col, count = line.split()
+        yield int(row) - 1, int(col) - 1, int(count)
+
+
+def put_frame(client: int, number: int, text: Text) -> bytes:
+    """The frame that puts a batch."""
+    if len(text) + 16 > MOST_BODY:
+        raise ValueError(f"a batch of {len(text)} bytes: at most {MOST_BODY - 16} fit a frame, so send it in several")
+    return struct.pack(">IBQQ", len(text) + 16, PUT, client, number) + text
+
+
+class Client:
+    """A connection to a server, made when it is first needed, and made again where it is lost.
+
+    `tcp` is "host:port" and `unix` a path; give one of them. `client` is the client's number, from 0 to 2^64 - 1; `rows`
+    and `cols` are the server's dimensions, for `put` of cells. `timeout` is in seconds, for each answer. `attempts` is how
+    often a request is sent before a fault of the connection is given up, with `pause` seconds after the first fault and
+    twice as many after each further one, at most ten.
+    """
+
+    def __init__(
+        self,
+        *,
+        tcp: Optional[str] = None,
+        unix: Optional[str] = None,
+        client: int = 0,
+        rows: Optional[int] = None,
+        cols: Optional[int] = None,
+        timeout: Optional[float] = 60,
+        attempts: int = 8,
+        pause: float = 0.05,
+    ):
+        if (tcp is None) == (unix is None):
+            raise ValueError("give tcp or unix, and not both")
+        self.tcp, self.unix, self.client, self.rows, self.cols = tcp, unix, client, rows, cols
+        self.timeout, self.attempts, self.pause = timeout, attempts, pause
+        self._link: Optional[socket.socket] = None
+
+    def __enter__(self) -> "Client":
+        return self
+
+    def __exit__(self, *_) -> None:
+        self.close()
+
+    def close(self) -> None:
+        """Lets the connection go. What was accepted stays accepted."""
+        if self._link is not None:
+            self._link.close()
+            self._link = None
+
+    # What a client asks.
+
+    def put(self, number: int, cells: Cells) -> Accepted:
+        """Puts a batch of cells (row, column, count), counted from 0; a cell may stand in it several times."""
+        if self.rows is None or self.cols is None:
+            raise ValueError("a put of cells needs the client's rows and cols")
+        return self.put_text(number, text_of(self.rows, self.cols, cells))
+
+    def put_text(self, number: int, text: Text) -> Accepted:
+        """Puts a batch that is a Matrix Market text of the server's dimensions."""
+        return self._accepted(self._ask(put_frame(self.client, number, text), ACCEPTED, 16))
+
+    def put_all(self, batches: Iterable[Tuple[int, Cells]], depth: int = 16) -> Iterator[Tuple[int, Accepted]]:
+        """Puts batches (number, cells) and gives (number, reply), in order, with up to `depth` of them on the way.
+
+        Where the connection is lost, all that had no reply yet are sent again. A refused batch raises its `Refused`
+        when its turn comes; those behind it may have been accepted, and can be put again with their numbers.
+        """
+        waiting: list = []
+        source = iter(batches)
+        while True:
+            for number, cells in source:
+                if self.rows is None or self.cols is None:
+                    raise ValueError("a put of cells needs the client's rows and cols")
+                frame = put_frame(self.client, number, text_of(self.rows, self.cols, cells))
+                waiting.append((number, frame))
+                self._send_ahead(frame)
+                if len(waiting) >= depth:
+                    break
+            if not waiting:
+                return
+            reply = self._first_reply([frame for _, frame in waiting])
+            number, _ = waiting.pop(0)
+            yield number, self._accepted(reply)
+
+    def cell(self, row: int, col: int) -> Optional[int]:
+        """The count of a cell, counted from 0; None where none is stored."""
+        body = self._ask(struct.pack(">IBQQ", 16, CELL, row, col), VALUE, 9)
+        return struct.unpack(">Q", body[1:])[0] if body[0] else None
+
+    def row(self, row: int) -> RowSum:
+        """The sum of a row, counted from 0."""
+        return RowSum(*struct.unpack(">QQ", self._ask(struct.pack(">IBQ", 8, ROW, row), ROW_SUM, 16)))
+
+    def status(self) -> Status:
+        """How many batches were accepted, and their total."""
+        return Status(*struct.unpack(">QQ", self._ask(struct.pack(">IB", 0, STATUS), COUNTS, 16)))
+
+    def export(self) -> bytes:
+        """The text of the sum of all accepted batches; `cells_of` reads it."""
+        return self._ask(struct.pack(">IB", 0, EXPORT), TEXT, None)
+
+    def save(self) -> int:
+        """Saves a snapshot where the server was told to, and gives its number of batches."""
+        return struct.unpack(">Q", self._ask(struct.pack(">IB", 0, SAVE), SAVED, 8))[0]
+
+    def stop(self) -> None:
+        """Tells the server to stop. It serves its open sessions to their ends, and saves, after the answer."""
+        self._ask(struct.pack(">IB", 0, STOP), STOPPING, 0)
+        self.close()
+
+    # How it is asked.
+
+    @staticmethod
+    def _accepted(body: bytes) -> Accepted:
+        return Accepted(*struct.unpack(">QQ", body))
+
+    def _connect(self) -> socket.socket:
+        if self._link is None:
+            if self.unix is not None:
+                link = socket.socket(socket.AF_UNIX)
+                link.settimeout(self.timeout)
+                try:
+                    link.connect(self.unix)
+                except OSError:
+                    link.close()
+                    raise
+            else:
+                host, port = self.tcp.rsplit(":", 1)
+                link = socket.create_connection((host.strip("[]"), int(port)), self.timeout)
+                link.setsockopt(socket.IPPROTO_TCP, socket.TCP_NODELAY, 1)
+            self._link = link
+        return self._link
+
+    def _receive(self, count: int) -> bytearray:
+        data = bytearray(count)
+        view, have = memoryview(data), 0
+        while have < count:
+            got = self._link.recv_into(view[have:])
+            if got == 0:
+                raise ConnectionError("the server closed the connection")
+            have += got
+        return data
+
+    def _reply(self) -> Tuple[int, bytes]:
+        length, kind = struct.unpack(">IB", self._receive(5))
+        if length > MOST_BODY:
+            self.close()
+            raise BadReply(f"a reply of {length} bytes")
+        return kind, bytes(self._receive(length))
+
+    def _checked(self, kind: int, body: bytes, wanted: int, length: Optional[int]) -> bytes:
+        if kind == REFUSED and len(body) == 10:
+            code, detail = struct.unpack(">HQ", body)
+            if code in (1, 50, 51, 52):
+                self.close()
+            raise Refused(code, detail)
+        if kind != wanted or (length is not None and len(body) != length):
+            self.close()
+            raise BadReply(f"a reply of kind {kind:02x} with {len(body)} bytes, and kind {wanted:02x} was asked for")
+        return body
+
+    def _attempts(self) -> Iterator[int]:
+        pause = self.pause
+        for attempt in range(self.attempts):
+            if attempt:
+                time.sleep(pause)
+                pause = min(2 * pause, 10)
+            yield attempt
+
+    def _ask(self, frame: bytes, wanted: int, length: Optional[int]) -> bytes:
+        """Sends a request and reads its reply, again on a new connection where the link failed."""
+        fault: Exception = ConnectionError("no attempt")
+        for _ in self._attempts():
+            try:
+                self._connect().sendall(frame)
+                kind, body = self._reply()
+            except BadReply:
+                raise
+            except OSError as error:
+                self.close()
+                fault = error
+                continue
+            return self._checked(kind, body, wanted, length)
+        raise fault
+
+    def _send_ahead(self, frame: bytes) -> None:
+        """Sends a request whose reply is read later; a link that fails is found out then."""
+        if self._link is not None:
+            try:
+                self._link.sendall(frame)
+            except OSError:
+                self.close()
+
+    def _first_reply(self, frames: list) -> bytes:
+        """The reply to the first of the requests that were sent; all are sent again where the link failed."""
+        fault: Exception = ConnectionError("no attempt")
+        for _ in self._attempts():
+            try:
+                if self._link is None:
+                    link = self._connect()
+                    for frame in frames:
+                        link.sendall(frame)
+                kind, body = self._reply()
+            except BadReply:
+                raise
+            except OSError as error:
+                self.close()
+                fault = error
+                continue
+            return self._checked(kind, body, ACCEPTED, 16)
+        raise fault
+
+
+def number(word: str) -> int:
+    """A number of the command line, from 0 to 2^64 - 1."""
+    value = int(word)
+    if not 0 <= value < 2**64:
+        raise argparse.ArgumentTypeError(f"{word} is not from 0 to 2^64 - 1")
+    return value
+
+
+def parser() -> argparse.ArgumentParser:
+    words = argparse.ArgumentParser(description="Asks a server of hhm. Rows and columns count from 0.")
+    where = words.add_mutually_exclusive_group(required=True)
+    where.add_argument("--tcp", metavar="HOST:PORT")
+    where.add_argument("--unix", metavar="PATH")
+    words.add_argument("--timeout", type=float, default=60, metavar="SECONDS", help="for each answer (60)")
+    words.add_argument("--attempts", type=int, default=8, metavar="N", help="how often a request is sent (8)")
+    asked = words.add_subparsers(dest="word", required=True)
+    put = asked.add_parser("put", help="puts a Matrix Market text as a batch")
+    put.add_argument("client", type=number)
+    put.add_argument("number", type=number)
+    put.add_argument("file", nargs="?", help="standard input where none is given")
+    cell = asked.add_parser("cell", help="the count of a cell, or the line `none`")
+    cell.add_argument("row", type=number)
+    cell.add_argument("col", type=number)
+    row = asked.add_parser("row", help="a row's number of cells, and their sum")
+    row.add_argument("row", type=number)
+    asked.add_parser("status", help="the number of accepted batches, and their total")
+    asked.add_parser("export", help="writes the sum as a Matrix Market text")
+    asked.add_parser("save", help="saves a snapshot")
+    asked.add_parser("stop", help="stops the server")
+    return words
+
+
+def answer(hhm: Client, given: argparse.Namespace) -> bytes:
+    """Does what the command line asks, and gives what is to be printed."""
+    if given.word == "put":
+        if given.file is None:
+            text = sys.stdin.buffer.read()
+        else:
+            with open(given.file, "rb") as file:
+                text = file.read()
+        accepted = hhm.put_text(given.number, text)
+        return b"index %d total_after %d\n" % accepted
+    if given.word == "cell":
+        count = hhm.cell(given.row, given.col)
+        return b"none\n" if count is None else b"%d\n" % count
+    if given.word == "row":
+        return b"entries %d total %d\n" % hhm.row(given.row)
+    if given.word == "status":
+        return b"batches %d total %d\n" % hhm.status()
+    if given.word == "export":
+        return hhm.export()
+    if given.word == "save":
+        return b"saved %d\n" % hhm.save()
+    hhm.stop()
+    return b"stopping\n"
+
+
+def main() -> int:
+    """The command line. 0; 1 where the server refused; 2 for bad words; 4 where it can't be reached or a file read."""
+    given = parser().parse_args()
+    client = given.client if given.word == "put" else 0
+    try:
+        with Client(tcp=given.tcp, unix=given.unix, client=client, timeout=given.timeout, attempts=given.attempts) as hhm:
+            sys.stdout.buffer.write(answer(hhm, given))
+            sys.stdout.buffer.flush()
+    except Refused as refused:
+        print(f"refused: {refused}", file=sys.stderr)
+        return 1
+    except (OSError, ValueError) as error:
+        print(f"failed: {error}", file=sys.stderr)
+        return 4
+    return 0
+
+
+if __name__ == "__main__":
+    sys.exit(main())
