@@ -1,8 +1,10 @@
 //! Additions as the tests make them, where the dimensions are equal and the totals fit.
 ghost use Rattle.std.specs.Prelude.{◌≡◌, ◌+◌, ◌<◌, ◌^◌, true};
+ghost use Rattle.cells.specs.Bounds.{AreWithin};
 ghost use Rattle.hyper_matrix.specs.Counts.{total};
 ghost use Rattle.layer_cascade.specs.Cascade.{content};
 
+use cells::{Cell, checked_total, rises};
 use hyper_matrix::Hyper;
 use layer_cascade::{Layers, Plan};
 use std::alloc::{AllocError, Global};
@@ -41,4 +43,27 @@ pub fn moved(alloc: Global, layers: Layers, m: Hyper) -> Result<Layers, AllocErr
         return layers.add(alloc, m);
     }
     Ok(layers)
+}
+
+// The layers with a list of cells in order, given away.
+fn with_cells(alloc: Global, layers: Layers, list: &[Cell]) -> Result<Layers, AllocError>
+    requires { AreWithin layers.rows layers.cols list.now }
+{
+    let fits = match checked_total(list) {
+        Some(sum) => layers.total().checked_add(sum).is_some(),
+        None => false,
+    };
+    if fits && rises(list) {
+        return layers.add_cells(alloc, list);
+    }
+    Ok(layers)
+}
+
+/// The layers with the cells of a matrix as a list, given away.
+pub fn listed(alloc: Global, layers: Layers, m: &Hyper) -> Result<Layers, AllocError> {
+    if layers.dims() != m.dims() {
+        return Ok(layers);
+    }
+    let list = m.cells(alloc)?;
+    with_cells(alloc, layers, &list)
 }

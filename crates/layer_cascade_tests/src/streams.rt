@@ -3,7 +3,7 @@ ghost use Rattle.std.specs.Prelude.{◌≡◌, ◌+◌, ◌<◌, ◌^◌};
 ghost use Rattle.hyper_matrix.specs.Counts.{total};
 ghost use Rattle.layer_cascade.specs.Cascade.{content};
 
-use crate::adding::{add, fits, moved};
+use crate::adding::{add, fits, listed, moved};
 use cells::Cell;
 use hyper_matrix::{BuildFault, Hyper};
 use layer_cascade::Layers;
@@ -178,6 +178,30 @@ fn check_shared(rt: &impl Abort, alloc: Global, cuts: &[u64]) -> Result<(), Fail
             holds_first(alloc, &others, i.wrapping_add(1))?,
             "after {i}"
         );
+    }
+    Ok(())
+}
+
+fn check_listed(rt: &impl Abort, alloc: Global, cuts: &[u64]) -> Result<(), Fail> {
+    let mut layers = Layers::new(alloc, 9, 9, cuts)?;
+    let mut others = Layers::new(alloc, 9, 9, cuts)?;
+    for i in 0..20u64 {
+        let m = matrix(alloc, i)?;
+        layers = listed(alloc, layers, &m)?;
+        others = moved(alloc, others, m)?;
+        assert!(rt; have_same_sizes(&layers, &others), "after {i}");
+        assert!(rt;
+            holds_first(alloc, &layers, i.wrapping_add(1))?,
+            "after {i}"
+        );
+    }
+    Ok(())
+}
+
+#[test]
+fn lists_of_cells_agree_with_matrices(rt: HostRuntime) -> Result<(), Fail> {
+    for cuts in ALL_CUTS {
+        check_listed(&rt, rt.alloc(), cuts)?;
     }
     Ok(())
 }
