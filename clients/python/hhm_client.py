@@ -178,7 +178,8 @@ class Client:
         """Puts batches (number, cells) and gives (number, reply), in order, with up to `depth` of them on the way.
 
         Where the connection is lost, all that had no reply yet are sent again. A refused batch raises its `Refused`
-        when its turn comes; those behind it may have been accepted, and can be put again with their numbers.
+        when its turn comes; those behind it may have been accepted, and can be put again with their numbers, on a new
+        connection (`close`). Until all replies were given no other call may be made.
         """
         waiting: list = []
         source = iter(batches)
@@ -193,7 +194,7 @@ class Client:
                     break
             if not waiting:
                 return
-            reply = self._first_reply([frame for _, frame in waiting])
+            reply = self._first_reply([frame for _, frame in waiting], ACCEPTED, 16)
             number, _ = waiting.pop(0)
             yield number, self._accepted(reply)
 
@@ -283,20 +284,9 @@ class Client:
             yield attempt
 
     def _ask(self, frame: bytes, wanted: int, length: Optional[int]) -> bytes:
-        """Sends a request and reads its reply, again on a new connection where the link failed."""
-        fault: Exception = ConnectionError("no attempt")
-        for _ in self._attempts():
-            try:
-                self._connect().sendall(frame)
-                kind, body = self._reply()
-            except BadReply:
-                raise
-            except OSError as error:
-                self.close()
-                fault = error
-                continue
-            return self._checked(kind, body, wanted, length)
-        raise fault
+        """Sends a request and reads its reply."""
+        self._send_ahead(frame)
+        return self._first_reply([frame], wanted, length)
 
     def _send_ahead(self, frame: bytes) -> None:
         """Sends a request whose reply is read later; a link that fails is found out then."""
@@ -306,7 +296,7 @@ class Client:
             except OSError:
                 self.close()
 
-    def _first_reply(self, frames: list) -> bytes:
+    def _first_reply(self, frames: list, wanted: int, length: Optional[int]) -> bytes:
         """The reply to the first of the requests that were sent; all are sent again where the link failed."""
         fault: Exception = ConnectionError("no attempt")
         for _ in self._attempts():
@@ -322,7 +312,7 @@ class Client:
                 self.close()
                 fault = error
                 continue
-            return self._checked(kind, body, ACCEPTED, 16)
+            return self._checked(kind, body, wanted, length)
         raise fault
 
 
