@@ -47,10 +47,20 @@ pub fn count_ends(alloc: Global, blocks: &[Block]) -> Result<Vec<u64>, AllocErro
     Ok(ends)
 }
 
-/// Appends the cells of all blocks, by row and then by column.
+// How many cells the blocks have, to make room for them.
+fn count_cells(blocks: &[Block]) -> usize {
+    let mut count = 0usize;
+    for block in blocks {
+        count = count.saturating_add(block.cell_count());
+    }
+    count
+}
+
+/// Appends the cells of all blocks, by row and then by column. Room for all of them is made at once.
 pub fn push_all_cells(out: &mut Vec<Cell>, blocks: &[Block]) -> Result<(), AllocError>
     ensures { OnOk result (map entry_of out.new.items ≡ map entry_of out.old.items ++ all_cells blocks.now) }
 {
+    out.reserve_exact(count_cells(blocks))?;
     for block in blocks {
         block.rows().push_cells(out)?;
     }
