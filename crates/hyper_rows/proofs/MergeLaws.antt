@@ -66,6 +66,14 @@ module _ {X : Type 0} (f : X → X → X) where
   pub merged_rest_right : (xs ys : List (ℕ × X)) (i j : ℕ) → length xs ≤ i → merged f (drop i xs) (drop j ys) ≡ drop j ys
   merged_rest_right xs ys i j h = ap (λ (a : List (ℕ × X)). merged f a (drop j ys)) (drop_all i xs h) ∙ merged-left (drop j ys)
 
+  -- two lists of one item each, of the same key
+  pub merged_one : (xs ys : List (ℕ × X)) (d : ℕ × X) → length xs ≡ 1 → length ys ≡ 1 → (get_or xs 0 d).0 ≡ (get_or ys 0 d).0 →
+      merged f xs ys ≡ ((get_or xs 0 d).0, f (get_or xs 0 d).1 (get_or ys 0 d).1) ∷ []
+  merged_one xs ys d one other same =
+      merged_same_at xs ys 0 0 d (omega arith) (omega arith) same
+      ∙ ap (λ (r : List (ℕ × X)). ((get_or xs 0 d).0, f (get_or xs 0 d).1 (get_or ys 0 d).1) ∷ r)
+          (merged_rest_left xs ys 1 1 (omega arith) ∙ drop_all 1 xs (omega arith))
+
 -- no count is above the sum
 pub count_le_sum : {K : Type 0} (xs : List (K × ℕ)) (i : ℕ) (d : K × ℕ) → i < length xs → (get_or xs i d).1 ≤ count_sum xs
 count_le_sum [] i d h = absurd (omega arith)

@@ -48,8 +48,8 @@ fn push_below(
     Ok(i + 1)
 }
 
-/// Appends the sum of two rows' entries. On an error some of them may stand behind the old ones.
-pub fn merge_entries(
+// Appends the sum of two rows' entries. On an error some of them may stand behind the old ones.
+fn merge_entries(
     out: &mut Vec<(u64, u64)>,
     xs: &[(u64, u64)],
     ys: &[(u64, u64)],
@@ -75,4 +75,21 @@ pub fn merge_entries(
     out.extend_from_slice(&xs[i..])?;
     out.extend_from_slice(&ys[j..])?;
     Ok(())
+}
+
+/// Appends the sum of two rows' entries, as `merge_entries`. Two rows of one entry each in the same column, as most are
+/// where rows are short and cells come again, take one push.
+pub fn push_entry_sums(
+    out: &mut Vec<(u64, u64)>,
+    xs: &[(u64, u64)],
+    ys: &[(u64, u64)],
+) -> Result<(), AllocError>
+    requires { count_sum xs.now + count_sum ys.now < 2 ^ 64 }
+    ensures { OnOk result (out.new.items ≡ out.old.items ++ sum_entries xs.now ys.now) }
+{
+    if xs.len() == 1 && ys.len() == 1 && xs[0].0 == ys[0].0 {
+        out.push((xs[0].0, xs[0].1 + ys[0].1))?;
+        return Ok(());
+    }
+    merge_entries(out, xs, ys)
 }

@@ -14,7 +14,7 @@ ghost use Rattle.hyper_rows.specs.Rows.{AreRows, Appends, rows_of, start_of, sum
 ghost use Rattle.hyper_rows.specs.Cells.{entry_of};
 ghost use Rattle.hyper_rows.specs.Places.{IsFirst};
 
-use crate::merge::{end_below, merge_entries};
+use crate::merge::{end_below, push_entry_sums};
 use cells::Cell;
 use std::alloc::{AllocError, Global};
 use std::marker::Model;
@@ -249,7 +249,7 @@ fn push_sum(
     requires fits { count_sum xs.now + count_sum ys.now < 2 ^ 64 }
     ensures { OnOk result (Appends heads.old.items entries.old.items heads.new.items entries.new.items ((row, sum_entries xs.now ys.now) ∷ [])) }
 {
-    merge_entries(entries, xs, ys)?;
+    push_entry_sums(entries, xs, ys)?;
     let end = entries.len();
     end_row(heads, row, end)?;
     Ok(())

@@ -81,6 +81,9 @@ fn short_number(bytes: &[u8]) -> (u64, &[u8])
 }
 
 /// The same, read by eight digits where so many stand: at most two words, then at most 11 or 3 digits one by one.
+///
+/// Inlined, as its callers are: a call for each index shows in the time of reading a line.
+#[inline(always)]
 fn plain_number(bytes: &[u8]) -> (u64, &[u8])
     ensures { BeginsWithDigits bytes.now result.0 result.1.now }
 {

@@ -71,6 +71,9 @@ pub fn next_stage(
 }
 
 /// Adds the cells that an entry stands for, all of them or none.
+///
+/// Inlined, since nearly each line has one cell to push.
+#[inline(always)]
 pub fn push_cells(cells: &mut Vec<Cell>, symmetric: bool, cell: Cell) -> Result<(), AllocError>
     ensures ok { OnOk result (cells.new.items ≡ cells.old.items ++ cells_of symmetric cell) }
     ensures err { OnErr result (cells.new.items ≡ cells.old.items) }
