@@ -1,6 +1,7 @@
 //! Searches in blocks of rows, by bisection: in the blocks by where they end, and then in one of them. Each takes time
 //! in the logarithm of the entries, and that of a row's sum also in the entries of the row. None takes memory.
-ghost use Rattle.std.specs.Prelude.{◌≡◌, ℕ, ◌+◌, ◌-◌, ◌<◌, ◌≤◌, ◌^◌, ◌↔◌, T, IsTrue, length, take, nat_lt, nat_le, slice_index, slice_get, MatchOption};
+ghost use Rattle.std.specs.Prelude.{◌≡◌, ℕ, ◌+◌, ◌-◌, ◌<◌, ◌≤◌, ◌^◌, ◌↔◌, T, IsTrue, length, take, nat_lt, nat_le};
+ghost use Rattle.std.specs.Prelude.{slice_index, slice_get, MatchOption};
 ghost use Rattle.std.specs.Option.{option_map};
 ghost use Rattle.std.specs.FinMap.{get, is_sorted};
 ghost use Rattle.hyper_rows.specs.Counts.{place_cmp, count_sum};

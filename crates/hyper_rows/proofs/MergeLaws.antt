@@ -72,7 +72,7 @@ module _ {X : Type 0} (f : X → X → X) where
   merged_one xs ys d one other same =
       merged_same_at xs ys 0 0 d (omega arith) (omega arith) same
       ∙ ap (λ (r : List (ℕ × X)). ((get_or xs 0 d).0, f (get_or xs 0 d).1 (get_or ys 0 d).1) ∷ r)
-          (merged_rest_left xs ys 1 1 (omega arith) ∙ drop_all 1 xs (omega arith))
+      (merged_rest_left xs ys 1 1 (omega arith) ∙ drop_all 1 xs (omega arith))
 
 -- no count is above the sum
 pub count_le_sum : {K : Type 0} (xs : List (K × ℕ)) (i : ℕ) (d : K × ℕ) → i < length xs → (get_or xs i d).1 ≤ count_sum xs

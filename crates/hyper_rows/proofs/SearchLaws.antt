@@ -78,10 +78,6 @@ before_is p q e = elim (cases_lt p.0 q.0) [
 
 -- sorted lists of cells
 
-below_left : (p : Place) (xs ys : List (Place × ℕ)) → T (below_all place_cmp p (xs ++ ys)) → T (below_all place_cmp p xs)
-below_left p [] ys h = tt
-below_left p (x ∷ xs) ys h = T_both _ _ (T_first _ _ h) (below_left p xs ys (T_second _ _ h))
-
 below_right : (p : Place) (xs ys : List (Place × ℕ)) → T (below_all place_cmp p (xs ++ ys)) → T (below_all place_cmp p ys)
 below_right p [] ys h = h
 below_right p (x ∷ xs) ys h = below_right p xs ys (T_second _ _ h)

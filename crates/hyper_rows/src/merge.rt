@@ -3,7 +3,8 @@
 //!
 //! Where one row has three entries or more before the other's next, they are copied together. So the time is that of a
 //! copy of both rows, and a compare for each entry.
-ghost use Rattle.std.specs.Prelude.{◌≡◌, ℕ, ◌+◌, ◌<◌, ◌≤◌, ◌^◌, ◌++◌, OnOk, IfOk, length, drop, slice_index_or, slice_range};
+ghost use Rattle.std.specs.Prelude.{◌≡◌, ℕ, ◌+◌, ◌<◌, ◌≤◌, ◌^◌, ◌++◌, OnOk, IfOk, length, drop, slice_index_or};
+ghost use Rattle.std.specs.Prelude.{slice_range};
 ghost use Rattle.hyper_rows.specs.Counts.{count_sum};
 ghost use Rattle.hyper_rows.specs.Rows.{sum_entries, KeysBelow, HeadFrom};
 

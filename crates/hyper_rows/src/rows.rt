@@ -8,9 +8,11 @@
 //! heads and one of entries; a row that stands in both is merged by column. So the time is that of a copy of both runs,
 //! and a compare for each row and for each entry of a row in both.
 ghost use Rattle.hyper_rows.specs.Search.{RowsFull};
-ghost use Rattle.std.specs.Prelude.{◌≡◌, ℕ, [], ◌+◌, ◌-◌, ◌<◌, ◌≤◌, ◌^◌, ◌++◌, OnOk, IfOk, length, slice_index_or, slice_range, All, ◌∷◌, drop, map, take};
+ghost use Rattle.std.specs.Prelude.{◌≡◌, ℕ, [], ◌+◌, ◌-◌, ◌<◌, ◌≤◌, ◌^◌, ◌++◌, OnOk, IfOk, length, slice_index_or};
+ghost use Rattle.std.specs.Prelude.{slice_range, All, ◌∷◌, drop, map, take};
 ghost use Rattle.hyper_rows.specs.Counts.{count_sum};
-ghost use Rattle.hyper_rows.specs.Rows.{AreRows, Appends, rows_of, start_of, sum_rows, rows_total, KeysBelow, heads_moved, Fit, sum_entries, cells_of, at_places};
+ghost use Rattle.hyper_rows.specs.Rows.{AreRows, Appends, rows_of, start_of, sum_rows, rows_total, KeysBelow};
+ghost use Rattle.hyper_rows.specs.Rows.{heads_moved, Fit, sum_entries, cells_of, at_places};
 ghost use Rattle.hyper_rows.specs.Cells.{entry_of};
 ghost use Rattle.hyper_rows.specs.Places.{IsFirst};
 

@@ -1,12 +1,14 @@
 //! Searches in one run of rows, by bisection: in the rows by where they end, then in a row by column. Each takes time
 //! in the logarithm of the run's rows and entries, and no memory.
-ghost use Rattle.std.specs.Prelude.{◌≡◌, ℕ, ◌+◌, ◌-◌, ◌<◌, ◌≤◌, ◌^◌, [], T, length, take, nat_lt, nat_le, slice_index_or, slice_get, false, ◌++◌, ◌∷◌, List, Option, Some, None};
+ghost use Rattle.std.specs.Prelude.{◌≡◌, ℕ, ◌+◌, ◌-◌, ◌<◌, ◌≤◌, ◌^◌, [], T, length, take, nat_lt, nat_le};
+ghost use Rattle.std.specs.Prelude.{slice_index_or, slice_get, false, ◌++◌, ◌∷◌, List, Option, Some, None};
 ghost use Rattle.std.specs.Option.{option_map};
 ghost use Rattle.std.specs.FinMap.{is_sorted};
 ghost use Rattle.hyper_rows.specs.Counts.{place_cmp, count_sum};
 ghost use Rattle.hyper_rows.specs.Rows.{cells_of, at_places};
 ghost use Rattle.hyper_rows.specs.Cells.{entry_of};
-ghost use Rattle.hyper_rows.specs.Search.{TurnsAt, is_before, first_from, row_cells, last_place, row_end, StandsAt, IsRowSum};
+ghost use Rattle.hyper_rows.specs.Search.{TurnsAt, is_before, first_from, row_cells, last_place, row_end, StandsAt};
+ghost use Rattle.hyper_rows.specs.Search.{IsRowSum};
 
 use crate::rows::Rows;
 use cells::Cell;
