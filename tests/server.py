@@ -347,6 +347,39 @@ def saves_are_whole(kills):
         saved = int(words[7])
 
 
+def saves_need_room(mounted):
+    """A save for which there is no room is refused, leaves the file as it was, and the server goes on."""
+    folder = os.path.join(FOLDER, "mounted" if mounted else "full")
+    path = os.path.join(folder, "kept.snap")
+    os.makedirs(folder)
+    mount = ["mount", "-t", "tmpfs", "-o", "size=64k", "tmpfs", folder]
+    if mounted and subprocess.run(mount, capture_output=True).returncode != 0:
+        return  # only root may, and not everywhere
+    save = struct.pack(">IB", 0, 6)
+    try:
+        with Server(["--rows", "1000000", "--cols", "1000000", "--snapshot", path]) as server:
+            with Client(unix=server.path, client=7, rows=10**6, cols=10**6, timeout=WAIT) as hhm:
+                hhm.put(1, [(0, 0, 5)])
+                check("a save with room", hhm.save(), 1)
+                with open(path, "rb") as file:
+                    kept = file.read()
+                if not mounted:
+                    os.symlink("/dev/full", path + ".new")
+                hhm.put(2, [(n, n, 1) for n in range(5000)])
+                check("a save without room", server.talk([save]), refused(42))
+                check("the server goes on", hhm.status(), Status(2, 5005))
+                hhm.stop()
+            output, error = server.process.communicate(timeout=WAIT)
+            check("a last save without room", (output, error, server.process.returncode), ("", "hhm: file: Write\n", 4))
+        with open(path, "rb") as file:
+            check("the file is as it was", file.read(), kept)
+        run = subprocess.run([PROGRAM, "check", path], capture_output=True, text=True, timeout=WAIT)
+        check("and has the first batch", run.stdout, "rows 1000000 cols 1000000 shards 8 batches 1 total 5 entries 1\n")
+    finally:
+        if mounted:
+            subprocess.run(["umount", folder], capture_output=True)
+
+
 def many_put_at_once():
     """Clients at once, each batch twice: each counts once."""
     with Server(["--rows", "100", "--cols", "100", "--cuts", "16,64", "--workers", "4"]) as server:
@@ -474,6 +507,8 @@ def main():
         lost_replies_count_once()
         snapshots_outlive_a_kill()
         saves_are_whole(5)
+        for mounted in [False, True]:
+            saves_need_room(mounted)
         many_put_at_once()
         bad_clients_do_no_harm()
         connections_come_and_go(300, 200)

@@ -1,9 +1,8 @@
 -- The sum of a list of batches, and the shards' parts of it.
-use Rattle.std.proofs.Common.{◌≡◌, ℕ, Bool, true, false, cond, ◌||◌, List, [], ◌∷◌, ◌++◌, Option, None, refl, sym, ◌∙◌}
+use Rattle.std.proofs.Common.{◌≡◌, ℕ, Bool, true, false, cond, List, [], ◌∷◌, ◌++◌, Option, None, refl, sym, ◌∙◌}
 use Rattle.std.proofs.Common.{ap, arith}
-use Rattle.std.specs.List.{list_any}
-use Rattle.std.specs.FinMap.{empty, get, entries, get-empty}
-use Rattle.hyper_matrix.specs.Counts.{Place, place_cmp, Counts, built, plus, total, ewise_add, part, in_part}
+use Rattle.std.specs.FinMap.{empty, get, get-empty}
+use Rattle.hyper_matrix.specs.Counts.{Place, place_cmp, Counts, plus, total, ewise_add, part, in_part}
 use Rattle.hyper_matrix.proofs.CountLaws.{same_counts, get-part, get-ewise_add, ewise_add-empty, ewise_add_comm}
 use Rattle.hyper_matrix.proofs.CountLaws.{ewise_add_assoc, total-empty, total-ewise_add}
 use Rattle.layer_cascade.proofs.CascadeLaws.{empty-ewise_add}

@@ -22,5 +22,6 @@ pub mod world;
 
 pub use engine::PlainEngine;
 pub use fault::{LoadFault, PutFault};
+pub use load::accepted_lists_load;
 pub use parts::join_parts;
 pub use status::Status;

@@ -1,8 +1,9 @@
 //! An engine from a list of batches, as from a file.
-ghost use Rattle.std.specs.Prelude.{◌≡◌, ◌++◌, [], ◌∷◌, None, Some, OnOk, IfOk, IfErr, length};
+ghost use Rattle.std.specs.Prelude.{◌≡◌, ◌++◌, List, [], ◌∷◌, None, Some, OnOk, IfOk, IfErr, length};
 ghost use Rattle.std.specs.Arc.{arc_value};
-ghost use Rattle.batch_store.specs.Batches.{values};
-ghost use Rattle.batch_store.specs.Books.{HaveDims};
+ghost use Rattle.batch_store.specs.Setups.{Setting};
+ghost use Rattle.batch_store.specs.Batches.{Submission, values};
+ghost use Rattle.batch_store.specs.Books.{HaveDims, AreAccepted};
 ghost use Rattle.batch_store.specs.declared.verdict.Verdict.TheVariants.{Fresh};
 ghost use Rattle.plain_engine.specs.Object.{verdict_in};
 ghost use Rattle.plain_engine.specs.Loads.{refusal_of, first_refusal};
@@ -13,6 +14,11 @@ use batch_store::{Batch, Setup, Verdict};
 use std::alloc::Global;
 use std::random::RandomSource;
 use std::sync::Arc;
+
+/// Of a list that a book accepts no batch is refused: put in order, each is fresh behind those before it.
+pub fn accepted_lists_load()
+    ensures { (setup : Setting) (list : List Submission) → AreAccepted setup list → first_refusal setup [] list ≡ None }
+{}
 
 // Why a batch at a place isn't taken.
 fn judged(verdict: Verdict, at: u64) -> Result<(), LoadFault>
@@ -55,7 +61,7 @@ impl PlainEngine {
     ///
     /// The first batch that isn't fresh where those before it were put is told by its place, from 0, and why:
     /// `RepeatedNumber`, `OverTotal` or `BookFull`. `Memory` where a growth was refused: at a batch that is fresh, as
-    /// are all before it, or before the first.
+    /// are all before it, or before the first. A list that a book accepts is refused for want of memory alone.
     pub fn from_batches(
         rt: &impl RandomSource,
         alloc: Global,
@@ -68,6 +74,7 @@ impl PlainEngine {
         ensures ok { OnOk result (first_refusal setup [] (values list.now) ≡ None) }
         ensures err { IfErr result (λ fault. (fault ≡ LoadFault.Memory → ⊥) →
             first_refusal setup [] (values list.now) ≡ Some fault) }
+        ensures accepted { AreAccepted setup (values list.now) → IfErr result (λ fault. fault ≡ LoadFault.Memory) }
     {
         let mut engine = PlainEngine::new(rt, alloc, setup)?;
         let mut at = 0u64;

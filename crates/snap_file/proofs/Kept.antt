@@ -2,6 +2,7 @@
 use Rattle.std.proofs.Common.{◌≡◌, ℕ, zero, suc, ◌+◌, ◌<◌, ◌≤◌, ◌^◌, Bool, true, false, ◌&&◌, ◌||◌, List, [], ◌∷◌, ◌++◌, length, get_or, refl, sym, ap, subst, ◌∙◌, arith}
 use Rattle.std.specs.Prelude.{◌==◌}
 use Rattle.std.specs.List.{AllByRecursion, IsDistinct}
+use Rattle.std.proofs.lemmas.Bool.{or_from, or_parts}
 use Rattle.cells.specs.Bounds.{IsDimension}
 use Rattle.layer_cascade.specs.Cuts.{AreCuts}
 use Rattle.batch_store.specs.declared.verdict.Entry.{Entry}
@@ -94,17 +95,6 @@ setting_of s h = record {
 abbrev Apart : Submission → List Submission → Type 0
 Apart b list = AllByRecursion (λ (e : Entry). same_pair (entry_of b) e ≡ false) (entries_of list)
 
-either : (a b : Bool) → a ≡ false → b ≡ false → (a || b) ≡ false
-either a b x y = cc
-
-first_of : (a b : Bool) → (a || b) ≡ false → a ≡ false
-first_of false b e = refl
-first_of true b e = e
-
-second_of : (a b : Bool) → (a || b) ≡ false → b ≡ false
-second_of false b e = e
-second_of true b e = absurd cc
-
 stands-append : (c n : ℕ) (xs ys : List Submission) → stands_in c n (xs ++ ys) ≡ (stands_in c n xs || stands_in c n ys)
 stands-append c n [] ys = refl
 stands-append c n (x ∷ xs) ys = ap (λ (t : Bool). ((x.client == c) && (x.number == n)) || t) (stands-append c n xs ys) ∙ sym (joined ((x.client == c) && (x.number == n)) (stands_in c n xs) (stands_in c n ys))
@@ -127,11 +117,11 @@ new_behind before (b ∷ bs) h = (h.0, weaker bs (new_behind (before ++ b ∷ []
   where
     weaker : (list : List Submission) → AllByRecursion (λ (x : Submission). stands_in x.client x.number (before ++ b ∷ []) ≡ false) list → AllByRecursion (λ (x : Submission). stands_in x.client x.number before ≡ false) list
     weaker [] h = tt
-    weaker (x ∷ xs) h = (first_of (stands_in x.client x.number before) _ (sym (stands_more x.client x.number before b) ∙ h.0), weaker xs h.1)
+    weaker (x ∷ xs) h = ((or_parts (stands_in x.client x.number before) _ (sym (stands_more x.client x.number before b) ∙ h.0)).0, weaker xs h.1)
 
 apart_behind : (before : List Submission) (b : Submission) (list : List Submission) → AllByRecursion (λ (x : Submission). stands_in x.client x.number (before ++ b ∷ []) ≡ false) list → Apart b list
 apart_behind before b [] h = tt
-apart_behind before b (x ∷ xs) h = (second_of (stands_in x.client x.number before) _ (sym (stands_more x.client x.number before b) ∙ h.0), apart_behind before b xs h.1)
+apart_behind before b (x ∷ xs) h = ((or_parts (stands_in x.client x.number before) _ (sym (stands_more x.client x.number before b) ∙ h.0)).1, apart_behind before b xs h.1)
 
 pub distinct_of : (before list : List Submission) → AreNew before list → AreDistinct list
 unfolding IsDistinct
@@ -141,7 +131,7 @@ distinct_of before (b ∷ bs) h = (apart_behind before b bs (new_behind (before 
 new_more : (before : List Submission) (b : Submission) (list : List Submission) → AllByRecursion (λ (x : Submission). stands_in x.client x.number before ≡ false) list → Apart b list
     → AllByRecursion (λ (x : Submission). stands_in x.client x.number (before ++ b ∷ []) ≡ false) list
 new_more before b [] h k = tt
-new_more before b (x ∷ xs) h k = (stands_more x.client x.number before b ∙ either (stands_in x.client x.number before) _ h.0 k.0, new_more before b xs h.1 k.1)
+new_more before b (x ∷ xs) h k = (stands_more x.client x.number before b ∙ or_from (stands_in x.client x.number before) _ h.0 k.0, new_more before b xs h.1 k.1)
 
 new_of : (before list : List Submission) → AreDistinct list → AllByRecursion (λ (x : Submission). stands_in x.client x.number before ≡ false) list → AreNew before list
 unfolding IsDistinct

@@ -10,8 +10,9 @@ use Rattle.byte_io.specs.declared.fault.DeviceFault.{DeviceFault}
 use Rattle.cells.specs.declared.cell.Cell.{Cell}
 use Rattle.cells.specs.Sums.{cell_total}
 use Rattle.hyper_rows.proofs.CellLaws.{same_place}
-use Rattle.hyper_rows.proofs.CountLaws.{built-append, total-ewise_add, total-built}
-use Rattle.hyper_matrix.specs.Counts.{Counts, ewise_add, built, total, count_sum}
+use Rattle.hyper_rows.proofs.CountLaws.{built-append, total-ewise_add}
+use Rattle.hyper_rows.proofs.ListLaws.{total-built_of}
+use Rattle.hyper_matrix.specs.Counts.{Counts, ewise_add, built, total}
 use Rattle.hyper_matrix.specs.Cells.{entry_of, built_of}
 use Rattle.hyper_matrix.specs.Matrix.{Matrix, matrix}
 use Rattle.batch_store.specs.Batches.{Submission, submission}
@@ -90,14 +91,10 @@ module _ {S : Type 0} (gives : S → Result (List ℕ) DeviceFault → S → Typ
       subst (λ (l : List Cell). HasRead gives failures m s t reader (cells_behind h run (tally_at l row col counted) (λ u. cells_behind h rest u k)))
       (sym (ap (λ (l : List Cell). done ++ l) none ∙ append-nil done)) (run_next left run rest (tally_at done row col counted) e a)
 
-pub cell_sum : (cells : List Cell) → count_sum (map entry_of cells) ≡ cell_total cells
-cell_sum [] = refl
-cell_sum (x ∷ xs) = ap (λ (n : ℕ). x.count + n) (cell_sum xs)
-
 pub total_held : (sum more : Counts) (items none : List Cell) (start old new : ℕ) → more ≡ ewise_add sum (built_of items) → total sum + start ≡ old → none ≡ [] → new + cell_total none ≡ old + cell_total items → total more + start ≡ new
 total_held sum more items none start old new is held empty added =
     let t = ap total is ∙ total-ewise_add sum (built_of items) in
-    let b = total-built (map entry_of items) ∙ cell_sum items in
+    let b = total-built_of items in
     let z : cell_total none ≡ 0 = ap cell_total empty in
     omega arith
 

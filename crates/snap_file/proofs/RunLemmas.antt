@@ -6,7 +6,6 @@ use Rattle.std.proofs.lemmas.List.{get_or_append_left}
 use Rattle.std.proofs.lemmas.List.Elements.{All-push, All-nil}
 use Rattle.cells.specs.declared.cell.Cell.{Cell}
 use Rattle.cells.specs.Bounds.{IsWithin}
-use Rattle.cells.specs.Sums.{cell_total}
 use Rattle.snap_file.specs.Table.{is_below}
 use Rattle.snap_file.specs.Tallies.{IsRun}
 
@@ -52,7 +51,3 @@ run_more rows cols cells r c cell h late in_row in_col =
           let there : get_or (cells ++ cell ∷ []) i d ≡ cell = ap (λ (n : ℕ). get_or (cells ++ cell ∷ []) n d) last ∙ here cells cell d in
           rw there (inr (refl, omega arith));
     }
-
-pub total_more : (cells : List Cell) (cell : Cell) → cell_total (cells ++ cell ∷ []) ≡ cell_total cells + cell.count
-total_more [] cell = omega arith
-total_more (x ∷ xs) cell = let e = total_more xs cell in omega arith

@@ -1,5 +1,5 @@
 -- A file on its way: what is pending handed on, more appended, and a stop.
-use Rattle.std.proofs.Common.{◌≡◌, ℕ, ◌+◌, ◌*◌, ◌^◌, ◌<◌, ◌≤◌, List, [], ◌∷◌, ◌++◌, length, flat_map, Result, Ok, Err, OnOk, refl, sym, ap, subst, ◌∙◌, append_assoc, length-append, arith}
+use Rattle.std.proofs.Common.{◌≡◌, ℕ, ◌+◌, ◌*◌, ◌^◌, ◌<◌, ◌≤◌, List, [], ◌∷◌, ◌++◌, length, flat_map, refl, sym, ap, subst, ◌∙◌, append_assoc, length-append, arith}
 use Rattle.std.proofs.lemmas.List.{append-nil}
 use Rattle.byte_io.specs.Streams.{Answer}
 use Rattle.byte_io.specs.Writing.{HasTaken, HasStopped}
@@ -10,10 +10,6 @@ use Rattle.hyper_matrix.specs.Cells.{entry_of}
 use Rattle.batch_store.specs.Batches.{Submission}
 use Rattle.snap_file.specs.Spelling.{cell_bytes, cells_bytes, batch_bytes}
 use Rattle.snap_file.specs.Writing.{IsWriting, WriterState}
-
-pub on_ok_both : {T E P Q R : Type 0} (r : Result T E) → (P → Q → R) → OnOk r P → OnOk r Q → OnOk r R
-on_ok_both (Ok x) f p q = f p q
-on_ok_both (Err e) f p q = tt
 
 pub writing_handed_on : {S : Type 0} (step : S → List ℕ → Answer → S → Type 0) (failures : S → ℕ) (s m t : S) (all left : List ℕ) (old new : WriterState) →
     IsWriting step failures s m all old left → HasTaken step failures m t old.pending → new.taken ≡ old.taken + length old.pending → new.pending ≡ [] → IsWriting step failures s t all new left

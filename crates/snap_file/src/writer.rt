@@ -143,6 +143,7 @@ impl ByteWriter {
             IsWriting W.write_takes W.failure_count s w.old all self [] →
             HasStopped W.write_takes W.failure_count s w.new all f.written) }
     {
-        self.flush(w)
+        self.flush(w)?;
+        Ok(())
     }
 }

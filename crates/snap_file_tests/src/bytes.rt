@@ -3,7 +3,7 @@ ghost use Rattle.std.specs.Prelude.{◌≡◌, IfOk};
 
 use byte_io::Script;
 use snap_file::{SnapFault, Snapshot, read_snapshot};
-use std::alloc::Global;
+use std::alloc::{AllocError, Global};
 use std::test::Fail;
 
 /// The head of 3 rows, 3 columns, cuts 2 and 4, 2 shards, limit 100, at most 10 batches; 1 batch, total 5.
@@ -38,7 +38,7 @@ pub fn source(
     bytes: &[u8],
     size: usize,
     fail_read: Option<u64>,
-) -> Result<Script, Fail>
+) -> Result<Script, AllocError>
     ensures { IfOk result (λ script. script.failures ≡ 0) }
 {
     let mut pieces = Vec::new(alloc);

@@ -111,6 +111,30 @@ fn bytes_behind_the_end_are_found(rt: HostRuntime) -> Result<(), Fail> {
 }
 
 #[test]
+fn the_first_byte_behind_the_end_is_told(rt: HostRuntime) -> Result<(), Fail> {
+    // 1,000 zeros behind the end, of which no more than one is judged: the limit of 200 bytes is never reached.
+    let bytes = followed(rt.alloc(), ONE, &[0; 1_000])?;
+    for size in [1, 64, 1_126] {
+        let answer = read(rt.alloc(), &bytes, size, 200)?;
+        assert_eq!(rt; answer.err(), Some(SnapFault::ExtraBytes), "{size}");
+    }
+    Ok(())
+}
+
+#[test]
+fn a_byte_past_the_limit_is_too_long(rt: HostRuntime) -> Result<(), Fail> {
+    // With room for 127 bytes the byte behind the end is told as such.
+    let bytes = followed(rt.alloc(), ONE, b"\0")?;
+    for size in [1, 127] {
+        let over = read(rt.alloc(), &bytes, size, 126)?;
+        assert_eq!(rt; over.err(), Some(SnapFault::TooLong), "{size}");
+        let within = read(rt.alloc(), &bytes, size, 127)?;
+        assert_eq!(rt; within.err(), Some(SnapFault::ExtraBytes), "{size}");
+    }
+    Ok(())
+}
+
+#[test]
 fn repeats_are_found(rt: HostRuntime) -> Result<(), Fail> {
     // Two entries, and the cell twice.
     let mut bytes = changed(rt.alloc(), ONE, 101, b"\x02")?;
@@ -145,7 +169,7 @@ fn the_limit_of_bytes_is_judged_first(rt: HostRuntime) -> Result<(), Fail> {
 #[test]
 fn declared_numbers_take_no_memory(rt: HostRuntime) -> Result<(), Fail> {
     // 2^63 entries are declared, and one follows.
-    let bytes = changed(rt.alloc(), ONE, 94, b"\x80")?;
+    let bytes = changed(rt.alloc(), ONE, 94, b"\x80\0\0\0\0\0\0\0")?;
     let mut script = source(rt.alloc(), &bytes, 126, None)?;
     let answer = read_snapshot(rt.alloc(), &mut script, MOST_BYTES);
     assert_eq!(rt; answer.err(), Some(SnapFault::Truncated));

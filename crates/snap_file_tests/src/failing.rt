@@ -2,7 +2,8 @@
 
 use crate::bytes::{MOST_BYTES, ONE, TWO, read, source};
 use byte_io::{Script, Source, WriteFault};
-use snap_file::{SnapFault, read_snapshot, write_snapshot};
+use snap_file::{SnapFault, Snapshot, read_snapshot, write_snapshot};
+use std::alloc::Global;
 use std::process::Abort;
 use std::test::Fail;
 
@@ -24,19 +25,25 @@ fn each_read_fails_in_turn(rt: HostRuntime) -> Result<(), Fail> {
     Ok(())
 }
 
+// Whether the writing of a snapshot whose file these bytes are stops where the sink takes no more than `room`.
+fn stops_at(alloc: Global, snapshot: &Snapshot, bytes: &[u8], room: usize) -> bool {
+    let mut script = Script::new(alloc, Vec::new(alloc), None, Some(room as u64));
+    // Any use of it tells what it keeps.
+    let batches = &snapshot.batches;
+    let answer = write_snapshot(&mut script, &snapshot.setup, batches);
+    let fault = WriteFault {
+        written: room as u128,
+    };
+    answer == Err(fault) && script.written() == &bytes[..room.min(bytes.len())]
+}
+
 #[test]
 fn each_write_fails_in_turn(rt: HostRuntime) -> Result<(), Fail> {
-    let snapshot = read(rt.alloc(), TWO, TWO.len(), MOST_BYTES)??;
-    for room in 0..TWO.len() {
-        let mut script = Script::new(rt.alloc(), Vec::new(rt.alloc()), None, Some(room as u64));
-        // Any use of it tells what it keeps.
-        let batches = &snapshot.batches;
-        let answer = write_snapshot(&mut script, &snapshot.setup, batches);
-        let fault = WriteFault {
-            written: room as u128,
-        };
-        assert_eq!(rt; answer, Err(fault));
-        assert!(rt; script.written() == &TWO[..room.min(TWO.len())]);
+    for bytes in [ONE, TWO] {
+        let snapshot = read(rt.alloc(), bytes, bytes.len(), MOST_BYTES)??;
+        for room in 0..bytes.len() {
+            assert!(rt; stops_at(rt.alloc(), &snapshot, bytes, room), "{room}");
+        }
     }
     Ok(())
 }

@@ -5,7 +5,7 @@ use crate::fault::ServerFault;
 use crate::host::Host;
 use crate::settings::MOST_BYTES;
 use batch_store::Setup;
-use plain_engine::PlainEngine;
+use plain_engine::{LoadFault, PlainEngine};
 use snap_file::{FileFault, Snapshot};
 use std::alloc::Global;
 use std::random::RandomSource;
@@ -54,8 +54,9 @@ fn engine_of<R: RandomSource>(
     }
     match PlainEngine::from_batches(rt, alloc, setup, &batches) {
         Ok(plain) => Ok(plain),
-        // A snapshot's batches are refused for want of memory alone.
-        Err(_) => Err(ServerFault::Memory),
+        Err(LoadFault::Memory) => Err(ServerFault::Memory),
+        // A snapshot's batches are a list that a book accepts.
+        Err(_) => unreachable!(),
     }
 }
 

@@ -10,7 +10,8 @@ use Rattle.std.proofs.Common.{arith, ◌<◌}
 use Rattle.std.proofs.lemmas.Bool.{leb-false}
 use Rattle.cells.specs.Sums.{cell_total}
 use Rattle.snap_file.specs.Tallies.{IsRun}
-use Rattle.snap_file.proofs.RunLemmas.{run_more, total_more}
+use Rattle.cells.proofs.SumLaws.{total-push}
+use Rattle.snap_file.proofs.RunLemmas.{run_more}
 use Rattle.snap_file.proofs.StopLemmas.{stops_refused, stops_memory, read_passed}
 use Rattle.snap_file.proofs.tally.read_cell.Goals as goal
 
@@ -85,7 +86,7 @@ returns-in-Ok-clause-ok g c = λ s m n done k h.
 pub returns-in-Ok-clause-added : goal.returns-in-Ok-clause-added
 returns-in-Ok-clause-added g c =
     let cell : Cell = record { row = c.in_ok-row.row; col = c.in_ok-col.col; count = c.in_ok-count.count } in
-    let more = total_more c.args.tally.now.cells.items cell in
+    let more = total-push c.args.tally.now.cells.items cell in
     omega (arith, more, ap cell_total c.in-Ok.ensures.items)
 
 pub returns-in-Ok-clause-run : goal.returns-in-Ok-clause-run

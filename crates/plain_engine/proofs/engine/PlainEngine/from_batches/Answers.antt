@@ -1,10 +1,10 @@
-use Rattle.std.proofs.Common.{◌≡◌, ◌+◌, ◌∷◌, length, take, drop, sym, ◌∙◌, ap, arith, length-take-le}
+use Rattle.std.proofs.Common.{◌≡◌, ◌+◌, [], ◌∷◌, length, refl, take, drop, sym, ◌∙◌, ap, arith, length-take-le}
 use Rattle.std.specs.Arc.{arc_value}
 use Rattle.std.proofs.lemmas.List.{length-map}
-use Rattle.std.proofs.lemmas.Result.{err_from_is_err_and}
+use Rattle.std.proofs.lemmas.Result.{err_from_is_err_and, IfErr-weaker}
 use Rattle.batch_store.specs.Batches.{values}
 use Rattle.plain_engine.proofs.StandLaws.{drop_here}
-use Rattle.plain_engine.proofs.LoadLaws.{refused_here}
+use Rattle.plain_engine.proofs.LoadLaws.{refused_here, none_refused, memory_alone}
 use Rattle.plain_engine.proofs.engine.PlainEngine.from_batches.Goals as goal
 
 pub returns-in_err-load-clause-err : goal.returns-in_err-load-clause-err
@@ -25,3 +25,10 @@ returns-in_err-load-clause-err g c =
     (λ other. refused_here v c.batches.engine.setup c.batches.engine.book.list done (values (drop i list)) rest
     (values list) b c.batches.at c.in_err-load.field-0.0 inv.setup inv.list count inv.rest cut
     (c.in_err-load.ensures.err other))
+
+pub returns-in_err-load-clause-accepted : goal.returns-in_err-load-clause-accepted
+returns-in_err-load-clause-accepted g c = λ accepted.
+    let list = values c.args.list.now in
+    let none = none_refused c.args.setup list [] list accepted refl in
+    IfErr-weaker c.from_residual-in_err-load.result _ _ (λ f told. memory_alone _ f none told)
+    (returns-in_err-load-clause-err g c)

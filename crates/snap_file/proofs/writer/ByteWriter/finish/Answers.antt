@@ -1,12 +1,12 @@
 use Rattle.std.proofs.Common.{[]}
-use Rattle.std.proofs.lemmas.Result.{IfErr-weaker}
-use Rattle.snap_file.proofs.WriteLemmas.{on_ok_both}
+use Rattle.std.proofs.lemmas.Result.{err_from_is_err_and}
 use Rattle.snap_file.proofs.WriteLemmas.{writing_whole}
 use Rattle.snap_file.proofs.writer.ByteWriter.finish.Goals as goal
 
 pub returns-clause-ok : goal.returns-clause-ok
-returns-clause-ok g c =
-    on_ok_both c.flush.result (λ none ok. λ s all h. writing_whole _ _ s _ all _ (ok s all [] h) none) c.flush.ensures.pending c.flush.ensures.ok
+returns-clause-ok g c = λ s all h. writing_whole _ _ s _ all _ (c.in_ok-flush.ensures.ok s all [] h) c.in_ok-flush.ensures.pending
 
-pub returns-clause-err : goal.returns-clause-err
-returns-clause-err g c = IfErr-weaker c.flush.result _ _ (λ f h. λ s all w. h s all [] w) c.flush.ensures.err
+pub returns-in_err-flush-clause-err : goal.returns-in_err-flush-clause-err
+returns-in_err-flush-clause-err g c =
+    let p = err_from_is_err_and c.from_residual.result c.from_residual.ensures.1 in
+    rw (p.1, p.2) (λ s all h. c.in_err-flush.ensures.err s all [] h)
