@@ -1,0 +1,23 @@
+//! Worked examples of frames and sessions, as tables of what is sent and what comes back.
+//!
+//! The answers in the tables were worked out by hand from the layout of frames, not taken from a run.
+#![tactic(auto)]
+
+#[cfg(test)]
+mod asks;
+#[cfg(test)]
+mod cuts;
+#[cfg(test)]
+mod failures;
+#[cfg(test)]
+mod frames;
+#[cfg(test)]
+mod hex;
+#[cfg(test)]
+mod refusals;
+#[cfg(test)]
+mod replies;
+#[cfg(test)]
+mod sessions;
+#[cfg(test)]
+mod stores;
