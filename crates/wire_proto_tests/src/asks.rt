@@ -1,0 +1,176 @@
+//! What a client sends, and the session that answers it.
+ghost use Rattle.std.specs.Prelude.{◌<◌};
+
+use crate::hex::bytes_of;
+use crate::replies::{is_reply, split_frame};
+use batch_store::{Setup, SetupFault};
+use bytes::Bytes;
+use mm_text::Script;
+use plain_engine::{PlainEngine, Status};
+use std::alloc::{AllocError, Global};
+use std::process::Abort;
+use std::test::Fail;
+use wire_proto::{EncodeFault, Ended, Request, encode_request, serve_engine};
+
+const BANNER: &str = "%%MatrixMarket matrix coordinate integer general\n";
+
+/// A frame of a table: a request, or bytes that are none.
+#[derive(Clone, Copy)]
+pub enum Ask {
+    /// Client, number, and the text behind the banner line.
+    Put(u64, u64, &'static str),
+    /// Client, number, and the whole text.
+    Text(u64, u64, &'static str),
+    Cell(u64, u64),
+    Row(u64),
+    Status,
+    Export,
+    Save,
+    Stop,
+    /// These bytes, in hexadecimal digits.
+    Raw(&'static str),
+}
+
+/// A session of a table: what is sent, what comes back, how it ends, and what the engine has accepted then.
+pub type Session = (&'static [Ask], &'static str, Ended, (u64, u64));
+
+/// Three rows, three columns, two shards, a limit of 100 and at most 10 batches.
+pub fn small_setup() -> Result<Setup, SetupFault> {
+    Setup::new(3, 3, &[2, 4], 2, 100, 10)
+}
+
+/// The request of a put of this text.
+pub fn put_request(alloc: Global, pair: (u64, u64), text: &[u8]) -> Result<Request, AllocError> {
+    Ok(Request::Put {
+        client: pair.0,
+        number: pair.1,
+        text: Bytes::copy_from_slice(alloc, text)?,
+    })
+}
+
+/// The frame of a put whose text is these bytes behind the banner line.
+pub fn put_frame(alloc: Global, pair: (u64, u64), tail: &[u8]) -> Result<Vec<u8>, EncodeFault> {
+    let mut text = Vec::from_slice(alloc, BANNER.as_bytes())?;
+    text.extend_from_slice(tail)?;
+    let request = put_request(alloc, pair, text.as_slice())?;
+    encode_request(alloc, &request)
+}
+
+fn text_frame(alloc: Global, pair: (u64, u64), text: &str) -> Result<Vec<u8>, EncodeFault> {
+    let request = put_request(alloc, pair, text.as_bytes())?;
+    encode_request(alloc, &request)
+}
+
+/// The bytes of a table's frame.
+pub fn frame(alloc: Global, ask: Ask) -> Result<Vec<u8>, EncodeFault> {
+    match ask {
+        Ask::Put(client, number, tail) => put_frame(alloc, (client, number), tail.as_bytes()),
+        Ask::Text(client, number, text) => text_frame(alloc, (client, number), text),
+        Ask::Cell(row, col) => encode_request(alloc, &Request::Cell { row, col }),
+        Ask::Row(row) => encode_request(alloc, &Request::Row { row }),
+        Ask::Status => encode_request(alloc, &Request::Status),
+        Ask::Export => encode_request(alloc, &Request::Export),
+        Ask::Save => encode_request(alloc, &Request::Save),
+        Ask::Stop => encode_request(alloc, &Request::Stop),
+        Ask::Raw(digits) => Ok(bytes_of(alloc, digits)?),
+    }
+}
+
+/// The frames of a table, one behind another.
+pub fn frames(alloc: Global, asks: &[Ask]) -> Result<Vec<u8>, EncodeFault> {
+    let mut all = Vec::new(alloc);
+    for ask in asks {
+        let one = frame(alloc, *ask)?;
+        all.extend_from_slice(one.as_slice())?;
+    }
+    Ok(all)
+}
+
+/// Bytes as a link gives them: in pieces of this size.
+pub fn pieces(alloc: Global, all: &[u8], size: usize) -> Result<Vec<Vec<u8>>, AllocError>
+    requires { 0 < size }
+{
+    let mut list = Vec::new(alloc);
+    for piece in all.chunks(size) {
+        list.push(Vec::from_slice(alloc, piece)?)?;
+    }
+    Ok(list)
+}
+
+/// The most reads of a session: more than any of these tables needs.
+const TURNS: u64 = 1_000_000;
+
+/// How a session ended, and the link with what was written.
+#[derive(Drop)]
+pub struct Ran {
+    pub ended: Ended,
+    pub link: Script,
+}
+
+/// Serves these pieces over an engine. The read with number `fail_read` fails, and writes after `fail_write` bytes.
+pub fn run(
+    alloc: Global,
+    engine: &mut PlainEngine,
+    list: Vec<Vec<u8>>,
+    fail_read: Option<u64>,
+    fail_write: Option<u64>,
+) -> Ran {
+    let mut link = Script::new(alloc, list, fail_read, fail_write);
+    let ended = serve_engine(alloc, &mut link, engine, TURNS);
+    Ran { ended, link }
+}
+
+/// Compares how a session ended, and all that was written.
+pub fn expect(rt: &impl Abort, ran: &Ran, ended: Ended, written: &[u8]) {
+    assert_eq!(rt; ran.ended, ended);
+    assert!(rt; ran.link.written() == written);
+}
+
+/// Compares what an engine has accepted.
+pub fn expect_status(rt: &impl Abort, engine: &PlainEngine, batches: u64, total: u64) {
+    assert_eq!(rt; engine.status(), Status { batches, total });
+}
+
+/// Serves these bytes in one piece, and compares all that comes back.
+pub fn exchange(
+    rt: &impl Abort,
+    alloc: Global,
+    engine: &mut PlainEngine,
+    sent: Vec<u8>,
+    ended: Ended,
+    expected: &[u8],
+) -> Result<(), AllocError> {
+    let mut list = Vec::new(alloc);
+    list.push(sent)?;
+    let ran = run(alloc, engine, list, None, None);
+    expect(rt, &ran, ended, expected);
+    Ok(())
+}
+
+// Each frame that was written is read as a reply.
+fn expect_replies(rt: &impl Abort, written: &[u8]) {
+    let mut rest = written;
+    for _ in 0..written.len() {
+        let Some((reply, behind)) = split_frame(rest) else {
+            break;
+        };
+        assert!(rt; is_reply(reply));
+        rest = behind;
+    }
+    assert!(rt; rest.is_empty());
+}
+
+/// Runs a table's session over an engine, and compares all of it.
+pub fn check(
+    rt: &impl Abort,
+    alloc: Global,
+    engine: &mut PlainEngine,
+    session: &Session,
+) -> Result<(), Fail> {
+    let sent = frames(alloc, session.0)?;
+    let expected = bytes_of(alloc, session.1)?;
+    expect_replies(rt, expected.as_slice());
+    exchange(rt, alloc, engine, sent, session.2, expected.as_slice())?;
+    expect_status(rt, engine, session.3.0, session.3.1);
+    Ok(())
+}

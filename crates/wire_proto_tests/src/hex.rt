@@ -1,0 +1,29 @@
+//! Bytes as a table spells them.
+
+use std::alloc::{AllocError, Global};
+
+// The value of a digit.
+fn digit(byte: u8) -> Option<u8> {
+    match byte {
+        b'0'..=b'9' => Some(byte - b'0'),
+        b'a'..=b'f' => Some(byte - b'a' + 10),
+        _ => None,
+    }
+}
+
+/// The bytes that pairs of digits spell; whatever else stands in the text is skipped.
+pub fn bytes_of(alloc: Global, text: &str) -> Result<Vec<u8>, AllocError> {
+    let mut bytes = Vec::new(alloc);
+    let mut high = None;
+    for byte in text.as_bytes() {
+        match (digit(*byte), high) {
+            (None, _) => {}
+            (Some(value), None) => high = Some(value),
+            (Some(value), Some(first)) => {
+                bytes.push((first as u8).wrapping_mul(16).wrapping_add(value))?;
+                high = None;
+            }
+        }
+    }
+    Ok(bytes)
+}

@@ -1,0 +1,214 @@
+//! Replies: each row of their layout is read, and whatever is no reply isn't.
+
+use crate::asks::{Ask, frames, run, small_setup};
+use crate::hex::bytes_of;
+use batch_store::Kept;
+use hyper_matrix::RowSum;
+use plain_engine::{PlainEngine, Status};
+use std::alloc::{AllocError, Global};
+use std::process::Abort;
+use std::test::Fail;
+use wire_proto::{Reply, decode_reply};
+
+/// The first frame of some bytes, and what stands behind it, where it is whole.
+pub fn split_frame(bytes: &[u8]) -> Option<(&[u8], &[u8])> {
+    let (head, _) = bytes.split_first_chunk::<4>()?;
+    let len = u32::from_be_bytes(*head) as usize;
+    bytes.split_at_checked(len + 5)
+}
+
+/// Whether these bytes are a reply.
+pub fn is_reply(bytes: &[u8]) -> bool {
+    decode_reply(bytes).is_some()
+}
+
+static REPLIES: &[(&str, Reply<'static>)] = &[
+    (
+        "00000010 81 0000000000000001 0000000000000008",
+        Reply::Accepted(Kept {
+            index: 1,
+            total_after: 8,
+        }),
+    ),
+    (
+        "00000010 81 ffffffffffffffff 0102030405060708",
+        Reply::Accepted(Kept {
+            index: u64::MAX,
+            total_after: 0x0102_0304_0506_0708,
+        }),
+    ),
+    ("00000009 82 01 0000000000000000", Reply::Value(Some(0))),
+    (
+        "00000009 82 01 ffffffffffffffff",
+        Reply::Value(Some(u64::MAX)),
+    ),
+    ("00000009 82 00 0000000000000000", Reply::Value(None)),
+    (
+        "00000010 83 0000000000000002 0000000000000004",
+        Reply::RowSum(RowSum {
+            entries: 2,
+            total: 4,
+        }),
+    ),
+    (
+        "00000010 84 0000000000000003 0000000000000064",
+        Reply::Counts(Status {
+            batches: 3,
+            total: 100,
+        }),
+    ),
+    ("00000000 85", Reply::Text(b"")),
+    ("00000003 85 61620a", Reply::Text(b"ab\n")),
+    ("00000008 86 000000000000000a", Reply::Saved(10)),
+    ("00000000 87", Reply::Stopping),
+    (
+        "0000000a ff 0029 0000000000000000",
+        Reply::Refused {
+            code: 41,
+            detail: 0,
+        },
+    ),
+    (
+        "0000000a ff ffff 000000000000005a",
+        Reply::Refused {
+            code: 65535,
+            detail: 90,
+        },
+    ),
+];
+
+// Neither a front of these bytes nor a byte more is a reply.
+fn is_one_alone(rt: &impl Abort, mut bytes: Vec<u8>) -> Result<(), Fail> {
+    for at in 0..bytes.len() {
+        let (front, _rest) = bytes.as_slice().split_at(at);
+        assert!(rt; !is_reply(front));
+    }
+    bytes.push(0)?;
+    assert!(rt; !is_reply(bytes.as_slice()));
+    Ok(())
+}
+
+#[test]
+fn replies_are_read(rt: HostRuntime) -> Result<(), Fail> {
+    for (digits, expected) in REPLIES {
+        let bytes = bytes_of(rt.alloc(), *digits)?;
+        assert_eq!(rt; decode_reply(bytes.as_slice()), Some(*expected));
+        is_one_alone(&rt, bytes)?;
+    }
+    Ok(())
+}
+
+// Each frame of some bytes is read as the next of these replies, and nothing stands behind the last.
+fn are_replies(rt: &impl Abort, written: &[u8], replies: &[Reply<'static>]) {
+    let mut rest = written;
+    for expected in replies {
+        let Some((reply, behind)) = split_frame(rest) else {
+            break;
+        };
+        assert_eq!(rt; decode_reply(reply), Some(*expected));
+        rest = behind;
+    }
+    assert!(rt; rest.is_empty());
+}
+
+static TWO_PUTS: &[Ask] = &[
+    Ask::Put(7, 1, "3 3 1\n1 1 5\n"),
+    Ask::Put(8, 1, "3 3 1\n1 1 3\n"),
+    Ask::Cell(0, 0),
+    Ask::Cell(1, 0),
+    Ask::Row(0),
+    Ask::Row(3),
+    Ask::Status,
+    Ask::Stop,
+];
+
+static ANSWERS: &[Reply<'static>] = &[
+    Reply::Accepted(Kept {
+        index: 0,
+        total_after: 5,
+    }),
+    Reply::Accepted(Kept {
+        index: 1,
+        total_after: 8,
+    }),
+    Reply::Value(Some(8)),
+    Reply::Value(None),
+    Reply::RowSum(RowSum {
+        entries: 1,
+        total: 8,
+    }),
+    Reply::Refused {
+        code: 41,
+        detail: 0,
+    },
+    Reply::Counts(Status {
+        batches: 2,
+        total: 8,
+    }),
+    Reply::Stopping,
+];
+
+#[test]
+fn the_replies_of_a_session_are_read(rt: HostRuntime) -> Result<(), Fail> {
+    let alloc = rt.alloc();
+    let mut engine = PlainEngine::new(&rt, alloc, small_setup()?)?;
+    let mut list = Vec::new(alloc);
+    list.push(frames(alloc, TWO_PUTS)?)?;
+    let ran = run(alloc, &mut engine, list, None, None);
+    assert_eq!(rt; ran.link.written().len(), 132);
+    are_replies(&rt, ran.link.written(), ANSWERS);
+    Ok(())
+}
+
+static NONE: &[&str] = &[
+    "00000010 01 0000000000000001 0000000000000008",
+    "00000010 80 0000000000000001 0000000000000008",
+    "00000010 88 0000000000000001 0000000000000008",
+    "0000000f 81 0000000000000001 00000000000008",
+    "00000011 81 0000000000000001 0000000000000008 00",
+    "00000011 81 0000000000000001 0000000000000008",
+    "00000009 82 02 0000000000000000",
+    "00000009 82 00 0000000000000001",
+    "00000009 82 00 0100000000000000",
+    "00000008 82 0000000000000000",
+    "00000004 85 61620a",
+    "00000002 85 61620a",
+    "00000001 87 00",
+    "0000000a fe 0029 0000000000000000",
+    "00000009 ff 29 0000000000000000",
+];
+
+#[test]
+fn other_bytes_are_no_reply(rt: HostRuntime) -> Result<(), Fail> {
+    let alloc = rt.alloc();
+    for digits in NONE {
+        let bytes = bytes_of(alloc, *digits)?;
+        assert!(rt; !is_reply(bytes.as_slice()));
+    }
+    Ok(())
+}
+
+// The length of the text that these bytes carry.
+fn text_len(bytes: &[u8]) -> Option<usize> {
+    match decode_reply(bytes) {
+        Some(Reply::Text(text)) => Some(text.len()),
+        _ => None,
+    }
+}
+
+// A head, and so many line ends behind it.
+fn with_head(alloc: Global, head: &[u8], len: usize) -> Result<Vec<u8>, AllocError> {
+    let lines = vec![in alloc; 10u8; len]?;
+    let mut bytes = Vec::from_slice(alloc, head)?;
+    bytes.extend_from_slice(lines.as_slice())?;
+    Ok(bytes)
+}
+
+#[test]
+fn a_text_is_read_up_to_the_longest_body(rt: HostRuntime) -> Result<(), Fail> {
+    let longest = with_head(rt.alloc(), &[1, 0, 0, 0, 0x85], 16_777_216)?;
+    assert_eq!(rt; text_len(longest.as_slice()), Some(16_777_216));
+    let longer = with_head(rt.alloc(), &[1, 0, 0, 1, 0x85], 16_777_217)?;
+    assert!(rt; !is_reply(longer.as_slice()));
+    Ok(())
+}

@@ -1,0 +1,164 @@
+//! Answers that an engine of one thread never gives: those of a store that refuses each batch, and saves.
+ghost use Rattle.std.specs.Prelude.{◌≡◌, ⊤};
+
+use crate::asks::{Ask, frame, small_setup};
+use crate::hex::bytes_of;
+use batch_store::{Batch, Kept, Setup};
+use hyper_matrix::{Hyper, RowSum};
+use mm_text::Script;
+use plain_engine::{PutFault, Status};
+use std::alloc::{AllocError, Global};
+use std::process::Abort;
+use std::sync::Arc;
+use std::test::Fail;
+use wire_proto::{Ended, Keeper, SaveRefusal, serve};
+
+// A store that keeps nothing. It refuses each batch, and answers a save as it was told to; it has no memory to export.
+#[derive(Clone, Copy, Drop)]
+struct Told {
+    setup: Setup,
+    refusal: PutFault,
+    saved: Result<u64, SaveRefusal>,
+}
+
+impl Keeper for Told {
+    ghost gives = { λ s e t. ⊤ };
+
+    ghost fact = { λ s. ⊤ };
+
+    ghost setup_of = { λ s. s.setup };
+
+    fn setup(&self) -> Setup {
+        self.setup
+    }
+
+    fn put(&mut self, _alloc: Global, _batch: Arc<Batch>) -> Result<Kept, PutFault> {
+        Err(self.refusal)
+    }
+
+    fn cell(&mut self, _row: u64, _col: u64) -> Option<u64> {
+        None
+    }
+
+    fn row(&mut self, _row: u64) -> RowSum {
+        RowSum {
+            entries: 0,
+            total: 0,
+        }
+    }
+
+    fn status(&mut self) -> Status {
+        Status {
+            batches: 0,
+            total: 0,
+        }
+    }
+
+    fn export(&mut self, _alloc: Global) -> Result<Hyper, AllocError> {
+        Err(AllocError)
+    }
+
+    fn save(&mut self, _alloc: Global) -> Result<u64, SaveRefusal> {
+        self.saved
+    }
+}
+
+const PUT: Ask = Ask::Put(7, 1, "3 3 1\n1 1 5\n");
+
+const ON: Ended = Ended::Closed { rest: 0 };
+
+/// What the store answers a put and a save, what is asked, what comes back, and how the session ends.
+type Case = (PutFault, Result<u64, SaveRefusal>, Ask, &'static str, Ended);
+
+static CASES: &[Case] = &[
+    (
+        PutFault::Memory,
+        Ok(10),
+        Ask::Save,
+        "00000008 86 000000000000000a",
+        ON,
+    ),
+    (
+        PutFault::Memory,
+        Ok(u64::MAX),
+        Ask::Save,
+        "00000008 86 ffffffffffffffff",
+        ON,
+    ),
+    (
+        PutFault::Memory,
+        Err(SaveRefusal::SaveFailed),
+        Ask::Save,
+        "0000000a ff 002a 0000000000000000",
+        ON,
+    ),
+    (
+        PutFault::Memory,
+        Err(SaveRefusal::SaveOff),
+        Ask::Save,
+        "0000000a ff 002b 0000000000000000",
+        ON,
+    ),
+    (
+        PutFault::Memory,
+        Err(SaveRefusal::Memory),
+        Ask::Save,
+        "0000000a ff 0001 0000000000000000",
+        Ended::Memory,
+    ),
+    (
+        PutFault::Memory,
+        Ok(0),
+        PUT,
+        "0000000a ff 0001 0000000000000000",
+        Ended::Memory,
+    ),
+    (
+        PutFault::Memory,
+        Ok(0),
+        Ask::Export,
+        "0000000a ff 0001 0000000000000000",
+        Ended::Memory,
+    ),
+    (
+        PutFault::RecordsDiffer,
+        Ok(0),
+        PUT,
+        "0000000a ff 0021 0000000000000000",
+        ON,
+    ),
+];
+
+// Asks a store, and compares what comes back and how the session ends.
+fn check(
+    rt: &impl Abort,
+    alloc: Global,
+    store: &mut Told,
+    sent: Vec<u8>,
+    expected: &[u8],
+    ended: Ended,
+) -> Result<(), Fail> {
+    let mut list = Vec::new(alloc);
+    list.push(sent)?;
+    let mut link = Script::new(alloc, list, None, None);
+    assert_eq!(rt; serve(alloc, &mut link, store, 100), ended);
+    assert!(rt; link.written() == expected);
+    Ok(())
+}
+
+#[test]
+fn stores_are_answered_for(rt: HostRuntime) -> Result<(), Fail> {
+    let alloc = rt.alloc();
+    let setup = small_setup()?;
+    for (refusal, saved, ask, digits, ended) in CASES {
+        let sent = frame(alloc, *ask)?;
+        let expected = bytes_of(alloc, *digits)?;
+        let mut store = Told {
+            setup,
+            refusal: *refusal,
+            saved: *saved,
+        };
+        check(&rt, alloc, &mut store, sent, expected.as_slice(), *ended)?;
+    }
+    Ok(())
+}
