@@ -4,9 +4,10 @@
 ghost use Rattle.std.specs.Prelude.{◌≡◌, ◌<◌};
 ghost use Rattle.locked_engine.specs.Opened.{NamesEngine};
 
-use crate::opened::{Answer, put, unopened};
+use crate::opened::{Answer, closed, opened, put, unopened};
 use batch_store::{Batch, Setup, Shard};
 use cells::Cell;
+use hyper_matrix::Hyper;
 use locked_engine::{Engine, Named, Names, PutFault, Seat};
 use plain_engine::PlainEngine;
 use std::alloc::{AllocError, Global};
@@ -219,8 +220,8 @@ fn run<N: Named + Send + Sync, H: Ledger + Send + Sync, R: Threads + Wait + Sync
     engine: &Engine<N, H>,
     writers: &mut [Writer<N, H>],
     readers: &mut [Reader<N, H>],
-    ended: &AtomicU64,
 ) {
+    let ended = &AtomicU64::new(0);
     thread::scope(thread::scope_env(), rt, |scope| {
         for writer in writers {
             if scope
@@ -274,33 +275,49 @@ fn total_of(counts: &Counts) -> u64 {
     total
 }
 
-// Whether a list of cells has these counts, in order.
-fn are_cells(cells: &[Cell], counts: &Counts) -> bool {
-    if cells.len() != counts.len() {
-        return false;
+fn cell_at(place: (u64, u64), count: u64) -> Cell {
+    Cell {
+        row: place.0,
+        col: place.1,
+        count,
     }
-    for (cell, (place, count)) in cells.iter().zip(counts) {
-        if (cell.row, cell.col) != *place || cell.count != *count {
-            return false;
-        }
+}
+
+// The cells with these counts, in order.
+fn listed(alloc: Global, counts: &Counts) -> Result<Vec<Cell>, AllocError> {
+    let mut cells = Vec::new(alloc);
+    for (place, count) in counts {
+        cells.push(cell_at(*place, *count))?;
     }
-    true
+    Ok(cells)
+}
+
+// Whether a matrix has exactly these counts.
+fn has_counts(alloc: Global, sum: &Hyper, counts: &Counts) -> Result<bool, AllocError> {
+    let cells = sum.cells(alloc)?;
+    let expected = listed(alloc, counts)?;
+    Ok(cells.as_slice() == expected.as_slice())
 }
 
 // Which of the two batches of its pair an accepted batch is, and None where it is neither.
 fn drawn(alloc: Global, b: &Batch) -> Result<Option<Draw>, AllocError> {
-    let cells = b.matrix.cells(alloc)?;
-    for other in [false, true] {
-        let draw = Draw {
-            client: b.client,
-            number: b.number,
-            other,
-        };
-        if are_cells(&cells, &summed(alloc, draw)?) {
-            return Ok(Some(draw));
-        }
+    let mut draw = Draw {
+        client: b.client,
+        number: b.number,
+        other: false,
+    };
+    if has_draw(alloc, &b.matrix, draw)? {
+        return Ok(Some(draw));
     }
-    Ok(None)
+    draw.other = true;
+    let has = has_draw(alloc, &b.matrix, draw)?;
+    Ok(has.then_some(draw))
+}
+
+// Whether a matrix is that of a drawn batch.
+fn has_draw(alloc: Global, matrix: &Hyper, draw: Draw) -> Result<bool, AllocError> {
+    let counts = summed(alloc, draw)?;
+    has_counts(alloc, matrix, &counts)
 }
 
 // The accepted list, the place of each pair in it, and the sum of all its batches.
@@ -397,7 +414,12 @@ fn model_of(alloc: Global, batches: &[Arc<Batch>]) -> Result<Option<Model>, Allo
 
 // Whether a batch has a cell in shard s.
 fn concerns(cells: &Counts, s: u64) -> bool {
-    cells.iter().any(|(place, _)| place.0 % SHARDS == s)
+    for (place, _) in cells {
+        if place.0 % SHARDS == s {
+            return true;
+        }
+    }
+    false
 }
 
 // The total of the counts in shard s.
@@ -452,24 +474,45 @@ fn agree_on_answers(
     Ok(())
 }
 
-// Compares all that an engine has with the model of its batches.
-fn agree(rt: &impl Abort, alloc: Global, closed: &PlainEngine, lines: &[Line]) -> Result<(), Fail> {
-    let batches = closed.batches(alloc)?;
-    let model = model_of(alloc, &batches)?.ok_or("a batch that nobody put, or one twice")?;
+// Compares how many batches an engine has accepted, and their total.
+fn agree_on_status(rt: &impl Abort, closed: &PlainEngine, model: &Model) {
     let status = closed.status();
     assert_eq!(rt;
         (status.batches as usize, status.total),
         (model.list.len(), model.total)
     );
     assert!(rt; model.total <= LIMIT);
-    agree_on_answers(rt, alloc, lines, &model)?;
+}
+
+// Compares the sum of all shards.
+fn agree_on_sum(
+    rt: &impl Abort,
+    alloc: Global,
+    closed: &PlainEngine,
+    model: &Model,
+) -> Result<(), Fail> {
     let sum = closed.export(alloc)?;
-    assert!(rt; are_cells(&sum.cells(alloc)?, &model.sum));
+    let has = has_counts(alloc, &sum, &model.sum)?;
+    assert!(rt; has);
+    Ok(())
+}
+
+fn agree_on_shards(rt: &impl Abort, closed: &PlainEngine, model: &Model) -> Result<(), Fail> {
     for s in 0..SHARDS {
         let shard = closed.shard(s).ok_or("no shard")?;
-        agree_on_shard(rt, shard, &model, s);
+        agree_on_shard(rt, shard, model, s);
     }
     Ok(())
+}
+
+// Compares all that an engine has with the model of its batches.
+fn agree(rt: &impl Abort, alloc: Global, closed: &PlainEngine, lines: &[Line]) -> Result<(), Fail> {
+    let batches = closed.batches(alloc)?;
+    let model = model_of(alloc, &batches)?.ok_or("a batch that nobody put, or one twice")?;
+    agree_on_status(rt, closed, &model);
+    agree_on_answers(rt, alloc, lines, &model)?;
+    agree_on_sum(rt, alloc, closed, &model)?;
+    agree_on_shards(rt, closed, &model)
 }
 
 #[test]
@@ -489,30 +532,43 @@ fn put_at_once<N: Named + Send + Sync, H: Ledger + Send + Sync, R: Threads + Wai
     requires named { NamesEngine names N.setup N.seats N.name N.parts H.name H.parts }
     requires made_from { plain.setup ≡ names.setup }
 {
-    let (engine, seats) = Engine::<N, H>::open(alloc, plain, names).map_err(|_| "open")?;
+    let (engine, seats) = opened::<N, H>(alloc, plain, names)?;
     let (mut writers, mut readers) = seated(alloc, seats)?;
-    let ended = AtomicU64::new(0);
-    run(
-        rt,
-        alloc,
-        &engine,
-        writers.as_mut_slice(),
-        readers.as_mut_slice(),
-        &ended,
-    );
+    run(rt, alloc, &engine, &mut writers, &mut readers);
     let mut seats = Vec::new(alloc);
+    let lines = leave_writers(rt, alloc, writers, &mut seats)?;
+    leave_readers(rt, readers, &mut seats)?;
+    let closed = closed(rt, alloc, engine, seats)?;
+    agree(rt, alloc, &closed, &lines)
+}
+
+// Takes back the seats of all writers, which have put all, and what they were answered.
+fn leave_writers<N: Named, H: Ledger>(
+    rt: &impl Abort,
+    alloc: Global,
+    writers: Vec<Writer<N, H>>,
+    seats: &mut Vec<Seat<N, H>>,
+) -> Result<Vec<Line>, AllocError> {
     let mut lines = Vec::new(alloc);
     for writer in writers {
         assert!(rt; writer.ended);
         seats.push(writer.seat)?;
         lines.extend_from_slice(&writer.lines)?;
     }
+    Ok(lines)
+}
+
+// Takes back the seats of all readers, which have found nothing that doesn't fit.
+fn leave_readers<N: Named, H: Ledger>(
+    rt: &impl Abort,
+    readers: Vec<Reader<N, H>>,
+    seats: &mut Vec<Seat<N, H>>,
+) -> Result<(), AllocError> {
     for reader in readers {
         assert!(rt; reader.fits);
         seats.push(reader.seat)?;
     }
-    let closed = engine.close(rt, alloc, seats).map_err(|_| "close")?;
-    agree(rt, alloc, &closed, &lines)
+    Ok(())
 }
 
 // Writers at the first seats, readers at the others.

@@ -1,16 +1,17 @@
-//! Engines that are to be opened, and what is put from their seats.
+//! Engines that are opened and closed, and what is put from their seats.
 ghost use Rattle.std.specs.Prelude.{◌≡◌, IfOk};
+ghost use Rattle.std.specs.Arc.{arc_value};
+ghost use Rattle.locked_engine.specs.Opened.{NamesEngine};
 
-use crate::batches::{Cells, batch, cells_of};
-use batch_store::Setup;
-use hyper_matrix::Hyper;
+use crate::batches::{Cells, batch};
+use batch_store::{Batch, Setup};
 use locked_engine::{Engine, Named, Names, OpenFault, PutFault, Seat};
 use plain_engine::PlainEngine;
 use std::alloc::{AllocError, Global};
 use std::process::Abort;
 use std::random::RandomSource;
-use std::sync::Wait;
 use std::sync::ledger::Ledger;
+use std::sync::{Arc, Wait};
 use std::test::Fail;
 
 /// The place and the total of a kept reply, or why there is none.
@@ -36,6 +37,50 @@ pub fn unopened<R: RandomSource>(
     }
 }
 
+/// The engine of several threads that has these names, and its seats.
+pub fn opened<N: Named, H: Ledger>(
+    alloc: Global,
+    plain: PlainEngine,
+    names: Names,
+) -> Result<(Engine<N, H>, Vec<Seat<N, H>>), Fail>
+    requires named { NamesEngine names N.setup N.seats N.name N.parts H.name H.parts }
+    requires made_from { plain.setup ≡ names.setup }
+{
+    match Engine::<N, H>::open(alloc, plain, names) {
+        Ok(opened) => Ok(opened),
+        Err(_) => Err("open".into()),
+    }
+}
+
+/// The engine of one thread again, with all seats given back.
+pub fn closed<N: Named, H: Ledger, R>(
+    rt: &R,
+    alloc: Global,
+    engine: Engine<N, H>,
+    seats: Vec<Seat<N, H>>,
+) -> Result<PlainEngine, Fail> {
+    match engine.close(rt, alloc, seats) {
+        Ok(closed) => Ok(closed),
+        Err(_) => Err("close".into()),
+    }
+}
+
+fn answered<N: Named, H: Ledger, R: Wait>(
+    rt: &R,
+    alloc: Global,
+    engine: &Engine<N, H>,
+    seat: &mut Seat<N, H>,
+    b: Arc<Batch>,
+) -> Answer
+    requires rows { (arc_value b).matrix.rows ≡ N.setup.rows }
+    requires cols { (arc_value b).matrix.cols ≡ N.setup.cols }
+{
+    match engine.put(rt, alloc, seat, b) {
+        Ok(kept) => Ok((kept.index, kept.total_after)),
+        Err(fault) => Err(fault),
+    }
+}
+
 /// Puts the batch of these cells.
 pub fn put<N: Named, H: Ledger, R: Wait>(
     rt: &R,
@@ -47,10 +92,7 @@ pub fn put<N: Named, H: Ledger, R: Wait>(
 ) -> Result<Answer, AllocError> {
     let setup = engine.setup();
     let b = batch(alloc, &setup, pair.0, pair.1, cells)?;
-    match engine.put(rt, alloc, seat, b) {
-        Ok(kept) => Ok(Ok((kept.index, kept.total_after))),
-        Err(fault) => Ok(Err(fault)),
-    }
+    Ok(answered(rt, alloc, engine, seat, b))
 }
 
 /// Puts the batches of a table, and compares each answer.
@@ -66,21 +108,4 @@ pub fn put_all<N: Named, H: Ledger, R: Wait + Abort>(
         assert_eq!(rt; answer, *expected);
     }
     Ok(())
-}
-
-/// Whether a matrix has the cells of a table.
-pub fn has_cells(
-    alloc: Global,
-    sum: &Hyper,
-    table: &[(u64, u64, u64)],
-) -> Result<bool, AllocError> {
-    let cells = sum.cells(alloc)?;
-    let expected = cells_of(alloc, table)?;
-    Ok(cells.as_slice() == expected.as_slice())
-}
-
-/// The number of a shard, its total, and the number of batches in its record.
-pub fn sizes(engine: &PlainEngine, s: u64) -> Option<(u64, u64, u64)> {
-    let shard = engine.shard(s)?;
-    Some((shard.number(), shard.total(), shard.record_len()))
 }

@@ -2,10 +2,11 @@
 ghost use Rattle.std.specs.Prelude.{◌≡◌};
 ghost use Rattle.locked_engine.specs.Opened.{NamesEngine};
 
-use crate::opened::{Step, put_all, sizes, unopened};
+use crate::expected::{expect_closed, expect_count, expect_status};
+use crate::opened::{Step, closed, opened, put_all, unopened};
 use batch_store::Setup;
 use locked_engine::PutFault::{BookFull, NumberReused, OverTotal};
-use locked_engine::{Engine, Named, Names, Status};
+use locked_engine::{Engine, Named, Names, Seat};
 use plain_engine::PlainEngine;
 use std::alloc::Global;
 use std::marker::Brand;
@@ -14,15 +15,13 @@ use std::sync::Wait;
 use std::sync::ledger::Ledger;
 use std::test::Fail;
 
-// What is put, and what is then in shard 0 and in shard 1: the number, the total and the length of the record.
+// What is put, what is then accepted, and of shard 0 and of shard 1 the number, the total and the length of the record.
 #[derive(Clone, Copy)]
 struct Case {
     most: u64,
     steps: &'static [Step],
-    batches: u64,
-    total: u64,
-    first: (u64, u64, u64),
-    second: (u64, u64, u64),
+    accepted: (u64, u64),
+    shards: [(u64, u64, u64); 2],
 }
 
 static CASES: &[Case] = &[
@@ -35,10 +34,8 @@ static CASES: &[Case] = &[
             (7, 1, &[(0, 0, 5)], Ok((0, 5))),
             (7, 1, &[(0, 0, 6)], Err(NumberReused)),
         ],
-        batches: 2,
-        total: 8,
-        first: (0, 8, 2),
-        second: (1, 0, 0),
+        accepted: (2, 8),
+        shards: [(0, 8, 2), (1, 0, 0)],
     },
     // The limit is kept exactly, and a repeat counts no more.
     Case {
@@ -50,10 +47,8 @@ static CASES: &[Case] = &[
             (9, 1, &[(0, 0, 0)], Ok((2, 100))),
             (7, 1, &[(0, 0, 90)], Ok((0, 90))),
         ],
-        batches: 3,
-        total: 100,
-        first: (0, 90, 2),
-        second: (1, 10, 1),
+        accepted: (3, 100),
+        shards: [(0, 90, 2), (1, 10, 1)],
     },
     // A batch of no entries concerns no shard; a stored zero concerns its own.
     Case {
@@ -63,10 +58,8 @@ static CASES: &[Case] = &[
             (9, 1, &[], Ok((0, 0))),
             (9, 2, &[(1, 1, 0), (2, 2, 0)], Ok((1, 0))),
         ],
-        batches: 2,
-        total: 0,
-        first: (0, 0, 1),
-        second: (1, 0, 1),
+        accepted: (2, 0),
+        shards: [(0, 0, 1), (1, 0, 1)],
     },
     // A full book: what is known and what is over the limit is told first.
     Case {
@@ -78,10 +71,8 @@ static CASES: &[Case] = &[
             (7, 1, &[(0, 0, 5)], Ok((0, 5))),
             (7, 1, &[(0, 0, 101)], Err(NumberReused)),
         ],
-        batches: 1,
-        total: 5,
-        first: (0, 5, 1),
-        second: (1, 0, 0),
+        accepted: (1, 5),
+        shards: [(0, 5, 1), (1, 0, 0)],
     },
 ];
 
@@ -105,22 +96,25 @@ fn put_case<N: Named, H: Ledger, R: Wait + Abort>(
     requires named { NamesEngine names N.setup N.seats N.name N.parts H.name H.parts }
     requires made_from { plain.setup ≡ names.setup }
 {
-    let (engine, mut seats) = Engine::<N, H>::open(alloc, plain, names).map_err(|_| "open")?;
-    let mut seat = seats.pop().ok_or("no seat")?;
-    put_all(rt, alloc, &engine, &mut seat, case.steps)?;
-    let status = Status {
-        batches: case.batches,
-        total: case.total,
-    };
-    assert_eq!(rt; engine.status(rt, &mut seat), status);
-    let list = engine.batch_list(rt, alloc, &mut seat)?;
-    assert_eq!(rt; list.len() as u64, case.batches);
-    seats.push(seat)?;
-    let closed = engine.close(rt, alloc, seats).map_err(|_| "close")?;
-    assert_eq!(rt; closed.status(), status);
-    assert_eq!(rt;
-        (sizes(&closed, 0), sizes(&closed, 1)),
-        (Some(case.first), Some(case.second))
-    );
+    let (engine, mut seats) = opened::<N, H>(alloc, plain, names)?;
+    put_steps(rt, alloc, &engine, &mut seats, &case)?;
+    let closed = closed(rt, alloc, engine, seats)?;
+    expect_closed(rt, &closed, case.accepted, &case.shards);
+    Ok(())
+}
+
+// Puts the batches of a case from the first seat.
+fn put_steps<N: Named, H: Ledger, R: Wait + Abort>(
+    rt: &R,
+    alloc: Global,
+    engine: &Engine<N, H>,
+    seats: &mut [Seat<N, H>],
+    case: &Case,
+) -> Result<(), Fail> {
+    let seat = seats.first_mut().ok_or("no seat")?;
+    put_all(rt, alloc, engine, seat, case.steps)?;
+    let (batches, total) = case.accepted;
+    expect_status(rt, engine, seat, batches, total);
+    expect_count(rt, alloc, engine, seat, batches)?;
     Ok(())
 }

@@ -4,7 +4,8 @@ ghost use Rattle.std.specs.Prelude.{◌≡◌};
 ghost use Rattle.locked_engine.specs.Opened.{NamesEngine};
 
 use crate::batches::{Cells, small_setup};
-use crate::opened::{Answer, has_cells, put, sizes, unopened};
+use crate::expected::{expect_closed, expect_counts, expect_status, has_cells};
+use crate::opened::{Answer, closed, opened, put, unopened};
 use locked_engine::{CloseFault, Engine, Named, Names, PutFault, Seat};
 use plain_engine::PlainEngine;
 use std::alloc::{AllocError, Global};
@@ -82,10 +83,7 @@ fn opened_at_last<N: Named, H: Ledger>(
 {
     match Engine::<N, H>::open(alloc, plain, names) {
         Ok(opened) => Ok(opened),
-        Err((plain, names, AllocError)) => {
-            let opened = Engine::<N, H>::open(alloc, plain, names).map_err(|_| "open")?;
-            Ok(opened)
-        }
+        Err((plain, names, AllocError)) => opened(alloc, plain, names),
     }
 }
 
@@ -98,10 +96,7 @@ fn closed_at_last<N: Named, H: Ledger, R>(
 ) -> Result<PlainEngine, Fail> {
     match engine.close(rt, alloc, seats) {
         Ok(plain) => Ok(plain),
-        Err(CloseFault::Memory { engine, seats }) => {
-            let plain = engine.close(rt, alloc, seats).map_err(|_| "close")?;
-            Ok(plain)
-        }
+        Err(CloseFault::Memory { engine, seats }) => closed(rt, alloc, engine, seats),
         Err(_) => Err("records differ".into()),
     }
 }
@@ -122,26 +117,43 @@ fn refused_and_again<N: Named, H: Ledger, R: Wait + Abort>(
     requires made_from { plain.setup ≡ names.setup }
 {
     let (engine, mut seats) = opened_at_last::<N, H>(alloc, plain, names)?;
-    let mut seat = seats.pop().ok_or("no seat")?;
-    let answer = put_at_last(rt, alloc, &engine, &mut seat)?;
+    let seat = seats.first_mut().ok_or("no seat")?;
+    put_twice(rt, alloc, &engine, seat)?;
+    read_at_last(rt, alloc, &engine, seat)?;
+    let closed = closed_at_last(rt, alloc, engine, seats)?;
+    expect_closed(rt, &closed, (1, 9), &[(0, 5, 1), (1, 4, 1)]);
+    Ok(())
+}
+
+// Puts the batch, and then its repeat.
+fn put_twice<N: Named, H: Ledger, R: Wait + Abort>(
+    rt: &R,
+    alloc: Global,
+    engine: &Engine<N, H>,
+    seat: &mut Seat<N, H>,
+) -> Result<(), Fail> {
+    let answer = put_at_last(rt, alloc, engine, seat)?;
     assert_eq!(rt; answer, Ok((0, 9)));
     // A repeat takes no memory but the batch's own.
-    let again = put(rt, alloc, &engine, &mut seat, (7, 1), BOTH)?;
+    let again = put(rt, alloc, engine, seat, (7, 1), BOTH)?;
     assert_eq!(rt; again, Ok((0, 9)));
-    assert_eq!(rt;
-        (engine.cell(rt, 0, 0), engine.cell(rt, 1, 0)),
-        (Some(5), Some(4))
-    );
-    assert!(rt; exported_at_last(rt, alloc, &engine)?);
-    assert_eq!(rt; listed_at_last(rt, alloc, &engine, &mut seat)?, 1);
-    let status = engine.status(rt, &mut seat);
-    assert_eq!(rt; (status.batches, status.total), (1, 9));
-    seats.push(seat)?;
-    let closed = closed_at_last(rt, alloc, engine, seats)?;
-    assert_eq!(rt; closed.status(), status);
-    assert_eq!(rt;
-        (sizes(&closed, 0), sizes(&closed, 1)),
-        (Some((0, 5, 1)), Some((1, 4, 1)))
-    );
+    Ok(())
+}
+
+static COUNTS: &[(u64, u64, Option<u64>)] = &[(0, 0, Some(5)), (1, 0, Some(4))];
+
+// All that a seat reads once the batch was put.
+fn read_at_last<N: Named, H: Ledger, R: Wait + Abort>(
+    rt: &R,
+    alloc: Global,
+    engine: &Engine<N, H>,
+    seat: &mut Seat<N, H>,
+) -> Result<(), AllocError> {
+    expect_counts(rt, engine, COUNTS);
+    let exported = exported_at_last(rt, alloc, engine)?;
+    assert!(rt; exported);
+    let listed = listed_at_last(rt, alloc, engine, seat)?;
+    assert_eq!(rt; listed, 1);
+    expect_status(rt, engine, seat, 1, 9);
     Ok(())
 }

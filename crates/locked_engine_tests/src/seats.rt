@@ -3,9 +3,9 @@ ghost use Rattle.std.specs.Prelude.{◌≡◌};
 ghost use Rattle.locked_engine.specs.Opened.{NamesEngine};
 
 use crate::batches::small_setup;
-use crate::opened::{put, unopened};
+use crate::opened::{Answer, closed, opened, put, unopened};
 use locked_engine::PutFault::OverTotal;
-use locked_engine::{CloseFault, Engine, Named, Names, OpenFault};
+use locked_engine::{CloseFault, Engine, Named, Names, OpenFault, Seat};
 use plain_engine::PlainEngine;
 use std::alloc::Global;
 use std::marker::Brand;
@@ -42,7 +42,12 @@ fn two_threads_share_the_limit(rt: HostRuntime) -> Result<(), Fail> {
 
 static SIXTY: &[(u64, u64, u64)] = &[(0, 0, 40), (1, 0, 20)];
 
-// Two threads put sixty each, within a limit of 100: one of them is refused. A seat that is kept back is missed.
+// A batch within the limit of 100, and a second one that would pass it.
+const ACCEPTED: Answer = Ok((0, 60));
+
+const REFUSED: Answer = Err(OverTotal { accepted: 60 });
+
+// Two threads put sixty each: one of them is refused. A seat that is kept back is missed.
 fn put_sixty_twice<
     N: Named + Send + Sync,
     H: Ledger + Send + Sync,
@@ -51,29 +56,62 @@ fn put_sixty_twice<
     requires named { NamesEngine names N.setup N.seats N.name N.parts H.name H.parts }
     requires made_from { plain.setup ≡ names.setup }
 {
-    let (engine, mut seats) = Engine::<N, H>::open(alloc, plain, names).map_err(|_| "open")?;
+    let (engine, mut seats) = opened::<N, H>(alloc, plain, names)?;
+    put_from_both(rt, alloc, &engine, &mut seats)?;
+    let second = seats.pop().ok_or("no second seat")?;
+    close_at_last(rt, alloc, engine, seats, second)
+}
+
+fn put_from_both<N: Named + Send + Sync, H: Ledger + Send + Sync, R: Threads + Wait + Abort + Sync>(
+    rt: &R,
+    alloc: Global,
+    engine: &Engine<N, H>,
+    seats: &mut [Seat<N, H>],
+) -> Result<(), Fail> {
     assert_eq!(rt; (engine.seat_count(), seats.len()), (2, 2));
-    let mut second = seats.pop().ok_or("no second seat")?;
-    let mut first = seats.pop().ok_or("no first seat")?;
+    let (first, others) = seats.split_first_mut().ok_or("no first seat")?;
+    let second = others.first_mut().ok_or("no second seat")?;
     assert_eq!(rt; (first.number(), second.number()), (0, 1));
-    let shared = &engine;
-    let (a, b) = thread::join(
+    let (a, b) = put_at_once(rt, alloc, engine, first, second);
+    expect_one_accepted(rt, a, b);
+    Ok(())
+}
+
+fn expect_one_accepted(rt: &impl Abort, a: Option<Answer>, b: Option<Answer>) {
+    let one = a == Some(ACCEPTED) && b == Some(REFUSED);
+    let other = a == Some(REFUSED) && b == Some(ACCEPTED);
+    assert!(rt; one || other);
+}
+
+// What each of two threads is answered, None where there was no memory for a batch.
+fn put_at_once<N: Named + Send + Sync, H: Ledger + Send + Sync, R: Threads + Wait + Sync>(
+    rt: &R,
+    alloc: Global,
+    engine: &Engine<N, H>,
+    first: &mut Seat<N, H>,
+    second: &mut Seat<N, H>,
+) -> (Option<Answer>, Option<Answer>) {
+    thread::join(
         rt,
-        || put(rt, alloc, shared, &mut first, (7, 1), SIXTY).ok(),
-        || put(rt, alloc, shared, &mut second, (8, 1), SIXTY).ok(),
-    );
-    let accepted = Some(Ok((0, 60)));
-    let refused = Some(Err(OverTotal { accepted: 60 }));
-    assert!(rt; (a == accepted && b == refused) || (a == refused && b == accepted));
-    seats.push(first)?;
-    match engine.close(rt, alloc, seats) {
-        Err(CloseFault::SeatsMissing { engine, mut seats }) => {
-            assert_eq!(rt; seats.len(), 1);
-            seats.push(second)?;
-            let closed = engine.close(rt, alloc, seats).map_err(|_| "close")?;
-            assert_eq!(rt; closed.status().total, 60);
-            Ok(())
-        }
-        _ => Err("a seat is missing".into()),
-    }
+        || put(rt, alloc, engine, first, (7, 1), SIXTY).ok(),
+        || put(rt, alloc, engine, second, (8, 1), SIXTY).ok(),
+    )
+}
+
+// Closes an engine without its second seat, and then with it.
+fn close_at_last<N: Named, H: Ledger, R: Abort>(
+    rt: &R,
+    alloc: Global,
+    engine: Engine<N, H>,
+    seats: Vec<Seat<N, H>>,
+    second: Seat<N, H>,
+) -> Result<(), Fail> {
+    let Err(CloseFault::SeatsMissing { engine, mut seats }) = engine.close(rt, alloc, seats) else {
+        return Err("a seat is missing".into());
+    };
+    assert_eq!(rt; seats.len(), 1);
+    seats.push(second)?;
+    let closed = closed(rt, alloc, engine, seats)?;
+    assert_eq!(rt; closed.status().total, 60);
+    Ok(())
 }

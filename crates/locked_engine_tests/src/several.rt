@@ -2,12 +2,13 @@
 ghost use Rattle.std.specs.Prelude.{◌≡◌};
 ghost use Rattle.locked_engine.specs.Opened.{NamesEngine};
 
-use crate::batches::{Cells, cells_of, small_setup};
-use crate::opened::{has_cells, put, unopened};
+use crate::batches::{Cells, small_setup};
+use crate::expected::{expect_batch, expect_counts, expect_export, expect_row, expect_status};
+use crate::opened::{Answer, closed, opened, put, put_all, unopened};
 use batch_store::Batch;
 use locked_engine::{Engine, Named, Names, Seat};
 use plain_engine::PlainEngine;
-use std::alloc::{AllocError, Global};
+use std::alloc::Global;
 use std::marker::Brand;
 use std::process::Abort;
 use std::sync::atomic::{AtomicU64, Ordering};
@@ -21,15 +22,19 @@ use std::time::{Clock, Duration};
 // The most turns that a thread waits, each a sleep of one millisecond.
 const MOST_TURNS: u64 = 10_000;
 
-// Whether a flag came to have a value.
+// Waits until a flag has a value, and tells whether it came to have it.
 fn comes_to(clock: &impl Clock, flag: &AtomicU64, wanted: u64) -> bool {
     for _ in 0..MOST_TURNS {
         if flag.load(Ordering::SeqCst) == wanted {
             return true;
         }
-        thread::sleep(clock, Duration::from_millis(1));
+        pause(clock);
     }
     false
+}
+
+fn pause(clock: &impl Clock) {
+    thread::sleep(clock, Duration::from_millis(1));
 }
 
 const HELD: u64 = 1;
@@ -53,29 +58,53 @@ fn put_beside_a_look<
     requires named { NamesEngine names N.setup N.seats N.name N.parts H.name H.parts }
     requires made_from { plain.setup ≡ names.setup }
 {
-    let (engine, mut seats) = Engine::<N, H>::open(alloc, plain, names).map_err(|_| "open")?;
-    let mut seat = seats.pop().ok_or("no seat")?;
-    let shared = &engine;
-    let flag = &AtomicU64::new(0);
-    let (looked, answer) = thread::join(
-        rt,
-        || {
-            shared.look(rt, 0, |_shard| {
-                flag.store(HELD, Ordering::SeqCst);
-                comes_to(rt, flag, ANSWERED)
-            })
-        },
-        || {
-            comes_to(rt, flag, HELD);
-            let answer = put(rt, alloc, shared, &mut seat, (7, 1), IN_SHARD_1).ok();
-            flag.store(ANSWERED, Ordering::SeqCst);
-            answer
-        },
-    );
+    let (engine, mut seats) = opened::<N, H>(alloc, plain, names)?;
+    let seat = seats.last_mut().ok_or("no seat")?;
+    let (looked, answer) = look_and_put(rt, alloc, &engine, seat);
     assert_eq!(rt; (looked, answer), (Some(true), Some(Ok((0, 4)))));
-    let sum = engine.export(rt, alloc)?;
-    assert!(rt; has_cells(alloc, &sum, IN_SHARD_1)?);
+    expect_export(rt, alloc, &engine, IN_SHARD_1)?;
     Ok(())
+}
+
+// Whether the put was answered while the shard was held, and what.
+fn look_and_put<N: Named + Send + Sync, H: Ledger + Send + Sync, R: Threads + Wait + Clock + Sync>(
+    rt: &R,
+    alloc: Global,
+    engine: &Engine<N, H>,
+    seat: &mut Seat<N, H>,
+) -> (Option<bool>, Option<Answer>) {
+    let flag = AtomicU64::new(0);
+    thread::join(
+        rt,
+        || hold_shard_0(rt, engine, &flag),
+        || put_into_shard_1(rt, alloc, engine, seat, &flag),
+    )
+}
+
+fn hold_shard_0<N: Named, H: Ledger, R: Wait + Clock>(
+    rt: &R,
+    engine: &Engine<N, H>,
+    flag: &AtomicU64,
+) -> Option<bool> {
+    // Any call on a setup tells that there is a shard 0.
+    let _shards = engine.setup().shards();
+    engine.look(rt, 0, |_shard| {
+        flag.store(HELD, Ordering::SeqCst);
+        comes_to(rt, flag, ANSWERED)
+    })
+}
+
+fn put_into_shard_1<N: Named, H: Ledger, R: Wait + Clock>(
+    rt: &R,
+    alloc: Global,
+    engine: &Engine<N, H>,
+    seat: &mut Seat<N, H>,
+    flag: &AtomicU64,
+) -> Option<Answer> {
+    let _held = comes_to(rt, flag, HELD);
+    let answer = put(rt, alloc, engine, seat, (7, 1), IN_SHARD_1).ok();
+    flag.store(ANSWERED, Ordering::SeqCst);
+    answer
 }
 
 static FIRST: Cells = &[(0, 0, 5)];
@@ -90,16 +119,14 @@ fn seats_read_what_was_put(rt: HostRuntime) -> Result<(), Fail> {
     put_by_both::<Brand, Brand, _>(&rt, rt.alloc(), plain, names)
 }
 
-// Whether these are the two batches, each with its cells.
-fn are_both(alloc: Global, list: &[Arc<Batch>]) -> Result<bool, AllocError> {
-    match list {
-        [a, b] => Ok(
-            (a.client, a.number, b.client, b.number) == (7, 1, 8, 1)
-                && has_cells(alloc, &a.matrix, FIRST)?
-                && has_cells(alloc, &b.matrix, SECOND)?,
-        ),
-        _ => Ok(false),
-    }
+// These are the two batches, each with its cells.
+fn expect_both(rt: &impl Abort, alloc: Global, list: &[Arc<Batch>]) -> Result<(), Fail> {
+    let [first, second] = list else {
+        return Err("not two batches".into());
+    };
+    expect_batch(rt, alloc, first, (7, 1), FIRST)?;
+    expect_batch(rt, alloc, second, (8, 1), SECOND)?;
+    Ok(())
 }
 
 fn put_by_both<N: Named + Send + Sync, H: Ledger + Send + Sync, R: Threads + Wait + Abort + Sync>(
@@ -111,32 +138,60 @@ fn put_by_both<N: Named + Send + Sync, H: Ledger + Send + Sync, R: Threads + Wai
     requires named { NamesEngine names N.setup N.seats N.name N.parts H.name H.parts }
     requires made_from { plain.setup ≡ names.setup }
 {
-    let (engine, mut seats) = Engine::<N, H>::open(alloc, plain, names).map_err(|_| "open")?;
-    let mut second = seats.pop().ok_or("no second seat")?;
-    let mut first = seats.pop().ok_or("no first seat")?;
-    let answer = put(rt, alloc, &engine, &mut first, (7, 1), FIRST)?;
-    assert_eq!(rt; answer, Ok((0, 5)));
-    let status = engine.status(rt, &mut first);
-    assert_eq!(rt;
-        (status.batches, status.total, engine.cell(rt, 0, 0)),
-        (1, 5, Some(5))
-    );
-    let shared = &engine;
+    let (engine, mut seats) = opened::<N, H>(alloc, plain, names)?;
+    put_and_read(rt, alloc, &engine, &mut seats)?;
+    let closed = closed(rt, alloc, engine, seats)?;
+    let list = closed.batches(alloc)?;
+    expect_both(rt, alloc, &list)
+}
+
+fn put_and_read<N: Named + Send + Sync, H: Ledger + Send + Sync, R: Threads + Wait + Abort + Sync>(
+    rt: &R,
+    alloc: Global,
+    engine: &Engine<N, H>,
+    seats: &mut [Seat<N, H>],
+) -> Result<(), Fail> {
+    let (first, others) = seats.split_first_mut().ok_or("no first seat")?;
+    let second = others.first_mut().ok_or("no second seat")?;
+    put_first(rt, alloc, engine, first)?;
+    put_second(rt, alloc, engine, second);
+    read_both(rt, alloc, engine, first)?;
+    read_both(rt, alloc, engine, second)
+}
+
+fn put_first<N: Named, H: Ledger, R: Wait + Abort>(
+    rt: &R,
+    alloc: Global,
+    engine: &Engine<N, H>,
+    seat: &mut Seat<N, H>,
+) -> Result<(), Fail> {
+    put_all(rt, alloc, engine, seat, &[(7, 1, FIRST, Ok((0, 5)))])?;
+    expect_status(rt, engine, seat, 1, 5);
+    expect_counts(rt, engine, &[(0, 0, Some(5))]);
+    Ok(())
+}
+
+// Puts the second batch from a thread of its own.
+fn put_second<N: Named + Send + Sync, H: Ledger + Send + Sync, R: Threads + Wait + Abort + Sync>(
+    rt: &R,
+    alloc: Global,
+    engine: &Engine<N, H>,
+    seat: &mut Seat<N, H>,
+) {
     let (answer, ()) = thread::join(
         rt,
-        || put(rt, alloc, shared, &mut second, (8, 1), SECOND).ok(),
+        || put(rt, alloc, engine, seat, (8, 1), SECOND).ok(),
         || {},
     );
     assert_eq!(rt; answer, Some(Ok((1, 12))));
-    read_both(rt, alloc, &engine, &mut first)?;
-    read_both(rt, alloc, &engine, &mut second)?;
-    seats.push(first)?;
-    seats.push(second)?;
-    let closed = engine.close(rt, alloc, seats).map_err(|_| "close")?;
-    let list = closed.batches(alloc)?;
-    assert!(rt; are_both(alloc, &list)?);
-    Ok(())
 }
+
+static COUNTS: &[(u64, u64, Option<u64>)] = &[
+    (0, 1, Some(3)),
+    (0, 2, None),
+    (3, 0, None),
+    (0, 3, None),
+];
 
 // What a seat reads of the two batches.
 fn read_both<N: Named, H: Ledger, R: Wait + Abort>(
@@ -145,23 +200,20 @@ fn read_both<N: Named, H: Ledger, R: Wait + Abort>(
     engine: &Engine<N, H>,
     seat: &mut Seat<N, H>,
 ) -> Result<(), Fail> {
-    let status = engine.status(rt, seat);
-    assert_eq!(rt; (status.batches, status.total), (2, 12));
-    let places = [
-        engine.cell(rt, 0, 1),
-        engine.cell(rt, 0, 2),
-        engine.cell(rt, 3, 0),
-        engine.cell(rt, 0, 3),
-    ];
-    assert_eq!(rt; places, [Some(3), None, None, None]);
-    let (row, outside) = (engine.row(rt, 0), engine.row(rt, 3));
-    assert_eq!(rt;
-        (row.entries, row.total, outside.entries, outside.total),
-        (2, 8, 0, 0)
-    );
-    let sum = engine.export(rt, alloc)?;
-    assert!(rt; has_cells(alloc, &sum, SUM)?);
+    expect_status(rt, engine, seat, 2, 12);
+    expect_counts(rt, engine, COUNTS);
+    expect_row(rt, engine, 0, 2, 8);
+    expect_row(rt, engine, 3, 0, 0);
+    expect_export(rt, alloc, engine, SUM)?;
+    list_both(rt, alloc, engine, seat)
+}
+
+fn list_both<N: Named, H: Ledger, R: Wait + Abort>(
+    rt: &R,
+    alloc: Global,
+    engine: &Engine<N, H>,
+    seat: &mut Seat<N, H>,
+) -> Result<(), Fail> {
     let list = engine.batch_list(rt, alloc, seat)?;
-    assert!(rt; are_both(alloc, &list)?);
-    Ok(())
+    expect_both(rt, alloc, &list)
 }
