@@ -1,5 +1,6 @@
 //! The engine that a server starts with.
-ghost use Rattle.std.specs.Prelude.{◌≡◌, ◌↔◌, IfOk, true};
+ghost use Rattle.std.specs.Prelude.{◌≡◌, IfOk, IfErr, true};
+ghost use Rattle.socket_server.specs.Faults.{IsMet};
 
 use crate::fault::ServerFault;
 use crate::host::Host;
@@ -28,7 +29,8 @@ fn empty_engine<R: RandomSource>(
     alloc: Global,
     setup: Setup,
 ) -> Result<PlainEngine, ServerFault>
-    ensures { IfOk result (λ e. e.setup ≡ setup) }
+    ensures setup { IfOk result (λ e. e.setup ≡ setup) }
+    ensures met { IfErr result IsMet }
 {
     match PlainEngine::new(rt, alloc, setup) {
         Ok(plain) => Ok(plain),
@@ -43,7 +45,8 @@ fn engine_of<R: RandomSource>(
     setup: Setup,
     snapshot: Snapshot,
 ) -> Result<PlainEngine, ServerFault>
-    ensures { IfOk result (λ e. e.setup ≡ setup) }
+    ensures setup { IfOk result (λ e. e.setup ≡ setup) }
+    ensures met { IfErr result IsMet }
 {
     let Snapshot {
         setup: saved,
@@ -66,7 +69,8 @@ pub fn starting_engine<R: Host + RandomSource>(
     setup: Setup,
     path: &Option<String>,
 ) -> Result<PlainEngine, ServerFault>
-    ensures { IfOk result (λ e. e.setup ≡ setup) }
+    ensures setup { IfOk result (λ e. e.setup ≡ setup) }
+    ensures met { IfErr result IsMet }
 {
     let Some(path) = path else {
         return empty_engine(rt, alloc, setup);
