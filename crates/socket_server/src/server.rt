@@ -1,15 +1,16 @@
 //! The server, from its settings to its last line.
-ghost use Rattle.std.specs.Prelude.{◌≡◌, ◌+◌, ◌<◌, ◌≤◌, ◌^◌, List, None, Err, IfOk, OnOk};
+ghost use Rattle.std.specs.Prelude.{◌≡◌, ◌+◌, ◌<◌, ◌≤◌, ◌^◌, ◌↔◌, ◌⊎◌, List, None, Err, IfOk, IfErr, OnOk};
 ghost use Rattle.batch_store.specs.Batches.{Submission};
 ghost use Rattle.batch_store.specs.Books.{AreAccepted};
 ghost use Rattle.plain_engine.specs.Object.{status_of};
 ghost use Rattle.locked_engine.specs.Opened.{NamesEngine};
+ghost use Rattle.socket_server.specs.Faults.{IsMet};
 
 use crate::fault::ServerFault;
 use crate::host::Host;
 use crate::numbers::SessionNumbers;
 use crate::serving::{Doors, close_all, serve_doors};
-use crate::settings::{MOST_WORKERS, Settings};
+use crate::settings::Settings;
 use crate::start::starting_engine;
 use crate::stop::StopGate;
 use byte_io::{Sink, WriteFault, write_all};
@@ -38,7 +39,8 @@ struct Plan {
 // Writes a line, and counts its bytes.
 fn tell<W: Sink>(out: &mut W, written: &mut u128, line: &str) -> Result<(), ServerFault>
     requires { W.failure_count out.old + 1 < 2 ^ 64 }
-    ensures { OnOk result (W.failure_count out.new ≡ W.failure_count out.old) }
+    ensures failures { OnOk result (W.failure_count out.new ≡ W.failure_count out.old) }
+    ensures met { IfErr result IsMet }
 {
     match write_all(out, line.as_bytes()) {
         Ok(()) => {
@@ -60,7 +62,8 @@ fn bind_tcp<R: Net<Listener = TcpListener, Stream = TcpStream>, W: Sink>(
     written: &mut u128,
 ) -> Result<Option<TcpListener>, ServerFault>
     requires { W.failure_count out.old + 1 < 2 ^ 64 }
-    ensures { OnOk result (W.failure_count out.new ≡ W.failure_count out.old) }
+    ensures failures { OnOk result (W.failure_count out.new ≡ W.failure_count out.old) }
+    ensures met { IfErr result IsMet }
 {
     let Some(address) = address else {
         return Ok(None);
@@ -94,7 +97,8 @@ fn serve_bound<
     sessions: u64,
     saver: &Saver,
 ) -> Result<Status, ServerFault>
-    ensures { IfOk result (λ s. (list : List Submission) × AreAccepted N.setup list × (s ≡ status_of list)) }
+    ensures status { IfOk result (λ s. (list : List Submission) × AreAccepted N.setup list × (s ≡ status_of list)) }
+    ensures met { IfErr result IsMet }
 {
     let own = match &tcp {
         Some(listener) => listener.local_addr().ok(),
@@ -137,6 +141,7 @@ fn serve_unix<
     requires { W.failure_count out.old + 1 < 2 ^ 64 }
     ensures failures { OnOk result (W.failure_count out.new ≡ W.failure_count out.old) }
     ensures status { IfOk result (λ s. (list : List Submission) × AreAccepted N.setup list × (s ≡ status_of list)) }
+    ensures met { IfErr result IsMet }
 {
     let Ok(own) = format!(in alloc; "{path}") else {
         return Err(ServerFault::Memory);
@@ -191,6 +196,7 @@ fn serve_named<
     requires made_from { plain.setup ≡ names.setup }
     ensures failures { OnOk result (W.failure_count out.new ≡ W.failure_count out.old) }
     ensures status { IfOk result (λ s. (list : List Submission) × AreAccepted names.setup list × (s ≡ status_of list)) }
+    ensures met { IfErr result IsMet }
 {
     let Ok((engine, seats)) = Engine::<N, H>::open(alloc, plain, names) else {
         return Err(ServerFault::Memory);
@@ -233,7 +239,8 @@ fn serve_plan<
 ) -> Result<Status, ServerFault>
     requires failures { W.failure_count out.old + 1 < 2 ^ 64 }
     requires workers { (1 ≤ workers) × (workers ≤ 32) }
-    ensures { IfOk result (λ s. (list : List Submission) × AreAccepted plain.setup list × (s ≡ status_of list)) }
+    ensures status { IfOk result (λ s. (list : List Submission) × AreAccepted plain.setup list × (s ≡ status_of list)) }
+    ensures met { IfErr result IsMet }
 {
     let Ok(names) = Names::new(rt, alloc, &plain, workers as usize) else {
         return Err(ServerFault::Memory);
@@ -256,6 +263,41 @@ fn serve_plan<
     };
     tell(out, &mut written, line.as_str())?;
     Ok(status)
+}
+
+// Serves as the settings say, which were judged.
+fn serve_settings<
+    R: Threads
+        + Wait
+        + Clock
+        + Disk
+        + Host
+        + RandomSource
+        + Net<Listener = TcpListener, Stream = TcpStream>
+        + Sync,
+    W: Sink,
+>(rt: &R, alloc: Global, settings: Settings, out: &mut W) -> Result<Status, ServerFault>
+    requires failures { W.failure_count out.old + 1 < 2 ^ 64 }
+    requires workers { (1 ≤ settings.workers) × (settings.workers ≤ 32) }
+    ensures status { IfOk result (λ s. (list : List Submission) × AreAccepted settings.setup list × (s ≡ status_of list)) }
+    ensures met { IfErr result IsMet }
+{
+    let Settings {
+        tcp,
+        unix,
+        setup,
+        workers,
+        snapshot,
+        sessions,
+    } = settings;
+    let plain = starting_engine(rt, alloc, setup, &snapshot)?;
+    let plan = Plan {
+        tcp,
+        unix,
+        sessions,
+        saver: Saver::new(snapshot),
+    };
+    serve_plan(rt, alloc, plain, workers, plan, out)
 }
 
 /// Serves at TCP and Unix addresses until a session ends with a Stop or all sessions were numbered, and answers what was
@@ -282,31 +324,13 @@ pub fn run_server<
     W: Sink,
 >(rt: &R, alloc: Global, settings: Settings, out: &mut W) -> Result<Status, ServerFault>
     requires { W.failure_count out.old + 1 < 2 ^ 64 }
-    ensures few { settings.workers < 1 → result ≡ Err ServerFault.BadWorkers }
-    ensures many { 32 < settings.workers → result ≡ Err ServerFault.BadWorkers }
-    ensures nowhere { 1 ≤ settings.workers → settings.workers ≤ 32 → settings.tcp ≡ None → settings.unix ≡ None → result ≡ Err ServerFault.NoAddress }
+    ensures workers { (result ≡ Err ServerFault.BadWorkers)
+        ↔ ((1 ≤ settings.workers) × (settings.workers ≤ 32) → ⊥) }
+    ensures nowhere { (result ≡ Err ServerFault.NoAddress)
+        ↔ ((1 ≤ settings.workers) × (settings.workers ≤ 32) × (settings.tcp ≡ None) × (settings.unix ≡ None)) }
+    ensures others { IfErr result (λ f. (f ≡ ServerFault.BadWorkers) ⊎ (f ≡ ServerFault.NoAddress) ⊎ IsMet f) }
     ensures status { IfOk result (λ s. (list : List Submission) × AreAccepted settings.setup list × (s ≡ status_of list)) }
 {
-    let Settings {
-        tcp,
-        unix,
-        setup,
-        workers,
-        snapshot,
-        sessions,
-    } = settings;
-    if workers < 1 || workers > MOST_WORKERS {
-        return Err(ServerFault::BadWorkers);
-    }
-    if tcp.is_none() && unix.is_none() {
-        return Err(ServerFault::NoAddress);
-    }
-    let plain = starting_engine(rt, alloc, setup, &snapshot)?;
-    let plan = Plan {
-        tcp,
-        unix,
-        sessions,
-        saver: Saver::new(snapshot),
-    };
-    serve_plan(rt, alloc, plain, workers, plan, out)
+    settings.judge()?;
+    serve_settings(rt, alloc, settings, out)
 }

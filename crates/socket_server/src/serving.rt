@@ -1,8 +1,9 @@
 //! Acceptors and workers at listeners that are bound, until all have ended, and the end of the engine.
-ghost use Rattle.std.specs.Prelude.{◌≡◌, List, length, IfOk};
+ghost use Rattle.std.specs.Prelude.{◌≡◌, List, length, IfOk, IfErr};
 ghost use Rattle.batch_store.specs.Batches.{Submission};
 ghost use Rattle.batch_store.specs.Books.{AreAccepted};
 ghost use Rattle.plain_engine.specs.Object.{status_of};
+ghost use Rattle.socket_server.specs.Faults.{IsMet};
 
 use crate::acceptor::{Outlet, SocketSession, start_acceptor};
 use crate::fault::ServerFault;
@@ -121,7 +122,9 @@ pub fn serve_doors<
     seats: &mut [Seat<N, H>],
     doors: &Doors,
     saver: &Saver,
-) -> Result<PoolReport, ServerFault> {
+) -> Result<PoolReport, ServerFault>
+    ensures { IfErr result IsMet }
+{
     let Ok(ends) = open_channel(alloc) else {
         return Err(ServerFault::Memory);
     };
@@ -138,7 +141,9 @@ fn save_plain<R: Wait + Disk>(
     alloc: Global,
     plain: &PlainEngine,
     saver: &Saver,
-) -> Result<(), ServerFault> {
+) -> Result<(), ServerFault>
+    ensures { IfErr result IsMet }
+{
     if saver.is_off() {
         return Ok(());
     }
@@ -160,7 +165,8 @@ pub fn close_all<N: Named, H: Ledger, R: Wait + Disk>(
     seats: Vec<Seat<N, H>>,
     saver: &Saver,
 ) -> Result<Status, ServerFault>
-    ensures { IfOk result (λ s. (list : List Submission) × AreAccepted N.setup list × (s ≡ status_of list)) }
+    ensures status { IfOk result (λ s. (list : List Submission) × AreAccepted N.setup list × (s ≡ status_of list)) }
+    ensures met { IfErr result IsMet }
 {
     match engine.close(rt, alloc, seats) {
         Ok(plain) => {

@@ -1,5 +1,7 @@
 //! What a server is to do.
+ghost use Rattle.std.specs.Prelude.{◌≡◌, ◌≤◌, ◌↔◌, None, Err, IfErr, OnOk, ◌⊎◌};
 
+use crate::fault::ServerFault;
 use batch_store::Setup;
 
 /// The most seats, and so workers, of an engine.
@@ -26,4 +28,23 @@ pub struct Settings {
     pub snapshot: Option<String>,
     /// After how many connections no further one is accepted.
     pub sessions: u64,
+}
+
+impl Settings {
+    /// Whether the number of workers is one that there may be, and then whether there is an address.
+    pub(crate) fn judge(&self) -> Result<(), ServerFault>
+        ensures workers { (result ≡ Err ServerFault.BadWorkers)
+            ↔ ((1 ≤ self.now.workers) × (self.now.workers ≤ 32) → ⊥) }
+        ensures address { (result ≡ Err ServerFault.NoAddress)
+            ↔ ((1 ≤ self.now.workers) × (self.now.workers ≤ 32) × (self.now.tcp ≡ None) × (self.now.unix ≡ None)) }
+        ensures others { IfErr result (λ f. (f ≡ ServerFault.BadWorkers) ⊎ (f ≡ ServerFault.NoAddress)) }
+    {
+        if self.workers < 1 || self.workers > MOST_WORKERS {
+            return Err(ServerFault::BadWorkers);
+        }
+        if self.tcp.is_none() && self.unix.is_none() {
+            return Err(ServerFault::NoAddress);
+        }
+        Ok(())
+    }
 }
