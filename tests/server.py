@@ -1,12 +1,14 @@
 #!/usr/bin/env python3
 """Starts the built program as a server, speaks to it over both sockets, and compares all that it answers.
 
-    python3 tests/server.py PATH-TO-HHM
+    python3 tests/server.py PATH-TO-HHM [--long]
 
 What is wanted was worked out by hand from docs/FORMATS.md. It prints a line for each check that fails and at the end
-`N passed, M failed`; the status is 1 where one fails. Linux, and nothing but Python's own library and the client of
-clients/python.
+`N passed, M failed`; the status is 1 where one fails. With `--long` there are fifty kills during saves, ten thousand
+connections in turn and five hundred at once, a million puts in one go, and, where it may mount one, a file system that
+is full: a minute or two. Linux, and nothing but Python's own library and the client of clients/python.
 """
+import contextlib
 import os
 import random
 import resource
@@ -83,6 +85,11 @@ class Server:
     def client(self, client=0, unix=True, **more):
         where = {"unix": self.path} if unix else {"tcp": self.tcp}
         return Client(client=client, rows=3, cols=3, timeout=WAIT, **where, **more)
+
+    def memory(self):
+        """The memory that is in use now, in bytes."""
+        with open(f"/proc/{self.process.pid}/statm") as file:
+            return int(file.read().split()[1]) * resource.getpagesize()
 
     def link(self, unix=True):
         """A connection without the client."""
@@ -413,13 +420,13 @@ def many_put_at_once():
         server.stop("many at once", 600, sum(sums.values()))
 
 
-def bad_clients_do_no_harm():
+def bad_clients_do_no_harm(turns):
     """Garbage, half frames, resets and clients that leave."""
     with Server(SMALL) as server:
         with server.client(7) as hhm:
             hhm.put(1, [(0, 0, 5)])
         chance = random.Random(3)
-        for turn in range(200):
+        for turn in range(turns):
             with server.link(turn % 2 == 0) as link:
                 link.sendall(chance.randbytes(chance.randrange(1, 300)))
                 if turn % 3 == 0:
@@ -432,23 +439,39 @@ def bad_clients_do_no_harm():
 
 
 def connections_come_and_go(turns, at_once):
-    """Many connections in turn, and many at once."""
+    """Many connections in turn, and many at once. Afterwards as much memory is in use as after the first few."""
     with Server([*SMALL, "--workers", "2"]) as server:
-        for turn in range(turns):
-            with server.client(7, turn % 2 == 0) as hhm:
-                if hhm.put(1, [(0, 0, 5)]) != (0, 5):
-                    check("in turn", "another reply", (0, 5))
         answers = []
 
-        def ask():
-            answers.append(server.talk([struct.pack(">IB", 0, 4)], False))
+        def in_turn(turns):
+            for turn in range(turns):
+                with server.client(7, turn % 2 == 0) as hhm:
+                    if hhm.put(1, [(0, 0, 5)]) != (0, 5):
+                        check("in turn", "another reply", (0, 5))
 
-        threads = [threading.Thread(target=ask) for _ in range(at_once)]
-        for thread in threads:
-            thread.start()
-        for thread in threads:
-            thread.join()
-        check("at once", answers.count(struct.pack(">IBQQ", 16, 0x84, 1, 5)), at_once)
+        def ask(start):
+            start.wait(WAIT)
+            # More than the system's queue holds may be reset by it: the client tries again.
+            with server.client(unix=False) as hhm:
+                answers.append(hhm.status())
+
+        def at_the_same_time(count):
+            start = threading.Barrier(count)
+            threads = [threading.Thread(target=ask, args=(start,)) for _ in range(count)]
+            for thread in threads:
+                thread.start()
+            for thread in threads:
+                thread.join()
+            check("at once", answers.count(Status(1, 5)), count)
+            answers.clear()
+
+        in_turn(10)
+        at_the_same_time(100)
+        before = server.memory()
+        in_turn(turns)
+        at_the_same_time(at_once)
+        # A session has a buffer of 64 KiB: a server that kept those of ended sessions would pass this.
+        check("memory as before", server.memory() - before < 2_000_000, True)
         server.stop("come and go", 1, 5)
 
 
@@ -493,9 +516,66 @@ def stops_in_order():
             server.ends(f"four Stops {turn}", 0, 0)
 
 
+@contextlib.contextmanager
+def small_file_system(size):
+    """The path of a file system in memory that has room for so many bytes; None where none may be mounted."""
+    path = os.path.join(FOLDER, "small")
+    os.makedirs(path, exist_ok=True)
+    words = ["mount", "-t", "tmpfs", "-o", f"size={size}", "hhm-test", path]
+    try:
+        is_mounted = subprocess.run(words, capture_output=True).returncode == 0
+    except OSError:
+        is_mounted = False
+    try:
+        yield path if is_mounted else None
+    finally:
+        if is_mounted:
+            subprocess.run(["umount", path], check=True)
+
+
+def full_disks_lose_nothing():
+    """A save for which there is no room is refused; the file before stands, and the server goes on."""
+    with small_file_system(1 << 20) as folder:
+        if folder is None:
+            print("no file system may be mounted: a full one is left out")
+            return
+        path = os.path.join(folder, "full.snap")
+        words = ["--rows", "1000000", "--cols", "1000000", "--snapshot", path]
+        line = "rows 1000000 cols 1000000 shards 8 batches 1 total 10000 entries 10000\n"
+        for is_freed in [True, False]:
+            with Server(words) as server:
+                with Client(unix=server.path, client=1, rows=10**6, cols=10**6, timeout=WAIT) as hhm:
+                    hhm.put(0, [(n, n, 1) for n in range(10_000)])
+                    check("a save of 240 KB", hhm.save(), 1)
+                    hhm.put(1, [(n, n + 1, 1) for n in range(50_000)])
+                    for _ in range(3):
+                        try:
+                            check("a save of 1.4 MB", hhm.save(), "SaveFailed")
+                        except Refused as fault:
+                            check("a save of 1.4 MB", fault.name, "SaveFailed")
+                    run = subprocess.run([PROGRAM, "check", path], capture_output=True, text=True, timeout=WAIT)
+                    check("the file before stands", run.stdout, line)
+                    check("puts go on", hhm.put(2, [(1, 1, 1)]), (2, 60_001))
+                    if is_freed:
+                        subprocess.run(["mount", "-o", "remount,size=8388608", folder], check=True)
+                        check("with room again", hhm.save(), 3)
+                    hhm.stop()
+                output, error = server.process.communicate(timeout=WAIT)
+                if is_freed:
+                    check("an end with room", (output, error), ("stopped batches 3 total 60001\n", ""))
+                    os.remove(path)
+                    subprocess.run(["mount", "-o", "remount,size=1048576", folder], check=True)
+                else:
+                    check("an end without room", (output, server.process.returncode), ("", 4))
+                    check("its fault is of a file", error.startswith("hhm: file: "), True)
+        run = subprocess.run([PROGRAM, "check", path], capture_output=True, text=True, timeout=WAIT)
+        check("the file before stands at the end", run.stdout, line)
+
+
 def main():
     global PROGRAM, FOLDER
     PROGRAM = os.path.abspath(sys.argv[1])
+    is_long = "--long" in sys.argv[2:]
     resource.setrlimit(resource.RLIMIT_NOFILE, (4096, resource.getrlimit(resource.RLIMIT_NOFILE)[1]))
     random.seed(5)
     with tempfile.TemporaryDirectory() as FOLDER:
@@ -506,14 +586,16 @@ def main():
         a_log_is_counted()
         lost_replies_count_once()
         snapshots_outlive_a_kill()
-        saves_are_whole(5)
+saves_are_whole(50 if is_long else 5)
         for mounted in [False, True]:
             saves_need_room(mounted)
         many_put_at_once()
-        bad_clients_do_no_harm()
-        connections_come_and_go(300, 200)
-        many_frames_in_one_go(5000)
+        bad_clients_do_no_harm(5000 if is_long else 200)
+        connections_come_and_go(*((10_000, 500) if is_long else (300, 200)))
+        many_frames_in_one_go(1_000_000 if is_long else 5000)
         stops_in_order()
+        if is_long:
+            full_disks_lose_nothing()
     print(f"{passed} passed, {failed} failed")
     return 1 if failed else 0
 
