@@ -586,7 +586,7 @@ def main():
         a_log_is_counted()
         lost_replies_count_once()
         snapshots_outlive_a_kill()
-saves_are_whole(50 if is_long else 5)
+        saves_are_whole(50 if is_long else 5)
         for mounted in [False, True]:
             saves_need_room(mounted)
         many_put_at_once()
