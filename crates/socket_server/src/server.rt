@@ -97,7 +97,8 @@ fn serve_bound<
     sessions: u64,
     saver: &Saver,
 ) -> Result<Status, ServerFault>
-    ensures status { IfOk result (λ s. (list : List Submission) × AreAccepted N.setup list × (s ≡ status_of list)) }
+    ensures status { IfOk result (λ s.
+        (list : List Submission) × AreAccepted N.setup list × (s ≡ status_of list)) }
     ensures met { IfErr result IsMet }
 {
     let own = match &tcp {
@@ -140,7 +141,8 @@ fn serve_unix<
 ) -> Result<Status, ServerFault>
     requires { W.failure_count out.old + 1 < 2 ^ 64 }
     ensures failures { OnOk result (W.failure_count out.new ≡ W.failure_count out.old) }
-    ensures status { IfOk result (λ s. (list : List Submission) × AreAccepted N.setup list × (s ≡ status_of list)) }
+    ensures status { IfOk result (λ s.
+        (list : List Submission) × AreAccepted N.setup list × (s ≡ status_of list)) }
     ensures met { IfErr result IsMet }
 {
     let Ok(own) = format!(in alloc; "{path}") else {
@@ -195,7 +197,8 @@ fn serve_named<
     requires named { NamesEngine names N.setup N.seats N.name N.parts H.name H.parts }
     requires made_from { plain.setup ≡ names.setup }
     ensures failures { OnOk result (W.failure_count out.new ≡ W.failure_count out.old) }
-    ensures status { IfOk result (λ s. (list : List Submission) × AreAccepted names.setup list × (s ≡ status_of list)) }
+    ensures status { IfOk result (λ s.
+        (list : List Submission) × AreAccepted names.setup list × (s ≡ status_of list)) }
     ensures met { IfErr result IsMet }
 {
     let Ok((engine, seats)) = Engine::<N, H>::open(alloc, plain, names) else {
@@ -239,7 +242,8 @@ fn serve_plan<
 ) -> Result<Status, ServerFault>
     requires failures { W.failure_count out.old + 1 < 2 ^ 64 }
     requires workers { (1 ≤ workers) × (workers ≤ 32) }
-    ensures status { IfOk result (λ s. (list : List Submission) × AreAccepted plain.setup list × (s ≡ status_of list)) }
+    ensures status { IfOk result (λ s.
+        (list : List Submission) × AreAccepted plain.setup list × (s ≡ status_of list)) }
     ensures met { IfErr result IsMet }
 {
     let Ok(names) = Names::new(rt, alloc, &plain, workers as usize) else {
@@ -279,7 +283,8 @@ fn serve_settings<
 >(rt: &R, alloc: Global, settings: Settings, out: &mut W) -> Result<Status, ServerFault>
     requires failures { W.failure_count out.old + 1 < 2 ^ 64 }
     requires workers { (1 ≤ settings.workers) × (settings.workers ≤ 32) }
-    ensures status { IfOk result (λ s. (list : List Submission) × AreAccepted settings.setup list × (s ≡ status_of list)) }
+    ensures status { IfOk result (λ s.
+        (list : List Submission) × AreAccepted settings.setup list × (s ≡ status_of list)) }
     ensures met { IfErr result IsMet }
 {
     let Settings {
@@ -329,7 +334,8 @@ pub fn run_server<
     ensures nowhere { (result ≡ Err ServerFault.NoAddress)
         ↔ ((1 ≤ settings.workers) × (settings.workers ≤ 32) × (settings.tcp ≡ None) × (settings.unix ≡ None)) }
     ensures others { IfErr result (λ f. (f ≡ ServerFault.BadWorkers) ⊎ (f ≡ ServerFault.NoAddress) ⊎ IsMet f) }
-    ensures status { IfOk result (λ s. (list : List Submission) × AreAccepted settings.setup list × (s ≡ status_of list)) }
+    ensures status { IfOk result (λ s.
+        (list : List Submission) × AreAccepted settings.setup list × (s ≡ status_of list)) }
 {
     settings.judge()?;
     serve_settings(rt, alloc, settings, out)

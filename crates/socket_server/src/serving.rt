@@ -165,7 +165,8 @@ pub fn close_all<N: Named, H: Ledger, R: Wait + Disk>(
     seats: Vec<Seat<N, H>>,
     saver: &Saver,
 ) -> Result<Status, ServerFault>
-    ensures status { IfOk result (λ s. (list : List Submission) × AreAccepted N.setup list × (s ≡ status_of list)) }
+    ensures status { IfOk result (λ s.
+        (list : List Submission) × AreAccepted N.setup list × (s ≡ status_of list)) }
     ensures met { IfErr result IsMet }
 {
     match engine.close(rt, alloc, seats) {
