@@ -6,6 +6,8 @@
 #[cfg(test)]
 mod batches;
 #[cfg(test)]
+mod expected;
+#[cfg(test)]
 mod loads;
 #[cfg(test)]
 mod lookups;

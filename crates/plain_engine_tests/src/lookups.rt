@@ -1,10 +1,12 @@
 //! Cells, rows, sums and shards of what was put.
-use crate::batches::{cells_of, small_setup};
-use crate::puts::{Step, engine_of, put_all, sizes};
+use crate::batches::small_setup;
+use crate::expected::{
+    expect_counts, expect_no_shard, expect_row, expect_shards, expect_view, exports,
+};
+use crate::puts::{Step, engine_of, put_all};
 use batch_store::{Setup, ShardView};
 use plain_engine::PlainEngine;
 use std::alloc::{AllocError, Global};
-use std::process::Abort;
 use std::test::Fail;
 
 // Rows 0 and 2 are of shard 0, row 1 is of shard 1.
@@ -35,9 +37,7 @@ static PLACES: &[(u64, u64, Option<u64>)] = &[
 fn cells_are_those_of_the_sum(rt: HostRuntime) -> Result<(), Fail> {
     let setup = small_setup()?;
     let engine = engine_of(&rt, rt.alloc(), setup, THREE)?;
-    for (row, col, count) in PLACES {
-        assert_eq!(rt; engine.cell(*row, *col), *count);
-    }
+    expect_counts(&rt, &engine, PLACES);
     Ok(())
 }
 
@@ -48,29 +48,17 @@ fn rows_are_those_of_the_sum(rt: HostRuntime) -> Result<(), Fail> {
     let setup = small_setup()?;
     let engine = engine_of(&rt, rt.alloc(), setup, THREE)?;
     for (row, entries, total) in ROWS {
-        let sum = engine.row(*row);
-        assert_eq!(rt; (sum.entries, sum.total), (*entries, *total));
+        expect_row(&rt, &engine, *row, *entries, *total);
     }
     Ok(())
-}
-
-/// Whether the sum of all batches has the cells of a table.
-pub fn exports(
-    alloc: Global,
-    engine: &PlainEngine,
-    table: &[(u64, u64, u64)],
-) -> Result<bool, AllocError> {
-    let sum = engine.export(alloc)?;
-    let cells = sum.cells(alloc)?;
-    let expected = cells_of(alloc, table)?;
-    Ok(sum.dims() == (3, 3) && cells.as_slice() == expected.as_slice())
 }
 
 #[test]
 fn an_export_is_the_sum(rt: HostRuntime) -> Result<(), Fail> {
     let setup = small_setup()?;
     let engine = engine_of(&rt, rt.alloc(), setup, THREE)?;
-    assert!(rt; exports(rt.alloc(), &engine, SUM)?);
+    let has = exports(rt.alloc(), &engine, SUM)?;
+    assert!(rt; has);
     Ok(())
 }
 
@@ -79,11 +67,9 @@ fn shards_have_their_batches(rt: HostRuntime) -> Result<(), Fail> {
     let setup = small_setup()?;
     let engine = engine_of(&rt, rt.alloc(), setup, THREE)?;
     // The first batch has a stored zero in row 1.
-    assert_eq!(rt;
-        (sizes(&engine, 0), sizes(&engine, 1)),
-        (Some((0, 11, 3)), Some((1, 4, 2)))
-    );
-    assert_eq!(rt; (sizes(&engine, 2), sizes(&engine, u64::MAX)), (None, None));
+    expect_shards(&rt, &engine, &[(0, 11, 3), (1, 4, 2)]);
+    expect_no_shard(&rt, &engine, 2);
+    expect_no_shard(&rt, &engine, u64::MAX);
     let setup = engine.setup();
     assert_eq!(rt; (setup.shards(), setup.limit()), (2, 100));
     Ok(())
@@ -122,24 +108,13 @@ fn first_view(alloc: Global, engine: &PlainEngine) -> Result<ShardView, AllocErr
     }
 }
 
-// How many batches a view has, and the entries and total of its sum.
-fn seen(alloc: Global, view: &ShardView) -> Result<(u64, u64, u64), AllocError> {
-    let sum = view.sum(alloc)?;
-    Ok((view.record_len(), sum.entries(), sum.total()))
-}
-
-// The same of the view of shard 0.
-fn seen_first(alloc: Global, engine: &PlainEngine) -> Result<(u64, u64, u64), AllocError> {
-    let view = first_view(alloc, engine)?;
-    seen(alloc, &view)
-}
-
 #[test]
 fn layers_keep_their_cuts(rt: HostRuntime) -> Result<(), Fail> {
     let setup = Setup::new(3, 10, &[2, 4], 1, 100, 10)?;
     let engine = engine_of(&rt, rt.alloc(), setup, TEN)?;
     assert_eq!(rt; layers(&engine), Some([Some(1), Some(3), Some(6), None]));
-    assert_eq!(rt; seen_first(rt.alloc(), &engine)?, (10, 10, 10));
+    let view = first_view(rt.alloc(), &engine)?;
+    expect_view(&rt, rt.alloc(), &view, (10, 10, 10))?;
     Ok(())
 }
 
@@ -153,7 +128,7 @@ fn a_view_stays_as_it_was(rt: HostRuntime) -> Result<(), Fail> {
     let mut engine = engine_of(&rt, rt.alloc(), setup, FIRST)?;
     let view = first_view(rt.alloc(), &engine)?;
     put_all(&rt, rt.alloc(), &setup, &mut engine, SECOND)?;
-    assert_eq!(rt; seen(rt.alloc(), &view)?, (1, 1, 5));
-    assert_eq!(rt; sizes(&engine, 0), Some((0, 8, 2)));
+    expect_view(&rt, rt.alloc(), &view, (1, 1, 5))?;
+    expect_shards(&rt, &engine, &[(0, 8, 2)]);
     Ok(())
 }

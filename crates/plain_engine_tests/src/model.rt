@@ -143,16 +143,29 @@ impl Stream {
             .wrapping_add(1_442_695_040_888_963_407);
         (self.state >> 33) % limit
     }
+
+    // Goes on from here and a number.
+    fn mix(&mut self, number: u64) {
+        self.state = self.state.wrapping_add(number);
+        let _ = self.below(2);
+    }
 }
 
 const ROWS: u64 = 70;
 
 const COLS: u64 = 4;
 
-// At most three cells, some of them at one place, some of count 0.
-fn cells_for(alloc: Global, seed: u64) -> Result<Vec<(u64, u64, u64)>, AllocError> {
-    let mut stream = Stream { state: seed };
-    let _ = stream.below(2);
+// At most three cells, some of them at one place, some of count 0: mostly the same for the same pair, so that repeats
+// are known.
+fn cells_for(
+    alloc: Global,
+    pair: (u64, u64),
+    other: bool,
+) -> Result<Vec<(u64, u64, u64)>, AllocError> {
+    let mut stream = Stream { state: 0 };
+    stream.mix(pair.0);
+    stream.mix(pair.1);
+    stream.mix(if other { 1 } else { 0 });
     let mut cells = Vec::new(alloc);
     let count = stream.below(4);
     for _ in 0..count {
@@ -160,15 +173,6 @@ fn cells_for(alloc: Global, seed: u64) -> Result<Vec<(u64, u64, u64)>, AllocErro
         cells.push((row, stream.below(COLS), stream.below(9)))?;
     }
     Ok(cells)
-}
-
-// What the cells of a put are drawn from: mostly the same for the same pair, so that repeats are known.
-fn seed_of(pair: (u64, u64), other: bool) -> u64 {
-    let seed = pair
-        .0
-        .wrapping_mul(100)
-        .wrapping_add(pair.1.wrapping_mul(10));
-    if other { seed.wrapping_add(1) } else { seed }
 }
 
 // A generated put: what the engine answers, and what the plain one does.
@@ -183,7 +187,7 @@ fn put_drawn(
     ensures { engine.new.setup ≡ setup.now }
 {
     let pair = (stream.below(3), stream.below(9));
-    let cells = cells_for(alloc, seed_of(pair, stream.below(5) == 0))?;
+    let cells = cells_for(alloc, pair, stream.below(5) == 0)?;
     let expected = plain.put(alloc, pair, &cells)?;
     let answer = put(alloc, setup, engine, pair, &cells)?;
     Ok((answer, expected))
@@ -207,11 +211,17 @@ fn agree_on_rows(rt: &impl Abort, engine: &PlainEngine, plain: &Plain) {
     }
 }
 
-fn agree_on_cells(rt: &impl Abort, cells: &[Cell], plain: &Plain) {
-    assert_eq!(rt; cells.len(), plain.cells.len());
-    for (cell, (place, count)) in cells.iter().zip(&plain.cells) {
-        assert_eq!(rt; ((cell.row, cell.col), cell.count), (*place, *count));
+// The cells with these counts, in order.
+fn listed(alloc: Global, counts: &Counts) -> Result<Vec<Cell>, AllocError> {
+    let mut cells = Vec::new(alloc);
+    for (place, count) in counts {
+        cells.push(Cell {
+            row: place.0,
+            col: place.1,
+            count: *count,
+        })?;
     }
+    Ok(cells)
 }
 
 fn agree_on_export(
@@ -222,7 +232,8 @@ fn agree_on_export(
 ) -> Result<(), Fail> {
     let sum = engine.export(alloc)?;
     let cells = sum.cells(alloc)?;
-    agree_on_cells(rt, &cells, plain);
+    let expected = listed(alloc, &plain.cells)?;
+    assert!(rt; cells.as_slice() == expected.as_slice());
     Ok(())
 }
 

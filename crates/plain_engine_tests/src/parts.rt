@@ -41,32 +41,32 @@ fn joined(setup: Setup, book: Book, shards: Vec<Shard>) -> Joined
 /// The batches of a book, those of the shards, and what they make together.
 type Case = (&'static [Step], &'static [Step], Joined);
 
-static NONE: &[Step] = &[];
+const NONE: &[Step] = &[];
 
-static FIVE: &[Step] = &[(7, 1, &[(0, 0, 5)], Ok((0, 5)))];
+const FIVE: &[Step] = &[(7, 1, &[(0, 0, 5)], Ok((0, 5)))];
 
 // Of the same pair and numbers, elsewhere in the same row.
-static ELSEWHERE: &[Step] = &[(7, 1, &[(0, 1, 5)], Ok((0, 5)))];
+const ELSEWHERE: &[Step] = &[(7, 1, &[(0, 1, 5)], Ok((0, 5)))];
 
 // With a stored zero in the other shard too.
-static WITH_ZERO: &[Step] = &[(7, 1, &[(0, 0, 5), (1, 1, 0)], Ok((0, 5)))];
+const WITH_ZERO: &[Step] = &[(7, 1, &[(0, 0, 5), (1, 1, 0)], Ok((0, 5)))];
 
-static OTHER_CLIENT: &[Step] = &[(8, 1, &[(0, 0, 5)], Ok((0, 5)))];
+const OTHER_CLIENT: &[Step] = &[(8, 1, &[(0, 0, 5)], Ok((0, 5)))];
 
-static OTHER_NUMBER: &[Step] = &[(7, 2, &[(0, 0, 5)], Ok((0, 5)))];
+const OTHER_NUMBER: &[Step] = &[(7, 2, &[(0, 0, 5)], Ok((0, 5)))];
 
-static TWO: &[Step] = &[
+const TWO: &[Step] = &[
     (7, 1, &[(0, 0, 5)], Ok((0, 5))),
     (8, 1, &[(2, 0, 3), (1, 1, 1)], Ok((1, 9))),
 ];
 
-static TURNED: &[Step] = &[
+const TURNED: &[Step] = &[
     (8, 1, &[(2, 0, 3), (1, 1, 1)], Ok((0, 4))),
     (7, 1, &[(0, 0, 5)], Ok((1, 9))),
 ];
 
 // A batch without cells is in no record.
-static WITH_EMPTY: &[Step] = &[(7, 1, &[(0, 0, 5)], Ok((0, 5))), (9, 1, &[], Ok((1, 5)))];
+const WITH_EMPTY: &[Step] = &[(7, 1, &[(0, 0, 5)], Ok((0, 5))), (9, 1, &[], Ok((1, 5)))];
 
 fn mixed<R: RandomSource + Abort>(rt: &R, alloc: Global, case: &Case) -> Result<Joined, Fail> {
     let setup = small_setup()?;
@@ -75,45 +75,46 @@ fn mixed<R: RandomSource + Abort>(rt: &R, alloc: Global, case: &Case) -> Result<
     Ok(joined(setup, book, shards))
 }
 
+static CASES: &[Case] = &[
+    (
+        NONE,
+        NONE,
+        Ok(Status {
+            batches: 0,
+            total: 0,
+        }),
+    ),
+    (
+        TWO,
+        TWO,
+        Ok(Status {
+            batches: 2,
+            total: 9,
+        }),
+    ),
+    (
+        WITH_EMPTY,
+        FIVE,
+        Ok(Status {
+            batches: 2,
+            total: 5,
+        }),
+    ),
+    (FIVE, NONE, Err((1, 2))),
+    (NONE, FIVE, Err((0, 2))),
+    (FIVE, ELSEWHERE, Err((1, 2))),
+    (FIVE, WITH_ZERO, Err((1, 2))),
+    (WITH_ZERO, FIVE, Err((1, 2))),
+    (FIVE, OTHER_CLIENT, Err((1, 2))),
+    (FIVE, OTHER_NUMBER, Err((1, 2))),
+    (FIVE, TWO, Err((1, 2))),
+    (TWO, FIVE, Err((2, 2))),
+    (TWO, TURNED, Err((2, 2))),
+];
+
 #[test]
 fn records_are_compared_with_the_book(rt: HostRuntime) -> Result<(), Fail> {
-    let cases: [Case; 13] = [
-        (
-            NONE,
-            NONE,
-            Ok(Status {
-                batches: 0,
-                total: 0,
-            }),
-        ),
-        (
-            TWO,
-            TWO,
-            Ok(Status {
-                batches: 2,
-                total: 9,
-            }),
-        ),
-        (
-            WITH_EMPTY,
-            FIVE,
-            Ok(Status {
-                batches: 2,
-                total: 5,
-            }),
-        ),
-        (FIVE, NONE, Err((1, 2))),
-        (NONE, FIVE, Err((0, 2))),
-        (FIVE, ELSEWHERE, Err((1, 2))),
-        (FIVE, WITH_ZERO, Err((1, 2))),
-        (WITH_ZERO, FIVE, Err((1, 2))),
-        (FIVE, OTHER_CLIENT, Err((1, 2))),
-        (FIVE, OTHER_NUMBER, Err((1, 2))),
-        (FIVE, TWO, Err((1, 2))),
-        (TWO, FIVE, Err((2, 2))),
-        (TWO, TURNED, Err((2, 2))),
-    ];
-    for case in &cases {
+    for case in CASES {
         let found = mixed(&rt, rt.alloc(), case)?;
         assert_eq!(rt; found, case.2);
     }

@@ -3,10 +3,11 @@ ghost use Rattle.std.specs.Prelude.{◌≡◌, IfOk};
 ghost use Rattle.std.specs.Arc.{arc_value};
 
 use crate::batches::{Cells, batch, small_setup};
+use crate::expected::{expect_counts, expect_shards, expect_status, exported_total};
 use batch_store::{Batch, Setup};
 use plain_engine::PutFault::{BookFull, NumberReused, OverTotal};
-use plain_engine::{PlainEngine, PutFault, Status};
-use std::alloc::{AllocError, Global};
+use plain_engine::{PlainEngine, PutFault};
+use std::alloc::Global;
 use std::process::Abort;
 use std::random::RandomSource;
 use std::sync::Arc;
@@ -23,8 +24,10 @@ fn answered(alloc: Global, engine: &mut PlainEngine, b: Arc<Batch>) -> Answer
     requires cols { (arc_value b).matrix.cols ≡ engine.old.setup.cols }
     ensures { engine.new.setup ≡ engine.old.setup }
 {
-    let kept = engine.put(alloc, b)?;
-    Ok((kept.index, kept.total_after))
+    match engine.put(alloc, b) {
+        Ok(kept) => Ok((kept.index, kept.total_after)),
+        Err(fault) => Err(fault),
+    }
 }
 
 /// Puts the batch of these cells.
@@ -74,12 +77,6 @@ pub fn engine_of<R: RandomSource + Abort>(
     Ok(engine)
 }
 
-/// The number of a shard, its total, and the number of batches in its record.
-pub fn sizes(engine: &PlainEngine, s: u64) -> Option<(u64, u64, u64)> {
-    let shard = engine.shard(s)?;
-    Some((shard.number(), shard.total(), shard.record_len()))
-}
-
 // Repeats, and numbers used for other batches: another total, or as many counts in more places. A batch of as many
 // cells with the same total in another place is known all the same.
 static REPEATS: &[Step] = &[
@@ -96,14 +93,8 @@ static REPEATS: &[Step] = &[
 fn repeats_are_answered_their_replies(rt: HostRuntime) -> Result<(), Fail> {
     let setup = small_setup()?;
     let engine = engine_of(&rt, rt.alloc(), setup, REPEATS)?;
-    assert_eq!(rt;
-        engine.status(),
-        Status {
-            batches: 3,
-            total: 14
-        }
-    );
-    assert_eq!(rt; engine.cell(0, 0), Some(14));
+    expect_status(&rt, &engine, 3, 14);
+    expect_counts(&rt, &engine, &[(0, 0, Some(14))]);
     Ok(())
 }
 
@@ -121,13 +112,7 @@ static WITHIN_100: &[Step] = &[
 fn the_limit_is_kept_exactly(rt: HostRuntime) -> Result<(), Fail> {
     let setup = small_setup()?;
     let engine = engine_of(&rt, rt.alloc(), setup, WITHIN_100)?;
-    assert_eq!(rt;
-        engine.status(),
-        Status {
-            batches: 3,
-            total: 100
-        }
-    );
+    expect_status(&rt, &engine, 3, 100);
     Ok(())
 }
 
@@ -140,23 +125,19 @@ static AT_MOST_ONE: &[Step] = &[
     (7, 1, &[(0, 0, 101)], Err(NumberReused)),
 ];
 
-// How many batches are accepted, and the client, number and total of the first.
-fn listed(
-    alloc: Global,
-    engine: &PlainEngine,
-) -> Result<Option<(usize, u64, u64, u64)>, AllocError> {
-    let batches = engine.batches(alloc)?;
-    let Some(first) = batches.first() else {
-        return Ok(None);
-    };
-    Ok(Some((batches.len(), first.client, first.number, first.total)))
+// The client, number and total of a list's first batch.
+fn first_of(batches: &[Arc<Batch>]) -> Option<(u64, u64, u64)> {
+    let first = batches.first()?;
+    Some((first.client, first.number, first.total))
 }
 
 #[test]
 fn a_full_book_knows_its_batches(rt: HostRuntime) -> Result<(), Fail> {
     let setup = Setup::new(3, 3, &[2, 4], 2, 100, 1)?;
     let engine = engine_of(&rt, rt.alloc(), setup, AT_MOST_ONE)?;
-    assert_eq!(rt; listed(rt.alloc(), &engine)?, Some((1, 7, 1, 5)));
+    let batches = engine.batches(rt.alloc())?;
+    assert_eq!(rt; batches.len(), 1);
+    assert_eq!(rt; first_of(&batches), Some((7, 1, 5)));
     Ok(())
 }
 
@@ -166,17 +147,8 @@ static EMPTY: &[Step] = &[(9, 1, &[], Ok((0, 0))), (9, 1, &[], Ok((0, 0)))];
 fn an_empty_batch_concerns_no_shard(rt: HostRuntime) -> Result<(), Fail> {
     let setup = small_setup()?;
     let engine = engine_of(&rt, rt.alloc(), setup, EMPTY)?;
-    assert_eq!(rt;
-        engine.status(),
-        Status {
-            batches: 1,
-            total: 0
-        }
-    );
-    assert_eq!(rt;
-        (sizes(&engine, 0), sizes(&engine, 1)),
-        (Some((0, 0, 0)), Some((1, 0, 0)))
-    );
+    expect_status(&rt, &engine, 1, 0);
+    expect_shards(&rt, &engine, &[(0, 0, 0), (1, 0, 0)]);
     Ok(())
 }
 
@@ -202,6 +174,7 @@ static GREATEST: &[Step] = &[
 fn the_greatest_total_is_taken(rt: HostRuntime) -> Result<(), Fail> {
     let setup = Setup::new(3, 3, &[2, 4], 2, u64::MAX, 10)?;
     let engine = engine_of(&rt, rt.alloc(), setup, GREATEST)?;
-    assert_eq!(rt; engine.export(rt.alloc())?.total(), u64::MAX);
+    let total = exported_total(rt.alloc(), &engine)?;
+    assert_eq!(rt; total, u64::MAX);
     Ok(())
 }

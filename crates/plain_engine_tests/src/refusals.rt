@@ -5,9 +5,9 @@ ghost use Rattle.batch_store.specs.Batches.{values};
 ghost use Rattle.batch_store.specs.Books.{HaveDims};
 
 use crate::batches::small_setup;
+use crate::expected::{expect_counts, expect_shards, expect_status, exports};
 use crate::loads::{Batches, list_of};
-use crate::lookups::exports;
-use crate::puts::{Step, engine_of, put, sizes};
+use crate::puts::{Step, engine_of, put};
 use batch_store::{Batch, Setup};
 use plain_engine::{LoadFault, PlainEngine, PutFault, Status};
 use std::alloc::{AllocError, Global};
@@ -19,16 +19,11 @@ use std::test::Fail;
 // A batch of both shards of the small setup.
 static BOTH: &[(u64, u64, u64)] = &[(0, 0, 5), (1, 0, 4)];
 
-// Whether an engine has accepted nothing.
-fn is_empty(engine: &PlainEngine) -> bool {
-    engine.status()
-        == Status {
-            batches: 0,
-            total: 0,
-        }
-        && sizes(engine, 0) == Some((0, 0, 0))
-        && sizes(engine, 1) == Some((1, 0, 0))
-        && engine.cell(0, 0) == None
+// An engine has accepted nothing.
+fn expect_nothing(rt: &impl Abort, engine: &PlainEngine) {
+    expect_status(rt, engine, 0, 0);
+    expect_shards(rt, engine, &[(0, 0, 0), (1, 0, 0)]);
+    expect_counts(rt, engine, &[(0, 0, None)]);
 }
 
 // Puts the batch, and again where memory was refused, which is to change nothing.
@@ -45,7 +40,7 @@ fn put_at_last(
     if first != Err(PutFault::Memory) {
         return Ok(first);
     }
-    assert!(rt; is_empty(engine));
+    expect_nothing(rt, engine);
     put(alloc, setup, engine, (7, 1), BOTH)
 }
 
@@ -55,10 +50,7 @@ fn a_refused_put_changes_nothing(rt: HostRuntime) -> Result<(), Fail> {
     let mut engine = PlainEngine::new(&rt, rt.alloc(), setup)?;
     let answer = put_at_last(&rt, rt.alloc(), &setup, &mut engine)?;
     assert_eq!(rt; answer, Ok((0, 9)));
-    assert_eq!(rt;
-        (sizes(&engine, 0), sizes(&engine, 1)),
-        (Some((0, 5, 1)), Some((1, 4, 1)))
-    );
+    expect_shards(&rt, &engine, &[(0, 5, 1), (1, 4, 1)]);
     // A repeat takes no memory but the batch's own.
     let again = put(rt.alloc(), &setup, &mut engine, (7, 1), BOTH)?;
     assert_eq!(rt; again, Ok((0, 9)));
@@ -87,15 +79,10 @@ static PUT: &[Step] = &[(7, 1, &[(0, 0, 5), (1, 0, 4)], Ok((0, 9)))];
 #[test]
 fn refused_reads_succeed_again(rt: HostRuntime) -> Result<(), Fail> {
     let engine = engine_of(&rt, rt.alloc(), small_setup()?, PUT)?;
-    assert!(rt; exported_at_last(rt.alloc(), &engine)?);
-    assert_eq!(rt; listed_at_last(rt.alloc(), &engine)?, 1);
-    assert_eq!(rt;
-        engine.status(),
-        Status {
-            batches: 1,
-            total: 9
-        }
-    );
+    let exported = exported_at_last(rt.alloc(), &engine)?;
+    let listed = listed_at_last(rt.alloc(), &engine)?;
+    assert_eq!(rt; (exported, listed), (true, 1));
+    expect_status(&rt, &engine, 1, 9);
     Ok(())
 }
 

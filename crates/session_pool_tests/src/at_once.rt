@@ -1,11 +1,10 @@
 //! Workers that run at once, and pools of no worker.
 
-use crate::engines::pool_over;
+use crate::engines::{expect_served, expect_status, pool_over};
 use crate::frames::put_frame;
 use crate::gates::{OpenGate, WaitingGate};
 use byte_io::Script;
-use locked_engine::Status;
-use session_pool::{PoolFault, PoolReport, Saver};
+use session_pool::{PoolFault, Saver};
 use std::alloc::Global;
 use std::test::Fail;
 
@@ -25,22 +24,9 @@ fn a_session_waits_while_another_is_served(rt: HostRuntime) -> Result<(), Fail> 
     let gate = WaitingGate::new();
     let links = putting_links(alloc, 2)?;
     let saver = Saver::new(None);
-    let (report, status) = pool_over(&rt, alloc, 2, 2, &gate, &saver, links)?;
-    assert_eq!(&rt;
-        report,
-        Ok(PoolReport {
-            started: 2,
-            served: 2
-        })
-    );
+    let outcome = pool_over(&rt, alloc, 2, 2, &gate, &saver, links)?;
+    expect_served(&rt, &outcome, 2, 2, (2, 2));
     assert!(&rt; gate.was_in_time());
-    assert_eq!(&rt;
-        status,
-        Status {
-            batches: 2,
-            total: 2
-        }
-    );
     Ok(())
 }
 
@@ -49,21 +35,8 @@ fn every_session_is_served(rt: HostRuntime) -> Result<(), Fail> {
     let alloc = rt.alloc();
     let links = putting_links(alloc, 57)?;
     let saver = Saver::new(None);
-    let (report, status) = pool_over(&rt, alloc, 4, 4, &OpenGate, &saver, links)?;
-    assert_eq!(&rt;
-        report,
-        Ok(PoolReport {
-            started: 4,
-            served: 57
-        })
-    );
-    assert_eq!(&rt;
-        status,
-        Status {
-            batches: 57,
-            total: 57
-        }
-    );
+    let outcome = pool_over(&rt, alloc, 4, 4, &OpenGate, &saver, links)?;
+    expect_served(&rt, &outcome, 4, 57, (57, 57));
     Ok(())
 }
 
@@ -72,14 +45,8 @@ fn without_seats_there_is_no_worker(rt: HostRuntime) -> Result<(), Fail> {
     let alloc = rt.alloc();
     let links = putting_links(alloc, 1)?;
     let saver = Saver::new(None);
-    let (report, status) = pool_over(&rt, alloc, 2, 0, &OpenGate, &saver, links)?;
+    let (report, closed) = pool_over(&rt, alloc, 2, 0, &OpenGate, &saver, links)?;
     assert_eq!(&rt; report, Err(PoolFault::NoWorker));
-    assert_eq!(&rt;
-        status,
-        Status {
-            batches: 0,
-            total: 0
-        }
-    );
+    expect_status(&rt, &closed, (0, 0));
     Ok(())
 }

@@ -5,20 +5,21 @@ ghost use Rattle.locked_engine.specs.Opened.{NamesEngine};
 use batch_store::Setup;
 use byte_io::{Script, Source};
 use crossbeam_channel::bounded;
-use locked_engine::{Engine, Named, Names, Status};
+use locked_engine::{Engine, Named, Names};
 use plain_engine::PlainEngine;
 use session_pool::{Disk, Gate, PoolFault, PoolReport, Saver, Session, run_pool};
 use std::alloc::Global;
 use std::marker::Brand;
+use std::process::Abort;
 use std::random::RandomSource;
 use std::sync::Wait;
 use std::sync::ledger::Ledger;
 use std::test::Fail;
 use std::thread::Threads;
 
-// An engine without batches that is to be opened with this many seats: three rows, three columns, two shards, a limit
-// of 1,000 and at most 100 batches.
-fn unopened(
+/// An engine without batches that is to be opened with this many seats: three rows, three columns, two shards, a limit
+/// of 1,000 and at most 100 batches.
+pub fn unopened(
     rt: &impl RandomSource,
     alloc: Global,
     seats: usize,
@@ -33,8 +34,9 @@ fn unopened(
     Ok((plain, names))
 }
 
-/// What a pool did over these sessions, or why it did nothing, and what the closed engine has accepted.
-pub type Outcome = (Result<PoolReport, PoolFault>, Status);
+/// What a pool did over these sessions, or why it did nothing, and the engine of one thread once all seats were given
+/// back.
+pub type Outcome = (Result<PoolReport, PoolFault>, PlainEngine);
 
 // Opens an engine, serves sessions over these links, numbered in order, by a pool with the first `workers` of its
 // seats, and closes it.
@@ -74,11 +76,11 @@ fn pooled<
     };
     let report = run_pool(rt, alloc, &engine, serving, &receiver, gate, saver);
     let closed = engine.close(rt, alloc, seats).map_err(|_| "close")?;
-    Ok((report, closed.status()))
+    Ok((report, closed))
 }
 
 /// Serves sessions over these links, numbered in order, by a pool with the first `workers` of an engine's seats: what
-/// the pool did, and what the engine has accepted once it is closed.
+/// the pool did, and the engine of one thread once all seats were given back.
 pub fn pool_over<G: Gate<R> + Sync, R: Threads + Wait + Disk + RandomSource + Sync>(
     rt: &R,
     alloc: Global,
@@ -90,4 +92,23 @@ pub fn pool_over<G: Gate<R> + Sync, R: Threads + Wait + Disk + RandomSource + Sy
 ) -> Result<Outcome, Fail> {
     let (plain, names) = unopened(rt, alloc, seats)?;
     pooled::<Brand, Brand, G, R>(rt, alloc, plain, names, workers, gate, saver, links)
+}
+
+/// A pool started so many workers, which served so many sessions, and the engine has accepted this many batches of this
+/// total.
+pub fn expect_served(
+    rt: &impl Abort,
+    outcome: &Outcome,
+    started: u64,
+    served: u64,
+    accepted: (u64, u64),
+) {
+    assert_eq!(rt; outcome.0, Ok(PoolReport { started, served }));
+    expect_status(rt, &outcome.1, accepted);
+}
+
+/// The number of accepted batches and their total.
+pub fn expect_status(rt: &impl Abort, closed: &PlainEngine, accepted: (u64, u64)) {
+    let status = closed.status();
+    assert_eq!(rt; (status.batches, status.total), accepted);
 }

@@ -1,11 +1,10 @@
 //! Saves in the middle of sessions.
 
-use crate::engines::pool_over;
+use crate::engines::{expect_served, pool_over};
 use crate::frames::{SAVE, put_frame};
 use crate::gates::OpenGate;
 use byte_io::Script;
-use locked_engine::Status;
-use session_pool::{PoolReport, Saver};
+use session_pool::Saver;
 use std::alloc::Global;
 use std::test::Fail;
 
@@ -27,21 +26,8 @@ fn saves_go_one_after_another(rt: HostRuntime) -> Result<(), Fail> {
     let path = "session_pool_test.snapshot";
     let links = saving_links(alloc, 20)?;
     let saver = Saver::new(Some(path.to_string(alloc)?));
-    let (report, status) = pool_over(&rt, alloc, 4, 4, &OpenGate, &saver, links)?;
-    assert_eq!(&rt;
-        report,
-        Ok(PoolReport {
-            started: 4,
-            served: 20
-        })
-    );
-    assert_eq!(&rt;
-        status,
-        Status {
-            batches: 20,
-            total: 20
-        }
-    );
+    let outcome = pool_over(&rt, alloc, 4, 4, &OpenGate, &saver, links)?;
+    expect_served(&rt, &outcome, 4, 20, (20, 20));
     let saved = snap_file::load(&rt, alloc, path, 1 << 20).map_err(|_| "load")?;
     assert_eq!(&rt; saved.batches.len(), 20);
     std::fs::remove_file(&rt, path)?;

@@ -1,0 +1,83 @@
+//! What is expected of an engine. Each of these fails the test where it finds anything else.
+
+use crate::batches::cells_of;
+use batch_store::ShardView;
+use hyper_matrix::Hyper;
+use plain_engine::PlainEngine;
+use std::alloc::{AllocError, Global};
+use std::process::Abort;
+
+/// The number of accepted batches and their total.
+pub fn expect_status(rt: &impl Abort, engine: &PlainEngine, batches: u64, total: u64) {
+    let status = engine.status();
+    assert_eq!(rt; (status.batches, status.total), (batches, total));
+}
+
+/// The counts at places, each as row, column and count.
+pub fn expect_counts(rt: &impl Abort, engine: &PlainEngine, places: &[(u64, u64, Option<u64>)]) {
+    for (row, col, count) in places {
+        assert_eq!(rt; engine.cell(*row, *col), *count);
+    }
+}
+
+/// How many entries a row has, and their total.
+pub fn expect_row(rt: &impl Abort, engine: &PlainEngine, row: u64, entries: u64, total: u64) {
+    let sum = engine.row(row);
+    assert_eq!(rt; (sum.entries, sum.total), (entries, total));
+}
+
+// The number of a shard, its total, and the number of batches in its record.
+fn sizes(engine: &PlainEngine, s: u64) -> Option<(u64, u64, u64)> {
+    let shard = engine.shard(s)?;
+    Some((shard.number(), shard.total(), shard.record_len()))
+}
+
+/// Of each of some shards its number, its total, and the number of batches in its record.
+pub fn expect_shards(rt: &impl Abort, engine: &PlainEngine, shards: &[(u64, u64, u64)]) {
+    for shard in shards {
+        assert_eq!(rt; sizes(engine, shard.0), Some(*shard));
+    }
+}
+
+/// There is no shard of this number.
+pub fn expect_no_shard(rt: &impl Abort, engine: &PlainEngine, s: u64) {
+    assert_eq!(rt; sizes(engine, s), None);
+}
+
+// Whether a matrix has the cells of a table.
+fn has_cells(alloc: Global, sum: &Hyper, table: &[(u64, u64, u64)]) -> Result<bool, AllocError> {
+    let cells = sum.cells(alloc)?;
+    let expected = cells_of(alloc, table)?;
+    Ok(cells.as_slice() == expected.as_slice())
+}
+
+/// Whether the sum of all batches has three rows and columns, and the cells of a table.
+pub fn exports(
+    alloc: Global,
+    engine: &PlainEngine,
+    table: &[(u64, u64, u64)],
+) -> Result<bool, AllocError> {
+    let sum = engine.export(alloc)?;
+    if sum.dims() != (3, 3) {
+        return Ok(false);
+    }
+    has_cells(alloc, &sum, table)
+}
+
+/// The total of the sum of all batches.
+pub fn exported_total(alloc: Global, engine: &PlainEngine) -> Result<u64, AllocError> {
+    let sum = engine.export(alloc)?;
+    Ok(sum.total())
+}
+
+/// How many batches a view has, and the entries and total of its sum.
+pub fn expect_view(
+    rt: &impl Abort,
+    alloc: Global,
+    view: &ShardView,
+    expected: (u64, u64, u64),
+) -> Result<(), AllocError> {
+    let sum = view.sum(alloc)?;
+    assert_eq!(rt; (view.record_len(), sum.entries(), sum.total()), expected);
+    Ok(())
+}

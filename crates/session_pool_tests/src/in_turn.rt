@@ -1,0 +1,180 @@
+//! A session over the keeper of a seat, each read and each write of which fails in turn, and then one without faults.
+ghost use Rattle.std.specs.Prelude.{◌≡◌, ◌+◌, ◌<◌, ◌^◌};
+ghost use Rattle.locked_engine.specs.Opened.{NamesEngine};
+
+use crate::engines::{expect_status, unopened};
+use crate::frames::{REPLIES, two_puts_and_a_cell};
+use crate::gates::end_after;
+use byte_io::Script;
+use locked_engine::{Engine, Named, Names, Seat};
+use plain_engine::PlainEngine;
+use session_pool::{Disk, Saver, SeatKeeper};
+use std::alloc::{AllocError, Global};
+use std::marker::Brand;
+use std::process::Abort;
+use std::random::RandomSource;
+use std::sync::Wait;
+use std::sync::ledger::Ledger;
+use std::test::Fail;
+use wire_proto::{Ended, serve};
+
+// What fails of a session's calls, how it ends, how many bytes of the replies are taken, and what is accepted then.
+#[derive(Clone, Copy)]
+struct Case {
+    by_byte: bool,
+    fail_read: Option<u64>,
+    fail_write: Option<u64>,
+    ended: Ended,
+    taken: usize,
+    accepted: (u64, u64),
+}
+
+const WHOLE: Case = Case {
+    by_byte: false,
+    fail_read: None,
+    fail_write: None,
+    ended: Ended::Closed { rest: 0 },
+    taken: 56,
+    accepted: (2, 8),
+};
+
+// The second Put is looked at once the first reply, of 21 bytes, was taken.
+fn failing_write(room: u64) -> Case {
+    Case {
+        fail_write: Some(room),
+        ended: end_after(room),
+        taken: room as usize,
+        accepted: if room <= 20 { (1, 5) } else { (2, 8) },
+        ..WHOLE
+    }
+}
+
+// The three frames end at the bytes 82, 164 and 185, and their replies at 21, 42 and 56.
+fn failing_read(read: u64) -> Case {
+    let (taken, accepted) = if read <= 81 {
+        (0, (0, 0))
+    } else if read <= 163 {
+        (21, (1, 5))
+    } else if read <= 184 {
+        (42, (2, 8))
+    } else {
+        (56, (2, 8))
+    };
+    Case {
+        by_byte: true,
+        fail_read: Some(read),
+        ended: Ended::ReadFault,
+        taken,
+        accepted,
+        ..WHOLE
+    }
+}
+
+// A list of bytes in pieces of one.
+fn single_bytes(alloc: Global, bytes: &[u8]) -> Result<Vec<Vec<u8>>, AllocError> {
+    let mut pieces = Vec::new(alloc);
+    for byte in bytes {
+        let piece = vec![in alloc; *byte]?;
+        pieces.push(piece)?;
+    }
+    Ok(pieces)
+}
+
+fn pieces_of(alloc: Global, by_byte: bool) -> Result<Vec<Vec<u8>>, AllocError> {
+    let frames = two_puts_and_a_cell(alloc)?;
+    if by_byte {
+        return single_bytes(alloc, &frames);
+    }
+    let mut pieces = Vec::new(alloc);
+    pieces.push(frames)?;
+    Ok(pieces)
+}
+
+// Serves a link by a seat.
+fn serve_link<N: Named, H: Ledger, R: Wait + Disk>(
+    rt: &R,
+    alloc: Global,
+    engine: &Engine<N, H>,
+    seat: &mut Seat<N, H>,
+    link: &mut Script,
+) -> Ended
+    requires { link.old.failures + 1 < 2 ^ 64 }
+{
+    let saver = Saver::new(None);
+    let mut keeper = SeatKeeper::new(rt, engine, seat, &saver);
+    serve(alloc, link, &mut keeper, 1 << 40)
+}
+
+// Serves a session of a case, and compares its end and the bytes that its link took.
+fn serve_case<N: Named, H: Ledger, R: Wait + Disk + Abort>(
+    rt: &R,
+    alloc: Global,
+    engine: &Engine<N, H>,
+    seat: &mut Seat<N, H>,
+    case: &Case,
+) -> Result<(), AllocError> {
+    let pieces = pieces_of(alloc, case.by_byte)?;
+    let mut link = Script::new(alloc, pieces, case.fail_read, case.fail_write);
+    let ended = serve_link(rt, alloc, engine, seat, &mut link);
+    assert_eq!(rt; ended, case.ended);
+    assert!(rt; REPLIES.get(..case.taken) == Some(link.written()));
+    Ok(())
+}
+
+// A session of a case, and then one that doesn't fail.
+fn serve_again<N: Named, H: Ledger, R: Wait + Disk + Abort>(
+    rt: &R,
+    alloc: Global,
+    engine: &Engine<N, H>,
+    seats: &mut [Seat<N, H>],
+    case: &Case,
+) -> Result<(), Fail> {
+    let seat = seats.first_mut().ok_or("no seat")?;
+    serve_case(rt, alloc, engine, seat, case)?;
+    let status = engine.status(rt, seat);
+    assert_eq!(rt; (status.batches, status.total), case.accepted);
+    serve_case(rt, alloc, engine, seat, &WHOLE)?;
+    Ok(())
+}
+
+fn opened_and_closed<N: Named, H: Ledger, R: Wait + Disk + Abort>(
+    rt: &R,
+    alloc: Global,
+    plain: PlainEngine,
+    names: Names,
+    case: &Case,
+) -> Result<(), Fail>
+    requires named { NamesEngine names N.setup N.seats N.name N.parts H.name H.parts }
+    requires made_from { plain.setup ≡ names.setup }
+{
+    let (engine, mut seats) = Engine::<N, H>::open(alloc, plain, names).map_err(|_| "open")?;
+    serve_again(rt, alloc, &engine, &mut seats, case)?;
+    let closed = engine.close(rt, alloc, seats).map_err(|_| "close")?;
+    expect_status(rt, &closed, WHOLE.accepted);
+    Ok(())
+}
+
+fn over_a_new_engine<R: Wait + Disk + Abort + RandomSource>(
+    rt: &R,
+    alloc: Global,
+    case: &Case,
+) -> Result<(), Fail> {
+    let (plain, names) = unopened(rt, alloc, 1)?;
+    opened_and_closed::<Brand, Brand, R>(rt, alloc, plain, names, case)
+}
+
+#[test]
+fn each_write_fails_in_turn(rt: HostRuntime) -> Result<(), Fail> {
+    for room in 0..57 {
+        over_a_new_engine(&rt, rt.alloc(), &failing_write(room))?;
+    }
+    Ok(())
+}
+
+#[test]
+fn each_read_fails_in_turn(rt: HostRuntime) -> Result<(), Fail> {
+    for read in 0..186 {
+        over_a_new_engine(&rt, rt.alloc(), &failing_read(read))?;
+    }
+    Ok(())
+}
