@@ -1,5 +1,6 @@
 -- What one more block of cells does to a sum.
-use Rattle.std.proofs.Common.{◌≡◌, ℕ, ◌+◌, ◌<◌, ◌≤◌, ◌^◌, List, [], ◌∷◌, ◌++◌, length, map, refl, sym, ◌∙◌, ap, arith, append_assoc, Bool, true, false, ltb}
+use Rattle.std.proofs.Common.{◌≡◌, ℕ, ◌+◌, ◌<◌, ◌≤◌, ◌^◌, List, [], ◌∷◌, ◌++◌, length, map, refl, sym, ◌∙◌, ap, arith}
+use Rattle.std.proofs.Common.{append_assoc, Bool, true, false, ltb}
 use Rattle.std.specs.Prelude.{Result, Ok, Err, OnErr, IsTrue, ◌↔◌}
 use Rattle.std.proofs.lemmas.Bool.{ltb-false, ltb-true}
 use Rattle.cells.proofs.SumLaws.{total-append}
@@ -32,25 +33,38 @@ on_err (Ok x) P h = tt
 on_err (Err e) P h = h
 
 -- what the layers' counts are together, by the cells that were added
-pub total_is : (rows cols : ℕ) (cells : List Cell) (layers : Layering) → LayersSum rows cols cells layers → total (content layers.layers) ≡ cell_total cells
+pub total_is : (rows cols : ℕ) (cells : List Cell) (layers : Layering) → LayersSum rows cols cells layers →
+    total (content layers.layers) ≡ cell_total cells
 total_is rows cols cells layers sum = ap total sum.sum_is ∙ total-built_of cells
 
 -- Counts that do not fit beside those of the layers pass 64 bits behind their cells.
 pub sum_passes : (layers : Layering) (block : List Cell) → 2 ^ 64 ≤ total (content layers.layers) + cell_total block →
     (rows cols : ℕ) (cells : List Cell) → LayersSum rows cols cells layers → 2 ^ 64 ≤ cell_total (cells ++ block)
-sum_passes layers block passes rows cols cells sum = omega (arith, passes, total_is rows cols cells layers sum, total-append cells block)
+sum_passes layers block passes rows cols cells sum = omega (
+  arith,
+  passes,
+  total_is rows cols cells layers sum,
+  total-append cells block,
+)
 
 -- And those that fit beside them fit behind their cells.
 pub sum_fits : (layers : Layering) (block : List Cell) → total (content layers.layers) + cell_total block < 2 ^ 64 →
     (rows cols : ℕ) (cells : List Cell) → LayersSum rows cols cells layers → cell_total (cells ++ block) < 2 ^ 64
-sum_fits layers block fits rows cols cells sum = omega (arith, fits, total_is rows cols cells layers sum, total-append cells block)
+sum_fits layers block fits rows cols cells sum = omega (
+  arith,
+  fits,
+  total_is rows cols cells layers sum,
+  total-append cells block,
+)
 
 -- What layers hold fits.
-pub layers_fit : (layers : Layering) → IsLayering layers → (rows cols : ℕ) (cells : List Cell) → LayersSum rows cols cells layers → cell_total cells < 2 ^ 64
+pub layers_fit : (layers : Layering) → IsLayering layers → (rows cols : ℕ) (cells : List Cell) →
+    LayersSum rows cols cells layers → cell_total cells < 2 ^ 64
 layers_fit layers kept rows cols cells sum = omega (arith, kept.fits, total_is rows cols cells layers sum)
 
 -- A block was added.
-pub block_added : (layers after : Layering) (m : Matrix) (r c : ℕ) (block : List Cell) → IsLayering layers → m ≡ matrix r c (built_of block) →
+pub block_added : (layers after : Layering) (m : Matrix) (r c : ℕ) (block : List Cell) → IsLayering layers →
+    m ≡ matrix r c (built_of block) →
     after ≡ record layers { layers = cascade layers.layers layers.cuts m.counts } →
     (rows cols : ℕ) (cells : List Cell) → LayersSum rows cols cells layers → LayersSum rows cols (cells ++ block) after
 block_added layers after m r c block kept is added rows cols cells sum = record {
@@ -76,30 +90,43 @@ pub stays_passed : (cells block : List Cell) → 2 ^ 64 ≤ cell_total cells →
 stays_passed cells block h = omega (arith, h, total-append cells block)
 
 -- The sum of the layers is what their cells build, and its counts fit 64 bits together.
-pub layers_sum : (layers : Layering) (m : Matrix) → IsLayering layers → m ≡ matrix layers.rows layers.cols (content layers.layers) →
-    (rows cols : ℕ) (cells : List Cell) → LayersSum rows cols cells layers → (m ≡ matrix rows cols (built_of cells)) × (cell_total cells < 2 ^ 64)
+pub layers_sum : (layers : Layering) (m : Matrix) → IsLayering layers →
+    m ≡ matrix layers.rows layers.cols (content layers.layers) →
+    (rows cols : ℕ) (cells : List Cell) → LayersSum rows cols cells layers →
+    (m ≡ matrix rows cols (built_of cells)) × (cell_total cells < 2 ^ 64)
 layers_sum layers m kept is rows cols cells sum = (
-  is ∙ ap (λ n. matrix n layers.cols (content layers.layers)) sum.rows_are ∙ ap (λ n. matrix rows n (content layers.layers)) sum.cols_are ∙ ap (matrix rows cols) sum.sum_is,
-  let total_is : total (content layers.layers) ≡ cell_total cells = ap total sum.sum_is ∙ total-built_of cells in omega (arith, total_is, kept.fits),
+  is ∙ ap (λ n. matrix n layers.cols (content layers.layers)) sum.rows_are ∙
+      ap (λ n. matrix rows n (content layers.layers)) sum.cols_are ∙ ap (matrix rows cols) sum.sum_is,
+  let total_is : total (content layers.layers) ≡ cell_total cells = ap total sum.sum_is ∙ total-built_of cells in
+      omega (arith, total_is, kept.fits),
 )
 
 -- the head of a matrix's text, and behind it the lines of its cells
-pub text_begins : (m : Matrix) (rows cols count : ℕ) (left : List (Place × ℕ)) → ◌≡◌ {A = ℕ × ℕ} (rows, cols) (m.rows, m.cols) → count ≡ len m.counts → left ≡ entries m.counts →
+pub text_begins : (m : Matrix) (rows cols count : ℕ) (left : List (Place × ℕ)) →
+    ◌≡◌ {A = ℕ × ℕ} (rows, cols) (m.rows, m.cols) → count ≡ len m.counts → left ≡ entries m.counts →
     canonical_head rows cols count ++ entry_lines (map cell_of left) ≡ matrix_text m
 unfolding matrix_text
 text_begins m rows cols count left dims counted is =
     let cells = cells_in_order m.counts in
-    let number : count ≡ length cells = omega (arith, counted, len-entries m.counts, length-map (entries m.counts) cell_of) in
+    let number : count ≡ length cells = omega (
+      arith,
+      counted,
+      len-entries m.counts,
+      length-map (entries m.counts) cell_of,
+    ) in
     ap (λ (p : ℕ × ℕ). canonical_head p.0 p.1 count ++ entry_lines (map cell_of left)) dims
     ∙ ap (λ n. canonical_head m.rows m.cols n ++ entry_lines (map cell_of left)) number
     ∙ ap (λ (es : List (Place × ℕ)). canonical_head m.rows m.cols (length cells) ++ entry_lines (map cell_of es)) is
 
 -- the lines that are to come, by the cells that are left
-pub lines_counted : (m : Matrix) (count left : ℕ) (cells : List (Place × ℕ)) → count ≡ len m.counts → left ≡ count → cells ≡ entries m.counts → left ≡ length cells
+pub lines_counted : (m : Matrix) (count left : ℕ) (cells : List (Place × ℕ)) → count ≡ len m.counts → left ≡ count →
+    cells ≡ entries m.counts → left ≡ length cells
 lines_counted m count left cells counted is order = omega (arith, counted, is, len-entries m.counts, ap length order)
 
 -- a line more, and behind it the lines of the cells that are left
-pub line_next : (text whole : List ℕ) (left rest : List (Place × ℕ)) (cell : Cell) → left ≡ entry_of cell ∷ rest → text ++ entry_lines (map cell_of left) ≡ whole →
+pub line_next : (text whole : List ℕ) (left rest : List (Place × ℕ)) (cell : Cell) → left ≡ entry_of cell ∷ rest →
+    text ++ entry_lines (map cell_of left) ≡ whole →
     (text ++ entry_line cell) ++ entry_lines (map cell_of rest) ≡ whole
 line_next text whole left rest cell is told =
-    append_assoc text (entry_line cell) (entry_lines (map cell_of rest)) ∙ sym (ap (λ (es : List (Place × ℕ)). text ++ entry_lines (map cell_of es)) is) ∙ told
+    append_assoc text (entry_line cell) (entry_lines (map cell_of rest)) ∙
+    sym (ap (λ (es : List (Place × ℕ)). text ++ entry_lines (map cell_of es)) is) ∙ told

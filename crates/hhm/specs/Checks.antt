@@ -22,7 +22,8 @@ sum_of_batches list = content (map (λ (b : Submission). b.matrix.counts) list)
 abbrev pub line_of : ℕ → ℕ → ℕ → ℕ → ℕ → ℕ → List ℕ
 line_of rows cols shards batches total entries =
     (codes "rows " ++ decimal rows) ++ (codes " cols " ++ decimal cols) ++ (codes " shards " ++ decimal shards)
-    ++ (codes " batches " ++ decimal batches) ++ (codes " total " ++ decimal total) ++ (codes " entries " ++ decimal entries) ++ 10 ∷ []
+    ++ (codes " batches " ++ decimal batches) ++ (codes " total " ++ decimal total) ++
+    (codes " entries " ++ decimal entries) ++ 10 ∷ []
 
 -- the line of a snapshot
 abbrev pub check_line : Setting → List Submission → List ℕ

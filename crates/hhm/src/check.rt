@@ -1,5 +1,6 @@
 //! `check`: reads a snapshot, and writes one line that says what it holds.
-ghost use Rattle.std.specs.Prelude.{◌≡◌, ℕ, ◌+◌, ◌<◌, ◌≤◌, ◌^◌, ◌⊎◌, ◌++◌, List, Err, decimal, length, OnOk, IfOk, IfErr};
+ghost use Rattle.std.specs.Prelude.{◌≡◌, ℕ, ◌+◌, ◌<◌, ◌≤◌, ◌^◌, ◌⊎◌, ◌++◌, List, Err, decimal, length, OnOk, IfOk};
+ghost use Rattle.std.specs.Prelude.{IfErr};
 ghost use Rattle.arrayvec.specs.ArrayString.{array_string_len};
 ghost use Rattle.byte_io.specs.Writing.{HasTaken, HasStopped};
 ghost use Rattle.byte_io.specs.declared.fault.WriteFault.{WriteFault};
@@ -33,7 +34,8 @@ fn with_batch(alloc: Global, layers: Layers, batch: &Batch) -> Result<Layers, Al
     requires cols { batch.now.matrix.cols ≡ layers.cols }
     requires fits { total (content layers.layers) + total batch.now.matrix.counts < 2 ^ 64 }
     ensures dims { IfOk result (λ after. (after.rows ≡ layers.rows) × (after.cols ≡ layers.cols)) }
-    ensures sum { IfOk result (λ after. content after.layers ≡ ewise_add (content layers.layers) batch.now.matrix.counts) }
+    ensures sum { IfOk result (λ after. content after.layers ≡
+        ewise_add (content layers.layers) batch.now.matrix.counts) }
 {
     // Any call on layers tells what they keep.
     let _dims = layers.dims();
@@ -110,7 +112,8 @@ fn write_check<W: Sink>(
 ) -> Result<(), CheckFault>
     requires failures { W.failure_count w.old + 1 < 2 ^ 64 }
     requires accepted { AreAccepted setup.now (values batches.now) }
-    ensures ok { OnOk result (HasTaken W.write_takes W.failure_count w.old w.new (check_line setup.now (values batches.now))) }
+    ensures ok { OnOk result (HasTaken W.write_takes W.failure_count w.old w.new
+        (check_line setup.now (values batches.now))) }
     ensures output { (fault : WriteFault) → result ≡ Err (CheckFault.Output fault) →
         HasStopped W.write_takes W.failure_count w.old w.new (check_line setup.now (values batches.now)) fault.written }
     ensures unwritten { IfErr result (λ fault. LeavesOutput fault ⊎ (w.new ≡ w.old)) }
@@ -128,7 +131,8 @@ fn write_check<W: Sink>(
     }
 }
 
-/// Reads the snapshot under `path`, and writes the line `rows R cols C shards K batches B total T entries E`, where E is
+/// Reads the snapshot under `path`, and writes the line `rows R cols C shards K batches B total T entries E`, where E
+/// is
 /// the number of cells of the sum of all batches.
 ///
 /// Takes the memory of the batches and of layers with the cuts 4,096, 65,536 and 1,048,576.

@@ -1,5 +1,6 @@
 -- Blocks of a list of cells, and that want of memory is no fault of a list.
-use Rattle.std.proofs.Common.{T, ◌≡◌, ℕ, ◌+◌, ◌^◌, ◌&&◌, Bool, true, false, cond, ltb, List, [], ◌∷◌, ◌++◌, subst, map, Some, sym, ◌∙◌, ap}
+use Rattle.std.proofs.Common.{T, ◌≡◌, ℕ, ◌+◌, ◌^◌, ◌&&◌, Bool, true, false, cond, ltb, List, [], ◌∷◌, ◌++◌, subst, map}
+use Rattle.std.proofs.Common.{Some, sym, ◌∙◌, ap}
 use Rattle.std.specs.List.{AllByRecursion}
 use Rattle.std.specs.FinMap.{is_sorted}
 use Rattle.std.proofs.lemmas.List.Elements.{All-head, All-tail}
@@ -20,23 +21,33 @@ use Rattle.hyper_matrix.specs.declared.judge.BuildFault.TheVariants.{Memory, Ind
 -- want of memory is no fault of a list
 pub no_memory_fault : (r c s : ℕ) (cells : List Cell) → first_fault r c s cells ≡ Some Memory → ⊥
 no_memory_fault r c s [] e = cc
-no_memory_fault r c s (x ∷ xs) e = step (no_memory_fault r c (s + x.count) xs) (ltb x.row r && ltb x.col c) (ltb (s + x.count) (2 ^ 64)) e
+no_memory_fault r c s (x ∷ xs) e = step (no_memory_fault r c (s + x.count) xs) (ltb x.row r && ltb x.col c)
+    (ltb (s + x.count) (2 ^ 64)) e
   where
-    step : (first_fault r c (s + x.count) xs ≡ Some Memory → ⊥) → (a b : Bool) → cond a (cond b (first_fault r c (s + x.count) xs) (Some SumTooLarge)) (Some IndexOutOfRange) ≡ Some Memory → ⊥
+    step : (first_fault r c (s + x.count) xs ≡ Some Memory → ⊥) → (a b : Bool) →
+        cond a (cond b (first_fault r c (s + x.count) xs) (Some SumTooLarge)) (Some IndexOutOfRange) ≡ Some Memory → ⊥
     step rest true true e = rest e
     step rest true false e = cc
     step rest false b e = cc
 
 -- the entries of cells within the dimensions lie within them
-pub entries_within : (r c : ℕ) (cells : List Cell) → AreWithin r c cells → AllByRecursion (LiesWithin r c) (map entry_of cells)
+pub entries_within : (r c : ℕ) (cells : List Cell) → AreWithin r c cells →
+    AllByRecursion (LiesWithin r c) (map entry_of cells)
 entries_within r c [] w = tt
-entries_within r c (x ∷ cells) w = (All-head (IsWithin r c) x cells w, entries_within r c cells (All-tail (IsWithin r c) x cells w))
+entries_within r c (x ∷ cells) w = (
+  All-head (IsWithin r c) x cells w,
+  entries_within r c cells (All-tail (IsWithin r c) x cells w),
+)
 
 -- blocks that hold a list of cells
-pub holds_list : (r c : ℕ) (blocks none : List Rows) (cells : List Cell) (sum : ℕ) → IsDimension r → IsDimension c → AreWithin r c cells → Rise cells → none ≡ [] → Grows none blocks (map entry_of cells) → sum ≡ cell_total cells → Holds r c sum blocks × (shared_counts blocks ≡ built_of cells)
+pub holds_list : (r c : ℕ) (blocks none : List Rows) (cells : List Cell) (sum : ℕ) → IsDimension r → IsDimension c →
+    AreWithin r c cells → Rise cells → none ≡ [] → Grows none blocks (map entry_of cells) → sum ≡ cell_total cells →
+    Holds r c sum blocks × (shared_counts blocks ≡ built_of cells)
 holds_list r c blocks none cells sum is_rows is_cols within rises no_blocks grows is =
-    let all : all_cells blocks ≡ map entry_of cells = grows.told ∙ ap (λ (b : List Rows). all_cells b ++ map entry_of cells) no_blocks in
-    let sorted : T (is_sorted place_cmp (all_cells blocks)) = subst (λ (es : List (Place × ℕ)). T (is_sorted place_cmp es)) (sym all) (sorted_rising cells rises) in (
+    let all : all_cells blocks ≡ map entry_of cells = grows.told ∙
+    ap (λ (b : List Rows). all_cells b ++ map entry_of cells) no_blocks in
+    let sorted : T (is_sorted place_cmp (all_cells blocks)) = subst
+    (λ (es : List (Place × ℕ)). T (is_sorted place_cmp es)) (sym all) (sorted_rising cells rises) in (
       record {
         is_rows = is_rows;
         is_cols = is_cols;

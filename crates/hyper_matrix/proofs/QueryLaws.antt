@@ -1,5 +1,6 @@
 -- What the blocks of a matrix give the look-ups in it.
-use Rattle.std.proofs.Common.{◌≡◌, ℕ, zero, suc, ◌<◌, ◌≤◌, ◌⊎◌, true, false, cond, eqb, T, List, [], ◌∷◌, length, Option, Some, None, sym, ◌∙◌, ap, subst, refl, inl, inr, arith}
+use Rattle.std.proofs.Common.{◌≡◌, ℕ, zero, suc, ◌<◌, ◌≤◌, ◌⊎◌, true, false, cond, eqb, T, List, [], ◌∷◌, length}
+use Rattle.std.proofs.Common.{Option, Some, None, sym, ◌∙◌, ap, subst, refl, inl, inr, arith}
 use Rattle.std.specs.List.{slice_get, AllByRecursion}
 use Rattle.std.specs.FinMap.{entries, len, len-entries, is_sorted, find, get, get-from_entries, get-empty, empty}
 use Rattle.hyper_rows.specs.Counts.{Place, Counts, place_cmp, count_sum, total}
@@ -27,20 +28,26 @@ have_rows [] h = tt
 have_rows (block ∷ blocks) h = (h.0.some, have_rows blocks h.1)
 
 -- a cell that is found lies within the dimensions, as all do
-found_within : (rows cols : ℕ) (q : Place) (n : ℕ) (es : List (Place × ℕ)) → AllByRecursion (LiesWithin rows cols) es → find place_cmp q es ≡ Some n → (q.0 < rows) × (q.1 < cols)
+found_within : (rows cols : ℕ) (q : Place) (n : ℕ) (es : List (Place × ℕ)) → AllByRecursion (LiesWithin rows cols) es →
+    find place_cmp q es ≡ Some n → (q.0 < rows) × (q.1 < cols)
 found_within rows cols q n [] h is = absurd (none-some _ is)
-found_within rows cols q n (e ∷ es) h is = elim (eq_by_cmp place_cmp q e.0) as (λ t. eq_by_cmp place_cmp q e.0 ≡ t → (q.0 < rows) × (q.1 < cols)) [
-  | true ↦ λ t. subst (λ (p : Place). (p.0 < rows) × (p.1 < cols)) (sym (exact_places q e.0 (is_equal (place_cmp q e.0) t))) h.0
-  | false ↦ λ t. found_within rows cols q n es h.1 (sym (ap (λ b. cond b (Some e.1) (find place_cmp q es)) t) ∙ is)
-] refl
+found_within rows cols q n (e ∷ es) h is = elim (eq_by_cmp place_cmp q e.0) as
+    (λ t. eq_by_cmp place_cmp q e.0 ≡ t → (q.0 < rows) × (q.1 < cols)) [
+      | true ↦ λ t. subst (λ (p : Place). (p.0 < rows) × (p.1 < cols))
+          (sym (exact_places q e.0 (is_equal (place_cmp q e.0) t))) h.0
+      | false ↦ λ t. found_within rows cols q n es h.1 (sym (ap (λ b. cond b (Some e.1) (find place_cmp q es)) t) ∙ is)
+    ] refl
 
-listed_within : (rows cols i : ℕ) (e : Place × ℕ) (es : List (Place × ℕ)) → AllByRecursion (LiesWithin rows cols) es → slice_get es i ≡ Some e → (e.0.0 < rows) × (e.0.1 < cols)
+listed_within : (rows cols i : ℕ) (e : Place × ℕ) (es : List (Place × ℕ)) → AllByRecursion (LiesWithin rows cols) es →
+    slice_get es i ≡ Some e → (e.0.0 < rows) × (e.0.1 < cols)
 listed_within rows cols i e [] h is = absurd (none-some _ is)
-listed_within rows cols zero e (x ∷ es) h is = subst (λ (y : Place × ℕ). (y.0.0 < rows) × (y.0.1 < cols)) (same_Some _ _ is) h.0
+listed_within rows cols zero e (x ∷ es) h is = subst (λ (y : Place × ℕ). (y.0.0 < rows) × (y.0.1 < cols))
+    (same_Some _ _ is) h.0
 listed_within rows cols (suc i) e (x ∷ es) h is = listed_within rows cols i e es h.1 is
 
 -- a matrix's blocks as they are read, with its view
-module _ (read blocks : List Rows) (rows cols : ℕ) (m : Matrix) (is : read ≡ blocks) (view : matrix rows cols (map_of (all_cells blocks)) ≡ m) where
+module _ (read blocks : List Rows) (rows cols : ℕ) (m : Matrix) (is : read ≡ blocks)
+    (view : matrix rows cols (map_of (all_cells blocks)) ≡ m) where
   pub counts_are : map_of (all_cells read) ≡ m.counts
   counts_are = ap (λ (b : List Rows). map_of (all_cells b)) is ∙ ap (λ (x : Matrix). x.counts) view
 
@@ -59,39 +66,54 @@ module _ (read blocks : List Rows) (rows cols : ℕ) (m : Matrix) (is : read ≡
     sum_is = ap count_sum entries_are
 
     pub row_count_is : (r n s : ℕ) → IsRowSum r (all_cells read) n s → n ≡ len (row_of m.counts r)
-    row_count_is r n s h = len-row_of (all_cells read) r n s read_sorted h ∙ ap (λ (x : Counts). len (row_of x r)) counts_are
+    row_count_is r n s h = len-row_of (all_cells read) r n s read_sorted h ∙
+        ap (λ (x : Counts). len (row_of x r)) counts_are
 
     pub row_total_is : (r n s : ℕ) → IsRowSum r (all_cells read) n s → s ≡ total (row_of m.counts r)
-    row_total_is r n s h = total-row_of (all_cells read) r n s read_sorted h ∙ ap (λ (x : Counts). total (row_of x r)) counts_are
+    row_total_is r n s h = total-row_of (all_cells read) r n s read_sorted h ∙
+        ap (λ (x : Counts). total (row_of x r)) counts_are
 
-    pub cell_is : (o : Option (Place × ℕ)) (i : ℕ) → o ≡ slice_get (all_cells read) i → o ≡ slice_get (entries m.counts) i
+    pub cell_is : (o : Option (Place × ℕ)) (i : ℕ) → o ≡ slice_get (all_cells read) i →
+        o ≡ slice_get (entries m.counts) i
     cell_is o i e = e ∙ ap (λ (l : List (Place × ℕ)). slice_get l i) (sym entries_are)
 
 -- the cells of a matrix lie within its dimensions
-module _ (blocks : List Rows) (rows cols : ℕ) (m : Matrix) (view : matrix rows cols (map_of (all_cells blocks)) ≡ m) (sorted : T (is_sorted place_cmp (all_cells blocks))) (within : AllByRecursion (LiesWithin rows cols) (all_cells blocks)) where
+module _ (blocks : List Rows) (rows cols : ℕ) (m : Matrix) (view : matrix rows cols (map_of (all_cells blocks)) ≡ m)
+    (sorted : T (is_sorted place_cmp (all_cells blocks))) (within : AllByRecursion (LiesWithin rows cols)
+    (all_cells blocks)) where
   in_matrix : (p : Place) → (p.0 < rows) × (p.1 < cols) → (p.0 < m.rows) × (p.1 < m.cols)
-  in_matrix p h = (omega (arith, h.0, ap (λ (x : Matrix). x.rows) view), omega (arith, h.1, ap (λ (x : Matrix). x.cols) view))
+  in_matrix p h = (
+    omega (arith, h.0, ap (λ (x : Matrix). x.rows) view),
+    omega (arith, h.1, ap (λ (x : Matrix). x.cols) view),
+  )
 
   stands_within : (q : Place) (n : ℕ) → get m.counts q ≡ Some n → (q.0 < m.rows) × (q.1 < m.cols)
-  stands_within q n is = in_matrix q (found_within rows cols q n (all_cells blocks) within (sym (get-from_entries places_total (all_cells blocks) q) ∙ ap (λ (x : Matrix). get x.counts q) view ∙ is))
+  stands_within q n is = in_matrix q (found_within rows cols q n (all_cells blocks) within
+      (sym (get-from_entries places_total (all_cells blocks) q) ∙ ap (λ (x : Matrix). get x.counts q) view ∙ is))
 
   pub none_outside : (r c : ℕ) → (m.rows ≤ r) ⊎ (m.cols ≤ c) → get m.counts (r, c) ≡ None
   none_outside r c out = elim (get m.counts (r, c)) as (λ o. get m.counts (r, c) ≡ o → o ≡ None) [
     | None ↦ λ e. refl
-    | Some n ↦ λ e. let h = stands_within (r, c) n e in absurd (elim out [ inl a ↦ omega (arith, h.0) | inr b ↦ omega (arith, h.1) ])
+    | Some n ↦ λ e. let h = stands_within (r, c) n e in absurd
+        (elim out [ inl a ↦ omega (arith, h.0) | inr b ↦ omega (arith, h.1) ])
   ] refl
 
   pub row_outside : (r : ℕ) → m.rows ≤ r → row_of m.counts r ≡ empty
-  row_outside r out = same_counts _ _ (λ q. get-row_of m.counts r q ∙ nothing q (cases_eq q.0 r) ∙ sym (get-empty place_cmp q))
+  row_outside r out = same_counts _ _ (λ q. get-row_of m.counts r q ∙ nothing q (cases_eq q.0 r) ∙
+      sym (get-empty place_cmp q))
     where
       nothing : (q : Place) → (q.0 ≡ r) ⊎ (q.0 ≡ r → ⊥) → cond (eqb q.0 r) (get m.counts q) None ≡ None
-      nothing q (inl same) = ap (λ b. cond b (get m.counts q) None) (eq-eqb q.0 r same) ∙ none_outside q.0 q.1 (inl (omega arith))
+      nothing q (inl same) = ap (λ b. cond b (get m.counts q) None) (eq-eqb q.0 r same) ∙
+          none_outside q.0 q.1 (inl (omega arith))
       nothing q (inr other) = ap (λ b. cond b (get m.counts q) None) (ne_eqb q.0 r other)
 
-  pub cell_within : (o : Option Cell) (i : ℕ) → option_map entry_of o ≡ slice_get (all_cells blocks) i → IfSome o (λ cell. (cell.row < m.rows) × (cell.col < m.cols))
+  pub cell_within : (o : Option Cell) (i : ℕ) → option_map entry_of o ≡ slice_get (all_cells blocks) i →
+      IfSome o (λ cell. (cell.row < m.rows) × (cell.col < m.cols))
   cell_within None i is = tt
-  cell_within (Some cell) i is = in_matrix (cell.row, cell.col) (listed_within rows cols i (entry_of cell) (all_cells blocks) within (sym is))
+  cell_within (Some cell) i is = in_matrix (cell.row, cell.col)
+      (listed_within rows cols i (entry_of cell) (all_cells blocks) within (sym is))
 
-  pub entry_within : (o : Option Entry) (r from : ℕ) → MatchOption o (HasNoneFrom m.counts r from) (IsFirst m.counts r from) → IfSome o (λ entry. (r < m.rows) × (entry.col < m.cols))
+  pub entry_within : (o : Option Entry) (r from : ℕ) → MatchOption o (HasNoneFrom m.counts r from)
+      (IsFirst m.counts r from) → IfSome o (λ entry. (r < m.rows) × (entry.col < m.cols))
   entry_within None r from h = tt
   entry_within (Some entry) r from h = stands_within (r, entry.col) entry.count h.stands

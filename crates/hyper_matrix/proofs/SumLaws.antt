@@ -1,5 +1,6 @@
 -- The sum of blocks and cells, a block at a time.
-use Rattle.std.proofs.Common.{◌≡◌, ℕ, ◌+◌, ◌<◌, ◌≤◌, T, List, [], ◌∷◌, ◌++◌, length, get_or, take, drop, map, sym, ◌∙◌, ap, subst, refl, inl, inr, arith}
+use Rattle.std.proofs.Common.{◌≡◌, ℕ, ◌+◌, ◌<◌, ◌≤◌, T, List, [], ◌∷◌, ◌++◌, length, get_or, take, drop, map, sym, ◌∙◌}
+use Rattle.std.proofs.Common.{ap, subst, refl, inl, inr, arith}
 use Rattle.std.specs.List.{slice_range}
 use Rattle.std.specs.FinMap.{is_sorted, empty}
 use Rattle.std.proofs.lemmas.Bool.{cases_order}
@@ -12,11 +13,14 @@ use Rattle.hyper_rows.specs.Places.{Less, AllPlaces, Precede, IsFirst, BeginsFro
 use Rattle.hyper_rows.specs.Cells.{entry_of, built_of, cell_total}
 use Rattle.cells.specs.declared.cell.Cell.{Cell}
 use Rattle.hyper_matrix.proofs.BlockLaws.{all_cells-append}
-use Rattle.hyper_rows.proofs.CountLaws.{ewise_add_assoc, built-append, total-ewise_add, ewise_add_comm, ewise_add-empty, total-built, total-ewise_add}
-use Rattle.hyper_rows.proofs.CellLaws.{counts_of-sum_rows, in_order-sum_rows, sorted_rows, sum_of_cells, total-counts_of}
+use Rattle.hyper_rows.proofs.CountLaws.{ewise_add_assoc, built-append, total-ewise_add, ewise_add_comm, ewise_add-empty}
+use Rattle.hyper_rows.proofs.CountLaws.{total-built, total-ewise_add}
+use Rattle.hyper_rows.proofs.CellLaws.{counts_of-sum_rows, in_order-sum_rows, sorted_rows, sum_of_cells}
+use Rattle.hyper_rows.proofs.CellLaws.{total-counts_of}
 use Rattle.hyper_rows.proofs.ListLaws.{counts_of-built, total-built_of}
 use Rattle.hyper_rows.proofs.MergeLaws.{split_at, merged-nil, merged_less, merged_greater, merged_same}
-use Rattle.hyper_rows.proofs.OrderLaws.{all_map, precedes, before_first, before_begin, below_first, columns_rise, next_left, next_right, next_sum}
+use Rattle.hyper_rows.proofs.OrderLaws.{all_map, precedes, before_first, before_begin, below_first, columns_rise}
+use Rattle.hyper_rows.proofs.OrderLaws.{next_left, next_right, next_sum}
 
 pub built-nil : built [] ≡ empty
 unfolding built
@@ -33,24 +37,32 @@ first_front k [] ys f = absurd f
 first_front k (x ∷ xs) ys f = f
 
 -- the cells from j on are those up to e and those from e on
-pub split_cells : (cells : List Cell) (j e : ℕ) → j ≤ e → map entry_of (drop j cells) ≡ map entry_of (slice_range cells j e) ++ map entry_of (drop e cells)
-split_cells cells j e h = ap (map entry_of) (split_at cells j e h) ∙ map-append entry_of (slice_range cells j e) (drop e cells)
+pub split_cells : (cells : List Cell) (j e : ℕ) → j ≤ e → map entry_of (drop j cells) ≡
+    map entry_of (slice_range cells j e) ++ map entry_of (drop e cells)
+split_cells cells j e h = ap (map entry_of) (split_at cells j e h) ∙
+    map-append entry_of (slice_range cells j e) (drop e cells)
 
 -- what stands below the first place of a list in order stands before the list
-pub ends_left : (added left : List (Place × ℕ)) (k : Place) → IsFirst k left → T (is_sorted place_cmp left) → AllPlaces (λ p. Less p k) added → Precede added left
-ends_left added left k first order below = all_map (λ p. Less p k) (λ p. AllPlaces (Less p) left) (λ p h. before_first p k left first order h) added below
+pub ends_left : (added left : List (Place × ℕ)) (k : Place) → IsFirst k left → T (is_sorted place_cmp left) →
+    AllPlaces (λ p. Less p k) added → Precede added left
+ends_left added left k first order below = all_map (λ p. Less p k) (λ p. AllPlaces (Less p) left)
+    (λ p h. before_first p k left first order h) added below
 
 -- what stands before a list in order stands before what begins at that list's first place or behind it
-pub ends_right : (block left right : List (Place × ℕ)) (k : Place) → IsFirst k left → T (is_sorted place_cmp (block ++ left)) → BeginsFrom k right → T (is_sorted place_cmp right) → Precede block right
+pub ends_right : (block left right : List (Place × ℕ)) (k : Place) → IsFirst k left →
+    T (is_sorted place_cmp (block ++ left)) → BeginsFrom k right → T (is_sorted place_cmp right) → Precede block right
 ends_right block left right k first order begins order_right =
-    all_map (λ p. Less p k) (λ p. AllPlaces (Less p) right) (λ p h. before_begin p k right begins order_right h) block (below_first block k left first (precedes block left order))
+    all_map (λ p. Less p k) (λ p. AllPlaces (Less p) right) (λ p h. before_begin p k right begins order_right h) block
+    (below_first block k left first (precedes block left order))
 
 in_block : (block : Rows) → IsBlock block → T (is_sorted place_cmp (cells_of block)) → InOrder block
 in_block block b sorted = record { numbers = b.numbers; columns = columns_rise block sorted }
 
 -- the numbers of a sum's rows rise
-pub sum_rising : (block added sum : Rows) → IsBlock block → T (is_sorted place_cmp (cells_of block)) → InOrder added → sum ≡ sum_rows block added → AreRising sum
-sum_rising block added sum b sorted order is = subst AreRising (sym is) (in_order-sum_rows block added (in_block block b sorted) order).numbers
+pub sum_rising : (block added sum : Rows) → IsBlock block → T (is_sorted place_cmp (cells_of block)) → InOrder added →
+    sum ≡ sum_rows block added → AreRising sum
+sum_rising block added sum b sorted order is = subst AreRising (sym is)
+    (in_order-sum_rows block added (in_block block b sorted) order).numbers
 
 -- a sum of rows has rows where the first has
 some_merged : {X : Type 0} (f : X → X → X) (x : ℕ × X) (xs ys : List (ℕ × X)) → 0 < length (merged f (x ∷ xs) ys)
@@ -63,26 +75,40 @@ some_merged f x xs (y ∷ ys) = elim (cases_order x.0 y.0) [
 
 pub sum_some : (block added sum : Rows) → 0 < length block → sum ≡ sum_rows block added → 0 < length sum
 sum_some [] added sum some is = absurd (omega arith)
-sum_some (x ∷ block) added sum some is = subst (λ (r : Rows). 0 < length r) (sym is) (some_merged sum_entries x block added)
+sum_some (x ∷ block) added sum some is = subst (λ (r : Rows). 0 < length r) (sym is)
+    (some_merged sum_entries x block added)
 
 -- where no rows are added, the rows stay
 pub sum_none : (rows none sum : Rows) → none ≡ [] → sum ≡ sum_rows rows none → sum ≡ rows
 sum_none rows none sum empty is = is ∙ ap (sum_rows rows) empty ∙ merged-nil sum_entries rows
 
 -- the totals of a block and of other rows make that of their sum
-pub sum_total : (block added sum : Rows) → IsBlock block → T (is_sorted place_cmp (cells_of block)) → InOrder added → sum ≡ sum_rows block added → rows_total sum ≡ rows_total block + rows_total added
+pub sum_total : (block added sum : Rows) → IsBlock block → T (is_sorted place_cmp (cells_of block)) → InOrder added →
+    sum ≡ sum_rows block added → rows_total sum ≡ rows_total block + rows_total added
 sum_total block added sum b sorted order is =
     let first = in_block block b sorted in
-    ap rows_total is ∙ sym (total-counts_of (sum_rows block added) (in_order-sum_rows block added first order)) ∙ ap total (counts_of-sum_rows block added first order)
-    ∙ total-ewise_add (counts_of block) (counts_of added) ∙ omega (arith, total-counts_of block first, total-counts_of added order)
+    ap rows_total is ∙ sym (total-counts_of (sum_rows block added) (in_order-sum_rows block added first order)) ∙
+    ap total (counts_of-sum_rows block added first order)
+    ∙ total-ewise_add (counts_of block) (counts_of added) ∙
+    omega (arith, total-counts_of block first, total-counts_of added order)
 
 -- where the first block begins, all of them begin
-pub first_of_blocks : (blocks : List Rows) (d : Rows) (k : Place) → 0 < length blocks → IsFirst k (cells_of (get_or blocks 0 d)) → IsFirst k (all_cells blocks)
+pub first_of_blocks : (blocks : List Rows) (d : Rows) (k : Place) → 0 < length blocks →
+    IsFirst k (cells_of (get_or blocks 0 d)) → IsFirst k (all_cells blocks)
 first_of_blocks [] d k h first = absurd (omega arith)
 first_of_blocks (block ∷ blocks) d k h first = first_front k (cells_of block) (all_cells blocks) first
 
 -- the first block and its cells are added up and go over to what is done
-pub sum_step : (old rest : List Rows) (block : Rows) (cells : List Cell) (j e : ℕ) (out new : List Rows) → old ≡ block ∷ rest → j ≤ e → T (is_sorted place_cmp (all_cells out ++ all_cells old)) → T (is_sorted place_cmp (all_cells out ++ map entry_of (drop j cells))) → Precede (map entry_of (slice_range cells j e)) (all_cells rest) → Precede (cells_of block) (map entry_of (drop e cells)) → GrowsBySum out new (cells_of block) (map entry_of (slice_range cells j e)) → T (is_sorted place_cmp (all_cells new ++ all_cells rest)) × (T (is_sorted place_cmp (all_cells new ++ map entry_of (drop e cells))) × (ewise_add (built (all_cells new)) (ewise_add (built (all_cells rest)) (built (map entry_of (drop e cells)))) ≡ ewise_add (built (all_cells out)) (ewise_add (built (all_cells old)) (built (map entry_of (drop j cells))))))
+pub sum_step : (old rest : List Rows) (block : Rows) (cells : List Cell) (j e : ℕ) (out new : List Rows) →
+    old ≡ block ∷ rest → j ≤ e → T (is_sorted place_cmp (all_cells out ++ all_cells old)) →
+    T (is_sorted place_cmp (all_cells out ++ map entry_of (drop j cells))) →
+    Precede (map entry_of (slice_range cells j e)) (all_cells rest) →
+    Precede (cells_of block) (map entry_of (drop e cells)) →
+    GrowsBySum out new (cells_of block) (map entry_of (slice_range cells j e)) →
+    T (is_sorted place_cmp (all_cells new ++ all_cells rest)) ×
+    (T (is_sorted place_cmp (all_cells new ++ map entry_of (drop e cells))) ×
+    (ewise_add (built (all_cells new)) (ewise_add (built (all_cells rest)) (built (map entry_of (drop e cells)))) ≡
+    ewise_add (built (all_cells out)) (ewise_add (built (all_cells old)) (built (map entry_of (drop j cells))))))
 sum_step old rest block cells j e out new is g front other stand_left stand_right grows =
     let done = all_cells out in
     let a = cells_of block in
@@ -92,21 +118,29 @@ sum_step old rest block cells j e out new is g front other stand_left stand_righ
     let s = grows.cells in
     let here : all_cells old ≡ a ++ left = ap all_cells is in
     let there : map entry_of (drop j cells) ≡ p ++ right = split_cells cells j e g in
-    let front' : T (is_sorted place_cmp (done ++ (a ++ left))) = subst (λ (r : List (Place × ℕ)). T (is_sorted place_cmp (done ++ r))) here front in
-    let other' : T (is_sorted place_cmp (done ++ (p ++ right))) = subst (λ (r : List (Place × ℕ)). T (is_sorted place_cmp (done ++ r))) there other in
+    let front' : T (is_sorted place_cmp (done ++ (a ++ left))) = subst
+    (λ (r : List (Place × ℕ)). T (is_sorted place_cmp (done ++ r))) here front in
+    let other' : T (is_sorted place_cmp (done ++ (p ++ right))) = subst
+    (λ (r : List (Place × ℕ)). T (is_sorted place_cmp (done ++ r))) there other in
     let told : all_cells new ≡ done ++ s = grows.grows.told in (
-      subst (λ (r : List (Place × ℕ)). T (is_sorted place_cmp (r ++ left))) (sym told) (next_left done a p left right s front' other' grows.sorted grows.sums stand_left),
+      subst (λ (r : List (Place × ℕ)). T (is_sorted place_cmp (r ++ left))) (sym told)
+          (next_left done a p left right s front' other' grows.sorted grows.sums stand_left),
       (
-        subst (λ (r : List (Place × ℕ)). T (is_sorted place_cmp (r ++ right))) (sym told) (next_right done a p left right s front' other' grows.sorted grows.sums stand_right),
+        subst (λ (r : List (Place × ℕ)). T (is_sorted place_cmp (r ++ right))) (sym told)
+            (next_right done a p left right s front' other' grows.sorted grows.sums stand_right),
         ap (λ (r : List (Place × ℕ)). ewise_add (built r) (ewise_add (built left) (built right))) told
             ∙ next_sum done a p left right s front' other' grows.sorted grows.sums
-            ∙ ap (λ (r : List (Place × ℕ)). ewise_add (built done) (ewise_add (built r) (built (p ++ right)))) (sym here)
-            ∙ ap (λ (r : List (Place × ℕ)). ewise_add (built done) (ewise_add (built (all_cells old)) (built r))) (sym there),
+            ∙ ap (λ (r : List (Place × ℕ)). ewise_add (built done) (ewise_add (built r) (built (p ++ right))))
+            (sym here)
+            ∙ ap (λ (r : List (Place × ℕ)). ewise_add (built done) (ewise_add (built (all_cells old)) (built r)))
+            (sym there),
       ),
     )
 
 -- the rows of a block's sum with cells were added behind
-pub grows_sum : (old new : List Rows) (block added sum : Rows) (cells : List Cell) → IsBlock block → T (is_sorted place_cmp (cells_of block)) → InOrder added → built (cells_of added) ≡ built_of cells → sum ≡ sum_rows block added → Grows old new (cells_of sum) → GrowsBySum old new (cells_of block) (map entry_of cells)
+pub grows_sum : (old new : List Rows) (block added sum : Rows) (cells : List Cell) → IsBlock block →
+    T (is_sorted place_cmp (cells_of block)) → InOrder added → built (cells_of added) ≡ built_of cells →
+    sum ≡ sum_rows block added → Grows old new (cells_of sum) → GrowsBySum old new (cells_of block) (map entry_of cells)
 grows_sum old new block added sum cells b sorted order told is grows =
     let first = in_block block b sorted in
     let all : InOrder sum = subst InOrder (sym is) (in_order-sum_rows block added first order) in
@@ -115,39 +149,67 @@ grows_sum old new block added sum cells b sorted order told is grows =
       grows = grows;
       sorted = sorted_rows sum all.numbers all.columns;
       sums = sym (counts_of-built sum all) ∙ ap counts_of is ∙ counts_of-sum_rows block added first order
-          ∙ ap (λ (m : Counts). ewise_add m (counts_of added)) (counts_of-built block first) ∙ ap (ewise_add (built (cells_of block))) (counts_of-built added order ∙ told);
+          ∙ ap (λ (m : Counts). ewise_add m (counts_of added)) (counts_of-built block first) ∙
+          ap (ewise_add (built (cells_of block))) (counts_of-built added order ∙ told);
     }
 
 -- a block alone
-pub grows_shared : (old new : List Rows) (block : Rows) (cells : List Cell) → T (is_sorted place_cmp (cells_of block)) → length cells ≡ 0 → Grows old new (cells_of block) → GrowsBySum old new (cells_of block) (map entry_of cells)
-grows_shared old new block [] sorted none grows = record { cells = cells_of block; grows = grows; sorted = sorted; sums = sym (nothing_last (built (cells_of block))) }
+pub grows_shared : (old new : List Rows) (block : Rows) (cells : List Cell) → T (is_sorted place_cmp (cells_of block)) →
+    length cells ≡ 0 → Grows old new (cells_of block) → GrowsBySum old new (cells_of block) (map entry_of cells)
+grows_shared old new block [] sorted none grows = record {
+  cells = cells_of block;
+  grows = grows;
+  sorted = sorted;
+  sums = sym (nothing_last (built (cells_of block)));
+}
 grows_shared old new block (x ∷ cells) sorted none grows = absurd (omega arith)
 
 -- the totals of a block and of the rows of cells
-pub added_total : (added : Rows) (cells : List Cell) → built (cells_of added) ≡ built_of cells → rows_total added ≡ cell_total cells
-added_total added cells told = sym (sum_of_cells added) ∙ sym (total-built (cells_of added)) ∙ ap total told ∙ total-built_of cells
+pub added_total : (added : Rows) (cells : List Cell) → built (cells_of added) ≡ built_of cells →
+    rows_total added ≡ cell_total cells
+added_total added cells told = sym (sum_of_cells added) ∙ sym (total-built (cells_of added)) ∙ ap total told ∙
+    total-built_of cells
 
 -- a part of cells has no more than the whole
 pub part_total : (cells : List Cell) (j e : ℕ) → j ≤ e → cell_total (slice_range cells j e) ≤ cell_total cells
 part_total cells j e h =
-    omega (arith, total-append (take j cells) (drop j cells), ap cell_total (take-append-drop j cells), ap cell_total (split_at cells j e h), total-append (slice_range cells j e) (drop e cells))
+    omega (
+      arith,
+      total-append (take j cells) (drop j cells),
+      ap cell_total (take-append-drop j cells),
+      ap cell_total (split_at cells j e h),
+      total-append (slice_range cells j e) (drop e cells),
+    )
   where
     total-append : (xs ys : List Cell) → cell_total (xs ++ ys) ≡ cell_total xs + cell_total ys
     total-append [] ys = omega arith
     total-append (x ∷ xs) ys = omega (arith, total-append xs ys)
 
 -- the cells of the blocks from one on are those up to another and those from there on
-pub part_cells : (blocks : List Rows) (i e : ℕ) → i ≤ e → all_cells (drop i blocks) ≡ all_cells (slice_range blocks i e) ++ all_cells (drop e blocks)
-part_cells blocks i e h = ap all_cells (split_at blocks i e h) ∙ all_cells-append (slice_range blocks i e) (drop e blocks)
+pub part_cells : (blocks : List Rows) (i e : ℕ) → i ≤ e → all_cells (drop i blocks) ≡
+    all_cells (slice_range blocks i e) ++ all_cells (drop e blocks)
+part_cells blocks i e h = ap all_cells (split_at blocks i e h) ∙
+    all_cells-append (slice_range blocks i e) (drop e blocks)
 
 -- a part is added, and the rest is left
-pub part_step : (sum next part rest left : List (Place × ℕ)) → left ≡ part ++ rest → built next ≡ ewise_add (built sum) (built part) → ewise_add (built next) (built rest) ≡ ewise_add (built sum) (built left)
+pub part_step : (sum next part rest left : List (Place × ℕ)) → left ≡ part ++ rest →
+    built next ≡ ewise_add (built sum) (built part) → ewise_add (built next) (built rest) ≡
+    ewise_add (built sum) (built left)
 part_step sum next part rest left is sums =
-    ap (λ (m : Counts). ewise_add m (built rest)) sums ∙ ewise_add_assoc (built sum) (built part) (built rest) ∙ ap (ewise_add (built sum)) (sym (built-append part rest))
+    ap (λ (m : Counts). ewise_add m (built rest)) sums ∙ ewise_add_assoc (built sum) (built part) (built rest) ∙
+    ap (ewise_add (built sum)) (sym (built-append part rest))
     ∙ ap (λ (es : List (Place × ℕ)). ewise_add (built sum) (built es)) (sym is)
 
-pub part_count : (sum next part : List (Place × ℕ)) → built next ≡ ewise_add (built sum) (built part) → count_sum next ≡ count_sum sum + count_sum part
-part_count sum next part sums = omega (arith, total-built next, ap total sums, total-ewise_add (built sum) (built part), total-built sum, total-built part)
+pub part_count : (sum next part : List (Place × ℕ)) → built next ≡ ewise_add (built sum) (built part) →
+    count_sum next ≡ count_sum sum + count_sum part
+part_count sum next part sums = omega (
+  arith,
+  total-built next,
+  ap total sums,
+  total-ewise_add (built sum) (built part),
+  total-built sum,
+  total-built part,
+)
 
 -- blocks with cells are blocks
 pub some_blocks : (blocks : List Rows) → 0 < length (all_cells blocks) → 0 < length blocks
@@ -155,5 +217,7 @@ some_blocks [] h = absurd (omega arith)
 some_blocks (block ∷ blocks) h = omega arith
 
 -- cells that are listed behind none
-pub listed : (seen items old : List Cell) (part : List (Place × ℕ)) → seen ≡ items → map entry_of items ≡ map entry_of old ++ part → old ≡ [] → map entry_of seen ≡ part
-listed seen items old part is told none = ap (map entry_of) is ∙ told ∙ ap (λ (cells : List Cell). map entry_of cells ++ part) none
+pub listed : (seen items old : List Cell) (part : List (Place × ℕ)) → seen ≡ items →
+    map entry_of items ≡ map entry_of old ++ part → old ≡ [] → map entry_of seen ≡ part
+listed seen items old part is told none = ap (map entry_of) is ∙ told ∙
+    ap (λ (cells : List Cell). map entry_of cells ++ part) none

@@ -1,5 +1,6 @@
 -- Rows in blocks.
-use Rattle.std.specs.Prelude.{◌≡◌, ℕ, ◌+◌, ◌-◌, ◌<◌, ◌≤◌, T, List, [], ◌∷◌, ◌++◌, length, drop, slice_index_or, slice_range}
+use Rattle.std.specs.Prelude.{◌≡◌, ℕ, ◌+◌, ◌-◌, ◌<◌, ◌≤◌, T, List, [], ◌∷◌, ◌++◌, length, drop, slice_index_or}
+use Rattle.std.specs.Prelude.{slice_range}
 use Rattle.std.specs.FinMap.{is_sorted}
 use Rattle.hyper_rows.specs.Counts.{Place, place_cmp, built, ewise_add}
 use Rattle.hyper_rows.specs.Rows.{Rows, AreRising, start_from, cells_of}

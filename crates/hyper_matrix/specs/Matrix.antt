@@ -13,4 +13,5 @@ abbrev pub matrix : ℕ → ℕ → Counts → Matrix
 matrix r c m = record { rows = r; cols = c; counts = m }
 
 abbrev pub coded_matrix : Coded Matrix
-coded_matrix = code_by (ℕ × (ℕ × Counts)) (coded× coded_ℕ (coded× coded_ℕ coded_counts)) (λ m. (m.rows, (m.cols, m.counts))) (λ p. record { rows = p.0; cols = p.1.0; counts = p.1.1 }) (λ _. refl)
+coded_matrix = code_by (ℕ × (ℕ × Counts)) (coded× coded_ℕ (coded× coded_ℕ coded_counts))
+    (λ m. (m.rows, (m.cols, m.counts))) (λ p. record { rows = p.0; cols = p.1.0; counts = p.1.1 }) (λ _. refl)

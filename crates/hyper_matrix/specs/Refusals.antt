@@ -3,7 +3,8 @@
 --     LeavesDimensions     a cell lies outside, behind cells that all lie within and whose counts fit 64 bits
 --     PassesLimit          with a cell that lies within, the counts no longer fit, and before it all was well
 --     MakesMatrix          all cells lie within, and their counts fit
-use Rattle.std.specs.Prelude.{◌≡◌, ℕ, ◌+◌, ◌<◌, ◌≤◌, ◌^◌, ◌⊎◌, ◌&&◌, List, [], ◌∷◌, ◌++◌, Option, Some, None, if◌then◌else◌, nat_lt}
+use Rattle.std.specs.Prelude.{◌≡◌, ℕ, ◌+◌, ◌<◌, ◌≤◌, ◌^◌, ◌⊎◌, ◌&&◌, List, [], ◌∷◌, ◌++◌, Option, Some, None}
+use Rattle.std.specs.Prelude.{if◌then◌else◌, nat_lt}
 use Rattle.cells.specs.Bounds.{IsWithin, AreWithin}
 use Rattle.cells.specs.declared.cell.Cell.{Cell}
 use Rattle.hyper_rows.specs.Cells.{cell_total}
@@ -15,7 +16,8 @@ abbrev pub first_fault : ℕ → ℕ → ℕ → List Cell → Option BuildFault
 first_fault rows cols sum [] = None
 first_fault rows cols sum (cell ∷ cells) =
     if nat_lt cell.row rows && nat_lt cell.col cols
-    then (if nat_lt (sum + cell.count) (2 ^ 64) then first_fault rows cols (sum + cell.count) cells else Some SumTooLarge)
+    then (if nat_lt (sum + cell.count) (2 ^ 64) then first_fault rows cols
+    (sum + cell.count) cells else Some SumTooLarge)
     else Some IndexOutOfRange
 
 -- each cell lies within these dimensions, and all counts together are below 2^64

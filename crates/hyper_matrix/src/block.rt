@@ -35,7 +35,8 @@ impl Model for Block {
 
     ghost view = { λ b. arc_value b.rows };
 
-    ghost invariant = { λ b. IsFirst (b.row, b.col) (cells_of (arc_value b.rows)) × (b.count ≡ length (cells_of (arc_value b.rows))) };
+    ghost invariant = { λ b. IsFirst (b.row, b.col) (cells_of (arc_value b.rows)) ×
+        (b.count ≡ length (cells_of (arc_value b.rows))) };
 }
 
 // Exchanges the rows, unless somebody else has them too.

@@ -79,7 +79,8 @@ pub fn get(blocks: &[Block], row: u64, col: u64) -> Option<u64>
 pub fn first_in_row(blocks: &[Block], row: u64, from: u64) -> Option<Entry>
     requires full { HaveRows blocks.now }
     requires sorted { T (is_sorted place_cmp (all_cells blocks.now)) }
-    ensures { MatchOption result (HasNoneFrom (map_of (all_cells blocks.now)) row from) (IsFirst (map_of (all_cells blocks.now)) row from) }
+    ensures { MatchOption result (HasNoneFrom (map_of (all_cells blocks.now)) row from)
+        (IsFirst (map_of (all_cells blocks.now)) row from) }
 {
     let Some(cell) = first_from(blocks, (row, from)) else {
         return None;

@@ -21,5 +21,6 @@ pub fn rows_of_sums_add()
 
 /// The total of a row of a sum is the sum of the rows' totals.
 pub fn row_totals_add()
-    ensures { (a : Counts) (b : Counts) (r : ℕ) → total (row_of (ewise_add a b) r) ≡ total (row_of a r) + total (row_of b r) }
+    ensures { (a : Counts) (b : Counts) (r : ℕ) → total (row_of (ewise_add a b) r) ≡
+        total (row_of a r) + total (row_of b r) }
 {}

@@ -68,7 +68,9 @@ fn row_behind(
     requires ends { EndsAt from (drop row heads.now) (length entries.now) }
     requires split { EndsIn heads.now row from last to }
     ensures ends { EndsAt to (drop result heads.now) (length entries.now) }
-    ensures cells { cells_of (rows_from from (drop row heads.now) entries.now) ≡ cells_of (rows_from from (split_heads heads.now row last to) entries.now) ++ cells_of (rows_from to (drop result heads.now) entries.now) }
+    ensures cells { cells_of (rows_from from (drop row heads.now) entries.now) ≡
+        cells_of (rows_from from (split_heads heads.now row last to) entries.now) ++
+        cells_of (rows_from to (drop result heads.now) entries.now) }
 {
     if heads[last].1 == to { last + 1 } else { last }
 }

@@ -165,7 +165,8 @@ fn end_before(blocks: &VecDeque<Block>, cells: &[Cell], j: usize) -> usize
     requires within { j ≤ length cells.now }
     ensures range { (j ≤ result) × (result ≤ length cells.now) }
     ensures left { Precede (map entry_of (slice_range cells.now j result)) (all_cells blocks.now.items) }
-    ensures right { (before : List (Place × ℕ)) → T (is_sorted place_cmp (before ++ all_cells blocks.now.items)) → Precede before (map entry_of (drop result cells.now)) }
+    ensures right { (before : List (Place × ℕ)) → T (is_sorted place_cmp (before ++ all_cells blocks.now.items)) →
+        Precede before (map entry_of (drop result cells.now)) }
     ensures last { blocks.now.items ≡ [] → result ≡ length cells.now }
 {
     match blocks.front() {
@@ -193,7 +194,8 @@ pub fn sum_blocks(
     ensures blocks { IfOk result (λ out. AreBlocks out.items) }
     ensures some { IfOk result (λ out. 0 < length out.items) }
     ensures sorted { IfOk result (λ out. T (is_sorted place_cmp (all_cells out.items))) }
-    ensures sums { IfOk result (λ out. built (all_cells out.items) ≡ ewise_add (built (all_cells blocks.items)) (built (map entry_of cells.now))) }
+    ensures sums { IfOk result (λ out. built (all_cells out.items) ≡
+        ewise_add (built (all_cells blocks.items)) (built (map entry_of cells.now))) }
 {
     let room = if blocks.len() > 1 { BLOCK_CELLS } else { 0 };
     let mut spare = Spare::new(alloc, room)?;
@@ -222,7 +224,8 @@ pub fn sum_all(
     requires fits { count_sum (all_cells blocks.items) + count_sum (all_cells others.now) < 2 ^ 64 }
     ensures blocks { IfOk result (λ out. AreBlocks out.items) }
     ensures sorted { IfOk result (λ out. T (is_sorted place_cmp (all_cells out.items))) }
-    ensures sums { IfOk result (λ out. built (all_cells out.items) ≡ ewise_add (built (all_cells blocks.items)) (built (all_cells others.now))) }
+    ensures sums { IfOk result (λ out. built (all_cells out.items) ≡
+        ewise_add (built (all_cells blocks.items)) (built (all_cells others.now))) }
 {
     let mut sum = blocks;
     let mut cells = Vec::new(alloc);

@@ -1,5 +1,6 @@
 -- What a list of cells builds: it doesn't depend on the order of the list, and each place has the sum of its counts.
-use Rattle.std.proofs.Common.{eqb, T, ◌≡◌, ℕ, ◌+◌, ◌<◌, ◌&&◌, Bool, true, false, cond, List, [], ◌∷◌, ◌++◌, length, subst, map, Option, Some, None, sym, ◌∙◌, ap, refl, arith}
+use Rattle.std.proofs.Common.{eqb, T, ◌≡◌, ℕ, ◌+◌, ◌<◌, ◌&&◌, Bool, true, false, cond, List, [], ◌∷◌, ◌++◌, length}
+use Rattle.std.proofs.Common.{subst, map, Option, Some, None, sym, ◌∙◌, ap, refl, arith}
 use Rattle.std.specs.Prelude.{IsSome, ◌↔◌, unwrap_or}
 use Rattle.std.proofs.lemmas.List.{map-append}
 use Rattle.hyper_rows.specs.Counts.{Place, place_cmp, plus, count_at, ewise_add, built, total, count_sum}
@@ -10,12 +11,14 @@ use Rattle.std.specs.FinMap.{get, get-from_entries, empty, is_sorted, entries}
 use Rattle.hyper_rows.specs.Rows.{Rows, InOrder, cells_of, counts_of}
 use Rattle.hyper_rows.proofs.PlaceLaws.{built-in_order, entries-in_order}
 use Rattle.hyper_rows.proofs.CellLaws.{sorted_rows, same_place}
-use Rattle.hyper_rows.proofs.CountLaws.{places_total, gathered-rising, total-built, gathered, get-built, built-append, same_counts}
+use Rattle.hyper_rows.proofs.CountLaws.{places_total, gathered-rising, total-built, gathered, get-built, built-append}
+use Rattle.hyper_rows.proofs.CountLaws.{same_counts}
 
 -- rows in order stand for what their cells build
 pub counts_of-built : (rows : Rows) → InOrder rows → counts_of rows ≡ built (cells_of rows)
 unfolding counts_of
-counts_of-built rows h = same_counts _ _ (λ q. get-from_entries places_total (cells_of rows) q ∙ sym (get-built (cells_of rows) q ∙ gathered-rising q (cells_of rows) (sorted_rows rows h.numbers h.columns)))
+counts_of-built rows h = same_counts _ _ (λ q. get-from_entries places_total (cells_of rows) q ∙
+    sym (get-built (cells_of rows) q ∙ gathered-rising q (cells_of rows) (sorted_rows rows h.numbers h.columns)))
 
 pub entries_total : (cells : List Cell) → count_sum (map entry_of cells) ≡ cell_total cells
 entries_total [] = refl
@@ -43,17 +46,23 @@ one_more cell (next ∷ cells) = refl
 pub get-built_of : (cells : List Cell) (q : Place) → get (built_of cells) q ≡ told_cells (cells_at q cells)
 get-built_of cells q = get-built (map entry_of cells) q ∙ go cells
   where
-    step : (cell : Cell) (cells : List Cell) → gathered q (map entry_of cells) ≡ told_cells (cells_at q cells) → (a b : Bool) → plus (cond (cond a b false) (Some cell.count) None) (gathered q (map entry_of cells)) ≡ told_cells (cond (a && b) (cell ∷ cells_at q cells) (cells_at q cells))
+    step : (cell : Cell) (cells : List Cell) → gathered q (map entry_of cells) ≡ told_cells (cells_at q cells) →
+        (a b : Bool) → plus (cond (cond a b false) (Some cell.count) None) (gathered q (map entry_of cells)) ≡
+        told_cells (cond (a && b) (cell ∷ cells_at q cells) (cells_at q cells))
     step cell cells rest true true = ap (plus (Some cell.count)) rest ∙ one_more cell (cells_at q cells)
     step cell cells rest true false = rest
     step cell cells rest false b = rest
 
     go : (cells : List Cell) → gathered q (map entry_of cells) ≡ told_cells (cells_at q cells)
     go [] = refl
-    go (cell ∷ cells) = ap (λ t. plus (cond t (Some cell.count) None) (gathered q (map entry_of cells))) (same_place q.0 q.1 cell.row cell.col) ∙ step cell cells (go cells) (eqb q.0 cell.row) (eqb q.1 cell.col)
+    go (cell ∷ cells) = ap (λ t. plus (cond t (Some cell.count) None) (gathered q (map entry_of cells)))
+        (same_place q.0 q.1 cell.row cell.col) ∙ step cell cells (go cells) (eqb q.0 cell.row) (eqb q.1 cell.col)
 
 pub built_names : (cells : List Cell) (q : Place) → IsSome (get (built_of cells) q) ↔ (0 < length (cells_at q cells))
-built_names cells q = (λ h. some (cells_at q cells) (subst IsSome (get-built_of cells q) h), λ h. subst IsSome (sym (get-built_of cells q)) (names (cells_at q cells) h))
+built_names cells q = (
+  λ h. some (cells_at q cells) (subst IsSome (get-built_of cells q) h),
+  λ h. subst IsSome (sym (get-built_of cells q)) (names (cells_at q cells) h),
+)
   where
     some : (cs : List Cell) → IsSome (told_cells cs) → 0 < length cs
     some [] h = absurd (cc)
@@ -77,16 +86,23 @@ sum_at-told : (q : Place) (cells : List Cell) → sum_at q cells ≡ told_cells 
 sum_at-told q [] = refl
 sum_at-told q (cell ∷ cells) = step (stands_at q cell) (sum_at-told q cells)
   where
-    step : (b : Bool) → sum_at q cells ≡ told_cells (cells_at q cells) → cond b (Some (cell.count + unwrap_or (sum_at q cells) 0)) (sum_at q cells) ≡ told_cells (cond b (cell ∷ cells_at q cells) (cells_at q cells))
-    step true rest = ap (λ o. Some (cell.count + unwrap_or o 0)) rest ∙ ap (λ n. Some (cell.count + n)) (plain (cells_at q cells))
+    step : (b : Bool) → sum_at q cells ≡ told_cells (cells_at q cells) →
+        cond b (Some (cell.count + unwrap_or (sum_at q cells) 0)) (sum_at q cells) ≡
+        told_cells (cond b (cell ∷ cells_at q cells) (cells_at q cells))
+    step true rest = ap (λ o. Some (cell.count + unwrap_or o 0)) rest ∙
+        ap (λ n. Some (cell.count + n)) (plain (cells_at q cells))
     step false rest = rest
 
 -- lists that come to the same at each place build the same
 pub built_of-same : (xs ys : List Cell) → ((q : Place) → sum_at q ys ≡ sum_at q xs) → built_of ys ≡ built_of xs
-built_of-same xs ys same = same_counts _ _ (λ q. get-built_of ys q ∙ sym (sum_at-told q ys) ∙ same q ∙ sum_at-told q xs ∙ sym (get-built_of xs q))
+built_of-same xs ys same = same_counts _ _ (λ q. get-built_of ys q ∙ sym (sum_at-told q ys) ∙ same q ∙
+    sum_at-told q xs ∙ sym (get-built_of xs q))
 
 -- rows that build what a list in strict order builds have just its cells
-pub exact_cells : (rows : Rows) (cells : List Cell) → InOrder rows → built (cells_of rows) ≡ built_of cells → T (is_sorted place_cmp (map entry_of cells)) → cells_of rows ≡ map entry_of cells
+pub exact_cells : (rows : Rows) (cells : List Cell) → InOrder rows → built (cells_of rows) ≡ built_of cells →
+    T (is_sorted place_cmp (map entry_of cells)) → cells_of rows ≡ map entry_of cells
 exact_cells rows cells order told sorted =
     let here = sorted_rows rows order.numbers order.columns in
-    sym (entries-in_order (cells_of rows) here) ∙ ap entries (sym (built-in_order (cells_of rows) here) ∙ told ∙ built-in_order (map entry_of cells) sorted) ∙ entries-in_order (map entry_of cells) sorted
+    sym (entries-in_order (cells_of rows) here) ∙ ap entries
+    (sym (built-in_order (cells_of rows) here) ∙ told ∙ built-in_order (map entry_of cells) sorted) ∙
+    entries-in_order (map entry_of cells) sorted

@@ -29,4 +29,5 @@ pub record IsOpen (heads : List (ℕ × ℕ)) (entries : Entries) (base row col 
   pub rising : AreRising (drop base entries)
   pub below_col : KeysBelow col (drop base entries)
   pub bound : count ≤ cell_total done
-  pub told : built (cells_of (rows_of heads entries) ++ at_places row (drop base entries ++ (col, count) ∷ [])) ≡ built_of done
+  pub told : built (cells_of (rows_of heads entries) ++ at_places row (drop base entries ++ (col, count) ∷ [])) ≡
+      built_of done

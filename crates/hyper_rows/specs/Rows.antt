@@ -1,4 +1,5 @@
--- Compressed nonempty rows: heads, each a row's number and where its entries end, and the entries of all rows, each a column and a count.
+-- Compressed nonempty rows: heads, each a row's number and where its entries end, and the entries of all rows, each a
+-- column and a count.
 use Rattle.std.specs.Prelude.{◌≡◌, ℕ, zero, suc, ◌+◌, ◌-◌, ◌≤◌, ◌<◌, ◌^◌, List, [], ◌∷◌, ◌++◌, map, length, slice_range}
 use Rattle.hyper_rows.specs.Counts.{Place, Counts, count_sum}
 use Rattle.hyper_rows.specs.Merged.{merged}
@@ -76,7 +77,8 @@ HeadFrom k [] = Unit {0}
 HeadFrom k (x ∷ xs) = k ≤ x.0
 
 -- rows were added at the end
-pub record Appends (old_heads : List (ℕ × ℕ)) (old_entries : Entries) (new_heads : List (ℕ × ℕ)) (new_entries : Entries) (rows : Rows) : Type 0 where
+pub record Appends (old_heads : List (ℕ × ℕ)) (old_entries : Entries) (new_heads : List (ℕ × ℕ)) (new_entries : Entries)
+    (rows : Rows) : Type 0 where
   pub well : AreRows new_heads new_entries
   pub told : rows_of new_heads new_entries ≡ rows_of old_heads old_entries ++ rows
 

@@ -3,8 +3,10 @@
 --     first_from q es         the first cell at q or behind it
 --     row_cells r es          the cells of row r
 --     last_place row          where a row ends: the place of its last entry
---     TurnsAt test size n     of the places 0 to size - 1, n is where the test turns: it holds right before n, and not at n
-use Rattle.std.specs.Prelude.{◌≡◌, ℕ, ◌-◌, ◌<◌, ◌≤◌, Bool, true, false, cond, ◌==◌, List, [], ◌∷◌, length, slice_index_or, Option, Some, None}
+--     TurnsAt test size n     of the places 0 to size - 1, n is where the test turns: it holds right before n, and not
+--     at n
+use Rattle.std.specs.Prelude.{◌≡◌, ℕ, ◌-◌, ◌<◌, ◌≤◌, Bool, true, false, cond, ◌==◌, List, [], ◌∷◌, length}
+use Rattle.std.specs.Prelude.{slice_index_or, Option, Some, None}
 use Rattle.std.specs.List.{filter}
 use Rattle.std.specs.Ordering.{is_lt}
 use Rattle.hyper_rows.specs.Counts.{Place, place_cmp, count_sum}

@@ -130,7 +130,8 @@ fn push_run(
     requires from { AreRows from_heads.now from_entries.now }
     requires order { i ≤ j }
     requires within { j ≤ length from_heads.now }
-    ensures { OnOk result (Appends heads.old.items entries.old.items heads.new.items entries.new.items (slice_range (rows_of from_heads.now from_entries.now) i j)) }
+    ensures { OnOk result (Appends heads.old.items entries.old.items heads.new.items entries.new.items
+        (slice_range (rows_of from_heads.now from_entries.now) i j)) }
 {
     let (first, last) = bounds(from_heads, from_entries, i, j);
     let base = entries.len();
@@ -174,7 +175,8 @@ pub fn push_rows(
     requires well { AreRows heads.old.items entries.old.items }
     requires order { i ≤ j }
     requires within { j ≤ length from.now }
-    ensures { OnOk result (Appends heads.old.items entries.old.items heads.new.items entries.new.items (slice_range from.now i j)) }
+    ensures { OnOk result (Appends heads.old.items entries.old.items heads.new.items entries.new.items
+        (slice_range from.now i j)) }
 {
     push_run(heads, entries, &from.heads, &from.entries, i, j)?;
     Ok(())
@@ -190,7 +192,8 @@ fn push_one(
 ) -> Result<(), AllocError>
     requires well { AreRows heads.old.items entries.old.items }
     requires some { 0 < length from.now }
-    ensures { OnOk result (Appends heads.old.items entries.old.items heads.new.items entries.new.items ((row, from.now) ∷ [])) }
+    ensures { OnOk result (Appends heads.old.items entries.old.items heads.new.items entries.new.items
+        ((row, from.now) ∷ [])) }
 {
     if from.len() == 1 {
         entries.push(from[0])?;
@@ -227,7 +230,8 @@ fn push_rows_below(
     requires first { (slice_index_or from.now i (0, [])).0 < row }
     ensures range { IfOk result (λ end. (i < end) × (end ≤ length from.now)) }
     ensures below { IfOk result (λ end. KeysBelow row (slice_range from.now i end)) }
-    ensures told { IfOk result (λ end. Appends heads.old.items entries.old.items heads.new.items entries.new.items (slice_range from.now i end)) }
+    ensures told { IfOk result (λ end. Appends heads.old.items entries.old.items heads.new.items entries.new.items
+        (slice_range from.now i end)) }
 {
     if from.row_count() - i > 2 && from.row(i + 2) < row {
         let end = rows_below(from, i + 1, row);
@@ -249,7 +253,8 @@ fn push_sum(
     requires well { AreRows heads.old.items entries.old.items }
     requires some { 0 < length xs.now }
     requires fits { count_sum xs.now + count_sum ys.now < 2 ^ 64 }
-    ensures { OnOk result (Appends heads.old.items entries.old.items heads.new.items entries.new.items ((row, sum_entries xs.now ys.now) ∷ [])) }
+    ensures { OnOk result (Appends heads.old.items entries.old.items heads.new.items entries.new.items
+        ((row, sum_entries xs.now ys.now) ∷ [])) }
 {
     push_entry_sums(entries, xs, ys)?;
     let end = entries.len();
@@ -266,7 +271,8 @@ fn push_sums(
 ) -> Result<(), AllocError>
     requires well { AreRows heads.old.items entries.old.items }
     requires fits { rows_total a.now + rows_total b.now < 2 ^ 64 }
-    ensures { OnOk result (Appends heads.old.items entries.old.items heads.new.items entries.new.items (sum_rows a.now b.now)) }
+    ensures { OnOk result (Appends heads.old.items entries.old.items heads.new.items entries.new.items
+        (sum_rows a.now b.now)) }
 {
     let mut i = 0;
     let mut j = 0;

@@ -31,7 +31,8 @@ impl<'a> Model for RunCells<'a> {
 
     ghost Value = { List (Place × ℕ) };
 
-    ghost view = { λ r. at_places r.row (slice_range r.entries.now r.at r.end) ++ cells_of (rows_from r.end r.heads.now r.entries.now) };
+    ghost view = { λ r. at_places r.row (slice_range r.entries.now r.at r.end) ++
+        cells_of (rows_from r.end r.heads.now r.entries.now) };
 
     ghost invariant = { λ r. (r.at ≤ r.end) × EndsAt r.end r.heads.now (length r.entries.now) };
 }

@@ -1,5 +1,6 @@
 -- What is found behind locks, each at a moment of its own.
---     IsShardOf v s x     x is a shard of this setup with number s, and keeps what a shard keeps: its layers add up to the
+--     IsShardOf v s x     x is a shard of this setup with number s, and keeps what a shard keeps: its layers add up to
+--     the
 --                         parts of its record's batches, each layer but the last within its cut, no batch twice
 --     AreShards v i xs    these are such shards, with the numbers from i on
 --     row_sum_in x row    how many entries a row of a shard has, and the sum of their counts; no_sum: zeros

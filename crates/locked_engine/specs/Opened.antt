@@ -1,14 +1,16 @@
 -- What names an engine, and its seats when it was opened.
 --     NamesEngine     these are the names' setup and number of seats, their ledgers, and the ledgers' parts: one of the
 --                     first for each seat, one of the second for each shard and each seat
---     opened_seats    the seats of an engine that was just opened, in order of their numbers: the first has all that was
+--     opened_seats    the seats of an engine that was just opened, in order of their numbers: the first has all that
+--     was
 --                     accepted before, the others have nothing
 --     firsts          the seats' shares of the first ledger, added up
 use Rattle.std.specs.Prelude.{◌≡◌, ℕ, ◌+◌, ◌==◌, if◌then◌else◌, zero, suc, List, [], ◌∷◌, ◌++◌, sum_by}
 use Rattle.batch_store.specs.Setups.{Setting}
 use Rattle.locked_engine.specs.Views.{NamesView, SeatView, seat_view}
 
-pub record NamesEngine (names : NamesView) (setup : Setting) (seats first first_parts second second_parts : ℕ) : Type 0 where
+pub record NamesEngine (names : NamesView) (setup : Setting)
+    (seats first first_parts second second_parts : ℕ) : Type 0 where
   pub setup_is : names.setup ≡ setup
   pub seats_is : names.seats ≡ seats
   pub first_is : names.first ≡ first

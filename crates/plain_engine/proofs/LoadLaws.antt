@@ -1,6 +1,7 @@
 -- The first batch of a list that isn't fresh.
 use Rattle.std.proofs.Common.{◌≡◌, ℕ, ◌+◌, ◌<◌, ◌≤◌, Bool, false, cond, not, List, [], ◌∷◌, ◌++◌, length}
-use Rattle.std.proofs.Common.{Option, Some, None, position, refl, sym, ◌∙◌, ap, subst, arith, append_assoc, length-append}
+use Rattle.std.proofs.Common.{Option, Some, None, position, refl, sym, ◌∙◌, ap, subst, arith, append_assoc}
+use Rattle.std.proofs.Common.{length-append}
 use Rattle.std.specs.Prelude.{if◌then◌else◌}
 use Rattle.std.specs.List.{IsDistinct, AllByRecursion, position_or_len}
 use Rattle.std.proofs.lemmas.Bool.{le-ltb, lt-leb}
@@ -66,7 +67,8 @@ absent p es h =
     ap (λ (x : Bool). cond x (Some (position_or_len p es)) None)
     (le-ltb (position_or_len p es) (length es) (omega (arith, past)))
 
-fresh_there : (limit most : ℕ) (es : List Entry) (b : Entry) → AllByRecursion (λ (e : Entry). same_pair b e ≡ false) es →
+fresh_there : (limit most : ℕ) (es : List Entry) (b : Entry) →
+    AllByRecursion (λ (e : Entry). same_pair b e ≡ false) es →
     total_of_entries es + b.total ≤ limit → length es < most → verdict_of limit most es b ≡ Fresh
 fresh_there limit most es b none fits room =
     ap (verdict_at limit most es b) (absent (same_pair b) es none)

@@ -1,5 +1,6 @@
 -- What an engine of several threads answers by a seat, while others use it.
---     SeatGives v n e m   the engine of this setup may answer this call; the seat's share of the first ledger is n before
+--     SeatGives v n e m   the engine of this setup may answer this call; the seat's share of the first ledger is n
+--     before
 --                         and m after
 use Rattle.std.specs.Prelude.{◌≡◌, ◌⊎◌, ℕ, ◌+◌, ◌%◌, List, length, Some, None, Ok, Err}
 use Rattle.std.specs.FinMap.{get}
@@ -19,12 +20,15 @@ use Rattle.wire_proto.specs.Keeping.{Event, put, cell, row, status, export, save
 abbrev pub SeatGives : Setting → ℕ → Event → ℕ → Type 0
 SeatGives v n (put batch (Ok kept)) m = (m ≡ n + batch_total batch) ⊎ (m ≡ n)
 SeatGives v n (put batch (Err fault)) m = m ≡ n
-SeatGives v n (cell r c (Some count)) m = (m ≡ n) × (x : Holding) × IsShardOf v (r % v.shards) x × (get (content x.layers) (r, c) ≡ Some count)
+SeatGives v n (cell r c (Some count)) m = (m ≡ n) × (x : Holding) × IsShardOf v (r % v.shards) x ×
+    (get (content x.layers) (r, c) ≡ Some count)
 SeatGives v n (cell r c None) m = m ≡ n
-SeatGives v n (row r sum) m = (m ≡ n) × ((sum ≡ no_sum) ⊎ ((x : Holding) × IsShardOf v (r % v.shards) x × (sum ≡ row_sum_in x r)))
+SeatGives v n (row r sum) m = (m ≡ n) × ((sum ≡ no_sum) ⊎ ((x : Holding) × IsShardOf v (r % v.shards) x ×
+    (sum ≡ row_sum_in x r)))
 SeatGives v n (status s) m = (m ≡ n) × (list : List Submission) × AreAccepted v list × (s ≡ status_of list)
 SeatGives v n (export (Ok sum)) m =
-    (m ≡ n) × (xs : List Holding) × AreShards v 0 xs × (length xs ≡ v.shards) × (sum ≡ matrix v.rows v.cols (shards_content xs))
+    (m ≡ n) × (xs : List Holding) × AreShards v 0 xs × (length xs ≡ v.shards) ×
+    (sum ≡ matrix v.rows v.cols (shards_content xs))
 SeatGives v n (export (Err e)) m = m ≡ n
 SeatGives v n (save (Ok count)) m = (m ≡ n) × (list : List Submission) × AreAccepted v list × (count ≡ length list)
 SeatGives v n (save (Err refusal)) m = m ≡ n

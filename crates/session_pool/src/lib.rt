@@ -1,6 +1,7 @@
 //! Sessions served by a pool of workers over one engine of several threads.
 //!
-//! A session is a link with a number. `run_pool` starts a worker for each seat of the engine; each takes sessions out of
+//! A session is a link with a number. `run_pool` starts a worker for each seat of the engine; each takes sessions out
+//! of
 //! a channel until that is closed and empty, and serves them one after another over a `SeatKeeper`, which answers from
 //! the engine by the worker's seat. Between sessions, and however a session ends, a seat is balanced: its type keeps
 //! that what it has admitted it has delivered to the shards. A `Gate` is told of each session before it is served and

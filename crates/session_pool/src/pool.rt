@@ -139,7 +139,8 @@ fn work_all<
     })
 }
 
-/// Serves sessions by one worker for each seat, which borrows it, until the channel is closed and empty; it returns once
+/// Serves sessions by one worker for each seat, which borrows it, until the channel is closed and empty; it returns
+/// once
 /// all workers have ended. Workers share the receiver, and each session is taken by one of them. A worker that can't be
 /// started leaves its seat as it was, and no further one is tried.
 ///

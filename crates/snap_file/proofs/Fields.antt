@@ -1,10 +1,13 @@
 -- One field: what was spelled is read again, and what is read was spelled so.
-use Rattle.std.proofs.Common.{◌≡◌, ℕ, ◌+◌, ◌%◌, ◌^◌, ◌<◌, ◌≤◌, Bool, true, false, cond, ltb, not, List, [], ◌∷◌, ◌++◌, length, get_or, take, drop, Result, Ok, Err, refl, sym, ap, ◌∙◌, append_assoc, arith, inl, inr}
+use Rattle.std.proofs.Common.{◌≡◌, ℕ, ◌+◌, ◌%◌, ◌^◌, ◌<◌, ◌≤◌, Bool, true, false, cond, ltb, not, List, [], ◌∷◌, ◌++◌}
+use Rattle.std.proofs.Common.{length, get_or, take, drop, Result, Ok, Err, refl, sym, ap, ◌∙◌, append_assoc, arith, inl}
+use Rattle.std.proofs.Common.{inr}
 use Rattle.std.specs.Prelude.{◌==◌}
 use Rattle.std.specs.Int.{Width, w8, w32, w64, byte_len, from_be_bytes}
 use Rattle.std.proofs.lemmas.Bool.{cases_lt, ltb-false, le-ltb}
 use Rattle.std.proofs.lemmas.Bool.Decides.{nat_tests}
-use Rattle.std.proofs.lemmas.List.{take_at, drop_at, take-append-drop, length-append, length-take, get_or-drop, get_or-take, get_or_past}
+use Rattle.std.proofs.lemmas.List.{take_at, drop_at, take-append-drop, length-append, length-take, get_or-drop}
+use Rattle.std.proofs.lemmas.List.{get_or-take, get_or_past}
 use Rattle.std.proofs.lemmas.Nat.{be_bytes_4, be_bytes_8, from_be_bytes-to_be_bytes_4, from_be_bytes-to_be_bytes_8}
 use Rattle.snap_file.specs.Spelling.{IsBytes, number_bytes}
 use Rattle.snap_file.specs.Table.{Input, Contents, Reading, Part, ◌>>=◌, give, fault_at, number, refuse_if, outside}
@@ -22,7 +25,8 @@ bytes_before n bytes h i =
 
 pub record IsWide (w : Width) (limit : ℕ) : Type 0 where
   pub len : (n : ℕ) → length (number_bytes w n) ≡ byte_len w
-  pub back : (bytes : List ℕ) → length bytes ≡ byte_len w → IsBytes bytes → number_bytes w (from_be_bytes w bytes) ≡ bytes
+  pub back : (bytes : List ℕ) → length bytes ≡ byte_len w → IsBytes bytes →
+      number_bytes w (from_be_bytes w bytes) ≡ bytes
   pub again : (n : ℕ) → n < limit → from_be_bytes w (number_bytes w n) ≡ n
   pub below : (bytes : List ℕ) → IsBytes bytes → from_be_bytes w bytes < limit
 
@@ -62,12 +66,14 @@ wide64 = record {
 
 -- The part reads these bytes as this value, whatever follows and whatever is read behind it.
 pub record Skips {A : Type 0} (p : Part A) (x : A) (bytes : List ℕ) : Type 0 where
-  pub reads : (k : A → Reading) (at : ℕ) (more : List ℕ) → p k (record { at = at; rest = bytes ++ more }) ≡ k x (record { at = at + length bytes; rest = more })
+  pub reads : (k : A → Reading) (at : ℕ) (more : List ℕ) → p k (record { at = at; rest = bytes ++ more }) ≡
+      k x (record { at = at + length bytes; rest = more })
 
 pub skips_give : {A : Type 0} (x : A) → Skips (give x) x []
 skips_give x = record { reads = λ k at more. ap (λ (n : ℕ). k x (record { at = n; rest = more })) (omega arith) }
 
-pub skips_bind : {A B : Type 0} (p : Part A) (f : A → Part B) (x : A) (y : B) (a b : List ℕ) → Skips p x a → Skips (f x) y b → Skips (p >>= f) y (a ++ b)
+pub skips_bind : {A B : Type 0} (p : Part A) (f : A → Part B) (x : A) (y : B) (a b : List ℕ) → Skips p x a →
+    Skips (f x) y b → Skips (p >>= f) y (a ++ b)
 skips_bind p f x y a b s t = record {
   reads = λ k at more.
       ap (λ (l : List ℕ). p (λ x. f x k) (record { at = at; rest = l })) (append_assoc a b more)
@@ -75,11 +81,13 @@ skips_bind p f x y a b s t = record {
       ∙ ap (λ (n : ℕ). k y (record { at = n; rest = more })) (let e = length-append a b in omega arith);
 }
 
-pub skips_test : {B : Type 0} (test : Bool) (kind : SnapFault) (f : Unit {0} → Part B) (y : B) (b : List ℕ) → test ≡ false → Skips (f tt) y b → Skips (refuse_if test kind >>= f) y b
+pub skips_test : {B : Type 0} (test : Bool) (kind : SnapFault) (f : Unit {0} → Part B) (y : B) (b : List ℕ) →
+    test ≡ false → Skips (f tt) y b → Skips (refuse_if test kind >>= f) y b
 unfolding refuse_if
 skips_test test kind f y b clear t = record {
   reads = λ k at more.
-      ap (λ (v : Bool). cond v (fault_at kind at) (f tt k (record { at = at; rest = b ++ more }))) clear ∙ t.reads k at more;
+      ap (λ (v : Bool). cond v (fault_at kind at) (f tt k (record { at = at; rest = b ++ more }))) clear ∙
+      t.reads k at more;
 }
 
 skips_field : (w : Width) (limit : ℕ) → IsWide w limit → (n : ℕ) → n < limit → Skips (number w) n (number_bytes w n)
@@ -87,12 +95,22 @@ unfolding number
 skips_field w limit wide n lt = record {
   reads = λ k at more.
       let len = wide.len n in
-      let long : ltb (length (number_bytes w n ++ more)) (byte_len w) ≡ false = le-ltb _ _ (omega (arith, length-append (number_bytes w n) more)) in
-      rw (long, take_at (number_bytes w n) more (byte_len w) len, drop_at (number_bytes w n) more (byte_len w) len, wide.again n lt, len) refl;
+      let long : ltb (length (number_bytes w n ++ more)) (byte_len w) ≡
+      false = le-ltb _ _ (omega (arith, length-append (number_bytes w n) more)) in
+      rw (
+        long,
+        take_at (number_bytes w n) more (byte_len w) len,
+        drop_at (number_bytes w n) more (byte_len w) len,
+        wide.again n lt,
+        len,
+      ) refl;
 }
 
-pub skips_number : {B : Type 0} (w : Width) (limit : ℕ) → IsWide w limit → (n : ℕ) (f : ℕ → Part B) (y : B) (b : List ℕ) → n < limit → Skips (f n) y b → Skips (number w >>= f) y (number_bytes w n ++ b)
-skips_number w limit wide n f y b lt t = skips_bind (number w) f n y (number_bytes w n) b (skips_field w limit wide n lt) t
+pub skips_number : {B : Type 0} (w : Width) (limit : ℕ) → IsWide w limit →
+    (n : ℕ) (f : ℕ → Part B) (y : B) (b : List ℕ) → n < limit → Skips (f n) y b →
+    Skips (number w >>= f) y (number_bytes w n ++ b)
+skips_number w limit wide n f y b lt t = skips_bind (number w) f n y (number_bytes w n) b
+    (skips_field w limit wide n lt) t
 
 -- ---- what is read was spelled so
 
@@ -106,14 +124,19 @@ pub record Field (w : Width) (limit : ℕ) (k : ℕ → Reading) (v : Contents) 
   pub fits : IsBytes left
   pub goes : k value (record { at = at; rest = left }) ≡ Ok v
 
-pub ok_chosen : {A E : Type 0} (b : Bool) (e : E) (r : Result A E) (v : A) → cond b (Err e) r ≡ Ok v → (b ≡ false) × (r ≡ Ok v)
+pub ok_chosen : {A E : Type 0} (b : Bool) (e : E) (r : Result A E) (v : A) → cond b (Err e) r ≡ Ok v →
+    (b ≡ false) × (r ≡ Ok v)
 ok_chosen true e r v h = absurd cc
 ok_chosen false e r v h = (refl, h)
 
-pub field_of : (w : Width) (limit : ℕ) → IsWide w limit → (k : ℕ → Reading) (v : Contents) (at : ℕ) (rest : List ℕ) → IsBytes rest → number w k (record { at = at; rest = rest }) ≡ Ok v → Field w limit k v rest
+pub field_of : (w : Width) (limit : ℕ) → IsWide w limit → (k : ℕ → Reading) (v : Contents) (at : ℕ) (rest : List ℕ) →
+    IsBytes rest → number w k (record { at = at; rest = rest }) ≡ Ok v → Field w limit k v rest
 unfolding number
 field_of w limit wide k v at rest fits e =
-    let c = ok_chosen (ltb (length rest) (byte_len w)) (record { kind = SnapFault.Truncated; place = at + length rest + 1 }) _ v e in
+    let c = ok_chosen (ltb (length rest) (byte_len w)) (record {
+      kind = SnapFault.Truncated;
+      place = at + length rest + 1;
+    }) _ v e in
     let long : byte_len w ≤ length rest = ltb-false _ _ c.0 in
     let front = bytes_before (byte_len w) rest fits in
     record {
@@ -121,20 +144,25 @@ field_of w limit wide k v at rest fits e =
       below = wide.below (take (byte_len w) rest) front;
       at = at + byte_len w;
       left = drop (byte_len w) rest;
-      parts = rw (wide.back (take (byte_len w) rest) (omega (arith, length-take (byte_len w) rest)) front) (sym (take-append-drop (byte_len w) rest));
+      parts = rw (wide.back (take (byte_len w) rest) (omega (arith, length-take (byte_len w) rest)) front)
+          (sym (take-append-drop (byte_len w) rest));
       fits = bytes_behind (byte_len w) rest fits;
       goes = c.1;
     }
 
-pub passed : (test : Bool) (kind : SnapFault) (k : Unit {0} → Reading) (v : Contents) (input : Input) → refuse_if test kind k input ≡ Ok v → (test ≡ false) × (k tt input ≡ Ok v)
+pub passed : (test : Bool) (kind : SnapFault) (k : Unit {0} → Reading) (v : Contents) (input : Input) →
+    refuse_if test kind k input ≡ Ok v → (test ≡ false) × (k tt input ≡ Ok v)
 unfolding refuse_if
 passed test kind k v input e = ok_chosen test (record { kind = kind; place = input.at }) (k tt input) v e
 
 -- The same for a chain of fields: behind `field_then` the field is a variable, and goals stay short.
-pub field_then : {P : Type 0} (w : Width) (limit : ℕ) → IsWide w limit → (k : ℕ → Reading) (v : Contents) (at : ℕ) (rest : List ℕ) → IsBytes rest → number w k (record { at = at; rest = rest }) ≡ Ok v → (Field w limit k v rest → P) → P
+pub field_then : {P : Type 0} (w : Width) (limit : ℕ) → IsWide w limit →
+    (k : ℕ → Reading) (v : Contents) (at : ℕ) (rest : List ℕ) → IsBytes rest →
+    number w k (record { at = at; rest = rest }) ≡ Ok v → (Field w limit k v rest → P) → P
 field_then w limit wide k v at rest fits e f = f (field_of w limit wide k v at rest fits e)
 
-pub passed_then : {P : Type 0} (test : Bool) (kind : SnapFault) (k : Unit {0} → Reading) (v : Contents) (input : Input) → refuse_if test kind k input ≡ Ok v → ((test ≡ false) × (k tt input ≡ Ok v) → P) → P
+pub passed_then : {P : Type 0} (test : Bool) (kind : SnapFault) (k : Unit {0} → Reading) (v : Contents)
+    (input : Input) → refuse_if test kind k input ≡ Ok v → ((test ≡ false) × (k tt input ≡ Ok v) → P) → P
 passed_then test kind k v input e f = f (passed test kind k v input e)
 
 -- ---- tests

@@ -1,5 +1,6 @@
 -- Bytes are a snapshot of one setup and list, or have one first fault, and no snapshot begins another.
-use Rattle.std.proofs.Common.{◌≡◌, ℕ, ◌+◌, ◌<◌, ◌≤◌, ◌⊎◌, List, [], ◌++◌, length, Result, Ok, Err, refl, sym, ap, ◌∙◌, arith, inl, inr}
+use Rattle.std.proofs.Common.{◌≡◌, ℕ, ◌+◌, ◌<◌, ◌≤◌, ◌⊎◌, List, [], ◌++◌, length, Result, Ok, Err, refl, sym, ap, ◌∙◌}
+use Rattle.std.proofs.Common.{arith, inl, inr}
 use Rattle.std.proofs.lemmas.List.{append-nil}
 use Rattle.std.proofs.lemmas.Bool.{cases_lt}
 use Rattle.batch_store.specs.Setups.{Setting}
@@ -20,34 +21,43 @@ outcome = Result Contents Fault
 abbrev pub contents : Setting → List Submission → Contents
 contents s list = record { setup = s; batches = list }
 
-pub read_again : (s : Setting) (list : List Submission) → IsKept s list → reading_of (file s list) ≡ Ok (contents s list)
+pub read_again : (s : Setting) (list : List Submission) → IsKept s list →
+    reading_of (file s list) ≡ Ok (contents s list)
 unfolding end
 read_again s list kept = ap reading_of (sym (append-nil (file s list))) ∙ file_again s list [] (readable_of s list kept)
 
-pub snapshot_read : (m : ℕ) (bytes : List ℕ) (s : Setting) (list : List Submission) → IsSnapshot m bytes s list → reading_of bytes ≡ Ok (contents s list)
+pub snapshot_read : (m : ℕ) (bytes : List ℕ) (s : Setting) (list : List Submission) → IsSnapshot m bytes s list →
+    reading_of bytes ≡ Ok (contents s list)
 snapshot_read m bytes s list is = ap reading_of is.spelled ∙ read_again s list is.kept
 
 apart : (v : Contents) (f : Fault) → ◌≡◌ {A = outcome} (Ok v) (Err f) → ⊥
 apart v f e = absurd cc
 
-pub no_fault : (m : ℕ) (bytes : List ℕ) (v : Contents) → reading_of bytes ≡ Ok v → length bytes ≤ m → (t : Turn) (p : ℕ) (k : SnapFault) → FaultAt t m bytes p k → ⊥
+pub no_fault : (m : ℕ) (bytes : List ℕ) (v : Contents) → reading_of bytes ≡ Ok v → length bytes ≤ m →
+    (t : Turn) (p : ℕ) (k : SnapFault) → FaultAt t m bytes p k → ⊥
 no_fault m bytes v e short at_limit p k f = let h = f.longer in omega arith
 no_fault m bytes v e short in_field p k f = apart v (record { kind = k; place = p }) (sym e ∙ f)
 
-pub never_both : (m : ℕ) (bytes : List ℕ) (s : Setting) (list : List Submission) (p : ℕ) (k : SnapFault) → IsSnapshot m bytes s list → FirstFaultAt m bytes p k → ⊥
-never_both m bytes s list p k is f = no_fault m bytes (contents s list) (snapshot_read m bytes s list is) is.fits f.turn p k f.stands
+pub never_both : (m : ℕ) (bytes : List ℕ) (s : Setting) (list : List Submission) (p : ℕ) (k : SnapFault) →
+    IsSnapshot m bytes s list → FirstFaultAt m bytes p k → ⊥
+never_both m bytes s list p k is f = no_fault m bytes (contents s list)
+    (snapshot_read m bytes s list is) is.fits f.turn p k f.stands
 
-pub one_contents : (m : ℕ) (bytes : List ℕ) (s t : Setting) (xs ys : List Submission) → IsSnapshot m bytes s xs → IsSnapshot m bytes t ys → (s ≡ t) × (xs ≡ ys)
+pub one_contents : (m : ℕ) (bytes : List ℕ) (s t : Setting) (xs ys : List Submission) → IsSnapshot m bytes s xs →
+    IsSnapshot m bytes t ys → (s ≡ t) × (xs ≡ ys)
 one_contents m bytes s t xs ys a b =
-    let both : ◌≡◌ {A = outcome} (Ok (contents s xs)) (Ok (contents t ys)) = sym (snapshot_read m bytes s xs a) ∙ snapshot_read m bytes t ys b in
+    let both : ◌≡◌ {A = outcome} (Ok (contents s xs)) (Ok (contents t ys)) = sym (snapshot_read m bytes s xs a) ∙
+    snapshot_read m bytes t ys b in
     let same : contents s xs ≡ contents t ys = cc in
     (ap (λ (c : Contents). c.setup) same, ap (λ (c : Contents). c.batches) same)
 
-pub no_prefix : (m n : ℕ) (bytes more : List ℕ) (s t : Setting) (xs ys : List Submission) → IsSnapshot m bytes s xs → IsSnapshot n (bytes ++ more) t ys → more ≡ []
+pub no_prefix : (m n : ℕ) (bytes more : List ℕ) (s t : Setting) (xs ys : List Submission) → IsSnapshot m bytes s xs →
+    IsSnapshot n (bytes ++ more) t ys → more ≡ []
 no_prefix m n bytes more s t xs ys a b =
     let long : reading_of (bytes ++ more) ≡ Ok (contents t ys) = snapshot_read n (bytes ++ more) t ys b in
     let same : bytes ++ more ≡ file s xs ++ more = ap (λ (l : List ℕ). l ++ more) a.spelled in
-    (ended (contents s xs) (contents t ys) (length (file s xs)) more (sym (file_again s xs more (readable_of s xs a.kept)) ∙ ap reading_of (sym same) ∙ long)).0
+    (ended (contents s xs) (contents t ys) (length (file s xs)) more
+    (sym (file_again s xs more (readable_of s xs a.kept)) ∙ ap reading_of (sym same) ∙ long)).0
 
 -- ---- every list of bytes
 
@@ -58,13 +68,15 @@ abbrev pub HasFirstFault : ℕ → List ℕ → Type 0
 HasFirstFault m bytes = (place : ℕ) × (kind : SnapFault) × FirstFaultAt m bytes place kind
 
 -- the place of a fault in a field
-same_fault : (bytes : List ℕ) (f : Fault) (p : ℕ) (k : SnapFault) → reading_of bytes ≡ Err f → reading_of bytes ≡ fault_at k p → p ≡ f.place
+same_fault : (bytes : List ℕ) (f : Fault) (p : ℕ) (k : SnapFault) → reading_of bytes ≡ Err f →
+    reading_of bytes ≡ fault_at k p → p ≡ f.place
 same_fault bytes f p k e h =
     let both : ◌≡◌ {A = outcome} (Err f) (Err (record { kind = k; place = p })) = sym e ∙ h in
     let same : ◌≡◌ {A = Fault} f (record { kind = k; place = p }) = cc in
     sym (ap (λ (x : Fault). x.place) same)
 
-pub first_in_field : (m : ℕ) (bytes : List ℕ) (f : Fault) → reading_of bytes ≡ Err f → (m < length bytes → f.place ≤ m) → FirstFaultAt m bytes f.place f.kind
+pub first_in_field : (m : ℕ) (bytes : List ℕ) (f : Fault) → reading_of bytes ≡ Err f →
+    (m < length bytes → f.place ≤ m) → FirstFaultAt m bytes f.place f.kind
 first_in_field m bytes f e within = record {
   turn = in_field;
   stands = e;
@@ -75,7 +87,8 @@ first_in_field m bytes f e within = record {
     least at_limit p k h = let j = within h.longer in let i = h.place_is in omega arith
     least in_field p k h = let j = same_fault bytes f p k e h in omega arith
 
-pub first_at_limit : (m : ℕ) (bytes : List ℕ) → m < length bytes → ((f : Fault) → reading_of bytes ≡ Err f → m < f.place) → FirstFaultAt m bytes (m + 1) TooLong
+pub first_at_limit : (m : ℕ) (bytes : List ℕ) → m < length bytes →
+    ((f : Fault) → reading_of bytes ≡ Err f → m < f.place) → FirstFaultAt m bytes (m + 1) TooLong
 first_at_limit m bytes long later = record {
   turn = at_limit;
   stands = record { longer = long; place_is = refl; kind_is = refl };
@@ -86,14 +99,24 @@ first_at_limit m bytes long later = record {
     least at_limit p k h = let i = h.place_is in omega arith
     least in_field p k h = let i : m < p = later (record { kind = k; place = p }) h in omega arith
 
-told : (m : ℕ) (bytes : List ℕ) (r : outcome) → IsBytes bytes → reading_of bytes ≡ r → IsSomeSnapshot m bytes ⊎ HasFirstFault m bytes
+told : (m : ℕ) (bytes : List ℕ) (r : outcome) → IsBytes bytes → reading_of bytes ≡ r →
+    IsSomeSnapshot m bytes ⊎ HasFirstFault m bytes
 told m bytes (Ok v) fits e = elim (cases_lt m (length bytes)) [
   | inl long ↦ inr (m + 1, TooLong, first_at_limit m bytes long (λ f h. absurd (apart v f (sym e ∙ h))))
-  | inr short ↦ let r = file_read v bytes fits e in inl (v.setup, v.batches, record { fits = short; kept = kept_of v.setup v.batches r.kept; spelled = r.spelled })
+  | inr short ↦ let r = file_read v bytes fits e in inl (
+    v.setup,
+    v.batches,
+    record { fits = short; kept = kept_of v.setup v.batches r.kept; spelled = r.spelled },
+  )
 ]
 told m bytes (Err f) fits e = elim (cases_lt m (length bytes)) [
   | inl long ↦ elim (cases_lt m f.place) [
-    | inl later ↦ inr (m + 1, TooLong, first_at_limit m bytes long (λ g h. let i = same_fault bytes f g.place g.kind e h in omega arith))
+    | inl later ↦ inr (
+      m + 1,
+      TooLong,
+      first_at_limit m bytes long
+          (λ g h. let i = same_fault bytes f g.place g.kind e h in omega arith),
+    )
     | inr within ↦ inr (f.place, f.kind, first_in_field m bytes f e (λ _. within))
   ]
   | inr short ↦ inr (f.place, f.kind, first_in_field m bytes f e (λ long. absurd (omega arith)))

@@ -1,5 +1,6 @@
 -- The batches that were read, their pairs, and the cells of one.
-use Rattle.std.proofs.Common.{◌≡◌, ℕ, zero, suc, ◌+◌, Bool, true, false, cond, not, eqb, ◌&&◌, ◌||◌, List, [], ◌∷◌, ◌++◌, map, Result, refl, sym, ap, subst, ◌∙◌, arith}
+use Rattle.std.proofs.Common.{◌≡◌, ℕ, zero, suc, ◌+◌, Bool, true, false, cond, not, eqb, ◌&&◌, ◌||◌, List, [], ◌∷◌}
+use Rattle.std.proofs.Common.{◌++◌, map, Result, refl, sym, ap, subst, ◌∙◌, arith}
 use Rattle.std.specs.Prelude.{◌==◌, nat_le, nat_lt}
 use Rattle.std.specs.Int.{w64}
 use Rattle.std.specs.List.{list_any}
@@ -17,7 +18,8 @@ use Rattle.hyper_matrix.specs.Cells.{entry_of, built_of}
 use Rattle.hyper_matrix.specs.Matrix.{Matrix, matrix}
 use Rattle.batch_store.specs.Batches.{Submission, submission}
 use Rattle.snap_file.specs.Spelling.{stands_in}
-use Rattle.snap_file.specs.Table.{Reading, Tally, Progress, number, refuse_if, cells_behind, is_below, with_batch, batch, batches_behind, end, contents_of}
+use Rattle.snap_file.specs.Table.{Reading, Tally, Progress, number, refuse_if, cells_behind, is_below, with_batch}
+use Rattle.snap_file.specs.Table.{batch, batches_behind, end, contents_of}
 use Rattle.snap_file.specs.Outcomes.{ReaderState, HasRead}
 use Rattle.snap_file.specs.Lists.{pair_cmp, HasPairs}
 use Rattle.snap_file.specs.declared.head.Head.{Head}
@@ -34,7 +36,8 @@ chosen true false false = refl
 chosen false b true = refl
 chosen false b false = refl
 
-pub pairs_noted : (old new : BTreeSet (ℕ × ℕ)) (client number : ℕ) → Updates pair_cmp old new (client, number) true → (list : List Submission) (b : Submission) →
+pub pairs_noted : (old new : BTreeSet (ℕ × ℕ)) (client number : ℕ) → Updates pair_cmp old new (client, number) true →
+    (list : List Submission) (b : Submission) →
     HasPairs old list → b.client ≡ client → b.number ≡ number → HasPairs new (list ++ b ∷ [])
 pairs_noted old new client number u list b h is_client is_number c n =
     u.0 (c, n)
@@ -50,14 +53,22 @@ pairs_noted old new client number u list b h is_client is_number c n =
 -- one cell, and what follows it
 abbrev one_cell : Head → Tally → (Tally → Reading) → Reading
 one_cell h tally k =
-    number w64 (λ row. refuse_if (nat_le h.setup.rows row) BadBatch (λ _. number w64 (λ col. refuse_if (nat_le h.setup.cols col) BadBatch (λ _.
-    refuse_if (is_below row col tally.least_row tally.least_col) OutOfOrder (λ _. number w64 (λ count. refuse_if (nat_lt h.total (tally.counted + count)) TotalDiffers (λ _.
-    k (record { cells = tally.cells ++ (record { row = row; col = col; count = count }) ∷ []; least_row = row; least_col = col + 1; counted = tally.counted + count }))))))))
+    number w64 (λ row. refuse_if (nat_le h.setup.rows row) BadBatch
+    (λ _. number w64 (λ col. refuse_if (nat_le h.setup.cols col) BadBatch (λ _.
+    refuse_if (is_below row col tally.least_row tally.least_col) OutOfOrder
+    (λ _. number w64 (λ count. refuse_if (nat_lt h.total (tally.counted + count)) TotalDiffers (λ _.
+    k (record {
+      cells = tally.cells ++ (record { row = row; col = col; count = count }) ∷ [];
+      least_row = row;
+      least_col = col + 1;
+      counted = tally.counted + count;
+    }))))))))
 
 abbrev pub tally_at : List Cell → ℕ → ℕ → ℕ → Tally
 tally_at cells row col counted = record { cells = cells; least_row = row; least_col = col; counted = counted }
 
-step_is : (h : Head) (n : ℕ) (tally : Tally) (k : Tally → Reading) → cells_behind h (suc n) tally k ≡ one_cell h tally (λ t. cells_behind h n t k)
+step_is : (h : Head) (n : ℕ) (tally : Tally) (k : Tally → Reading) →
+    cells_behind h (suc n) tally k ≡ one_cell h tally (λ t. cells_behind h n t k)
 unfolding cells_behind
 step_is h n tally k = refl
 
@@ -66,48 +77,67 @@ unfolding cells_behind
 none_is h tally k = refl
 
 -- so many cells, and then so many more
-cells_parted : (h : Head) (n m : ℕ) (tally : Tally) (k : Tally → Reading) → cells_behind h (n + m) tally k ≡ cells_behind h n tally (λ t. cells_behind h m t k)
-cells_parted h zero m tally k = ap (λ (i : ℕ). cells_behind h i tally k) (omega arith) ∙ sym (none_is h tally (λ t. cells_behind h m t k))
+cells_parted : (h : Head) (n m : ℕ) (tally : Tally) (k : Tally → Reading) →
+    cells_behind h (n + m) tally k ≡ cells_behind h n tally (λ t. cells_behind h m t k)
+cells_parted h zero m tally k = ap (λ (i : ℕ). cells_behind h i tally k) (omega arith) ∙
+    sym (none_is h tally (λ t. cells_behind h m t k))
 cells_parted h (suc n) m tally k =
-    let rest : (t : Tally) → cells_behind h (n + m) t k ≡ cells_behind h n t (λ u. cells_behind h m u k) = λ t. cells_parted h n m t k in
+    let rest : (t : Tally) → cells_behind h (n + m) t k ≡ cells_behind h n t
+    (λ u. cells_behind h m u k) = λ t. cells_parted h n m t k in
     ap (λ (i : ℕ). cells_behind h i tally k) (omega arith) ∙ step_is h (n + m) tally k
     ∙ (λ i. one_cell h tally (λ t. rest t i))
     ∙ sym (step_is h n tally (λ t. cells_behind h m t k))
 
-module _ {S : Type 0} (gives : S → Result (List ℕ) DeviceFault → S → Type 0) (failures : S → ℕ) (m : ℕ) (s t : S) (reader : ReaderState) (h : Head) (k : Tally → Reading) where
+module _ {S : Type 0} (gives : S → Result (List ℕ) DeviceFault → S → Type 0) (failures : S → ℕ) (m : ℕ) (s t : S)
+    (reader : ReaderState) (h : Head) (k : Tally → Reading) where
   -- the next run of cells
-  pub run_next : (left run rest : ℕ) (tally : Tally) → left ≡ run + rest → HasRead gives failures m s t reader (cells_behind h left tally k)
+  pub run_next : (left run rest : ℕ) (tally : Tally) → left ≡ run + rest →
+      HasRead gives failures m s t reader (cells_behind h left tally k)
       → HasRead gives failures m s t reader (cells_behind h run tally (λ u. cells_behind h rest u k))
   run_next left run rest tally e a =
-      subst (λ (r : Reading). HasRead gives failures m s t reader r) (ap (λ (i : ℕ). cells_behind h i tally k) e ∙ cells_parted h run rest tally k) a
+      subst (λ (r : Reading). HasRead gives failures m s t reader r)
+      (ap (λ (i : ℕ). cells_behind h i tally k) e ∙ cells_parted h run rest tally k) a
 
-  pub run_last : (left : ℕ) (tally : Tally) → left ≡ 0 → HasRead gives failures m s t reader (cells_behind h left tally k) → HasRead gives failures m s t reader (k tally)
-  run_last left tally e a = subst (λ (r : Reading). HasRead gives failures m s t reader r) (ap (λ (i : ℕ). cells_behind h i tally k) e ∙ none_is h tally k) a
+  pub run_last : (left : ℕ) (tally : Tally) → left ≡ 0 → HasRead gives failures m s t reader
+      (cells_behind h left tally k) → HasRead gives failures m s t reader (k tally)
+  run_last left tally e a = subst (λ (r : Reading). HasRead gives failures m s t reader r)
+      (ap (λ (i : ℕ). cells_behind h i tally k) e ∙ none_is h tally k) a
 
   -- the same where the run is kept apart from the cells before it, and nothing of it was read
-  pub run_begun : (left run rest : ℕ) (done items : List Cell) (row col counted : ℕ) → left ≡ run + rest → items ≡ [] → HasRead gives failures m s t reader (cells_behind h left (tally_at done row col counted) k)
-      → HasRead gives failures m s t reader (cells_behind h run (tally_at (done ++ items) row col counted) (λ u. cells_behind h rest u k))
+  pub run_begun : (left run rest : ℕ) (done items : List Cell) (row col counted : ℕ) → left ≡ run + rest → items ≡ [] →
+      HasRead gives failures m s t reader (cells_behind h left (tally_at done row col counted) k)
+      → HasRead gives failures m s t reader (cells_behind h run (tally_at (done ++ items) row col counted)
+      (λ u. cells_behind h rest u k))
   run_begun left run rest done items row col counted e none a =
-      subst (λ (l : List Cell). HasRead gives failures m s t reader (cells_behind h run (tally_at l row col counted) (λ u. cells_behind h rest u k)))
-      (sym (ap (λ (l : List Cell). done ++ l) none ∙ append-nil done)) (run_next left run rest (tally_at done row col counted) e a)
+      subst (λ (l : List Cell). HasRead gives failures m s t reader
+      (cells_behind h run (tally_at l row col counted) (λ u. cells_behind h rest u k)))
+      (sym (ap (λ (l : List Cell). done ++ l) none ∙ append-nil done))
+      (run_next left run rest (tally_at done row col counted) e a)
 
-pub total_held : (sum more : Counts) (items none : List Cell) (start old new : ℕ) → more ≡ ewise_add sum (built_of items) → total sum + start ≡ old → none ≡ [] → new + cell_total none ≡ old + cell_total items → total more + start ≡ new
+pub total_held : (sum more : Counts) (items none : List Cell) (start old new : ℕ) →
+    more ≡ ewise_add sum (built_of items) → total sum + start ≡ old → none ≡ [] →
+    new + cell_total none ≡ old + cell_total items → total more + start ≡ new
 total_held sum more items none start old new is held empty added =
     let t = ap total is ∙ total-ewise_add sum (built_of items) in
     let b = total-built_of items in
     let z : cell_total none ≡ 0 = ap cell_total empty in
     omega arith
 
-pub built_more : (done run : List Cell) (sum more : Counts) → built_of done ≡ sum → more ≡ ewise_add sum (built_of run) → built_of (done ++ run) ≡ more
+pub built_more : (done run : List Cell) (sum more : Counts) → built_of done ≡ sum →
+    more ≡ ewise_add sum (built_of run) → built_of (done ++ run) ≡ more
 built_more done run sum more a b =
-    ap built (map-append entry_of done run) ∙ built-append (map entry_of done) (map entry_of run) ∙ ap (λ (x : Counts). ewise_add x (built_of run)) a ∙ sym b
+    ap built (map-append entry_of done run) ∙ built-append (map entry_of done) (map entry_of run) ∙
+    ap (λ (x : Counts). ewise_add x (built_of run)) a ∙ sym b
 
 -- ---- batches
 
-pub progress_is : (h : Head) (p : Progress) (client number : ℕ) (t : Tally) (m : Matrix) (after : List Submission) (counted : ℕ) → m ≡ matrix h.setup.rows h.setup.cols (built_of t.cells) → t.counted ≡ counted →
-    after ≡ p.batches ++ submission client number m ∷ [] → ◌≡◌ {A = Progress} (with_batch h p client number t) (record { batches = after; counted = counted })
+pub progress_is : (h : Head) (p : Progress) (client number : ℕ) (t : Tally) (m : Matrix) (after : List Submission)
+    (counted : ℕ) → m ≡ matrix h.setup.rows h.setup.cols (built_of t.cells) → t.counted ≡ counted →
+    after ≡ p.batches ++ submission client number m ∷ [] → ◌≡◌ {A = Progress} (with_batch h p client number t)
+    (record { batches = after; counted = counted })
 progress_is h p client number t m after counted is counts pushed =
-    let list : p.batches ++ submission client number (matrix h.setup.rows h.setup.cols (built_of t.cells)) ∷ [] ≡ after =
+    let list : p.batches ++ submission client number (matrix h.setup.rows h.setup.cols (built_of t.cells)) ∷ [] ≡
+    after =
     ap (λ (x : Matrix). p.batches ++ submission client number x ∷ []) (sym is) ∙ sym pushed in
     (λ i. record { batches = list i; counted = counts i })
 
@@ -115,7 +145,8 @@ progress_is h p client number t m after counted is counts pushed =
 abbrev pub ending : Head → Progress → Reading
 ending h p = refuse_if (not (p.counted == h.total)) TotalDiffers (λ _. end (contents_of h p))
 
-batch_step : (h : Head) (n : ℕ) (p : Progress) (k : Progress → Reading) → batches_behind h (suc n) p k ≡ batch h p (λ q. batches_behind h n q k)
+batch_step : (h : Head) (n : ℕ) (p : Progress) (k : Progress → Reading) →
+    batches_behind h (suc n) p k ≡ batch h p (λ q. batches_behind h n q k)
 unfolding batches_behind
 batch_step h n p k = refl
 
@@ -123,12 +154,18 @@ batch_none : (h : Head) (p : Progress) (k : Progress → Reading) → batches_be
 unfolding batches_behind
 batch_none h p k = refl
 
-module _ {S : Type 0} (gives : S → Result (List ℕ) DeviceFault → S → Type 0) (failures : S → ℕ) (m : ℕ) (s t : S) (reader : ReaderState) (h : Head) (k : Progress → Reading) where
-  pub batch_next : (left rest : ℕ) (p : Progress) → left ≡ suc rest → HasRead gives failures m s t reader (batches_behind h left p k) → HasRead gives failures m s t reader (batch h p (λ q. batches_behind h rest q k))
-  batch_next left rest p e a = subst (λ (r : Reading). HasRead gives failures m s t reader r) (ap (λ (i : ℕ). batches_behind h i p k) e ∙ batch_step h rest p k) a
+module _ {S : Type 0} (gives : S → Result (List ℕ) DeviceFault → S → Type 0) (failures : S → ℕ) (m : ℕ) (s t : S)
+    (reader : ReaderState) (h : Head) (k : Progress → Reading) where
+  pub batch_next : (left rest : ℕ) (p : Progress) → left ≡ suc rest →
+      HasRead gives failures m s t reader (batches_behind h left p k) →
+      HasRead gives failures m s t reader (batch h p (λ q. batches_behind h rest q k))
+  batch_next left rest p e a = subst (λ (r : Reading). HasRead gives failures m s t reader r)
+      (ap (λ (i : ℕ). batches_behind h i p k) e ∙ batch_step h rest p k) a
 
-  pub batch_last : (left : ℕ) (p : Progress) → left ≡ 0 → HasRead gives failures m s t reader (batches_behind h left p k) → HasRead gives failures m s t reader (k p)
-  batch_last left p e a = subst (λ (r : Reading). HasRead gives failures m s t reader r) (ap (λ (i : ℕ). batches_behind h i p k) e ∙ batch_none h p k) a
+  pub batch_last : (left : ℕ) (p : Progress) → left ≡ 0 → HasRead gives failures m s t reader
+      (batches_behind h left p k) → HasRead gives failures m s t reader (k p)
+  batch_last left p e a = subst (λ (r : Reading). HasRead gives failures m s t reader r)
+      (ap (λ (i : ℕ). batches_behind h i p k) e ∙ batch_none h p k) a
 
 pub pairs_none : (pairs : BTreeSet (ℕ × ℕ)) (list : List Submission) → pairs.keys ≡ [] → list ≡ [] → HasPairs pairs list
 pairs_none pairs list none empty c n =

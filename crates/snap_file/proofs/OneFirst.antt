@@ -15,7 +15,8 @@ same_turn m bytes in_field in_field p q j k e v w =
 same_turn m bytes at_limit in_field p q j k e v w = absurd (omega arith)
 same_turn m bytes in_field at_limit p q j k e v w = absurd (omega arith)
 
-pub one_first : (m : ℕ) (bytes : List ℕ) (p q : ℕ) (j k : SnapFault) → FirstFaultAt m bytes p j → FirstFaultAt m bytes q k → (p ≡ q) × (j ≡ k)
+pub one_first : (m : ℕ) (bytes : List ℕ) (p q : ℕ) (j k : SnapFault) → FirstFaultAt m bytes p j →
+    FirstFaultAt m bytes q k → (p ≡ q) × (j ≡ k)
 one_first m bytes p q j k v w =
     let a = v.least w.turn q k w.stands in
     let b = w.least v.turn p j v.stands in

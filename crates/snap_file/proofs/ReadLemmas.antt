@@ -1,6 +1,8 @@
 -- One read more: bytes came, the source ended, or it failed.
-use Rattle.std.proofs.Common.{◌≡◌, ℕ, ◌+◌, ◌-◌, ◌<◌, ◌≤◌, List, [], ◌∷◌, ◌++◌, length, take, drop, get_or, Result, Ok, refl, sym, ap, subst, ◌∙◌, append_assoc, length-append, length-drop, arith, inl, inr}
-use Rattle.std.proofs.lemmas.List.{append-nil, take_more, take_more_set, drop-set-lt, drop-drop, get_or-drop, length-take-le, get_or_append_left, get_or-append_right}
+use Rattle.std.proofs.Common.{◌≡◌, ℕ, ◌+◌, ◌-◌, ◌<◌, ◌≤◌, List, [], ◌∷◌, ◌++◌, length, take, drop, get_or, Result, Ok}
+use Rattle.std.proofs.Common.{refl, sym, ap, subst, ◌∙◌, append_assoc, length-append, length-drop, arith, inl, inr}
+use Rattle.std.proofs.lemmas.List.{append-nil, take_more, take_more_set, drop-set-lt, drop-drop, get_or-drop}
+use Rattle.std.proofs.lemmas.List.{length-take-le, get_or_append_left, get_or-append_right}
 use Rattle.std.proofs.lemmas.Bool.{cases_lt}
 use Rattle.std.proofs.Math.ListN.{set}
 use Rattle.byte_io.specs.Streams.{bytes_of_calls}
@@ -15,14 +17,21 @@ use Rattle.snap_file.specs.Fills.{Fills}
 use Rattle.snap_file.proofs.Fields.{bytes_before, bytes_behind}
 
 -- one byte more was moved to the front
-pub moved_on : (p0 p : List ℕ) (start i d : ℕ) → take i p ≡ take i (drop start p0) → drop i p ≡ drop i p0 → length p ≡ length p0 → start + i < length p0 →
-    (take (i + 1) (set p i (get_or p (start + i) d)) ≡ take (i + 1) (drop start p0)) × (drop (i + 1) (set p i (get_or p (start + i) d)) ≡ drop (i + 1) p0)
+pub moved_on : (p0 p : List ℕ) (start i d : ℕ) → take i p ≡ take i (drop start p0) → drop i p ≡ drop i p0 →
+    length p ≡ length p0 → start + i < length p0 →
+    (take (i + 1) (set p i (get_or p (start + i) d)) ≡ take (i + 1) (drop start p0)) ×
+    (drop (i + 1) (set p i (get_or p (start + i) d)) ≡ drop (i + 1) p0)
 moved_on p0 p start i d done kept len h =
     let v = get_or p (start + i) d in
     let there : get_or p (start + i) d ≡ get_or (drop start p0) i d =
-    ap (λ (n : ℕ). get_or p n d) (omega arith) ∙ sym (get_or-drop i p start d) ∙ ap (λ (l : List ℕ). get_or l start d) kept ∙ get_or-drop i p0 start d ∙ ap (λ (n : ℕ). get_or p0 n d) (omega arith) ∙ sym (get_or-drop start p0 i d) in (
-      take_more_set p i v (omega arith) ∙ ap (λ (l : List ℕ). l ++ v ∷ []) done ∙ ap (λ (x : ℕ). take i (drop start p0) ++ x ∷ []) there ∙ sym (take_more (drop start p0) i d (let e = length-drop start p0 in omega arith)),
-      drop-set-lt (i + 1) p i v (omega arith) ∙ sym (drop-drop 1 i p) ∙ ap (λ (l : List ℕ). drop 1 l) kept ∙ drop-drop 1 i p0,
+    ap (λ (n : ℕ). get_or p n d) (omega arith) ∙ sym (get_or-drop i p start d) ∙
+    ap (λ (l : List ℕ). get_or l start d) kept ∙ get_or-drop i p0 start d ∙
+    ap (λ (n : ℕ). get_or p0 n d) (omega arith) ∙ sym (get_or-drop start p0 i d) in (
+      take_more_set p i v (omega arith) ∙ ap (λ (l : List ℕ). l ++ v ∷ []) done ∙
+          ap (λ (x : ℕ). take i (drop start p0) ++ x ∷ []) there ∙
+          sym (take_more (drop start p0) i d (let e = length-drop start p0 in omega arith)),
+      drop-set-lt (i + 1) p i v (omega arith) ∙ sym (drop-drop 1 i p) ∙ ap (λ (l : List ℕ). drop 1 l) kept ∙
+          drop-drop 1 i p0,
     )
 
 are_bytes-append : (xs ys : List ℕ) → IsBytes xs → IsBytes ys → IsBytes (xs ++ ys)
@@ -31,37 +40,51 @@ are_bytes-append xs ys a b i = elim (cases_lt i (length xs)) [
   | inr le ↦ rw (get_or-append_right xs ys (length xs) i 0 refl le) (b (i - length xs))
 ]
 
-pub read_more : {S : Type 0} (gives : S → Result (List ℕ) DeviceFault → S → Type 0) (failures : S → ℕ) (max_bytes : ℕ) (s m t : S) (old new : ReaderState) (left : Reading) (n : ℕ) →
-    HasRead gives failures max_bytes s m old left → Fills gives m t old.pending new.pending n → 0 < n → old.taken + length old.pending ≤ old.max_bytes →
-    new.taken ≡ old.taken → new.max_bytes ≡ old.max_bytes → failures t ≡ failures m → HasRead gives failures max_bytes s t new left
+pub read_more : {S : Type 0} (gives : S → Result (List ℕ) DeviceFault → S → Type 0) (failures : S → ℕ) (max_bytes : ℕ)
+    (s m t : S) (old new : ReaderState) (left : Reading) (n : ℕ) →
+    HasRead gives failures max_bytes s m old left → Fills gives m t old.pending new.pending n → 0 < n →
+    old.taken + length old.pending ≤ old.max_bytes →
+    new.taken ≡ old.taken → new.max_bytes ≡ old.max_bytes → failures t ≡ failures m →
+    HasRead gives failures max_bytes s t new left
 read_more gives failures max_bytes s m t old new left n a f some small taken limit same =
     let one : List (Result (List ℕ) DeviceFault) = Ok f.bytes ∷ [] in
-    let joined : bytes_of_calls (a.answers ++ one) ≡ bytes_of_calls a.answers ++ f.bytes = bytes_of_calls-append a.answers one ∙ ap (λ (l : List ℕ). bytes_of_calls a.answers ++ l) (append-nil f.bytes) in
+    let joined : bytes_of_calls (a.answers ++ one) ≡ bytes_of_calls a.answers ++
+    f.bytes = bytes_of_calls-append a.answers one ∙ ap (λ (l : List ℕ). bytes_of_calls a.answers ++ l)
+    (append-nil f.bytes) in
     record {
       answers = a.answers ++ one;
       calls = calls-append gives a.answers one s m t a.calls (calls_one gives m t (Ok f.bytes) f.gave);
       each = each_takes-append a.answers one a.each (subst (λ (k : ℕ). 0 < k) (sym f.count) some, tt);
       front = a.front;
-      bytes_are = joined ∙ ap (λ (l : List ℕ). l ++ f.bytes) a.bytes_are ∙ append_assoc a.front old.pending f.bytes ∙ ap (λ (l : List ℕ). a.front ++ l) (sym f.pending_is);
-      are_bytes = subst IsBytes (sym joined) (are_bytes-append (bytes_of_calls a.answers) f.bytes a.are_bytes f.are_bytes);
+      bytes_are = joined ∙ ap (λ (l : List ℕ). l ++ f.bytes) a.bytes_are ∙ append_assoc a.front old.pending f.bytes ∙
+          ap (λ (l : List ℕ). a.front ++ l) (sym f.pending_is);
+      are_bytes = subst IsBytes (sym joined) (are_bytes-append
+          (bytes_of_calls a.answers) f.bytes a.are_bytes f.are_bytes);
       taken_is = taken ∙ a.taken_is;
       limit_is = limit ∙ a.limit_is;
       within = a.within;
-      few = bounded a.answers one a.front old.pending max_bytes (calls_at_most_bytes a.answers a.each) (ap length a.bytes_are) refl (counted a.front old.pending max_bytes old.taken old.max_bytes a.taken_is a.limit_is small);
+      few = bounded a.answers one a.front old.pending max_bytes (calls_at_most_bytes a.answers a.each)
+          (ap length a.bytes_are) refl
+          (counted a.front old.pending max_bytes old.taken old.max_bytes a.taken_is a.limit_is small);
       none_failed = same ∙ a.none_failed;
       resumes = a.resumes;
     }
   where
-    counted : (front pending : List ℕ) (max_bytes taken limit : ℕ) → taken ≡ length front → limit ≡ max_bytes → taken + length pending ≤ limit → length front + length pending ≤ max_bytes
+    counted : (front pending : List ℕ) (max_bytes taken limit : ℕ) → taken ≡ length front → limit ≡ max_bytes →
+        taken + length pending ≤ limit → length front + length pending ≤ max_bytes
     counted front pending max_bytes taken limit a b h = omega arith
 
-    bounded : (answers one : List (Result (List ℕ) DeviceFault)) (front pending : List ℕ) (max_bytes : ℕ) → length answers ≤ length (bytes_of_calls answers) → length (bytes_of_calls answers) ≡ length (front ++ pending) →
+    bounded : (answers one : List (Result (List ℕ) DeviceFault)) (front pending : List ℕ) (max_bytes : ℕ) →
+        length answers ≤ length (bytes_of_calls answers) → length (bytes_of_calls answers) ≡ length (front ++ pending) →
         length one ≡ 1 → length front + length pending ≤ max_bytes → length (answers ++ one) ≤ max_bytes + 1
-    bounded answers one front pending max_bytes a b o h = let e = length-append answers one in let f = length-append front pending in omega arith
+    bounded answers one front pending max_bytes a b o h = let e = length-append answers one in
+        let f = length-append front pending in omega arith
 
 -- the same reading, with the same bytes pending
-pub read_same : {S : Type 0} (gives : S → Result (List ℕ) DeviceFault → S → Type 0) (failures : S → ℕ) (max_bytes : ℕ) (s t : S) (old new : ReaderState) (left : Reading) →
-    HasRead gives failures max_bytes s t old left → new.pending ≡ old.pending → new.taken ≡ old.taken → new.max_bytes ≡ old.max_bytes → HasRead gives failures max_bytes s t new left
+pub read_same : {S : Type 0} (gives : S → Result (List ℕ) DeviceFault → S → Type 0) (failures : S → ℕ) (max_bytes : ℕ)
+    (s t : S) (old new : ReaderState) (left : Reading) →
+    HasRead gives failures max_bytes s t old left → new.pending ≡ old.pending → new.taken ≡ old.taken →
+    new.max_bytes ≡ old.max_bytes → HasRead gives failures max_bytes s t new left
 read_same gives failures max_bytes s t old new left a pending taken limit = record {
   answers = a.answers;
   calls = a.calls;
@@ -81,30 +104,39 @@ no_bytes : (l : List ℕ) → length l ≡ 0 → l ≡ []
 no_bytes [] e = refl
 no_bytes (x ∷ l) e = absurd (omega arith)
 
-pub read_ended : {S : Type 0} (gives : S → Result (List ℕ) DeviceFault → S → Type 0) (failures : S → ℕ) (ended : Type 0) (max_bytes : ℕ) (s m t : S) (old new : ReaderState) (left : Reading) (n : ℕ) →
+pub read_ended : {S : Type 0} (gives : S → Result (List ℕ) DeviceFault → S → Type 0) (failures : S → ℕ) (ended : Type 0)
+    (max_bytes : ℕ) (s m t : S) (old new : ReaderState) (left : Reading) (n : ℕ) →
     HasRead gives failures max_bytes s m old left → Fills gives m t old.pending new.pending n → n ≡ 0 → ended →
-    new.taken ≡ old.taken → new.max_bytes ≡ old.max_bytes → failures t ≡ failures m → HasEnded gives failures ended max_bytes s t new left
+    new.taken ≡ old.taken → new.max_bytes ≡ old.max_bytes → failures t ≡ failures m →
+    HasEnded gives failures ended max_bytes s t new left
 read_ended gives failures ended max_bytes s m t old new left n a f none at_end taken limit same =
     let empty = no_bytes f.bytes (f.count ∙ none) in
     record {
       before = m;
-      has_read = read_same gives failures max_bytes s m old new left a (f.pending_is ∙ ap (λ (l : List ℕ). old.pending ++ l) empty ∙ append-nil old.pending) taken limit;
+      has_read = read_same gives failures max_bytes s m old new left a
+          (f.pending_is ∙ ap (λ (l : List ℕ). old.pending ++ l) empty ∙ append-nil old.pending) taken limit;
       gave = subst (λ (l : List ℕ). gives m (Ok l) t) empty f.gave;
       at_end = at_end;
       none_failed = same;
     }
 
-pub filled : {S : Type 0} (gives : S → Result (List ℕ) DeviceFault → S → Type 0) (s t : S) (p0 p1 p2 old : List ℕ) (start end n : ℕ) →
-    old ≡ take (end - start) (drop start p0) → take (end - start) p1 ≡ take (end - start) (drop start p0) → take (end - start) p2 ≡ take (end - start) p1 → (end - start) + n ≤ length p2 →
-    gives s (Ok (take n (drop (end - start) p2))) t → IsBytes p2 → Fills gives s t old (take ((end - start) + n - 0) p2) n
+pub filled : {S : Type 0} (gives : S → Result (List ℕ) DeviceFault → S → Type 0) (s t : S) (p0 p1 p2 old : List ℕ)
+    (start end n : ℕ) →
+    old ≡ take (end - start) (drop start p0) → take (end - start) p1 ≡ take (end - start) (drop start p0) →
+    take (end - start) p2 ≡ take (end - start) p1 → (end - start) + n ≤ length p2 →
+    gives s (Ok (take n (drop (end - start) p2))) t → IsBytes p2 →
+    Fills gives s t old (take ((end - start) + n - 0) p2) n
 filled gives s t p0 p1 p2 old start end n is moved same fits gave bytes =
     at_count gives s t p2 old (end - start) n (is ∙ sym moved ∙ sym same) fits gave bytes
   where
-    at_count : {S : Type 0} (gives : S → Result (List ℕ) DeviceFault → S → Type 0) (s t : S) (p old : List ℕ) (c n : ℕ) → old ≡ take c p → c + n ≤ length p → gives s (Ok (take n (drop c p))) t → IsBytes p → Fills gives s t old (take (c + n - 0) p) n
+    at_count : {S : Type 0} (gives : S → Result (List ℕ) DeviceFault → S → Type 0) (s t : S) (p old : List ℕ)
+        (c n : ℕ) → old ≡ take c p → c + n ≤ length p → gives s (Ok (take n (drop c p))) t → IsBytes p →
+        Fills gives s t old (take (c + n - 0) p) n
     at_count gives s t p old c n is fits gave bytes = record {
       bytes = take n (drop c p);
       gave = gave;
       count = length-take-le n (drop c p) (let e = length-drop c p in omega arith);
       are_bytes = bytes_before n (drop c p) (bytes_behind c p bytes);
-      pending_is = ap (λ (i : ℕ). take i p) (omega arith) ∙ take_further c n p (omega arith) ∙ ap (λ (l : List ℕ). l ++ take n (drop c p)) (sym is);
+      pending_is = ap (λ (i : ℕ). take i p) (omega arith) ∙ take_further c n p (omega arith) ∙
+          ap (λ (l : List ℕ). l ++ take n (drop c p)) (sym is);
     }

@@ -1,5 +1,6 @@
 -- A run of cells: none yet, and one more.
-use Rattle.std.proofs.Common.{◌≡◌, ℕ, ◌+◌, ◌<◌, ◌≤◌, ◌⊎◌, false, List, [], ◌∷◌, ◌++◌, length, get_or, refl, ap, ◌∙◌, inl, inr, arith, length-append}
+use Rattle.std.proofs.Common.{◌≡◌, ℕ, ◌+◌, ◌<◌, ◌≤◌, ◌⊎◌, false, List, [], ◌∷◌, ◌++◌, length, get_or, refl, ap, ◌∙◌}
+use Rattle.std.proofs.Common.{inl, inr, arith, length-append}
 use Rattle.std.proofs.lemmas.Bool.{cases_lt}
 use Rattle.std.proofs.lemmas.Bool.Decides.{nat_tests}
 use Rattle.std.proofs.lemmas.List.{get_or_append_left}
@@ -32,22 +33,29 @@ here : (cells : List Cell) (cell d : Cell) → get_or (cells ++ cell ∷ []) (le
 here [] cell d = refl
 here (x ∷ xs) cell d = here xs cell d
 
-pub run_more : (rows cols : ℕ) (cells : List Cell) (r c : ℕ) (cell : Cell) → IsRun rows cols cells r c → is_below cell.row cell.col r c ≡ false → cell.row < rows → cell.col < cols →
+pub run_more : (rows cols : ℕ) (cells : List Cell) (r c : ℕ) (cell : Cell) → IsRun rows cols cells r c →
+    is_below cell.row cell.col r c ≡ false → cell.row < rows → cell.col < cols →
     IsRun rows cols (cells ++ cell ∷ []) cell.row (cell.col + 1)
 run_more rows cols cells r c cell h late in_row in_col =
     let long : length (cells ++ cell ∷ []) ≡ length cells + 1 = length-append cells (cell ∷ []) in
     record {
       rises = λ k d lt. elim (cases_lt (k + 1) (length cells)) [
-        | inl inner ↦ rw (get_or_append_left cells (cell ∷ []) d k (omega arith), get_or_append_left cells (cell ∷ []) d (k + 1) inner) (h.rises k d inner)
+        | inl inner ↦ rw (
+          get_or_append_left cells (cell ∷ []) d k (omega arith),
+          get_or_append_left cells (cell ∷ []) d (k + 1) inner,
+        ) (h.rises k d inner)
         | inr outer ↦
             let last : k + 1 ≡ length cells = omega arith in
-            let there : get_or (cells ++ cell ∷ []) (k + 1) d ≡ cell = ap (λ (n : ℕ). get_or (cells ++ cell ∷ []) n d) last ∙ here cells cell d in
+            let there : get_or (cells ++ cell ∷ []) (k + 1) d ≡
+            cell = ap (λ (n : ℕ). get_or (cells ++ cell ∷ []) n d) last ∙ here cells cell d in
             rw (get_or_append_left cells (cell ∷ []) d k (omega arith), there)
-            (joined (get_or cells k d).row (get_or cells k d).col r c cell.row cell.col (h.below k d last) (not_early cell.row cell.col r c late))
+            (joined (get_or cells k d).row (get_or cells k d).col r c cell.row cell.col (h.below k d last)
+            (not_early cell.row cell.col r c late))
       ];
       within = All-push (IsWithin rows cols) cells cell h.within (in_row, in_col);
       below = λ i d e.
           let last : i ≡ length cells = omega arith in
-          let there : get_or (cells ++ cell ∷ []) i d ≡ cell = ap (λ (n : ℕ). get_or (cells ++ cell ∷ []) n d) last ∙ here cells cell d in
+          let there : get_or (cells ++ cell ∷ []) i d ≡ cell = ap (λ (n : ℕ). get_or (cells ++ cell ∷ []) n d) last ∙
+          here cells cell d in
           rw there (inr (refl, omega arith));
     }

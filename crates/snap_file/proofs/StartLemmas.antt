@@ -9,7 +9,8 @@ starts : (more : List ℕ) → reading_of ([] ++ more) ≡ whole (record { at = 
 unfolding reading_of
 starts more = refl
 
-pub read_begun : {S : Type 0} (gives : S → Result (List ℕ) DeviceFault → S → Type 0) (failures : S → ℕ) (m : ℕ) (s : S) (reader : ReaderState) →
+pub read_begun : {S : Type 0} (gives : S → Result (List ℕ) DeviceFault → S → Type 0) (failures : S → ℕ) (m : ℕ) (s : S)
+    (reader : ReaderState) →
     reader.pending ≡ [] → reader.taken ≡ 0 → reader.max_bytes ≡ m → HasRead gives failures m s s reader whole
 read_begun gives failures m s reader pending taken limit = record {
   answers = [];
@@ -27,5 +28,12 @@ read_begun gives failures m s reader pending taken limit = record {
 }
 
 -- memory was refused before the first read
-pub stops_first : {S : Type 0} (gives : S → Result (List ℕ) DeviceFault → S → Type 0) (failures : S → ℕ) (ended : Type 0) (m : ℕ) (s : S) → Stops gives failures ended m s s Memory
-stops_first gives failures ended m s = record { answers = []; calls = refl; few = omega arith; explains = tt; unfailed = λ n. refl }
+pub stops_first : {S : Type 0} (gives : S → Result (List ℕ) DeviceFault → S → Type 0) (failures : S → ℕ)
+    (ended : Type 0) (m : ℕ) (s : S) → Stops gives failures ended m s s Memory
+stops_first gives failures ended m s = record {
+  answers = [];
+  calls = refl;
+  few = omega arith;
+  explains = tt;
+  unfailed = λ n. refl;
+}

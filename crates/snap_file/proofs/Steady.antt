@@ -1,9 +1,13 @@
 -- A fault that shows within the bytes stays the first, whatever follows the place where it shows.
-use Rattle.std.proofs.Common.{◌≡◌, ℕ, zero, suc, ◌+◌, ◌<◌, ◌≤◌, Bool, true, false, eqb, ltb, List, [], ◌∷◌, ◌++◌, length, take, drop, Result, Ok, refl, sym, ap, ◌∙◌, append_assoc, length-append, arith, inl, inr}
+use Rattle.std.proofs.Common.{◌≡◌, ℕ, zero, suc, ◌+◌, ◌<◌, ◌≤◌, Bool, true, false, eqb, ltb, List, [], ◌∷◌, ◌++◌}
+use Rattle.std.proofs.Common.{length, take, drop, Result, Ok, refl, sym, ap, ◌∙◌, append_assoc, length-append, arith}
+use Rattle.std.proofs.Common.{inl, inr}
 use Rattle.std.proofs.lemmas.Bool.{cases_lt, lt-ltb, le-ltb, ne_eqb}
 use Rattle.std.proofs.lemmas.List.{take-append-drop, length-drop, take_at, drop_at, length-take-le}
 use Rattle.std.specs.Int.{Width, byte_len, from_be_bytes}
-use Rattle.snap_file.specs.Table.{Input, Fault, Contents, Reading, fault_at, number, refuse_if, head, cuts_behind, Tally, cells_behind, Progress, batch, batches_behind, end, body, nothing_yet, reading_of}
+use Rattle.snap_file.specs.Table.{Input, Fault, Contents, Reading, fault_at, number, refuse_if, head, cuts_behind}
+use Rattle.snap_file.specs.Table.{Tally, cells_behind, Progress, batch, batches_behind, end, body, nothing_yet}
+use Rattle.snap_file.specs.Table.{reading_of}
 use Rattle.snap_file.specs.declared.head.Head.{Head}
 use Rattle.snap_file.specs.declared.fault.SnapFault.{SnapFault}
 use Rattle.snap_file.specs.declared.fault.SnapFault.TheVariants.{Truncated, ExtraBytes}
@@ -17,7 +21,9 @@ pub record ShowsIn (r : Reading) (at : ℕ) (rest : List ℕ) (kind : SnapFault)
   pub stays : (more : List ℕ) → r (record { at = at; rest = front ++ more }) ≡ fault_at kind place
 
 pub record IsSteady (r : Reading) : Type 0 where
-  pub shows : (at : ℕ) (rest : List ℕ) (kind : SnapFault) (place : ℕ) → r (record { at = at; rest = rest }) ≡ fault_at kind place → place ≤ at + length rest → ShowsIn r at rest kind place
+  pub shows : (at : ℕ) (rest : List ℕ) (kind : SnapFault) (place : ℕ) →
+      r (record { at = at; rest = rest }) ≡ fault_at kind place → place ≤ at + length rest →
+      ShowsIn r at rest kind place
 
 abbrev outcome : Type 0
 outcome = Result Contents Fault
@@ -35,27 +41,33 @@ kind_same j k p q e =
     ap (λ (f : Fault). f.kind) same
 
 -- a field of which bytes are missing
-pub number_short : (w : Width) (k : ℕ → Reading) (at : ℕ) (rest : List ℕ) → length rest < byte_len w → number w k (record { at = at; rest = rest }) ≡ fault_at Truncated (at + length rest + 1)
+pub number_short : (w : Width) (k : ℕ → Reading) (at : ℕ) (rest : List ℕ) → length rest < byte_len w →
+    number w k (record { at = at; rest = rest }) ≡ fault_at Truncated (at + length rest + 1)
 unfolding number
 number_short w k at rest h = rw (lt-ltb (length rest) (byte_len w) h) refl
 
 -- a field whose bytes are there, in front of others
 pub number_there : (w : Width) (k : ℕ → Reading) (at : ℕ) (field more : List ℕ) → length field ≡ byte_len w →
-    number w k (record { at = at; rest = field ++ more }) ≡ k (from_be_bytes w field) (record { at = at + byte_len w; rest = more })
+    number w k (record { at = at; rest = field ++ more }) ≡
+    k (from_be_bytes w field) (record { at = at + byte_len w; rest = more })
 unfolding number
 number_there w k at field more len =
-    let long : ltb (length (field ++ more)) (byte_len w) ≡ false = le-ltb _ _ (omega (arith, length-append field more)) in
+    let long : ltb (length (field ++ more)) (byte_len w) ≡ false = le-ltb _ _
+    (omega (arith, length-append field more)) in
     rw (long, take_at field more (byte_len w) len, drop_at field more (byte_len w) len) refl
 
 steady_number : (w : Width) (k : ℕ → Reading) → ((n : ℕ) → IsSteady (k n)) → IsSteady (number w k)
 steady_number w k each = record {
   shows = λ at rest kind place e within. elim (cases_lt (length rest) (byte_len w)) [
-    | inl short ↦ absurd (let p = place_same kind Truncated place (at + length rest + 1) (sym e ∙ number_short w k at rest short) in omega arith)
+    | inl short ↦ absurd (let p = place_same kind Truncated place (at + length rest + 1)
+        (sym e ∙ number_short w k at rest short) in omega arith)
     | inr long ↦ there at rest kind place e within long
   ];
 }
   where
-    there : (at : ℕ) (rest : List ℕ) (kind : SnapFault) (place : ℕ) → number w k (record { at = at; rest = rest }) ≡ fault_at kind place → place ≤ at + length rest → byte_len w ≤ length rest → ShowsIn (number w k) at rest kind place
+    there : (at : ℕ) (rest : List ℕ) (kind : SnapFault) (place : ℕ) →
+        number w k (record { at = at; rest = rest }) ≡ fault_at kind place → place ≤ at + length rest →
+        byte_len w ≤ length rest → ShowsIn (number w k) at rest kind place
     there at rest kind place e within long =
         let field = take (byte_len w) rest in
         let after = drop (byte_len w) rest in
@@ -63,8 +75,10 @@ steady_number w k each = record {
         let n = from_be_bytes w field in
         let whole : field ++ after ≡ rest = take-append-drop (byte_len w) rest in
         let inner : k n (record { at = at + byte_len w; rest = after }) ≡ fault_at kind place =
-        sym (number_there w k at field after len) ∙ ap (λ (l : List ℕ). number w k (record { at = at; rest = l })) whole ∙ e in
-        let s = (each n).shows (at + byte_len w) after kind place inner (let d = length-drop (byte_len w) rest in omega arith) in
+        sym (number_there w k at field after len) ∙ ap (λ (l : List ℕ). number w k
+        (record { at = at; rest = l })) whole ∙ e in
+        let s = (each n).shows (at + byte_len w) after kind place inner
+        (let d = length-drop (byte_len w) rest in omega arith) in
         let at_is = s.place_is in
         record {
           front = field ++ s.front;
@@ -76,15 +90,18 @@ steady_number w k each = record {
               ∙ number_there w k at field (s.front ++ more) len ∙ s.stays more;
         }
 
-pub refused_at : (k : Unit {0} → Reading) (test : Bool) (kind : SnapFault) (input : Input) → test ≡ true → refuse_if test kind k input ≡ fault_at kind input.at
+pub refused_at : (k : Unit {0} → Reading) (test : Bool) (kind : SnapFault) (input : Input) → test ≡ true →
+    refuse_if test kind k input ≡ fault_at kind input.at
 unfolding refuse_if
 refused_at k test kind input e = rw e refl
 
-pub goes_on : (k : Unit {0} → Reading) (test : Bool) (kind : SnapFault) (input : Input) → test ≡ false → refuse_if test kind k input ≡ k tt input
+pub goes_on : (k : Unit {0} → Reading) (test : Bool) (kind : SnapFault) (input : Input) → test ≡ false →
+    refuse_if test kind k input ≡ k tt input
 unfolding refuse_if
 goes_on k test kind input e = rw e refl
 
-steady_test : (test : Bool) (kind : SnapFault) (k : Unit {0} → Reading) → IsSteady (k tt) → IsSteady (refuse_if test kind k)
+steady_test : (test : Bool) (kind : SnapFault) (k : Unit {0} → Reading) → IsSteady (k tt) →
+    IsSteady (refuse_if test kind k)
 unfolding refuse_if
 steady_test true kind k s = record {
   shows = λ at rest j place e within.
@@ -97,7 +114,8 @@ steady_test false kind k s = record {
       record { front = x.front; behind = x.behind; parts = x.parts; place_is = x.place_is; stays = x.stays };
 }
 
-steady_cuts : (n least : ℕ) (done : List ℕ) (k : List ℕ → Reading) → ((l : List ℕ) → IsSteady (k l)) → IsSteady (cuts_behind n least done k)
+steady_cuts : (n least : ℕ) (done : List ℕ) (k : List ℕ → Reading) → ((l : List ℕ) → IsSteady (k l)) →
+    IsSteady (cuts_behind n least done k)
 unfolding cuts_behind
 steady_cuts zero least done k each = each done
 steady_cuts (suc n) least done k each =
@@ -118,7 +136,8 @@ steady_head k each =
     (steady_number _ _ (λ batches. steady_test _ _ _
     (steady_number _ _ (λ total. steady_test _ _ _ (each _)))))))))))))))))))))
 
-steady_cells : (h : Head) (n : ℕ) (tally : Tally) (k : Tally → Reading) → ((t : Tally) → IsSteady (k t)) → IsSteady (cells_behind h n tally k)
+steady_cells : (h : Head) (n : ℕ) (tally : Tally) (k : Tally → Reading) → ((t : Tally) → IsSteady (k t)) →
+    IsSteady (cells_behind h n tally k)
 unfolding cells_behind
 steady_cells h zero tally k each = each tally
 steady_cells h (suc n) tally k each =
@@ -126,26 +145,32 @@ steady_cells h (suc n) tally k each =
     (steady_number _ _ (λ col. steady_test _ _ _ (steady_test _ _ _
     (steady_number _ _ (λ count. steady_test _ _ _ (steady_cells h n _ k each)))))))
 
-steady_batch : (h : Head) (p : Progress) (k : Progress → Reading) → ((q : Progress) → IsSteady (k q)) → IsSteady (batch h p k)
+steady_batch : (h : Head) (p : Progress) (k : Progress → Reading) → ((q : Progress) → IsSteady (k q)) →
+    IsSteady (batch h p k)
 unfolding batch
 steady_batch h p k each =
     steady_number _ _ (λ client. steady_number _ _ (λ batch_number. steady_test _ _ _
     (steady_number _ _ (λ entry_count. steady_cells h entry_count _ _ (λ t. each _)))))
 
-steady_batches : (h : Head) (n : ℕ) (p : Progress) (k : Progress → Reading) → ((q : Progress) → IsSteady (k q)) → IsSteady (batches_behind h n p k)
+steady_batches : (h : Head) (n : ℕ) (p : Progress) (k : Progress → Reading) → ((q : Progress) → IsSteady (k q)) →
+    IsSteady (batches_behind h n p k)
 unfolding batches_behind
 steady_batches h zero p k each = each p
 steady_batches h (suc n) p k each = steady_batch h p _ (λ q. steady_batches h n q k each)
 
-pub end_more : (c : Contents) (at x : ℕ) (rest : List ℕ) → end c (record { at = at; rest = x ∷ rest }) ≡ fault_at ExtraBytes (at + 1)
+pub end_more : (c : Contents) (at x : ℕ) (rest : List ℕ) → end c (record { at = at; rest = x ∷ rest }) ≡
+    fault_at ExtraBytes (at + 1)
 unfolding end
-end_more c at x rest = let some : eqb (length (x ∷ rest)) 0 ≡ false = ne_eqb (length (x ∷ rest)) 0 (λ e. omega arith) in rw some refl
+end_more c at x rest = let some : eqb (length (x ∷ rest)) 0 ≡ false = ne_eqb (length (x ∷ rest)) 0 (λ e. omega arith) in
+    rw some refl
 
 steady_end : (c : Contents) → IsSteady (end c)
 unfolding end
 steady_end c = record { shows = shows }
   where
-    shows : (at : ℕ) (rest : List ℕ) (kind : SnapFault) (place : ℕ) → end c (record { at = at; rest = rest }) ≡ fault_at kind place → place ≤ at + length rest → ShowsIn (end c) at rest kind place
+    shows : (at : ℕ) (rest : List ℕ) (kind : SnapFault) (place : ℕ) →
+        end c (record { at = at; rest = rest }) ≡ fault_at kind place → place ≤ at + length rest →
+        ShowsIn (end c) at rest kind place
     shows at [] kind place e within = absurd (let same : ◌≡◌ {A = outcome} (Ok c) (fault_at kind place) = e in cc)
     shows at (x ∷ rest) kind place e within =
         let f = sym (end_more c at x rest) ∙ e in
@@ -155,8 +180,10 @@ steady_end c = record { shows = shows }
 steady_whole : IsSteady (head body)
 steady_whole = steady_head _ (λ h. steady_batches h h.batches nothing_yet _ (λ p. steady_test _ _ _ (steady_end _)))
 
-pub steady : (bytes : List ℕ) (kind : SnapFault) (place : ℕ) → reading_of bytes ≡ fault_at kind place → place ≤ length bytes →
-    (front behind : List ℕ) × (bytes ≡ front ++ behind) × (length front ≡ place) × ((more : List ℕ) → reading_of (front ++ more) ≡ fault_at kind place)
+pub steady : (bytes : List ℕ) (kind : SnapFault) (place : ℕ) → reading_of bytes ≡ fault_at kind place →
+    place ≤ length bytes →
+    (front behind : List ℕ) × (bytes ≡ front ++ behind) × (length front ≡ place) ×
+    ((more : List ℕ) → reading_of (front ++ more) ≡ fault_at kind place)
 unfolding reading_of
 steady bytes kind place e within =
     let s = steady_whole.shows 0 bytes kind place e (omega arith) in

@@ -1,5 +1,6 @@
 -- Where a reading ends: short of bytes, with too many, with a failed read, or with a judgement.
-use Rattle.std.proofs.Common.{◌≡◌, ℕ, ◌+◌, ◌<◌, ◌≤◌, ◌⊎◌, Bool, true, false, List, [], ◌∷◌, ◌++◌, length, take, drop, Result, Ok, Err, refl, sym, ap, ◌∙◌, append_assoc, length-append, arith, inl, inr}
+use Rattle.std.proofs.Common.{◌≡◌, ℕ, ◌+◌, ◌<◌, ◌≤◌, ◌⊎◌, Bool, true, false, List, [], ◌∷◌, ◌++◌, length, take, drop}
+use Rattle.std.proofs.Common.{Result, Ok, Err, refl, sym, ap, ◌∙◌, append_assoc, length-append, arith, inl, inr}
 use Rattle.std.proofs.lemmas.List.{append-nil, length-take-le, take-append-drop}
 use Rattle.std.proofs.lemmas.Bool.{cases_lt}
 use Rattle.std.specs.Int.{Width, byte_len, from_be_bytes}
@@ -14,7 +15,8 @@ use Rattle.snap_file.specs.declared.fault.SnapFault.TheVariants.{Read, Memory, T
 use Rattle.snap_file.proofs.FileLaws.{first_in_field, first_at_limit}
 use Rattle.snap_file.proofs.Steady.{steady, number_short, number_there, goes_on, refused_at, place_same, kind_same}
 
-pub split : (front pending a b : List ℕ) → front ++ pending ≡ a ++ b → (c : List ℕ) × ((front ≡ a ++ c) ⊎ (a ≡ front ++ c))
+pub split : (front pending a b : List ℕ) → front ++ pending ≡ a ++ b →
+    (c : List ℕ) × ((front ≡ a ++ c) ⊎ (a ≡ front ++ c))
 split [] pending a b e = (a, inr refl)
 split (x ∷ front) pending [] b e = (x ∷ front, inl refl)
 split (x ∷ front) pending (y ∷ a) b e =
@@ -29,9 +31,12 @@ split (x ∷ front) pending (y ∷ a) b e =
     )
 
 -- a fault of what follows a field shows behind the field
-pub never_before : (front pending : List ℕ) (w : Width) (k : ℕ → Reading) → 0 < byte_len w → ((more : List ℕ) → reading_of (front ++ more) ≡ number w k (record { at = length front; rest = more })) →
-    (kind : SnapFault) (p : ℕ) → reading_of (front ++ pending) ≡ fault_at kind p → p ≤ length (front ++ pending) → length front + byte_len w ≤ p
-never_before front pending w k wide resumes kind p e within = elim (cases_lt p (length front + byte_len w)) [ inr le ↦ le | inl lt ↦ absurd (early lt) ]
+pub never_before : (front pending : List ℕ) (w : Width) (k : ℕ → Reading) → 0 < byte_len w →
+    ((more : List ℕ) → reading_of (front ++ more) ≡ number w k (record { at = length front; rest = more })) →
+    (kind : SnapFault) (p : ℕ) → reading_of (front ++ pending) ≡ fault_at kind p → p ≤ length (front ++ pending) →
+    length front + byte_len w ≤ p
+never_before front pending w k wide resumes kind p e within = elim
+    (cases_lt p (length front + byte_len w)) [ inr le ↦ le | inl lt ↦ absurd (early lt) ]
   where
     early : p < length front + byte_len w → ⊥
     early lt =
@@ -42,7 +47,8 @@ never_before front pending w k wide resumes kind p e within = elim (cases_lt p (
         elim c.1 [
           | inl h ↦
               let whole : fault_at kind p ≡ fault_at Truncated (length front + 0 + 1) =
-              sym (s.4 c.0) ∙ ap reading_of (sym h ∙ sym (append-nil front)) ∙ resumes [] ∙ number_short w k (length front) [] wide in
+              sym (s.4 c.0) ∙ ap reading_of (sym h ∙ sym (append-nil front)) ∙ resumes [] ∙
+              number_short w k (length front) [] wide in
               let q = place_same kind Truncated p _ whole in
               let l = ap length h ∙ length-append a c.0 in
               omega arith
@@ -50,33 +56,47 @@ never_before front pending w k wide resumes kind p e within = elim (cases_lt p (
               let l = ap length h ∙ length-append front c.0 in
               let short : length c.0 < byte_len w = omega arith in
               let whole : fault_at kind p ≡ fault_at Truncated (length front + length c.0 + 1) =
-              sym (s.4 []) ∙ ap reading_of (append-nil a ∙ h) ∙ resumes c.0 ∙ number_short w k (length front) c.0 short in
+              sym (s.4 []) ∙ ap reading_of (append-nil a ∙ h) ∙ resumes c.0 ∙
+              number_short w k (length front) c.0 short in
               let q = place_same kind Truncated p _ whole in
               omega arith
         ]
 
-told_as : (m : ℕ) (bytes : List ℕ) (ended failed : Type 0) (kind : SnapFault) → (kind ≡ Read → ⊥) → IsTold m bytes ended kind → Explains m bytes ended failed kind
+told_as : (m : ℕ) (bytes : List ℕ) (ended failed : Type 0) (kind : SnapFault) → (kind ≡ Read → ⊥) →
+    IsTold m bytes ended kind → Explains m bytes ended failed kind
 told_as m bytes ended failed Read judged t = absurd (judged refl)
 told_as m bytes ended failed Memory judged t = tt
 told_as m bytes ended failed kind judged t = t
 
-pub stops_refused : {S : Type 0} (gives : S → Result (List ℕ) DeviceFault → S → Type 0) (failures : S → ℕ) (ended : Type 0) (m : ℕ) (s t : S) (reader : ReaderState) (test : Bool) (kind : SnapFault) (k : Unit {0} → Reading) →
-    HasRead gives failures m s t reader (refuse_if test kind k) → test ≡ true → (kind ≡ Read → ⊥) → Stops gives failures ended m s t kind
+pub stops_refused : {S : Type 0} (gives : S → Result (List ℕ) DeviceFault → S → Type 0) (failures : S → ℕ)
+    (ended : Type 0) (m : ℕ) (s t : S) (reader : ReaderState) (test : Bool) (kind : SnapFault)
+    (k : Unit {0} → Reading) →
+    HasRead gives failures m s t reader (refuse_if test kind k) → test ≡ true → (kind ≡ Read → ⊥) →
+    Stops gives failures ended m s t kind
 stops_refused gives failures ended m s t reader test kind k a bad judged =
     let bytes = bytes_of_calls a.answers in
-    let shows : reading_of bytes ≡ fault_at kind (length a.front) = ap reading_of a.bytes_are ∙ a.resumes reader.pending ∙ refused_at k test kind (record { at = length a.front; rest = reader.pending }) bad in
-    let longer : length a.front ≤ length bytes = let e = ap length a.bytes_are ∙ length-append a.front reader.pending in omega arith in
+    let shows : reading_of bytes ≡ fault_at kind (length a.front) = ap reading_of a.bytes_are ∙
+    a.resumes reader.pending ∙ refused_at k test kind (record { at = length a.front; rest = reader.pending }) bad in
+    let longer : length a.front ≤ length bytes = let e = ap length a.bytes_are ∙ length-append a.front reader.pending in
+    omega arith in
     record {
       answers = a.answers;
       calls = a.calls;
       few = let f = a.few in omega arith;
       explains = told_as m bytes ended (failures t ≡ failures s + 1) kind judged
-          (record { place = length a.front; first = first_in_field m bytes (record { kind = kind; place = length a.front }) shows (λ long. a.within); at_end = λ h. absurd (omega arith) });
+          (record {
+            place = length a.front;
+            first = first_in_field m bytes
+                (record { kind = kind; place = length a.front }) shows (λ long. a.within);
+            at_end = λ h. absurd (omega arith);
+          });
       unfailed = λ n. a.none_failed;
     }
 
-pub read_passed : {S : Type 0} (gives : S → Result (List ℕ) DeviceFault → S → Type 0) (failures : S → ℕ) (m : ℕ) (s t : S) (reader : ReaderState) (test : Bool) (kind : SnapFault) (k : Unit {0} → Reading) →
-    HasRead gives failures m s t reader (refuse_if test kind k) → test ≡ false → HasRead gives failures m s t reader (k tt)
+pub read_passed : {S : Type 0} (gives : S → Result (List ℕ) DeviceFault → S → Type 0) (failures : S → ℕ) (m : ℕ)
+    (s t : S) (reader : ReaderState) (test : Bool) (kind : SnapFault) (k : Unit {0} → Reading) →
+    HasRead gives failures m s t reader (refuse_if test kind k) → test ≡ false →
+    HasRead gives failures m s t reader (k tt)
 read_passed gives failures m s t reader test kind k a good = record {
   answers = a.answers;
   calls = a.calls;
@@ -92,36 +112,46 @@ read_passed gives failures m s t reader test kind k a good = record {
   resumes = λ more. a.resumes more ∙ goes_on k test kind (record { at = length a.front; rest = more }) good;
 }
 
-pub read_field : {S : Type 0} (gives : S → Result (List ℕ) DeviceFault → S → Type 0) (failures : S → ℕ) (m : ℕ) (s t : S) (old new : ReaderState) (w : Width) (k : ℕ → Reading) →
-    HasRead gives failures m s t old (number w k) → byte_len w ≤ length old.pending → old.taken + byte_len w ≤ old.max_bytes →
-    new.pending ≡ drop (byte_len w) old.pending → new.taken ≡ old.taken + byte_len w → new.max_bytes ≡ old.max_bytes → HasRead gives failures m s t new (k (from_be_bytes w (take (byte_len w) old.pending)))
+pub read_field : {S : Type 0} (gives : S → Result (List ℕ) DeviceFault → S → Type 0) (failures : S → ℕ) (m : ℕ)
+    (s t : S) (old new : ReaderState) (w : Width) (k : ℕ → Reading) →
+    HasRead gives failures m s t old (number w k) → byte_len w ≤ length old.pending →
+    old.taken + byte_len w ≤ old.max_bytes →
+    new.pending ≡ drop (byte_len w) old.pending → new.taken ≡ old.taken + byte_len w → new.max_bytes ≡ old.max_bytes →
+    HasRead gives failures m s t new (k (from_be_bytes w (take (byte_len w) old.pending)))
 read_field gives failures m s t old new w k a long room pending taken limit =
     let field = take (byte_len w) old.pending in
     let len : length field ≡ byte_len w = length-take-le (byte_len w) old.pending long in
     let l = a.limit_is in let i = a.taken_is in
-    let more_front : length (a.front ++ field) ≡ length a.front + byte_len w = length-append a.front field ∙ ap (λ (n : ℕ). length a.front + n) len in
+    let more_front : length (a.front ++ field) ≡ length a.front + byte_len w = length-append a.front field ∙
+    ap (λ (n : ℕ). length a.front + n) len in
     record {
       answers = a.answers;
       calls = a.calls;
       each = a.each;
       front = a.front ++ field;
-      bytes_are = a.bytes_are ∙ ap (λ (l : List ℕ). a.front ++ l) (sym (take-append-drop (byte_len w) old.pending) ∙ ap (λ (l : List ℕ). field ++ l) (sym pending)) ∙ sym (append_assoc a.front field new.pending);
+      bytes_are = a.bytes_are ∙ ap (λ (l : List ℕ). a.front ++ l)
+          (sym (take-append-drop (byte_len w) old.pending) ∙ ap (λ (l : List ℕ). field ++ l) (sym pending)) ∙
+          sym (append_assoc a.front field new.pending);
       are_bytes = a.are_bytes;
       taken_is = omega arith;
       limit_is = limit ∙ a.limit_is;
       within = omega arith;
       few = a.few;
       none_failed = a.none_failed;
-      resumes = λ more. ap reading_of (append_assoc a.front field more) ∙ a.resumes (field ++ more) ∙ number_there w k (length a.front) field more len
+      resumes = λ more. ap reading_of (append_assoc a.front field more) ∙ a.resumes (field ++ more) ∙
+          number_there w k (length a.front) field more len
           ∙ ap (λ (n : ℕ). k (from_be_bytes w field) (record { at = n; rest = more })) (sym more_front);
     }
 
-pub stops_long : {S : Type 0} (gives : S → Result (List ℕ) DeviceFault → S → Type 0) (failures : S → ℕ) (ended : Type 0) (m : ℕ) (s t : S) (reader : ReaderState) (w : Width) (k : ℕ → Reading) →
-    HasRead gives failures m s t reader (number w k) → reader.max_bytes < reader.taken + byte_len w → reader.max_bytes < reader.taken + length reader.pending → Stops gives failures ended m s t TooLong
+pub stops_long : {S : Type 0} (gives : S → Result (List ℕ) DeviceFault → S → Type 0) (failures : S → ℕ) (ended : Type 0)
+    (m : ℕ) (s t : S) (reader : ReaderState) (w : Width) (k : ℕ → Reading) →
+    HasRead gives failures m s t reader (number w k) → reader.max_bytes < reader.taken + byte_len w →
+    reader.max_bytes < reader.taken + length reader.pending → Stops gives failures ended m s t TooLong
 stops_long gives failures ended m s t reader w k a room long =
     let bytes = bytes_of_calls a.answers in
     let l = a.limit_is in let i = a.taken_is in let f = a.few in let in_front = a.within in
-    let all : length bytes ≡ length a.front + length reader.pending = ap length a.bytes_are ∙ length-append a.front reader.pending in
+    let all : length bytes ≡ length a.front + length reader.pending = ap length a.bytes_are ∙
+    length-append a.front reader.pending in
     let over : m < length a.front + byte_len w = omega arith in
     let more : m < length bytes = omega arith in
     record {
@@ -130,63 +160,93 @@ stops_long gives failures ended m s t reader w k a room long =
       few = omega arith;
       explains = record {
         place = m + 1;
-        first = first_at_limit m bytes more (λ g e. later m a.front reader.pending w k bytes a.bytes_are a.resumes over (omega arith) more g e);
+        first = first_at_limit m bytes more (λ g e. later m a.front reader.pending w k bytes a.bytes_are a.resumes over
+            (omega arith) more g e);
         at_end = λ h. absurd (omega arith);
       };
       unfailed = λ n. a.none_failed;
     }
   where
-    later : (m : ℕ) (front pending : List ℕ) (w : Width) (k : ℕ → Reading) (bytes : List ℕ) → bytes ≡ front ++ pending → ((more : List ℕ) → reading_of (front ++ more) ≡ number w k (record { at = length front; rest = more })) →
-        m < length front + byte_len w → 0 < byte_len w → m < length bytes → (g : Fault) → reading_of bytes ≡ Err g → m < g.place
+    later : (m : ℕ) (front pending : List ℕ) (w : Width) (k : ℕ → Reading) (bytes : List ℕ) → bytes ≡ front ++ pending →
+        ((more : List ℕ) → reading_of (front ++ more) ≡ number w k (record { at = length front; rest = more })) →
+        m < length front + byte_len w → 0 < byte_len w → m < length bytes → (g : Fault) → reading_of bytes ≡ Err g →
+        m < g.place
     later m front pending w k bytes is resumes over wide more g e = elim (cases_lt (length bytes) g.place) [
       | inl outside ↦ omega arith
       | inr inside ↦
-          let le = never_before front pending w k wide resumes g.kind g.place (ap reading_of (sym is) ∙ e) (let q = ap length is in omega arith) in
+          let le = never_before front pending w k wide resumes g.kind g.place (ap reading_of (sym is) ∙ e)
+          (let q = ap length is in omega arith) in
           omega arith
     ]
 
-pub stops_short : {S : Type 0} (gives : S → Result (List ℕ) DeviceFault → S → Type 0) (failures : S → ℕ) (ended : Type 0) (m : ℕ) (s t : S) (reader : ReaderState) (w : Width) (k : ℕ → Reading) →
-    HasEnded gives failures ended m s t reader (number w k) → length reader.pending < byte_len w → reader.taken + length reader.pending ≤ reader.max_bytes → Stops gives failures ended m s t Truncated
+pub stops_short : {S : Type 0} (gives : S → Result (List ℕ) DeviceFault → S → Type 0) (failures : S → ℕ)
+    (ended : Type 0) (m : ℕ) (s t : S) (reader : ReaderState) (w : Width) (k : ℕ → Reading) →
+    HasEnded gives failures ended m s t reader (number w k) → length reader.pending < byte_len w →
+    reader.taken + length reader.pending ≤ reader.max_bytes → Stops gives failures ended m s t Truncated
 stops_short gives failures ended m s t reader w k x short room =
     let a = x.has_read in
     let last : List (Result (List ℕ) DeviceFault) = Ok [] ∷ [] in
     let bytes = bytes_of_calls (a.answers ++ last) in
-    let bytes_are : bytes ≡ a.front ++ reader.pending = bytes_of_calls-append a.answers last ∙ append-nil (bytes_of_calls a.answers) ∙ a.bytes_are in
-    let all : length bytes ≡ length a.front + length reader.pending = ap length bytes_are ∙ length-append a.front reader.pending in
+    let bytes_are : bytes ≡ a.front ++ reader.pending = bytes_of_calls-append a.answers last ∙
+    append-nil (bytes_of_calls a.answers) ∙ a.bytes_are in
+    let all : length bytes ≡ length a.front + length reader.pending = ap length bytes_are ∙
+    length-append a.front reader.pending in
     let l = a.limit_is in let i = a.taken_is in let f = a.few in
     let place = length a.front + length reader.pending + 1 in
-    let shows : reading_of bytes ≡ fault_at Truncated place = ap reading_of bytes_are ∙ a.resumes reader.pending ∙ number_short w k (length a.front) reader.pending short in
+    let shows : reading_of bytes ≡ fault_at Truncated place = ap reading_of bytes_are ∙ a.resumes reader.pending ∙
+    number_short w k (length a.front) reader.pending short in
     record {
       answers = a.answers ++ last;
       calls = calls-append gives a.answers last s x.before t a.calls (calls_one gives x.before t (Ok []) x.gave);
       few = let e = length-append a.answers last in omega arith;
-      explains = record { place = place; first = first_in_field m bytes (record { kind = Truncated; place = place }) shows (λ long. absurd (omega arith)); at_end = λ h. x.at_end };
+      explains = record {
+        place = place;
+        first = first_in_field m bytes
+            (record { kind = Truncated; place = place }) shows (λ long. absurd (omega arith));
+        at_end = λ h. x.at_end;
+      };
       unfailed = λ n. x.none_failed ∙ a.none_failed;
     }
 
-pub stops_failed : {S : Type 0} (gives : S → Result (List ℕ) DeviceFault → S → Type 0) (failures : S → ℕ) (ended : Type 0) (m : ℕ) (s t : S) (want : ℕ) (w : Width) (k : ℕ → Reading) →
+pub stops_failed : {S : Type 0} (gives : S → Result (List ℕ) DeviceFault → S → Type 0) (failures : S → ℕ)
+    (ended : Type 0) (m : ℕ) (s t : S) (want : ℕ) (w : Width) (k : ℕ → Reading) →
     HasFailed gives failures m s t want (number w k) → want ≤ byte_len w → Stops gives failures ended m s t Read
 stops_failed gives failures ended m s t want w k x wanted =
     let a = x.has_read in
     let last : List (Result (List ℕ) DeviceFault) = Err x.fault ∷ [] in
     let bytes = bytes_of_calls (a.answers ++ last) in
-    let bytes_are : bytes ≡ a.front ++ x.reader.pending = bytes_of_calls-append a.answers last ∙ append-nil (bytes_of_calls a.answers) ∙ a.bytes_are in
-    let all : length bytes ≡ length a.front + length x.reader.pending = ap length bytes_are ∙ length-append a.front x.reader.pending in
+    let bytes_are : bytes ≡ a.front ++ x.reader.pending = bytes_of_calls-append a.answers last ∙
+    append-nil (bytes_of_calls a.answers) ∙ a.bytes_are in
+    let all : length bytes ≡ length a.front + length x.reader.pending = ap length bytes_are ∙
+    length-append a.front x.reader.pending in
     let l = a.limit_is in let i = a.taken_is in let f = a.few in let short = x.short in let room = x.room in
     let place = length a.front + length x.reader.pending + 1 in
-    let shows : reading_of bytes ≡ fault_at Truncated place = ap reading_of bytes_are ∙ a.resumes x.reader.pending ∙ number_short w k (length a.front) x.reader.pending (omega arith) in
+    let shows : reading_of bytes ≡ fault_at Truncated place = ap reading_of bytes_are ∙ a.resumes x.reader.pending ∙
+    number_short w k (length a.front) x.reader.pending (omega arith) in
     record {
       answers = a.answers ++ last;
       calls = calls-append gives a.answers last s x.before t a.calls (calls_one gives x.before t (Err x.fault) x.gave);
       few = let e = length-append a.answers last in omega arith;
-      explains = record { failed_now = x.failed ∙ ap (λ (n : ℕ). n + 1) a.none_failed; none_but = λ p kind h. only m bytes place shows (omega arith) h.turn p kind h.stands };
+      explains = record {
+        failed_now = x.failed ∙ ap (λ (n : ℕ). n + 1) a.none_failed;
+        none_but = λ p kind h. only m bytes place shows (omega arith) h.turn p kind h.stands;
+      };
       unfailed = λ n. absurd (n refl);
     }
   where
-    only : (m : ℕ) (bytes : List ℕ) (place : ℕ) → reading_of bytes ≡ fault_at Truncated place → length bytes ≤ m → (turn : Turn) (p : ℕ) (kind : SnapFault) → FaultAt turn m bytes p kind → kind ≡ Truncated
+    only : (m : ℕ) (bytes : List ℕ) (place : ℕ) → reading_of bytes ≡ fault_at Truncated place → length bytes ≤ m →
+        (turn : Turn) (p : ℕ) (kind : SnapFault) → FaultAt turn m bytes p kind → kind ≡ Truncated
     only m bytes place shows fits at_limit p kind h = let long = h.longer in absurd (omega arith)
     only m bytes place shows fits in_field p kind h = kind_same kind Truncated p place (sym h ∙ shows)
 
 -- memory was refused
-pub stops_memory : {S : Type 0} (gives : S → Result (List ℕ) DeviceFault → S → Type 0) (failures : S → ℕ) (ended : Type 0) (m : ℕ) (s t : S) (reader : ReaderState) (left : Reading) → HasRead gives failures m s t reader left → Stops gives failures ended m s t Memory
-stops_memory gives failures ended m s t reader left a = record { answers = a.answers; calls = a.calls; few = let f = a.few in omega arith; explains = tt; unfailed = λ n. a.none_failed }
+pub stops_memory : {S : Type 0} (gives : S → Result (List ℕ) DeviceFault → S → Type 0) (failures : S → ℕ)
+    (ended : Type 0) (m : ℕ) (s t : S) (reader : ReaderState) (left : Reading) →
+    HasRead gives failures m s t reader left → Stops gives failures ended m s t Memory
+stops_memory gives failures ended m s t reader left a = record {
+  answers = a.answers;
+  calls = a.calls;
+  few = let f = a.few in omega arith;
+  explains = tt;
+  unfailed = λ n. a.none_failed;
+}

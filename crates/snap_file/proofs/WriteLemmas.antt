@@ -1,5 +1,6 @@
 -- A file on its way: what is pending handed on, more appended, and a stop.
-use Rattle.std.proofs.Common.{◌≡◌, ℕ, ◌+◌, ◌*◌, ◌^◌, ◌<◌, ◌≤◌, List, [], ◌∷◌, ◌++◌, length, flat_map, refl, sym, ap, subst, ◌∙◌, append_assoc, length-append, arith}
+use Rattle.std.proofs.Common.{◌≡◌, ℕ, ◌+◌, ◌*◌, ◌^◌, ◌<◌, ◌≤◌, List, [], ◌∷◌, ◌++◌, length, flat_map, refl, sym, ap}
+use Rattle.std.proofs.Common.{subst, ◌∙◌, append_assoc, length-append, arith}
 use Rattle.std.proofs.lemmas.List.{append-nil}
 use Rattle.byte_io.specs.Streams.{Answer}
 use Rattle.byte_io.specs.Writing.{HasTaken, HasStopped}
@@ -11,17 +12,22 @@ use Rattle.batch_store.specs.Batches.{Submission}
 use Rattle.snap_file.specs.Spelling.{cell_bytes, cells_bytes, batch_bytes}
 use Rattle.snap_file.specs.Writing.{IsWriting, WriterState}
 
-pub writing_handed_on : {S : Type 0} (step : S → List ℕ → Answer → S → Type 0) (failures : S → ℕ) (s m t : S) (all left : List ℕ) (old new : WriterState) →
-    IsWriting step failures s m all old left → HasTaken step failures m t old.pending → new.taken ≡ old.taken + length old.pending → new.pending ≡ [] → IsWriting step failures s t all new left
+pub writing_handed_on : {S : Type 0} (step : S → List ℕ → Answer → S → Type 0) (failures : S → ℕ) (s m t : S)
+    (all left : List ℕ) (old new : WriterState) →
+    IsWriting step failures s m all old left → HasTaken step failures m t old.pending →
+    new.taken ≡ old.taken + length old.pending → new.pending ≡ [] → IsWriting step failures s t all new left
 writing_handed_on step failures s m t all left old new a b taken none = record {
   front = a.front ++ old.pending;
   has_taken = has_taken_append step failures s m t a.front old.pending a.has_taken b;
   taken_is = let e = length-append a.front old.pending in let h = a.taken_is in omega arith;
-  all_is = a.all_is ∙ ap (λ (l : List ℕ). l ++ left) (sym (append-nil (a.front ++ old.pending)) ∙ ap (λ (l : List ℕ). (a.front ++ old.pending) ++ l) (sym none));
+  all_is = a.all_is ∙ ap (λ (l : List ℕ). l ++ left) (sym (append-nil (a.front ++ old.pending)) ∙
+      ap (λ (l : List ℕ). (a.front ++ old.pending) ++ l) (sym none));
 }
 
-pub writing_stopped : {S : Type 0} (step : S → List ℕ → Answer → S → Type 0) (failures : S → ℕ) (s m t : S) (all left : List ℕ) (old : WriterState) (n : ℕ) →
-    IsWriting step failures s m all old left → HasStopped step failures m t old.pending n → HasStopped step failures s t all (old.taken + n)
+pub writing_stopped : {S : Type 0} (step : S → List ℕ → Answer → S → Type 0) (failures : S → ℕ) (s m t : S)
+    (all left : List ℕ) (old : WriterState) (n : ℕ) →
+    IsWriting step failures s m all old left → HasStopped step failures m t old.pending n →
+    HasStopped step failures s t all (old.taken + n)
 writing_stopped step failures s m t all left old n a b =
     subst (λ (l : List ℕ). HasStopped step failures s t l (old.taken + n)) (sym a.all_is)
     (has_stopped_longer step failures s t (a.front ++ old.pending) left (old.taken + n)
@@ -29,43 +35,64 @@ writing_stopped step failures s m t all left old n a b =
     (stopped_behind step failures s m t a.front old.pending n a.has_taken b)))
 
 -- a field was appended: the first of those that were left
-pub writing_more : {S : Type 0} (step : S → List ℕ → Answer → S → Type 0) (failures : S → ℕ) (s t : S) (all field more left : List ℕ) (old new : WriterState) →
-    IsWriting step failures s t all old ((field ++ more) ++ left) → new.taken ≡ old.taken → new.pending ≡ old.pending ++ field → IsWriting step failures s t all new (more ++ left)
+pub writing_more : {S : Type 0} (step : S → List ℕ → Answer → S → Type 0) (failures : S → ℕ) (s t : S)
+    (all field more left : List ℕ) (old new : WriterState) →
+    IsWriting step failures s t all old ((field ++ more) ++ left) → new.taken ≡ old.taken →
+    new.pending ≡ old.pending ++ field → IsWriting step failures s t all new (more ++ left)
 writing_more step failures s t all field more left old new a taken pending = record {
   front = a.front;
   has_taken = a.has_taken;
   taken_is = taken ∙ a.taken_is;
-  all_is = a.all_is ∙ ap (λ (l : List ℕ). (a.front ++ old.pending) ++ l) (append_assoc field more left) ∙ sym (append_assoc (a.front ++ old.pending) field (more ++ left))
-      ∙ ap (λ (l : List ℕ). l ++ (more ++ left)) (append_assoc a.front old.pending field ∙ ap (λ (l : List ℕ). a.front ++ l) (sym pending));
+  all_is = a.all_is ∙ ap (λ (l : List ℕ). (a.front ++ old.pending) ++ l) (append_assoc field more left) ∙
+      sym (append_assoc (a.front ++ old.pending) field (more ++ left))
+      ∙ ap (λ (l : List ℕ). l ++ (more ++ left)) (append_assoc a.front old.pending field ∙
+      ap (λ (l : List ℕ). a.front ++ l) (sym pending));
 }
 
-pub writing_whole : {S : Type 0} (step : S → List ℕ → Answer → S → Type 0) (failures : S → ℕ) (s t : S) (all : List ℕ) (writer : WriterState) →
+pub writing_whole : {S : Type 0} (step : S → List ℕ → Answer → S → Type 0) (failures : S → ℕ) (s t : S) (all : List ℕ)
+    (writer : WriterState) →
     IsWriting step failures s t all writer [] → writer.pending ≡ [] → HasTaken step failures s t all
 writing_whole step failures s t all writer a none =
-    subst (λ (l : List ℕ). HasTaken step failures s t l) (sym (a.all_is ∙ append-nil (a.front ++ writer.pending) ∙ ap (λ (l : List ℕ). a.front ++ l) none ∙ append-nil a.front)) a.has_taken
+    subst (λ (l : List ℕ). HasTaken step failures s t l) (sym
+    (a.all_is ∙ append-nil (a.front ++ writer.pending) ∙ ap (λ (l : List ℕ). a.front ++ l) none ∙
+    append-nil a.front)) a.has_taken
 
 -- before the first call the front is pending
-pub writing_begun : {S : Type 0} (step : S → List ℕ → Answer → S → Type 0) (failures : S → ℕ) (s : S) (front left : List ℕ) (writer : WriterState) →
+pub writing_begun : {S : Type 0} (step : S → List ℕ → Answer → S → Type 0) (failures : S → ℕ) (s : S)
+    (front left : List ℕ) (writer : WriterState) →
     writer.taken ≡ 0 → writer.pending ≡ front → IsWriting step failures s s (front ++ left) writer left
-writing_begun step failures s front left writer taken pending = record { front = []; has_taken = has_taken_nothing step failures s; taken_is = taken; all_is = ap (λ (l : List ℕ). l ++ left) (sym pending) }
+writing_begun step failures s front left writer taken pending = record {
+  front = [];
+  has_taken = has_taken_nothing step failures s;
+  taken_is = taken;
+  all_is = ap (λ (l : List ℕ). l ++ left) (sym pending);
+}
 
 -- ---- batches and cells
 
-pub cells_begin : {S : Type 0} (step : S → List ℕ → Answer → S → Type 0) (failures : S → ℕ) (s t : S) (all : List ℕ) (writer : WriterState) (es given : List (Place × ℕ)) (left : List ℕ) →
-    IsWriting step failures s t all writer ((cells_bytes es ++ []) ++ left) → given ≡ es → IsWriting step failures s t all writer (cells_bytes given ++ left)
+pub cells_begin : {S : Type 0} (step : S → List ℕ → Answer → S → Type 0) (failures : S → ℕ) (s t : S) (all : List ℕ)
+    (writer : WriterState) (es given : List (Place × ℕ)) (left : List ℕ) →
+    IsWriting step failures s t all writer ((cells_bytes es ++ []) ++ left) → given ≡ es →
+    IsWriting step failures s t all writer (cells_bytes given ++ left)
 cells_begin step failures s t all writer es given left a e =
     subst (λ (l : List (Place × ℕ)). IsWriting step failures s t all writer (cells_bytes l ++ left)) (sym e)
     (subst (λ (l : List ℕ). IsWriting step failures s t all writer (l ++ left)) (append-nil (cells_bytes es)) a)
 
-pub cell_next : {S : Type 0} (step : S → List ℕ → Answer → S → Type 0) (failures : S → ℕ) (s t : S) (all : List ℕ) (writer : WriterState) (given : List (Place × ℕ)) (cell : Cell) (rest : List (Place × ℕ)) (left : List ℕ) →
-    IsWriting step failures s t all writer (cells_bytes given ++ left) → given ≡ entry_of cell ∷ rest → IsWriting step failures s t all writer (cell_bytes (entry_of cell) ++ (cells_bytes rest ++ left))
+pub cell_next : {S : Type 0} (step : S → List ℕ → Answer → S → Type 0) (failures : S → ℕ) (s t : S) (all : List ℕ)
+    (writer : WriterState) (given : List (Place × ℕ)) (cell : Cell) (rest : List (Place × ℕ)) (left : List ℕ) →
+    IsWriting step failures s t all writer (cells_bytes given ++ left) → given ≡ entry_of cell ∷ rest →
+    IsWriting step failures s t all writer (cell_bytes (entry_of cell) ++ (cells_bytes rest ++ left))
 cell_next step failures s t all writer given cell rest left a e =
-    subst (λ (l : List ℕ). IsWriting step failures s t all writer l) (append_assoc (cell_bytes (entry_of cell)) (cells_bytes rest) left)
+    subst (λ (l : List ℕ). IsWriting step failures s t all writer l)
+    (append_assoc (cell_bytes (entry_of cell)) (cells_bytes rest) left)
     (subst (λ (l : List (Place × ℕ)). IsWriting step failures s t all writer (cells_bytes l ++ left)) e a)
 
-pub count_begun : (old room taken pending taken1 pending1 taken2 pending2 taken3 pending3 n : ℕ) → taken + pending ≡ old → taken1 ≡ taken → pending1 ≡ pending + 8 → taken2 ≡ taken1 → pending2 ≡ pending1 + 8 → taken3 ≡ taken2 → pending3 ≡ pending2 + 8 →
+pub count_begun : (old room taken pending taken1 pending1 taken2 pending2 taken3 pending3 n : ℕ) →
+    taken + pending ≡ old → taken1 ≡ taken → pending1 ≡ pending + 8 → taken2 ≡ taken1 → pending2 ≡ pending1 + 8 →
+    taken3 ≡ taken2 → pending3 ≡ pending2 + 8 →
     n < 2 ^ 64 → taken3 + pending3 + 24 * n ≤ old + 2 ^ 70
 count_begun old room taken pending taken1 pending1 taken2 pending2 taken3 pending3 n a b c d e f g h = omega arith
 
-pub batches_next : (list : List Submission) (b : Submission) → flat_map batch_bytes (b ∷ list) ≡ batch_bytes b ++ flat_map batch_bytes list
+pub batches_next : (list : List Submission) (b : Submission) →
+    flat_map batch_bytes (b ∷ list) ≡ batch_bytes b ++ flat_map batch_bytes list
 batches_next list b = refl

@@ -65,7 +65,8 @@ pub record ReaderState : Type 0 where
   pub max_bytes : ℕ
 
 -- The calls that led from s to t gave bytes of which the front was judged without a fault; `left` is still to be read.
-pub record HasRead {S : Type 0} (gives : S → Result (List ℕ) DeviceFault → S → Type 0) (failures : S → ℕ) (max_bytes : ℕ) (s t : S) (reader : ReaderState) (left : Reading) : Type 0 where
+pub record HasRead {S : Type 0} (gives : S → Result (List ℕ) DeviceFault → S → Type 0) (failures : S → ℕ)
+    (max_bytes : ℕ) (s t : S) (reader : ReaderState) (left : Reading) : Type 0 where
   pub answers : List (Result (List ℕ) DeviceFault)
   pub calls : Calls gives s answers t
   pub each : EachTakes answers
@@ -80,7 +81,8 @@ pub record HasRead {S : Type 0} (gives : S → Result (List ℕ) DeviceFault →
   pub resumes : (more : List ℕ) → reading_of (front ++ more) ≡ left (record { at = length front; rest = more })
 
 -- One more call gave nothing: the source has ended.
-pub record HasEnded {S : Type 0} (gives : S → Result (List ℕ) DeviceFault → S → Type 0) (failures : S → ℕ) (ended : Type 0) (max_bytes : ℕ) (s t : S) (reader : ReaderState) (left : Reading) : Type 0 where
+pub record HasEnded {S : Type 0} (gives : S → Result (List ℕ) DeviceFault → S → Type 0) (failures : S → ℕ)
+    (ended : Type 0) (max_bytes : ℕ) (s t : S) (reader : ReaderState) (left : Reading) : Type 0 where
   pub before : S
   pub has_read : HasRead gives failures max_bytes s before reader left
   pub gave : gives before (Ok []) t
@@ -88,7 +90,8 @@ pub record HasEnded {S : Type 0} (gives : S → Result (List ℕ) DeviceFault �
   pub none_failed : failures t ≡ failures before
 
 -- One more call failed.
-pub record HasFailed {S : Type 0} (gives : S → Result (List ℕ) DeviceFault → S → Type 0) (failures : S → ℕ) (max_bytes : ℕ) (s t : S) (want : ℕ) (left : Reading) : Type 0 where
+pub record HasFailed {S : Type 0} (gives : S → Result (List ℕ) DeviceFault → S → Type 0) (failures : S → ℕ)
+    (max_bytes : ℕ) (s t : S) (want : ℕ) (left : Reading) : Type 0 where
   pub before : S
   pub reader : ReaderState
   pub has_read : HasRead gives failures max_bytes s before reader left
@@ -99,7 +102,8 @@ pub record HasFailed {S : Type 0} (gives : S → Result (List ℕ) DeviceFault �
   pub failed : failures t ≡ failures before + 1
 
 -- The reading ended with this fault.
-pub record Stops {S : Type 0} (gives : S → Result (List ℕ) DeviceFault → S → Type 0) (failures : S → ℕ) (ended : Type 0) (max_bytes : ℕ) (s t : S) (kind : SnapFault) : Type 0 where
+pub record Stops {S : Type 0} (gives : S → Result (List ℕ) DeviceFault → S → Type 0) (failures : S → ℕ) (ended : Type 0)
+    (max_bytes : ℕ) (s t : S) (kind : SnapFault) : Type 0 where
   pub answers : List (Result (List ℕ) DeviceFault)
   pub calls : Calls gives s answers t
   pub few : length answers ≤ max_bytes + 2
@@ -107,7 +111,8 @@ pub record Stops {S : Type 0} (gives : S → Result (List ℕ) DeviceFault → S
   pub unfailed : (kind ≡ Read → ⊥) → failures t ≡ failures s
 
 -- The source gave a snapshot of these contents, and ended.
-pub record ReadsSnapshot {S : Type 0} (gives : S → Result (List ℕ) DeviceFault → S → Type 0) (failures : S → ℕ) (ended : Type 0) (max_bytes : ℕ) (s t : S) (setup : Setting) (list : List Submission) : Type 0 where
+pub record ReadsSnapshot {S : Type 0} (gives : S → Result (List ℕ) DeviceFault → S → Type 0) (failures : S → ℕ)
+    (ended : Type 0) (max_bytes : ℕ) (s t : S) (setup : Setting) (list : List Submission) : Type 0 where
   pub answers : List (Result (List ℕ) DeviceFault)
   pub calls : Calls gives s answers t
   pub few : length answers ≤ max_bytes + 2

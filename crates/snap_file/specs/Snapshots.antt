@@ -12,4 +12,5 @@ abbrev pub saved : Setting → List Submission → Saved
 saved s l = record { setup = s; list = l }
 
 abbrev pub coded_saved : Coded Saved
-coded_saved = code_by (Setting × List Submission) (coded× coded_setting (coded_list coded_submission)) (λ v. (v.setup, v.list)) (λ p. saved p.0 p.1) (λ _. refl)
+coded_saved = code_by (Setting × List Submission) (coded× coded_setting (coded_list coded_submission))
+    (λ v. (v.setup, v.list)) (λ p. saved p.0 p.1) (λ _. refl)

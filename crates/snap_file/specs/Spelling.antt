@@ -1,5 +1,6 @@
 -- The one spelling of a setup and a list of batches. Numbers are unsigned, the highest byte first.
-use Rattle.std.specs.Prelude.{◌≡◌, ℕ, ◌<◌, ◌≤◌, ◌^◌, List, [], ◌∷◌, ◌++◌, length, flat_map, Bool, slice_index, ◌&&◌, ◌==◌}
+use Rattle.std.specs.Prelude.{◌≡◌, ℕ, ◌<◌, ◌≤◌, ◌^◌, List, [], ◌∷◌, ◌++◌, length, flat_map, Bool, slice_index, ◌&&◌}
+use Rattle.std.specs.Prelude.{◌==◌}
 use Rattle.std.specs.List.{concat, AllByRecursion, list_any}
 use Rattle.std.specs.Int.{Width, w8, w32, w64, to_be_bytes}
 use Rattle.std.specs.FinMap.{entries, len}

@@ -3,7 +3,8 @@
 -- A `Reading` is what is still to be read, as a function of the bytes that are left. A `Part` is read before what
 -- follows it, and hands on a value. So the parts below list the fields of a file in their order, each with its
 -- judgements behind it.
-use Rattle.std.specs.Prelude.{ℕ, zero, suc, ◌+◌, ◌-◌, ◌^◌, Bool, not, ◌&&◌, ◌||◌, ◌==◌, if◌then◌else◌, nat_lt, nat_le, List, [], ◌∷◌, ◌++◌, length, take, drop, Result, Ok, Err}
+use Rattle.std.specs.Prelude.{ℕ, zero, suc, ◌+◌, ◌-◌, ◌^◌, Bool, not, ◌&&◌, ◌||◌, ◌==◌, if◌then◌else◌, nat_lt, nat_le}
+use Rattle.std.specs.Prelude.{List, [], ◌∷◌, ◌++◌, length, take, drop, Result, Ok, Err}
 use Rattle.std.specs.Int.{Width, w8, w32, w64, byte_len, from_be_bytes}
 use Rattle.cells.specs.declared.cell.Cell.{Cell}
 use Rattle.hyper_matrix.specs.Matrix.{matrix}
@@ -13,7 +14,8 @@ use Rattle.snap_file.specs.Spelling.{mark, version, stands_in}
 use Rattle.batch_store.specs.Batches.{Submission}
 use Rattle.snap_file.specs.declared.head.Head.{Head}
 use Rattle.snap_file.specs.declared.fault.SnapFault.{SnapFault}
-use Rattle.snap_file.specs.declared.fault.SnapFault.TheVariants.{BadMark, BadVersion, BadHead, BadBatch, OutOfOrder, RepeatedNumber, TotalDiffers, Truncated, ExtraBytes}
+use Rattle.snap_file.specs.declared.fault.SnapFault.TheVariants.{BadMark, BadVersion, BadHead, BadBatch, OutOfOrder}
+use Rattle.snap_file.specs.declared.fault.SnapFault.TheVariants.{RepeatedNumber, TotalDiffers, Truncated, ExtraBytes}
 
 -- how many bytes were read, and those that are left
 pub record Input : Type 0 where
@@ -50,7 +52,8 @@ unfoldable pub number : Width → Part ℕ
 number w k input =
     if nat_lt (length input.rest) (byte_len w)
     then fault_at Truncated (input.at + length input.rest + 1)
-    else k (from_be_bytes w (take (byte_len w) input.rest)) (record { at = input.at + byte_len w; rest = drop (byte_len w) input.rest })
+    else k (from_be_bytes w (take (byte_len w) input.rest))
+    (record { at = input.at + byte_len w; rest = drop (byte_len w) input.rest })
 
 -- the judgement of the field that was read last
 unfoldable pub refuse_if : Bool → SnapFault → Part (Unit {0})
@@ -116,7 +119,12 @@ cells_behind h (suc n) tally = do
   _ ← refuse_if (is_below row col tally.least_row tally.least_col) OutOfOrder
   count ← number w64
   _ ← refuse_if (nat_lt h.total (tally.counted + count)) TotalDiffers
-  cells_behind h n (record { cells = tally.cells ++ (record { row = row; col = col; count = count }) ∷ []; least_row = row; least_col = col + 1; counted = tally.counted + count })
+  cells_behind h n (record {
+    cells = tally.cells ++ (record { row = row; col = col; count = count }) ∷ [];
+    least_row = row;
+    least_col = col + 1;
+    counted = tally.counted + count;
+  })
 
 -- the batches that were read, and the sum of all counts so far
 pub record Progress : Type 0 where
@@ -129,7 +137,11 @@ no_cells counted = record { cells = []; least_row = 0; least_col = 0; counted = 
 -- the batch of these cells
 abbrev pub with_batch : Head → Progress → ℕ → ℕ → Tally → Progress
 with_batch h p client batch_number tally = record {
-  batches = p.batches ++ (record { client = client; number = batch_number; matrix = matrix h.setup.rows h.setup.cols (built_of tally.cells) }) ∷ [];
+  batches = p.batches ++ (record {
+    client = client;
+    number = batch_number;
+    matrix = matrix h.setup.rows h.setup.cols (built_of tally.cells);
+  }) ∷ [];
   counted = tally.counted;
 }
 
@@ -163,7 +175,8 @@ contents_of h p = record { setup = h.setup; batches = p.batches }
 
 -- the whole file
 abbrev pub body : Head → Reading
-body h = batches_behind h h.batches nothing_yet (λ p. refuse_if (not (p.counted == h.total)) TotalDiffers (λ _. end (contents_of h p)))
+body h = batches_behind h h.batches nothing_yet (λ p. refuse_if (not (p.counted == h.total)) TotalDiffers
+    (λ _. end (contents_of h p)))
 
 abbrev pub whole : Reading
 whole = head body

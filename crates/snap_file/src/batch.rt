@@ -11,7 +11,8 @@ ghost use Rattle.hyper_matrix.specs.Cells.{built_of};
 ghost use Rattle.hyper_matrix.specs.Matrix.{matrix};
 ghost use Rattle.batch_store.specs.Batches.{Submission, submission, values};
 ghost use Rattle.snap_file.specs.Spelling.{stands_in};
-ghost use Rattle.snap_file.specs.Table.{Reading, Tally, Progress, no_cells, cells_behind, batch, batches_behind, body, end, contents, nothing_yet};
+ghost use Rattle.snap_file.specs.Table.{Reading, Tally, Progress, no_cells, cells_behind, batch, batches_behind, body};
+ghost use Rattle.snap_file.specs.Table.{end, contents, nothing_yet};
 ghost use Rattle.snap_file.specs.Outcomes.{HasRead, Stops};
 ghost use Rattle.snap_file.specs.Tallies.{IsRun};
 ghost use Rattle.snap_file.specs.Lists.{HasPairs, progress_of};
@@ -63,11 +64,14 @@ fn read_entries<R: Source>(
     requires counted { tally.old.counted ≤ head.now.total }
     ensures counted { OnOk result (tally.new.counted ≤ head.now.total) }
     ensures ok { IfOk result (λ m. (s : R) (max_bytes : ℕ) (k : Tally → Reading) →
-        HasRead R.read_gives R.failure_count max_bytes s r.old reader.old (cells_behind head.now count (no_cells tally.old.counted) k) →
-        (t : Tally) × (m ≡ matrix head.now.setup.rows head.now.setup.cols (built_of t.cells)) × (t.counted ≡ tally.new.counted)
+        HasRead R.read_gives R.failure_count max_bytes s r.old reader.old
+        (cells_behind head.now count (no_cells tally.old.counted) k) →
+        (t : Tally) × (m ≡ matrix head.now.setup.rows head.now.setup.cols (built_of t.cells)) ×
+        (t.counted ≡ tally.new.counted)
         × HasRead R.read_gives R.failure_count max_bytes s r.new reader.new (k t)) }
     ensures err { IfErr result (λ f. (s : R) (max_bytes : ℕ) (k : Tally → Reading) →
-        HasRead R.read_gives R.failure_count max_bytes s r.old reader.old (cells_behind head.now count (no_cells tally.old.counted) k) →
+        HasRead R.read_gives R.failure_count max_bytes s r.old reader.old
+        (cells_behind head.now count (no_cells tally.old.counted) k) →
         Stops R.read_gives R.failure_count (R.at_end r.new) max_bytes s r.new f) }
     ensures no_failure { OnOk result (R.failure_count r.new ≡ R.failure_count r.old) }
 {
@@ -91,7 +95,8 @@ fn read_entries<R: Source>(
 fn note_pair(pairs: &mut BTreeSet<(u64, u64)>, client: u64, number: u64) -> Result<bool, SnapFault>
     ensures told { IfOk result (λ repeated. (list : List Submission) → HasPairs pairs.old list →
         (repeated ≡ stands_in client number list)) }
-    ensures noted { OnOk result ((list : List Submission) (b : Submission) → HasPairs pairs.old list → b.client ≡ client → b.number ≡ number →
+    ensures noted { OnOk result ((list : List Submission) (b : Submission) → HasPairs pairs.old list →
+        b.client ≡ client → b.number ≡ number →
         HasPairs pairs.new (list ++ b ∷ [])) }
     ensures err { IfErr result (λ f. f ≡ SnapFault.Memory) }
 {
@@ -109,7 +114,8 @@ fn push_batch(
     number: u64,
     matrix: Hyper,
 ) -> Result<(), SnapFault>
-    ensures ok { OnOk result (values batches.new.items ≡ values batches.old.items ++ submission client number matrix ∷ []) }
+    ensures ok { OnOk result (values batches.new.items ≡ values batches.old.items ++
+        submission client number matrix ∷ []) }
     ensures err { IfErr result (λ f. f ≡ SnapFault.Memory) }
 {
     let total = matrix.total();
@@ -170,7 +176,8 @@ pub fn read_batches<R: Source>(
     requires { R.failure_count r.old + 1 < 2 ^ 64 }
     ensures ok { IfOk result (λ list. (s : R) (max_bytes : ℕ) →
         HasRead R.read_gives R.failure_count max_bytes s r.old reader.old (body head.now) →
-        HasRead R.read_gives R.failure_count max_bytes s r.new reader.new (end (contents head.now.setup (values list.items)))) }
+        HasRead R.read_gives R.failure_count max_bytes s r.new reader.new
+        (end (contents head.now.setup (values list.items)))) }
     ensures err { IfErr result (λ f. (s : R) (max_bytes : ℕ) →
         HasRead R.read_gives R.failure_count max_bytes s r.old reader.old (body head.now) →
         Stops R.read_gives R.failure_count (R.at_end r.new) max_bytes s r.new f) }

@@ -40,5 +40,6 @@ pub fn no_snapshot_begins_another()
 /// A fault that shows within the bytes stays the first, however they go on.
 pub fn shown_fault_stays()
     ensures { (max_bytes : ℕ) (bytes more : List ℕ) (place : ℕ) (kind : SnapFault) →
-        FirstFaultAt max_bytes bytes place kind → place ≤ length bytes → FirstFaultAt max_bytes (bytes ++ more) place kind }
+        FirstFaultAt max_bytes bytes place kind → place ≤ length bytes →
+        FirstFaultAt max_bytes (bytes ++ more) place kind }
 {}

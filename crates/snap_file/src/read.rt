@@ -30,7 +30,8 @@ impl From<AllocError> for SnapFault {
 ///
 /// # Errors
 ///
-/// The first fault of the bytes in the order of the format, each as soon as its bytes are there: `BadMark`, `BadVersion`,
+/// The first fault of the bytes in the order of the format, each as soon as its bytes are there: `BadMark`,
+/// `BadVersion`,
 /// `BadHead`, `BadBatch`, `OutOfOrder`, `RepeatedNumber`, `TotalDiffers`, `ExtraBytes`, `Truncated` where the source
 /// ended, and `TooLong` at byte `max_bytes + 1`. `Read` where a read failed, and `Memory` where a growth was refused.
 /// What was read has been read, and nothing of it is kept.
@@ -42,7 +43,8 @@ pub fn read_snapshot<R: Source>(
     requires { R.failure_count r.old + 1 < 2 ^ 64 }
     // The source ended, and what it gave is the file of exactly this setup and list.
     ensures ok { IfOk result (λ snapshot.
-        ReadsSnapshot R.read_gives R.failure_count (R.at_end r.new) max_bytes r.old r.new snapshot.setup snapshot.list) }
+        ReadsSnapshot R.read_gives R.failure_count
+        (R.at_end r.new) max_bytes r.old r.new snapshot.setup snapshot.list) }
     // What it gave has this first fault; or a read failed, or memory was refused.
     ensures err { IfErr result (λ fault.
         Stops R.read_gives R.failure_count (R.at_end r.new) max_bytes r.old r.new fault) }

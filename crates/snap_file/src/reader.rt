@@ -1,5 +1,6 @@
 //! Fields of numbers, read from a source in pieces.
-ghost use Rattle.std.specs.Prelude.{◌≡◌, ◌≢◌, ℕ, ◌+◌, ◌-◌, ◌<◌, ◌≤◌, ◌^◌, List, [], ◌++◌, length, take, drop, Result, Ok, Err, IfOk, OnOk, IfErr, OnErr, IsTrue, IsFalse, true, false};
+ghost use Rattle.std.specs.Prelude.{◌≡◌, ◌≢◌, ℕ, ◌+◌, ◌-◌, ◌<◌, ◌≤◌, ◌^◌, List, [], ◌++◌, length, take, drop, Result};
+ghost use Rattle.std.specs.Prelude.{Ok, Err, IfOk, OnOk, IfErr, OnErr, IsTrue, IsFalse, true, false};
 ghost use Rattle.std.specs.Int.{Width, w8, w32, w64, byte_len, from_be_bytes};
 ghost use Rattle.snap_file.specs.Spelling.{IsBytes};
 ghost use Rattle.snap_file.specs.Table.{Reading, Contents, number, refuse_if, outside, field_in, end};
@@ -31,9 +32,14 @@ impl Model for ByteReader {
 
     ghost Value = { ReaderState };
 
-    ghost view = { λ r. record { pending = take (r.end - r.start) (drop r.start r.piece.items); taken = r.taken; max_bytes = r.max_bytes } };
+    ghost view = { λ r. record {
+      pending = take (r.end - r.start) (drop r.start r.piece.items);
+      taken = r.taken;
+      max_bytes = r.max_bytes;
+    } };
 
-    ghost invariant = { λ r. (r.start ≤ r.end) × (r.end ≤ length r.piece.items) × (16 ≤ length r.piece.items) × (r.taken ≤ r.max_bytes) };
+    ghost invariant = { λ r. (r.start ≤ r.end) × (r.end ≤ length r.piece.items) × (16 ≤ length r.piece.items) ×
+        (r.taken ≤ r.max_bytes) };
 }
 
 /// Moves so many bytes from `start` on to the front.
@@ -442,7 +448,8 @@ impl ByteReader {
         requires { R.failure_count r.old + 1 < 2 ^ 64 }
         ensures ok { OnOk result ((s : R) (max_bytes : ℕ) (contents : Contents) →
             HasRead R.read_gives R.failure_count max_bytes s r.old self.old (end contents) →
-            ReadsSnapshot R.read_gives R.failure_count (R.at_end r.new) max_bytes s r.new contents.setup contents.batches) }
+            ReadsSnapshot R.read_gives R.failure_count
+            (R.at_end r.new) max_bytes s r.new contents.setup contents.batches) }
         ensures err { IfErr result (λ f. (s : R) (max_bytes : ℕ) (contents : Contents) →
             HasRead R.read_gives R.failure_count max_bytes s r.old self.old (end contents) →
             Stops R.read_gives R.failure_count (R.at_end r.new) max_bytes s r.new f) }

@@ -45,15 +45,21 @@ pub fn read_cell<R: Source>(
 ) -> Result<(), SnapFault>
     requires failures { R.failure_count r.old + 1 < 2 ^ 64 }
     requires counted { tally.old.counted ≤ head.now.total }
-    requires run { IsRun head.now.setup.rows head.now.setup.cols tally.old.cells.items tally.old.least_row tally.old.least_col }
+    requires run { IsRun head.now.setup.rows head.now.setup.cols tally.old.cells.items
+        tally.old.least_row tally.old.least_col }
     ensures counted { OnOk result (tally.new.counted ≤ head.now.total) }
-    ensures run { OnOk result (IsRun head.now.setup.rows head.now.setup.cols tally.new.cells.items tally.new.least_row tally.new.least_col) }
-    ensures added { OnOk result (tally.new.counted + cell_total tally.old.cells.items ≡ tally.old.counted + cell_total tally.new.cells.items) }
+    ensures run { OnOk result (IsRun head.now.setup.rows head.now.setup.cols tally.new.cells.items
+        tally.new.least_row tally.new.least_col) }
+    ensures added { OnOk result (tally.new.counted + cell_total tally.old.cells.items ≡
+        tally.old.counted + cell_total tally.new.cells.items) }
     ensures ok { OnOk result ((s : R) (max_bytes n : ℕ) (done : List Cell) (k : Tally → Reading) →
-        HasRead R.read_gives R.failure_count max_bytes s r.old reader.old (cells_behind head.now (suc n) (tally_of done tally.old) k) →
-        HasRead R.read_gives R.failure_count max_bytes s r.new reader.new (cells_behind head.now n (tally_of done tally.new) k)) }
+        HasRead R.read_gives R.failure_count max_bytes s r.old reader.old
+        (cells_behind head.now (suc n) (tally_of done tally.old) k) →
+        HasRead R.read_gives R.failure_count max_bytes s r.new reader.new
+        (cells_behind head.now n (tally_of done tally.new) k)) }
     ensures err { IfErr result (λ f. (s : R) (max_bytes n : ℕ) (done : List Cell) (k : Tally → Reading) →
-        HasRead R.read_gives R.failure_count max_bytes s r.old reader.old (cells_behind head.now (suc n) (tally_of done tally.old) k) →
+        HasRead R.read_gives R.failure_count max_bytes s r.old reader.old
+        (cells_behind head.now (suc n) (tally_of done tally.old) k) →
         Stops R.read_gives R.failure_count (R.at_end r.new) max_bytes s r.new f) }
     ensures no_failure { OnOk result (R.failure_count r.new ≡ R.failure_count r.old) }
 {
@@ -89,15 +95,20 @@ pub fn read_cells<R: Source>(
 ) -> Result<(), SnapFault>
     requires failures { R.failure_count r.old + 1 < 2 ^ 64 }
     requires counted { tally.old.counted ≤ head.now.total }
-    requires run { IsRun head.now.setup.rows head.now.setup.cols tally.old.cells.items tally.old.least_row tally.old.least_col }
+    requires run { IsRun head.now.setup.rows head.now.setup.cols tally.old.cells.items
+        tally.old.least_row tally.old.least_col }
     ensures counted { OnOk result (tally.new.counted ≤ head.now.total) }
-    ensures run { OnOk result (IsRun head.now.setup.rows head.now.setup.cols tally.new.cells.items tally.new.least_row tally.new.least_col) }
-    ensures added { OnOk result (tally.new.counted + cell_total tally.old.cells.items ≡ tally.old.counted + cell_total tally.new.cells.items) }
+    ensures run { OnOk result (IsRun head.now.setup.rows head.now.setup.cols tally.new.cells.items
+        tally.new.least_row tally.new.least_col) }
+    ensures added { OnOk result (tally.new.counted + cell_total tally.old.cells.items ≡
+        tally.old.counted + cell_total tally.new.cells.items) }
     ensures ok { OnOk result ((s : R) (max_bytes : ℕ) (done : List Cell) (k : Tally → Reading) →
-        HasRead R.read_gives R.failure_count max_bytes s r.old reader.old (cells_behind head.now count (tally_of done tally.old) k) →
+        HasRead R.read_gives R.failure_count max_bytes s r.old reader.old
+        (cells_behind head.now count (tally_of done tally.old) k) →
         HasRead R.read_gives R.failure_count max_bytes s r.new reader.new (k (tally_of done tally.new))) }
     ensures err { IfErr result (λ f. (s : R) (max_bytes : ℕ) (done : List Cell) (k : Tally → Reading) →
-        HasRead R.read_gives R.failure_count max_bytes s r.old reader.old (cells_behind head.now count (tally_of done tally.old) k) →
+        HasRead R.read_gives R.failure_count max_bytes s r.old reader.old
+        (cells_behind head.now count (tally_of done tally.old) k) →
         Stops R.read_gives R.failure_count (R.at_end r.new) max_bytes s r.new f) }
     ensures no_failure { OnOk result (R.failure_count r.new ≡ R.failure_count r.old) }
 {

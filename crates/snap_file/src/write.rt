@@ -1,5 +1,6 @@
 //! Writes snapshots.
-ghost use Rattle.std.specs.Prelude.{◌≡◌, ℕ, ◌+◌, ◌*◌, ◌<◌, ◌≤◌, ◌^◌, List, [], ◌∷◌, ◌++◌, length, flat_map, map, IfOk, OnOk, IfErr};
+ghost use Rattle.std.specs.Prelude.{◌≡◌, ℕ, ◌+◌, ◌*◌, ◌<◌, ◌≤◌, ◌^◌, List, [], ◌∷◌, ◌++◌, length, flat_map, map, IfOk};
+ghost use Rattle.std.specs.Prelude.{OnOk, IfErr};
 ghost use Rattle.std.specs.Arc.{arc_value};
 ghost use Rattle.std.specs.Int.{w8, w32, w64};
 ghost use Rattle.std.specs.List.{concat};
@@ -73,9 +74,11 @@ fn push_head(writer: &mut ByteWriter, setup: &Setup, batches: u64, total: u64)
 fn write_cell<W: Sink>(writer: &mut ByteWriter, w: &mut W, cell: Cell) -> Result<(), WriteFault>
     requires failures { W.failure_count w.old + 1 < 2 ^ 64 }
     requires countable { writer.old.taken + length writer.old.pending < 2 ^ 126 }
-    ensures count { OnOk result (writer.new.taken + length writer.new.pending ≡ writer.old.taken + length writer.old.pending + 24) }
+    ensures count { OnOk result (writer.new.taken + length writer.new.pending ≡
+        writer.old.taken + length writer.old.pending + 24) }
     ensures ok { OnOk result ((s : W) (all left : List ℕ) →
-        IsWriting W.write_takes W.failure_count s w.old all writer.old (cell_bytes ((cell.row, cell.col), cell.count) ++ left) →
+        IsWriting W.write_takes W.failure_count s w.old all writer.old
+        (cell_bytes ((cell.row, cell.col), cell.count) ++ left) →
         IsWriting W.write_takes W.failure_count s w.new all writer.new left) }
     ensures err { IfErr result (λ f. (s : W) (all left : List ℕ) →
         IsWriting W.write_takes W.failure_count s w.old all writer.old left →
@@ -93,7 +96,8 @@ fn write_cell<W: Sink>(writer: &mut ByteWriter, w: &mut W, cell: Cell) -> Result
 fn write_batch<W: Sink>(writer: &mut ByteWriter, w: &mut W, batch: &Batch) -> Result<(), WriteFault>
     requires failures { W.failure_count w.old + 1 < 2 ^ 64 }
     requires countable { writer.old.taken + length writer.old.pending < 2 ^ 125 }
-    ensures count { OnOk result (writer.new.taken + length writer.new.pending ≤ writer.old.taken + length writer.old.pending + 2 ^ 70) }
+    ensures count { OnOk result (writer.new.taken + length writer.new.pending ≤ writer.old.taken +
+        length writer.old.pending + 2 ^ 70) }
     ensures ok { OnOk result ((s : W) (all left : List ℕ) →
         IsWriting W.write_takes W.failure_count s w.old all writer.old (batch_bytes batch.now ++ left) →
         IsWriting W.write_takes W.failure_count s w.new all writer.new left) }
@@ -123,8 +127,10 @@ pub fn write_snapshot<W: Sink>(
 ) -> Result<(), WriteFault>
     requires failures { W.failure_count w.old + 1 < 2 ^ 64 }
     requires accepted { AreAccepted setup.now (values batches.now) }
-    ensures ok { OnOk result (HasTaken W.write_takes W.failure_count w.old w.new (file setup.now (values batches.now))) }
-    ensures err { IfErr result (λ f. HasStopped W.write_takes W.failure_count w.old w.new (file setup.now (values batches.now)) f.written) }
+    ensures ok { OnOk result (HasTaken W.write_takes W.failure_count w.old w.new
+        (file setup.now (values batches.now))) }
+    ensures err { IfErr result (λ f. HasStopped W.write_takes W.failure_count w.old w.new
+        (file setup.now (values batches.now)) f.written) }
 {
     let mut writer = ByteWriter::new();
     push_head(&mut writer, setup, batches.len() as u64, total_of(batches));

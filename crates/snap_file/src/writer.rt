@@ -117,7 +117,8 @@ impl ByteWriter {
         requires failures { W.failure_count w.old + 1 < 2 ^ 64 }
         requires countable { self.old.taken + length self.old.pending < 2 ^ 127 }
         ensures room { OnOk result (length self.new.pending + 24 ≤ 16384) }
-        ensures count { OnOk result (self.new.taken + length self.new.pending ≡ self.old.taken + length self.old.pending) }
+        ensures count { OnOk result (self.new.taken + length self.new.pending ≡
+            self.old.taken + length self.old.pending) }
         ensures ok { OnOk result ((s : W) (all left : List ℕ) →
             IsWriting W.write_takes W.failure_count s w.old all self.old left →
             IsWriting W.write_takes W.failure_count s w.new all self.new left) }

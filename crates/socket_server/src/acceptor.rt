@@ -18,7 +18,8 @@ use std::{io, thread};
 /// A session over a socket.
 pub type SocketSession = Session<Counted<Stream>>;
 
-/// An end of the channel that one acceptor is to own. A thread can be sent no closure that owns something, so it is lent
+/// An end of the channel that one acceptor is to own. A thread can be sent no closure that owns something, so it is
+/// lent
 /// the place and takes it out.
 pub type Outlet = Mutex<Option<Sender<SocketSession, Global>>>;
 

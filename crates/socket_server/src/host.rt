@@ -7,7 +7,8 @@ use std::os::unix::net::UnixListener;
 use std::rt::Files;
 use std::{fs, io};
 
-/// Files by names. Code under the bound `Files` can't be sent to threads, so a server knows this trait, and every runtime
+/// Files by names. Code under the bound `Files` can't be sent to threads, so a server knows this trait, and every
+/// runtime
 /// with files and sockets has it.
 pub trait Host {
     /// A listener at a path, where it makes a file.

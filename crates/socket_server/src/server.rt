@@ -305,11 +305,13 @@ fn serve_settings<
     serve_plan(rt, alloc, plain, workers, plan, out)
 }
 
-/// Serves at TCP and Unix addresses until a session ends with a Stop or all sessions were numbered, and answers what was
+/// Serves at TCP and Unix addresses until a session ends with a Stop or all sessions were numbered, and answers what
+/// was
 /// accepted, which was saved where a snapshot's path is given.
 ///
 /// Writes a line for each listener once it is bound, `listening tcp ADDRESS` with the port that it got or
-/// `listening unix PATH`, and at the end `stopped batches B total T`. The Unix socket's path is removed before any answer.
+/// `listening unix PATH`, and at the end `stopped batches B total T`. The Unix socket's path is removed before any
+/// answer.
 ///
 /// It may wait for as long as clients keep their connections open: at the end each session that was accepted is served
 /// to its own end.

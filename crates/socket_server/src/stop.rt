@@ -7,7 +7,8 @@ use std::sync::atomic::{AtomicBool, Ordering};
 use std::time::Duration;
 use wire_proto::Ended;
 
-/// How long a connection that wakes an acceptor may take, in milliseconds. A listener's queue that is full needs none: its
+/// How long a connection that wakes an acceptor may take, in milliseconds. A listener's queue that is full needs none:
+/// its
 /// acceptor has connections to take.
 const WAKE_MILLIS: u64 = 100;
 
@@ -40,7 +41,8 @@ impl StopGate {
         self.waits_at_unix.store(waits, Ordering::SeqCst);
     }
 
-    /// Connects once to each of the own addresses, so that an acceptor that waits there looks at the flag. A Unix socket
+    /// Connects once to each of the own addresses, so that an acceptor that waits there looks at the flag. A Unix
+    /// socket
     /// has no time limit for that, so it is left out where its acceptor isn't waiting and a full queue could hold the
     /// caller.
     pub fn wake<R: Net<Listener = TcpListener, Stream = TcpStream>>(&self, rt: &R) {

@@ -11,23 +11,30 @@ use Rattle.batch_store.specs.Setups.{Setting}
 use Rattle.plain_engine.specs.declared.status.Status.{Status as Counted}
 use Rattle.wire_proto.specs.declared.keeper.SaveRefusal.{SaveRefusal}
 
-pub cell_answered : {S : Type 0} (gives : S → Event → S → Type 0) (setup : Setting) (s t : S) (r c : ℕ) (count : Option ℕ) (reply : List ℕ) →
-    r < setup.rows → c < setup.cols → gives s (cell r c count) t → reply ≡ value count → Answers gives setup (CellAt r c) reply s t
-cell_answered gives setup s t r c count reply a b h e = asked (cell r c count) (count, a, b, refl) h (ap (λ x. Some x) (sym e))
+pub cell_answered : {S : Type 0} (gives : S → Event → S → Type 0) (setup : Setting) (s t : S) (r c : ℕ)
+    (count : Option ℕ) (reply : List ℕ) →
+    r < setup.rows → c < setup.cols → gives s (cell r c count) t → reply ≡ value count →
+    Answers gives setup (CellAt r c) reply s t
+cell_answered gives setup s t r c count reply a b h e = asked (cell r c count) (count, a, b, refl) h
+    (ap (λ x. Some x) (sym e))
 
-pub row_answered : {S : Type 0} (gives : S → Event → S → Type 0) (setup : Setting) (s t : S) (r : ℕ) (sum : RowSum) (reply : List ℕ) →
+pub row_answered : {S : Type 0} (gives : S → Event → S → Type 0) (setup : Setting) (s t : S) (r : ℕ) (sum : RowSum)
+    (reply : List ℕ) →
     r < setup.rows → gives s (row r sum) t → reply ≡ row_sum sum → Answers gives setup (Row r) reply s t
 row_answered gives setup s t r sum reply a h e = asked (row r sum) (sum, a, refl) h (ap (λ x. Some x) (sym e))
 
-pub status_answered : {S : Type 0} (gives : S → Event → S → Type 0) (setup : Setting) (s t : S) (n : Counted) (reply : List ℕ) →
+pub status_answered : {S : Type 0} (gives : S → Event → S → Type 0) (setup : Setting) (s t : S) (n : Counted)
+    (reply : List ℕ) →
     gives s (status n) t → reply ≡ counts n → Answers gives setup Status reply s t
 status_answered gives setup s t n reply h e = asked (status n) (n, refl) h (ap (λ x. Some x) (sym e))
 
-pub save_answered : {S : Type 0} (gives : S → Event → S → Type 0) (setup : Setting) (s t : S) (answer : Result ℕ SaveRefusal) (reply : List ℕ) →
+pub save_answered : {S : Type 0} (gives : S → Event → S → Type 0) (setup : Setting) (s t : S)
+    (answer : Result ℕ SaveRefusal) (reply : List ℕ) →
     gives s (save answer) t → save_reply answer ≡ Some reply → Answers gives setup Save reply s t
 save_answered gives setup s t answer reply h e = asked (save answer) (answer, refl) h e
 
-pub export_answered : {S : Type 0} (gives : S → Event → S → Type 0) (setup : Setting) (s t : S) (m : Matrix) (reply : List ℕ) →
+pub export_answered : {S : Type 0} (gives : S → Event → S → Type 0) (setup : Setting) (s t : S) (m : Matrix)
+    (reply : List ℕ) →
     gives s (export (Ok m)) t → reply ≡ text_reply (matrix_text m) → Answers gives setup Export reply s t
 export_answered gives setup s t m reply h e = asked (export (Ok m)) (Ok m, refl) h (ap (λ x. Some x) (sym e))
 

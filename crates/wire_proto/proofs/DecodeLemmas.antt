@@ -1,11 +1,13 @@
 -- Replies: what their frames say again.
-use Rattle.std.proofs.Common.{◌≡◌, ℕ, ◌<◌, ◌≤◌, ◌^◌, true, List, [], ◌∷◌, ◌++◌, length, take, drop, refl, sym, ◌∙◌, ap, subst, arith, Some, None}
+use Rattle.std.proofs.Common.{◌≡◌, ℕ, ◌<◌, ◌≤◌, ◌^◌, true, List, [], ◌∷◌, ◌++◌, length, take, drop, refl, sym, ◌∙◌, ap}
+use Rattle.std.proofs.Common.{subst, arith, Some, None}
 use Rattle.std.specs.Int.{w16, to_be_bytes}
 use Rattle.std.proofs.lemmas.Nat.{from_be_bytes-to_be_bytes_2, from_be_bytes-to_be_bytes_8}
 use Rattle.std.proofs.lemmas.List.{append-nil, take-append-drop}
 use Rattle.wire_proto.specs.Frames.{frame, head_bytes, number, number_at, head_kind}
 use Rattle.wire_proto.specs.Replies as frames
-use Rattle.wire_proto.specs.Decoding.{Said, accepted, value, row_sum, counts, text, saved, stopping, refused, FitsReply, reply_frame, IsReplyFrame, short_fits, body_says, code_at}
+use Rattle.wire_proto.specs.Decoding.{Said, accepted, value, row_sum, counts, text, saved, stopping, refused, FitsReply}
+use Rattle.wire_proto.specs.Decoding.{reply_frame, IsReplyFrame, short_fits, body_says, code_at}
 use Rattle.wire_proto.proofs.RoundLemmas.{kind_read, tail_read, frame_len, number_first, pair_second, lone}
 
 -- a reply's kind and body
@@ -68,11 +70,20 @@ body_fits (refused code detail) n = refl
 -- and says the reply again
 pub says_again : (r : Said) → FitsReply r → (said_kind r ≡ 133 → ⊥) → body_says (said_kind r) (said_body r) ≡ r
 unfolding body_says
-says_again (accepted kept) h n = rw (number_first kept.index (number kept.total_after) h.0, pair_second kept.index kept.total_after h.1) refl
+says_again (accepted kept) h n = rw (
+  number_first kept.index (number kept.total_after) h.0,
+  pair_second kept.index kept.total_after h.1,
+) refl
 says_again (value (Some count)) h n = rw (number_alone count h) refl
 says_again (value None) h n = refl
-says_again (row_sum sum) h n = rw (number_first sum.entries (number sum.total) h.0, pair_second sum.entries sum.total h.1) refl
-says_again (counts status) h n = rw (number_first status.batches (number status.total) h.0, pair_second status.batches status.total h.1) refl
+says_again (row_sum sum) h n = rw (
+  number_first sum.entries (number sum.total) h.0,
+  pair_second sum.entries sum.total h.1,
+) refl
+says_again (counts status) h n = rw (
+  number_first status.batches (number status.total) h.0,
+  pair_second status.batches status.total h.1,
+) refl
 says_again (text bytes) h n = absurd (n refl)
 says_again (saved batches) h n = rw (lone batches h) refl
 says_again stopping h n = refl
@@ -80,22 +91,29 @@ says_again (refused code detail) h n = rw (code_read code detail h.0, detail_rea
 
 -- a frame's kind and body, and its length
 pub frame_kind : (bytes : List ℕ) (r : Said) → bytes ≡ reply_frame r → head_kind bytes ≡ said_kind r
-frame_kind bytes r e = ap head_kind (e ∙ as_frame r ∙ sym (append-nil (frame (said_kind r) (said_body r)))) ∙ kind_read (said_kind r) (said_body r) []
+frame_kind bytes r e = ap head_kind (e ∙ as_frame r ∙ sym (append-nil (frame (said_kind r) (said_body r)))) ∙
+    kind_read (said_kind r) (said_body r) []
 
 frame_body : (bytes : List ℕ) (r : Said) → bytes ≡ reply_frame r → drop 5 bytes ≡ said_body r
-frame_body bytes r e = ap (drop 5) (e ∙ as_frame r ∙ sym (append-nil (frame (said_kind r) (said_body r)))) ∙ tail_read (said_kind r) (said_body r) [] ∙ append-nil (said_body r)
+frame_body bytes r e = ap (drop 5) (e ∙ as_frame r ∙ sym (append-nil (frame (said_kind r) (said_body r)))) ∙
+    tail_read (said_kind r) (said_body r) [] ∙ append-nil (said_body r)
 
 pub frame_long : (bytes : List ℕ) (r : Said) → IsReplyFrame bytes r → 5 ≤ length bytes
 frame_long bytes r h =
-    let all = ap length (h.spelled ∙ as_frame r ∙ sym (append-nil (frame (said_kind r) (said_body r)))) ∙ frame_len (said_kind r) (said_body r) [] in omega (arith, all)
+    let all = ap length (h.spelled ∙ as_frame r ∙ sym (append-nil (frame (said_kind r) (said_body r)))) ∙
+    frame_len (said_kind r) (said_body r) [] in omega (arith, all)
 
-pub decoded_fits : (bytes : List ℕ) (r : Said) → IsReplyFrame bytes r → (head_kind bytes ≡ 133 → ⊥) → short_fits (head_kind bytes) (length (drop 5 bytes)) ≡ true
+pub decoded_fits : (bytes : List ℕ) (r : Said) → IsReplyFrame bytes r → (head_kind bytes ≡ 133 → ⊥) →
+    short_fits (head_kind bytes) (length (drop 5 bytes)) ≡ true
 decoded_fits bytes r h n =
-    rw (frame_kind bytes r h.spelled, frame_body bytes r h.spelled) (body_fits r (λ e. n (frame_kind bytes r h.spelled ∙ e)))
+    rw (frame_kind bytes r h.spelled, frame_body bytes r h.spelled)
+    (body_fits r (λ e. n (frame_kind bytes r h.spelled ∙ e)))
 
-pub decoded_says : (bytes : List ℕ) (r : Said) → IsReplyFrame bytes r → (head_kind bytes ≡ 133 → ⊥) → body_says (head_kind bytes) (drop 5 bytes) ≡ r
+pub decoded_says : (bytes : List ℕ) (r : Said) → IsReplyFrame bytes r → (head_kind bytes ≡ 133 → ⊥) →
+    body_says (head_kind bytes) (drop 5 bytes) ≡ r
 decoded_says bytes r h n =
-    rw (frame_kind bytes r h.spelled, frame_body bytes r h.spelled) (says_again r h.fits (λ e. n (frame_kind bytes r h.spelled ∙ e)))
+    rw (frame_kind bytes r h.spelled, frame_body bytes r h.spelled)
+    (says_again r h.fits (λ e. n (frame_kind bytes r h.spelled ∙ e)))
 
 -- ---- texts
 text_alone : (r : Said) → said_kind r ≡ 133 → r ≡ text (said_body r)
@@ -109,18 +127,26 @@ text_alone stopping e = absurd (omega (arith, e))
 text_alone (refused code detail) e = absurd (omega (arith, e))
 
 pub decoded_text : (bytes : List ℕ) (r : Said) → IsReplyFrame bytes r → head_kind bytes ≡ 133 → r ≡ text (drop 5 bytes)
-decoded_text bytes r h k = text_alone r (sym (frame_kind bytes r h.spelled) ∙ k) ∙ ap text (sym (frame_body bytes r h.spelled))
+decoded_text bytes r h k = text_alone r (sym (frame_kind bytes r h.spelled) ∙ k) ∙
+    ap text (sym (frame_body bytes r h.spelled))
 
-pub text_short : (bytes : List ℕ) (r : Said) → IsReplyFrame bytes r → head_kind bytes ≡ 133 → length (drop 5 bytes) ≤ 16777216
+pub text_short : (bytes : List ℕ) (r : Said) → IsReplyFrame bytes r → head_kind bytes ≡ 133 →
+    length (drop 5 bytes) ≤ 16777216
 text_short bytes r h k = subst FitsReply (decoded_text bytes r h k) h.fits
 
 head_of : (bytes body : List ℕ) → bytes ≡ frames.text body → take 5 bytes ≡ head_bytes 133 (length body)
 unfolding frame head_bytes
 head_of bytes body e = ap (take 5) e
 
-pub text_head_is : (bytes : List ℕ) (r : Said) → IsReplyFrame bytes r → head_kind bytes ≡ 133 → take 5 bytes ≡ head_bytes 133 (length (drop 5 bytes))
+pub text_head_is : (bytes : List ℕ) (r : Said) → IsReplyFrame bytes r → head_kind bytes ≡ 133 →
+    take 5 bytes ≡ head_bytes 133 (length (drop 5 bytes))
 text_head_is bytes r h k = head_of bytes (drop 5 bytes) (h.spelled ∙ ap reply_frame (decoded_text bytes r h k))
 
-pub text_frame : (bytes : List ℕ) → 5 ≤ length bytes → length (drop 5 bytes) ≤ 16777216 → take 5 bytes ≡ head_bytes 133 (length (drop 5 bytes)) → IsReplyFrame bytes (text (drop 5 bytes))
+pub text_frame : (bytes : List ℕ) → 5 ≤ length bytes → length (drop 5 bytes) ≤ 16777216 →
+    take 5 bytes ≡ head_bytes 133 (length (drop 5 bytes)) → IsReplyFrame bytes (text (drop 5 bytes))
 unfolding frame
-text_frame bytes long short e = record { fits = short; spelled = sym (take-append-drop 5 bytes) ∙ ap (λ l. l ++ drop 5 bytes) e }
+text_frame bytes long short e = record {
+  fits = short;
+  spelled = sym (take-append-drop 5 bytes) ∙
+      ap (λ l. l ++ drop 5 bytes) e;
+}

@@ -1,5 +1,6 @@
 -- Over the engine of one thread each message has one answer, and leaves one list.
-use Rattle.std.proofs.Common.{◌≡◌, ◌⊎◌, inl, inr, ℕ, ◌+◌, ◌<◌, ◌^◌, List, [], ◌∷◌, ◌++◌, length, refl, sym, ◌∙◌, ap, subst, arith, Some, Result, Ok, Err}
+use Rattle.std.proofs.Common.{◌≡◌, ◌⊎◌, inl, inr, ℕ, ◌+◌, ◌<◌, ◌^◌, List, [], ◌∷◌, ◌++◌, length, refl, sym, ◌∙◌, ap}
+use Rattle.std.proofs.Common.{subst, arith, Some, Result, Ok, Err}
 use Rattle.cells.specs.declared.cell.Cell.{Cell}
 use Rattle.std.proofs.lemmas.Bool.{cases_lt}
 use Rattle.mm_text.specs.Texts.{Spells}
@@ -17,13 +18,15 @@ use Rattle.batch_store.specs.Verdicts.{kept}
 use Rattle.batch_store.specs.declared.verdict.Verdict.{Verdict}
 use Rattle.batch_store.specs.declared.verdict.Verdict.TheVariants as verdict
 use Rattle.batch_store.specs.declared.verdict.Kept.{Kept}
-use Rattle.plain_engine.specs.Object.{Puts, answer_of, list_after, verdict_in, answer_to, list_by, cell_of, row_sum_of, export_of, status_of}
+use Rattle.plain_engine.specs.Object.{Puts, answer_of, list_after, verdict_in, answer_to, list_by, cell_of, row_sum_of}
+use Rattle.plain_engine.specs.Object.{export_of, status_of}
 use Rattle.plain_engine.specs.declared.fault.PutFault.{PutFault}
 use Rattle.plain_engine.specs.declared.fault.PutFault.TheVariants as fault
 use Rattle.wire_proto.specs.Frames.{Message}
 use Rattle.wire_proto.specs.Keeping.{Event, put, cell, row, status, export, save}
 use Rattle.wire_proto.specs.Replies.{put_reply, reply_of, refused}
-use Rattle.wire_proto.specs.Answering.{put_limits, kind_number, PutsBatch, RefusesText, faulty, differs, too_large, Answers, asked, unasked}
+use Rattle.wire_proto.specs.Answering.{put_limits, kind_number, PutsBatch, RefusesText, faulty, differs, too_large}
+use Rattle.wire_proto.specs.Answering.{Answers, asked, unasked}
 use Rattle.wire_proto.specs.Plain.{PlainGives, IsAnswered}
 use Rattle.wire_proto.specs.declared.keeper.SaveRefusal.TheVariants.{SaveOff}
 use Rattle.wire_proto.specs.declared.request.Request.{Request}
@@ -31,38 +34,57 @@ use Rattle.wire_proto.specs.declared.request.Request.TheVariants.{Put, Cell as C
 
 -- a text spells one file at most: its cells
 same_cells : (setup : Setting) (bytes : List ℕ) (cells cells' : List Cell) →
-    Spells bytes put_limits setup.rows setup.cols cells → Spells bytes put_limits setup.rows setup.cols cells' → cells ≡ cells'
-same_cells setup bytes cells cells' a b = (one_file bytes put_limits setup.rows setup.cols setup.rows setup.cols cells cells' a b).2
+    Spells bytes put_limits setup.rows setup.cols cells → Spells bytes put_limits setup.rows setup.cols cells' →
+    cells ≡ cells'
+same_cells setup bytes cells cells' a b =
+    (one_file bytes put_limits setup.rows setup.cols setup.rows setup.cols cells cells' a b).2
 
-pub one_batch : (setup : Setting) (client n : ℕ) (bytes : List ℕ) (b b' : Submission) → PutsBatch setup client n bytes b → PutsBatch setup client n bytes b' → b ≡ b'
+pub one_batch : (setup : Setting) (client n : ℕ) (bytes : List ℕ) (b b' : Submission) →
+    PutsBatch setup client n bytes b → PutsBatch setup client n bytes b' → b ≡ b'
 one_batch setup client n bytes b b' p q =
-    p.batch_is ∙ ap (λ cells. submission client n (matrix setup.rows setup.cols (built_of cells))) (same_cells setup bytes p.cells q.cells p.spells q.spells) ∙ sym q.batch_is
+    p.batch_is ∙ ap (λ cells. submission client n (matrix setup.rows setup.cols (built_of cells)))
+    (same_cells setup bytes p.cells q.cells p.spells q.spells) ∙ sym q.batch_is
 
 -- a text that makes a batch isn't refused
-pub never_both : (setup : Setting) (client n : ℕ) (bytes : List ℕ) (b : Submission) (code detail : ℕ) → PutsBatch setup client n bytes b → RefusesText setup bytes code detail → ⊥
-never_both setup client n bytes b code detail p (faulty kind line f i j) = spells_faultless bytes put_limits setup.rows setup.cols p.cells p.spells kind line f
+pub never_both : (setup : Setting) (client n : ℕ) (bytes : List ℕ) (b : Submission) (code detail : ℕ) →
+    PutsBatch setup client n bytes b → RefusesText setup bytes code detail → ⊥
+never_both setup client n bytes b code detail p
+    (faulty kind line f i j) = spells_faultless bytes put_limits setup.rows setup.cols p.cells p.spells kind line f
 never_both setup client n bytes b code detail p (differs rows cols cells s d i j) =
     let one = one_file bytes put_limits rows cols setup.rows setup.cols cells p.cells s p.spells in d (one.0, one.1)
 never_both setup client n bytes b code detail p (too_large cells s l i j) =
-    let e = ap cell_total (same_cells setup bytes cells p.cells s p.spells) in let fits = p.fits in omega (arith, l, fits, e)
+    let e = ap cell_total (same_cells setup bytes cells p.cells s p.spells) in let fits = p.fits in
+    omega (arith, l, fits, e)
 
 -- a text has one refusal
-one_refusal : (setup : Setting) (bytes : List ℕ) (code detail code' detail' : ℕ) → RefusesText setup bytes code detail → RefusesText setup bytes code' detail' → (code ≡ code') × (detail ≡ detail')
+one_refusal : (setup : Setting) (bytes : List ℕ) (code detail code' detail' : ℕ) → RefusesText setup bytes code detail →
+    RefusesText setup bytes code' detail' → (code ≡ code') × (detail ≡ detail')
 one_refusal setup bytes c d c' d' (faulty k l f i j) (faulty k' l' f' i' j') =
-    let one = one_first bytes put_limits k k' l l' f f' in (i ∙ ap (λ x. 100 + kind_number x) one.0 ∙ sym i', j ∙ one.1 ∙ sym j')
-one_refusal setup bytes c d c' d' (faulty k l f i j) (differs rows cols cells s n i' j') = absurd (spells_faultless bytes put_limits rows cols cells s k l f)
-one_refusal setup bytes c d c' d' (faulty k l f i j) (too_large cells s n i' j') = absurd (spells_faultless bytes put_limits setup.rows setup.cols cells s k l f)
-one_refusal setup bytes c d c' d' (differs rows cols cells s n i j) (faulty k l f i' j') = absurd (spells_faultless bytes put_limits rows cols cells s k l f)
-one_refusal setup bytes c d c' d' (differs rows cols cells s n i j) (differs rows' cols' cells' s' n' i' j') = (i ∙ sym i', j ∙ sym j')
+    let one = one_first bytes put_limits k k' l l' f f' in (
+      i ∙ ap (λ x. 100 + kind_number x) one.0 ∙ sym i',
+      j ∙
+          one.1 ∙ sym j',
+    )
+one_refusal setup bytes c d c' d' (faulty k l f i j) (differs rows cols cells s n i' j') = absurd
+    (spells_faultless bytes put_limits rows cols cells s k l f)
+one_refusal setup bytes c d c' d' (faulty k l f i j) (too_large cells s n i' j') = absurd
+    (spells_faultless bytes put_limits setup.rows setup.cols cells s k l f)
+one_refusal setup bytes c d c' d' (differs rows cols cells s n i j) (faulty k l f i' j') = absurd
+    (spells_faultless bytes put_limits rows cols cells s k l f)
+one_refusal setup bytes c d c' d' (differs rows cols cells s n i j) (differs rows' cols' cells' s' n' i' j') =
+    (i ∙ sym i', j ∙ sym j')
 one_refusal setup bytes c d c' d' (differs rows cols cells s n i j) (too_large cells' s' n' i' j') =
     let one = one_file bytes put_limits rows cols setup.rows setup.cols cells cells' s s' in absurd (n (one.0, one.1))
-one_refusal setup bytes c d c' d' (too_large cells s n i j) (faulty k l f i' j') = absurd (spells_faultless bytes put_limits setup.rows setup.cols cells s k l f)
+one_refusal setup bytes c d c' d' (too_large cells s n i j) (faulty k l f i' j') = absurd
+    (spells_faultless bytes put_limits setup.rows setup.cols cells s k l f)
 one_refusal setup bytes c d c' d' (too_large cells s n i j) (differs rows' cols' cells' s' n' i' j') =
-    let one = one_file bytes put_limits rows' cols' setup.rows setup.cols cells' cells s' s in absurd (n' (one.0, one.1))
+    let one = one_file bytes put_limits rows' cols' setup.rows setup.cols cells' cells s' s in
+    absurd (n' (one.0, one.1))
 one_refusal setup bytes c d c' d' (too_large cells s n i j) (too_large cells' s' n' i' j') = (i ∙ sym i', j ∙ sym j')
 
 -- a put that is replied to is the object's
-pub put_is : (v : Setting) (list : List Submission) (b : Submission) (answer : Result Kept PutFault) (t : List Submission) (w : List ℕ) →
+pub put_is : (v : Setting) (list : List Submission) (b : Submission) (answer : Result Kept PutFault)
+    (t : List Submission) (w : List ℕ) →
     Puts v list b answer t → put_reply answer ≡ Some w → (answer ≡ answer_of v list b) × (t ≡ list_after v list b)
 put_is v list b (Ok k) t w h e = h
 put_is v list b (Err fault.Memory) t w h e = absurd (cc)
@@ -78,7 +100,8 @@ abbrev Same : List ℕ → List ℕ → List Submission → List Submission → 
 Same w w' t t' = (w ≡ w') × (t ≡ t')
 
 -- of one event, one reply
-event_once : (v : Setting) (list : List Submission) (e e' : Event) (w w' : List ℕ) (t t' : List Submission) → e ≡ e' → t ≡ t' →
+event_once : (v : Setting) (list : List Submission) (e e' : Event) (w w' : List ℕ) (t t' : List Submission) → e ≡ e' →
+    t ≡ t' →
     reply_of e ≡ Some w → reply_of e' ≡ Some w' → Same w w' t t'
 event_once v list e e' w w' t t' i j h k = (some_is w w' (sym h ∙ ap reply_of i ∙ k), j)
 
@@ -93,12 +116,17 @@ pub one_answer : (v : Setting) (list : List Submission) (r : Request) (w w' : Li
 one_answer v list (Put c n bytes) w w' t t' (asked e a h i) (asked e' a' h' i') =
     let ev : e ≡ put a.0 a.1 = a.3 in let ev' : e' ≡ put a'.0 a'.1 = a'.3 in
     let same = one_batch v c n bytes a.0 a'.0 a.2 a'.2 in
-    let one = put_is v list a.0 a.1 t w (subst (λ x. PlainGives v list x t) ev h) (subst (λ x. reply_of x ≡ Some w) ev i) in
-    let two = put_is v list a'.0 a'.1 t' w' (subst (λ x. PlainGives v list x t') ev' h') (subst (λ x. reply_of x ≡ Some w') ev' i') in
+    let one = put_is v list a.0 a.1 t w (subst (λ x. PlainGives v list x t) ev h)
+    (subst (λ x. reply_of x ≡ Some w) ev i) in
+    let two = put_is v list a'.0 a'.1 t' w' (subst (λ x. PlainGives v list x t') ev' h')
+    (subst (λ x. reply_of x ≡ Some w') ev' i') in
     let answers = one.0 ∙ ap (answer_of v list) same ∙ sym two.0 in
-    event_once v list e e' w w' t t' (ev ∙ ap (λ b. put b a.1) same ∙ ap (λ x. put a'.0 x) answers ∙ sym ev') (one.1 ∙ ap (list_after v list) same ∙ sym two.1) i i'
-one_answer v list (Put c n bytes) w w' t t' (asked e a h i) (unasked a' i') = absurd (never_both v c n bytes a.0 a'.0 a'.1 a.2 a'.2)
-one_answer v list (Put c n bytes) w w' t t' (unasked a i) (asked e' a' h' i') = absurd (never_both v c n bytes a'.0 a.0 a.1 a'.2 a.2)
+    event_once v list e e' w w' t t' (ev ∙ ap (λ b. put b a.1) same ∙ ap (λ x. put a'.0 x) answers ∙ sym ev')
+    (one.1 ∙ ap (list_after v list) same ∙ sym two.1) i i'
+one_answer v list (Put c n bytes) w w' t t' (asked e a h i) (unasked a' i') = absurd
+    (never_both v c n bytes a.0 a'.0 a'.1 a.2 a'.2)
+one_answer v list (Put c n bytes) w w' t t' (unasked a i) (asked e' a' h' i') = absurd
+    (never_both v c n bytes a'.0 a.0 a.1 a'.2 a.2)
 one_answer v list (Put c n bytes) w w' t t' (unasked a i) (unasked a' i') =
     let one = one_refusal v bytes a.0 a.1 a'.0 a'.1 a.2 a'.2 in
     (a.3 ∙ ap (λ x. refused x a.1) one.0 ∙ ap (λ x. refused a'.0 x) one.1 ∙ sym a'.3, i ∙ sym i')
@@ -120,8 +148,10 @@ one_answer v list Status w w' t t' (asked e a h i) (asked e' a' h' i') =
 one_answer v list Status w w' t t' (asked e a h i) (unasked a' i') = absurd a'
 one_answer v list Status w w' t t' (unasked a i) other = absurd a
 one_answer v list Export w w' t t' (asked e a h i) (asked e' a' h' i') =
-    let g = export_is v list a.0 t w (subst (λ x. PlainGives v list x t) a.1 h) (subst (λ x. reply_of x ≡ Some w) a.1 i) in
-    let g' = export_is v list a'.0 t' w' (subst (λ x. PlainGives v list x t') a'.1 h') (subst (λ x. reply_of x ≡ Some w') a'.1 i') in
+    let g = export_is v list a.0 t w (subst (λ x. PlainGives v list x t) a.1 h)
+    (subst (λ x. reply_of x ≡ Some w) a.1 i) in
+    let g' = export_is v list a'.0 t' w' (subst (λ x. PlainGives v list x t') a'.1 h')
+    (subst (λ x. reply_of x ≡ Some w') a'.1 i') in
     event_once v list e e' w w' t t' (a.1 ∙ ap export (g.0 ∙ sym g'.0) ∙ sym a'.1) (g.1 ∙ sym g'.1) i i'
 one_answer v list Export w w' t t' (asked e a h i) (unasked a' i') = absurd a'
 one_answer v list Export w w' t t' (unasked a i) other = absurd a
@@ -134,27 +164,37 @@ one_answer v list Stop w w' t t' (asked e a h i) other = absurd a
 one_answer v list Stop w w' t t' (unasked a i) other = absurd a
 
 -- messages one after another
-then_one : (v : Setting) (list : List Submission) (r : Request) (ms : List Message) (w w' : List ℕ) (t t' : List Submission) →
+then_one : (v : Setting) (list : List Submission) (r : Request) (ms : List Message) (w w' : List ℕ)
+    (t t' : List Submission) →
     ((m : List Submission) (x x' : List ℕ) → IsAnswered v m ms x t → IsAnswered v m ms x' t' → Same x x' t t') →
-    (m : List Submission) × (reply : List ℕ) × (more : List ℕ) × Answers (PlainGives v) v r reply list m × (w ≡ reply ++ more) × IsAnswered v m ms more t →
-    (m : List Submission) × (reply : List ℕ) × (more : List ℕ) × Answers (PlainGives v) v r reply list m × (w' ≡ reply ++ more) × IsAnswered v m ms more t' →
+    (m : List Submission) × (reply : List ℕ) × (more : List ℕ) × Answers (PlainGives v) v r reply list m ×
+    (w ≡ reply ++ more) × IsAnswered v m ms more t →
+    (m : List Submission) × (reply : List ℕ) × (more : List ℕ) × Answers (PlainGives v) v r reply list m ×
+    (w' ≡ reply ++ more) × IsAnswered v m ms more t' →
     Same w w' t t'
 then_one v list r ms w w' t t' again a b =
     let one = one_answer v list r a.1 b.1 a.0 b.0 a.3 b.3 in
     let more = again b.0 a.2 b.2 (subst (λ m. IsAnswered v m ms a.2 t) one.1 a.5) b.5 in
     (a.4 ∙ ap (λ x. x ++ a.2) one.0 ∙ ap (λ x. b.1 ++ x) more.0 ∙ sym b.4, more.1)
 
-pub answered_once : (v : Setting) (list : List Submission) (ms : List Message) (w w' : List ℕ) (t t' : List Submission) →
+pub answered_once : (v : Setting) (list : List Submission) (ms : List Message) (w w' : List ℕ)
+    (t t' : List Submission) →
     IsAnswered v list ms w t → IsAnswered v list ms w' t' → Same w w' t t'
 answered_once v list [] w w' t t' a b = (a.0 ∙ sym b.0, a.1 ∙ sym b.1)
 answered_once v list (Ok Stop ∷ ms) w w' t t' a b = (a.0 ∙ sym b.0, a.1 ∙ sym b.1)
 answered_once v list (Err f ∷ ms) w w' t t' a b = (a.0 ∙ sym b.0, a.1 ∙ sym b.1)
-answered_once v list (Ok (Put x y z) ∷ ms) w w' t t' a b = then_one v list (Put x y z) ms w w' t t' (λ m p q c d. answered_once v m ms p q t t' c d) a b
-answered_once v list (Ok (CellAt x y) ∷ ms) w w' t t' a b = then_one v list (CellAt x y) ms w w' t t' (λ m p q c d. answered_once v m ms p q t t' c d) a b
-answered_once v list (Ok (Row x) ∷ ms) w w' t t' a b = then_one v list (Row x) ms w w' t t' (λ m p q c d. answered_once v m ms p q t t' c d) a b
-answered_once v list (Ok Status ∷ ms) w w' t t' a b = then_one v list Status ms w w' t t' (λ m p q c d. answered_once v m ms p q t t' c d) a b
-answered_once v list (Ok Export ∷ ms) w w' t t' a b = then_one v list Export ms w w' t t' (λ m p q c d. answered_once v m ms p q t t' c d) a b
-answered_once v list (Ok Save ∷ ms) w w' t t' a b = then_one v list Save ms w w' t t' (λ m p q c d. answered_once v m ms p q t t' c d) a b
+answered_once v list (Ok (Put x y z) ∷ ms) w w' t t' a b = then_one v list (Put x y z) ms w w' t t'
+    (λ m p q c d. answered_once v m ms p q t t' c d) a b
+answered_once v list (Ok (CellAt x y) ∷ ms) w w' t t' a b = then_one v list (CellAt x y) ms w w' t t'
+    (λ m p q c d. answered_once v m ms p q t t' c d) a b
+answered_once v list (Ok (Row x) ∷ ms) w w' t t' a b = then_one v list (Row x) ms w w' t t'
+    (λ m p q c d. answered_once v m ms p q t t' c d) a b
+answered_once v list (Ok Status ∷ ms) w w' t t' a b = then_one v list Status ms w w' t t'
+    (λ m p q c d. answered_once v m ms p q t t' c d) a b
+answered_once v list (Ok Export ∷ ms) w w' t t' a b = then_one v list Export ms w w' t t'
+    (λ m p q c d. answered_once v m ms p q t t' c d) a b
+answered_once v list (Ok Save ∷ ms) w w' t t' a b = then_one v list Save ms w w' t t'
+    (λ m p q c d. answered_once v m ms p q t t' c d) a b
 
 -- ---- and there is one
 equal_or_not : (m n : ℕ) → (m ≡ n) ⊎ (m ≡ n → ⊥)
@@ -168,32 +208,67 @@ HasAnswer v list r = (w : List ℕ) × (t : List Submission) × Answers (PlainGi
 
 by_verdict : (v : Setting) (list : List Submission) (b : Submission) (vd : Verdict) → verdict_in v list b ≡ vd →
     (w : List ℕ) × (t : List Submission) × (a : Result Kept PutFault) × Puts v list b a t × (put_reply a ≡ Some w)
-by_verdict v list b verdict.Fresh e = (_, _, Ok (kept (length list) (list_total list + batch_total b)), (ap (answer_to list b) (sym e), ap (list_by list b) (sym e)), refl)
-by_verdict v list b (verdict.Known k) e = (_, _, Ok k, (ap (answer_to list b) (sym e), ap (list_by list b) (sym e)), refl)
-by_verdict v list b verdict.NumberReused e = (_, _, Err fault.NumberReused, (ap (answer_to list b) (sym e), ap (list_by list b) (sym e)), refl)
-by_verdict v list b (verdict.OverTotal total) e = (_, _, Err (fault.OverTotal total), (ap (answer_to list b) (sym e), ap (list_by list b) (sym e)), refl)
-by_verdict v list b verdict.BookFull e = (_, _, Err fault.BookFull, (ap (answer_to list b) (sym e), ap (list_by list b) (sym e)), refl)
+by_verdict v list b verdict.Fresh e = (
+  _,
+  _,
+  Ok (kept (length list) (list_total list + batch_total b)),
+  (ap (answer_to list b) (sym e), ap (list_by list b) (sym e)),
+  refl,
+)
+by_verdict v list b (verdict.Known k) e = (
+  _,
+  _,
+  Ok k,
+  (ap (answer_to list b) (sym e), ap (list_by list b) (sym e)),
+  refl,
+)
+by_verdict v list b verdict.NumberReused e = (
+  _,
+  _,
+  Err fault.NumberReused,
+  (ap (answer_to list b) (sym e), ap (list_by list b) (sym e)),
+  refl,
+)
+by_verdict v list b (verdict.OverTotal total) e = (
+  _,
+  _,
+  Err (fault.OverTotal total),
+  (ap (answer_to list b) (sym e), ap (list_by list b) (sym e)),
+  refl,
+)
+by_verdict v list b verdict.BookFull e = (
+  _,
+  _,
+  Err fault.BookFull,
+  (ap (answer_to list b) (sym e), ap (list_by list b) (sym e)),
+  refl,
+)
 
-refuses : (v : Setting) (list : List Submission) (c n : ℕ) (bytes : List ℕ) (code detail : ℕ) → RefusesText v bytes code detail → HasAnswer v list (Put c n bytes)
+refuses : (v : Setting) (list : List Submission) (c n : ℕ) (bytes : List ℕ) (code detail : ℕ) →
+    RefusesText v bytes code detail → HasAnswer v list (Put c n bytes)
 refuses v list c n bytes code detail h = (refused code detail, list, unasked (code, detail, h, refl) refl)
 
-puts : (v : Setting) (list : List Submission) (c n : ℕ) (bytes : List ℕ) (cells : List Cell) → Spells bytes put_limits v.rows v.cols cells → cell_total cells < 2 ^ 64 → HasAnswer v list (Put c n bytes)
+puts : (v : Setting) (list : List Submission) (c n : ℕ) (bytes : List ℕ) (cells : List Cell) →
+    Spells bytes put_limits v.rows v.cols cells → cell_total cells < 2 ^ 64 → HasAnswer v list (Put c n bytes)
 puts v list c n bytes cells s fits =
     let b = submission c n (matrix v.rows v.cols (built_of cells)) in
     let p : PutsBatch v c n bytes b = record { cells = cells; spells = s; fits = fits; batch_is = refl } in
     let h = by_verdict v list b (verdict_in v list b) refl in
     (h.0, h.1, asked (put b h.2) (b, h.2, p, refl) h.3 h.4)
 
-of_dims : (v : Setting) (list : List Submission) (c n : ℕ) (bytes : List ℕ) (rows cols : ℕ) (cells : List Cell) → Spells bytes put_limits rows cols cells →
+of_dims : (v : Setting) (list : List Submission) (c n : ℕ) (bytes : List ℕ) (rows cols : ℕ) (cells : List Cell) →
+    Spells bytes put_limits rows cols cells →
     rows ≡ v.rows → cols ≡ v.cols → HasAnswer v list (Put c n bytes)
 of_dims v list c n bytes rows cols cells s e f =
-    let s' = subst (λ r. Spells bytes put_limits r v.cols cells) e (subst (λ k. Spells bytes put_limits rows k cells) f s) in
+    let s' = subst (λ r. Spells bytes put_limits r v.cols cells) e
+    (subst (λ k. Spells bytes put_limits rows k cells) f s) in
     elim (cases_lt (cell_total cells) (2 ^ 64)) [
       | inl small ↦ puts v list c n bytes cells s' small
       | inr large ↦ refuses v list c n bytes 21 0 (too_large cells s' large refl refl)
     ]
 
-of_spelled : (v : Setting) (list : List Submission) (c n : ℕ) (bytes : List ℕ) (rows cols : ℕ) (cells : List Cell) → Spells bytes put_limits rows cols cells → HasAnswer v list (Put c n bytes)
+of_spelled : (v : Setting) (list : List Submission) (c n : ℕ) (bytes : List ℕ) (rows cols : ℕ) (cells : List Cell) →
+    Spells bytes put_limits rows cols cells → HasAnswer v list (Put c n bytes)
 of_spelled v list c n bytes rows cols cells s =
     elim (equal_or_not rows v.rows) [
       | inl e ↦ elim (equal_or_not cols v.cols) [
@@ -226,16 +301,27 @@ has_row v list r = elim (cases_lt r v.rows) [
 
 then_some : (v : Setting) (list : List Submission) (r : Request) (ms : List Message) → HasAnswer v list r →
     ((m : List Submission) → (w : List ℕ) × (t : List Submission) × IsAnswered v m ms w t) →
-    (w : List ℕ) × (t : List Submission) × (m : List Submission) × (reply : List ℕ) × (more : List ℕ) × Answers (PlainGives v) v r reply list m × (w ≡ reply ++ more) × IsAnswered v m ms more t
+    (w : List ℕ) × (t : List Submission) × (m : List Submission) × (reply : List ℕ) × (more : List ℕ) ×
+    Answers (PlainGives v) v r reply list m × (w ≡ reply ++ more) × IsAnswered v m ms more t
 then_some v list r ms h again = let more = again h.1 in (h.0 ++ more.0, more.1, h.1, h.0, more.0, h.2, refl, more.2)
 
-pub has_answers : (v : Setting) (list : List Submission) (ms : List Message) → (w : List ℕ) × (t : List Submission) × IsAnswered v list ms w t
+pub has_answers : (v : Setting) (list : List Submission) (ms : List Message) →
+    (w : List ℕ) × (t : List Submission) × IsAnswered v list ms w t
 has_answers v list [] = ([], list, (refl, refl))
 has_answers v list (Ok Stop ∷ ms) = (_, list, (refl, refl))
 has_answers v list (Err f ∷ ms) = (_, list, (refl, refl))
-has_answers v list (Ok (Put x y z) ∷ ms) = let h = then_some v list (Put x y z) ms (has_put v list x y z) (λ m. has_answers v m ms) in (h.0, h.1, (h.2, h.3, h.4, h.5, h.6, h.7))
-has_answers v list (Ok (CellAt x y) ∷ ms) = let h = then_some v list (CellAt x y) ms (has_cell v list x y) (λ m. has_answers v m ms) in (h.0, h.1, (h.2, h.3, h.4, h.5, h.6, h.7))
-has_answers v list (Ok (Row x) ∷ ms) = let h = then_some v list (Row x) ms (has_row v list x) (λ m. has_answers v m ms) in (h.0, h.1, (h.2, h.3, h.4, h.5, h.6, h.7))
-has_answers v list (Ok Status ∷ ms) = let h = then_some v list Status ms (_, list, asked (status (status_of list)) (_, refl) (refl, refl) refl) (λ m. has_answers v m ms) in (h.0, h.1, (h.2, h.3, h.4, h.5, h.6, h.7))
-has_answers v list (Ok Export ∷ ms) = let h = then_some v list Export ms (_, list, asked (export (Ok (export_of v list))) (_, refl) (refl, refl) refl) (λ m. has_answers v m ms) in (h.0, h.1, (h.2, h.3, h.4, h.5, h.6, h.7))
-has_answers v list (Ok Save ∷ ms) = let h = then_some v list Save ms (_, list, asked (save (Err SaveOff)) (_, refl) (refl, refl) refl) (λ m. has_answers v m ms) in (h.0, h.1, (h.2, h.3, h.4, h.5, h.6, h.7))
+has_answers v list (Ok (Put x y z) ∷ ms) = let h = then_some v list (Put x y z) ms (has_put v list x y z)
+    (λ m. has_answers v m ms) in (h.0, h.1, (h.2, h.3, h.4, h.5, h.6, h.7))
+has_answers v list (Ok (CellAt x y) ∷ ms) = let h = then_some v list (CellAt x y) ms (has_cell v list x y)
+    (λ m. has_answers v m ms) in (h.0, h.1, (h.2, h.3, h.4, h.5, h.6, h.7))
+has_answers v list (Ok (Row x) ∷ ms) = let h = then_some v list (Row x) ms (has_row v list x)
+    (λ m. has_answers v m ms) in (h.0, h.1, (h.2, h.3, h.4, h.5, h.6, h.7))
+has_answers v list (Ok Status ∷ ms) = let h = then_some v list Status ms
+    (_, list, asked (status (status_of list)) (_, refl) (refl, refl) refl) (λ m. has_answers v m ms) in
+    (h.0, h.1, (h.2, h.3, h.4, h.5, h.6, h.7))
+has_answers v list (Ok Export ∷ ms) = let h = then_some v list Export ms
+    (_, list, asked (export (Ok (export_of v list))) (_, refl) (refl, refl) refl) (λ m. has_answers v m ms) in
+    (h.0, h.1, (h.2, h.3, h.4, h.5, h.6, h.7))
+has_answers v list (Ok Save ∷ ms) = let h = then_some v list Save ms
+    (_, list, asked (save (Err SaveOff)) (_, refl) (refl, refl) refl) (λ m. has_answers v m ms) in
+    (h.0, h.1, (h.2, h.3, h.4, h.5, h.6, h.7))

@@ -1,5 +1,6 @@
 -- Sessions over a keeper whose state is a list alone.
-use Rattle.std.proofs.Common.{◌≡◌, ◌⊎◌, inl, inr, ℕ, ◌+◌, ◌≤◌, List, [], ◌∷◌, ◌++◌, length, take, map, refl, sym, ◌∙◌, ap, subst, append_assoc, None, Ok, Err}
+use Rattle.std.proofs.Common.{◌≡◌, ◌⊎◌, inl, inr, ℕ, ◌+◌, ◌≤◌, List, [], ◌∷◌, ◌++◌, length, take, map, refl, sym, ◌∙◌}
+use Rattle.std.proofs.Common.{ap, subst, append_assoc, None, Ok, Err}
 use Rattle.std.proofs.lemmas.List.{append-nil}
 use Rattle.byte_io.specs.Streams.{Answer}
 use Rattle.batch_store.specs.Setups.{Setting}
@@ -11,18 +12,22 @@ use Rattle.wire_proto.specs.Replies.{refused, reply_of}
 use Rattle.wire_proto.specs.Answering.{Answers, asked, unasked, RunsOut, before_call, in_call}
 use Rattle.wire_proto.specs.Sessions.{Talks, AnswersAll, LacksMemory, NextReply, Then, Breaks, Rests, Ends}
 use Rattle.wire_proto.specs.Sessions.{unasked as no_call, asked as a_call, answer as answered, stop, bad, out}
-use Rattle.wire_proto.specs.Plain.{PlainGives, AnswersMessages, IsAnswered, Between, WithLast, Partly, Broken, EndsPlain}
+use Rattle.wire_proto.specs.Plain.{PlainGives, AnswersMessages, IsAnswered, Between, WithLast, Partly, Broken}
+use Rattle.wire_proto.specs.Plain.{EndsPlain}
 use Rattle.wire_proto.specs.declared.request.Request.{Request}
 use Rattle.wire_proto.specs.declared.request.Request.TheVariants.{Put, Cell, Row, Status, Export, Save, Stop}
 use Rattle.wire_proto.specs.declared.ended.Ended.{Ended}
-use Rattle.wire_proto.specs.declared.ended.Ended.TheVariants.{Closed, ReadFault, WriteFault, BadFrame, Memory, Stopped, TooManyTurns}
-use Rattle.wire_proto.proofs.StreamLemmas.{answered_messages, messages_none, messages_stop, messages_bad, messages_request, goes_on, none_stops}
+use Rattle.wire_proto.specs.declared.ended.Ended.TheVariants.{Closed, ReadFault, WriteFault, BadFrame, Memory, Stopped}
+use Rattle.wire_proto.specs.declared.ended.Ended.TheVariants.{TooManyTurns}
+use Rattle.wire_proto.proofs.StreamLemmas.{answered_messages, messages_none, messages_stop, messages_bad}
+use Rattle.wire_proto.proofs.StreamLemmas.{messages_request, goes_on, none_stops}
 
 -- ---- answers to requests, and what stands behind them
 module _ {S : Type 0} (gives : S → Event → S → Type 0) (setup : Setting) where
   -- one message more in front, which isn't a Stop
   one_more : (s m t : S) (r : Request) (reply more : List ℕ) (ms : List Message) (bytes : List ℕ) → (r ≡ Stop → ⊥) →
-      Answers gives setup r reply s m → bytes ≡ reply ++ more → AnswersMessages gives setup m ms more t → AnswersMessages gives setup s (Ok r ∷ ms) bytes t
+      Answers gives setup r reply s m → bytes ≡ reply ++ more → AnswersMessages gives setup m ms more t →
+      AnswersMessages gives setup s (Ok r ∷ ms) bytes t
   one_more s m t (Put x y z) reply more ms bytes n a e b = (m, reply, more, a, e, b)
   one_more s m t (Cell x y) reply more ms bytes n a e b = (m, reply, more, a, e, b)
   one_more s m t (Row x) reply more ms bytes n a e b = (m, reply, more, a, e, b)
@@ -32,17 +37,23 @@ module _ {S : Type 0} (gives : S → Event → S → Type 0) (setup : Setting) w
   one_more s m t Stop reply more ms bytes n a e b = absurd (n refl)
 
   -- requests, and then other messages
-  pub all_more : (s m t : S) (rs : List Request) (ms : List Message) (bytes more : List ℕ) → AnswersAll gives setup s rs bytes m →
-      AnswersMessages gives setup m ms more t → AnswersMessages gives setup s (map (λ r. Ok r) rs ++ ms) (bytes ++ more) t
-  all_more s m t [] ms bytes more a b = subst (λ v. AnswersMessages gives setup v ms (bytes ++ more) t) (sym a.0) (subst (λ v. AnswersMessages gives setup m ms (v ++ more) t) (sym a.1) b)
+  pub all_more : (s m t : S) (rs : List Request) (ms : List Message) (bytes more : List ℕ) →
+      AnswersAll gives setup s rs bytes m →
+      AnswersMessages gives setup m ms more t → AnswersMessages gives setup s (map (λ r. Ok r) rs ++ ms)
+      (bytes ++ more) t
+  all_more s m t [] ms bytes more a b = subst (λ v. AnswersMessages gives setup v ms (bytes ++ more) t) (sym a.0)
+      (subst (λ v. AnswersMessages gives setup m ms (v ++ more) t) (sym a.1) b)
   all_more s m t (r ∷ rs) ms bytes more a b =
-      one_more s a.0 t r a.1 (a.2 ++ more) (map (λ r. Ok r) rs ++ ms) (bytes ++ more) (goes_on gives setup r a.1 s a.0 a.3) a.3
+      one_more s a.0 t r a.1 (a.2 ++ more) (map (λ r. Ok r) rs ++ ms) (bytes ++ more)
+      (goes_on gives setup r a.1 s a.0 a.3) a.3
       (ap (λ l. l ++ more) a.4 ∙ append_assoc a.1 a.2 more) (all_more a.0 m t rs ms a.2 more a.5 b)
 
-  pub all_answered : (s t : S) (rs : List Request) (bytes : List ℕ) → AnswersAll gives setup s rs bytes t → AnswersMessages gives setup s (map (λ r. Ok r) rs) bytes t
+  pub all_answered : (s t : S) (rs : List Request) (bytes : List ℕ) → AnswersAll gives setup s rs bytes t →
+      AnswersMessages gives setup s (map (λ r. Ok r) rs) bytes t
   all_answered s t rs bytes a =
       subst (λ v. AnswersMessages gives setup s (map (λ r. Ok r) rs) v t) (append-nil bytes)
-      (subst (λ v. AnswersMessages gives setup s v (bytes ++ []) t) (append-nil (map (λ r. Ok r) rs)) (all_more s t t rs [] bytes [] a (refl, refl)))
+      (subst (λ v. AnswersMessages gives setup s v (bytes ++ []) t) (append-nil (map (λ r. Ok r) rs))
+      (all_more s t t rs [] bytes [] a (refl, refl)))
 
 -- ---- a keeper whose state is seen as a list
 module _ {S N : Type 0} (name : S → N) (setup_of : S → Setting) (list : S → List Submission) where
@@ -54,12 +65,26 @@ module _ {S N : Type 0} (name : S → N) (setup_of : S → Setting) (list : S �
     pub same : name t ≡ name s
     pub setup : setup_of t ≡ v
 
-  one_seen : (v : Setting) (r : Request) (reply : List ℕ) (s t : S) → setup_of s ≡ v → Answers Steps v r reply s t → Answers (PlainGives v) v r reply (list s) (list t) × Is v s t
-  one_seen v r reply s t e (asked ev a h i) = (asked ev a (subst (λ u. PlainGives u (list s) ev (list t)) e h.2) i, record { same = h.0; setup = h.1 ∙ e })
-  one_seen v r reply s t e (unasked h i) = (unasked h (ap list i), record { same = ap name i; setup = ap setup_of i ∙ e })
+  one_seen : (v : Setting) (r : Request) (reply : List ℕ) (s t : S) → setup_of s ≡ v → Answers Steps v r reply s t →
+      Answers (PlainGives v) v r reply (list s) (list t) × Is v s t
+  one_seen v r reply s t e (asked ev a h i) = (
+    asked ev a (subst (λ u. PlainGives u (list s) ev (list t)) e h.2) i,
+    record { same = h.0; setup = h.1 ∙ e },
+  )
+  one_seen v r reply s t e (unasked h i) = (
+    unasked h (ap list i),
+    record { same = ap name i; setup = ap setup_of i ∙ e },
+  )
 
-  pub all_seen : (v : Setting) (s t : S) (rs : List Request) (bytes : List ℕ) → setup_of s ≡ v → AnswersAll Steps v s rs bytes t → AnswersAll (PlainGives v) v (list s) rs bytes (list t) × Is v s t
-  all_seen v s t [] bytes e a = ((ap list a.0, a.1), record { same = sym (ap name a.0); setup = sym (ap setup_of a.0) ∙ e })
+  pub all_seen : (v : Setting) (s t : S) (rs : List Request) (bytes : List ℕ) → setup_of s ≡ v →
+      AnswersAll Steps v s rs bytes t → AnswersAll (PlainGives v) v (list s) rs bytes (list t) × Is v s t
+  all_seen v s t [] bytes e a = (
+    (ap list a.0, a.1),
+    record {
+      same = sym (ap name a.0);
+      setup = sym (ap setup_of a.0) ∙ e;
+    },
+  )
   all_seen v s t (r ∷ rs) bytes e a =
       let one = one_seen v r a.1 s a.0 e a.3 in
       let more = all_seen v a.0 t rs a.2 one.1.setup a.5 in
@@ -81,34 +106,46 @@ memory_keeps v l l' (export (Err e)) h n = h
 memory_keeps v l l' (save answer) h n = h.1
 
 module _ {S N : Type 0} (name : S → N) (setup_of : S → Setting) (list : S → List Submission) where
-  runs_out_seen : (v : Setting) (r : Request) (s t : S) → setup_of s ≡ v → RunsOut (Steps name setup_of list) v r s t → (list t ≡ list s) × Is name setup_of list v s t
+  runs_out_seen : (v : Setting) (r : Request) (s t : S) → setup_of s ≡ v → RunsOut (Steps name setup_of list) v r s t →
+      (list t ≡ list s) × Is name setup_of list v s t
   runs_out_seen v r s t e (before_call i) = (ap list i, record { same = ap name i; setup = ap setup_of i ∙ e })
-  runs_out_seen v r s t e (in_call ev a h n) = (memory_keeps (setup_of s) (list s) (list t) ev h.2 n, record { same = h.0; setup = h.1 ∙ e })
+  runs_out_seen v r s t e (in_call ev a h n) = (
+    memory_keeps (setup_of s) (list s) (list t) ev h.2 n,
+    record { same = h.0; setup = h.1 ∙ e },
+  )
 
-  lacks_seen : (v : Setting) (kept : List ℕ) (s t : S) → setup_of s ≡ v → LacksMemory (Steps name setup_of list) v kept s t → (list t ≡ list s) × Is name setup_of list v s t
+  lacks_seen : (v : Setting) (kept : List ℕ) (s t : S) → setup_of s ≡ v →
+      LacksMemory (Steps name setup_of list) v kept s t → (list t ≡ list s) × Is name setup_of list v s t
   lacks_seen v kept s t e (no_call i) = (ap list i, record { same = ap name i; setup = ap setup_of i ∙ e })
   lacks_seen v kept s t e (a_call r rest f h) = runs_out_seen v r s t e h
 
 -- ---- ends
-module _ {L S N : Type 0} (reads : L → Answer → L → Type 0) (writes : L → List ℕ → Answer → L → Type 0) (failures : L → ℕ)
+module _ {L S N : Type 0} (reads : L → Answer → L → Type 0) (writes : L → List ℕ → Answer → L → Type 0)
+    (failures : L → ℕ)
     (name : S → N) (setup_of : S → Setting) (list : S → List Submission) (v : Setting) where
-  split_is : (s t : S) (given kept replies : List ℕ) (rs : List Request) → Gives given rs kept → AnswersAll (Steps name setup_of list) v s rs replies t →
+  split_is : (s t : S) (given kept replies : List ℕ) (rs : List Request) → Gives given rs kept →
+      AnswersAll (Steps name setup_of list) v s rs replies t →
       messages given ≡ map (λ r. Ok r) rs ++ messages kept
-  split_is s t given kept replies rs cut a = answered_messages (Steps name setup_of list) v s t given rs replies kept cut a
+  split_is s t given kept replies rs cut a = answered_messages
+      (Steps name setup_of list) v s t given rs replies kept cut a
 
   pub rests_between : (l l' : L) (s t : S) (kept : List ℕ) (turns : ℕ) → setup_of s ≡ v →
       (a : Rests reads writes failures (Steps name setup_of list) v l l' s t kept turns) →
-      (b : Between reads writes failures v l l' (list s) (list t) kept turns) × (b.exchange.given ≡ a.given) × Is name setup_of list v s t
+      (b : Between reads writes failures v l l' (list s) (list t) kept turns) × (b.exchange.given ≡ a.given) ×
+      Is name setup_of list v s t
   rests_between l l' s t kept turns e a =
       let seen = all_seen name setup_of list v s t a.requests a.replies e a.answered in
-      let all : messages a.given ≡ map (λ r. Ok r) a.requests = split_is s t a.given kept a.replies a.requests a.cut a.answered
-      ∙ ap (λ ms. map (λ r. Ok r) a.requests ++ ms) (messages_none kept a.none) ∙ append-nil (map (λ r. Ok r) a.requests) in (
+      let all : messages a.given ≡ map
+      (λ r. Ok r) a.requests = split_is s t a.given kept a.replies a.requests a.cut a.answered
+      ∙ ap (λ ms. map (λ r. Ok r) a.requests ++ ms) (messages_none kept a.none) ∙
+      append-nil (map (λ r. Ok r) a.requests) in (
         record {
           exchange = record {
             given = a.given;
             taken = a.replies;
             talks = a.talks;
-            answers = subst (λ ms. IsAnswered v (list s) ms a.replies (list t)) (sym all) (all_answered (PlainGives v) v (list s) (list t) a.requests a.replies seen.0);
+            answers = subst (λ ms. IsAnswered v (list s) ms a.replies (list t)) (sym all)
+                (all_answered (PlainGives v) v (list s) (list t) a.requests a.replies seen.0);
           };
           requests = a.requests;
           cut = a.cut;
@@ -121,12 +158,14 @@ module _ {L S N : Type 0} (reads : L → Answer → L → Type 0) (writes : L �
 
   -- a session whose last message has this reply
   last_seen : (l l' : L) (s m t : S) (kept reply : List ℕ) (written turns : ℕ) (last : Message) → setup_of s ≡ v →
-      Then reads writes failures (Steps name setup_of list) v l l' s m kept reply written turns → messages kept ≡ last ∷ [] →
+      Then reads writes failures (Steps name setup_of list) v l l' s m kept reply written turns →
+      messages kept ≡ last ∷ [] →
       IsAnswered v (list m) (last ∷ []) reply (list t) → name t ≡ name m → setup_of t ≡ setup_of m →
       WithLast reads writes failures v l l' (list s) (list t) turns last × Is name setup_of list v s t
   last_seen l l' s m t kept reply written turns last e a one h same setup =
       let seen = all_seen name setup_of list v s m a.requests a.replies e a.answered in
-      let all = split_is s m a.given kept a.replies a.requests a.cut a.answered ∙ ap (λ ms. map (λ r. Ok r) a.requests ++ ms) one in (
+      let all = split_is s m a.given kept a.replies a.requests a.cut a.answered ∙
+      ap (λ ms. map (λ r. Ok r) a.requests ++ ms) one in (
         record {
           exchange = record {
             given = a.given;
@@ -143,7 +182,8 @@ module _ {L S N : Type 0} (reads : L → Answer → L → Type 0) (writes : L �
 
   partly_seen : (l l' : L) (s m : S) (kept last last' : List ℕ) (written turns : ℕ) → setup_of s ≡ v → last ≡ last' →
       (a : Then reads writes failures (Steps name setup_of list) v l l' s m kept last written turns) →
-      Partly reads writes failures v l l' (list s) turns a.replies last' (list m) (messages kept) × Is name setup_of list v s m
+      Partly reads writes failures v l l' (list s) turns a.replies last' (list m) (messages kept) ×
+      Is name setup_of list v s m
   partly_seen l l' s m kept last last' written turns e same a =
       let seen = all_seen name setup_of list v s m a.requests a.replies e a.answered in (
         record {
@@ -156,8 +196,10 @@ module _ {L S N : Type 0} (reads : L → Answer → L → Type 0) (writes : L �
         seen.1,
       )
 
-  reply_seen : (kept reply : List ℕ) (s t : S) → setup_of s ≡ v → NextReply (Steps name setup_of list) v kept reply s t →
-      (((m : Message) × (others : List Message) × (messages kept ≡ m ∷ others) × IsAnswered v (list s) (m ∷ []) reply (list t))
+  reply_seen : (kept reply : List ℕ) (s t : S) → setup_of s ≡ v →
+      NextReply (Steps name setup_of list) v kept reply s t →
+      (((m : Message) × (others : List Message) × (messages kept ≡ m ∷ others) ×
+      IsAnswered v (list s) (m ∷ []) reply (list t))
       ⊎ ((reply ≡ refused 1 0) × (list t ≡ list s))) × Is name setup_of list v s t
   reply_seen kept reply s t e (answered r rest f a) =
       let one = one_seen name setup_of list v r reply s t e a in
@@ -166,18 +208,32 @@ module _ {L S N : Type 0} (reads : L → Answer → L → Type 0) (writes : L �
           Ok r,
           messages rest,
           messages_request kept r rest f goes,
-          one_more (PlainGives v) v (list s) (list t) (list t) r reply [] [] reply goes one.0 (sym (append-nil reply)) (refl, refl),
+          one_more (PlainGives v) v (list s) (list t) (list t) r reply [] [] reply goes one.0 (sym (append-nil reply))
+              (refl, refl),
         ),
         one.1,
       )
-  reply_seen kept reply s t e (stop rest f i is) = (inl (Ok Stop, [], messages_stop kept rest f, (is, ap list i)), record { same = ap name i; setup = ap setup_of i ∙ e })
-  reply_seen kept reply s t e (bad fault f i is) = (inl (Err fault, [], messages_bad kept fault kept f, (is, ap list i)), record { same = ap name i; setup = ap setup_of i ∙ e })
+  reply_seen kept reply s t e (stop rest f i is) = (
+    inl (Ok Stop, [], messages_stop kept rest f, (is, ap list i)),
+    record { same = ap name i; setup = ap setup_of i ∙ e },
+  )
+  reply_seen kept reply s t e (bad fault f i is) = (
+    inl (
+      Err fault,
+      [],
+      messages_bad kept fault kept f,
+      (is, ap list i),
+    ),
+    record { same = ap name i; setup = ap setup_of i ∙ e },
+  )
   reply_seen kept reply s t e (out h is) = let k = lacks_seen name setup_of list v kept s t e h in (inr (is, k.0), k.1)
 
   breaks_seen : (l l' : L) (s t : S) (turns n : ℕ) → setup_of s ≡ v →
-      Breaks reads writes failures (Steps name setup_of list) v l l' s t turns n → Broken reads writes failures v l l' (list s) (list t) turns n × Is name setup_of list v s t
+      Breaks reads writes failures (Steps name setup_of list) v l l' s t turns n →
+      Broken reads writes failures v l l' (list s) (list t) turns n × Is name setup_of list v s t
   breaks_seen l l' s t turns n e a =
-      let part = partly_seen l l' s a.mid a.kept (take a.some a.reply) (take a.some a.reply) a.written turns e refl a.before in
+      let part = partly_seen l l' s a.mid a.kept (take a.some a.reply)
+      (take a.some a.reply) a.written turns e refl a.before in
       let next = reply_seen a.kept a.reply a.mid t part.1.setup a.next in (
         record {
           replies = a.before.replies;
@@ -199,16 +255,23 @@ module _ {L S N : Type 0} (reads : L → Answer → L → Type 0) (writes : L �
   pub ends_seen : (at_end : L → Type 0) (l l' : L) (s t : S) (most turns : ℕ) (ended : Ended) → setup_of s ≡ v →
       Ends reads writes failures (Steps name setup_of list) v at_end l l' s t most turns ended →
       EndsPlain reads writes failures v at_end l l' (list s) (list t) most turns ended × Is name setup_of list v s t
-  ends_seen at_end l l' s t most turns (Closed n) e a = let b = rests_between l l' s t a.0 turns e a.3 in ((a.0, a.1, a.2, b.0), b.2)
-  ends_seen at_end l l' s t most turns ReadFault e a = let b = rests_between l l' s t a.0 turns e a.2 in ((a.0, a.1, b.0), b.2)
+  ends_seen at_end l l' s t most turns (Closed n) e a = let b = rests_between l l' s t a.0 turns e a.3 in
+      ((a.0, a.1, a.2, b.0), b.2)
+  ends_seen at_end l l' s t most turns ReadFault e a = let b = rests_between l l' s t a.0 turns e a.2 in
+      ((a.0, a.1, b.0), b.2)
   ends_seen at_end l l' s t most turns TooManyTurns e a =
-      let b = rests_between l l' s t a.0 turns e a.2 in ((a.0, a.1, b.0, subst (λ x. most ≤ length x) (sym b.1) a.3), b.2)
+      let b = rests_between l l' s t a.0 turns e a.2 in (
+        (a.0, a.1, b.0, subst (λ x. most ≤ length x) (sym b.1) a.3),
+        b.2,
+      )
   ends_seen at_end l l' s t most turns Stopped e a =
       let last = a.last in
-      last_seen l l' s a.mid t a.kept a.reply a.written turns (Ok Stop) e a.before (messages_stop a.kept last.0 last.1) (last.3, ap list last.2) (ap name last.2) (ap setup_of last.2)
+      last_seen l l' s a.mid t a.kept a.reply a.written turns (Ok Stop) e a.before (messages_stop a.kept last.0 last.1)
+      (last.3, ap list last.2) (ap name last.2) (ap setup_of last.2)
   ends_seen at_end l l' s t most turns BadFrame e a =
       let last = a.last in
-      let b = last_seen l l' s a.mid t a.kept a.reply a.written turns (Err last.0) e a.before (messages_bad a.kept last.0 a.kept last.1) (last.3, ap list last.2) (ap name last.2) (ap setup_of last.2) in
+      let b = last_seen l l' s a.mid t a.kept a.reply a.written turns (Err last.0) e a.before
+      (messages_bad a.kept last.0 a.kept last.1) (last.3, ap list last.2) (ap name last.2) (ap setup_of last.2) in
       ((last.0, b.0), b.1)
   ends_seen at_end l l' s t most turns Memory e a =
       let part = partly_seen l l' s a.mid a.kept a.reply (refused 1 0) a.written turns e a.last.1 a.before in
@@ -216,7 +279,8 @@ module _ {L S N : Type 0} (reads : L → Answer → L → Type 0) (writes : L �
         record {
           replies = a.before.replies;
           rest = messages a.kept;
-          partly = subst (λ x. Partly reads writes failures v l l' (list s) turns a.before.replies (refused 1 0) x (messages a.kept)) (sym k.0) part.0;
+          partly = subst (λ x. Partly reads writes failures v l l' (list s) turns a.before.replies (refused 1 0) x
+              (messages a.kept)) (sym k.0) part.0;
         },
         record { same = k.1.same ∙ part.1.same; setup = k.1.setup },
       )

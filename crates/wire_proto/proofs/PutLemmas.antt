@@ -1,5 +1,6 @@
 -- Puts: their texts, and their replies.
-use Rattle.std.proofs.Common.{◌≡◌, ◌≢◌, ◌⊎◌, inl, inr, ℕ, ◌+◌, List, [], ◌∷◌, ◌++◌, length, refl, sym, ◌∙◌, ap, subst, arith, append_assoc, Some, None, Result, Ok, Err, IfOk, OnErr}
+use Rattle.std.proofs.Common.{◌≡◌, ◌≢◌, ◌⊎◌, inl, inr, ℕ, ◌+◌, List, [], ◌∷◌, ◌++◌, length, refl, sym, ◌∙◌, ap, subst}
+use Rattle.std.proofs.Common.{arith, append_assoc, Some, None, Result, Ok, Err, IfOk, OnErr}
 use Rattle.std.proofs.lemmas.List.{append-nil}
 use Rattle.std.proofs.lemmas.Bool.{cases_lt}
 use Rattle.byte_io.specs.Streams.{Answer, Calls, bytes_of_calls}
@@ -20,32 +21,42 @@ use Rattle.plain_engine.specs.declared.fault.PutFault.{PutFault}
 use Rattle.wire_proto.specs.Keeping.{Event, put}
 use Rattle.wire_proto.specs.PutTexts.{HandsOut}
 use Rattle.wire_proto.specs.Replies.{put_reply, refused}
-use Rattle.wire_proto.specs.Answering.{put_limits, PutsBatch, RefusesText, differs, too_large, Answers, asked, unasked, RunsOut, in_call}
+use Rattle.wire_proto.specs.Answering.{put_limits, PutsBatch, RefusesText, differs, too_large, Answers, asked, unasked}
+use Rattle.wire_proto.specs.Answering.{RunsOut, in_call}
 use Rattle.wire_proto.specs.declared.request.Request.TheVariants.{Put}
 
 -- what a source in memory has handed out, and what is left
 pub handed_out : {S : Type 0} (left : S → List ℕ) (s t : S) (answers : List Answer) →
     Calls (λ s a t. HandsOut (left s) a (left t)) s answers t → left s ≡ bytes_of_calls answers ++ left t
 handed_out left s t [] e = ap left e
-handed_out left s t (Ok bytes ∷ answers) c = c.1 ∙ ap (λ l. bytes ++ l) (handed_out left c.0 t answers c.2) ∙ sym (append_assoc bytes (bytes_of_calls answers) (left t))
+handed_out left s t (Ok bytes ∷ answers) c = c.1 ∙ ap (λ l. bytes ++ l) (handed_out left c.0 t answers c.2) ∙
+    sym (append_assoc bytes (bytes_of_calls answers) (left t))
 handed_out left s t (Err e ∷ answers) c = absurd c.1
 
-pub spelled_whole : {S : Type 0} (left : S → List ℕ) (s t : S) (answers : List Answer) (limits : TextLimits) (rows cols : ℕ) (cells : List Cell) →
-    Calls (λ s a t. HandsOut (left s) a (left t)) s answers t → left t ≡ [] → Spells (bytes_of_calls answers) limits rows cols cells → Spells (left s) limits rows cols cells
+pub spelled_whole : {S : Type 0} (left : S → List ℕ) (s t : S) (answers : List Answer) (limits : TextLimits)
+    (rows cols : ℕ) (cells : List Cell) →
+    Calls (λ s a t. HandsOut (left s) a (left t)) s answers t → left t ≡ [] →
+    Spells (bytes_of_calls answers) limits rows cols cells → Spells (left s) limits rows cols cells
 spelled_whole left s t answers limits rows cols cells c e h =
-    subst (λ v. Spells v limits rows cols cells) (sym (handed_out left s t answers c ∙ ap (λ l. bytes_of_calls answers ++ l) e ∙ append-nil (bytes_of_calls answers))) h
+    subst (λ v. Spells v limits rows cols cells) (sym (handed_out left s t answers c ∙
+    ap (λ l. bytes_of_calls answers ++ l) e ∙ append-nil (bytes_of_calls answers))) h
 
 -- The first fault of what was read is that of the text: it shows within what was read, or all was read.
-told : (bytes read rest : List ℕ) (kind : MmKind) (line : ℕ) → bytes ≡ read ++ rest → IsTold read put_limits (rest ≡ []) kind line → FirstFault bytes put_limits kind line
+told : (bytes read rest : List ℕ) (kind : MmKind) (line : ℕ) → bytes ≡ read ++ rest →
+    IsTold read put_limits (rest ≡ []) kind line → FirstFault bytes put_limits kind line
 told bytes read rest kind line e h = elim (cases_lt (length read) h.first.place) [
-  | inl behind ↦ subst (λ v. FirstFault v put_limits kind line) (sym (e ∙ ap (λ l. read ++ l) (h.at_end behind) ∙ append-nil read)) h.first
-  | inr within ↦ subst (λ v. FirstFault v put_limits kind line) (sym e) (first_stays read rest put_limits kind line h.first within).0
+  | inl behind ↦ subst (λ v. FirstFault v put_limits kind line)
+      (sym (e ∙ ap (λ l. read ++ l) (h.at_end behind) ∙ append-nil read)) h.first
+  | inr within ↦ subst (λ v. FirstFault v put_limits kind line) (sym e)
+      (first_stays read rest put_limits kind line h.first within).0
 ]
 
 never : 0 ≡ 0 + 1 → ⊥
 never e = omega (arith, e)
 
-explained : (bytes read rest : List ℕ) (kind : MmKind) (line : ℕ) → bytes ≡ read ++ rest → Explains read put_limits (rest ≡ []) (0 ≡ 0 + 1) kind line → kind ≢ kinds.Memory → FirstFault bytes put_limits kind line
+explained : (bytes read rest : List ℕ) (kind : MmKind) (line : ℕ) → bytes ≡ read ++ rest →
+    Explains read put_limits (rest ≡ []) (0 ≡ 0 + 1) kind line → kind ≢ kinds.Memory →
+    FirstFault bytes put_limits kind line
 explained bytes read rest kinds.Read line e h n = absurd (never h.failed_now)
 explained bytes read rest kinds.Memory line e h n = absurd (n refl)
 explained bytes read rest kinds.BadBanner line e h n = told bytes read rest _ line e h
@@ -67,36 +78,51 @@ pub fault_told : {S : Type 0} (left : S → List ℕ) (s t : S) (answers : List 
     Calls (λ s a t. HandsOut (left s) a (left t)) s answers t →
     Explains (bytes_of_calls answers) put_limits (left t ≡ []) (0 ≡ 0 + 1) kind line ⊎ IsUnread answers kind line →
     kind ≢ kinds.Memory → FirstFault (left s) put_limits kind line
-fault_told left s t answers kind line c (inl h) n = explained (left s) (bytes_of_calls answers) (left t) kind line (handed_out left s t answers c) h n
+fault_told left s t answers kind line c (inl h) n = explained (left s) (bytes_of_calls answers) (left t) kind line
+    (handed_out left s t answers c) h n
 fault_told left s t answers kind line c (inr h) n = absurd (n h.kind_is)
 
-pub put_answered : {S : Type 0} (gives : S → Event → S → Type 0) (setup : Setting) (s t : S) (client n : ℕ) (bytes : List ℕ) (batch : Submission) (answer : Result Kept PutFault) (reply : List ℕ) →
-    PutsBatch setup client n bytes batch → gives s (put batch answer) t → put_reply answer ≡ Some reply → Answers gives setup (Put client n bytes) reply s t
-put_answered gives setup s t client n bytes batch answer reply p h e = asked (put batch answer) (batch, answer, p, refl) h e
+pub put_answered : {S : Type 0} (gives : S → Event → S → Type 0) (setup : Setting) (s t : S) (client n : ℕ)
+    (bytes : List ℕ) (batch : Submission) (answer : Result Kept PutFault) (reply : List ℕ) →
+    PutsBatch setup client n bytes batch → gives s (put batch answer) t → put_reply answer ≡ Some reply →
+    Answers gives setup (Put client n bytes) reply s t
+put_answered gives setup s t client n bytes batch answer reply p h e = asked (put batch answer)
+    (batch, answer, p, refl) h e
 
-pub put_refused : {S : Type 0} (gives : S → Event → S → Type 0) (setup : Setting) (s : S) (client n : ℕ) (bytes : List ℕ) (code detail : ℕ) (reply : List ℕ) →
-    RefusesText setup bytes code detail → reply ≡ refused code detail → Answers gives setup (Put client n bytes) reply s s
+pub put_refused : {S : Type 0} (gives : S → Event → S → Type 0) (setup : Setting) (s : S) (client n : ℕ)
+    (bytes : List ℕ) (code detail : ℕ) (reply : List ℕ) →
+    RefusesText setup bytes code detail → reply ≡ refused code detail →
+    Answers gives setup (Put client n bytes) reply s s
 put_refused gives setup s client n bytes code detail reply r e = unasked (code, detail, r, e) refl
 
-pub put_replied : {S T E : Type 0} (items : T → List ℕ) (gives : S → Event → S → Type 0) (setup : Setting) (s t : S) (client n : ℕ) (bytes : List ℕ) (batch : Submission) (answer : Result Kept PutFault) (r : Result T E) →
-    PutsBatch setup client n bytes batch → gives s (put batch answer) t → IfOk r (λ short. put_reply answer ≡ Some (items short)) →
+pub put_replied : {S T E : Type 0} (items : T → List ℕ) (gives : S → Event → S → Type 0) (setup : Setting) (s t : S)
+    (client n : ℕ) (bytes : List ℕ) (batch : Submission) (answer : Result Kept PutFault) (r : Result T E) →
+    PutsBatch setup client n bytes batch → gives s (put batch answer) t →
+    IfOk r (λ short. put_reply answer ≡ Some (items short)) →
     IfOk r (λ short. Answers gives setup (Put client n bytes) (items short) s t)
-put_replied items gives setup s t client n bytes batch answer (Ok short) p h e = put_answered gives setup s t client n bytes batch answer (items short) p h e
+put_replied items gives setup s t client n bytes batch answer
+    (Ok short) p h e = put_answered gives setup s t client n bytes batch answer (items short) p h e
 put_replied items gives setup s t client n bytes batch answer (Err x) p h e = tt
 
-pub put_out : {S T E : Type 0} (gives : S → Event → S → Type 0) (setup : Setting) (s t : S) (client n : ℕ) (bytes : List ℕ) (batch : Submission) (answer : Result Kept PutFault) (r : Result T E) →
-    PutsBatch setup client n bytes batch → gives s (put batch answer) t → OnErr r (put_reply answer ≡ None) → OnErr r (RunsOut gives setup (Put client n bytes) s t)
+pub put_out : {S T E : Type 0} (gives : S → Event → S → Type 0) (setup : Setting) (s t : S) (client n : ℕ)
+    (bytes : List ℕ) (batch : Submission) (answer : Result Kept PutFault) (r : Result T E) →
+    PutsBatch setup client n bytes batch → gives s (put batch answer) t → OnErr r (put_reply answer ≡ None) →
+    OnErr r (RunsOut gives setup (Put client n bytes) s t)
 put_out gives setup s t client n bytes batch answer (Ok short) p h e = tt
-put_out gives setup s t client n bytes batch answer (Err x) p h e = in_call (put batch answer) (batch, answer, p, refl) h e
+put_out gives setup s t client n bytes batch answer (Err x) p h e = in_call (put batch answer)
+    (batch, answer, p, refl) h e
 
 -- ---- files that make no batch
-pub other_dimensions : (setup : Setting) (bytes : List ℕ) (file : MmFile) → Spells bytes put_limits file.rows file.cols file.cells.items →
+pub other_dimensions : (setup : Setting) (bytes : List ℕ) (file : MmFile) →
+    Spells bytes put_limits file.rows file.cols file.cells.items →
     RefusesFile setup file DimensionsDiffer → RefusesText setup bytes 20 0
 other_dimensions setup bytes file spells h = differs file.rows file.cols file.cells.items spells h refl refl
 
-pub sum_too_large : (setup : Setting) (bytes : List ℕ) (file : MmFile) → Spells bytes put_limits file.rows file.cols file.cells.items →
+pub sum_too_large : (setup : Setting) (bytes : List ℕ) (file : MmFile) →
+    Spells bytes put_limits file.rows file.cols file.cells.items →
     RefusesFile setup file SumTooLarge → RefusesText setup bytes 21 0
 sum_too_large setup bytes file spells h =
     too_large file.cells.items
-    (subst (λ r. Spells bytes put_limits r setup.cols file.cells.items) h.0.0 (subst (λ c. Spells bytes put_limits file.rows c file.cells.items) h.0.1 spells))
+    (subst (λ r. Spells bytes put_limits r setup.cols file.cells.items) h.0.0
+    (subst (λ c. Spells bytes put_limits file.rows c file.cells.items) h.0.1 spells))
     h.1 refl refl

@@ -1,5 +1,7 @@
 -- What a session accepts, and that a repeat gets the reply that was given first.
-use Rattle.std.proofs.Common.{◌≡◌, ◌⊎◌, inl, inr, ℕ, suc, ◌+◌, ◌<◌, ◌≤◌, Bool, true, false, cond, not, ◌==◌, ◌&&◌, nat_lt, List, [], ◌∷◌, ◌++◌, length, take, position, if◌then◌else◌, refl, sym, ◌∙◌, ap, subst, arith, append_assoc, length-append, Option, Some, None, Result, Ok, Err}
+use Rattle.std.proofs.Common.{◌≡◌, ◌⊎◌, inl, inr, ℕ, suc, ◌+◌, ◌<◌, ◌≤◌, Bool, true, false, cond, not, ◌==◌, ◌&&◌}
+use Rattle.std.proofs.Common.{nat_lt, List, [], ◌∷◌, ◌++◌, length, take, position, if◌then◌else◌, refl, sym, ◌∙◌, ap}
+use Rattle.std.proofs.Common.{subst, arith, append_assoc, length-append, Option, Some, None, Result, Ok, Err}
 use Rattle.std.specs.List.{position_or_len}
 use Rattle.std.proofs.lemmas.List.{append-nil, take-append-le, take_at, length-map, map-append}
 use Rattle.std.proofs.lemmas.Bool.Decides.{nat_tests}
@@ -32,35 +34,43 @@ use Rattle.wire_proto.specs.declared.request.Request.TheVariants.{Put, Cell, Row
 abbrev pair_test : ℕ → ℕ → Entry → Bool
 pair_test c n e = (c == e.client) && (n == e.number)
 
-stays : (p : Entry → Bool) (xs ys : List Entry) → position_or_len p xs < length xs → position_or_len p (xs ++ ys) ≡ position_or_len p xs
+stays : (p : Entry → Bool) (xs ys : List Entry) → position_or_len p xs < length xs →
+    position_or_len p (xs ++ ys) ≡ position_or_len p xs
 stays p [] ys h = absurd (omega (arith, h))
 stays p (x ∷ xs) ys h = by (p x) (stays p xs ys) h
   where
     by : (b : Bool) → (position_or_len p xs < length xs → position_or_len p (xs ++ ys) ≡ position_or_len p xs) →
-        cond (not b) (1 + position_or_len p xs) 0 < suc (length xs) → cond (not b) (1 + position_or_len p (xs ++ ys)) 0 ≡ cond (not b) (1 + position_or_len p xs) 0
+        cond (not b) (1 + position_or_len p xs) 0 < suc (length xs) →
+        cond (not b) (1 + position_or_len p (xs ++ ys)) 0 ≡ cond (not b) (1 + position_or_len p xs) 0
     by true again h = refl
     by false again h = ap (λ k. 1 + k) (again (omega (arith, h)))
 
-at_end : (p : Entry → Bool) (xs : List Entry) (y : Entry) → length xs ≤ position_or_len p xs → p y ≡ true → position_or_len p (xs ++ y ∷ []) ≡ length xs
+at_end : (p : Entry → Bool) (xs : List Entry) (y : Entry) → length xs ≤ position_or_len p xs → p y ≡ true →
+    position_or_len p (xs ++ y ∷ []) ≡ length xs
 at_end p [] y h e = ap (λ b. cond (not b) 1 0) e
 at_end p (x ∷ xs) y h e = by (p x) (λ k. at_end p xs y k e) h
   where
     by : (b : Bool) → (length xs ≤ position_or_len p xs → position_or_len p (xs ++ y ∷ []) ≡ length xs) →
-        suc (length xs) ≤ cond (not b) (1 + position_or_len p xs) 0 → cond (not b) (1 + position_or_len p (xs ++ y ∷ [])) 0 ≡ suc (length xs)
+        suc (length xs) ≤ cond (not b) (1 + position_or_len p xs) 0 →
+        cond (not b) (1 + position_or_len p (xs ++ y ∷ [])) 0 ≡ suc (length xs)
     by true again h = absurd (omega (arith, h))
     by false again h = let k = again (omega (arith, h)) in omega (arith, k)
 
 none_past : (p : Entry → Bool) (xs : List Entry) → position p xs ≡ None → length xs ≤ position_or_len p xs
 none_past p xs h = by (nat_lt (position_or_len p xs) (length xs)) refl h
   where
-    by : (b : Bool) → nat_lt (position_or_len p xs) (length xs) ≡ b → cond b (Some (position_or_len p xs)) None ≡ None → length xs ≤ position_or_len p xs
+    by : (b : Bool) → nat_lt (position_or_len p xs) (length xs) ≡ b → cond b (Some (position_or_len p xs)) None ≡ None →
+        length xs ≤ position_or_len p xs
     by true is h = absurd (cc)
     by false is h = grind (arith, nat_tests)
 
-some_place : (p : Entry → Bool) (xs : List Entry) (i : ℕ) → position p xs ≡ Some i → (position_or_len p xs ≡ i) × (position_or_len p xs < length xs)
+some_place : (p : Entry → Bool) (xs : List Entry) (i : ℕ) → position p xs ≡ Some i →
+    (position_or_len p xs ≡ i) × (position_or_len p xs < length xs)
 some_place p xs i h = by (nat_lt (position_or_len p xs) (length xs)) refl h
   where
-    by : (b : Bool) → nat_lt (position_or_len p xs) (length xs) ≡ b → cond b (Some (position_or_len p xs)) None ≡ Some i → (position_or_len p xs ≡ i) × (position_or_len p xs < length xs)
+    by : (b : Bool) → nat_lt (position_or_len p xs) (length xs) ≡ b →
+        cond b (Some (position_or_len p xs)) None ≡ Some i →
+        (position_or_len p xs ≡ i) × (position_or_len p xs < length xs)
     by true is h = (cc, grind (arith, nat_tests))
     by false is h = absurd (cc)
 
@@ -70,17 +80,21 @@ own_pair c n = grind (arith, nat_tests)
 -- This reply is kept for a pair, at the first place where it stands in the list.
 record Stored (list : List Submission) (c n : ℕ) (k : Kept) : Type 0 where
   found : position_or_len (pair_test c n) (entries_of list) < length (entries_of list)
-  is : k ≡ kept (position_or_len (pair_test c n) (entries_of list)) (total_of_entries (take (position_or_len (pair_test c n) (entries_of list) + 1) (entries_of list)))
+  is : k ≡ kept (position_or_len (pair_test c n) (entries_of list))
+      (total_of_entries (take (position_or_len (pair_test c n) (entries_of list) + 1) (entries_of list)))
 
 -- the list grows, and the reply stays
 stored_longer : (es ms : List Entry) (c n : ℕ) (k : Kept) → position_or_len (pair_test c n) es < length es →
-    k ≡ kept (position_or_len (pair_test c n) es) (total_of_entries (take (position_or_len (pair_test c n) es + 1) es)) →
+    k ≡ kept (position_or_len (pair_test c n) es) (total_of_entries
+    (take (position_or_len (pair_test c n) es + 1) es)) →
     (position_or_len (pair_test c n) (es ++ ms) < length (es ++ ms))
-    × (k ≡ kept (position_or_len (pair_test c n) (es ++ ms)) (total_of_entries (take (position_or_len (pair_test c n) (es ++ ms) + 1) (es ++ ms))))
+    × (k ≡ kept (position_or_len (pair_test c n) (es ++ ms))
+    (total_of_entries (take (position_or_len (pair_test c n) (es ++ ms) + 1) (es ++ ms))))
 stored_longer es ms c n k found is =
     let same = stays (pair_test c n) es ms found in (
       omega (arith, same, found, length-append es ms),
-      is ∙ sym (rw same (ap (λ (l : List Entry). kept (position_or_len (pair_test c n) es) (total_of_entries l)) (take-append-le (position_or_len (pair_test c n) es + 1) es ms (omega (arith, found))))),
+      is ∙ sym (rw same (ap (λ (l : List Entry). kept (position_or_len (pair_test c n) es) (total_of_entries l))
+          (take-append-le (position_or_len (pair_test c n) es + 1) es ms (omega (arith, found))))),
     )
 
 stored_more : (list more : List Submission) (c n : ℕ) (k : Kept) → Stored list c n k → Stored (list ++ more) c n k
@@ -89,7 +103,8 @@ stored_more list more c n k s =
     let e = sym (map-append entry_of list more) in
     record {
       found = subst (λ (es : List Entry). position_or_len (pair_test c n) es < length es) e both.0;
-      is = subst (λ (es : List Entry). k ≡ kept (position_or_len (pair_test c n) es) (total_of_entries (take (position_or_len (pair_test c n) es + 1) es))) e both.1;
+      is = subst (λ (es : List Entry). k ≡ kept (position_or_len (pair_test c n) es)
+          (total_of_entries (take (position_or_len (pair_test c n) es + 1) es))) e both.1;
     }
 
 -- so there is one
@@ -103,8 +118,12 @@ end_stored : (es : List Entry) (b : Entry) → length es ≤ position_or_len (pa
 end_stored es b h =
     let size : length es + 1 ≡ length (es ++ b ∷ []) = omega (arith, length-append es (b ∷ [])) in
     let whole : take (length es + 1) (es ++ b ∷ []) ≡ es ++ b ∷ [] =
-    ap (take (length es + 1)) (sym (append-nil (es ++ b ∷ []))) ∙ take_at (es ++ b ∷ []) [] (length es + 1) (sym size) in
-    (at_end (pair_test b.client b.number) es b h (own_pair b.client b.number), ap total_of_entries whole ∙ total_push es b)
+    ap (take (length es + 1)) (sym (append-nil (es ++ b ∷ []))) ∙
+    take_at (es ++ b ∷ []) [] (length es + 1) (sym size) in (
+      at_end (pair_test b.client b.number) es b h (own_pair b.client b.number),
+      ap total_of_entries whole ∙
+          total_push es b,
+    )
 
 stored_fresh : (v : Setting) (list : List Submission) (b : Submission) → verdict_in v list b ≡ verdict.Fresh →
     Stored (list ++ b ∷ []) b.client b.number (kept (length list) (list_total list + batch_total b))
@@ -115,39 +134,55 @@ stored_fresh v list b h =
     let e = sym (map-append entry_of list (b ∷ [])) in
     let count : length list ≡ length es = omega (arith, length-map list entry_of) in
     record {
-      found = subst (λ (l : List Entry). position_or_len (pair_test b.client b.number) l < length l) e (let k = ends.0 in omega (arith, k, length-append es (entry_of b ∷ [])));
-      is = subst (λ (l : List Entry). kept (length list) (list_total list + batch_total b) ≡ kept (position_or_len (pair_test b.client b.number) l) (total_of_entries (take (position_or_len (pair_test b.client b.number) l + 1) l))) e
+      found = subst (λ (l : List Entry). position_or_len (pair_test b.client b.number) l < length l) e
+          (let k = ends.0 in omega (arith, k, length-append es (entry_of b ∷ [])));
+      is = subst (λ (l : List Entry). kept (length list) (list_total list + batch_total b) ≡
+          kept (position_or_len (pair_test b.client b.number) l)
+          (total_of_entries (take (position_or_len (pair_test b.client b.number) l + 1) l))) e
           (rw ends.0 (rw ends.1 (ap (λ n. kept n (total_of_entries es + batch_total b)) count)));
     }
 
-known_is : (x : Bool) (i after : ℕ) (k : Kept) → (if x then verdict.Known (kept i after) else verdict.NumberReused) ≡ verdict.Known k → k ≡ kept i after
+known_is : (x : Bool) (i after : ℕ) (k : Kept) → (if x then verdict.Known (kept i after) else verdict.NumberReused) ≡
+    verdict.Known k → k ≡ kept i after
 known_is true i after k h = cc
 known_is false i after k h = absurd (cc)
 
-never_new : (x y : Bool) (t : ℕ) (k : Kept) → (if x then verdict.OverTotal t else if y then verdict.BookFull else verdict.Fresh) ≡ verdict.Known k → ⊥
+never_new : (x y : Bool) (t : ℕ) (k : Kept) →
+    (if x then verdict.OverTotal t else if y then verdict.BookFull else verdict.Fresh) ≡ verdict.Known k → ⊥
 never_new true y t k h = cc
 never_new false true t k h = cc
 never_new false false t k h = cc
 
-stored_at : (limit most : ℕ) (es : List Entry) (b : Entry) (k : Kept) (o : Option ℕ) → position (same_pair b) es ≡ o → verdict_at limit most es b o ≡ verdict.Known k →
+stored_at : (limit most : ℕ) (es : List Entry) (b : Entry) (k : Kept) (o : Option ℕ) → position (same_pair b) es ≡ o →
+    verdict_at limit most es b o ≡ verdict.Known k →
     (position_or_len (pair_test b.client b.number) es < length es)
-    × (k ≡ kept (position_or_len (pair_test b.client b.number) es) (total_of_entries (take (position_or_len (pair_test b.client b.number) es + 1) es)))
+    × (k ≡ kept (position_or_len (pair_test b.client b.number) es)
+    (total_of_entries (take (position_or_len (pair_test b.client b.number) es + 1) es)))
 stored_at limit most es b k None is h = absurd (never_new _ _ _ k h)
 stored_at limit most es b k (Some i) is h =
-    let place = some_place (pair_test b.client b.number) es i is in
-    (place.1, known_is _ i (total_of_entries (take (i + 1) es)) k h ∙ sym (ap (λ j. kept j (total_of_entries (take (j + 1) es))) place.0))
+    let place = some_place (pair_test b.client b.number) es i is in (
+      place.1,
+      known_is _ i (total_of_entries (take (i + 1) es)) k h ∙
+          sym (ap (λ j. kept j (total_of_entries (take (j + 1) es))) place.0),
+    )
 
-stored_known : (v : Setting) (list : List Submission) (b : Submission) (k : Kept) → verdict_in v list b ≡ verdict.Known k → Stored list b.client b.number k
+stored_known : (v : Setting) (list : List Submission) (b : Submission) (k : Kept) →
+    verdict_in v list b ≡ verdict.Known k → Stored list b.client b.number k
 stored_known v list b k h =
-    let both = stored_at v.limit v.max_batches (entries_of list) (entry_of b) k (position (same_pair (entry_of b)) (entries_of list)) refl h in
+    let both = stored_at v.limit v.max_batches (entries_of list) (entry_of b) k
+    (position (same_pair (entry_of b)) (entries_of list)) refl h in
     record { found = both.0; is = both.1 }
 
 ok_is : (x y : Kept) → ◌≡◌ {A = Result Kept PutFault} (Ok x) (Ok y) → x ≡ y
 ok_is x y e = cc
 
-by_stored : (v : Setting) (list t : List Submission) (b : Submission) (k : Kept) (vd : Verdict) → verdict_in v list b ≡ vd → ◌≡◌ {A = Result Kept PutFault} (Ok k) (answer_to list b vd) → t ≡ list_by list b vd → Stored t b.client b.number k
-by_stored v list t b k verdict.Fresh is a h = subst (λ l. Stored l b.client b.number k) (sym h) (subst (Stored (list ++ b ∷ []) b.client b.number) (sym (ok_is _ _ a)) (stored_fresh v list b is))
-by_stored v list t b k (verdict.Known k') is a h = subst (λ l. Stored l b.client b.number k) (sym h) (subst (Stored list b.client b.number) (sym (ok_is _ _ a)) (stored_known v list b k' is))
+by_stored : (v : Setting) (list t : List Submission) (b : Submission) (k : Kept) (vd : Verdict) →
+    verdict_in v list b ≡ vd → ◌≡◌ {A = Result Kept PutFault} (Ok k) (answer_to list b vd) → t ≡ list_by list b vd →
+    Stored t b.client b.number k
+by_stored v list t b k verdict.Fresh is a h = subst (λ l. Stored l b.client b.number k) (sym h)
+    (subst (Stored (list ++ b ∷ []) b.client b.number) (sym (ok_is _ _ a)) (stored_fresh v list b is))
+by_stored v list t b k (verdict.Known k') is a h = subst (λ l. Stored l b.client b.number k) (sym h)
+    (subst (Stored list b.client b.number) (sym (ok_is _ _ a)) (stored_known v list b k' is))
 by_stored v list t b k verdict.NumberReused is a h = absurd (cc)
 by_stored v list t b k (verdict.OverTotal total) is a h = absurd (cc)
 by_stored v list t b k verdict.BookFull is a h = absurd (cc)
@@ -155,48 +190,74 @@ by_stored v list t b k verdict.BookFull is a h = absurd (cc)
 -- ---- replies that say Accepted
 never_refused : (w : List ℕ) (k : Kept) (code detail : ℕ) → w ≡ accepted k → w ≡ refused code detail → ⊥
 never_refused w k code detail e f =
-    let one = frame_kind w (says_accepted k) e in let two = frame_kind w (says_refused code detail) f in omega (arith, one, two)
+    let one = frame_kind w (says_accepted k) e in let two = frame_kind w (says_refused code detail) f in
+    omega (arith, one, two)
 
 some_reply : (x y : List ℕ) → Some x ≡ Some y → x ≡ y
 some_reply x y e = cc
 
-by_answer : (v : Setting) (list t : List Submission) (b : Submission) (answer : Result Kept PutFault) (w : List ℕ) (k : Kept) → Puts v list b answer t → put_reply answer ≡ Some w → w ≡ accepted k →
+by_answer : (v : Setting) (list t : List Submission) (b : Submission) (answer : Result Kept PutFault) (w : List ℕ)
+    (k : Kept) → Puts v list b answer t → put_reply answer ≡ Some w → w ≡ accepted k →
     (k' : Kept) × (w ≡ accepted k') × Stored t b.client b.number k'
-by_answer v list t b (Ok k') w k h i e = (k', sym (some_reply _ _ i), by_stored v list t b k' (verdict_in v list b) refl h.0 h.1)
+by_answer v list t b (Ok k') w k h i e = (
+  k',
+  sym (some_reply _ _ i),
+  by_stored v list t b k' (verdict_in v list b) refl h.0 h.1,
+)
 by_answer v list t b (Err fault.Memory) w k h i e = absurd (cc)
 by_answer v list t b (Err fault.NumberReused) w k h i e = absurd (never_refused w k 30 0 e (sym (some_reply _ _ i)))
-by_answer v list t b (Err (fault.OverTotal total)) w k h i e = absurd (never_refused w k 31 total e (sym (some_reply _ _ i)))
+by_answer v list t b (Err (fault.OverTotal total)) w k h i e = absurd
+    (never_refused w k 31 total e (sym (some_reply _ _ i)))
 by_answer v list t b (Err fault.BookFull) w k h i e = absurd (never_refused w k 32 0 e (sym (some_reply _ _ i)))
 by_answer v list t b (Err fault.RecordsDiffer) w k h i e = absurd (never_refused w k 33 0 e (sym (some_reply _ _ i)))
 
-put_stored : (v : Setting) (list t : List Submission) (c n : ℕ) (text w : List ℕ) (k : Kept) → Answers (PlainGives v) v (Put c n text) w list t → w ≡ accepted k →
+put_stored : (v : Setting) (list t : List Submission) (c n : ℕ) (text w : List ℕ) (k : Kept) →
+    Answers (PlainGives v) v (Put c n text) w list t → w ≡ accepted k →
     (k' : Kept) × (w ≡ accepted k') × Stored t c n k'
 put_stored v list t c n text w k (asked ev a h i) e =
-    let found = by_answer v list t a.0 a.1 w k (subst (λ x. PlainGives v list x t) a.3 h) (subst (λ x. reply_of x ≡ Some w) a.3 i) e in
+    let found = by_answer v list t a.0 a.1 w k (subst (λ x. PlainGives v list x t) a.3 h)
+    (subst (λ x. reply_of x ≡ Some w) a.3 i) e in
     let client = ap (λ (b : Submission). b.client) a.2.batch_is in
-    let number = ap (λ (b : Submission). b.number) a.2.batch_is in
-    (found.0, found.1, subst (λ m. Stored t c m found.0) number (subst (λ m. Stored t m a.0.number found.0) client found.2))
+    let number = ap (λ (b : Submission). b.number) a.2.batch_is in (
+      found.0,
+      found.1,
+      subst (λ m. Stored t c m found.0) number
+          (subst (λ m. Stored t m a.0.number found.0) client found.2),
+    )
 put_stored v list t c n text w k (unasked a i) e = absurd (never_refused w k a.0 a.1 e a.3)
 
 -- ---- what a session adds to the list
-by_fresh : (v : Setting) (list t : List Submission) (c n : ℕ) (text : List ℕ) (b : Submission) (vd : Verdict) → verdict_in v list b ≡ vd → PutsBatch v c n text b → t ≡ list_by list b vd →
-    ((((x : Submission) → PutsFresh v list (Put c n text) x → ⊥) × (t ≡ list)) ⊎ ((x : Submission) × PutsFresh v list (Put c n text) x × (t ≡ list ++ x ∷ [])))
+by_fresh : (v : Setting) (list t : List Submission) (c n : ℕ) (text : List ℕ) (b : Submission) (vd : Verdict) →
+    verdict_in v list b ≡ vd → PutsBatch v c n text b → t ≡ list_by list b vd →
+    ((((x : Submission) → PutsFresh v list (Put c n text) x → ⊥) × (t ≡ list)) ⊎
+    ((x : Submission) × PutsFresh v list (Put c n text) x × (t ≡ list ++ x ∷ [])))
 by_fresh v list t c n text b verdict.Fresh is p h = inr (b, (p, is), h)
-by_fresh v list t c n text b (verdict.Known k) is p h = inl ((λ x f. let same = ap (verdict_in v list) (one_batch v c n text b x p f.0) ∙ f.1 in cc), h)
-by_fresh v list t c n text b verdict.NumberReused is p h = inl ((λ x f. let same = ap (verdict_in v list) (one_batch v c n text b x p f.0) ∙ f.1 in cc), h)
-by_fresh v list t c n text b (verdict.OverTotal total) is p h = inl ((λ x f. let same = ap (verdict_in v list) (one_batch v c n text b x p f.0) ∙ f.1 in cc), h)
-by_fresh v list t c n text b verdict.BookFull is p h = inl ((λ x f. let same = ap (verdict_in v list) (one_batch v c n text b x p f.0) ∙ f.1 in cc), h)
+by_fresh v list t c n text b (verdict.Known k) is p h = inl
+    ((λ x f. let same = ap (verdict_in v list) (one_batch v c n text b x p f.0) ∙ f.1 in cc), h)
+by_fresh v list t c n text b verdict.NumberReused is p h = inl
+    ((λ x f. let same = ap (verdict_in v list) (one_batch v c n text b x p f.0) ∙ f.1 in cc), h)
+by_fresh v list t c n text b (verdict.OverTotal total) is p h = inl
+    ((λ x f. let same = ap (verdict_in v list) (one_batch v c n text b x p f.0) ∙ f.1 in cc), h)
+by_fresh v list t c n text b verdict.BookFull is p h = inl (
+  (λ x f. let same = ap (verdict_in v list)
+      (one_batch v c n text b x p f.0) ∙ f.1 in cc),
+  h,
+)
 
 abbrev Adds : Setting → List Submission → Request → List Submission → Type 0
-Adds v list r t = (((x : Submission) → PutsFresh v list r x → ⊥) × (t ≡ list)) ⊎ ((x : Submission) × PutsFresh v list r x × (t ≡ list ++ x ∷ []))
+Adds v list r t = (((x : Submission) → PutsFresh v list r x → ⊥) × (t ≡ list)) ⊎
+    ((x : Submission) × PutsFresh v list r x × (t ≡ list ++ x ∷ []))
 
-export_keeps : (v : Setting) (list t : List Submission) (e : Event) (a : Result Matrix AllocError) → e ≡ export a → PlainGives v list e t → t ≡ list
+export_keeps : (v : Setting) (list t : List Submission) (e : Event) (a : Result Matrix AllocError) → e ≡ export a →
+    PlainGives v list e t → t ≡ list
 export_keeps v list t e (Ok m) is h = (subst (λ x. PlainGives v list x t) is h).1
 export_keeps v list t e (Err x) is h = subst (λ x. PlainGives v list x t) is h
 
-adds : (v : Setting) (list t : List Submission) (r : Request) (w : List ℕ) → Answers (PlainGives v) v r w list t → Adds v list r t
+adds : (v : Setting) (list t : List Submission) (r : Request) (w : List ℕ) → Answers (PlainGives v) v r w list t →
+    Adds v list r t
 adds v list t (Put c n text) w (asked ev a h i) =
-    let one = put_is v list a.0 a.1 t w (subst (λ x. PlainGives v list x t) a.3 h) (subst (λ x. reply_of x ≡ Some w) a.3 i) in
+    let one = put_is v list a.0 a.1 t w (subst (λ x. PlainGives v list x t) a.3 h)
+    (subst (λ x. reply_of x ≡ Some w) a.3 i) in
     by_fresh v list t c n text a.0 (verdict_in v list a.0) refl a.2 one.1
 adds v list t (Put c n text) w (unasked a i) = inl ((λ x f. never_both v c n text x a.0 a.1 f.0 a.2), i)
 adds v list t (Cell r c) w (asked ev a h i) = inl ((λ x f. f), (subst (λ x. PlainGives v list x t) a.3 h).1)
@@ -212,18 +273,21 @@ adds v list t Save w (unasked a i) = inl ((λ x f. f), i)
 adds v list t Stop w (asked ev a h i) = absurd a
 adds v list t Stop w (unasked a i) = absurd a
 
-pub all_adds : (v : Setting) (list t : List Submission) (rs : List Request) (w : List ℕ) → AnswersAll (PlainGives v) v list rs w t → (more : List Submission) × (t ≡ list ++ more) × FreshPuts v list rs more
+pub all_adds : (v : Setting) (list t : List Submission) (rs : List Request) (w : List ℕ) →
+    AnswersAll (PlainGives v) v list rs w t → (more : List Submission) × (t ≡ list ++ more) × FreshPuts v list rs more
 all_adds v list t [] w a = ([], sym a.0 ∙ sym (append-nil list), refl)
 all_adds v list t (r ∷ rs) w a = elim (adds v list a.0 r a.1 a.3) [
   | inl same ↦
       let more = all_adds v list t rs a.2 (subst (λ l. AnswersAll (PlainGives v) v l rs a.2 t) same.1 a.5) in
       (more.0, more.1, inl (same.0, more.2))
   | inr one ↦
-      let more = all_adds v (list ++ one.0 ∷ []) t rs a.2 (subst (λ l. AnswersAll (PlainGives v) v l rs a.2 t) one.2 a.5) in
+      let more = all_adds v (list ++ one.0 ∷ []) t rs a.2 (subst
+      (λ l. AnswersAll (PlainGives v) v l rs a.2 t) one.2 a.5) in
       (one.0 ∷ more.0, more.1 ∙ append_assoc list (one.0 ∷ []) more.0, inr (one.0, more.0, one.1, refl, more.2))
 ]
 
-pub repeat_replied : (v : Setting) (list a b t : List Submission) (c n : ℕ) (text text' w w' between : List ℕ) (rs : List Request) (k k' : Kept) →
+pub repeat_replied : (v : Setting) (list a b t : List Submission) (c n : ℕ) (text text' w w' between : List ℕ)
+    (rs : List Request) (k k' : Kept) →
     Answers (PlainGives v) v (Put c n text) w list a → w ≡ accepted k → AnswersAll (PlainGives v) v a rs between b →
     Answers (PlainGives v) v (Put c n text') w' b t → w' ≡ accepted k' → w ≡ w'
 repeat_replied v list a b t c n text text' w w' between rs k k' one e all two e' =
@@ -231,6 +295,7 @@ repeat_replied v list a b t c n text text' w w' between rs k k' one e all two e'
     let second = put_stored v b t c n text' w' k' two e' in
     let grown = all_adds v a b rs between all in
     let last = all_adds v b t (Put c n text' ∷ []) w' (t, w', [], two, sym (append-nil w'), (refl, refl)) in
-    let s = stored_more b last.0 c n first.0 (subst (λ l. Stored l c n first.0) (sym grown.1) (stored_more a grown.0 c n first.0 first.2)) in
+    let s = stored_more b last.0 c n first.0 (subst (λ l. Stored l c n first.0) (sym grown.1)
+    (stored_more a grown.0 c n first.0 first.2)) in
     let same = stored_once t c n first.0 second.0 (subst (λ l. Stored l c n first.0) (sym last.1) s) second.2 in
     first.1 ∙ ap accepted same ∙ sym second.1

@@ -1,9 +1,11 @@
 -- What is spelled as a frame is read again, whatever follows.
-use Rattle.std.proofs.Common.{◌≡◌, ℕ, ◌+◌, ◌<◌, ◌≤◌, ◌^◌, true, List, [], ◌++◌, length, take, drop, refl, sym, ◌∙◌, ap, arith, length-append, Some, None, Ok}
+use Rattle.std.proofs.Common.{◌≡◌, ℕ, ◌+◌, ◌<◌, ◌≤◌, ◌^◌, true, List, [], ◌++◌, length, take, drop, refl, sym, ◌∙◌, ap}
+use Rattle.std.proofs.Common.{arith, length-append, Some, None, Ok}
 use Rattle.std.proofs.lemmas.List.{take_at, drop_at, drop-drop}
 use Rattle.std.proofs.lemmas.Bool.{le-ltb, le-leb}
 use Rattle.std.proofs.lemmas.Nat.{from_be_bytes-to_be_bytes_4, from_be_bytes-to_be_bytes_8}
-use Rattle.wire_proto.specs.Frames.{front, frame, head_bytes, number, head_len, head_kind, head_fault, fault_of_kind, length_fits, request_of, number_at, request_frame, HasFrame}
+use Rattle.wire_proto.specs.Frames.{front, frame, head_bytes, number, head_len, head_kind, head_fault, fault_of_kind}
+use Rattle.wire_proto.specs.Frames.{length_fits, request_of, number_at, request_frame, HasFrame}
 use Rattle.wire_proto.specs.declared.request.Request.{Request}
 use Rattle.wire_proto.specs.declared.request.Request.TheVariants.{Put, Cell, Row, Status, Export, Save, Stop}
 use Rattle.wire_proto.proofs.FrontLemmas.{front_whole}
@@ -35,10 +37,13 @@ front_of_frame k body more short fits =
     let ek = kind_read k body more in
     let el = len_read k body more (omega arith) in
     let n = frame_len k body more in
-    let fault : head_fault (head_kind b) (head_len b) ≡ None = rw (ek, el) (faultless_head k (length body) short fits) in
+    let fault : head_fault (head_kind b) (head_len b) ≡ None = rw (ek, el)
+    (faultless_head k (length body) short fits) in
     let all = front_whole b (omega arith) fault (omega (arith, el, n)) in
-    let front_is : take (head_len b) (drop 5 b) ≡ body = rw (el, tail_read k body more) (take_at body more (length body) refl) in
-    let rest_is : drop (5 + head_len b) b ≡ more = sym (drop-drop (head_len b) 5 b) ∙ rw (el, tail_read k body more) (drop_at body more (length body) refl) in
+    let front_is : take (head_len b) (drop 5 b) ≡ body = rw (el, tail_read k body more)
+    (take_at body more (length body) refl) in
+    let rest_is : drop (5 + head_len b) b ≡ more = sym (drop-drop (head_len b) 5 b) ∙
+    rw (el, tail_read k body more) (drop_at body more (length body) refl) in
     all ∙ rw (ek, front_is, rest_is) refl
 
 pub number_first : (n : ℕ) (more : List ℕ) → n < 2 ^ 64 → number_at 0 (number n ++ more) ≡ n
@@ -84,7 +89,8 @@ put_first : (m n : ℕ) (text : List ℕ) → m < 2 ^ 64 → number_at 0 (number
 unfolding number_at number
 put_first m n text h = from_be_bytes-to_be_bytes_8 m h
 
-put_read : (client n : ℕ) (text : List ℕ) → client < 2 ^ 64 → n < 2 ^ 64 → request_of 1 (number client ++ number n ++ text) ≡ Put client n text
+put_read : (client n : ℕ) (text : List ℕ) → client < 2 ^ 64 → n < 2 ^ 64 →
+    request_of 1 (number client ++ number n ++ text) ≡ Put client n text
 unfolding request_of
 put_read client n text h k = rw (put_first client n text h, put_second client n text k, put_tail client n text) refl
 
@@ -100,11 +106,19 @@ row_read row h = rw (lone row h) refl
 pub front_again : (r : Request) (more : List ℕ) → HasFrame r → front (request_frame r ++ more) ≡ Some (Ok r, more)
 unfolding request_of length_fits
 front_again (Put client n text) more h =
-    let long : 16 ≤ length (number client ++ number n ++ text) = omega (arith, length-append (number client ++ number n) text, length-append (number client) (number n), length_number client, length_number n) in
+    let long : 16 ≤ length (number client ++ number n ++ text) = omega (
+      arith,
+      length-append (number client ++ number n) text,
+      length-append (number client) (number n),
+      length_number client,
+      length_number n,
+    ) in
     front_of_frame 1 (number client ++ number n ++ text) more h.short (put_fits _ long)
     ∙ ap (λ x. Some (Ok x, more)) (put_read client n text h.numbers.0 h.numbers.1)
-front_again (Cell row col) more h = front_of_frame 2 (number row ++ number col) more h.short (pair_fits row col) ∙ ap (λ x. Some (Ok x, more)) (cell_read row col h.numbers.0 h.numbers.1)
-front_again (Row row) more h = front_of_frame 3 (number row) more h.short (one_fits row) ∙ ap (λ x. Some (Ok x, more)) (row_read row h.numbers)
+front_again (Cell row col) more h = front_of_frame 2 (number row ++ number col) more h.short (pair_fits row col) ∙
+    ap (λ x. Some (Ok x, more)) (cell_read row col h.numbers.0 h.numbers.1)
+front_again (Row row) more h = front_of_frame 3 (number row) more h.short (one_fits row) ∙
+    ap (λ x. Some (Ok x, more)) (row_read row h.numbers)
 front_again Status more h = front_of_frame 4 [] more h.short refl
 front_again Export more h = front_of_frame 5 [] more h.short refl
 front_again Save more h = front_of_frame 6 [] more h.short refl

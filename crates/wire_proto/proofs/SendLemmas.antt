@@ -10,16 +10,29 @@ use Rattle.wire_proto.specs.Closing.{Sends}
 use Rattle.wire_proto.specs.declared.ended.Ended.{Ended}
 use Rattle.wire_proto.specs.declared.ended.Ended.TheVariants.{WriteFault}
 
-pub sends_behind : {L : Type 0} (step : L → List ℕ → Answer → L → Type 0) (failures : L → ℕ) (l m l' : L) (head bytes : List ℕ) (written sent : ℕ) (r : Result ℕ Ended) →
-    sent ≡ written + length head → HasTaken step failures l m head → Sends step failures m l' bytes sent r → Sends step failures l l' (head ++ bytes) written r
+pub sends_behind : {L : Type 0} (step : L → List ℕ → Answer → L → Type 0) (failures : L → ℕ) (l m l' : L)
+    (head bytes : List ℕ) (written sent : ℕ) (r : Result ℕ Ended) →
+    sent ≡ written + length head → HasTaken step failures l m head → Sends step failures m l' bytes sent r →
+    Sends step failures l l' (head ++ bytes) written r
 sends_behind step failures l m l' head bytes written sent (Ok w) e a b =
-    let n = length-append head bytes in let h = b.0 in (omega arith, has_taken_append step failures l m l' head bytes a b.1)
-sends_behind step failures l m l' head bytes written sent (Err f) e a b =
-    (length head + b.0, b.1 ∙ ap (λ n. WriteFault n) (omega (arith, e)), stopped_behind step failures l m l' head bytes b.0 a b.2)
+    let n = length-append head bytes in let h = b.0 in (
+      omega arith,
+      has_taken_append step failures l m l' head bytes a b.1,
+    )
+sends_behind step failures l m l' head bytes written sent (Err f) e a b = (
+  length head + b.0,
+  b.1 ∙ ap (λ n. WriteFault n) (omega (arith, e)),
+  stopped_behind step failures l m l' head bytes b.0 a b.2,
+)
 
-pub sends_less : {L : Type 0} (step : L → List ℕ → Answer → L → Type 0) (failures : L → ℕ) (l l' : L) (head bytes : List ℕ) (written : ℕ) (f : Ended) →
+pub sends_less : {L : Type 0} (step : L → List ℕ → Answer → L → Type 0) (failures : L → ℕ) (l l' : L)
+    (head bytes : List ℕ) (written : ℕ) (f : Ended) →
     Sends step failures l l' head written (Err f) → Sends step failures l l' (head ++ bytes) written (Err f)
-sends_less step failures l l' head bytes written f a = (a.0, a.1, has_stopped_longer step failures l l' head bytes a.0 a.2)
+sends_less step failures l l' head bytes written f a = (
+  a.0,
+  a.1,
+  has_stopped_longer step failures l l' head bytes a.0 a.2,
+)
 
 -- a text with its head
 pub length_text : (bytes : List ℕ) → length (text bytes) ≡ 5 + length bytes

@@ -1,6 +1,8 @@
 -- Streams: all frames of the bytes of a link.
-use Rattle.std.proofs.Common.{◌≡◌, ℕ, zero, suc, ◌≤◌, List, [], ◌∷◌, ◌++◌, length, map, refl, sym, ◌∙◌, ap, arith, Option, Some, None, Ok, Err}
-use Rattle.wire_proto.specs.Frames.{front, Gives, Message, frames, frames_by, frames_then, frames_within, messages, up_to_stop}
+use Rattle.std.proofs.Common.{◌≡◌, ℕ, zero, suc, ◌≤◌, List, [], ◌∷◌, ◌++◌, length, map, refl, sym, ◌∙◌, ap, arith}
+use Rattle.std.proofs.Common.{Option, Some, None, Ok, Err}
+use Rattle.wire_proto.specs.Frames.{front, Gives, Message, frames, frames_by, frames_then, frames_within, messages}
+use Rattle.wire_proto.specs.Frames.{up_to_stop}
 use Rattle.wire_proto.specs.Keeping.{Event}
 use Rattle.wire_proto.specs.Answering.{Answers, asked, unasked}
 use Rattle.wire_proto.specs.Sessions.{AnswersAll}
@@ -20,13 +22,16 @@ none_short : (b : List ℕ) → length b ≤ 0 → front b ≡ None
 none_short b h = front_short b (omega arith)
 
 -- as many steps as bytes are enough
-by_message : (n m : ℕ) → ((rest : List ℕ) → length rest ≤ n → length rest ≤ m → frames_within n rest ≡ frames_within m rest) →
+by_message : (n m : ℕ) → ((rest : List ℕ) → length rest ≤ n → length rest ≤ m →
+    frames_within n rest ≡ frames_within m rest) →
     (b : List ℕ) (x : Message) (rest : List ℕ) → front b ≡ Some (x, rest) → length b ≤ suc n → length b ≤ suc m →
     frames_by (frames_within n) x rest ≡ frames_by (frames_within m) x rest
-by_message n m again b (Ok r) rest e h k = let l = front_shorter b r rest e in ap (λ ms. Ok r ∷ ms) (again rest (omega arith) (omega arith))
+by_message n m again b (Ok r) rest e h k = let l = front_shorter b r rest e in
+    ap (λ ms. Ok r ∷ ms) (again rest (omega arith) (omega arith))
 by_message n m again b (Err f) rest e h k = refl
 
-by_front : (n m : ℕ) → ((rest : List ℕ) → length rest ≤ n → length rest ≤ m → frames_within n rest ≡ frames_within m rest) →
+by_front : (n m : ℕ) → ((rest : List ℕ) → length rest ≤ n → length rest ≤ m →
+    frames_within n rest ≡ frames_within m rest) →
     (b : List ℕ) (o : Option (Message × List ℕ)) → front b ≡ o → length b ≤ suc n → length b ≤ suc m →
     frames_then (frames_within n) o ≡ frames_then (frames_within m) o
 by_front n m again b None e h k = refl
@@ -41,24 +46,30 @@ pub frames_none : (b : List ℕ) → front b ≡ None → frames b ≡ []
 unfolding frames
 frames_none b e = within_none (length b) b e
 
-pub frames_request : (b : List ℕ) (r : Request) (rest : List ℕ) → front b ≡ Some (Ok r, rest) → frames b ≡ Ok r ∷ frames rest
+pub frames_request : (b : List ℕ) (r : Request) (rest : List ℕ) → front b ≡ Some (Ok r, rest) →
+    frames b ≡ Ok r ∷ frames rest
 unfolding frames
 frames_request b r rest e =
     let l = front_shorter b r rest e in
-    enough (length b) (suc (length b)) b (omega arith) (omega arith) ∙ ap (λ o. frames_then (frames_within (length b)) o) e
+    enough (length b) (suc (length b)) b (omega arith) (omega arith) ∙
+    ap (λ o. frames_then (frames_within (length b)) o) e
     ∙ ap (λ ms. Ok r ∷ ms) (enough (length b) (length rest) rest (omega arith) (omega arith))
 
 pub frames_bad : (b : List ℕ) (f : FrameFault) (rest : List ℕ) → front b ≡ Some (Err f, rest) → frames b ≡ Err f ∷ []
 unfolding frames
-frames_bad b f rest e = enough (length b) (suc (length b)) b (omega arith) (omega arith) ∙ ap (λ o. frames_then (frames_within (length b)) o) e
+frames_bad b f rest e = enough (length b) (suc (length b)) b (omega arith) (omega arith) ∙
+    ap (λ o. frames_then (frames_within (length b)) o) e
 
 -- requests that were handed out, and then the frames of the rest
-pub gives_frames : (bytes : List ℕ) (rs : List Request) (kept : List ℕ) → Gives bytes rs kept → frames bytes ≡ map (λ r. Ok r) rs ++ frames kept
+pub gives_frames : (bytes : List ℕ) (rs : List Request) (kept : List ℕ) → Gives bytes rs kept →
+    frames bytes ≡ map (λ r. Ok r) rs ++ frames kept
 gives_frames bytes [] kept e = ap frames e
-gives_frames bytes (r ∷ rs) kept a = frames_request bytes r a.0 a.1 ∙ ap (λ ms. Ok r ∷ ms) (gives_frames a.0 rs kept a.2)
+gives_frames bytes (r ∷ rs) kept a = frames_request bytes r a.0 a.1 ∙
+    ap (λ ms. Ok r ∷ ms) (gives_frames a.0 rs kept a.2)
 
 -- a Stop is never answered in the middle
-pub goes_on : {S : Type 0} (gives : S → Event → S → Type 0) (setup : Setting) (r : Request) (reply : List ℕ) (s t : S) → Answers gives setup r reply s t → r ≡ Stop → ⊥
+pub goes_on : {S : Type 0} (gives : S → Event → S → Type 0) (setup : Setting) (r : Request) (reply : List ℕ) (s t : S) →
+    Answers gives setup r reply s t → r ≡ Stop → ⊥
 goes_on gives setup Stop reply s t (asked e a h i) is = a
 goes_on gives setup Stop reply s t (unasked a h) is = a
 goes_on gives setup (Put x y z) reply s t h is = cc
@@ -68,9 +79,13 @@ goes_on gives setup Status reply s t h is = cc
 goes_on gives setup Export reply s t h is = cc
 goes_on gives setup Save reply s t h is = cc
 
-pub none_stops : {S : Type 0} (gives : S → Event → S → Type 0) (setup : Setting) (s t : S) (rs : List Request) (bytes : List ℕ) → AnswersAll gives setup s rs bytes t → GoOn rs
+pub none_stops : {S : Type 0} (gives : S → Event → S → Type 0) (setup : Setting) (s t : S) (rs : List Request)
+    (bytes : List ℕ) → AnswersAll gives setup s rs bytes t → GoOn rs
 none_stops gives setup s t [] bytes a = tt
-none_stops gives setup s t (r ∷ rs) bytes a = (goes_on gives setup r a.1 s a.0 a.3, none_stops gives setup a.0 t rs a.2 a.5)
+none_stops gives setup s t (r ∷ rs) bytes a = (
+  goes_on gives setup r a.1 s a.0 a.3,
+  none_stops gives setup a.0 t rs a.2 a.5,
+)
 
 up_more : (r : Request) (ms : List Message) → (r ≡ Stop → ⊥) → up_to_stop (Ok r ∷ ms) ≡ Ok r ∷ up_to_stop ms
 up_more (Put x y z) ms h = refl
@@ -81,15 +96,18 @@ up_more Export ms h = refl
 up_more Save ms h = refl
 up_more Stop ms h = absurd (h refl)
 
-up_all : (rs : List Request) (ms : List Message) → GoOn rs → up_to_stop (map (λ r. Ok r) rs ++ ms) ≡ map (λ r. Ok r) rs ++ up_to_stop ms
+up_all : (rs : List Request) (ms : List Message) → GoOn rs →
+    up_to_stop (map (λ r. Ok r) rs ++ ms) ≡ map (λ r. Ok r) rs ++ up_to_stop ms
 up_all [] ms h = refl
 up_all (r ∷ rs) ms h = up_more r (map (λ r. Ok r) rs ++ ms) h.0 ∙ ap (λ l. Ok r ∷ l) (up_all rs ms h.1)
 
 -- the messages of what a link gave: the requests that were answered, and then those of what is kept
-pub answered_messages : {S : Type 0} (gives : S → Event → S → Type 0) (setup : Setting) (s t : S) (given : List ℕ) (rs : List Request) (replies kept : List ℕ) →
+pub answered_messages : {S : Type 0} (gives : S → Event → S → Type 0) (setup : Setting) (s t : S) (given : List ℕ)
+    (rs : List Request) (replies kept : List ℕ) →
     Gives given rs kept → AnswersAll gives setup s rs replies t → messages given ≡ map (λ r. Ok r) rs ++ messages kept
 unfolding messages
-answered_messages gives setup s t given rs replies kept a b = ap up_to_stop (gives_frames given rs kept a) ∙ up_all rs (frames kept) (none_stops gives setup s t rs replies b)
+answered_messages gives setup s t given rs replies kept a b = ap up_to_stop (gives_frames given rs kept a) ∙
+    up_all rs (frames kept) (none_stops gives setup s t rs replies b)
 
 pub messages_none : (b : List ℕ) → front b ≡ None → messages b ≡ []
 unfolding messages
@@ -99,10 +117,12 @@ pub messages_stop : (b rest : List ℕ) → front b ≡ Some (Ok Stop, rest) →
 unfolding messages
 messages_stop b rest e = ap up_to_stop (frames_request b Stop rest e)
 
-pub messages_bad : (b : List ℕ) (f : FrameFault) (rest : List ℕ) → front b ≡ Some (Err f, rest) → messages b ≡ Err f ∷ []
+pub messages_bad : (b : List ℕ) (f : FrameFault) (rest : List ℕ) → front b ≡ Some (Err f, rest) →
+    messages b ≡ Err f ∷ []
 unfolding messages
 messages_bad b f rest e = ap up_to_stop (frames_bad b f rest e)
 
-pub messages_request : (b : List ℕ) (r : Request) (rest : List ℕ) → front b ≡ Some (Ok r, rest) → (r ≡ Stop → ⊥) → messages b ≡ Ok r ∷ messages rest
+pub messages_request : (b : List ℕ) (r : Request) (rest : List ℕ) → front b ≡ Some (Ok r, rest) → (r ≡ Stop → ⊥) →
+    messages b ≡ Ok r ∷ messages rest
 unfolding messages
 messages_request b r rest e h = ap up_to_stop (frames_request b r rest e) ∙ up_more r (frames rest) h

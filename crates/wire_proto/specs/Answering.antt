@@ -66,7 +66,8 @@ pub data RefusesText (setup : Setting) (bytes : List ℕ) (code detail : ℕ) : 
 
 abbrev pub Asks : Setting → Request → Event → Type 0
 Asks setup (Put client n bytes) e =
-    (batch : Submission) × (answer : Result Kept PutFault) × PutsBatch setup client n bytes batch × (e ≡ put batch answer)
+    (batch : Submission) × (answer : Result Kept PutFault) × PutsBatch setup client n bytes batch ×
+    (e ≡ put batch answer)
 Asks setup (CellAt r c) e = (count : Option ℕ) × (r < setup.rows) × (c < setup.cols) × (e ≡ cell r c count)
 Asks setup (Row r) e = (sum : RowSum) × (r < setup.rows) × (e ≡ row r sum)
 Asks setup Status e = (s : Counted) × (e ≡ status s)
@@ -85,7 +86,8 @@ Refuses setup Save reply = ⊥
 Refuses setup Stop reply = ⊥
 
 -- `gives s e t`: the keeper may answer this call in state s, and then stands in state t.
-pub data Answers {S : Type 0} (gives : S → Event → S → Type 0) (setup : Setting) (r : Request) (reply : List ℕ) (s t : S) : Type 0 where
+pub data Answers {S : Type 0} (gives : S → Event → S → Type 0) (setup : Setting) (r : Request) (reply : List ℕ)
+    (s t : S) : Type 0 where
   asked : (e : Event) → Asks setup r e → gives s e t → reply_of e ≡ Some reply → Answers gives setup r reply s t
   unasked : Refuses setup r reply → t ≡ s → Answers gives setup r reply s t
 

@@ -3,19 +3,24 @@ use Rattle.std.specs.Prelude.{◌≡◌, ℕ, ◌+◌, List, length, Result, Ok,
 use Rattle.byte_io.specs.Streams.{Answer}
 use Rattle.byte_io.specs.Writing.{HasTaken, HasStopped}
 use Rattle.wire_proto.specs.declared.request.FrameFault.{FrameFault}
-use Rattle.wire_proto.specs.declared.request.FrameFault.TheVariants.{Memory as NoMemory, TooLarge, UnknownKind, BadLength}
+use Rattle.wire_proto.specs.declared.request.FrameFault.TheVariants.{Memory as NoMemory, TooLarge, UnknownKind}
+use Rattle.wire_proto.specs.declared.request.FrameFault.TheVariants.{BadLength}
 use Rattle.wire_proto.specs.declared.ended.Ended.{Ended}
 use Rattle.wire_proto.specs.declared.ended.Ended.TheVariants.{WriteFault, BadFrame, Memory}
 
 -- The bytes were taken whole, and so many were written with them; or they were taken in part, and the session ended.
-abbrev pub Sends : {L : Type 0} → (L → List ℕ → Answer → L → Type 0) → (L → ℕ) → L → L → List ℕ → ℕ → Result ℕ Ended → Type 0
+abbrev pub Sends : {L : Type 0} → (L → List ℕ → Answer → L → Type 0) → (L → ℕ) → L → L → List ℕ → ℕ → Result ℕ Ended →
+    Type 0
 Sends step failures l l' bytes written (Ok w) = (w ≡ written + length bytes) × HasTaken step failures l l' bytes
-Sends step failures l l' bytes written (Err e) = (i : ℕ) × (e ≡ WriteFault (written + i)) × HasStopped step failures l l' bytes i
+Sends step failures l l' bytes written (Err e) = (i : ℕ) × (e ≡ WriteFault (written + i)) ×
+    HasStopped step failures l l' bytes i
 
 -- The reply was taken whole, and the session ended as it was to end; or it was taken in part.
-pub data Closes {L : Type 0} (step : L → List ℕ → Answer → L → Type 0) (failures : L → ℕ) (l l' : L) (reply : List ℕ) (written : ℕ) (ended result : Ended) : Type 0 where
+pub data Closes {L : Type 0} (step : L → List ℕ → Answer → L → Type 0) (failures : L → ℕ) (l l' : L) (reply : List ℕ)
+    (written : ℕ) (ended result : Ended) : Type 0 where
   whole : HasTaken step failures l l' reply → result ≡ ended → Closes step failures l l' reply written ended result
-  part : (i : ℕ) → HasStopped step failures l l' reply i → result ≡ WriteFault (written + i) → Closes step failures l l' reply written ended result
+  part : (i : ℕ) → HasStopped step failures l l' reply i → result ≡ WriteFault (written + i) →
+      Closes step failures l l' reply written ended result
 
 -- how a session ends that refuses what came, or finds no memory for it
 abbrev pub ended_of : FrameFault → Ended

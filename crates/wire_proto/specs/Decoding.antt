@@ -1,7 +1,8 @@
 -- What the bytes of a reply say.
 --     Said            a reply, as a client sees it
 --     IsReplyFrame    these bytes are one whole frame, that of this reply
-use Rattle.std.specs.Prelude.{◌≡◌, ℕ, ◌<◌, ◌≤◌, ◌^◌, ◌==◌, ◌&&◌, Bool, if◌then◌else◌, List, length, take, slice_index, Option, Some, None}
+use Rattle.std.specs.Prelude.{◌≡◌, ℕ, ◌<◌, ◌≤◌, ◌^◌, ◌==◌, ◌&&◌, Bool, if◌then◌else◌, List, length, take, slice_index}
+use Rattle.std.specs.Prelude.{Option, Some, None}
 use Rattle.std.specs.Int.{w16, from_be_bytes}
 use Rattle.hyper_rows.specs.declared.search.RowSum.{RowSum}
 use Rattle.batch_store.specs.declared.verdict.Kept.{Kept}

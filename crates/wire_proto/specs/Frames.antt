@@ -1,5 +1,7 @@
 -- Frames: how requests are spelled, and what stands at the front of the bytes of a link.
-use Rattle.std.specs.Prelude.{◌≡◌, ℕ, zero, suc, ◌+◌, ◌<◌, ◌≤◌, ◌^◌, ◌==◌, ◌&&◌, Bool, true, false, List, [], ◌∷◌, ◌++◌, length, take, drop, slice_index, nat_lt, nat_le, if◌then◌else◌, Option, Some, None, Result, Ok, Err}
+use Rattle.std.specs.Prelude.{◌≡◌, ℕ, zero, suc, ◌+◌, ◌<◌, ◌≤◌, ◌^◌, ◌==◌, ◌&&◌, Bool, true, false, List, [], ◌∷◌, ◌++◌}
+use Rattle.std.specs.Prelude.{length, take, drop, slice_index, nat_lt, nat_le, if◌then◌else◌, Option, Some, None}
+use Rattle.std.specs.Prelude.{Result, Ok, Err}
 use Rattle.std.specs.Int.{w32, w64, to_be_bytes, from_be_bytes}
 use Rattle.wire_proto.specs.declared.request.Request.{Request}
 use Rattle.wire_proto.specs.declared.request.Request.TheVariants.{Put, Cell, Row, Status, Export, Save, Stop}
@@ -96,7 +98,10 @@ abbrev pub behind_head : Option FrameFault → List ℕ → Option (Result Reque
 behind_head (Some fault) bytes = Some (Err fault, bytes)
 behind_head None bytes =
     if nat_lt (length bytes) (5 + head_len bytes) then None
-    else Some (Ok (request_of (head_kind bytes) (take (head_len bytes) (drop 5 bytes))), drop (5 + head_len bytes) bytes)
+    else Some (
+      Ok (request_of (head_kind bytes) (take (head_len bytes) (drop 5 bytes))),
+      drop (5 + head_len bytes) bytes,
+    )
 
 -- What stands at the front: a whole request and the bytes behind it, or a bad header, before which the stream stays;
 -- None where more bytes are to come.

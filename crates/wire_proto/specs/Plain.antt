@@ -23,7 +23,8 @@ use Rattle.wire_proto.specs.declared.request.Request.TheVariants.{Put, Stop}
 use Rattle.wire_proto.specs.declared.request.FrameFault.{FrameFault}
 use Rattle.wire_proto.specs.declared.keeper.SaveRefusal.TheVariants.{SaveOff}
 use Rattle.wire_proto.specs.declared.ended.Ended.{Ended}
-use Rattle.wire_proto.specs.declared.ended.Ended.TheVariants.{Closed, ReadFault, WriteFault, BadFrame, Memory, Stopped, TooManyTurns}
+use Rattle.wire_proto.specs.declared.ended.Ended.TheVariants.{Closed, ReadFault, WriteFault, BadFrame, Memory, Stopped}
+use Rattle.wire_proto.specs.declared.ended.Ended.TheVariants.{TooManyTurns}
 
 abbrev pub PlainGives : Setting → List Submission → Event → List Submission → Type 0
 PlainGives v list (put batch answer) after = Puts v list batch answer after
@@ -38,7 +39,8 @@ abbrev pub AnswersMessages : {S : Type 0} → (S → Event → S → Type 0) →
 AnswersMessages gives setup s [] bytes t = (bytes ≡ []) × (t ≡ s)
 AnswersMessages gives setup s (Ok Stop ∷ ms) bytes t = (bytes ≡ stopping) × (t ≡ s)
 AnswersMessages gives setup s (Ok r ∷ ms) bytes t =
-    (m : _) × (reply : List ℕ) × (more : List ℕ) × Answers gives setup r reply s m × (bytes ≡ reply ++ more) × AnswersMessages gives setup m ms more t
+    (m : _) × (reply : List ℕ) × (more : List ℕ) × Answers gives setup r reply s m × (bytes ≡ reply ++ more) ×
+    AnswersMessages gives setup m ms more t
 AnswersMessages gives setup s (Err fault ∷ ms) bytes t = (bytes ≡ refused (fault_code fault) 0) × (t ≡ s)
 
 abbrev pub IsAnswered : Setting → List Submission → List Message → List ℕ → List Submission → Type 0
@@ -54,14 +56,16 @@ abbrev pub FreshPuts : Setting → List Submission → List Request → List Sub
 FreshPuts v list [] more = more ≡ []
 FreshPuts v list (r ∷ rs) more =
     (((batch : Submission) → PutsFresh v list r batch → ⊥) × FreshPuts v list rs more)
-    ⊎ ((batch : Submission) × (rest : List Submission) × PutsFresh v list r batch × (more ≡ batch ∷ rest) × FreshPuts v (list ++ batch ∷ []) rs rest)
+    ⊎ ((batch : Submission) × (rest : List Submission) × PutsFresh v list r batch × (more ≡ batch ∷ rest) ×
+    FreshPuts v (list ++ batch ∷ []) rs rest)
 
 -- these are requests, none of them a Stop
 abbrev pub GoOn : List Request → Type 0
 GoOn [] = Unit {0}
 GoOn (r ∷ rs) = (r ≡ Stop → ⊥) × GoOn rs
 
-module _ {L : Type 0} (reads : L → Answer → L → Type 0) (writes : L → List ℕ → Answer → L → Type 0) (failures : L → ℕ) (v : Setting) where
+module _ {L : Type 0} (reads : L → Answer → L → Type 0) (writes : L → List ℕ → Answer → L → Type 0) (failures : L → ℕ)
+    (v : Setting) where
   -- The link gave these bytes, and took the answers to their messages.
   pub record Exchange (l l' : L) (list after : List Submission) (turns : ℕ) : Type 0 where
     pub given : List ℕ
@@ -85,7 +89,8 @@ module _ {L : Type 0} (reads : L → Answer → L → Type 0) (writes : L → Li
     pub last_is : messages exchange.given ≡ before ++ last ∷ []
 
   -- The link took the answers to the first of these messages, and then these bytes; behind those answers stands a list.
-  pub record Partly (l l' : L) (list : List Submission) (turns : ℕ) (replies behind : List ℕ) (mid : List Submission) (rest : List Message) : Type 0 where
+  pub record Partly (l l' : L) (list : List Submission) (turns : ℕ) (replies behind : List ℕ) (mid : List Submission)
+      (rest : List Message) : Type 0 where
     pub given : List ℕ
     pub talks : Talks reads writes l l' given (replies ++ behind) turns
     pub requests : List Request
@@ -125,6 +130,7 @@ module _ {L : Type 0} (reads : L → Answer → L → Type 0) (writes : L → Li
   EndsPlain at_end l l' list after most turns TooManyTurns =
       (kept : List ℕ) × (turns ≡ most) × (b : Between l l' list after kept turns) × (most ≤ length b.exchange.given)
   EndsPlain at_end l l' list after most turns Stopped = WithLast l l' list after turns (Ok Stop)
-  EndsPlain at_end l l' list after most turns BadFrame = (fault : FrameFault) × WithLast l l' list after turns (Err fault)
+  EndsPlain at_end l l' list after most turns BadFrame = (fault : FrameFault) ×
+      WithLast l l' list after turns (Err fault)
   EndsPlain at_end l l' list after most turns Memory = OutOfMemory l l' list after turns
   EndsPlain at_end l l' list after most turns (WriteFault n) = Broken l l' list after turns n

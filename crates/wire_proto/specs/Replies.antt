@@ -1,5 +1,6 @@
 -- Reply frames.
-use Rattle.std.specs.Prelude.{ℕ, nat_lt, if◌then◌else◌, List, [], ◌∷◌, ◌++◌, length, map, Option, Some, None, Result, Ok, Err}
+use Rattle.std.specs.Prelude.{ℕ, nat_lt, if◌then◌else◌, List, [], ◌∷◌, ◌++◌, length, map, Option, Some, None, Result}
+use Rattle.std.specs.Prelude.{Ok, Err}
 use Rattle.std.specs.Int.{w16, to_be_bytes}
 use Rattle.std.specs.FinMap.{entries}
 use Rattle.std.specs.declared.alloc.AllocError.{AllocError}
@@ -11,11 +12,13 @@ use Rattle.hyper_matrix.specs.Matrix.{Matrix}
 use Rattle.batch_store.specs.declared.verdict.Kept.{Kept}
 use Rattle.plain_engine.specs.declared.status.Status.{Status}
 use Rattle.plain_engine.specs.declared.fault.PutFault.{PutFault}
-use Rattle.plain_engine.specs.declared.fault.PutFault.TheVariants.{Memory, NumberReused, OverTotal, BookFull, RecordsDiffer}
+use Rattle.plain_engine.specs.declared.fault.PutFault.TheVariants.{Memory, NumberReused, OverTotal, BookFull}
+use Rattle.plain_engine.specs.declared.fault.PutFault.TheVariants.{RecordsDiffer}
 use Rattle.wire_proto.specs.Frames.{frame, number}
 use Rattle.wire_proto.specs.Keeping.{Event, put, cell, row, status, export, save}
 use Rattle.wire_proto.specs.declared.request.FrameFault.{FrameFault}
-use Rattle.wire_proto.specs.declared.request.FrameFault.TheVariants.{Memory as NoMemory, TooLarge, UnknownKind, BadLength}
+use Rattle.wire_proto.specs.declared.request.FrameFault.TheVariants.{Memory as NoMemory, TooLarge, UnknownKind}
+use Rattle.wire_proto.specs.declared.request.FrameFault.TheVariants.{BadLength}
 use Rattle.wire_proto.specs.declared.keeper.SaveRefusal.{SaveRefusal}
 use Rattle.wire_proto.specs.declared.keeper.SaveRefusal.TheVariants.{Memory as SaveMemory, SaveOff, SaveFailed}
 

@@ -20,7 +20,8 @@ use Rattle.wire_proto.specs.declared.request.Request.{Request}
 use Rattle.wire_proto.specs.declared.request.Request.TheVariants.{Stop}
 use Rattle.wire_proto.specs.declared.request.FrameFault.{FrameFault}
 use Rattle.wire_proto.specs.declared.ended.Ended.{Ended}
-use Rattle.wire_proto.specs.declared.ended.Ended.TheVariants.{Closed, ReadFault, WriteFault, BadFrame, Memory, Stopped, TooManyTurns}
+use Rattle.wire_proto.specs.declared.ended.Ended.TheVariants.{Closed, ReadFault, WriteFault, BadFrame, Memory, Stopped}
+use Rattle.wire_proto.specs.declared.ended.Ended.TheVariants.{TooManyTurns}
 
 -- one call of a link: a read with what it gave, or a write with what it was offered and what of that it took
 pub data Move : Type 0 where
@@ -63,32 +64,44 @@ module _ {L : Type 0} (reads : L → Answer → L → Type 0) (writes : L → Li
 abbrev pub AnswersAll : {S : Type 0} → (S → Event → S → Type 0) → Setting → S → List Request → List ℕ → S → Type 0
 AnswersAll gives setup s [] bytes t = (s ≡ t) × (bytes ≡ [])
 AnswersAll gives setup s (r ∷ rs) bytes t =
-    (m : _) × (reply : List ℕ) × (more : List ℕ) × Answers gives setup r reply s m × (bytes ≡ reply ++ more) × AnswersAll gives setup m rs more t
+    (m : _) × (reply : List ℕ) × (more : List ℕ) × Answers gives setup r reply s m × (bytes ≡ reply ++ more) ×
+    AnswersAll gives setup m rs more t
 
 -- Memory ran out: nothing was asked, or it ran out for the request in front.
-pub data LacksMemory {S : Type 0} (gives : S → Event → S → Type 0) (setup : Setting) (kept : List ℕ) (s t : S) : Type 0 where
+pub data LacksMemory {S : Type 0} (gives : S → Event → S → Type 0) (setup : Setting) (kept : List ℕ)
+    (s t : S) : Type 0 where
   unasked : t ≡ s → LacksMemory gives setup kept s t
-  asked : (r : Request) (rest : List ℕ) → front kept ≡ Some (Ok r, rest) → RunsOut gives setup r s t → LacksMemory gives setup kept s t
+  asked : (r : Request) (rest : List ℕ) → front kept ≡ Some (Ok r, rest) → RunsOut gives setup r s t →
+      LacksMemory gives setup kept s t
 
 -- a reply that comes next: to the request in front, to a bad header in front, or that memory ran out
-pub data NextReply {S : Type 0} (gives : S → Event → S → Type 0) (setup : Setting) (kept reply : List ℕ) (s t : S) : Type 0 where
-  answer : (r : Request) (rest : List ℕ) → front kept ≡ Some (Ok r, rest) → Answers gives setup r reply s t → NextReply gives setup kept reply s t
-  stop : (rest : List ℕ) → front kept ≡ Some (Ok Stop, rest) → t ≡ s → reply ≡ stopping → NextReply gives setup kept reply s t
-  bad : (fault : FrameFault) → front kept ≡ Some (Err fault, kept) → t ≡ s → reply ≡ refused (fault_code fault) 0 → NextReply gives setup kept reply s t
+pub data NextReply {S : Type 0} (gives : S → Event → S → Type 0) (setup : Setting) (kept reply : List ℕ)
+    (s t : S) : Type 0 where
+  answer : (r : Request) (rest : List ℕ) → front kept ≡ Some (Ok r, rest) → Answers gives setup r reply s t →
+      NextReply gives setup kept reply s t
+  stop : (rest : List ℕ) → front kept ≡ Some (Ok Stop, rest) → t ≡ s → reply ≡ stopping →
+      NextReply gives setup kept reply s t
+  bad : (fault : FrameFault) → front kept ≡ Some (Err fault, kept) → t ≡ s → reply ≡ refused (fault_code fault) 0 →
+      NextReply gives setup kept reply s t
   out : LacksMemory gives setup kept s t → reply ≡ refused 1 0 → NextReply gives setup kept reply s t
 
 -- the last reply of a session that ends so
 abbrev pub LastReply : {S : Type 0} → (S → Event → S → Type 0) → Setting → List ℕ → List ℕ → S → S → Ended → Type 0
-LastReply gives setup kept reply s t Stopped = (rest : List ℕ) × (front kept ≡ Some (Ok Stop, rest)) × (t ≡ s) × (reply ≡ stopping)
-LastReply gives setup kept reply s t BadFrame = (fault : FrameFault) × (front kept ≡ Some (Err fault, kept)) × (t ≡ s) × (reply ≡ refused (fault_code fault) 0)
+LastReply gives setup kept reply s t Stopped = (rest : List ℕ) × (front kept ≡ Some (Ok Stop, rest)) × (t ≡ s) ×
+    (reply ≡ stopping)
+LastReply gives setup kept reply s t BadFrame = (fault : FrameFault) × (front kept ≡ Some (Err fault, kept)) × (t ≡ s) ×
+    (reply ≡ refused (fault_code fault) 0)
 LastReply gives setup kept reply s t Memory = LacksMemory gives setup kept s t × (reply ≡ refused 1 0)
 LastReply gives setup kept reply s t _ = ⊥
 
-module _ {L S : Type 0} (writes : L → List ℕ → Answer → L → Type 0) (failures : L → ℕ) (gives : S → Event → S → Type 0) (setup : Setting) where
+module _ {L S : Type 0} (writes : L → List ℕ → Answer → L → Type 0) (failures : L → ℕ) (gives : S → Event → S → Type 0)
+    (setup : Setting) where
   -- A reply to what stands in front: taken whole at the end of the session, or in part.
   pub data OneEnds (kept : List ℕ) (l l' : L) (s t : S) (written : ℕ) (e : Ended) : Type 0 where
-    says : (reply : List ℕ) → LastReply gives setup kept reply s t e → HasTaken writes failures l l' reply → OneEnds kept l l' s t written e
-    breaks : (reply : List ℕ) (i : ℕ) → NextReply gives setup kept reply s t → HasStopped writes failures l l' reply i → e ≡ WriteFault (written + i) → OneEnds kept l l' s t written e
+    says : (reply : List ℕ) → LastReply gives setup kept reply s t e → HasTaken writes failures l l' reply →
+        OneEnds kept l l' s t written e
+    breaks : (reply : List ℕ) (i : ℕ) → NextReply gives setup kept reply s t → HasStopped writes failures l l' reply i →
+        e ≡ WriteFault (written + i) → OneEnds kept l l' s t written e
 
   -- A request was answered: so many bytes are written then.
   pub record OneAnswered (r : Request) (l l' : L) (s t : S) (written w : ℕ) : Type 0 where
@@ -163,9 +176,12 @@ module _ {L S : Type 0} (reads : L → Answer → L → Type 0) (writes : L → 
 
   -- how a session of at most `most` turns ends
   abbrev pub Ends : (L → Type 0) → L → L → S → S → ℕ → ℕ → Ended → Type 0
-  Ends at_end l l' s s' most turns (Closed rest) = (kept : List ℕ) × (length kept ≡ rest) × at_end l' × Rests l l' s s' kept turns
-  Ends at_end l l' s s' most turns ReadFault = (kept : List ℕ) × (failures l' ≡ failures l + 1) × Rests l l' s s' kept turns
-  Ends at_end l l' s s' most turns TooManyTurns = (kept : List ℕ) × (turns ≡ most) × (r : Rests l l' s s' kept turns) × (most ≤ length r.given)
+  Ends at_end l l' s s' most turns (Closed rest) = (kept : List ℕ) × (length kept ≡ rest) × at_end l' ×
+      Rests l l' s s' kept turns
+  Ends at_end l l' s s' most turns ReadFault = (kept : List ℕ) × (failures l' ≡ failures l + 1) ×
+      Rests l l' s s' kept turns
+  Ends at_end l l' s s' most turns TooManyTurns = (kept : List ℕ) × (turns ≡ most) × (r : Rests l l' s s' kept turns) ×
+      (most ≤ length r.given)
   Ends at_end l l' s s' most turns ended = Stops l l' s s' turns ended
 
   -- Whatever session stood at the one place stands at the other; or ends so.

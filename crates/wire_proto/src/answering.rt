@@ -1,5 +1,6 @@
 //! Answers the requests that have come.
-ghost use Rattle.std.specs.Prelude.{◌≡◌, ℕ, ◌+◌, ◌*◌, ◌<◌, ◌≤◌, ◌^◌, List, length, Some, None, Ok, Err, IfOk, IfErr, OnOk};
+ghost use Rattle.std.specs.Prelude.{◌≡◌, ℕ, ◌+◌, ◌*◌, ◌<◌, ◌≤◌, ◌^◌, List, length, Some, None, Ok, Err, IfOk, IfErr};
+ghost use Rattle.std.specs.Prelude.{OnOk};
 ghost use Rattle.wire_proto.specs.Frames.{front};
 ghost use Rattle.wire_proto.specs.Closing.{Closes, ended_of};
 ghost use Rattle.wire_proto.specs.Replies.{refused as refused_reply, fault_code};
@@ -26,9 +27,11 @@ pub fn answer<L: Sink, K: Keeper>(
     requires ready { L.failure_count link.old + 1 < 2 ^ 64 }
     requires fact { K.fact keeper.old }
     requires room { written + 2 ^ 25 < 2 ^ 128 }
-    ensures ok { IfOk result (λ w. OneAnswered L.write_takes L.failure_count K.gives (K.setup_of keeper.old) request link.old link.new keeper.old keeper.new written w) }
+    ensures ok { IfOk result (λ w. OneAnswered L.write_takes L.failure_count K.gives
+        (K.setup_of keeper.old) request link.old link.new keeper.old keeper.new written w) }
     ensures err { IfErr result (λ e. (kept rest : List ℕ) → front kept ≡ Some (Ok request, rest) →
-        OneEnds L.write_takes L.failure_count K.gives (K.setup_of keeper.old) kept link.old link.new keeper.old keeper.new written e) }
+        OneEnds L.write_takes L.failure_count K.gives
+        (K.setup_of keeper.old) kept link.old link.new keeper.old keeper.new written e) }
     ensures fact { K.fact keeper.new }
     ensures setup { K.setup_of keeper.new ≡ K.setup_of keeper.old }
 {
@@ -67,7 +70,8 @@ fn end_of(fault: FrameFault) -> Ended
 pub fn refuse<L: Sink>(link: &mut L, fault: FrameFault, written: u128) -> Ended
     requires ready { L.failure_count link.old + 1 < 2 ^ 64 }
     requires room { written + 2 ^ 25 < 2 ^ 128 }
-    ensures { Closes L.write_takes L.failure_count link.old link.new (refused_reply (fault_code fault) 0) written (ended_of fault) result }
+    ensures { Closes L.write_takes L.failure_count link.old link.new (refused_reply (fault_code fault) 0) written
+        (ended_of fault) result }
 {
     close(link, &refused(code_of(fault), 0), written, end_of(fault))
 }
@@ -83,11 +87,13 @@ pub fn answer_all<L: Link, K: Keeper>(
     requires ready { L.Sink.failure_count link.old + 1 < 2 ^ 64 }
     requires fact { K.fact keeper.old }
     requires room { before + 2 ^ 25 * length frames.old < 2 ^ 127 }
-    ensures ok { IfOk result (λ w. Carries L.Source.read_gives L.Sink.write_takes L.Sink.failure_count K.gives (K.setup_of keeper.old) link.old link.new keeper.old keeper.new frames.old frames.new before w 0) }
+    ensures ok { IfOk result (λ w. Carries L.Source.read_gives L.Sink.write_takes L.Sink.failure_count K.gives
+        (K.setup_of keeper.old) link.old link.new keeper.old keeper.new frames.old frames.new before w 0) }
     ensures none { OnOk result (front frames.new ≡ None) }
     ensures room { IfOk result (λ w. w + 2 ^ 25 * length frames.new ≤ before + 2 ^ 25 * length frames.old) }
     ensures failures { OnOk result (L.Sink.failure_count link.new ≡ L.Sink.failure_count link.old) }
-    ensures err { IfErr result (λ e. CarriesToEnd L.Source.read_gives L.Sink.write_takes L.Sink.failure_count K.gives (K.setup_of keeper.old) link.old link.new keeper.old keeper.new frames.old before e) }
+    ensures err { IfErr result (λ e. CarriesToEnd L.Source.read_gives L.Sink.write_takes L.Sink.failure_count K.gives
+        (K.setup_of keeper.old) link.old link.new keeper.old keeper.new frames.old before e) }
     ensures fact { K.fact keeper.new }
     ensures setup { K.setup_of keeper.new ≡ K.setup_of keeper.old }
 {

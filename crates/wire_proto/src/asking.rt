@@ -58,7 +58,8 @@ pub fn ask_status<K: Keeper>(keeper: &mut K) -> Short
 
 pub fn ask_save<K: Keeper>(alloc: Global, keeper: &mut K) -> Result<Short, AllocError>
     requires { K.fact keeper.old }
-    ensures reply { IfOk result (λ short. Answers K.gives (K.setup_of keeper.old) Request.Save short.items keeper.old keeper.new) }
+    ensures reply { IfOk result (λ short. Answers K.gives
+        (K.setup_of keeper.old) Request.Save short.items keeper.old keeper.new) }
     ensures none { OnErr result (RunsOut K.gives (K.setup_of keeper.old) Request.Save keeper.old keeper.new) }
     ensures fact { K.fact keeper.new }
     ensures setup { K.setup_of keeper.new ≡ K.setup_of keeper.old }
@@ -84,7 +85,8 @@ fn reply_to_export(matrix: Hyper) -> Spelled
 
 pub fn ask_export<K: Keeper>(alloc: Global, keeper: &mut K) -> Result<Spelled, AllocError>
     requires { K.fact keeper.old }
-    ensures reply { IfOk result (λ s. Answers K.gives (K.setup_of keeper.old) Request.Export (spelled s) keeper.old keeper.new) }
+    ensures reply { IfOk result (λ s. Answers K.gives (K.setup_of keeper.old) Request.Export
+        (spelled s) keeper.old keeper.new) }
     ensures short { IfOk result (λ s. fits_reply s) }
     ensures none { OnErr result (RunsOut K.gives (K.setup_of keeper.old) Request.Export keeper.old keeper.new) }
     ensures fact { K.fact keeper.new }
@@ -119,8 +121,10 @@ pub fn ask_put<K: Keeper>(
     text: Bytes,
 ) -> Result<Short, AllocError>
     requires { K.fact keeper.old }
-    ensures reply { IfOk result (λ short. Answers K.gives (K.setup_of keeper.old) (Request.Put client number text) short.items keeper.old keeper.new) }
-    ensures none { OnErr result (RunsOut K.gives (K.setup_of keeper.old) (Request.Put client number text) keeper.old keeper.new) }
+    ensures reply { IfOk result (λ short. Answers K.gives (K.setup_of keeper.old)
+        (Request.Put client number text) short.items keeper.old keeper.new) }
+    ensures none { OnErr result (RunsOut K.gives (K.setup_of keeper.old)
+        (Request.Put client number text) keeper.old keeper.new) }
     ensures fact { K.fact keeper.new }
     ensures setup { K.setup_of keeper.new ≡ K.setup_of keeper.old }
 {
@@ -143,7 +147,8 @@ pub fn ask<K: Keeper>(
 ) -> Result<Spelled, AllocError>
     requires fact { K.fact keeper.old }
     requires goes_on { request ≢ Request.Stop }
-    ensures reply { IfOk result (λ s. Answers K.gives (K.setup_of keeper.old) request (spelled s) keeper.old keeper.new) }
+    ensures reply { IfOk result (λ s. Answers K.gives (K.setup_of keeper.old) request
+        (spelled s) keeper.old keeper.new) }
     ensures short { IfOk result (λ s. fits_reply s) }
     ensures none { OnErr result (RunsOut K.gives (K.setup_of keeper.old) request keeper.old keeper.new) }
     ensures fact { K.fact keeper.new }

@@ -5,7 +5,8 @@
 ghost use Rattle.std.specs.Prelude.{◌≡◌, ◌≤◌, length, true, Some, IfSome};
 ghost use Rattle.std.specs.Option.{option_map};
 ghost use Rattle.wire_proto.specs.Frames.{number_at, head_kind};
-ghost use Rattle.wire_proto.specs.Decoding.{Said, said, reply_frame, FitsReply, IsReplyFrame, short_fits, body_says, value_at, code_at};
+ghost use Rattle.wire_proto.specs.Decoding.{Said, said, reply_frame, FitsReply, IsReplyFrame, short_fits, body_says};
+ghost use Rattle.wire_proto.specs.Decoding.{value_at, code_at};
 
 use crate::limits::{HEAD, MOST_BODY};
 use crate::replies::{

@@ -28,7 +28,8 @@ pub enum Look {
 /// The header at the front, where its five bytes are there.
 #[tactic(auto, unfolding(crate::specs::Frames::head_len, crate::specs::Frames::head_kind))]
 fn head_at(bytes: &[u8]) -> Option<Head>
-    ensures { MatchOption result (length bytes.now < 5) (λ h. (5 ≤ length bytes.now) × (h.len ≡ head_len bytes.now) × (h.kind ≡ head_kind bytes.now)) }
+    ensures { MatchOption result (length bytes.now < 5) (λ h. (5 ≤ length bytes.now) × (h.len ≡ head_len bytes.now) ×
+        (h.kind ≡ head_kind bytes.now)) }
 {
     if bytes.len() < HEAD {
         return None;

@@ -2,7 +2,8 @@
 ghost use Rattle.std.specs.Prelude.{◌≡◌, ◌<◌};
 ghost use Rattle.std.specs.Arc.{arc_value};
 ghost use Rattle.batch_store.specs.Setups.{Setting};
-ghost use Rattle.wire_proto.specs.Keeping.{Event, put as putting, cell as looking, row as summing, status as counting, export as exporting, save as saving};
+ghost use Rattle.wire_proto.specs.Keeping.{Event, put as putting, cell as looking, row as summing, status as counting};
+ghost use Rattle.wire_proto.specs.Keeping.{export as exporting, save as saving};
 
 use batch_store::{Batch, Kept, Setup};
 use hyper_matrix::{Hyper, RowSum};

@@ -22,36 +22,49 @@ pub fn frames_are_read_again()
 /// bytes that were fed.
 pub fn frames_come_in_any_pieces()
     ensures start { Gives [] [] [] }
-    ensures fed { (fed piece kept : List ℕ) (given : List Request) → Gives fed given kept → Gives (fed ++ piece) given (kept ++ piece) }
-    ensures given { (fed kept rest : List ℕ) (given : List Request) (r : Request) → Gives fed given kept → front kept ≡ Some (Ok r, rest) →
+    ensures fed { (fed piece kept : List ℕ) (given : List Request) → Gives fed given kept →
+        Gives (fed ++ piece) given (kept ++ piece) }
+    ensures given { (fed kept rest : List ℕ) (given : List Request) (r : Request) → Gives fed given kept →
+        front kept ≡ Some (Ok r, rest) →
         Gives fed (given ++ r ∷ []) rest }
-    ensures whole { (fed kept : List ℕ) (given : List Request) → Gives fed given kept → frames fed ≡ map (λ r. Ok r) given ++ frames kept }
+    ensures whole { (fed kept : List ℕ) (given : List Request) → Gives fed given kept →
+        frames fed ≡ map (λ r. Ok r) given ++ frames kept }
     ensures none { (kept : List ℕ) → front kept ≡ None → frames kept ≡ [] }
-    ensures bad { (kept rest : List ℕ) (fault : FrameFault) → front kept ≡ Some (Err fault, rest) → frames kept ≡ Err fault ∷ [] }
+    ensures bad { (kept rest : List ℕ) (fault : FrameFault) → front kept ≡ Some (Err fault, rest) →
+        frames kept ≡ Err fault ∷ [] }
 {}
 
 /// What a session has answered are the messages of what its link gave, up to those of what it keeps.
 pub fn sessions_answer_messages<K: Keeper>()
     ensures answered { (setup : Setting) (s t : K) (given replies kept : List ℕ) (requests : List Request) →
-        Gives given requests kept → AnswersAll K.gives setup s requests replies t → messages given ≡ map (λ r. Ok r) requests ++ messages kept }
+        Gives given requests kept → AnswersAll K.gives setup s requests replies t →
+        messages given ≡ map (λ r. Ok r) requests ++ messages kept }
     ensures none { (kept : List ℕ) → front kept ≡ None → messages kept ≡ [] }
-    ensures stop { (kept rest : List ℕ) → front kept ≡ Some (Ok Request.Stop, rest) → messages kept ≡ Ok Request.Stop ∷ [] }
-    ensures bad { (kept rest : List ℕ) (fault : FrameFault) → front kept ≡ Some (Err fault, rest) → messages kept ≡ Err fault ∷ [] }
-    ensures request { (kept rest : List ℕ) (r : Request) → front kept ≡ Some (Ok r, rest) → r ≢ Request.Stop → messages kept ≡ Ok r ∷ messages rest }
+    ensures stop { (kept rest : List ℕ) → front kept ≡ Some (Ok Request.Stop, rest) →
+        messages kept ≡ Ok Request.Stop ∷ [] }
+    ensures bad { (kept rest : List ℕ) (fault : FrameFault) → front kept ≡ Some (Err fault, rest) →
+        messages kept ≡ Err fault ∷ [] }
+    ensures request { (kept rest : List ℕ) (r : Request) → front kept ≡ Some (Ok r, rest) → r ≢ Request.Stop →
+        messages kept ≡ Ok r ∷ messages rest }
 {}
 
 /// A bad header is the same fault, whatever follows it: what stands in front stays the same, and so do the frames.
 pub fn bad_headers_stay()
-    ensures front { (kept rest more : List ℕ) (fault : FrameFault) → front kept ≡ Some (Err fault, rest) → front (kept ++ more) ≡ Some (Err fault, kept ++ more) }
-    ensures frames { (kept rest more : List ℕ) (fault : FrameFault) → front kept ≡ Some (Err fault, rest) → frames (kept ++ more) ≡ Err fault ∷ [] }
+    ensures front { (kept rest more : List ℕ) (fault : FrameFault) → front kept ≡ Some (Err fault, rest) →
+        front (kept ++ more) ≡ Some (Err fault, kept ++ more) }
+    ensures frames { (kept rest more : List ℕ) (fault : FrameFault) → front kept ≡ Some (Err fault, rest) →
+        frames (kept ++ more) ≡ Err fault ∷ [] }
 {}
 
-/// Over the engine of one thread the messages are answered in one way alone: of the accepted list before and the messages,
+/// Over the engine of one thread the messages are answered in one way alone: of the accepted list before and the
+/// messages,
 /// the bytes and the list after are a function.
 pub fn messages_have_one_answer()
-    ensures some { (setup : Setting) (list : List Submission) (ms : List Message) → (bytes : List ℕ) × (after : List Submission) × IsAnswered setup list ms bytes after }
+    ensures some { (setup : Setting) (list : List Submission) (ms : List Message) →
+        (bytes : List ℕ) × (after : List Submission) × IsAnswered setup list ms bytes after }
     ensures one { (setup : Setting) (list after after' : List Submission) (ms : List Message) (bytes bytes' : List ℕ) →
-        IsAnswered setup list ms bytes after → IsAnswered setup list ms bytes' after' → (bytes ≡ bytes') × (after ≡ after') }
+        IsAnswered setup list ms bytes after → IsAnswered setup list ms bytes' after' →
+        (bytes ≡ bytes') × (after ≡ after') }
 {}
 
 /// What a session adds to the accepted list: the batches of its puts that were fresh, in order, each once.
@@ -61,11 +74,14 @@ pub fn sessions_accept_fresh_batches()
         (more : List Submission) × (after ≡ list ++ more) × FreshPuts setup list requests more }
 {}
 
-/// Two puts with one client and one number that are both answered Accepted, in one session or in two, get the same bytes.
+/// Two puts with one client and one number that are both answered Accepted, in one session or in two, get the same
+/// bytes.
 pub fn repeats_get_their_reply()
-    ensures { (setup : Setting) (list mid later after : List Submission) (client number : ℕ) (text other first second between : List ℕ) (requests : List Request) (kept kept' : Kept) →
+    ensures { (setup : Setting) (list mid later after : List Submission) (client number : ℕ)
+        (text other first second between : List ℕ) (requests : List Request) (kept kept' : Kept) →
         Answers (PlainGives setup) setup (Request.Put client number text) first list mid → first ≡ accepted kept →
         AnswersAll (PlainGives setup) setup mid requests between later →
-        Answers (PlainGives setup) setup (Request.Put client number other) second later after → second ≡ accepted kept' →
+        Answers (PlainGives setup) setup (Request.Put client number other) second later after →
+        second ≡ accepted kept' →
         first ≡ second }
 {}

@@ -1,6 +1,7 @@
 //! Frames over a link, and the session that answers them.
 //!
-//! A client sends frames, each a header of five bytes and a body, and gets a frame for each. `Frames` cuts a stream into
+//! A client sends frames, each a header of five bytes and a body, and gets a frame for each. `Frames` cuts a stream
+//! into
 //! requests, however its bytes come; `encode_request` and `decode_reply` are the client's side. `serve` is the loop of
 //! one session: it reads, answers every whole request in order, and ends when the link does, at a bad header, at a
 //! `Stop`, or where memory or the link refuses. It works over any `Keeper`, a store that answers calls, and over any

@@ -79,7 +79,9 @@ fn serve_plain<L: Link>(
     requires { L.Sink.failure_count link.old + 1 < 2 ^ 64 }
     ensures same_reference { keeper.new.engine.ghost_name ≡ keeper.old.engine.ghost_name }
     ensures ends { (turns : ℕ) × (turns ≤ max_turns)
-        × EndsPlain L.Source.read_gives L.Sink.write_takes L.Sink.failure_count keeper.old.engine.now.setup L.Source.at_end link.old link.new keeper.old.engine.now.book.list keeper.new.engine.now.book.list max_turns turns result }
+        × EndsPlain L.Source.read_gives L.Sink.write_takes L.Sink.failure_count keeper.old.engine.now.setup
+        L.Source.at_end link.old link.new keeper.old.engine.now.book.list
+        keeper.new.engine.now.book.list max_turns turns result }
     ensures setup { keeper.new.engine.now.setup ≡ keeper.old.engine.now.setup }
 {
     serve(alloc, link, keeper, max_turns)
@@ -98,7 +100,8 @@ pub fn serve_engine<L: Link>(
 ) -> Ended
     requires { L.Sink.failure_count link.old + 1 < 2 ^ 64 }
     ensures ends { (turns : ℕ) × (turns ≤ max_turns)
-        × EndsPlain L.Source.read_gives L.Sink.write_takes L.Sink.failure_count engine.old.setup L.Source.at_end link.old link.new engine.old.book.list engine.new.book.list max_turns turns result }
+        × EndsPlain L.Source.read_gives L.Sink.write_takes L.Sink.failure_count engine.old.setup
+        L.Source.at_end link.old link.new engine.old.book.list engine.new.book.list max_turns turns result }
     ensures setup { engine.new.setup ≡ engine.old.setup }
 {
     let mut keeper = PlainKeeper::new(engine);

@@ -3,7 +3,9 @@ ghost use Rattle.std.specs.Prelude.{◌≡◌, ℕ, ◌+◌, ◌<◌, ◌≤◌,
 ghost use Rattle.std.specs.Int.{w16, to_be_bytes};
 ghost use Rattle.arrayvec.specs.ArrayVec.{array_vec_len};
 ghost use Rattle.wire_proto.specs.Frames.{number, head_bytes, frame};
-ghost use Rattle.wire_proto.specs.Replies.{accepted as accepted_reply, value as value_reply, row_sum as row_reply, counts as counts_reply, saved as saved_reply, stopping as stopping_reply, refused as refused_reply};
+ghost use Rattle.wire_proto.specs.Replies.{accepted as accepted_reply, value as value_reply, row_sum as row_reply};
+ghost use Rattle.wire_proto.specs.Replies.{counts as counts_reply, saved as saved_reply, stopping as stopping_reply};
+ghost use Rattle.wire_proto.specs.Replies.{refused as refused_reply};
 
 use crate::limits::SHORT;
 use arrayvec::ArrayVec;

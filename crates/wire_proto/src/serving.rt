@@ -1,5 +1,6 @@
 //! A session: reads a link turn by turn, and answers each whole request.
-ghost use Rattle.std.specs.Prelude.{◌≡◌, ℕ, ◌+◌, ◌*◌, ◌<◌, ◌≤◌, ◌^◌, List, length, ◌++◌, None, IfOk, IfErr, OnOk, OnErr};
+ghost use Rattle.std.specs.Prelude.{◌≡◌, ℕ, ◌+◌, ◌*◌, ◌<◌, ◌≤◌, ◌^◌, List, length, ◌++◌, None, IfOk, IfErr, OnOk};
+ghost use Rattle.std.specs.Prelude.{OnErr};
 ghost use Rattle.byte_io.specs.Streams.{answer_of};
 ghost use Rattle.wire_proto.specs.Frames.{front};
 ghost use Rattle.wire_proto.specs.Sessions.{Ends, Carries, CarriesToEnd, TurnEnds};
@@ -32,11 +33,15 @@ fn take_piece<L: Link, K: Keeper>(
     requires ready { L.Sink.failure_count link.old + 1 < 2 ^ 64 }
     requires fact { K.fact keeper.old }
     requires room { written + 2 ^ 25 * (length frames.old + length piece.now) < 2 ^ 127 }
-    ensures ok { IfOk result (λ w. Carries L.Source.read_gives L.Sink.write_takes L.Sink.failure_count K.gives (K.setup_of keeper.old) link.old link.new keeper.old keeper.new (frames.old ++ piece.now) frames.new written w 0) }
+    ensures ok { IfOk result (λ w. Carries L.Source.read_gives L.Sink.write_takes L.Sink.failure_count K.gives
+        (K.setup_of keeper.old) link.old link.new keeper.old keeper.new
+        (frames.old ++ piece.now) frames.new written w 0) }
     ensures none { OnOk result (front frames.new ≡ None) }
-    ensures room { IfOk result (λ w. w + 2 ^ 25 * length frames.new ≤ written + 2 ^ 25 * (length frames.old + length piece.now)) }
+    ensures room { IfOk result (λ w. w + 2 ^ 25 * length frames.new ≤ written + 2 ^ 25 *
+        (length frames.old + length piece.now)) }
     ensures failures { OnOk result (L.Sink.failure_count link.new ≡ L.Sink.failure_count link.old) }
-    ensures err { IfErr result (λ e. CarriesToEnd L.Source.read_gives L.Sink.write_takes L.Sink.failure_count K.gives (K.setup_of keeper.old) link.old link.new keeper.old keeper.new (frames.old ++ piece.now) written e) }
+    ensures err { IfErr result (λ e. CarriesToEnd L.Source.read_gives L.Sink.write_takes L.Sink.failure_count K.gives
+        (K.setup_of keeper.old) link.old link.new keeper.old keeper.new (frames.old ++ piece.now) written e) }
     ensures fact { K.fact keeper.new }
     ensures setup { K.setup_of keeper.new ≡ K.setup_of keeper.old }
 {
@@ -61,11 +66,13 @@ fn take_turn<L: Link, K: Keeper>(
     requires none { front frames.old ≡ None }
     requires room { written + 2 ^ 25 * (length frames.old + 65536) < 2 ^ 127 }
     ensures piece { length piece.new.items ≡ 65536 }
-    ensures ok { IfOk result (λ w. Carries L.Source.read_gives L.Sink.write_takes L.Sink.failure_count K.gives (K.setup_of keeper.old) link.old link.new keeper.old keeper.new frames.old frames.new written w 1) }
+    ensures ok { IfOk result (λ w. Carries L.Source.read_gives L.Sink.write_takes L.Sink.failure_count K.gives
+        (K.setup_of keeper.old) link.old link.new keeper.old keeper.new frames.old frames.new written w 1) }
     ensures none { OnOk result (front frames.new ≡ None) }
     ensures room { IfOk result (λ w. w + 2 ^ 25 * length frames.new ≤ written + 2 ^ 25 * (length frames.old + 65536)) }
     ensures failures { OnOk result (L.Sink.failure_count link.new ≡ L.Sink.failure_count link.old) }
-    ensures err { IfErr result (λ e. TurnEnds L.Source.read_gives L.Sink.write_takes L.Sink.failure_count K.gives (K.setup_of keeper.old) L.Source.at_end link.old link.new keeper.old keeper.new frames.old written e) }
+    ensures err { IfErr result (λ e. TurnEnds L.Source.read_gives L.Sink.write_takes L.Sink.failure_count K.gives
+        (K.setup_of keeper.old) L.Source.at_end link.old link.new keeper.old keeper.new frames.old written e) }
     ensures fact { K.fact keeper.new }
     ensures setup { K.setup_of keeper.new ≡ K.setup_of keeper.old }
 {
@@ -103,7 +110,9 @@ pub fn serve<L: Link, K: Keeper>(
 ) -> Ended
     requires ready { L.Sink.failure_count link.old + 1 < 2 ^ 64 }
     requires fact { K.fact keeper.old }
-    ensures ends { (turns : ℕ) × (turns ≤ max_turns) × Ends L.Source.read_gives L.Sink.write_takes L.Sink.failure_count K.gives (K.setup_of keeper.old) L.Source.at_end link.old link.new keeper.old keeper.new max_turns turns result }
+    ensures ends { (turns : ℕ) × (turns ≤ max_turns) ×
+        Ends L.Source.read_gives L.Sink.write_takes L.Sink.failure_count K.gives
+        (K.setup_of keeper.old) L.Source.at_end link.old link.new keeper.old keeper.new max_turns turns result }
     ensures fact { K.fact keeper.new }
     ensures setup { K.setup_of keeper.new ≡ K.setup_of keeper.old }
 {
