@@ -19,6 +19,8 @@ mod generated;
 #[cfg(test)]
 mod hex;
 #[cfg(test)]
+mod large;
+#[cfg(test)]
 mod plain;
 #[cfg(test)]
 mod refusals;

@@ -188,8 +188,8 @@ fn other_bytes_are_no_reply(rt: HostRuntime) -> Result<(), Fail> {
     Ok(())
 }
 
-// The length of the text that these bytes carry.
-fn text_len(bytes: &[u8]) -> Option<usize> {
+/// The length of the text that these bytes carry.
+pub fn text_len(bytes: &[u8]) -> Option<usize> {
     match decode_reply(bytes) {
         Some(Reply::Text(text)) => Some(text.len()),
         _ => None,
