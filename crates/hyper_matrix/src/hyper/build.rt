@@ -31,8 +31,10 @@ impl Hyper {
         requires rows { IsDimension rows }
         requires cols { IsDimension cols }
         ensures ok { IfOk result (λ m. m ≡ matrix rows cols (built_of cells.now)) }
-        ensures index { (result ≡ Err BuildFault.IndexOutOfRange) ↔ (first_fault rows cols 0 cells.now ≡ Some BuildFault.IndexOutOfRange) }
-        ensures sum { (result ≡ Err BuildFault.SumTooLarge) ↔ (first_fault rows cols 0 cells.now ≡ Some BuildFault.SumTooLarge) }
+        ensures index { (result ≡ Err BuildFault.IndexOutOfRange) ↔
+            (first_fault rows cols 0 cells.now ≡ Some BuildFault.IndexOutOfRange) }
+        ensures sum { (result ≡ Err BuildFault.SumTooLarge) ↔
+            (first_fault rows cols 0 cells.now ≡ Some BuildFault.SumTooLarge) }
         ensures memory { (result ≡ Err BuildFault.Memory) → (first_fault rows cols 0 cells.now ≡ None) }
         ensures none { length cells.now ≡ 0 → IsOk result }
     {

@@ -9,28 +9,35 @@ pub loop-batch-init : goal.loop-batch-init
 loop-batch-init c = record {
   rows = ap (λ (v : Layering). v.rows) c.in_ok-layers.ensures ∙ c.rows.ensures.value;
   cols = ap (λ (v : Layering). v.cols) c.in_ok-layers.ensures ∙ c.cols.ensures.value;
-  sum = ap (λ (v : Layering). content v.layers) c.in_ok-layers.ensures ∙ content-no_layers (length c.in_ok-layers.layers.cuts + 1);
+  sum = ap (λ (v : Layering). content v.layers) c.in_ok-layers.ensures ∙
+      content-no_layers (length c.in_ok-layers.layers.cuts + 1);
 }
 
 pub with_batch-requires-clause-rows : goal.with_batch-requires-clause-rows
 with_batch-requires-clause-rows c =
-    (dims_at c.args.setup.now.rows c.args.setup.now.cols c.args.batches.now c.loop-batch.batch-index c.batch-item.result c.deref.result.now c.requires.dims c.loop-batch-test.true c.batch-item.is c.deref.ensures).0
+    (dims_at c.args.setup.now.rows c.args.setup.now.cols c.args.batches.now c.loop-batch.batch-index c.batch-item.result
+    c.deref.result.now c.requires.dims c.loop-batch-test.true c.batch-item.is c.deref.ensures).0
     ∙ sym c.loop-batch.invariant.rows
 
 pub with_batch-requires-clause-cols : goal.with_batch-requires-clause-cols
 with_batch-requires-clause-cols c =
-    (dims_at c.args.setup.now.rows c.args.setup.now.cols c.args.batches.now c.loop-batch.batch-index c.batch-item.result c.deref.result.now c.requires.dims c.loop-batch-test.true c.batch-item.is c.deref.ensures).1
+    (dims_at c.args.setup.now.rows c.args.setup.now.cols c.args.batches.now c.loop-batch.batch-index c.batch-item.result
+    c.deref.result.now c.requires.dims c.loop-batch-test.true c.batch-item.is c.deref.ensures).1
     ∙ sym c.loop-batch.invariant.cols
 
 pub with_batch-requires-clause-fits : goal.with_batch-requires-clause-fits
 with_batch-requires-clause-fits c =
-    sum_fits c.args.batches.now c.loop-batch.batch-index c.batch-item.result c.deref.result.now c.loop-batch-test.true c.batch-item.is c.deref.ensures
-    (content c.loop-batch.layers.layers) c.args.setup.now.limit c.loop-batch.invariant.sum c.requires.within c.requires.sound.fits
+    sum_fits c.args.batches.now c.loop-batch.batch-index c.batch-item.result c.deref.result.now c.loop-batch-test.true
+    c.batch-item.is c.deref.ensures
+    (content c.loop-batch.layers.layers) c.args.setup.now.limit c.loop-batch.invariant.sum c.requires.within
+    c.requires.sound.fits
 
 pub loop-batch-preserved : goal.loop-batch-preserved
 loop-batch-preserved c = record {
   rows = c.in_ok-layers-2.ensures.dims.0 ∙ c.loop-batch.invariant.rows;
   cols = c.in_ok-layers-2.ensures.dims.1 ∙ c.loop-batch.invariant.cols;
-  sum = sum_more c.args.batches.now c.loop-batch.batch-index c.batch-item.result c.deref.result.now c.loop-batch-test.true c.batch-item.is c.deref.ensures
-      (content c.loop-batch.layers.layers) (content c.in_ok-layers-2.layers.layers) c.loop-batch.invariant.sum c.in_ok-layers-2.ensures.sum;
+  sum = sum_more c.args.batches.now c.loop-batch.batch-index c.batch-item.result c.deref.result.now
+      c.loop-batch-test.true c.batch-item.is c.deref.ensures
+      (content c.loop-batch.layers.layers)
+      (content c.in_ok-layers-2.layers.layers) c.loop-batch.invariant.sum c.in_ok-layers-2.ensures.sum;
 }

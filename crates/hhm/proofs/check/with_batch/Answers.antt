@@ -11,4 +11,5 @@ pub returns-clause-sum : goal.returns-clause-sum
 returns-clause-sum c =
     ap (λ (v : Layering). content v.layers) c.in_ok-after.ensures
     ∙ content-cascade c.args.layers.layers c.args.layers.cuts c.in_ok-own.own.counts c.dims-dims.ensures.kept.count
-    ∙ ap (λ (x : Counts). ewise_add (content c.args.layers.layers) x) (ap (λ (m : Matrix). m.counts) c.in_ok-own.ensures ∙ ap (λ (b : Submission). b.matrix.counts) c.batch.view_is)
+    ∙ ap (λ (x : Counts). ewise_add (content c.args.layers.layers) x)
+    (ap (λ (m : Matrix). m.counts) c.in_ok-own.ensures ∙ ap (λ (b : Submission). b.matrix.counts) c.batch.view_is)

@@ -7,9 +7,12 @@ use Rattle.hhm.proofs.SumLemmas.{block_added}
 use Rattle.hhm.proofs.running_sum.with_block.Goals as goal
 
 pub add_cells-requires-clause-within : goal.add_cells-requires-clause-within
-add_cells-requires-clause-within c = subst (AreWithin c.args.layers.rows c.args.layers.cols) (sym c.deref.ensures.value) (c.in_ok-list.ensures.within c.args.layers.rows c.args.layers.cols c.requires.within)
+add_cells-requires-clause-within c = subst (AreWithin c.args.layers.rows c.args.layers.cols) (sym c.deref.ensures.value)
+    (c.in_ok-list.ensures.within c.args.layers.rows c.args.layers.cols c.requires.within)
 
 pub returns : goal.returns
 returns c =
-    block_added c.args.layers c.in_ok-after.after (matrix 0 0 (built_of c.deref.result.now)) 0 0 c.args.block.now c.add_cells.ensures.kept
-    (ap (λ cells. matrix 0 0 (built_of cells)) c.deref.ensures.value ∙ ap (matrix 0 0) (built_of-same _ _ c.in_ok-list.ensures.sums)) c.in_ok-after.ensures.added
+    block_added c.args.layers c.in_ok-after.after (matrix 0 0
+    (built_of c.deref.result.now)) 0 0 c.args.block.now c.add_cells.ensures.kept
+    (ap (λ cells. matrix 0 0 (built_of cells)) c.deref.ensures.value ∙
+    ap (matrix 0 0) (built_of-same _ _ c.in_ok-list.ensures.sums)) c.in_ok-after.ensures.added

@@ -10,10 +10,17 @@ pub rows_of_sorted-requires-clause-sorted : goal.rows_of_sorted-requires-clause-
 rows_of_sorted-requires-clause-sorted c = never_fall c.args.cells.now c.requires.cells
 
 pub new-requires : goal.new-requires
-new-requires c = some_rows _ c.args.cells.now (exact_cells _ c.args.cells.now c.in_ok-rows.ensures.order c.in_ok-rows.ensures.told c.requires.cells) c.requires.some
+new-requires c = some_rows _ c.args.cells.now
+    (exact_cells _ c.args.cells.now c.in_ok-rows.ensures.order c.in_ok-rows.ensures.told c.requires.cells)
+    c.requires.some
 
 pub returns : goal.returns
 returns c =
-    let exact = exact_cells c.in_ok-rows.rows c.args.cells.now c.in_ok-rows.ensures.order c.in_ok-rows.ensures.told c.requires.cells in
+    let exact = exact_cells c.in_ok-rows.rows c.args.cells.now c.in_ok-rows.ensures.order c.in_ok-rows.ensures.told
+    c.requires.cells in
     subst (Grows c.args.out.now.items c.push.new.self.items) exact
-    (grows_by _ _ _ _ c.requires.blocks c.in_ok-push.ensures.items c.in_ok-block.ensures (record { some = some_rows _ c.args.cells.now exact c.requires.some; numbers = c.in_ok-rows.ensures.order.numbers }))
+    (grows_by _ _ _ _ c.requires.blocks c.in_ok-push.ensures.items c.in_ok-block.ensures
+    (record {
+      some = some_rows _ c.args.cells.now exact c.requires.some;
+      numbers = c.in_ok-rows.ensures.order.numbers;
+    }))

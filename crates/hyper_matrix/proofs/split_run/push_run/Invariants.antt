@@ -8,7 +8,8 @@ invariant-split l = record {
   within : l.from ≤ length l.entries;
   ends : EndsAt l.from (drop l.row l.heads) (length l.entries);
   blocks : AreBlocks l.out.items;
-  told : all_cells l.out.items ++ cells_of (rows_from l.from (drop l.row l.heads) l.entries) ≡ all_cells l.fn.out.items ++ cells_of l.rows;
+  told : all_cells l.out.items ++ cells_of (rows_from l.from (drop l.row l.heads) l.entries) ≡
+      all_cells l.fn.out.items ++ cells_of l.rows;
 }
 
 abbrev pub decreases-split : goal.decreases-split

@@ -15,6 +15,12 @@ pub seek-preserved : goal.seek-preserved
 seek-preserved c = record {
   begins = omega arith;
   within = omega arith;
-  below = subst (AllPlaces (λ p. Less p (c.args.row, c.args.col))) (sym (ap (map entry_of) (between_more c.args.cells.now c.args.from c.seek.end none c.seek.invariant.begins (omega arith)) ∙ map-append entry_of (slice_range c.args.cells.now c.args.from c.seek.end) (get_or c.args.cells.now c.seek.end none ∷ [])))
-      (all_append (λ p. Less p (c.args.row, c.args.col)) (map entry_of (slice_range c.args.cells.now c.args.from c.seek.end)) (map entry_of (get_or c.args.cells.now c.seek.end none ∷ [])) c.seek.invariant.below (subst T (sym c.if-is_below.true ∙ c.is_below.ensures) tt, tt));
+  below = subst (AllPlaces (λ p. Less p (c.args.row, c.args.col)))
+      (sym (ap (map entry_of) (between_more c.args.cells.now c.args.from c.seek.end none c.seek.invariant.begins
+      (omega arith)) ∙ map-append entry_of (slice_range c.args.cells.now c.args.from c.seek.end)
+      (get_or c.args.cells.now c.seek.end none ∷ [])))
+      (all_append (λ p. Less p (c.args.row, c.args.col)) (map entry_of
+      (slice_range c.args.cells.now c.args.from c.seek.end))
+      (map entry_of (get_or c.args.cells.now c.seek.end none ∷ [])) c.seek.invariant.below
+      (subst T (sym c.if-is_below.true ∙ c.is_below.ensures) tt, tt));
 }

@@ -11,8 +11,10 @@ invariant-parts l = record {
   some : 0 < length l.sum.items;
   sorted : T (is_sorted place_cmp (all_cells l.sum.items));
   left : T (is_sorted place_cmp (all_cells (drop l.at l.others)));
-  sums : ewise_add (built (all_cells l.sum.items)) (built (all_cells (drop l.at l.others))) ≡ ewise_add (built (all_cells l.fn.blocks.items)) (built (all_cells l.others));
-  fits : count_sum (all_cells l.sum.items) + count_sum (all_cells (drop l.at l.others)) ≡ count_sum (all_cells l.fn.blocks.items) + count_sum (all_cells l.others);
+  sums : ewise_add (built (all_cells l.sum.items)) (built (all_cells (drop l.at l.others))) ≡
+      ewise_add (built (all_cells l.fn.blocks.items)) (built (all_cells l.others));
+  fits : count_sum (all_cells l.sum.items) + count_sum (all_cells (drop l.at l.others)) ≡
+      count_sum (all_cells l.fn.blocks.items) + count_sum (all_cells l.others);
 }
 
 abbrev pub decreases-parts : goal.decreases-parts

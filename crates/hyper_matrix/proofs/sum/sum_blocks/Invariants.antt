@@ -12,7 +12,9 @@ invariant-steps l = record {
   left : AreBlocks l.rest.items;
   front : T (is_sorted place_cmp (all_cells l.out.items ++ all_cells l.rest.items));
   other : T (is_sorted place_cmp (all_cells l.out.items ++ map entry_of (drop l.j l.cells)));
-  sums : ewise_add (built (all_cells l.out.items)) (ewise_add (built (all_cells l.rest.items)) (built (map entry_of (drop l.j l.cells)))) ≡ ewise_add (built (all_cells l.fn.blocks.items)) (built (map entry_of l.cells));
+  sums : ewise_add (built (all_cells l.out.items)) (ewise_add (built (all_cells l.rest.items))
+      (built (map entry_of (drop l.j l.cells)))) ≡ ewise_add (built (all_cells l.fn.blocks.items))
+      (built (map entry_of l.cells));
   bound : count_sum (all_cells l.rest.items) ≤ count_sum (all_cells l.fn.blocks.items);
   some : l.rest.items ≡ [] → 0 < length l.out.items;
   last : l.rest.items ≡ [] → l.j ≡ length l.cells;

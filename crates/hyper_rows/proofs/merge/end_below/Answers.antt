@@ -8,5 +8,7 @@ pub seek-preserved : goal.seek-preserved
 seek-preserved g c = record {
   begins = omega arith;
   within = omega arith;
-  below = subst (KeysBelow c.args.key) (sym (between_more c.args.items.now c.args.from c.seek.end c.index-items-end.result c.seek.invariant.begins (omega arith))) (KeysBelow-push c.args.key _ _ c.seek.invariant.below (omega arith));
+  below = subst (KeysBelow c.args.key)
+      (sym (between_more c.args.items.now c.args.from c.seek.end c.index-items-end.result c.seek.invariant.begins
+      (omega arith))) (KeysBelow-push c.args.key _ _ c.seek.invariant.below (omega arith));
 }

@@ -17,6 +17,10 @@ entries_in row (e ∷ es) = ap (λ r. ((row, e.0), e.1) ∷ r) (entries_in row e
 
 pub returns : goal.returns
 returns c =
-    let h = items_from_extend c.extend.result c.extend.ensures.ran (YieldsList-from_map _ (cell_in c.args.row) (YieldsList-at c.map.ensures.source (YieldsList-from_slice _ c.iter.ensures.rest)) c.map.ensures.closure (λ x r q k. search rules)) in
-    let told : c.extend.new.self.items ≡ c.args.out.now.items ++ map (cell_in c.args.row) c.args.entries.now = search rules in
-    ap (map entry_of) told ∙ map-append entry_of c.args.out.now.items (map (cell_in c.args.row) c.args.entries.now) ∙ ap (λ r. map entry_of c.args.out.now.items ++ r) (entries_in c.args.row c.args.entries.now)
+    let h = items_from_extend c.extend.result c.extend.ensures.ran
+    (YieldsList-from_map _ (cell_in c.args.row) (YieldsList-at c.map.ensures.source
+    (YieldsList-from_slice _ c.iter.ensures.rest)) c.map.ensures.closure (λ x r q k. search rules)) in
+    let told : c.extend.new.self.items ≡ c.args.out.now.items ++
+    map (cell_in c.args.row) c.args.entries.now = search rules in
+    ap (map entry_of) told ∙ map-append entry_of c.args.out.now.items (map (cell_in c.args.row) c.args.entries.now) ∙
+    ap (λ r. map entry_of c.args.out.now.items ++ r) (entries_in c.args.row c.args.entries.now)

@@ -7,7 +7,8 @@ invariant-steps l = record {
   left : l.i ≤ length l.a;
   right : l.j ≤ length l.b;
   well : AreRows l.heads.items l.entries.items;
-  told : rows_of l.heads.items l.entries.items ++ sum_rows (drop l.i l.a) (drop l.j l.b) ≡ rows_of l.fn.heads.items l.fn.entries.items ++ sum_rows l.a l.b;
+  told : rows_of l.heads.items l.entries.items ++ sum_rows (drop l.i l.a) (drop l.j l.b) ≡
+      rows_of l.fn.heads.items l.fn.entries.items ++ sum_rows l.a l.b;
 }
 
 abbrev pub decreases-steps : goal.decreases-steps

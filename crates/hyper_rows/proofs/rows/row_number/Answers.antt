@@ -4,4 +4,5 @@ use Rattle.hyper_rows.proofs.RowLaws.{get-rows_of}
 use Rattle.hyper_rows.proofs.rows.row_number.Goals as goal
 
 pub returns : goal.returns
-returns c = sym (ap (λ (r : ℕ × Entries). r.0) (get-rows_of c.args.heads.now c.args.entries.now c.args.i _ _ c.requires))
+returns c = sym (ap (λ (r : ℕ × Entries). r.0)
+    (get-rows_of c.args.heads.now c.args.entries.now c.args.i _ _ c.requires))

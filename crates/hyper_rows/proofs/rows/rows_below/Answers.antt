@@ -6,8 +6,13 @@ pub end_below-requires : goal.end_below-requires
 end_below-requires c = omega (arith, same_length _ _ _ c.rows.view_is, ap length c.deref.ensures.value)
 
 pub returns-clause-range : goal.returns-clause-range
-returns-clause-range c = (c.end_below.ensures.range.0, omega (arith, c.end_below.ensures.range.1, same_length _ _ _ c.rows.view_is, ap length c.deref.ensures.value))
+returns-clause-range c = (
+  c.end_below.ensures.range.0,
+  omega
+      (arith, c.end_below.ensures.range.1, same_length _ _ _ c.rows.view_is, ap length c.deref.ensures.value),
+)
 
 pub returns-clause-below : goal.returns-clause-below
 returns-clause-below c =
-    rw (← c.rows.view_is) (KeysBelow-rows_of c.args.row _ _ c.args.from c.end_below.result (omega (arith, same_length _ _ _ c.rows.view_is)) (rw (← c.deref.ensures.value) c.end_below.ensures.below))
+    rw (← c.rows.view_is) (KeysBelow-rows_of c.args.row _ _ c.args.from c.end_below.result
+    (omega (arith, same_length _ _ _ c.rows.view_is)) (rw (← c.deref.ensures.value) c.end_below.ensures.below))

@@ -9,4 +9,5 @@ returns-then-i-eq0 c = sym (ap (start_from 0 c.args.heads.now) c.if-i-eq0.true �
 
 pub returns-else-i-eq0 : goal.returns-else-i-eq0
 unfolding start_of
-returns-else-i-eq0 c = sym (ap (start_from 0 c.args.heads.now) {x = c.args.i} {y = suc (c.args.i - 1)} (omega arith) ∙ start-get 0 c.args.heads.now (c.args.i - 1) (0, 0) (omega arith))
+returns-else-i-eq0 c = sym (ap (start_from 0 c.args.heads.now) {x = c.args.i} {y = suc (c.args.i - 1)} (omega arith) ∙
+    start-get 0 c.args.heads.now (c.args.i - 1) (0, 0) (omega arith))

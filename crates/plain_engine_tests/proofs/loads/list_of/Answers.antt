@@ -12,4 +12,5 @@ batches-preserved c =
     let b = c.in_ok-batch.field-0 in
     let xs = c.batches.list.items in
     subst (HaveDims v.rows v.cols) (sym (ap values c.in_ok-push.ensures.items ∙ map-append arc_value xs (b ∷ [])))
-    (dims_push v.rows v.cols (values xs) (arc_value b) c.batches.invariant c.in_ok-batch.ensures.rows c.in_ok-batch.ensures.cols)
+    (dims_push v.rows v.cols (values xs)
+    (arc_value b) c.batches.invariant c.in_ok-batch.ensures.rows c.in_ok-batch.ensures.cols)

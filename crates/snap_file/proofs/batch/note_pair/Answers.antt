@@ -2,4 +2,5 @@ use Rattle.snap_file.proofs.ListLemmas.{pairs_noted}
 use Rattle.snap_file.proofs.batch.note_pair.Goals as goal
 
 pub returns-in-Ok-clause-noted : goal.returns-in-Ok-clause-noted
-returns-in-Ok-clause-noted c = pairs_noted c.args.pairs.now c.insert.new.self c.args.client c.args.number c.in-Ok.ensures.updates
+returns-in-Ok-clause-noted c = pairs_noted c.args.pairs.now c.insert.new.self c.args.client c.args.number
+    c.in-Ok.ensures.updates

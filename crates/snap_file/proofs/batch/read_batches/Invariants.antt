@@ -13,5 +13,6 @@ invariant-batches g l = record {
   failures : g.R.Source.failure_count l.r ≡ g.R.Source.failure_count l.fn.r;
   read : (s : g.row.R.Denot) (m : ℕ) →
       HasRead {S = g.row.R.Denot} g.R.Source.read_gives g.R.Source.failure_count m s l.fn.r l.fn.reader (body l.head) →
-      HasRead {S = g.row.R.Denot} g.R.Source.read_gives g.R.Source.failure_count m s l.r l.reader (batches_behind l.head (l.head.batches - l._i) (progress_of l.list) (ending l.head));
+      HasRead {S = g.row.R.Denot} g.R.Source.read_gives g.R.Source.failure_count m s l.r l.reader
+      (batches_behind l.head (l.head.batches - l._i) (progress_of l.list) (ending l.head));
 }

@@ -28,16 +28,22 @@ returns-in_err-read_cells-clause-err g c =
     let x = c.runs.invariant.read s m k h in
     let parts : c.runs.left ≡ c.min-run.result + (c.runs.left - c.min-run.result) = omega (arith, c.min-run.ensures) in
     c.in_err-read_cells.ensures.err s m x.0 _
-    (run_begun {S = g.row.R.Denot} g.R.Source.read_gives g.R.Source.failure_count m s c.runs.r c.runs.reader c.args.head.now k c.runs.left c.min-run.result (c.runs.left - c.min-run.result) x.0 c.clear.new.self.items c.runs.tally.least_row c.runs.tally.least_col c.runs.tally.counted parts c.clear.ensures.items x.2))
+    (run_begun {S = g.row.R.Denot} g.R.Source.read_gives g.R.Source.failure_count m s c.runs.r c.runs.reader
+    c.args.head.now k c.runs.left c.min-run.result (c.runs.left - c.min-run.result) x.0 c.clear.new.self.items
+    c.runs.tally.least_row c.runs.tally.least_col c.runs.tally.counted parts c.clear.ensures.items x.2))
 
 pub returns-in_err-m-clause-err : goal.returns-in_err-m-clause-err
 returns-in_err-m-clause-err g c =
-    let p = err_from_is_err_and c.from_residual-in_err-m.result c.from_residual-in_err-m.ensures.1 in rw (p.1, p.2, c.in_err-m.ensures.err) (λ s m k h.
+    let p = err_from_is_err_and c.from_residual-in_err-m.result c.from_residual-in_err-m.ensures.1 in
+    rw (p.1, p.2, c.in_err-m.ensures.err) (λ s m k h.
     let x = c.runs.invariant.read s m k h in
     let parts : c.runs.left ≡ c.min-run.result + (c.runs.left - c.min-run.result) = omega (arith, c.min-run.ensures) in
-    stops_memory {S = g.row.R.Denot} g.R.Source.read_gives g.R.Source.failure_count (g.R.Source.at_end c.read_cells.new.r) m s c.read_cells.new.r c.read_cells.new.reader _
+    stops_memory {S = g.row.R.Denot} g.R.Source.read_gives g.R.Source.failure_count
+    (g.R.Source.at_end c.read_cells.new.r) m s c.read_cells.new.r c.read_cells.new.reader _
     (c.in_ok-read_cells.ensures.ok s m x.0 _
-    (run_begun {S = g.row.R.Denot} g.R.Source.read_gives g.R.Source.failure_count m s c.runs.r c.runs.reader c.args.head.now k c.runs.left c.min-run.result (c.runs.left - c.min-run.result) x.0 c.clear.new.self.items c.runs.tally.least_row c.runs.tally.least_col c.runs.tally.counted parts c.clear.ensures.items x.2)))
+    (run_begun {S = g.row.R.Denot} g.R.Source.read_gives g.R.Source.failure_count m s c.runs.r c.runs.reader
+    c.args.head.now k c.runs.left c.min-run.result (c.runs.left - c.min-run.result) x.0 c.clear.new.self.items
+    c.runs.tally.least_row c.runs.tally.least_col c.runs.tally.counted parts c.clear.ensures.items x.2)))
 
 pub runs-preserved : goal.runs-preserved
 runs-preserved g c =
@@ -46,17 +52,23 @@ runs-preserved g c =
     let sum_is = ap (λ (v : Matrix). v.counts) c.in_ok-m.ensures.ok in
     record {
       counted = c.in_ok-read_cells.ensures.counted;
-      held = total_held c.runs.m.counts c.in_ok-m.m.counts items c.clear.new.self.items c.args.tally.now.counted c.runs.tally.counted c.read_cells.new.tally.counted sum_is old.held c.clear.ensures.items c.in_ok-read_cells.ensures.added;
+      held = total_held c.runs.m.counts c.in_ok-m.m.counts items c.clear.new.self.items c.args.tally.now.counted
+          c.runs.tally.counted c.read_cells.new.tally.counted sum_is old.held c.clear.ensures.items
+          c.in_ok-read_cells.ensures.added;
       rows = ap (λ (v : Matrix). v.rows) c.in_ok-m.ensures.ok ∙ old.rows;
       cols = ap (λ (v : Matrix). v.cols) c.in_ok-m.ensures.ok ∙ old.cols;
       failures = c.in_ok-read_cells.ensures.no_failure ∙ old.failures;
       read = λ s m k h.
           let x = old.read s m k h in
-          let parts : c.runs.left ≡ c.min-run.result + (c.runs.left - c.min-run.result) = omega (arith, c.min-run.ensures) in (
+          let parts : c.runs.left ≡ c.min-run.result + (c.runs.left - c.min-run.result) = omega
+          (arith, c.min-run.ensures) in (
             x.0 ++ items,
             built_more x.0 items c.runs.m.counts c.in_ok-m.m.counts x.1 sum_is,
             c.in_ok-read_cells.ensures.ok s m x.0 _
-                (run_begun {S = g.row.R.Denot} g.R.Source.read_gives g.R.Source.failure_count m s c.runs.r c.runs.reader c.args.head.now k c.runs.left c.min-run.result (c.runs.left - c.min-run.result) x.0 c.clear.new.self.items c.runs.tally.least_row c.runs.tally.least_col c.runs.tally.counted parts c.clear.ensures.items x.2),
+                (run_begun {S = g.row.R.Denot} g.R.Source.read_gives g.R.Source.failure_count m s c.runs.r c.runs.reader
+                c.args.head.now k c.runs.left c.min-run.result
+                (c.runs.left - c.min-run.result) x.0 c.clear.new.self.items c.runs.tally.least_row
+                c.runs.tally.least_col c.runs.tally.counted parts c.clear.ensures.items x.2),
           );
     }
 
@@ -69,5 +81,6 @@ returns-clause-ok g c = λ s m k h.
       t,
       (λ i. matrix (inv.rows i) (inv.cols i) (sym x.1 i)),
       refl,
-      run_last {S = g.row.R.Denot} g.R.Source.read_gives g.R.Source.failure_count m s c.runs.r c.runs.reader c.args.head.now k c.runs.left t last x.2,
+      run_last {S = g.row.R.Denot} g.R.Source.read_gives g.R.Source.failure_count m s c.runs.r c.runs.reader
+          c.args.head.now k c.runs.left t last x.2,
     )

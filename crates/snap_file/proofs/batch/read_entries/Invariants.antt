@@ -14,10 +14,16 @@ invariant-runs g l = record {
   cols : l.m.cols ≡ l.head.setup.cols;
   failures : g.R.Source.failure_count l.r ≡ g.R.Source.failure_count l.fn.r;
   read : (s : g.row.R.Denot) (m : ℕ) (k : Tally → Reading) →
-      HasRead {S = g.row.R.Denot} g.R.Source.read_gives g.R.Source.failure_count m s l.fn.r l.fn.reader (cells_behind l.head l.count (no_cells l.fn.tally.counted) k) →
+      HasRead {S = g.row.R.Denot} g.R.Source.read_gives g.R.Source.failure_count m s l.fn.r l.fn.reader
+      (cells_behind l.head l.count (no_cells l.fn.tally.counted) k) →
       (done : List Cell) × (built_of done ≡ l.m.counts)
       × HasRead {S = g.row.R.Denot} g.R.Source.read_gives g.R.Source.failure_count m s l.r l.reader
-      (cells_behind l.head l.left (let t : Tally = record { cells = done; least_row = l.tally.least_row; least_col = l.tally.least_col; counted = l.tally.counted } in t) k);
+      (cells_behind l.head l.left (let t : Tally = record {
+        cells = done;
+        least_row = l.tally.least_row;
+        least_col = l.tally.least_col;
+        counted = l.tally.counted;
+      } in t) k);
 }
 
 abbrev pub decreases-runs : goal.decreases-runs

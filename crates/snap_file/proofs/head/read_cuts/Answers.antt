@@ -11,7 +11,9 @@ pub returns-in_err-cut-clause-err : goal.returns-in_err-cut-clause-err
 returns-in_err-cut-clause-err g c =
     let p = err_from_is_err_and c.from_residual.result c.from_residual.ensures.1 in rw (p.1, p.2) (λ s m k h.
     let next : c.args.count - c.loop-i.i ≡ suc (c.args.count - (c.loop-i.i + 1)) = omega (arith, c.loop-i-test.true) in
-    c.in_err-cut.ensures.err s m _ (cuts_step {S = g.row.R.Denot} g.R.Source.read_gives g.R.Source.failure_count m s c.loop-i.r c.loop-i.reader _ _ c.loop-i.least _ k (c.loop-i.invariant.read s m k h) next))
+    c.in_err-cut.ensures.err s m _
+    (cuts_step {S = g.row.R.Denot} g.R.Source.read_gives g.R.Source.failure_count m s c.loop-i.r c.loop-i.reader _ _
+    c.loop-i.least _ k (c.loop-i.invariant.read s m k h) next))
 
 pub loop-i-preserved : goal.loop-i-preserved
 loop-i-preserved g c =
@@ -23,18 +25,23 @@ loop-i-preserved g c =
     record {
       seven = length-set c.loop-i.cuts i cut ∙ old.seven;
       low = omega (arith, bounds);
-      rising = rising_more c.loop-i.cuts i c.loop-i.least cut old.rising c.in_ok-cut.ensures.bounds.0 c.in_ok-cut.ensures.bounds.1 (omega (arith, c.loop-i-test.true, c.requires.few, old.seven));
+      rising = rising_more c.loop-i.cuts i c.loop-i.least cut old.rising c.in_ok-cut.ensures.bounds.0
+          c.in_ok-cut.ensures.bounds.1 (omega (arith, c.loop-i-test.true, c.requires.few, old.seven));
       failures = c.in_ok-cut.ensures.no_failure ∙ old.failures;
       read = λ s m k h.
-          subst (λ (l : List ℕ). HasRead {S = g.row.R.Denot} g.R.Source.read_gives g.R.Source.failure_count m s c.next_u64_in.new.r c.next_u64_in.new.self (cuts_behind (c.args.count - (i + 1)) (cut + 1) l k))
+          subst (λ (l : List ℕ). HasRead {S = g.row.R.Denot} g.R.Source.read_gives g.R.Source.failure_count m s
+          c.next_u64_in.new.r c.next_u64_in.new.self (cuts_behind (c.args.count - (i + 1)) (cut + 1) l k))
           (sym (take_more_set c.loop-i.cuts i cut (omega (arith, c.loop-i-test.true, c.requires.few, old.seven))))
-          (c.in_ok-cut.ensures.ok s m _ (cuts_step {S = g.row.R.Denot} g.R.Source.read_gives g.R.Source.failure_count m s c.loop-i.r c.loop-i.reader _ (c.args.count - (i + 1)) c.loop-i.least (take i c.loop-i.cuts) k (old.read s m k h) next));
+          (c.in_ok-cut.ensures.ok s m _ (cuts_step {S = g.row.R.Denot} g.R.Source.read_gives g.R.Source.failure_count m
+          s c.loop-i.r c.loop-i.reader _ (c.args.count - (i + 1)) c.loop-i.least (take i c.loop-i.cuts) k
+          (old.read s m k h) next));
     }
 
 pub returns-clause-ok : goal.returns-clause-ok
 returns-clause-ok g c = λ s m k h.
     let last : c.loop-i.i ≡ c.args.count = omega (arith, c.loop-i-test.false, c.loop-i.auto.i-end) in
-    cuts_done {S = g.row.R.Denot} g.R.Source.read_gives g.R.Source.failure_count m s c.loop-i.r c.loop-i.reader (c.args.count - c.loop-i.i) c.loop-i.least (take c.loop-i.i c.loop-i.cuts) (take c.args.count c.loop-i.cuts) k
+    cuts_done {S = g.row.R.Denot} g.R.Source.read_gives g.R.Source.failure_count m s c.loop-i.r c.loop-i.reader
+    (c.args.count - c.loop-i.i) c.loop-i.least (take c.loop-i.i c.loop-i.cuts) (take c.args.count c.loop-i.cuts) k
     (c.loop-i.invariant.read s m k h) (omega (arith, last)) (ap (λ (n : ℕ). take n c.loop-i.cuts) last)
 
 pub returns-clause-cuts : goal.returns-clause-cuts

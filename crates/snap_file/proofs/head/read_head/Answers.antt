@@ -15,66 +15,102 @@ returns-in_err-_mark-clause-err g c =
 pub returns-in_err-_version-clause-err : goal.returns-in_err-_version-clause-err
 unfolding head
 returns-in_err-_version-clause-err g c =
-    let p = err_from_is_err_and c.from_residual-in_err-_version.result c.from_residual-in_err-_version.ensures.1 in rw (p.1, p.2) (λ s m k h.
+    let p = err_from_is_err_and c.from_residual-in_err-_version.result c.from_residual-in_err-_version.ensures.1 in
+    rw (p.1, p.2) (λ s m k h.
     c.in_err-_version.ensures.err s m _ (c.in_ok-_mark.ensures.ok s m _ h))
 
 pub returns-in_err-rows-clause-err : goal.returns-in_err-rows-clause-err
 unfolding head
 returns-in_err-rows-clause-err g c =
-    let p = err_from_is_err_and c.from_residual-in_err-rows.result c.from_residual-in_err-rows.ensures.1 in rw (p.1, p.2) (λ s m k h.
+    let p = err_from_is_err_and c.from_residual-in_err-rows.result c.from_residual-in_err-rows.ensures.1 in
+    rw (p.1, p.2) (λ s m k h.
     c.in_err-rows.ensures.err s m _ (c.in_ok-_version.ensures.ok s m _ (c.in_ok-_mark.ensures.ok s m _ h)))
 
 pub returns-in_err-cols-clause-err : goal.returns-in_err-cols-clause-err
 unfolding head
 returns-in_err-cols-clause-err g c =
-    let p = err_from_is_err_and c.from_residual-in_err-cols.result c.from_residual-in_err-cols.ensures.1 in rw (p.1, p.2) (λ s m k h.
-    c.in_err-cols.ensures.err s m _ (c.in_ok-rows.ensures.ok s m _ (c.in_ok-_version.ensures.ok s m _ (c.in_ok-_mark.ensures.ok s m _ h))))
+    let p = err_from_is_err_and c.from_residual-in_err-cols.result c.from_residual-in_err-cols.ensures.1 in
+    rw (p.1, p.2) (λ s m k h.
+    c.in_err-cols.ensures.err s m _ (c.in_ok-rows.ensures.ok s m _
+    (c.in_ok-_version.ensures.ok s m _ (c.in_ok-_mark.ensures.ok s m _ h))))
 
 pub returns-in_err-cut_count-clause-err : goal.returns-in_err-cut_count-clause-err
 unfolding head
 returns-in_err-cut_count-clause-err g c =
-    let p = err_from_is_err_and c.from_residual-in_err-cut_count.result c.from_residual-in_err-cut_count.ensures.1 in rw (p.1, p.2) (λ s m k h.
-    c.in_err-cut_count.ensures.err s m _ (c.in_ok-cols.ensures.ok s m _ (c.in_ok-rows.ensures.ok s m _ (c.in_ok-_version.ensures.ok s m _ (c.in_ok-_mark.ensures.ok s m _ h)))))
+    let p = err_from_is_err_and c.from_residual-in_err-cut_count.result c.from_residual-in_err-cut_count.ensures.1 in
+    rw (p.1, p.2) (λ s m k h.
+    c.in_err-cut_count.ensures.err s m _ (c.in_ok-cols.ensures.ok s m _
+    (c.in_ok-rows.ensures.ok s m _ (c.in_ok-_version.ensures.ok s m _ (c.in_ok-_mark.ensures.ok s m _ h)))))
 
 pub returns-in_err-cuts-clause-err : goal.returns-in_err-cuts-clause-err
 unfolding head
 returns-in_err-cuts-clause-err g c =
-    let p = err_from_is_err_and c.from_residual-in_err-cuts.result c.from_residual-in_err-cuts.ensures.1 in rw (p.1, p.2) (λ s m k h.
-    c.in_err-cuts.ensures.err s m _ (c.in_ok-cut_count.ensures.ok s m _ (c.in_ok-cols.ensures.ok s m _ (c.in_ok-rows.ensures.ok s m _ (c.in_ok-_version.ensures.ok s m _ (c.in_ok-_mark.ensures.ok s m _ h))))))
+    let p = err_from_is_err_and c.from_residual-in_err-cuts.result c.from_residual-in_err-cuts.ensures.1 in
+    rw (p.1, p.2) (λ s m k h.
+    c.in_err-cuts.ensures.err s m _ (c.in_ok-cut_count.ensures.ok s m _
+    (c.in_ok-cols.ensures.ok s m _ (c.in_ok-rows.ensures.ok s m _
+    (c.in_ok-_version.ensures.ok s m _ (c.in_ok-_mark.ensures.ok s m _ h))))))
 
 pub returns-in_err-shards-clause-err : goal.returns-in_err-shards-clause-err
 unfolding head
 returns-in_err-shards-clause-err g c =
-    let p = err_from_is_err_and c.from_residual-in_err-shards.result c.from_residual-in_err-shards.ensures.1 in rw (p.1, p.2) (λ s m k h.
-    c.in_err-shards.ensures.err s m _ (c.in_ok-cuts.ensures.ok s m _ (c.in_ok-cut_count.ensures.ok s m _ (c.in_ok-cols.ensures.ok s m _ (c.in_ok-rows.ensures.ok s m _ (c.in_ok-_version.ensures.ok s m _ (c.in_ok-_mark.ensures.ok s m _ h)))))))
+    let p = err_from_is_err_and c.from_residual-in_err-shards.result c.from_residual-in_err-shards.ensures.1 in
+    rw (p.1, p.2) (λ s m k h.
+    c.in_err-shards.ensures.err s m _ (c.in_ok-cuts.ensures.ok s m _
+    (c.in_ok-cut_count.ensures.ok s m _ (c.in_ok-cols.ensures.ok s m _
+    (c.in_ok-rows.ensures.ok s m _ (c.in_ok-_version.ensures.ok s m _ (c.in_ok-_mark.ensures.ok s m _ h)))))))
 
 pub returns-in_err-limit-clause-err : goal.returns-in_err-limit-clause-err
 unfolding head
 returns-in_err-limit-clause-err g c =
-    let p = err_from_is_err_and c.from_residual-in_err-limit.result c.from_residual-in_err-limit.ensures.1 in rw (p.1, p.2) (λ s m k h.
-    c.in_err-limit.ensures.err s m _ (c.in_ok-shards.ensures.ok s m _ (c.in_ok-cuts.ensures.ok s m _ (c.in_ok-cut_count.ensures.ok s m _ (c.in_ok-cols.ensures.ok s m _ (c.in_ok-rows.ensures.ok s m _ (c.in_ok-_version.ensures.ok s m _ (c.in_ok-_mark.ensures.ok s m _ h))))))))
+    let p = err_from_is_err_and c.from_residual-in_err-limit.result c.from_residual-in_err-limit.ensures.1 in
+    rw (p.1, p.2) (λ s m k h.
+    c.in_err-limit.ensures.err s m _ (c.in_ok-shards.ensures.ok s m _
+    (c.in_ok-cuts.ensures.ok s m _ (c.in_ok-cut_count.ensures.ok s m _
+    (c.in_ok-cols.ensures.ok s m _ (c.in_ok-rows.ensures.ok s m _
+    (c.in_ok-_version.ensures.ok s m _ (c.in_ok-_mark.ensures.ok s m _ h))))))))
 
 pub returns-in_err-max_batches-clause-err : goal.returns-in_err-max_batches-clause-err
 unfolding head
 returns-in_err-max_batches-clause-err g c =
-    let p = err_from_is_err_and c.from_residual-in_err-max_batches.result c.from_residual-in_err-max_batches.ensures.1 in rw (p.1, p.2) (λ s m k h.
-    c.in_err-max_batches.ensures.err s m _ (c.in_ok-limit.ensures.ok s m _ (c.in_ok-shards.ensures.ok s m _ (c.in_ok-cuts.ensures.ok s m _ (c.in_ok-cut_count.ensures.ok s m _ (c.in_ok-cols.ensures.ok s m _ (c.in_ok-rows.ensures.ok s m _ (c.in_ok-_version.ensures.ok s m _ (c.in_ok-_mark.ensures.ok s m _ h)))))))))
+    let p = err_from_is_err_and c.from_residual-in_err-max_batches.result c.from_residual-in_err-max_batches.ensures.1
+    in rw (p.1, p.2) (λ s m k h.
+    c.in_err-max_batches.ensures.err s m _ (c.in_ok-limit.ensures.ok s m _
+    (c.in_ok-shards.ensures.ok s m _ (c.in_ok-cuts.ensures.ok s m _
+    (c.in_ok-cut_count.ensures.ok s m _ (c.in_ok-cols.ensures.ok s m _
+    (c.in_ok-rows.ensures.ok s m _ (c.in_ok-_version.ensures.ok s m _ (c.in_ok-_mark.ensures.ok s m _ h)))))))))
 
 pub returns-in_err-batches-clause-err : goal.returns-in_err-batches-clause-err
 unfolding head
 returns-in_err-batches-clause-err g c =
-    let p = err_from_is_err_and c.from_residual-in_err-batches.result c.from_residual-in_err-batches.ensures.1 in rw (p.1, p.2) (λ s m k h.
-    c.in_err-batches.ensures.err s m _ (c.in_ok-max_batches.ensures.ok s m _ (c.in_ok-limit.ensures.ok s m _ (c.in_ok-shards.ensures.ok s m _ (c.in_ok-cuts.ensures.ok s m _ (c.in_ok-cut_count.ensures.ok s m _ (c.in_ok-cols.ensures.ok s m _ (c.in_ok-rows.ensures.ok s m _ (c.in_ok-_version.ensures.ok s m _ (c.in_ok-_mark.ensures.ok s m _ h))))))))))
+    let p = err_from_is_err_and c.from_residual-in_err-batches.result c.from_residual-in_err-batches.ensures.1 in
+    rw (p.1, p.2) (λ s m k h.
+    c.in_err-batches.ensures.err s m _ (c.in_ok-max_batches.ensures.ok s m _
+    (c.in_ok-limit.ensures.ok s m _ (c.in_ok-shards.ensures.ok s m _
+    (c.in_ok-cuts.ensures.ok s m _ (c.in_ok-cut_count.ensures.ok s m _
+    (c.in_ok-cols.ensures.ok s m _ (c.in_ok-rows.ensures.ok s m _
+    (c.in_ok-_version.ensures.ok s m _ (c.in_ok-_mark.ensures.ok s m _ h))))))))))
 
 pub returns-in_err-total-clause-err : goal.returns-in_err-total-clause-err
 unfolding head
 returns-in_err-total-clause-err g c =
-    let p = err_from_is_err_and c.from_residual-in_err-total.result c.from_residual-in_err-total.ensures.1 in rw (p.1, p.2) (λ s m k h.
-    c.in_err-total.ensures.err s m _ (c.in_ok-batches.ensures.ok s m _ (c.in_ok-max_batches.ensures.ok s m _ (c.in_ok-limit.ensures.ok s m _ (c.in_ok-shards.ensures.ok s m _ (c.in_ok-cuts.ensures.ok s m _ (c.in_ok-cut_count.ensures.ok s m _ (c.in_ok-cols.ensures.ok s m _ (c.in_ok-rows.ensures.ok s m _ (c.in_ok-_version.ensures.ok s m _ (c.in_ok-_mark.ensures.ok s m _ h)))))))))))
+    let p = err_from_is_err_and c.from_residual-in_err-total.result c.from_residual-in_err-total.ensures.1 in
+    rw (p.1, p.2) (λ s m k h.
+    c.in_err-total.ensures.err s m _ (c.in_ok-batches.ensures.ok s m _
+    (c.in_ok-max_batches.ensures.ok s m _ (c.in_ok-limit.ensures.ok s m _
+    (c.in_ok-shards.ensures.ok s m _ (c.in_ok-cuts.ensures.ok s m _
+    (c.in_ok-cut_count.ensures.ok s m _ (c.in_ok-cols.ensures.ok s m _
+    (c.in_ok-rows.ensures.ok s m _ (c.in_ok-_version.ensures.ok s m _ (c.in_ok-_mark.ensures.ok s m _ h)))))))))))
 
 pub returns-clause-ok : goal.returns-clause-ok
 unfolding head
 returns-clause-ok g c = λ s m k h.
-    subst (λ (x : Setting). HasRead {S = g.row.R.Denot} g.R.Source.read_gives g.R.Source.failure_count m s c.next_u64_in-7.new.r c.next_u64_in-7.new.self
-    (k (let y : Head = record { setup = x; batches = c.in_ok-batches.batches; total = c.in_ok-total.total } in y))) (sym c.setup_of-setup.ensures)
-    (c.in_ok-total.ensures.ok s m _ (c.in_ok-batches.ensures.ok s m _ (c.in_ok-max_batches.ensures.ok s m _ (c.in_ok-limit.ensures.ok s m _ (c.in_ok-shards.ensures.ok s m _ (c.in_ok-cuts.ensures.ok s m _ (c.in_ok-cut_count.ensures.ok s m _ (c.in_ok-cols.ensures.ok s m _ (c.in_ok-rows.ensures.ok s m _ (c.in_ok-_version.ensures.ok s m _ (c.in_ok-_mark.ensures.ok s m _ h)))))))))))
+    subst (λ (x : Setting). HasRead {S = g.row.R.Denot} g.R.Source.read_gives g.R.Source.failure_count m s
+    c.next_u64_in-7.new.r c.next_u64_in-7.new.self
+    (k (let y : Head = record { setup = x; batches = c.in_ok-batches.batches; total = c.in_ok-total.total } in y)))
+    (sym c.setup_of-setup.ensures)
+    (c.in_ok-total.ensures.ok s m _ (c.in_ok-batches.ensures.ok s m _
+    (c.in_ok-max_batches.ensures.ok s m _ (c.in_ok-limit.ensures.ok s m _
+    (c.in_ok-shards.ensures.ok s m _ (c.in_ok-cuts.ensures.ok s m _
+    (c.in_ok-cut_count.ensures.ok s m _ (c.in_ok-cols.ensures.ok s m _
+    (c.in_ok-rows.ensures.ok s m _ (c.in_ok-_version.ensures.ok s m _ (c.in_ok-_mark.ensures.ok s m _ h)))))))))))

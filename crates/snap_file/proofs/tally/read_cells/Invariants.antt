@@ -13,6 +13,8 @@ invariant-loop-i g l = record {
   added : l.tally.counted + cell_total l.fn.tally.cells.items ≡ l.fn.tally.counted + cell_total l.tally.cells.items;
   failures : g.R.Source.failure_count l.r ≡ g.R.Source.failure_count l.fn.r;
   read : (s : g.row.R.Denot) (m : ℕ) (done : List Cell) (k : Tally → Reading) →
-      HasRead {S = g.row.R.Denot} g.R.Source.read_gives g.R.Source.failure_count m s l.fn.r l.fn.reader (cells_behind l.head l.count (tally_of done l.fn.tally) k) →
-      HasRead {S = g.row.R.Denot} g.R.Source.read_gives g.R.Source.failure_count m s l.r l.reader (cells_behind l.head (l.count - l.i) (tally_of done l.tally) k);
+      HasRead {S = g.row.R.Denot} g.R.Source.read_gives g.R.Source.failure_count m s l.fn.r l.fn.reader
+      (cells_behind l.head l.count (tally_of done l.fn.tally) k) →
+      HasRead {S = g.row.R.Denot} g.R.Source.read_gives g.R.Source.failure_count m s l.r l.reader
+      (cells_behind l.head (l.count - l.i) (tally_of done l.tally) k);
 }

@@ -13,7 +13,8 @@ pub returns-in_err-write_batch-clause-err : goal.returns-in_err-write_batch-clau
 returns-in_err-write_batch-clause-err g c =
     let p = err_from_is_err_and c.from_residual.result c.from_residual.ensures.1 in rw (p.1, p.2)
     (c.in_err-write_batch.ensures.err c.args.w.now _ _
-    (batch_next _ _ c.args.w.now _ _ c.loop-batch.writer c.args.batches.now c.loop-batch.batch-index c.batch-item.result c.deref.result.now c.loop-batch-test.true c.batch-item.is c.deref.ensures c.loop-batch.invariant.written))
+    (batch_next _ _ c.args.w.now _ _ c.loop-batch.writer c.args.batches.now c.loop-batch.batch-index c.batch-item.result
+    c.deref.result.now c.loop-batch-test.true c.batch-item.is c.deref.ensures c.loop-batch.invariant.written))
 
 pub loop-batch-preserved : goal.loop-batch-preserved
 loop-batch-preserved g c =
@@ -22,7 +23,9 @@ loop-batch-preserved g c =
       failures = c.in_ok-write_batch.ensures.failures ∙ old.failures;
       counted = omega (arith, c.in_ok-write_batch.ensures.count, old.counted);
       written = c.in_ok-write_batch.ensures.ok c.args.w.now _ _
-          (batch_next _ _ c.args.w.now _ _ c.loop-batch.writer c.args.batches.now c.loop-batch.batch-index c.batch-item.result c.deref.result.now c.loop-batch-test.true c.batch-item.is c.deref.ensures old.written);
+          (batch_next _ _ c.args.w.now _ _ c.loop-batch.writer c.args.batches.now c.loop-batch.batch-index
+          c.batch-item.result c.deref.result.now c.loop-batch-test.true c.batch-item.is c.deref.ensures
+          old.written);
     }
 
 pub loop-batch-init : goal.loop-batch-init
@@ -30,9 +33,12 @@ loop-batch-init g c =
     let list = values c.args.batches.now in
     let count : length c.args.batches.now ≡ length list = sym (length-map c.args.batches.now arc_value) in
     let front : c.push_head.new.writer.pending ≡ head_bytes c.args.setup.now (length list) (list_total list) =
-    c.push_head.ensures.pending ∙ ap (λ (n : ℕ). head_bytes c.args.setup.now n c.total_of.result) count ∙ ap (head_bytes c.args.setup.now (length list)) c.total_of.ensures in
+    c.push_head.ensures.pending ∙ ap (λ (n : ℕ). head_bytes c.args.setup.now n c.total_of.result) count ∙
+    ap (head_bytes c.args.setup.now (length list)) c.total_of.ensures in
     record {
       failures = refl;
       counted = omega (arith, c.push_head.ensures.taken, c.push_head.ensures.length, c.new-writer.ensures.taken);
-      written = writing_begun _ _ c.args.w.now (head_bytes c.args.setup.now (length list) (list_total list)) (flat_map batch_bytes list) c.push_head.new.writer (c.push_head.ensures.taken ∙ c.new-writer.ensures.taken) front;
+      written = writing_begun _ _ c.args.w.now (head_bytes c.args.setup.now (length list) (list_total list))
+          (flat_map batch_bytes list) c.push_head.new.writer
+          (c.push_head.ensures.taken ∙ c.new-writer.ensures.taken) front;
     }

@@ -8,6 +8,7 @@ abbrev pub invariant-loop-batch : goal.invariant-loop-batch
 invariant-loop-batch g l = record {
   failures : g.W.Sink.failure_count l.w ≡ g.W.Sink.failure_count l.fn.w;
   counted : l.writer.taken + length l.writer.pending ≤ 118 + 2 ^ 70 * l.batch-index;
-  written : IsWriting {S = g.row.W.Denot} g.W.Sink.write_takes g.W.Sink.failure_count l.fn.w l.w (file l.setup (values l.batches)) l.writer
+  written : IsWriting {S = g.row.W.Denot} g.W.Sink.write_takes g.W.Sink.failure_count l.fn.w l.w
+      (file l.setup (values l.batches)) l.writer
       (flat_map batch_bytes (values (drop l.batch-index l.batches)));
 }

@@ -6,11 +6,13 @@ use Rattle.wire_proto.proofs.answering.answer.Goals as goal
 pub returns-in-Stop-clause-err : goal.returns-in-Stop-clause-err
 returns-in-Stop-clause-err g c = λ kept rest h.
     let front_is = rw c.in-Stop.is at h in
-    closes_ends _ _ _ _ kept _ _ _ _ _ _ _ _ c.close.ensures (rest, front_is, refl, c.stopping.ensures) (stop rest front_is refl c.stopping.ensures)
+    closes_ends _ _ _ _ kept _ _ _ _ _ _ _ _ c.close.ensures (rest, front_is, refl, c.stopping.ensures)
+    (stop rest front_is refl c.stopping.ensures)
 
 pub returns-in-Ok : goal.returns-in-Ok
 returns-in-Ok g c = record {
-  ok = sends_answered _ _ _ _ _ _ _ _ _ _ _ _ c.in-Ok.ensures.reply c.send_reply.ensures.short c.send_reply.ensures.sends;
+  ok = sends_answered _ _ _ _ _ _ _ _ _ _ _ _ c.in-Ok.ensures.reply c.send_reply.ensures.short
+      c.send_reply.ensures.sends;
   err = sends_ended _ _ _ _ _ _ _ _ _ _ _ _ c.in-Ok.ensures.reply c.send_reply.ensures.sends;
   fact = c.ask.ensures.fact;
   setup = c.ask.ensures.setup;
@@ -21,7 +23,8 @@ returns-in-Err g c = record {
   ok = tt;
   err = λ kept rest h.
       let lacks = asked _ rest h c.in-Err.ensures.none in
-      closes_ends _ _ _ _ kept _ _ _ _ _ _ _ _ c.close-in-Err.ensures (lacks, c.refused.ensures) (out lacks c.refused.ensures);
+      closes_ends _ _ _ _ kept _ _ _ _ _ _ _ _ c.close-in-Err.ensures (lacks, c.refused.ensures)
+      (out lacks c.refused.ensures);
   fact = c.ask.ensures.fact;
   setup = c.ask.ensures.setup;
 }

@@ -8,7 +8,9 @@ invariant-requests g l = record {
   fact : g.K.Keeper.fact l.keeper;
   setup : g.K.Keeper.setup_of l.keeper ≡ g.K.Keeper.setup_of l.initial.keeper;
   room : l.written + 33554432 * length l.frames ≤ l.initial.written + 33554432 * length l.initial.frames;
-  carries : Carries g.L.Source.read_gives g.L.Sink.write_takes g.L.Sink.failure_count g.K.Keeper.gives (g.K.Keeper.setup_of l.initial.keeper) l.initial.link l.link l.initial.keeper l.keeper l.initial.frames l.frames l.initial.written l.written 0;
+  carries : Carries g.L.Source.read_gives g.L.Sink.write_takes g.L.Sink.failure_count g.K.Keeper.gives
+      (g.K.Keeper.setup_of l.initial.keeper) l.initial.link l.link l.initial.keeper l.keeper l.initial.frames l.frames
+      l.initial.written l.written 0;
 }
 
 abbrev pub decreases-requests : goal.decreases-requests

@@ -15,17 +15,20 @@ returns-then-eq-clause-some c =
     let body = c.split_at.ensures.back in
     let size = ap length body in
     let same = (bytes_eq-Decides _ _).0 (sym c.eq.ensures ∙ c.if-eq.true) in
-    let head = sym c.split_at.ensures.front ∙ same ∙ c.as_slice.ensures.value ∙ c.text_head.ensures ∙ ap (head_bytes 133) size in
+    let head = sym c.split_at.ensures.front ∙ same ∙ c.as_slice.ensures.value ∙ c.text_head.ensures ∙
+    ap (head_bytes 133) size in
     subst (λ b. IsReplyFrame c.args.bytes.now (text b)) (sym body)
     (text_frame c.args.bytes.now c.requires.long (omega (arith, size, c.if-body.false)) head)
 
 pub returns-then-eq-clause-only : goal.returns-then-eq-clause-only
-returns-then-eq-clause-only c = λ r h. ap (λ v. Some v) (ap text c.split_at.ensures.back ∙ sym (decoded_text c.args.bytes.now r h c.requires.kind))
+returns-then-eq-clause-only c = λ r h. ap (λ v. Some v) (ap text c.split_at.ensures.back ∙
+    sym (decoded_text c.args.bytes.now r h c.requires.kind))
 
 pub returns-else-eq-clause-only : goal.returns-else-eq-clause-only
 returns-else-eq-clause-only c = λ r h.
     let size = ap length c.split_at.ensures.back in
-    let head = c.split_at.ensures.front ∙ text_head_is c.args.bytes.now r h c.requires.kind ∙ sym (ap (head_bytes 133) size)
+    let head = c.split_at.ensures.front ∙ text_head_is c.args.bytes.now r h c.requires.kind ∙
+    sym (ap (head_bytes 133) size)
     ∙ sym c.text_head.ensures ∙ sym c.as_slice.ensures.value in
     let yes = c.eq.ensures ∙ (bytes_eq-Decides _ _).1 head in
     let no = c.if-eq.false in absurd (cc)

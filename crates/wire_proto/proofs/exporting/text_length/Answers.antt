@@ -12,5 +12,6 @@ loop-cell-init c =
       cols = c.dims-rows.ensures.cols;
       within = rw same c.iter-cell-items.ensures.within;
       bound = let few = c.line_length-sum.ensures.few in omega (arith, few);
-      counted = length_begins c.args.m.now _ _ _ _ _ c.dims-rows.ensures.value c.entries.ensures (same ∙ c.iter-cell-items.ensures.order) c.line_length-sum.ensures.value;
+      counted = length_begins c.args.m.now _ _ _ _ _ c.dims-rows.ensures.value c.entries.ensures
+          (same ∙ c.iter-cell-items.ensures.order) c.line_length-sum.ensures.value;
     }

@@ -5,4 +5,10 @@ use Rattle.wire_proto.proofs.frames.open.Goals as goal
 
 pub returns-in-1 : goal.returns-in-1
 unfolding request_of number_at
-returns-in-1 c = rw (c.get_u64-client.ensures.value, c.get_u64-number.ensures.value, c.get_u64-number.ensures.rest, c.get_u64-client.ensures.rest, c.in-1.is) (rw (drop-drop 8 8 c.args.body) refl)
+returns-in-1 c = rw (
+  c.get_u64-client.ensures.value,
+  c.get_u64-number.ensures.value,
+  c.get_u64-number.ensures.rest,
+  c.get_u64-client.ensures.rest,
+  c.in-1.is,
+) (rw (drop-drop 8 8 c.args.body) refl)

@@ -11,8 +11,10 @@ returns-in-Some-fault_in c = bad_gives c.args.bytes.now c.in-Some-fault_in.fault
 
 pub returns-then-bytes-head : goal.returns-then-bytes-head
 returns-then-bytes-head c = front_part c.args.bytes.now c.in-Some.ensures.0
-    (rw (← c.in-Some.ensures.1, ← c.in-Some.ensures.2) (sym c.in_default-fault_in.ensures)) (rw (← c.in-Some.ensures.1) c.if-bytes-head.true)
+    (rw (← c.in-Some.ensures.1, ← c.in-Some.ensures.2) (sym c.in_default-fault_in.ensures))
+    (rw (← c.in-Some.ensures.1) c.if-bytes-head.true)
 
 pub returns : goal.returns
 returns c = rw (c.in-Some.ensures.1, c.in-Some.ensures.2) (looks_whole c.args.bytes.now c.in-Some.ensures.0
-    (rw (← c.in-Some.ensures.1, ← c.in-Some.ensures.2) (sym c.in_default-fault_in.ensures)) (rw (← c.in-Some.ensures.1) c.if-bytes-head.false))
+    (rw (← c.in-Some.ensures.1, ← c.in-Some.ensures.2) (sym c.in_default-fault_in.ensures))
+    (rw (← c.in-Some.ensures.1) c.if-bytes-head.false))

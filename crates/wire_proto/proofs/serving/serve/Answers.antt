@@ -8,9 +8,12 @@ pub returns-in-Err-clause-ends : goal.returns-in-Err-clause-ends
 returns-in-Err-clause-ends g c = (
   0,
   omega arith,
-  stops_ends {L = g.row.L.Denot} {S = g.row.K.Denot} g.L.Source.read_gives g.L.Sink.write_takes g.L.Sink.failure_count g.K.Keeper.gives (g.K.Keeper.setup_of c.args.keeper.now) g.L.Source.at_end
+  stops_ends {L = g.row.L.Denot} {S = g.row.K.Denot} g.L.Source.read_gives g.L.Sink.write_takes g.L.Sink.failure_count
+      g.K.Keeper.gives (g.K.Keeper.setup_of c.args.keeper.now) g.L.Source.at_end
       c.args.link.now c.refuse.new.link c.args.keeper.now c.args.keeper.now c.args.max_turns 0 c.refuse.result
-      (out_of_memory {L = g.row.L.Denot} {S = g.row.K.Denot} g.L.Source.read_gives g.L.Sink.write_takes g.L.Sink.failure_count g.K.Keeper.gives (g.K.Keeper.setup_of c.args.keeper.now) [] c.args.link.now c.refuse.new.link c.args.keeper.now 0 c.refuse.result
+      (out_of_memory {L = g.row.L.Denot} {S = g.row.K.Denot} g.L.Source.read_gives g.L.Sink.write_takes
+      g.L.Sink.failure_count g.K.Keeper.gives (g.K.Keeper.setup_of c.args.keeper.now) [] c.args.link.now
+      c.refuse.new.link c.args.keeper.now 0 c.refuse.result
       c.refuse.ensures c.args.link.now c.args.keeper.now 0 (stands_first _ _ _ _ _ _ _)),
 )
 
@@ -29,10 +32,14 @@ pub returns-in-Err-take_turn-clause-ends : goal.returns-in-Err-take_turn-clause-
 returns-in-Err-take_turn-clause-ends g c = (
   c.loop-turn.turn + 1,
   omega arith,
-  subst (λ v. Ends {L = g.row.L.Denot} {S = g.row.K.Denot} g.L.Source.read_gives g.L.Sink.write_takes g.L.Sink.failure_count g.K.Keeper.gives v g.L.Source.at_end c.args.link.now c.take_turn.new.link c.args.keeper.now c.take_turn.new.keeper c.args.max_turns (c.loop-turn.turn + 1) c.in-Err-take_turn.ended)
+  subst (λ v. Ends {L = g.row.L.Denot} {S = g.row.K.Denot} g.L.Source.read_gives g.L.Sink.write_takes
+      g.L.Sink.failure_count g.K.Keeper.gives v g.L.Source.at_end c.args.link.now c.take_turn.new.link c.args.keeper.now
+      c.take_turn.new.keeper c.args.max_turns (c.loop-turn.turn + 1) c.in-Err-take_turn.ended)
       c.loop-turn.invariant.setup
       (c.in-Err-take_turn.ensures.err c.args.link.now c.args.keeper.now c.loop-turn.turn c.args.max_turns
-      (subst (λ v. Stands {L = g.row.L.Denot} {S = g.row.K.Denot} g.L.Source.read_gives g.L.Sink.write_takes g.L.Sink.failure_count g.K.Keeper.gives v c.args.link.now c.loop-turn.link c.args.keeper.now c.loop-turn.keeper c.loop-turn.frames c.loop-turn.written c.loop-turn.turn)
+      (subst (λ v. Stands {L = g.row.L.Denot} {S = g.row.K.Denot} g.L.Source.read_gives g.L.Sink.write_takes
+      g.L.Sink.failure_count g.K.Keeper.gives v c.args.link.now c.loop-turn.link c.args.keeper.now
+      c.loop-turn.keeper c.loop-turn.frames c.loop-turn.written c.loop-turn.turn)
       (sym c.loop-turn.invariant.setup) c.loop-turn.invariant.stands)),
 )
 

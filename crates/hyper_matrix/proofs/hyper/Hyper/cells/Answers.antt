@@ -12,11 +12,18 @@ use Rattle.hyper_matrix.proofs.hyper.Hyper.cells.Goals as goal
 
 pub returns-clause-order : goal.returns-clause-order
 returns-clause-order c =
-    c.in_ok-push_all_cells.ensures ∙ ap (λ xs. map entry_of xs ++ all_cells c.deref.result.now) c.in_ok-cells.ensures.items ∙ ap all_cells c.deref.ensures.value
-    ∙ sym (entries-in_order (all_cells c.self.inside.blocks.items) c.self.invariant.holds.sorted) ∙ ap (λ (m : Matrix). entries m.counts) c.self.view_is
+    c.in_ok-push_all_cells.ensures ∙ ap (λ xs. map entry_of xs ++
+    all_cells c.deref.result.now) c.in_ok-cells.ensures.items ∙ ap all_cells c.deref.ensures.value
+    ∙ sym (entries-in_order (all_cells c.self.inside.blocks.items) c.self.invariant.holds.sorted) ∙
+    ap (λ (m : Matrix). entries m.counts) c.self.view_is
 
 pub returns-clause-within : goal.returns-clause-within
 returns-clause-within c =
-    let told : map entry_of c.push_all_cells.new.out.items ≡ all_cells c.self.inside.blocks.items = c.in_ok-push_all_cells.ensures ∙ ap (λ xs. map entry_of xs ++ all_cells c.deref.result.now) c.in_ok-cells.ensures.items ∙ ap all_cells c.deref.ensures.value in
+    let told : map entry_of c.push_all_cells.new.out.items ≡
+    all_cells c.self.inside.blocks.items = c.in_ok-push_all_cells.ensures ∙
+    ap (λ xs. map entry_of xs ++ all_cells c.deref.result.now) c.in_ok-cells.ensures.items ∙
+    ap all_cells c.deref.ensures.value in
     subst (λ (m : Matrix). AreWithin m.rows m.cols c.push_all_cells.new.out.items) c.self.view_is
-    (cells_within c.self.inside.rows c.self.inside.cols c.push_all_cells.new.out.items (subst (AllByRecursion (LiesWithin c.self.inside.rows c.self.inside.cols)) (sym told) c.self.invariant.holds.within))
+    (cells_within c.self.inside.rows c.self.inside.cols c.push_all_cells.new.out.items
+    (subst (AllByRecursion (LiesWithin c.self.inside.rows c.self.inside.cols))
+    (sym told) c.self.invariant.holds.within))

@@ -6,7 +6,9 @@ use Rattle.hyper_matrix.proofs.MatrixLaws.{same_values}
 use Rattle.hyper_matrix.proofs.hyper.Hyper.copy.Goals as goal
 
 pub assemble-requires : goal.assemble-requires
-assemble-requires c = same_values c.self.inside.blocks.items _ _ _ _ c.self.invariant.holds c.in_ok-blocks.ensures.blocks (c.in_ok-blocks.ensures.same ∙ ap all_cells c.deref.ensures.value)
+assemble-requires c = same_values c.self.inside.blocks.items _ _ _ _ c.self.invariant.holds
+    c.in_ok-blocks.ensures.blocks (c.in_ok-blocks.ensures.same ∙ ap all_cells c.deref.ensures.value)
 
 pub returns : goal.returns
-returns c = c.in_ok-m.ensures ∙ ap (λ es. matrix c.self.inside.rows c.self.inside.cols (from_entries es)) (c.in_ok-blocks.ensures.same ∙ ap all_cells c.deref.ensures.value) ∙ c.self.view_is
+returns c = c.in_ok-m.ensures ∙ ap (λ es. matrix c.self.inside.rows c.self.inside.cols (from_entries es))
+    (c.in_ok-blocks.ensures.same ∙ ap all_cells c.deref.ensures.value) ∙ c.self.view_is

@@ -10,25 +10,43 @@ use Rattle.hyper_matrix.proofs.MatrixLaws.{holds_added, added_to_none, kept_tota
 use Rattle.hyper_matrix.proofs.hyper.Hyper.into_sum_with_cells.Goals as goal
 
 pub returns-then-len-eq0 : goal.returns-then-len-eq0
-returns-then-len-eq0 c = added_to_none c.self.inside.rows c.self.inside.cols _ c.args.self _ c.args.cells.now c.self.view_is (no_blocks _ _ c.self.inside.blocks.items _ c.self.view_is (omega arith)) c.in_ok-sum.ensures
+returns-then-len-eq0 c = added_to_none c.self.inside.rows c.self.inside.cols _ c.args.self _ c.args.cells.now
+    c.self.view_is (no_blocks _ _ c.self.inside.blocks.items _ c.self.view_is (omega arith)) c.in_ok-sum.ensures
 
 pub overflow_add-sum : goal.overflow_add-sum
-overflow_add-sum c = omega (arith, kept_total _ _ _ _ c.self.invariant.holds, ap (λ (m : Matrix). total m.counts) c.self.view_is, c.requires.fits)
+overflow_add-sum c = omega (
+  arith,
+  kept_total _ _ _ _ c.self.invariant.holds,
+  ap (λ (m : Matrix). total m.counts) c.self.view_is,
+  c.requires.fits,
+)
 
 pub sum_blocks-requires-clause-cells : goal.sum_blocks-requires-clause-cells
 sum_blocks-requires-clause-cells c = sorted_rising c.args.cells.now c.requires.rises
 
 pub sum_blocks-requires-clause-fits : goal.sum_blocks-requires-clause-fits
-sum_blocks-requires-clause-fits c = omega (arith, kept_total _ _ _ _ c.self.invariant.holds, c.self.invariant.holds.kept, ap (λ (m : Matrix). total m.counts) c.self.view_is, c.requires.fits)
+sum_blocks-requires-clause-fits c = omega (
+  arith,
+  kept_total _ _ _ _ c.self.invariant.holds,
+  c.self.invariant.holds.kept,
+  ap (λ (m : Matrix). total m.counts) c.self.view_is,
+  c.requires.fits,
+)
 
 pub assemble-requires : goal.assemble-requires
-assemble-requires c = subst (λ n. Holds c.self.inside.rows c.self.inside.cols (c.self.inside.sum + n) c.in_ok-blocks.blocks.items) (sym c.total_of.ensures)
-    (holds_added _ _ _ c.self.inside.blocks.items c.in_ok-blocks.blocks.items c.args.cells.now c.self.invariant.holds (sorted_rising c.args.cells.now c.requires.rises)
-    (entries_within c.self.inside.rows c.self.inside.cols c.args.cells.now (subst (λ (m : Matrix). AreWithin m.rows m.cols c.args.cells.now) (sym c.self.view_is) c.requires.within))
+assemble-requires c = subst (λ n. Holds c.self.inside.rows c.self.inside.cols
+    (c.self.inside.sum + n) c.in_ok-blocks.blocks.items) (sym c.total_of.ensures)
+    (holds_added _ _ _ c.self.inside.blocks.items c.in_ok-blocks.blocks.items c.args.cells.now c.self.invariant.holds
+    (sorted_rising c.args.cells.now c.requires.rises)
+    (entries_within c.self.inside.rows c.self.inside.cols c.args.cells.now
+    (subst (λ (m : Matrix). AreWithin m.rows m.cols c.args.cells.now) (sym c.self.view_is) c.requires.within))
     c.in_ok-blocks.ensures.blocks c.in_ok-blocks.ensures.sorted c.in_ok-blocks.ensures.sums).0
 
 pub returns : goal.returns
 returns c = c.in_ok-m.ensures ∙ ap (matrix c.self.inside.rows c.self.inside.cols)
-    (holds_added _ _ _ c.self.inside.blocks.items c.in_ok-blocks.blocks.items c.args.cells.now c.self.invariant.holds (sorted_rising c.args.cells.now c.requires.rises)
-    (entries_within c.self.inside.rows c.self.inside.cols c.args.cells.now (subst (λ (m : Matrix). AreWithin m.rows m.cols c.args.cells.now) (sym c.self.view_is) c.requires.within))
-    c.in_ok-blocks.ensures.blocks c.in_ok-blocks.ensures.sorted c.in_ok-blocks.ensures.sums).1 ∙ ap (λ (m : Matrix). matrix m.rows m.cols (ewise_add m.counts (built_of c.args.cells.now))) c.self.view_is
+    (holds_added _ _ _ c.self.inside.blocks.items c.in_ok-blocks.blocks.items c.args.cells.now c.self.invariant.holds
+    (sorted_rising c.args.cells.now c.requires.rises)
+    (entries_within c.self.inside.rows c.self.inside.cols c.args.cells.now
+    (subst (λ (m : Matrix). AreWithin m.rows m.cols c.args.cells.now) (sym c.self.view_is) c.requires.within))
+    c.in_ok-blocks.ensures.blocks c.in_ok-blocks.ensures.sorted c.in_ok-blocks.ensures.sums).1 ∙
+    ap (λ (m : Matrix). matrix m.rows m.cols (ewise_add m.counts (built_of c.args.cells.now))) c.self.view_is

@@ -13,10 +13,12 @@ new-requires c = subst AreBlocks (sym c.deref.ensures.value) c.self.invariant.ho
 pub returns-clause-order : goal.returns-clause-order
 returns-clause-order c =
     c.new.ensures ∙ ap all_cells c.deref.ensures.value
-    ∙ sym (entries-in_order (all_cells c.self.inside.blocks.items) c.self.invariant.holds.sorted) ∙ ap (λ (m : Matrix). entries m.counts) c.self.view_is
+    ∙ sym (entries-in_order (all_cells c.self.inside.blocks.items) c.self.invariant.holds.sorted) ∙
+    ap (λ (m : Matrix). entries m.counts) c.self.view_is
 
 pub returns-clause-within : goal.returns-clause-within
 returns-clause-within c =
-    let told : c.new.result ≡ all_cells c.self.inside.blocks.items = c.new.ensures ∙ ap all_cells c.deref.ensures.value in
+    let told : c.new.result ≡ all_cells c.self.inside.blocks.items = c.new.ensures ∙
+    ap all_cells c.deref.ensures.value in
     subst (λ (m : Matrix). AllByRecursion (LiesWithin m.rows m.cols) c.new.result) c.self.view_is
     (subst (AllByRecursion (LiesWithin c.self.inside.rows c.self.inside.cols)) (sym told) c.self.invariant.holds.within)

@@ -8,4 +8,8 @@ pub returns-clause-value : goal.returns-clause-value
 returns-clause-value c = kept_total _ _ _ _ c.self.invariant.holds ∙ ap (λ (m : Matrix). total m.counts) c.self.view_is
 
 pub returns-clause-fits : goal.returns-clause-fits
-returns-clause-fits c = omega (arith, kept_total _ _ _ _ c.self.invariant.holds, ap (λ (m : Matrix). total m.counts) c.self.view_is)
+returns-clause-fits c = omega (
+  arith,
+  kept_total _ _ _ _ c.self.invariant.holds,
+  ap (λ (m : Matrix). total m.counts) c.self.view_is,
+)

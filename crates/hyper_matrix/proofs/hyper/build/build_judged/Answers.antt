@@ -8,7 +8,8 @@ use Rattle.hyper_matrix.proofs.RefusalLaws.{no_faults}
 use Rattle.hyper_matrix.proofs.hyper.build.build_judged.Goals as goal
 
 pub returns-then-cells-eq0-clause-value : goal.returns-then-cells-eq0-clause-value
-returns-then-cells-eq0-clause-value c = c.new.ensures ∙ ap (matrix c.args.rows c.args.cols) (built_of-none c.args.cells.now (omega arith))
+returns-then-cells-eq0-clause-value c = c.new.ensures ∙ ap (matrix c.args.rows c.args.cols)
+    (built_of-none c.args.cells.now (omega arith))
 
 pub of_list-requires-clause-within : goal.of_list-requires-clause-within
 of_list-requires-clause-within c = ((no_faults c.args.rows c.args.cols c.args.cells.now).0 c.requires.judged).within
@@ -23,10 +24,19 @@ pub of_list-requires-2-clause-rises : goal.of_list-requires-2-clause-rises
 of_list-requires-2-clause-rises c = subst Rise (sym c.deref.ensures.value) c.in_ok-list.ensures.rises
 
 pub of_list-requires-2-clause-within : goal.of_list-requires-2-clause-within
-of_list-requires-2-clause-within c = subst (AreWithin c.args.rows c.args.cols) (sym c.deref.ensures.value) (c.in_ok-list.ensures.within c.args.rows c.args.cols ((no_faults c.args.rows c.args.cols c.args.cells.now).0 c.requires.judged).within)
+of_list-requires-2-clause-within c = subst (AreWithin c.args.rows c.args.cols) (sym c.deref.ensures.value)
+    (c.in_ok-list.ensures.within c.args.rows c.args.cols
+    ((no_faults c.args.rows c.args.cols c.args.cells.now).0 c.requires.judged).within)
 
 pub of_list-requires-2-clause-fits : goal.of_list-requires-2-clause-fits
-of_list-requires-2-clause-fits c = omega (arith, ap cell_total c.deref.ensures.value, c.in_ok-list.ensures.total, ((no_faults c.args.rows c.args.cols c.args.cells.now).0 c.requires.judged).fits)
+of_list-requires-2-clause-fits c = omega (
+  arith,
+  ap cell_total c.deref.ensures.value,
+  c.in_ok-list.ensures.total,
+  ((no_faults c.args.rows c.args.cols c.args.cells.now).0 c.requires.judged).fits,
+)
 
 pub returns-clause-value : goal.returns-clause-value
-returns-clause-value c = c.in_ok-m-2.ensures ∙ ap (λ cells. matrix c.args.rows c.args.cols (built_of cells)) c.deref.ensures.value ∙ ap (matrix c.args.rows c.args.cols) (built_of-same _ _ c.in_ok-list.ensures.sums)
+returns-clause-value c = c.in_ok-m-2.ensures ∙ ap (λ cells. matrix c.args.rows c.args.cols
+    (built_of cells)) c.deref.ensures.value ∙ ap (matrix c.args.rows c.args.cols)
+    (built_of-same _ _ c.in_ok-list.ensures.sums)

@@ -15,13 +15,16 @@ rows-preserved c = record {
       elim c.if-row-k.branch [
         | then-row-k+in_ok-push_row w ↦
             ap (λ (v : _). map entry_of v.items ++ rest) w.out-is
-            ∙ row_taken c.args.s c.args.k c.rows.i rows (map entry_of c.rows.out.items) (map entry_of w.push_row.new.out.items) (omega (arith, c.rows-test.true, c.row_count.ensures.count))
+            ∙ row_taken c.args.s c.args.k c.rows.i rows (map entry_of c.rows.out.items)
+            (map entry_of w.push_row.new.out.items) (omega (arith, c.rows-test.true, c.row_count.ensures.count))
             (ap (λ n. n % c.args.k) (sym c.row-row.ensures) ∙ w.if-row-k.true)
-            (w.in_ok-push_row.ensures ∙ (λ j. map entry_of c.rows.out.items ++ at_places (c.row-row.ensures j) (w.entries.ensures.value j)))
+            (w.in_ok-push_row.ensures ∙ (λ j. map entry_of c.rows.out.items ++
+            at_places (c.row-row.ensures j) (w.entries.ensures.value j)))
             ∙ c.rows.invariant.told
         | else-row-k w ↦
             ap (λ (v : _). map entry_of v.items ++ rest) w.out-is
-            ∙ row_left c.args.s c.args.k c.rows.i rows (map entry_of c.rows.out.items) (omega (arith, c.rows-test.true, c.row_count.ensures.count))
+            ∙ row_left c.args.s c.args.k c.rows.i rows (map entry_of c.rows.out.items)
+            (omega (arith, c.rows-test.true, c.row_count.ensures.count))
             (λ e. w.if-row-k.false (ap (λ n. n % c.args.k) c.row-row.ensures ∙ e))
             ∙ c.rows.invariant.told
       ];

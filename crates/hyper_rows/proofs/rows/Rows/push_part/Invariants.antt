@@ -7,7 +7,8 @@ use Rattle.hyper_rows.proofs.rows.Rows.push_part.Given as goal
 abbrev pub invariant-rows : goal.invariant-rows
 invariant-rows l = record {
   within : l.i ≤ length l.self;
-  told : map entry_of l.out.items ++ part_entries l.s l.k (cells_of (drop l.i l.self)) ≡ map entry_of l.fn.out.items ++ part_entries l.s l.k (cells_of l.self);
+  told : map entry_of l.out.items ++ part_entries l.s l.k (cells_of (drop l.i l.self)) ≡ map entry_of l.fn.out.items ++
+      part_entries l.s l.k (cells_of l.self);
 }
 
 abbrev pub decreases-rows : goal.decreases-rows

@@ -18,5 +18,6 @@ returns g c =
       seen.0,
       seen.1,
       seen.2,
-      sum_shown g.N.Named.setup c.self.inside.setup c.in_ok-views.views.items c.deref.result.now seen.0 c.in_ok-sum.sum c.in_ok-sum.ensures c.self.invariant.0 c.deref.ensures.value seen.3,
+      sum_shown g.N.Named.setup c.self.inside.setup c.in_ok-views.views.items c.deref.result.now seen.0 c.in_ok-sum.sum
+          c.in_ok-sum.ensures c.self.invariant.0 c.deref.ensures.value seen.3,
     )

@@ -4,7 +4,8 @@ use Rattle.snap_file.proofs.WriteLemmas.{writing_whole}
 use Rattle.snap_file.proofs.writer.ByteWriter.finish.Goals as goal
 
 pub returns-clause-ok : goal.returns-clause-ok
-returns-clause-ok g c = λ s all h. writing_whole _ _ s _ all _ (c.in_ok-flush.ensures.ok s all [] h) c.in_ok-flush.ensures.pending
+returns-clause-ok g c = λ s all h. writing_whole _ _ s _ all _
+    (c.in_ok-flush.ensures.ok s all [] h) c.in_ok-flush.ensures.pending
 
 pub returns-in_err-flush-clause-err : goal.returns-in_err-flush-clause-err
 returns-in_err-flush-clause-err g c =

@@ -4,7 +4,8 @@ use Rattle.snap_file.proofs.writer.ByteWriter.flush.Goals as goal
 
 pub returns-in-Err-clause-err : goal.returns-in-Err-clause-err
 returns-in-Err-clause-err g c = λ s all left h.
-    writing_stopped _ _ s _ _ all left _ _ (rw (← c.self.view_is) at h) (rw c.as_slice-bytes.ensures.value at c.in-Err.ensures.err)
+    writing_stopped _ _ s _ _ all left _ _ (rw (← c.self.view_is) at h)
+    (rw c.as_slice-bytes.ensures.value at c.in-Err.ensures.err)
 
 pub returns-clause-ok : goal.returns-clause-ok
 returns-clause-ok g c = λ s all left h.
