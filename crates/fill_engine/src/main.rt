@@ -1,6 +1,5 @@
 //! Fills a book, or a whole engine of one thread, with generated batches, and prints how much was accepted, so that
-//! what
-//! it takes of time and memory can be measured from outside (`bench/memory.py`).
+//! what it takes of time and memory can be measured from outside (`bench/memory.py`).
 //!
 //!     fill_engine book|engine BATCHES CELLS SHARDS
 #![tactic(auto)]

@@ -1,6 +1,5 @@
 -- The status that the program ends with after a server's fault: 2 for settings, 3 for what a snapshot says, 4 for a
--- device,
--- an address or a thread, 5 for memory, 6 for records that differ.
+-- device, an address or a thread, 5 for memory, 6 for records that differ.
 use Rattle.std.specs.Prelude.{ℕ}
 use Rattle.hhm.specs.Reports.{file_status}
 use Rattle.socket_server.specs.declared.fault.ServerFault.{ServerFault}

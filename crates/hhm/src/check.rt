@@ -132,8 +132,7 @@ fn write_check<W: Sink>(
 }
 
 /// Reads the snapshot under `path`, and writes the line `rows R cols C shards K batches B total T entries E`, where E
-/// is
-/// the number of cells of the sum of all batches.
+/// is the number of cells of the sum of all batches.
 ///
 /// Takes the memory of the batches and of layers with the cuts 4,096, 65,536 and 1,048,576.
 ///

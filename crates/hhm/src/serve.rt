@@ -42,8 +42,7 @@ impl fmt::Display for ServeFault {
 
 impl ServeFault {
     /// The status: 2 for settings, 3 for what a snapshot says, 4 for a device, an address or a thread, 5 for memory, 6
-    /// for
-    /// records that differ.
+    /// for records that differ.
     pub fn status(&self) -> u8
         ensures { result ≡ server_status self.now.fault }
     {

@@ -115,8 +115,7 @@ fn write_sum<W: Sink>(w: &mut W, m: &Hyper) -> Result<(), WriteFault>
 ///
 /// The cells of the text's list go into layers with these cuts (none to seven, rising, each 1 to 2^40 entries), in
 /// blocks of at most 4,096; the last layer may be kept in two parts. Then the sum of the layers is written, its cells
-/// by
-/// row and then by column. The cuts decide time and memory, and never what is written.
+/// by row and then by column. The cuts decide time and memory, and never what is written.
 ///
 /// # Errors
 ///

@@ -1,8 +1,7 @@
 //! Rows from a list of cells that is in order.
 //!
 //! One pass makes the rows: a pending cell takes up the counts of its place, and is pushed when the next place comes,
-//! so
-//! that no entry is written twice.
+//! so that no entry is written twice.
 ghost use Rattle.std.specs.Prelude.{◌≡◌, ℕ, [], ◌<◌, ◌^◌, ◌++◌, OnOk, IfOk, length};
 ghost use Rattle.hyper_rows.specs.Counts.{built};
 ghost use Rattle.hyper_rows.specs.Rows.{AreRows, InOrder, rows_of, cells_of};

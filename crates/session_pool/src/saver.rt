@@ -38,9 +38,8 @@ impl Saver {
     }
 
     /// Saves the batches that an engine has accepted, as its book has them at a moment of the call, and answers how
-    /// many
-    /// they are. It waits for whoever saves, and then for the book's lock, but holds that for the listing alone, which
-    /// copies no batch; puts go on while the file is written.
+    /// many they are. It waits for whoever saves, and then for the book's lock, but holds that for the listing alone,
+    /// which copies no batch; puts go on while the file is written.
     ///
     /// # Errors
     ///

@@ -86,8 +86,7 @@ pub fn save<R: Files>(
 /// # Errors
 ///
 /// `NotFound` where the file system says that there is no such file, `OpenFailed` for any other fault of opening,
-/// `Snap`
-/// with the file's first fault or a failed read, and `Memory` where memory was refused.
+/// `Snap` with the file's first fault or a failed read, and `Memory` where memory was refused.
 pub fn load<R: Files>(
     rt: &R,
     alloc: Global,

@@ -31,10 +31,9 @@ impl From<AllocError> for SnapFault {
 /// # Errors
 ///
 /// The first fault of the bytes in the order of the format, each as soon as its bytes are there: `BadMark`,
-/// `BadVersion`,
-/// `BadHead`, `BadBatch`, `OutOfOrder`, `RepeatedNumber`, `TotalDiffers`, `ExtraBytes`, `Truncated` where the source
-/// ended, and `TooLong` at byte `max_bytes + 1`. `Read` where a read failed, and `Memory` where a growth was refused.
-/// What was read has been read, and nothing of it is kept.
+/// `BadVersion`, `BadHead`, `BadBatch`, `OutOfOrder`, `RepeatedNumber`, `TotalDiffers`, `ExtraBytes`, `Truncated` where
+/// the source ended, and `TooLong` at byte `max_bytes + 1`. `Read` where a read failed, and `Memory` where a growth was
+/// refused. What was read has been read, and nothing of it is kept.
 pub fn read_snapshot<R: Source>(
     alloc: Global,
     r: &mut R,

@@ -306,8 +306,7 @@ fn serve_settings<
 }
 
 /// Serves at TCP and Unix addresses until a session ends with a Stop or all sessions were numbered, and answers what
-/// was
-/// accepted, which was saved where a snapshot's path is given.
+/// was accepted, which was saved where a snapshot's path is given.
 ///
 /// Writes a line for each listener once it is bound, `listening tcp ADDRESS` with the port that it got or
 /// `listening unix PATH`, and at the end `stopped batches B total T`. The Unix socket's path is removed before any

@@ -110,8 +110,7 @@ fn serve_ends<
 }
 
 /// Serves at the listeners until the acceptors and the workers have ended. A fault of the pool, and a thread that can't
-/// be
-/// started, set the stop flag.
+/// be started, set the stop flag.
 pub fn serve_doors<
     N: Named + Send + Sync,
     H: Ledger + Send + Sync,

@@ -57,8 +57,7 @@ pub fn bad_headers_stay()
 {}
 
 /// Over the engine of one thread the messages are answered in one way alone: of the accepted list before and the
-/// messages,
-/// the bytes and the list after are a function.
+/// messages, the bytes and the list after are a function.
 pub fn messages_have_one_answer()
     ensures some { (setup : Setting) (list : List Submission) (ms : List Message) →
         (bytes : List ℕ) × (after : List Submission) × IsAnswered setup list ms bytes after }

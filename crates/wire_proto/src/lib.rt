@@ -1,11 +1,10 @@
 //! Frames over a link, and the session that answers them.
 //!
 //! A client sends frames, each a header of five bytes and a body, and gets a frame for each. `Frames` cuts a stream
-//! into
-//! requests, however its bytes come; `encode_request` and `decode_reply` are the client's side. `serve` is the loop of
-//! one session: it reads, answers every whole request in order, and ends when the link does, at a bad header, at a
-//! `Stop`, or where memory or the link refuses. It works over any `Keeper`, a store that answers calls, and over any
-//! link; what it does is a run of the keeper (specs/Sessions.antt), and whatever the keeper keeps is kept.
+//! into requests, however its bytes come; `encode_request` and `decode_reply` are the client's side. `serve` is the
+//! loop of one session: it reads, answers every whole request in order, and ends when the link does, at a bad header,
+//! at a `Stop`, or where memory or the link refuses. It works over any `Keeper`, a store that answers calls, and over
+//! any link; what it does is a run of the keeper (specs/Sessions.antt), and whatever the keeper keeps is kept.
 #![tactic(auto)]
 
 mod answering;

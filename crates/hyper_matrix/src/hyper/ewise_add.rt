@@ -45,9 +45,8 @@ impl Hyper {
     /// Of the matrix with more blocks each block into whose range the other puts nothing is moved, and each other block
     /// is added up in the memory that it or the block before it had: more is taken only where there is no room for its
     /// rows, or where the sum passes 256 cells and is split. A block that some other matrix shares stays there as it
-    /// was,
-    /// and its sum takes memory of its own. The time is that of a pointer for each block and of a copy of the blocks
-    /// that are touched.
+    /// was, and its sum takes memory of its own. The time is that of a pointer for each block and of a copy of the
+    /// blocks that are touched.
     ///
     /// # Errors
     ///
