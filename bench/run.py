@@ -173,21 +173,24 @@ def measure_all(arguments, folder):
     return all([run_stream(kind, arguments, generator, baseline, folder) for kind in arguments.streams.split()])
 
 
+def run_or_check(parser, measure_all, check):
+    """Measures the program that the command line names, or with `--check` compares what it answers. Ends with 1 where
+    something is wrong."""
+    parser.add_argument("hhm", help="the built program")
+    parser.add_argument("--check", action="store_true", help="compare the answers on short streams, and time nothing")
+    arguments = parser.parse_args()
+    arguments.hhm = os.path.abspath(arguments.hhm)
+    with tempfile.TemporaryDirectory(prefix="hhm-bench-") as folder:
+        is_well = (check if arguments.check else measure_all)(arguments, folder)
+    sys.exit(0 if is_well else 1)
+
+
 def main():
     parser = argparse.ArgumentParser(description=__doc__.split("\n")[0])
-    parser.add_argument("hhm", help="the built program")
     parser.add_argument("--entries", type=int, default=2_000_000)
     parser.add_argument("--streams", default=STREAMS)
     parser.add_argument("--repeat", type=int, default=5)
-    parser.add_argument("--check", action="store_true", help="compare the outputs on short streams, and time nothing")
-    arguments = parser.parse_args()
-    arguments.hhm = os.path.abspath(arguments.hhm)
-    folder = tempfile.mkdtemp(prefix="hhm-bench-")
-    try:
-        is_well = check(arguments, folder) if arguments.check else measure_all(arguments, folder)
-    finally:
-        shutil.rmtree(folder)
-    sys.exit(0 if is_well else 1)
+    run_or_check(parser, measure_all, check)
 
 
 if __name__ == "__main__":

@@ -30,14 +30,13 @@ import socket
 import struct
 import subprocess
 import sys
-import tempfile
 import time
 
 HERE = os.path.dirname(os.path.abspath(__file__))
 sys.path.insert(0, os.path.join(HERE, "..", "clients", "python"))
 sys.path.insert(1, HERE)
 from hhm_client import Client, put_frame, text_of  # noqa: E402
-from run import SIZE, STREAMS, build, short_stream  # noqa: E402
+from run import SIZE, STREAMS, build, run_or_check, short_stream  # noqa: E402
 
 # Cells and batches of a stream that is checked and not timed.
 CHECKED_CELLS, CHECKED_BATCH = 20_000, 500
@@ -372,22 +371,13 @@ def check(arguments, folder):
 
 def main():
     parser = argparse.ArgumentParser(description=__doc__.split("\n")[0])
-    parser.add_argument("hhm", help="the built program")
     parser.add_argument("--cells", type=int, default=2_000_000)
     parser.add_argument("--batches", default="1000 100000", help="the cells of a batch")
     parser.add_argument("--streams", help="of those of stream.rs; powerlaw and uniform, and all to check")
     parser.add_argument("--connections", type=int, default=2)
     parser.add_argument("--depth", type=int, default=4, help="puts on the way on each connection")
     parser.add_argument("--repeat", type=int, default=3)
-    parser.add_argument("--check", action="store_true", help="compare the answers on short streams, and time nothing")
-    arguments = parser.parse_args()
-    arguments.hhm = os.path.abspath(arguments.hhm)
-    folder = tempfile.mkdtemp(prefix="hhm-bench-")
-    try:
-        is_well = check(arguments, folder) if arguments.check else measure_all(arguments, folder)
-    finally:
-        shutil.rmtree(folder)
-    sys.exit(0 if is_well else 1)
+    run_or_check(parser, measure_all, check)
 
 
 if __name__ == "__main__":

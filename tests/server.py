@@ -5,10 +5,9 @@
 
 What is wanted was worked out by hand from docs/FORMATS.md. It prints a line for each check that fails and at the end
 `N passed, M failed`; the status is 1 where one fails. With `--long` there are fifty kills during saves, ten thousand
-connections in turn and five hundred at once, a million puts in one go, and, where it may mount one, a file system that
-is full: a minute or two. Linux, and nothing but Python's own library and the client of clients/python.
+connections in turn and five hundred at once, and a million puts in one go: a minute or two. A file system that is full
+is tried where one may be mounted. Linux, and nothing but Python's own library and the client of clients/python.
 """
-import contextlib
 import os
 import random
 import resource
@@ -354,37 +353,58 @@ def saves_are_whole(kills):
         saved = int(words[7])
 
 
-def saves_need_room(mounted):
-    """A save for which there is no room is refused, leaves the file as it was, and the server goes on."""
-    folder = os.path.join(FOLDER, "mounted" if mounted else "full")
+def saves_need_room(mounted, is_freed):
+    """A save for which there is no room is refused, leaves the file as it was, and the server goes on. With room again
+    it saves."""
+    folder = os.path.join(FOLDER, f"room {mounted} {is_freed}")
     path = os.path.join(folder, "kept.snap")
     os.makedirs(folder)
     mount = ["mount", "-t", "tmpfs", "-o", "size=64k", "tmpfs", folder]
     if mounted and subprocess.run(mount, capture_output=True).returncode != 0:
         return  # only root may, and not everywhere
-    save = struct.pack(">IB", 0, 6)
     try:
         with Server(["--rows", "1000000", "--cols", "1000000", "--snapshot", path]) as server:
             with Client(unix=server.path, client=7, rows=10**6, cols=10**6, timeout=WAIT) as hhm:
                 hhm.put(1, [(0, 0, 5)])
                 check("a save with room", hhm.save(), 1)
-                with open(path, "rb") as file:
-                    kept = file.read()
+                kept = content(path)
                 if not mounted:
                     os.symlink("/dev/full", path + ".new")
                 hhm.put(2, [(n, n, 1) for n in range(5000)])
-                check("a save without room", server.talk([save]), refused(42))
+                for _ in range(3):
+                    check("a save without room", server.talk([struct.pack(">IB", 0, 6)]), refused(42))
+                check("the file is as it was", content(path), kept)
                 check("the server goes on", hhm.status(), Status(2, 5005))
+                if is_freed:
+                    make_room(folder, path, mounted)
+                    check("a save with room again", hhm.save(), 2)
                 hhm.stop()
             output, error = server.process.communicate(timeout=WAIT)
-            check("a last save without room", (output, error, server.process.returncode), ("", "hhm: file: Write\n", 4))
-        with open(path, "rb") as file:
-            check("the file is as it was", file.read(), kept)
+        ended = (output, error, server.process.returncode)
+        if is_freed:
+            check("an end with room", ended, ("stopped batches 2 total 5005\n", "", 0))
+        else:
+            check("an end without room", ended, ("", "hhm: file: Write\n", 4))
+            check("the file is as it was", content(path), kept)
         run = subprocess.run([PROGRAM, "check", path], capture_output=True, text=True, timeout=WAIT)
-        check("and has the first batch", run.stdout, "rows 1000000 cols 1000000 shards 8 batches 1 total 5 entries 1\n")
+        sums = "batches 2 total 5005 entries 5000" if is_freed else "batches 1 total 5 entries 1"
+        check("what the file has", run.stdout, f"rows 1000000 cols 1000000 shards 8 {sums}\n")
     finally:
         if mounted:
             subprocess.run(["umount", folder], capture_output=True)
+
+
+def make_room(folder, path, mounted):
+    """Makes room for a snapshot for which there was none."""
+    if mounted:
+        subprocess.run(["mount", "-o", "remount,size=8m", folder], check=True)
+    else:
+        os.remove(path + ".new")
+
+
+def content(path):
+    with open(path, "rb") as file:
+        return file.read()
 
 
 def many_put_at_once():
@@ -516,62 +536,6 @@ def stops_in_order():
             server.ends(f"four Stops {turn}", 0, 0)
 
 
-@contextlib.contextmanager
-def small_file_system(size):
-    """The path of a file system in memory that has room for so many bytes; None where none may be mounted."""
-    path = os.path.join(FOLDER, "small")
-    os.makedirs(path, exist_ok=True)
-    words = ["mount", "-t", "tmpfs", "-o", f"size={size}", "hhm-test", path]
-    try:
-        is_mounted = subprocess.run(words, capture_output=True).returncode == 0
-    except OSError:
-        is_mounted = False
-    try:
-        yield path if is_mounted else None
-    finally:
-        if is_mounted:
-            subprocess.run(["umount", path], check=True)
-
-
-def full_disks_lose_nothing():
-    """A save for which there is no room is refused; the file before stands, and the server goes on."""
-    with small_file_system(1 << 20) as folder:
-        if folder is None:
-            print("no file system may be mounted: a full one is left out")
-            return
-        path = os.path.join(folder, "full.snap")
-        words = ["--rows", "1000000", "--cols", "1000000", "--snapshot", path]
-        line = "rows 1000000 cols 1000000 shards 8 batches 1 total 10000 entries 10000\n"
-        for is_freed in [True, False]:
-            with Server(words) as server:
-                with Client(unix=server.path, client=1, rows=10**6, cols=10**6, timeout=WAIT) as hhm:
-                    hhm.put(0, [(n, n, 1) for n in range(10_000)])
-                    check("a save of 240 KB", hhm.save(), 1)
-                    hhm.put(1, [(n, n + 1, 1) for n in range(50_000)])
-                    for _ in range(3):
-                        try:
-                            check("a save of 1.4 MB", hhm.save(), "SaveFailed")
-                        except Refused as fault:
-                            check("a save of 1.4 MB", fault.name, "SaveFailed")
-                    run = subprocess.run([PROGRAM, "check", path], capture_output=True, text=True, timeout=WAIT)
-                    check("the file before stands", run.stdout, line)
-                    check("puts go on", hhm.put(2, [(1, 1, 1)]), (2, 60_001))
-                    if is_freed:
-                        subprocess.run(["mount", "-o", "remount,size=8388608", folder], check=True)
-                        check("with room again", hhm.save(), 3)
-                    hhm.stop()
-                output, error = server.process.communicate(timeout=WAIT)
-                if is_freed:
-                    check("an end with room", (output, error), ("stopped batches 3 total 60001\n", ""))
-                    os.remove(path)
-                    subprocess.run(["mount", "-o", "remount,size=1048576", folder], check=True)
-                else:
-                    check("an end without room", (output, server.process.returncode), ("", 4))
-                    check("its fault is of a file", error.startswith("hhm: file: "), True)
-        run = subprocess.run([PROGRAM, "check", path], capture_output=True, text=True, timeout=WAIT)
-        check("the file before stands at the end", run.stdout, line)
-
-
 def main():
     global PROGRAM, FOLDER
     PROGRAM = os.path.abspath(sys.argv[1])
@@ -588,14 +552,13 @@ def main():
         snapshots_outlive_a_kill()
         saves_are_whole(50 if is_long else 5)
         for mounted in [False, True]:
-            saves_need_room(mounted)
+            for is_freed in [False, True]:
+                saves_need_room(mounted, is_freed)
         many_put_at_once()
         bad_clients_do_no_harm(5000 if is_long else 200)
         connections_come_and_go(*((10_000, 500) if is_long else (300, 200)))
         many_frames_in_one_go(1_000_000 if is_long else 5000)
         stops_in_order()
-        if is_long:
-            full_disks_lose_nothing()
     print(f"{passed} passed, {failed} failed")
     return 1 if failed else 0
 
