@@ -5,3 +5,5 @@ pub mod KeptLemmas
 pub mod RowLemmas
 pub mod CarryLemmas
 pub mod FirstLayerLemmas
+pub mod RunLemmas
+pub mod KeptRunLemmas
