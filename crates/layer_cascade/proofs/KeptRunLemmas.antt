@@ -2,10 +2,10 @@
 use Rattle.std.proofs.Common.{◌≡◌, ℕ, ◌+◌, ◌<◌, ◌≤◌, ◌^◌, List, [], ◌∷◌, ◌++◌, sym, ◌∙◌, ap, subst, arith}
 use Rattle.std.specs.declared.sync.Arc.{Arc}
 use Rattle.std.specs.Arc.{arc_value}
-use Rattle.std.specs.FinMap.{empty, len, len-empty}
+use Rattle.std.specs.FinMap.{len, len-empty}
 use Rattle.std.proofs.lemmas.List.{map-append}
 use Rattle.cells.specs.Bounds.{IsDimension}
-use Rattle.hyper_matrix.specs.Counts.{Counts, place_cmp, ewise_add, total}
+use Rattle.hyper_matrix.specs.Counts.{place_cmp, ewise_add, total}
 use Rattle.hyper_matrix.specs.Matrix.{Matrix, matrix}
 use Rattle.hyper_matrix.proofs.CountLaws.{ewise_add-empty, ewise_add_comm, total-ewise_add, total-empty}
 use Rattle.layer_cascade.specs.Cascade.{content}

@@ -7,3 +7,4 @@ pub mod CarryLemmas
 pub mod FirstLayerLemmas
 pub mod RunLemmas
 pub mod KeptRunLemmas
+pub mod StepLemmas

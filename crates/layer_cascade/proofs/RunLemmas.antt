@@ -1,6 +1,6 @@
 -- Matrices side by side: how many entries their sum has, and the sum of two parts of them.
 use Rattle.std.proofs.Common.{◌≡◌, ℕ, ◌+◌, ◌≤◌, Bool, true, false, cond, T, is_some, List, [], ◌∷◌, ◌++◌, length, take}
-use Rattle.std.proofs.Common.{◌<◌, ◌^◌, drop, get_or, Option, Some, None, sym, ◌∙◌, ap, subst, refl, arith}
+use Rattle.std.proofs.Common.{◌<◌, ◌^◌, drop, get_or, Some, None, sym, ◌∙◌, ap, subst, refl, arith}
 use Rattle.std.specs.declared.sync.Arc.{Arc}
 use Rattle.std.specs.Arc.{arc_value}
 use Rattle.std.specs.Ordering.{eq_by_cmp, is_lt}
@@ -126,7 +126,8 @@ module _ {Z : Type 0} (runs left right : List (Arc Matrix Z)) (is : runs ≡ lef
 
   pub runs_together : (r c : ℕ) (sum rest : Matrix) → sum ≡ matrix r c (content (all_counts (values left))) →
       rest ≡ matrix r c (content (all_counts (values right))) → record sum {
-      counts = ewise_add sum.counts rest.counts } ≡ matrix r c (content (all_counts (values runs)))
+        counts = ewise_add sum.counts rest.counts;
+      } ≡ matrix r c (content (all_counts (values runs)))
   runs_together r c sum rest sum_is rest_is =
       (λ i. matrix (sum_is i).rows (sum_is i).cols (ewise_add (sum_is i).counts (rest_is i).counts))
       ∙ ap (matrix r c) (sym content-parts)

@@ -53,10 +53,7 @@ pub fn cascade_end(
         }
     }
     let place = cuts.len();
-    let layer = match layers[place].taking(alloc, sum, u64::MAX)? {
-        Step::Ends(layer) => layer,
-        Step::Carries(carried) => Layer::of(alloc, carried)?,
-    };
+    let layer = layers[place].taking_any(alloc, sum)?;
     Ok(CascadeEnd { place, layer })
 }
 

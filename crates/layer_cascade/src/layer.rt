@@ -225,4 +225,17 @@ impl Layer {
         let layer = Layer::of(alloc, sum)?;
         Ok(Step::Ends(layer))
     }
+
+    /// Takes a matrix in, whatever it has: the last layer has no cut. More than `MAX_RUNS` runs are added up.
+    pub fn taking_any(&self, alloc: Global, m: Hyper) -> Result<Layer, AllocError>
+        requires rows { m.rows ≡ self.now.rows }
+        requires cols { m.cols ≡ self.now.cols }
+        requires fits { total m.counts + total self.now.counts < 2 ^ 64 }
+        ensures { IfOk result (λ layer. layer ≡ joined self.now m) }
+    {
+        match self.taking(alloc, m, u64::MAX)? {
+            Step::Ends(layer) => Ok(layer),
+            Step::Carries(sum) => Layer::of(alloc, sum),
+        }
+    }
 }

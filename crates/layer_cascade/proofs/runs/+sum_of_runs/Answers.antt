@@ -1,10 +1,7 @@
 use Rattle.std.proofs.Common.{ap, ◌∙◌, arith, rules}
 use Rattle.hyper_matrix.specs.Counts.{total}
 use Rattle.hyper_matrix.specs.Matrix.{Matrix}
-use Rattle.hyper_matrix.proofs.CountLaws.{total-ewise_add}
-use Rattle.layer_cascade.specs.Cascade.{content}
-use Rattle.layer_cascade.specs.Shared.{values, all_counts}
-use Rattle.layer_cascade.proofs.RunLemmas.{content-parts, have_parts, total-parts, run_alone, runs_together}
+use Rattle.layer_cascade.proofs.RunLemmas.{have_parts, total-parts, run_alone, runs_together}
 use Rattle.layer_cascade.proofs.runs.+sum_of_runs.Goals as goal
 
 pub sum_of_runs-requires : goal.sum_of_runs-requires

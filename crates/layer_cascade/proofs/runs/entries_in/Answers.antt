@@ -1,9 +1,6 @@
-use Rattle.std.proofs.Common.{ℕ, ◌+◌, take, drop, sym, ap, ◌∙◌, arith}
+use Rattle.std.proofs.Common.{ℕ, ◌+◌, take, sym, ap, ◌∙◌, arith}
 use Rattle.std.specs.FinMap.{len, len-empty, entries}
-use Rattle.std.proofs.lemmas.List.{take-map}
-use Rattle.std.specs.Arc.{arc_value}
 use Rattle.hyper_matrix.specs.Counts.{place_cmp, total}
-use Rattle.hyper_matrix.specs.Matrix.{Matrix}
 use Rattle.layer_cascade.specs.Cascade.{content}
 use Rattle.layer_cascade.specs.Runs.{count_new}
 use Rattle.layer_cascade.specs.Shared.{values, all_counts}

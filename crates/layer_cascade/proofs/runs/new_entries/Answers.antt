@@ -1,6 +1,5 @@
-use Rattle.std.proofs.Common.{◌+◌, is_some, sym, ap, ◌∙◌, arith}
+use Rattle.std.proofs.Common.{is_some, sym, ap, ◌∙◌, arith}
 use Rattle.std.proofs.lemmas.Bool.{eqb-true}
-use Rattle.std.specs.FinMap.{entries}
 use Rattle.hyper_matrix.specs.Cells.{entry_of}
 use Rattle.layer_cascade.specs.Cascade.{content}
 use Rattle.layer_cascade.specs.Runs.{count_new}

@@ -1,4 +1,4 @@
-use Rattle.std.proofs.Common.{ap, subst, sym, ◌≤◌, inl, inr, arith}
+use Rattle.std.proofs.Common.{ap, subst, sym, inl, inr, arith}
 use Rattle.hyper_matrix.specs.Matrix.{Matrix}
 use Rattle.layer_cascade.specs.Shared.{values, HaveDims}
 use Rattle.layer_cascade.proofs.layer.Layer.get.Goals as goal

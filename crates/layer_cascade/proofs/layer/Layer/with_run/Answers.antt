@@ -15,8 +15,13 @@ invariant_of-result c =
     (c.requires.rows ∙ sym (ap (λ (m : Matrix). m.rows) c.self.view_is))
     (c.requires.cols ∙ sym (ap (λ (m : Matrix). m.cols) c.self.view_is))
     (omega (arith, c.total.ensures.value, c.self.invariant.total_is))
-    (omega (arith, c.total.ensures.value, c.self.invariant.total_is, c.requires.fits,
-    ap (λ (m : Matrix). total m.counts) c.self.view_is))
+    (omega (
+      arith,
+      c.total.ensures.value,
+      c.self.invariant.total_is,
+      c.requires.fits,
+      ap (λ (m : Matrix). total m.counts) c.self.view_is,
+    ))
     (omega (arith, c.requires.most, ap (λ (m : Matrix). len m.counts) c.self.view_is))
 
 pub returns : goal.returns
