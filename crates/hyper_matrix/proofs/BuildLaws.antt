@@ -6,12 +6,10 @@ use Rattle.std.specs.FinMap.{is_sorted}
 use Rattle.std.proofs.lemmas.List.Elements.{All-head, All-tail}
 use Rattle.cells.specs.declared.cell.Cell.{Cell}
 use Rattle.cells.specs.Bounds.{IsDimension, IsWithin, AreWithin}
-use Rattle.cells.specs.Order.{Rise}
 use Rattle.hyper_rows.specs.Counts.{Place, place_cmp, built, count_sum}
 use Rattle.hyper_rows.specs.Rows.{Rows}
 use Rattle.hyper_rows.specs.Cells.{entry_of, built_of, cell_total}
 use Rattle.hyper_rows.proofs.PlaceLaws.{built-in_order}
-use Rattle.hyper_rows.proofs.OrderLaws.{sorted_rising}
 use Rattle.hyper_rows.proofs.ListLaws.{entries_total}
 use Rattle.hyper_matrix.specs.Blocks.{all_cells, Grows}
 use Rattle.hyper_matrix.specs.Shared.{shared_counts, LiesWithin, Holds}
@@ -39,21 +37,22 @@ entries_within r c (x ∷ cells) w = (
   entries_within r c cells (All-tail (IsWithin r c) x cells w),
 )
 
--- blocks that hold a list of cells
-pub holds_list : (r c : ℕ) (blocks none : List Rows) (cells : List Cell) (sum : ℕ) → IsDimension r → IsDimension c →
-    AreWithin r c cells → Rise cells → none ≡ [] → Grows none blocks (map entry_of cells) → sum ≡ cell_total cells →
+-- blocks that hold a list of cells in order
+pub holds_sorted : (r c : ℕ) (blocks none : List Rows) (cells : List Cell) (sum : ℕ) → IsDimension r → IsDimension c →
+    T (is_sorted place_cmp (map entry_of cells)) → AllByRecursion (LiesWithin r c) (map entry_of cells) → none ≡ [] →
+    Grows none blocks (map entry_of cells) → sum ≡ cell_total cells →
     Holds r c sum blocks × (shared_counts blocks ≡ built_of cells)
-holds_list r c blocks none cells sum is_rows is_cols within rises no_blocks grows is =
+holds_sorted r c blocks none cells sum is_rows is_cols in_order within no_blocks grows is =
     let all : all_cells blocks ≡ map entry_of cells = grows.told ∙
     ap (λ (b : List Rows). all_cells b ++ map entry_of cells) no_blocks in
     let sorted : T (is_sorted place_cmp (all_cells blocks)) = subst
-    (λ (es : List (Place × ℕ)). T (is_sorted place_cmp es)) (sym all) (sorted_rising cells rises) in (
+    (λ (es : List (Place × ℕ)). T (is_sorted place_cmp es)) (sym all) in_order in (
       record {
         is_rows = is_rows;
         is_cols = is_cols;
         are_blocks = grows.blocks;
         sorted = sorted;
-        within = subst (AllByRecursion (LiesWithin r c)) (sym all) (entries_within r c cells within);
+        within = subst (AllByRecursion (LiesWithin r c)) (sym all) within;
         kept = is ∙ sym (entries_total cells) ∙ ap count_sum (sym all);
       },
       sym (built-in_order (all_cells blocks) sorted) ∙ ap built all,

@@ -3,6 +3,7 @@ pub use Rattle.hyper_rows.specs.Cells
 pub mod Matrix
 pub mod Blocks
 pub mod Shared
+pub mod Parts
 pub mod BlockSearch
 pub mod RowOf
 pub mod Refusals

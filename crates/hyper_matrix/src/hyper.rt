@@ -13,6 +13,7 @@ mod ewise_add;
 mod extract;
 mod iter;
 mod part;
+mod parts;
 mod reduce;
 
 use crate::block::Block;

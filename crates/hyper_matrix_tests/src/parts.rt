@@ -79,3 +79,62 @@ fn parts_of_many_blocks(rt: HostRuntime) -> Result<(), Fail> {
     }
     Ok(())
 }
+
+// Whether the parts of all shards of k are those that `part` gives one by one.
+fn parts_are(alloc: Global, m: &Hyper, k: u64, parts: &[Hyper]) -> Result<bool, AllocError> {
+    if parts.len() as u64 != k {
+        return Ok(false);
+    }
+    for (s, part) in parts.iter().enumerate() {
+        let s = s as u64;
+        if s >= k {
+            return Ok(false);
+        }
+        let want = m.part(alloc, s, k)?;
+        if part.dims() != m.dims() || !has(alloc, part, &want.cells(alloc)?)? {
+            return Ok(false);
+        }
+    }
+    Ok(true)
+}
+
+// The same, also where memory is refused: the matrix is as before then, and its parts come out the next time.
+fn all_parts(alloc: Global, m: &Hyper, list: &[Cell], k: u64) -> Result<bool, AllocError> {
+    if k == 0 {
+        return Ok(false);
+    }
+    match m.parts(alloc, k) {
+        Ok(parts) => parts_are(alloc, m, k, &parts),
+        Err(_) => {
+            let parts = m.parts(alloc, k)?;
+            Ok(has(alloc, m, list)? && parts_are(alloc, m, k, &parts)?)
+        }
+    }
+}
+
+// No cell, a few, a thousand in one row, and so many in every row and in every 64th.
+fn lists(alloc: Global) -> Result<Vec<Vec<Cell>>, AllocError> {
+    let mut lists = Vec::new(alloc);
+    lists.push(Vec::new(alloc))?;
+    lists.push(cells_of(alloc, ROWS)?)?;
+    lists.push(tall(alloc, 1000, None)?)?;
+    for step in [0, 1, 64] {
+        let mut cells = Vec::new(alloc);
+        for n in 0..1000u64 {
+            cells.push(cell((n.saturating_mul(step), n, 1)))?;
+        }
+        lists.push(cells)?;
+    }
+    Ok(lists)
+}
+
+#[test]
+fn parts_of_all_shards(rt: HostRuntime) -> Result<(), Fail> {
+    for list in &lists(rt.alloc())? {
+        let m = built(rt.alloc(), SIDE, list)?;
+        for k in [1, 2, 3, 64] {
+            assert!(rt; all_parts(rt.alloc(), &m, list, k)?, "{k} of {list:?}");
+        }
+    }
+    Ok(())
+}

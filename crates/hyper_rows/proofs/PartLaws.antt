@@ -1,12 +1,15 @@
--- The entries of one shard, row by row.
-use Rattle.std.proofs.Common.{◌≡◌, ℕ, suc, ◌+◌, ◌<◌, ◌%◌, Bool, true, false, cond, eqb, List, [], ◌∷◌, ◌++◌, map, drop}
-use Rattle.std.proofs.Common.{get_or, length, append_assoc, refl, sym, ◌∙◌, ap, arith}
-use Rattle.std.proofs.Math.Seq.{drop-cons}
+-- The entries of one shard, and those of all shards, row by row.
+use Rattle.std.proofs.Common.{◌≡◌, ℕ, zero, suc, ◌+◌, ◌<◌, ◌%◌, true, false, cond, eqb, List, [], ◌∷◌, ◌++◌, map}
+use Rattle.std.proofs.Common.{drop, set, get_or, length, replicate, append_assoc, refl, sym, ◌∙◌, ap, arith}
+use Rattle.std.specs.declared.vec.Vec.{Vec}
+use Rattle.std.proofs.lemmas.List.{append-nil, get_or-replicate, length-map, length-replicate, map-set}
 use Rattle.std.proofs.lemmas.List.Elements.{filter-append}
 use Rattle.std.proofs.lemmas.Bool.{eq-eqb, ne_eqb}
+use Rattle.cells.specs.declared.cell.Cell.{Cell}
 use Rattle.hyper_rows.specs.Counts.{Place, in_part}
 use Rattle.hyper_rows.specs.Rows.{Entries, Rows, at_places, cells_of}
-use Rattle.hyper_rows.specs.Parts.{part_entries}
+use Rattle.hyper_rows.specs.Cells.{entry_of}
+use Rattle.hyper_rows.specs.Parts.{part_entries, listed, with_parts}
 use Rattle.hyper_rows.proofs.SearchLaws.{cells_behind}
 
 pub part_entries-append : (s k : ℕ) (es fs : List (Place × ℕ)) →
@@ -49,3 +52,84 @@ row_left s k i rows out within other =
     ap (λ l. out ++ l) (ap (λ l. l ++ part_entries s k rest) (sym (row_out s k row.0 row.1 (ne_eqb _ _ other)))
     ∙ sym (part_entries-append s k (at_places row.0 row.1) rest)
     ∙ ap (part_entries s k) (sym (cells_behind rows i within)))
+
+-- no entries add nothing
+pub with_parts-nil : (s k : ℕ) (ls : List (List (Place × ℕ))) → with_parts s k ls [] ≡ ls
+with_parts-nil s k [] = refl
+with_parts-nil s k (l ∷ ls) = λ i. append-nil l i ∷ with_parts-nil (s + 1) k ls i
+
+pub with_parts-append : (s k : ℕ) (ls : List (List (Place × ℕ))) (es fs : List (Place × ℕ)) →
+    with_parts s k (with_parts s k ls es) fs ≡ with_parts s k ls (es ++ fs)
+with_parts-append s k [] es fs = refl
+with_parts-append s k (l ∷ ls) es fs =
+    let here : (l ++ part_entries s k es) ++ part_entries s k fs ≡ l ++ part_entries s k (es ++ fs) =
+    append_assoc l (part_entries s k es) (part_entries s k fs) ∙ ap (λ r. l ++ r) (sym (part_entries-append s k es fs))
+    in λ i. here i ∷ with_parts-append (s + 1) k ls es fs i
+
+-- a row below the first shard adds nothing
+with_parts-below : (s k row : ℕ) (ls : List (List (Place × ℕ))) (es : Entries) → row % k < s →
+    with_parts s k ls (at_places row es) ≡ ls
+with_parts-below s k row [] es below = refl
+with_parts-below s k row (l ∷ ls) es below =
+    let here : l ++ part_entries s k (at_places row es) ≡ l =
+    ap (λ r. l ++ r) (row_out s k row es (ne_eqb _ _ (λ e. omega (arith, below, e)))) ∙ append-nil l in
+    let rest : row % k < s + 1 = omega (arith, below) in
+    λ i. here i ∷ with_parts-below (s + 1) k row ls es rest i
+
+-- a row is added to the list of its shard
+with_parts-row : (s k row j : ℕ) (ls : List (List (Place × ℕ))) (es : Entries) → row % k ≡ s + j → j < length ls →
+    with_parts s k ls (at_places row es) ≡ set ls j (get_or ls j [] ++ at_places row es)
+with_parts-row s k row j [] es is within = absurd (omega (arith, within))
+with_parts-row s k row zero (l ∷ ls) es is within =
+    let here : l ++ part_entries s k (at_places row es) ≡ l ++ at_places row es =
+    ap (λ r. l ++ r) (row_in s k row es (eq-eqb _ _ (omega (arith, is)))) in
+    let rest : row % k < s + 1 = omega (arith, is) in
+    λ i. here i ∷ with_parts-below (s + 1) k row ls es rest i
+with_parts-row s k row (suc j) (l ∷ ls) es is within =
+    let here : l ++ part_entries s k (at_places row es) ≡ l =
+    ap (λ r. l ++ r) (row_out s k row es (ne_eqb _ _ (λ e. omega (arith, is, e)))) ∙ append-nil l in
+    let rest : row % k ≡ (s + 1) + j = omega (arith, is) in
+    λ i. here i ∷ with_parts-row (s + 1) k row j ls es rest (omega (arith, within)) i
+
+listed-at : {Z : Type 0} → (lists : List (Vec Cell Z)) (j : ℕ) (d : Vec Cell Z) → j < length lists →
+    get_or (listed lists) j [] ≡ map entry_of (get_or lists j d).items
+listed-at [] j d within = absurd (omega (arith, within))
+listed-at (l ∷ ls) zero d within = refl
+listed-at (l ∷ ls) (suc j) d within = listed-at ls j d (omega (arith, within))
+
+-- row i, added to the list of its shard
+pub row_listed : {Z : Type 0} → (k i j : ℕ) (rows : Rows) (lists : List (Vec Cell Z)) (d new : Vec Cell Z) →
+    i < length rows → j < length lists → (get_or rows i (0, [])).0 % k ≡ j →
+    map entry_of new.items ≡ map entry_of (get_or lists j d).items ++
+    at_places (get_or rows i (0, [])).0 (get_or rows i (0, [])).1 →
+    with_parts 0 k (listed (set lists j new)) (cells_of (drop (i + 1) rows)) ≡
+    with_parts 0 k (listed lists) (cells_of (drop i rows))
+row_listed k i j rows lists d new within place here is =
+    let row = get_or rows i (0, []) in
+    let rest = cells_of (drop (i + 1) rows) in
+    let entries_in = λ (list : Vec Cell _). map entry_of list.items in
+    ap (λ ls. with_parts 0 k ls rest)
+    (map-set entries_in lists j new
+    ∙ ap (λ l. set (listed lists) j l) (is ∙ ap (λ l. l ++ at_places row.0 row.1) (sym (listed-at lists j d place)))
+    ∙ sym (with_parts-row 0 k row.0 j (listed lists) row.1 (omega (arith, here))
+    (omega (arith, place, length-map lists entries_in))))
+    ∙ with_parts-append 0 k (listed lists) (at_places row.0 row.1) rest
+    ∙ ap (with_parts 0 k (listed lists)) (sym (cells_behind rows i within))
+
+-- the list at place j has the entries of its shard behind it
+with_parts-at : (s k j : ℕ) (ls : List (List (Place × ℕ))) (es : List (Place × ℕ)) → j < length ls →
+    get_or (with_parts s k ls es) j [] ≡ get_or ls j [] ++ part_entries (s + j) k es
+with_parts-at s k j [] es within = absurd (omega (arith, within))
+with_parts-at s k zero (l ∷ ls) es within = ap (λ n. l ++ part_entries n k es) (omega arith)
+with_parts-at s k (suc j) (l ∷ ls) es within = with_parts-at (s + 1) k j ls es (omega (arith, within))
+    ∙ ap (λ n. get_or ls j [] ++ part_entries n k es) (omega arith)
+
+-- lists that were empty have the entries of their shards
+pub part_at : {Z : Type 0} → (k s : ℕ) (lists : List (Vec Cell Z)) (d : Vec Cell Z) (es : List (Place × ℕ)) →
+    listed lists ≡ with_parts 0 k (replicate k []) es → s < length lists → s < k →
+    map entry_of (get_or lists s d).items ≡ part_entries s k es
+part_at k s lists d es are within below =
+    sym (listed-at lists s d within) ∙ ap (λ ls. get_or ls s []) are
+    ∙ with_parts-at 0 k s (replicate k []) es (omega (arith, below, length-replicate {A = List (Place × ℕ)} k []))
+    ∙ ap (λ l. l ++ part_entries (0 + s) k es) (get_or-replicate k s [] [] below)
+    ∙ ap (λ n. part_entries n k es) (omega arith)

@@ -1,8 +1,8 @@
-//! The cells of one shard of a run.
-ghost use Rattle.std.specs.Prelude.{◌≡◌, ◌<◌, ◌++◌, OnOk, map};
+//! The cells of one shard of a run, and those of all shards.
+ghost use Rattle.std.specs.Prelude.{◌≡◌, ◌<◌, ◌++◌, OnOk, length, map};
 ghost use Rattle.hyper_rows.specs.Rows.{cells_of};
 ghost use Rattle.hyper_rows.specs.Cells.{entry_of};
-ghost use Rattle.hyper_rows.specs.Parts.{part_entries};
+ghost use Rattle.hyper_rows.specs.Parts.{listed, part_entries, with_parts};
 
 use crate::rows::{Rows, push_row};
 use cells::Cell;
@@ -22,6 +22,24 @@ impl Rows {
             if row % k == s {
                 push_row(out, row, self.entries(i))?;
             }
+            i += 1;
+        }
+        Ok(())
+    }
+
+    /// Appends the cells of each row to the list of its shard, of as many shards as there are lists: by row and then by
+    /// column. One division for each row.
+    pub fn push_parts(&self, lists: &mut [Vec<Cell>]) -> Result<(), AllocError>
+        requires { 0 < length lists.old }
+        ensures { OnOk result (listed lists.new ≡
+            with_parts 0 (length lists.old) (listed lists.old) (cells_of self.now)) }
+    {
+        let k = lists.len() as u64;
+        let mut i = 0;
+        'rows: while i < self.row_count() {
+            let row = self.row(i);
+            let list = &mut lists[(row % k) as usize];
+            push_row(list, row, self.entries(i))?;
             i += 1;
         }
         Ok(())

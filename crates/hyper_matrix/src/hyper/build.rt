@@ -1,11 +1,15 @@
 //! `C(i,j) = sum of the counts at (i,j)`: `GrB_Matrix_build` with plus as `dup`.
 //!
 //! The list is put in strict order, with the counts of equal places added up, and split into blocks.
-ghost use Rattle.std.specs.Prelude.{◌≡◌, ℕ, ◌<◌, ◌^◌, ◌↔◌, Option, IfOk, IsOk, length};
+ghost use Rattle.std.specs.Prelude.{◌≡◌, ℕ, ◌<◌, ◌^◌, ◌↔◌, Option, T, IfOk, IsOk, length, map};
+ghost use Rattle.std.specs.List.{AllByRecursion};
+ghost use Rattle.std.specs.FinMap.{is_sorted};
 ghost use Rattle.cells.specs.Bounds.{IsDimension, AreWithin};
 ghost use Rattle.cells.specs.Order.{Rise};
-ghost use Rattle.hyper_rows.specs.Cells.{built_of, cell_total};
+ghost use Rattle.hyper_rows.specs.Counts.{place_cmp};
+ghost use Rattle.hyper_rows.specs.Cells.{built_of, cell_total, entry_of};
 ghost use Rattle.hyper_matrix.specs.Matrix.{matrix};
+ghost use Rattle.hyper_matrix.specs.Shared.{LiesWithin};
 ghost use Rattle.hyper_matrix.specs.Refusals.{first_fault};
 
 use super::assemble;
@@ -48,6 +52,22 @@ impl Hyper {
     }
 }
 
+/// The matrix of a list of cells in strict order. An empty list takes no memory.
+pub fn of_sorted(alloc: Global, rows: u64, cols: u64, cells: &[Cell]) -> Result<Hyper, AllocError>
+    requires rows { IsDimension rows }
+    requires cols { IsDimension cols }
+    requires sorted { T (is_sorted place_cmp (map entry_of cells.now)) }
+    requires within { AllByRecursion (LiesWithin rows cols) (map entry_of cells.now) }
+    requires fits { cell_total cells.now < 2 ^ 64 }
+    ensures { IfOk result (λ m. m ≡ matrix rows cols (built_of cells.now)) }
+{
+    let mut blocks = Vec::new(alloc);
+    push_blocks(alloc, &mut blocks, cells)?;
+    let sum = total_of(cells);
+    let m = assemble(alloc, rows, cols, sum, blocks)?;
+    Ok(m)
+}
+
 /// The matrix of a list of cells in which each place stands once, by row and then by column.
 pub fn of_list(alloc: Global, rows: u64, cols: u64, cells: &[Cell]) -> Result<Hyper, AllocError>
     requires rows { IsDimension rows }
@@ -57,10 +77,7 @@ pub fn of_list(alloc: Global, rows: u64, cols: u64, cells: &[Cell]) -> Result<Hy
     requires fits { cell_total cells.now < 2 ^ 64 }
     ensures { IfOk result (λ m. m ≡ matrix rows cols (built_of cells.now)) }
 {
-    let mut blocks = Vec::new(alloc);
-    push_blocks(alloc, &mut blocks, cells)?;
-    let sum = total_of(cells);
-    let m = assemble(alloc, rows, cols, sum, blocks)?;
+    let m = of_sorted(alloc, rows, cols, cells)?;
     Ok(m)
 }
 

@@ -7,11 +7,10 @@ ghost use Rattle.hyper_rows.specs.Cells.{entry_of};
 ghost use Rattle.hyper_rows.specs.Parts.{part_entries};
 ghost use Rattle.hyper_matrix.specs.Blocks.{all_cells};
 
-use super::assemble;
+use super::build::of_sorted;
 use crate::block::Block;
 use crate::hyper::Hyper;
-use crate::split::push_blocks;
-use cells::{Cell, total_of};
+use cells::Cell;
 use std::alloc::{AllocError, Global};
 
 // Appends the cells of all blocks that lie in the shard, by row and then by column.
@@ -26,12 +25,24 @@ fn push_part(out: &mut Vec<Cell>, blocks: &[Block], s: u64, k: u64) -> Result<()
     Ok(())
 }
 
+/// How many cells the list of one shard of k gets room for, where so many are to be listed: its even share, and a
+/// quarter more with eight. None where there are fewer cells than shards.
+pub fn list_room(cells: u64, k: u64) -> usize
+    requires { 0 < k }
+{
+    let even = cells / k;
+    if even == 0 {
+        return 0;
+    }
+    even.saturating_add(even / 4).saturating_add(8) as usize
+}
+
 impl Hyper {
     /// The rows whose number, counted from 0, leaves `s` when divided by `k`, in a matrix of the same dimensions: shard
     /// `s` of `k`. The parts of all shards add up to the matrix.
     ///
     /// Reads the number of each row, and takes the time and memory of building a matrix of the cells that are in the
-    /// shard. A list of them, 24 bytes each, is held meanwhile. Where there is one shard, it shares all blocks, as
+    /// shard. A list of them, 24 bytes each, is held meanwhile, with room for an even share at once. Where there is one shard, it shares all blocks, as
     /// `copy`.
     ///
     /// # Errors
@@ -48,12 +59,9 @@ impl Hyper {
         }
         // The whole's total bounds the part's.
         let _bound = self.total();
-        let mut cells = Vec::new(alloc);
+        let mut cells = Vec::with_capacity(alloc, list_room(self.entries(), k))?;
         push_part(&mut cells, &self.blocks, s, k)?;
-        let listed: &[Cell] = &cells;
-        let mut blocks = Vec::new(alloc);
-        push_blocks(alloc, &mut blocks, listed)?;
-        let p = assemble(alloc, self.rows, self.cols, total_of(listed), blocks)?;
+        let p = of_sorted(alloc, self.rows, self.cols, &cells)?;
         Ok(p)
     }
 }

@@ -1,0 +1,15 @@
+use Rattle.std.proofs.Common.{ap, ◌∙◌}
+use Rattle.hyper_matrix.specs.Matrix.{matrix}
+use Rattle.hyper_matrix.proofs.BuildLaws.{holds_sorted}
+use Rattle.hyper_matrix.proofs.hyper.build.of_sorted.Goals as goal
+
+pub assemble-requires : goal.assemble-requires
+assemble-requires c = (holds_sorted _ _ c.push_blocks.new.out.items c.new-blocks.result.items c.args.cells.now
+    c.total_of-sum.result c.requires.rows c.requires.cols c.requires.sorted c.requires.within c.new-blocks.ensures.items
+    c.in_ok-push_blocks.ensures c.total_of-sum.ensures).0
+
+pub returns : goal.returns
+returns c = c.in_ok-m.ensures ∙ ap (matrix c.args.rows c.args.cols)
+    (holds_sorted _ _ c.push_blocks.new.out.items c.new-blocks.result.items c.args.cells.now c.total_of-sum.result
+    c.requires.rows c.requires.cols c.requires.sorted c.requires.within c.new-blocks.ensures.items
+    c.in_ok-push_blocks.ensures c.total_of-sum.ensures).1
