@@ -5,12 +5,14 @@ use Rattle.std.specs.List.{slice_range}
 use Rattle.std.specs.FinMap.{is_sorted, empty}
 use Rattle.std.proofs.lemmas.Bool.{cases_order}
 use Rattle.std.proofs.lemmas.List.{map-append, take-append-drop}
+use Rattle.std.proofs.lemmas.Slice.{between_to_end}
 use Rattle.hyper_rows.specs.Counts.{count_sum, Place, place_cmp, Counts, built, ewise_add, total}
 use Rattle.hyper_rows.specs.Rows.{Rows, InOrder, cells_of, counts_of, sum_entries, sum_rows, rows_total, AreRising}
 use Rattle.hyper_rows.specs.Merged.{merged}
 use Rattle.hyper_matrix.specs.Blocks.{all_cells, IsBlock, Grows, GrowsBySum}
 use Rattle.hyper_rows.specs.Places.{Less, AllPlaces, Precede, IsFirst, BeginsFrom}
 use Rattle.hyper_rows.specs.Cells.{entry_of, built_of, cell_total}
+use Rattle.hyper_rows.specs.InPlace.{AddsFirst}
 use Rattle.cells.specs.declared.cell.Cell.{Cell}
 use Rattle.hyper_matrix.proofs.BlockLaws.{all_cells-append}
 use Rattle.hyper_rows.proofs.CountLaws.{ewise_add_assoc, built-append, total-ewise_add, ewise_add_comm, ewise_add-empty}
@@ -20,7 +22,8 @@ use Rattle.hyper_rows.proofs.CellLaws.{total-counts_of}
 use Rattle.hyper_rows.proofs.ListLaws.{counts_of-built, total-built_of}
 use Rattle.hyper_rows.proofs.MergeLaws.{split_at, merged-nil, merged_less, merged_greater, merged_same}
 use Rattle.hyper_rows.proofs.OrderLaws.{all_map, precedes, before_first, before_begin, below_first, columns_rise}
-use Rattle.hyper_rows.proofs.OrderLaws.{next_left, next_right, next_sum}
+use Rattle.hyper_rows.proofs.OrderLaws.{next_left, next_right, next_sum, sorted_back}
+use Rattle.hyper_rows.proofs.InPlaceLaws.{still_rising, same_rows, total_moves, sum_rest}
 
 pub built-nil : built [] ≡ empty
 unfolding built
@@ -163,6 +166,40 @@ grows_shared old new block [] sorted none grows = record {
   sums = sym (nothing_last (built (cells_of block)));
 }
 grows_shared old new block (x ∷ cells) sorted none grows = absurd (omega arith)
+
+to_end : (cells : List Cell) (n : ℕ) → slice_range cells n (length cells) ≡ drop n cells
+to_end cells n = between_to_end cells n (length cells) (omega arith)
+
+-- the first of the cells were added to a block in place, and the rest is left
+module _ (block added : Rows) (cells : List Cell) (n : ℕ) (adds : AddsFirst block added cells n) where
+  pub still_block : IsBlock block → IsBlock added
+  still_block b = record {
+    some = omega (arith, b.some, same_rows block added cells n adds);
+    numbers = still_rising block added cells n adds b.numbers;
+  }
+
+  pub rest_sorted : T (is_sorted place_cmp (map entry_of cells)) →
+      T (is_sorted place_cmp (map entry_of (slice_range cells n (length cells))))
+  rest_sorted sorted = sorted_back (map entry_of (take n cells)) (map entry_of (slice_range cells n (length cells)))
+      (subst (λ (r : List (Place × ℕ)). T (is_sorted place_cmp r))
+      (sym (ap (λ (r : List Cell). map entry_of (take n cells) ++ map entry_of r) (to_end cells n) ∙
+      sym (map-append entry_of (take n cells) (drop n cells)) ∙ ap (map entry_of) (take-append-drop n cells))) sorted)
+
+  pub rest_total : count_sum (cells_of added) + cell_total (slice_range cells n (length cells)) ≡
+      count_sum (cells_of block) + cell_total cells
+  rest_total = ap (λ (r : List Cell). count_sum (cells_of added) + cell_total r)
+      (to_end cells n) ∙ total_moves block added cells n adds
+
+  pub grows_rest : (old new : List Rows) →
+      GrowsBySum old new (cells_of added) (map entry_of (slice_range cells n (length cells))) →
+      GrowsBySum old new (cells_of block) (map entry_of cells)
+  grows_rest old new grows = record {
+    cells = grows.cells;
+    grows = grows.grows;
+    sorted = grows.sorted;
+    sums = grows.sums ∙ ap (λ (r : List Cell). ewise_add (built (cells_of added)) (built_of r))
+        (to_end cells n) ∙ sum_rest block added cells n adds;
+  }
 
 -- the totals of a block and of the rows of cells
 pub added_total : (added : Rows) (cells : List Cell) → built (cells_of added) ≡ built_of cells →

@@ -2,11 +2,15 @@
 //!
 //! Rows that are shared are never changed. Those that have one owner can be exchanged for others, which takes no
 //! memory.
-ghost use Rattle.std.specs.Prelude.{◌≡◌, ℕ, ◌<◌, IfOk, OnOk, IsTrue, IsFalse, [], length};
+ghost use Rattle.std.specs.Prelude.{◌≡◌, ℕ, ◌+◌, ◌<◌, ◌^◌, IfOk, OnOk, IsTrue, IsFalse, [], length};
 ghost use Rattle.std.specs.Arc.{arc_value};
-ghost use Rattle.hyper_rows.specs.Rows.{cells_of};
+ghost use Rattle.hyper_rows.specs.Cells.{cell_total};
+ghost use Rattle.hyper_rows.specs.InPlace.{AddsFirst};
+ghost use Rattle.hyper_rows.specs.Rows.{cells_of, rows_total};
 ghost use Rattle.hyper_rows.specs.Places.{IsFirst};
 
+use crate::limits::IN_PLACE_SHARE;
+use cells::Cell;
 use hyper_rows::Rows;
 use std::alloc::{AllocError, Global};
 use std::marker::Model;
@@ -53,6 +57,17 @@ fn exchange(shared: &mut Arc<Rows>, rows: &mut Rows) -> bool
     }
 }
 
+// Adds the first cells of a list to the rows in place, unless somebody else has the rows too, and gives their number.
+fn add_to(shared: &mut Arc<Rows>, cells: &[Cell]) -> usize
+    requires { rows_total (arc_value shared.old) + cell_total cells.now < 2 ^ 64 }
+    ensures { AddsFirst (arc_value shared.old) (arc_value shared.new) cells.now result }
+{
+    match Arc::get_mut(shared) {
+        Some(own) => own.add_found(cells),
+        None => 0,
+    }
+}
+
 impl Block {
     /// A block of these rows, which nobody shares yet.
     pub fn new(alloc: Global, rows: Rows) -> Result<Block, AllocError>
@@ -89,6 +104,21 @@ impl Block {
         self.col = col;
         self.count = count;
         Ok(())
+    }
+
+    /// Adds the counts of the first cells of a list in order to the block's own, up to the first cell whose place has
+    /// none, and gives the number of the cells before it. Takes no memory.
+    ///
+    /// That number is 0 where somebody shares the block, which then stays as it is, and where the cells are few for the
+    /// block: a merge takes over long runs as they are, and that costs less than to look for each cell.
+    pub fn add_found(&mut self, cells: &[Cell]) -> usize
+        requires { rows_total self.old + cell_total cells.now < 2 ^ 64 }
+        ensures { AddsFirst self.old self.new cells.now result }
+    {
+        if cells.len() < self.count / IN_PLACE_SHARE {
+            return 0;
+        }
+        add_to(&mut self.rows, cells)
     }
 
     /// The same block once more. The two share the rows.

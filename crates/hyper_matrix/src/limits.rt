@@ -8,3 +8,6 @@ pub const BLOCK_CELLS: usize = 256;
 /// Blocks: so many of one matrix are added to another at once, as a list of their cells: some 100,000, 24 bytes each.
 /// Each such part takes another walk over the other matrix's blocks.
 pub const LISTED_BLOCKS: usize = 512;
+
+/// A block of up to so many times the cells that it gets is looked through for their places.
+pub const IN_PLACE_SHARE: usize = 4;

@@ -100,8 +100,8 @@ fn push_large(
     Ok(())
 }
 
-// Appends the sum of a block and cells. A block that gets none goes over as it is.
-fn push_sum(
+// Appends the sum of a block and cells, merged. A block that gets none goes over as it is.
+fn push_merged(
     alloc: Global,
     out: &mut Vec<Block>,
     block: Block,
@@ -133,6 +133,29 @@ fn push_sum(
     }
     spare.large.set_sum(alloc, block.rows(), &spare.added)?;
     push_large(alloc, out, block, &spare.large, &mut spare.sum, spare.room)?;
+    Ok(())
+}
+
+// Appends the sum of a block and cells. Counts are added in the block itself while the cells stand there, and what is
+// left of the cells is merged with it.
+fn push_sum(
+    alloc: Global,
+    out: &mut Vec<Block>,
+    block: Block,
+    cells: &[Cell],
+    spare: &mut Spare,
+) -> Result<(), AllocError>
+    requires blocks { AreBlocks out.old.items }
+    requires other { IsBlock block }
+    requires sorted { T (is_sorted place_cmp (cells_of block)) }
+    requires cells { T (is_sorted place_cmp (map entry_of cells.now)) }
+    requires fits { count_sum (cells_of block) + cell_total cells.now < 2 ^ 64 }
+    ensures sum { OnOk result (GrowsBySum out.old.items out.new.items (cells_of block) (map entry_of cells.now)) }
+    ensures some { OnOk result (0 < length out.new.items) }
+{
+    let mut block = block;
+    let added = block.add_found(cells);
+    push_merged(alloc, out, block, &cells[added..], spare)?;
     Ok(())
 }
 

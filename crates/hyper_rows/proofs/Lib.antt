@@ -10,3 +10,4 @@ pub mod SearchLaws
 pub mod ListLaws
 pub mod RunCellLaws
 pub mod PartLaws
+pub mod InPlaceLaws

@@ -5,3 +5,4 @@ pub mod Places
 pub mod Cells
 pub mod Search
 pub mod Parts
+pub mod InPlace

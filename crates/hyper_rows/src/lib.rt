@@ -2,6 +2,7 @@
 //! two runs, and searches in one.
 #![tactic(auto)]
 
+mod add_in_place;
 mod build;
 mod merge;
 mod part;

@@ -13,9 +13,11 @@ ghost use Rattle.std.specs.Prelude.{slice_range, All, ◌∷◌, drop, map, take
 ghost use Rattle.hyper_rows.specs.Counts.{count_sum};
 ghost use Rattle.hyper_rows.specs.Rows.{AreRows, Appends, rows_of, start_of, sum_rows, rows_total, KeysBelow};
 ghost use Rattle.hyper_rows.specs.Rows.{heads_moved, Fit, sum_entries, cells_of, at_places};
-ghost use Rattle.hyper_rows.specs.Cells.{entry_of};
+ghost use Rattle.hyper_rows.specs.Cells.{entry_of, cell_total};
+ghost use Rattle.hyper_rows.specs.InPlace.{AddsFirst};
 ghost use Rattle.hyper_rows.specs.Places.{IsFirst};
 
+use crate::add_in_place::add_found;
 use crate::merge::{end_below, push_entry_sums};
 use cells::Cell;
 use std::alloc::{AllocError, Global};
@@ -77,7 +79,7 @@ pub fn push_heads(
 }
 
 // Where the entries of rows i to j begin and end.
-fn bounds(heads: &[(u64, usize)], entries: &[(u64, u64)], i: usize, j: usize) -> (usize, usize)
+pub fn bounds(heads: &[(u64, usize)], entries: &[(u64, u64)], i: usize, j: usize) -> (usize, usize)
     requires well { AreRows heads.now entries.now }
     requires order { i ≤ j }
     requires within { j ≤ length heads.now }
@@ -385,6 +387,15 @@ impl Rows {
         push_sums(&mut heads, &mut entries, a, b)?;
         *self = Rows { heads, entries };
         Ok(())
+    }
+
+    /// Adds the counts of the first cells of a list in order where their places stand, up to the first cell whose place
+    /// doesn't, and gives the number of the cells before it. Takes no memory, and a pass over the rows up to there.
+    pub fn add_found(&mut self, cells: &[Cell]) -> usize
+        requires { rows_total self.old + cell_total cells.now < 2 ^ 64 }
+        ensures { AddsFirst self.old self.new cells.now result }
+    {
+        add_found(&self.heads, &mut self.entries, cells)
     }
 
     /// Makes room for so many rows in all. The rows stay as they are, also where memory is refused.

@@ -1,76 +1,31 @@
-use Rattle.std.proofs.Common.{ap, ◌∙◌, refl, arith}
-use Rattle.hyper_rows.specs.Rows.{Rows, rows_total, sum_rows}
-use Rattle.hyper_matrix.proofs.BlockLaws.{grows_by}
+use Rattle.std.proofs.Common.{arith}
 use Rattle.hyper_rows.proofs.CellLaws.{sum_of_cells}
-use Rattle.hyper_rows.proofs.OrderLaws.{never_fall}
-use Rattle.hyper_matrix.proofs.SumLaws.{grows_sum, grows_shared, sum_rising, sum_some, sum_total, added_total}
+use Rattle.hyper_rows.proofs.InPlaceLaws.{still_sorted}
+use Rattle.hyper_matrix.proofs.SumLaws.{still_block, rest_sorted, rest_total, grows_rest}
 use Rattle.hyper_matrix.proofs.sum.push_sum.Goals as goal
 
-pub returns-then-cells-eq0-clause-sum : goal.returns-then-cells-eq0-clause-sum
-returns-then-cells-eq0-clause-sum c = grows_shared c.args.out.now.items c.push.new.self.items c.args.block
-    c.args.cells.now c.requires.sorted (omega arith) (grows_by _ _ _ _ c.requires.blocks c.in_ok-push.ensures.items refl
-    c.requires.other)
+pub add_found-added-requires : goal.add_found-added-requires
+add_found-added-requires c = omega (arith, sum_of_cells c.args.block, c.requires.fits)
 
-pub set_sorted-requires-clause-sorted : goal.set_sorted-requires-clause-sorted
-set_sorted-requires-clause-sorted c = never_fall c.args.cells.now c.requires.cells
+pub push_merged-requires-clause-other : goal.push_merged-requires-clause-other
+push_merged-requires-clause-other c = still_block c.args.block c.add_found-added.new.self c.args.cells.now _
+    c.add_found-added.ensures c.requires.other
 
-pub set_sum-requires : goal.set_sum-requires
-set_sum-requires c = omega (
+pub push_merged-requires-clause-sorted : goal.push_merged-requires-clause-sorted
+push_merged-requires-clause-sorted c = still_sorted c.args.block c.add_found-added.new.self c.args.cells.now _
+    c.add_found-added.ensures c.requires.sorted
+
+pub push_merged-requires-clause-cells : goal.push_merged-requires-clause-cells
+push_merged-requires-clause-cells c = rest_sorted c.args.block c.add_found-added.new.self c.args.cells.now _
+    c.add_found-added.ensures c.requires.cells
+
+pub push_merged-requires-clause-fits : goal.push_merged-requires-clause-fits
+push_merged-requires-clause-fits c = omega (
   arith,
-  ap rows_total c.rows-then-saturating_add-le-BLOCK_CELLS.ensures,
-  sum_of_cells c.args.block,
-  added_total c.set_sorted.new.self c.args.cells.now c.in_ok-set_sorted.ensures.told,
   c.requires.fits,
-)
-
-pub push_changed-requires-clause-some : goal.push_changed-requires-clause-some
-push_changed-requires-clause-some c = sum_some c.args.block c.set_sorted.new.self _ c.requires.other.some
-    (c.in_ok-set_sum.ensures ∙ ap
-    (λ (r : Rows). sum_rows r c.set_sorted.new.self) c.rows-then-saturating_add-le-BLOCK_CELLS.ensures)
-
-pub push_changed-requires-clause-rising : goal.push_changed-requires-clause-rising
-push_changed-requires-clause-rising c = sum_rising c.args.block c.set_sorted.new.self _ c.requires.other
-    c.requires.sorted c.in_ok-set_sorted.ensures.order (c.in_ok-set_sum.ensures ∙
-    ap (λ (r : Rows). sum_rows r c.set_sorted.new.self) c.rows-then-saturating_add-le-BLOCK_CELLS.ensures)
-
-pub returns-then-saturating_add-le-BLOCK_CELLS-clause-sum : goal.returns-then-saturating_add-le-BLOCK_CELLS-clause-sum
-returns-then-saturating_add-le-BLOCK_CELLS-clause-sum c = grows_sum c.args.out.now.items c.push_changed.new.out.items
-    c.args.block c.set_sorted.new.self c.set_sum.new.self c.args.cells.now c.requires.other c.requires.sorted
-    c.in_ok-set_sorted.ensures.order c.in_ok-set_sorted.ensures.told
-    (c.in_ok-set_sum.ensures ∙ ap (λ (r : Rows). sum_rows r c.set_sorted.new.self)
-    c.rows-then-saturating_add-le-BLOCK_CELLS.ensures) c.in_ok-push_changed.ensures.grows
-
-pub set_sum-requires-2 : goal.set_sum-requires-2
-set_sum-requires-2 c = omega (
-  arith,
-  ap rows_total c.rows-2.ensures,
-  sum_of_cells c.args.block,
-  added_total c.set_sorted.new.self c.args.cells.now c.in_ok-set_sorted.ensures.told,
-  c.requires.fits,
-)
-
-pub push_large-requires-clause-some : goal.push_large-requires-clause-some
-push_large-requires-clause-some c = sum_some c.args.block c.set_sorted.new.self _ c.requires.other.some
-    (c.in_ok-set_sum-2.ensures ∙ ap (λ (r : Rows). sum_rows r c.set_sorted.new.self) c.rows-2.ensures)
-
-pub push_large-requires-clause-rising : goal.push_large-requires-clause-rising
-push_large-requires-clause-rising c = sum_rising c.args.block c.set_sorted.new.self _ c.requires.other c.requires.sorted
-    c.in_ok-set_sorted.ensures.order (c.in_ok-set_sum-2.ensures ∙
-    ap (λ (r : Rows). sum_rows r c.set_sorted.new.self) c.rows-2.ensures)
-
-pub push_large-requires-clause-fits : goal.push_large-requires-clause-fits
-push_large-requires-clause-fits c = omega (
-  arith,
-  sum_total c.args.block c.set_sorted.new.self _ c.requires.other c.requires.sorted
-      c.in_ok-set_sorted.ensures.order (c.in_ok-set_sum-2.ensures ∙
-      ap (λ (r : Rows). sum_rows r c.set_sorted.new.self) c.rows-2.ensures),
-  sum_of_cells c.args.block,
-  added_total c.set_sorted.new.self c.args.cells.now c.in_ok-set_sorted.ensures.told,
-  c.requires.fits,
+  rest_total c.args.block c.add_found-added.new.self c.args.cells.now _ c.add_found-added.ensures,
 )
 
 pub returns-clause-sum : goal.returns-clause-sum
-returns-clause-sum c = grows_sum c.args.out.now.items c.push_large.new.out.items c.args.block c.set_sorted.new.self
-    c.set_sum-2.new.self c.args.cells.now c.requires.other c.requires.sorted c.in_ok-set_sorted.ensures.order
-    c.in_ok-set_sorted.ensures.told (c.in_ok-set_sum-2.ensures ∙
-    ap (λ (r : Rows). sum_rows r c.set_sorted.new.self) c.rows-2.ensures) c.in_ok-push_large.ensures.grows
+returns-clause-sum c = grows_rest c.args.block c.add_found-added.new.self c.args.cells.now _ c.add_found-added.ensures
+    c.args.out.now.items c.push_merged.new.out.items c.in_ok-push_merged.ensures.sum
