@@ -11,7 +11,7 @@ use Rattle.std.specs.FinMap.{entries, len, len-entries}
 use Rattle.std.proofs.lemmas.List.{length-map}
 use Rattle.hhm.specs.Sum.{cell_of, cells_in_order, matrix_text}
 use Rattle.mm_text.specs.Canonical.{canonical_head, entry_line, entry_lines}
-use Rattle.hyper_matrix.proofs.ListLaws.{built_joined, built_of-none, total-built_of}
+use Rattle.hyper_matrix.proofs.BuiltOfLaws.{built_joined, built_of-none, total-built_of}
 use Rattle.layer_cascade.specs.Cascade.{cascade, content}
 use Rattle.layer_cascade.specs.Layering.{Layering, IsLayering, no_layers}
 use Rattle.layer_cascade.proofs.KeptLemmas.{content-no_layers}

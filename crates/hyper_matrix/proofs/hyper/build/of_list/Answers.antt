@@ -1,6 +1,6 @@
 use Rattle.std.proofs.Common.{ap, ◌∙◌}
 use Rattle.hyper_matrix.specs.Matrix.{matrix}
-use Rattle.hyper_rows.proofs.OrderLaws.{sorted_rising}
+use Rattle.hyper_rows.proofs.PlaceOrderLaws.{sorted_rising}
 use Rattle.hyper_matrix.proofs.BuildLaws.{holds_list}
 use Rattle.hyper_matrix.proofs.hyper.build.of_list.Goals as goal
 
