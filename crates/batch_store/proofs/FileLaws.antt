@@ -9,7 +9,7 @@ use Rattle.hyper_matrix.specs.Matrix.{Matrix, matrix}
 use Rattle.hyper_matrix.specs.Refusals.{first_fault, LeavesDimensions}
 use Rattle.hyper_matrix.specs.declared.judge.BuildFault.TheVariants.{IndexOutOfRange, SumTooLarge}
 use Rattle.hyper_matrix.proofs.RefusalLaws.{index_faults, sum_faults, no_faults}
-use Rattle.hyper_matrix.proofs.ListLaws.{total-built_of}
+use Rattle.hyper_matrix.proofs.BuiltOfLaws.{total-built_of}
 
 total_among : (before : List Cell) (cell : Cell) (after : List Cell) →
     cell_total before + cell.count ≤ cell_total (before ++ cell ∷ after)

@@ -17,7 +17,7 @@ mod sort;
 mod total;
 
 pub use add_up::summed;
-pub use cell::{Cell, Place};
+pub use cell::Cell;
 pub use order::{is_in_order, rises};
 pub use sort::sorted;
 pub use total::{checked_total, total_of};

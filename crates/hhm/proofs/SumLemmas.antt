@@ -1,17 +1,13 @@
 -- What one more block of cells does to a sum.
-use Rattle.std.proofs.Common.{◌≡◌, ℕ, ◌+◌, ◌<◌, ◌≤◌, ◌^◌, List, [], ◌∷◌, ◌++◌, length, map, refl, sym, ◌∙◌, ap, arith}
-use Rattle.std.proofs.Common.{append_assoc, Bool, true, false, ltb}
+use Rattle.std.proofs.Common.{◌≡◌, ℕ, ◌+◌, ◌<◌, ◌≤◌, ◌^◌, List, [], ◌++◌, length, refl, sym, ◌∙◌, ap, arith}
+use Rattle.std.proofs.Common.{Bool, true, false, ltb}
 use Rattle.std.specs.Prelude.{Result, Ok, Err, OnErr, IsTrue, ◌↔◌}
 use Rattle.std.proofs.lemmas.Bool.{ltb-false, ltb-true}
 use Rattle.cells.proofs.SumLaws.{total-append}
 use Rattle.cells.specs.declared.cell.Cell.{Cell}
-use Rattle.hyper_matrix.specs.Counts.{Place, ewise_add, total}
-use Rattle.hyper_matrix.specs.Cells.{built_of, cell_total, entry_of}
-use Rattle.std.specs.FinMap.{entries, len, len-entries}
-use Rattle.std.proofs.lemmas.List.{length-map}
-use Rattle.hhm.specs.Sum.{cell_of, cells_in_order, matrix_text}
-use Rattle.mm_text.specs.Canonical.{canonical_head, entry_line, entry_lines}
-use Rattle.hyper_matrix.proofs.ListLaws.{built_joined, built_of-none, total-built_of}
+use Rattle.hyper_matrix.specs.Counts.{ewise_add, total}
+use Rattle.hyper_matrix.specs.Cells.{built_of, cell_total}
+use Rattle.hyper_matrix.proofs.BuiltOfLaws.{built_joined, built_of-none, total-built_of}
 use Rattle.layer_cascade.specs.Cascade.{cascade, content}
 use Rattle.layer_cascade.specs.Layering.{Layering, IsLayering, no_layers}
 use Rattle.layer_cascade.proofs.KeptLemmas.{content-no_layers}
@@ -100,33 +96,3 @@ layers_sum layers m kept is rows cols cells sum = (
   let total_is : total (content layers.layers) ≡ cell_total cells = ap total sum.sum_is ∙ total-built_of cells in
       omega (arith, total_is, kept.fits),
 )
-
--- the head of a matrix's text, and behind it the lines of its cells
-pub text_begins : (m : Matrix) (rows cols count : ℕ) (left : List (Place × ℕ)) →
-    ◌≡◌ {A = ℕ × ℕ} (rows, cols) (m.rows, m.cols) → count ≡ len m.counts → left ≡ entries m.counts →
-    canonical_head rows cols count ++ entry_lines (map cell_of left) ≡ matrix_text m
-unfolding matrix_text
-text_begins m rows cols count left dims counted is =
-    let cells = cells_in_order m.counts in
-    let number : count ≡ length cells = omega (
-      arith,
-      counted,
-      len-entries m.counts,
-      length-map (entries m.counts) cell_of,
-    ) in
-    ap (λ (p : ℕ × ℕ). canonical_head p.0 p.1 count ++ entry_lines (map cell_of left)) dims
-    ∙ ap (λ n. canonical_head m.rows m.cols n ++ entry_lines (map cell_of left)) number
-    ∙ ap (λ (es : List (Place × ℕ)). canonical_head m.rows m.cols (length cells) ++ entry_lines (map cell_of es)) is
-
--- the lines that are to come, by the cells that are left
-pub lines_counted : (m : Matrix) (count left : ℕ) (cells : List (Place × ℕ)) → count ≡ len m.counts → left ≡ count →
-    cells ≡ entries m.counts → left ≡ length cells
-lines_counted m count left cells counted is order = omega (arith, counted, is, len-entries m.counts, ap length order)
-
--- a line more, and behind it the lines of the cells that are left
-pub line_next : (text whole : List ℕ) (left rest : List (Place × ℕ)) (cell : Cell) → left ≡ entry_of cell ∷ rest →
-    text ++ entry_lines (map cell_of left) ≡ whole →
-    (text ++ entry_line cell) ++ entry_lines (map cell_of rest) ≡ whole
-line_next text whole left rest cell is told =
-    append_assoc text (entry_line cell) (entry_lines (map cell_of rest)) ∙
-    sym (ap (λ (es : List (Place × ℕ)). text ++ entry_lines (map cell_of es)) is) ∙ told

@@ -1,7 +1,5 @@
 -- What `sum` makes of a text: the cells of its list, each with the sum of its counts, by row and then by column.
-use Rattle.std.specs.Prelude.{◌≡◌, ◌≢◌, ◌⊎◌, ℕ, ◌+◌, ◌<◌, ◌≤◌, ◌^◌, List, ◌++◌, map, length, Result}
-use Rattle.std.specs.FinMap.{entries}
-use Rattle.mm_text.specs.Canonical.{canonical}
+use Rattle.std.specs.Prelude.{◌≡◌, ◌≢◌, ◌⊎◌, ℕ, ◌+◌, ◌<◌, ◌≤◌, ◌^◌, List, ◌++◌, length, Result}
 use Rattle.byte_io.specs.Streams.{Calls, bytes_of_calls}
 use Rattle.mm_text.specs.Faults.{Explains}
 use Rattle.mm_text.specs.Stages.{LineState, Holds}
@@ -11,24 +9,13 @@ use Rattle.byte_io.specs.declared.fault.DeviceFault.{DeviceFault}
 use Rattle.mm_text.specs.declared.fault.MmKind.{MmKind}
 use Rattle.mm_text.specs.declared.fault.MmKind.TheVariants.{Read, Memory}
 use Rattle.mm_text.specs.declared.limits.TextLimits.{TextLimits}
-use Rattle.hyper_matrix.specs.Counts.{Place, Counts}
-use Rattle.hyper_matrix.specs.Matrix.{Matrix, matrix}
+use Rattle.hyper_matrix.specs.Matrix.{matrix}
 use Rattle.hyper_matrix.specs.Cells.{built_of, cell_total}
+use Rattle.wire_proto.specs.MatrixText.{matrix_text}
 
 -- 2^40 bytes, and as many declared entries
 abbrev pub sum_limits : TextLimits
 sum_limits = record { max_bytes = 2 ^ 40; max_entries = 2 ^ 40 }
-
-abbrev pub cell_of : Place × ℕ → Cell
-cell_of entry = record { row = entry.0.0; col = entry.0.1; count = entry.1 }
-
--- the cells of a matrix, by row and then by column
-abbrev pub cells_in_order : Counts → List Cell
-cells_in_order counts = map cell_of (entries counts)
-
--- the canonical text of a matrix
-unfoldable pub matrix_text : Matrix → List ℕ
-matrix_text m = canonical m.rows m.cols (cells_in_order m.counts)
 
 -- the canonical text of the matrix that a list of cells builds
 abbrev pub sum_text : ℕ → ℕ → List Cell → List ℕ

@@ -14,18 +14,18 @@ ghost use Rattle.hhm.specs.Faults.{IsOutput};
 ghost use Rattle.hhm.specs.Reading.{IsSized, IsSumming, HasSummed, Excuses};
 ghost use Rattle.hhm.specs.Running.{IsSumOf};
 ghost use Rattle.mm_text.specs.Readings.{size_of};
-ghost use Rattle.hhm.specs.Sum.{sum_text, matrix_text, StopsText, SumsText, SumPasses, IsUnsummed};
+ghost use Rattle.hhm.specs.Sum.{sum_text, StopsText, SumsText, SumPasses, IsUnsummed};
 ghost use Rattle.hyper_matrix.specs.Cells.{cell_total};
 
 use crate::fault::SumFault;
 use crate::limits::{BLOCK_CELLS, TEXT_LIMITS};
 use crate::running_sum::RunningSum;
-use byte_io::{Sink, Source, WriteFault};
+use byte_io::{Sink, Source};
 use cells::Cell;
-use hyper_matrix::Hyper;
 use layer_cascade::are_cuts;
-use mm_text::{TextReader, TextWriter};
+use mm_text::TextReader;
 use std::alloc::{AllocError, Global};
+use wire_proto::write_text;
 
 // The sum of the cells of a text's first block, in the dimensions of the size line that was read.
 fn first_sum(
@@ -96,21 +96,6 @@ fn read_running<R: Source>(alloc: Global, r: &mut R, cuts: &[u64]) -> Result<Run
     sum_blocks(alloc, r, &mut reader, &mut block, sum)
 }
 
-// Writes the canonical text of a matrix, cell by cell from its blocks. It takes no memory.
-fn write_sum<W: Sink>(w: &mut W, m: &Hyper) -> Result<(), WriteFault>
-    requires { W.failure_count w.old + 1 < 2 ^ 64 }
-    ensures ok { OnOk result (HasTaken W.write_takes W.failure_count w.old w.new (matrix_text m.now)) }
-    ensures err { IfErr result (λ fault.
-        HasStopped W.write_takes W.failure_count w.old w.new (matrix_text m.now) fault.written) }
-{
-    let (rows, cols) = m.dims();
-    let mut writer = TextWriter::new(rows, cols, m.entries());
-    for cell in m.iter() {
-        writer.write_cell(w, cell)?;
-    }
-    writer.finish(w)
-}
-
 /// Sums the cells of a Matrix Market text, and writes the canonical text of the sum.
 ///
 /// The cells of the text's list go into layers with these cuts (none to seven, rising, each 1 to 2^40 entries), in
@@ -159,7 +144,7 @@ pub fn run_sum<R: Source, W: Sink>(
     }
     let sum = read_running(alloc, r, cuts)?;
     match sum.into_matrix(alloc) {
-        Ok(m) => match write_sum(w, &m) {
+        Ok(m) => match write_text(w, &m) {
             Ok(()) => Ok(()),
             Err(fault) => Err(SumFault::Output(fault)),
         },

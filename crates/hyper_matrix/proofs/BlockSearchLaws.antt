@@ -24,7 +24,7 @@ use Rattle.hyper_rows.proofs.SearchLaws.{AllBefore, EndsIn, ends-append, ends_be
 use Rattle.hyper_rows.proofs.SearchLaws.{before_trans, before_is, get_piece, none_behind, counted_more, counted_le}
 use Rattle.hyper_rows.proofs.SearchLaws.{counted_all, sum-append, before_row, before_col, not_before_same, as_true}
 use Rattle.hyper_rows.proofs.SearchLaws.{as_T}
-use Rattle.hyper_rows.proofs.OrderLaws.{sorted_front, sorted_back}
+use Rattle.hyper_rows.proofs.PlaceOrderLaws.{sorted_front, sorted_back}
 
 pub block_ends : (rows : Rows) → RowsFull rows → 0 < length rows → EndsIn (cells_of rows) (block_end rows)
 block_ends rows f h = subst (λ (r : Rows). EndsIn (cells_of r) (block_end rows))

@@ -9,8 +9,8 @@ use Rattle.cells.specs.Bounds.{IsDimension, IsWithin, AreWithin}
 use Rattle.hyper_rows.specs.Counts.{Place, place_cmp, built, count_sum}
 use Rattle.hyper_rows.specs.Rows.{Rows}
 use Rattle.hyper_rows.specs.Cells.{entry_of, built_of, cell_total}
-use Rattle.hyper_rows.proofs.PlaceLaws.{built-in_order}
-use Rattle.hyper_rows.proofs.ListLaws.{entries_total}
+use Rattle.hyper_rows.proofs.SortedListLaws.{built-in_order}
+use Rattle.hyper_rows.proofs.BuiltOfLaws.{entries_total}
 use Rattle.hyper_matrix.specs.Blocks.{all_cells, Grows}
 use Rattle.hyper_matrix.specs.Shared.{shared_counts, LiesWithin, Holds}
 use Rattle.hyper_matrix.specs.Refusals.{first_fault}

@@ -1,6 +1,6 @@
 pub use Rattle.hyper_rows.proofs.CountLaws
 pub use Rattle.hyper_rows.proofs.CellLaws
-pub use Rattle.hyper_rows.proofs.ListLaws
+pub use Rattle.hyper_rows.proofs.BuiltOfLaws
 pub mod MatrixLaws
 pub mod BlockLaws
 pub mod BuildLaws

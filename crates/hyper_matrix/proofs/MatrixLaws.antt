@@ -9,12 +9,12 @@ use Rattle.hyper_rows.specs.Counts.{Place, place_cmp, Counts, total, built, ewis
 use Rattle.hyper_rows.specs.Rows.{Rows, cells_of}
 use Rattle.hyper_matrix.specs.Matrix.{Matrix, matrix}
 use Rattle.hyper_rows.specs.Cells.{entry_of, built_of, cell_total}
-use Rattle.hyper_rows.proofs.ListLaws.{total-built_of}
+use Rattle.hyper_rows.proofs.BuiltOfLaws.{total-built_of}
 use Rattle.cells.specs.declared.cell.Cell.{Cell}
 use Rattle.hyper_matrix.specs.Blocks.{all_cells, AreBlocks, ends_from}
 use Rattle.hyper_matrix.specs.Shared.{shared_counts, LiesWithin, Holds, Keeps}
 use Rattle.hyper_rows.proofs.CountLaws.{total-ewise_add, ewise_add_comm, ewise_add-empty}
-use Rattle.hyper_rows.proofs.PlaceLaws.{built-in_order, total-in_order, len-in_order, places_of_sum}
+use Rattle.hyper_rows.proofs.SortedListLaws.{built-in_order, total-in_order, len-in_order, places_of_sum}
 
 pub keeps_none : (r c : ℕ) (blocks : List Rows) (ends : List ℕ) → IsDimension r → IsDimension c → blocks ≡ [] →
     ends ≡ [] → Keeps r c 0 blocks ends

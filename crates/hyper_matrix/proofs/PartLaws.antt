@@ -15,8 +15,8 @@ use Rattle.hyper_rows.specs.Cells.{entry_of, built_of, cell_total}
 use Rattle.hyper_rows.specs.Parts.{part_entries, listed, with_parts}
 use Rattle.hyper_rows.proofs.CountLaws.{exact_places, same_counts, get-part, get-built, gathered-rising, parts_whole}
 use Rattle.hyper_rows.proofs.CountLaws.{ewise_add_comm, ewise_add-empty}
-use Rattle.hyper_rows.proofs.PlaceLaws.{entries-in_order}
-use Rattle.hyper_rows.proofs.ListLaws.{entries_total}
+use Rattle.hyper_rows.proofs.SortedListLaws.{entries-in_order}
+use Rattle.hyper_rows.proofs.BuiltOfLaws.{entries_total}
 use Rattle.hyper_rows.proofs.PartLaws.{part_at, with_parts-append}
 use Rattle.hyper_matrix.specs.Matrix.{Matrix, matrix}
 use Rattle.hyper_matrix.specs.Blocks.{all_cells}

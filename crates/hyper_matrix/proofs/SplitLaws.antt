@@ -8,7 +8,7 @@ use Rattle.cells.specs.declared.cell.Cell.{Cell}
 use Rattle.hyper_rows.specs.Counts.{Place, place_cmp}
 use Rattle.hyper_rows.specs.Rows.{Rows, cells_of}
 use Rattle.hyper_rows.specs.Cells.{entry_of}
-use Rattle.hyper_rows.proofs.OrderLaws.{sorted_front, sorted_back}
+use Rattle.hyper_rows.proofs.PlaceOrderLaws.{sorted_front, sorted_back}
 use Rattle.hyper_matrix.specs.Blocks.{all_cells, AreBlocks, Grows}
 use Rattle.hyper_matrix.proofs.SumLaws.{split_cells}
 

@@ -19,10 +19,10 @@ use Rattle.hyper_rows.proofs.CountLaws.{ewise_add_assoc, built-append, total-ewi
 use Rattle.hyper_rows.proofs.CountLaws.{total-built, total-ewise_add}
 use Rattle.hyper_rows.proofs.CellLaws.{counts_of-sum_rows, in_order-sum_rows, sorted_rows, sum_of_cells}
 use Rattle.hyper_rows.proofs.CellLaws.{total-counts_of}
-use Rattle.hyper_rows.proofs.ListLaws.{counts_of-built, total-built_of}
+use Rattle.hyper_rows.proofs.BuiltOfLaws.{counts_of-built, total-built_of}
 use Rattle.hyper_rows.proofs.MergeLaws.{split_at, merged-nil, merged_less, merged_greater, merged_same}
-use Rattle.hyper_rows.proofs.OrderLaws.{all_map, precedes, before_first, before_begin, below_first, columns_rise}
-use Rattle.hyper_rows.proofs.OrderLaws.{next_left, next_right, next_sum, sorted_back}
+use Rattle.hyper_rows.proofs.PlaceOrderLaws.{all_map, precedes, before_first, before_begin, below_first, columns_rise}
+use Rattle.hyper_rows.proofs.PlaceOrderLaws.{next_left, next_right, next_sum, sorted_back}
 use Rattle.hyper_rows.proofs.InPlaceLaws.{still_rising, same_rows, total_moves, sum_rest}
 
 pub built-nil : built [] ≡ empty

@@ -14,7 +14,7 @@ use Rattle.hyper_rows.specs.Merged.{merged}
 use Rattle.hyper_rows.specs.Rows.{Entries, Rows, sum_entries, sum_rows, at_places, cells_of, KeysAbove, AreRising}
 use Rattle.hyper_rows.specs.Rows.{ColumnsRise, InOrder, counts_of, rows_total}
 use Rattle.hyper_rows.proofs.CountLaws.{places_total, same_counts, get-ewise_add, plus-none, T_both}
-use Rattle.hyper_rows.proofs.PlaceLaws.{entries-in_order}
+use Rattle.hyper_rows.proofs.SortedListLaws.{entries-in_order}
 use Rattle.hyper_rows.proofs.MergeLaws.{merged-nil, merged-left, merged_less, merged_greater, merged_same}
 
 -- what stands at a key

@@ -23,7 +23,7 @@ use Rattle.hyper_rows.proofs.CountLaws.{same_counts, get-built, get-ewise_add, g
 use Rattle.hyper_rows.proofs.CountLaws.{plus_assoc, plus_comm, plus-none, ewise_add_assoc, ewise_add-empty, total-built}
 use Rattle.hyper_rows.proofs.CountLaws.{total-ewise_add}
 use Rattle.hyper_rows.proofs.CellLaws.{sum_of_cells}
-use Rattle.hyper_rows.proofs.ListLaws.{built_joined, total-built_of, built_of-none}
+use Rattle.hyper_rows.proofs.BuiltOfLaws.{built_joined, total-built_of, built_of-none}
 
 -- two lists of cells that differ in the count of one
 record Recounts (old new : List (Place × ℕ)) (p : Place) (m n : ℕ) : Type 0 where

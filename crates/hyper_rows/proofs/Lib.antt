@@ -2,12 +2,12 @@ pub mod CountLaws
 pub mod MergeLaws
 pub mod RowLaws
 pub mod CellLaws
-pub mod PlaceLaws
+pub mod SortedListLaws
 pub mod BuildLaws
-pub mod OrderLaws
+pub mod PlaceOrderLaws
 pub mod RowEndLaws
 pub mod SearchLaws
-pub mod ListLaws
+pub mod BuiltOfLaws
 pub mod RunCellLaws
 pub mod PartLaws
 pub mod InPlaceLaws

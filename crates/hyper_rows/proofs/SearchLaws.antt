@@ -15,7 +15,7 @@ use Rattle.std.proofs.lemmas.Bool.{false≢true}
 use Rattle.std.proofs.lemmas.List.{append-nil, take-append-drop, take_more, take_all, drop_more, drop_all, map-append}
 use Rattle.std.proofs.lemmas.List.{length-map}
 use Rattle.std.proofs.lemmas.List.Elements.{filter-append}
-use Rattle.hyper_rows.proofs.OrderLaws.{sorted_front, sorted_back}
+use Rattle.hyper_rows.proofs.PlaceOrderLaws.{sorted_front, sorted_back}
 use Rattle.hyper_rows.specs.Counts.{Place, place_cmp, count_sum}
 use Rattle.hyper_rows.specs.Rows.{Entries, Rows, at_places, cells_of}
 use Rattle.hyper_rows.specs.Search.{is_before, first_from, row_cells, last_place, row_end, TurnsAt, StandsAt, IsRowSum}

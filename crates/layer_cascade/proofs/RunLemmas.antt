@@ -11,7 +11,7 @@ use Rattle.std.proofs.lemmas.List.{map-append, take-map, take-append-drop, drop_
 use Rattle.hyper_rows.specs.Counts.{Place, place_cmp, Counts, count_at, add_at, add_all, ewise_add, plus, total}
 use Rattle.hyper_rows.proofs.CountLaws.{places_total, get-add_at, plus-none, T_first, T_second, less_not_equal, tied}
 use Rattle.hyper_rows.proofs.CountLaws.{ewise_add-empty, ewise_add_assoc, ewise_add_comm, total-ewise_add}
-use Rattle.hyper_rows.proofs.PlaceLaws.{same_tie}
+use Rattle.hyper_rows.proofs.SortedListLaws.{same_tie}
 use Rattle.hyper_matrix.specs.Matrix.{Matrix, matrix}
 use Rattle.layer_cascade.specs.Cascade.{content}
 use Rattle.layer_cascade.specs.Runs.{count_new}

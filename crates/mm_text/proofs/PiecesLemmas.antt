@@ -8,7 +8,7 @@ use Rattle.std.proofs.lemmas.Bool.Decides.{nat_tests}
 use Rattle.std.specs.Prelude.{nat_eq, nat_lt, count_by}
 use Rattle.mm_text.specs.Lines.{lines_of, joined, bytes_of, line_at, is_line_feed, is_limited, is_comment, content}
 use Rattle.mm_text.specs.Lines.{IsLine}
-use Rattle.mm_text.specs.Texts.{NoFaultWithin, Spells}
+use Rattle.mm_text.specs.Texts.{NoFaultWithin}
 use Rattle.mm_text.specs.Stages.{at, state, Keeps, LineFault, IsCarried, EndsCarried, Holds, AddsLine, Advances}
 use Rattle.mm_text.specs.Stages.{StopsWithin, BeginsWith, cut_kind}
 use Rattle.mm_text.specs.Faults.{Explains, Shows, IsReadFault}
@@ -18,7 +18,7 @@ use Rattle.cells.specs.declared.cell.Cell.{Cell}
 use Rattle.mm_text.specs.declared.limits.TextLimits.{TextLimits}
 use Rattle.mm_text.specs.declared.stages.Stage.{Stage}
 use Rattle.mm_text.specs.declared.stages.Stage.TheVariants.{AtBanner}
-use Rattle.mm_text.proofs.Clean.{clean_none, first_overrun_at, overrun_of, first_missing_at}
+use Rattle.mm_text.proofs.Clean.{clean_none, first_overrun_at, overrun_of}
 use Rattle.mm_text.proofs.Cuts.{lines_of-joined, lines_of-line, length-joined, joined-append, all_lines-append}
 use Rattle.mm_text.proofs.ProgressLemmas.{limited_is}
 use Rattle.mm_text.proofs.CutOffLemmas.{count_lines, continues, overrun_longer, limited_longer, first_cut}

@@ -12,7 +12,7 @@ use Rattle.cells.specs.declared.cell.Cell.{Cell}
 use Rattle.cells.specs.Sums.{cell_total}
 use Rattle.hyper_rows.proofs.CellLaws.{same_place}
 use Rattle.hyper_rows.proofs.CountLaws.{built-append, total-ewise_add}
-use Rattle.hyper_rows.proofs.ListLaws.{total-built_of}
+use Rattle.hyper_rows.proofs.BuiltOfLaws.{total-built_of}
 use Rattle.hyper_matrix.specs.Counts.{Counts, ewise_add, built, total}
 use Rattle.hyper_matrix.specs.Cells.{entry_of, built_of}
 use Rattle.hyper_matrix.specs.Matrix.{Matrix, matrix}

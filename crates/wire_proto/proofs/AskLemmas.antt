@@ -3,7 +3,8 @@ use Rattle.std.proofs.Common.{◌≡◌, ℕ, ◌<◌, ◌≤◌, List, length, 
 use Rattle.std.proofs.lemmas.Bool.{lt-ltb, le-ltb}
 use Rattle.hyper_rows.specs.declared.search.RowSum.{RowSum}
 use Rattle.wire_proto.specs.Keeping.{Event, cell, row, status, export, save}
-use Rattle.wire_proto.specs.Replies.{value, row_sum, counts, save_reply, text, text_reply, matrix_text, refused}
+use Rattle.wire_proto.specs.Replies.{value, row_sum, counts, save_reply, text, text_reply, refused}
+use Rattle.wire_proto.specs.MatrixText.{matrix_text}
 use Rattle.wire_proto.specs.Answering.{Answers, asked}
 use Rattle.hyper_matrix.specs.Matrix.{Matrix}
 use Rattle.wire_proto.specs.declared.request.Request.TheVariants.{Cell as CellAt, Row, Status, Export, Save}

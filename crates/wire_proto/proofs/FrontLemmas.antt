@@ -4,6 +4,7 @@ use Rattle.std.proofs.Common.{refl, sym, ◌∙◌, ap, arith, length-append, le
 use Rattle.std.proofs.Common.{Err}
 use Rattle.std.proofs.lemmas.List.{take-append-le, drop-append-le, get_or_append_left}
 use Rattle.std.proofs.lemmas.Bool.{lt-ltb, le-ltb, ltb-true, ltb-false}
+use Rattle.std.proofs.lemmas.Option.{same_Some}
 use Rattle.wire_proto.specs.Frames.{front, behind_head, head_fault, fault_of_kind, length_fits, head_len, head_kind}
 use Rattle.wire_proto.specs.Frames.{request_of, NextGives}
 use Rattle.wire_proto.specs.Looks.{LooksWhole}
@@ -86,15 +87,11 @@ headed_by b x false h e = ltb-false (length b) 5 h
 pub headed : (b : List ℕ) (x : Result Request FrameFault × List ℕ) → front b ≡ Some x → 5 ≤ length b
 headed b x e = headed_by b x (nat_lt (length b) 5) refl e
 
--- of two options that are one, the parts
-some_is : {A : Type 0} (x y : A) → Some x ≡ Some y → x ≡ y
-some_is x y e = cc
-
 faultless_by : (b : List ℕ) (r : Request) (rest : List ℕ) (o : Option FrameFault) →
     head_fault (head_kind b) (head_len b) ≡ o → 5 ≤ length b → front b ≡ Some (Ok r, rest) → o ≡ None
 faultless_by b r rest None h l e = refl
 faultless_by b r rest (Some f) h l e =
-    let both : ◌≡◌ {A = Result Request FrameFault × List ℕ} (Err f, b) (Ok r, rest) = some_is _ _
+    let both : ◌≡◌ {A = Result Request FrameFault × List ℕ} (Err f, b) (Ok r, rest) = same_Some _ _
     (sym (front_bad b f l h) ∙ e) in
     let heads : ◌≡◌ {A = Result Request FrameFault} (Err f) (Ok r) = ap
     (λ (p : Result Request FrameFault × List ℕ). p.0) both in absurd (cc)
@@ -117,7 +114,7 @@ parts_front : (b : List ℕ) (r : Request) (rest : List ℕ) → front b ≡ Som
       Ok (request_of (head_kind b) (take (head_len b) (drop 5 b))),
       drop (5 + head_len b) b,
     ) (Ok r, rest)
-parts_front b r rest e = some_is _ _ (sym (front_whole b (headed b (Ok r, rest) e) (faultless b r rest e)
+parts_front b r rest e = same_Some _ _ (sym (front_whole b (headed b (Ok r, rest) e) (faultless b r rest e)
     (whole_front b r rest e)) ∙ e)
 
 pub front_rest : (b : List ℕ) (r : Request) (rest : List ℕ) → front b ≡ Some (Ok r, rest) →
@@ -165,7 +162,7 @@ never_part_by b f rest true t h l e = let n = front_part b l h (ltb-true (length
 never_part_by b f rest false t h l e =
     let both : ◌≡◌ {A = Result Request FrameFault × List ℕ}
     (Ok (request_of (head_kind b) (take (head_len b) (drop 5 b))), drop (5 + head_len b) b) (Err f, rest) =
-    some_is _ _ (sym (front_whole b l h (ltb-false (length b) (5 + head_len b) t)) ∙ e) in
+    same_Some _ _ (sym (front_whole b l h (ltb-false (length b) (5 + head_len b) t)) ∙ e) in
     let heads : ◌≡◌ {A = Result Request FrameFault} (Ok (request_of (head_kind b) (take (head_len b) (drop 5 b))))
     (Err f) = ap (λ (p : Result Request FrameFault × List ℕ). p.0) both in cc
 
@@ -177,7 +174,7 @@ never_part b f rest h l e = never_part_by b f rest (nat_lt (length b) (5 + head_
 bad_by : (b : List ℕ) (f : FrameFault) (rest : List ℕ) (o : Option FrameFault) →
     head_fault (head_kind b) (head_len b) ≡ o → 5 ≤ length b → front b ≡ Some (Err f, rest) → o ≡ Some f
 bad_by b f rest (Some g) h l e =
-    let both : ◌≡◌ {A = Result Request FrameFault × List ℕ} (Err g, b) (Err f, rest) = some_is _ _
+    let both : ◌≡◌ {A = Result Request FrameFault × List ℕ} (Err g, b) (Err f, rest) = same_Some _ _
     (sym (front_bad b g l h) ∙ e) in
     let heads : ◌≡◌ {A = Result Request FrameFault} (Err g) (Err f) = ap
     (λ (p : Result Request FrameFault × List ℕ). p.0) both in cc

@@ -3,6 +3,7 @@ use Rattle.std.proofs.Common.{◌≡◌, ◌⊎◌, inl, inr, ℕ, ◌+◌, ◌<
 use Rattle.std.proofs.Common.{subst, arith, Some, Result, Ok, Err}
 use Rattle.cells.specs.declared.cell.Cell.{Cell}
 use Rattle.std.proofs.lemmas.Bool.{cases_lt}
+use Rattle.std.proofs.lemmas.Option.{same_Some}
 use Rattle.mm_text.specs.Texts.{Spells}
 use Rattle.mm_text.proofs.OneFile.{one_file}
 use Rattle.mm_text.proofs.OneFirst.{one_first}
@@ -93,9 +94,6 @@ put_is v list b (Err (fault.OverTotal total)) t w h e = h
 put_is v list b (Err fault.BookFull) t w h e = h
 put_is v list b (Err fault.RecordsDiffer) t w h e = h
 
-some_is : {A : Type 0} (x y : A) → Some x ≡ Some y → x ≡ y
-some_is x y e = cc
-
 abbrev Same : List ℕ → List ℕ → List Submission → List Submission → Type 0
 Same w w' t t' = (w ≡ w') × (t ≡ t')
 
@@ -103,7 +101,7 @@ Same w w' t t' = (w ≡ w') × (t ≡ t')
 event_once : (v : Setting) (list : List Submission) (e e' : Event) (w w' : List ℕ) (t t' : List Submission) → e ≡ e' →
     t ≡ t' →
     reply_of e ≡ Some w → reply_of e' ≡ Some w' → Same w w' t t'
-event_once v list e e' w w' t t' i j h k = (some_is w w' (sym h ∙ ap reply_of i ∙ k), j)
+event_once v list e e' w w' t t' i j h k = (same_Some w w' (sym h ∙ ap reply_of i ∙ k), j)
 
 -- an exported matrix that is replied to is the object's
 export_is : (v : Setting) (list : List Submission) (a : Result Matrix AllocError) (t : List Submission) (w : List ℕ) →

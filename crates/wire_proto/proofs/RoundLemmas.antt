@@ -82,9 +82,6 @@ put_tail : (client n : ℕ) (text : List ℕ) → drop 16 (number client ++ numb
 unfolding number
 put_tail client n text = refl
 
-put_second : (m n : ℕ) (text : List ℕ) → n < 2 ^ 64 → number_at 8 (number m ++ number n ++ text) ≡ n
-put_second m n text h = number_second m n text h
-
 put_first : (m n : ℕ) (text : List ℕ) → m < 2 ^ 64 → number_at 0 (number m ++ number n ++ text) ≡ m
 unfolding number_at number
 put_first m n text h = from_be_bytes-to_be_bytes_8 m h
@@ -92,7 +89,7 @@ put_first m n text h = from_be_bytes-to_be_bytes_8 m h
 put_read : (client n : ℕ) (text : List ℕ) → client < 2 ^ 64 → n < 2 ^ 64 →
     request_of 1 (number client ++ number n ++ text) ≡ Put client n text
 unfolding request_of
-put_read client n text h k = rw (put_first client n text h, put_second client n text k, put_tail client n text) refl
+put_read client n text h k = rw (put_first client n text h, number_second client n text k, put_tail client n text) refl
 
 cell_read : (row col : ℕ) → row < 2 ^ 64 → col < 2 ^ 64 → request_of 2 (number row ++ number col) ≡ Cell row col
 unfolding request_of

@@ -9,7 +9,7 @@ use Rattle.mm_text.specs.Canonical.{canonical_head, numbers_line, entry_line, en
 use Rattle.hyper_matrix.specs.Counts.{Place}
 use Rattle.hyper_matrix.specs.Cells.{entry_of}
 use Rattle.hyper_matrix.specs.Matrix.{Matrix}
-use Rattle.wire_proto.specs.Replies.{cell_of, cells_in_order, matrix_text}
+use Rattle.wire_proto.specs.MatrixText.{cell_of, cells_in_order, matrix_text}
 
 -- the head of a matrix's text, and behind it the lines of its cells
 pub text_begins : (m : Matrix) (rows cols count : ℕ) (left : List (Place × ℕ)) →
@@ -53,16 +53,3 @@ length_begins m rows cols count first left dims counted is e =
     let head = length-append (codes "%%MatrixMarket matrix coordinate integer general" ++ 10 ∷ [])
     (numbers_line rows cols count) in
     omega (arith, whole, parts, head, banner, e)
-
-pub length_next : (sum line whole : ℕ) (left rest : List (Place × ℕ)) (cell : Cell) → left ≡ entry_of cell ∷ rest →
-    line ≡ length (entry_line cell) →
-    sum + length (entry_lines (map cell_of left)) ≡ whole → sum + line + length (entry_lines (map cell_of rest)) ≡ whole
-length_next sum line whole left rest cell is e told =
-    let lines = ap (λ (es : List (Place × ℕ)). length (entry_lines (map cell_of es))) is in
-    let parts = length-append (entry_line cell) (entry_lines (map cell_of rest)) in
-    omega (arith, told, lines, parts, e)
-
-pub length_done : (sum whole : ℕ) (left : List (Place × ℕ)) → left ≡ [] →
-    sum + length (entry_lines (map cell_of left)) ≡ whole → sum ≡ whole
-length_done sum whole left is told = let none = ap (λ (es : List (Place × ℕ)). length
-    (entry_lines (map cell_of es))) is in omega (arith, told, none)

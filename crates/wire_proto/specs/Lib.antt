@@ -1,6 +1,7 @@
 pub mod Frames
 pub mod Looks
 pub mod Keeping
+pub mod MatrixText
 pub mod Replies
 pub mod Answering
 pub mod PutTexts

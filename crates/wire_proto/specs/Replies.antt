@@ -1,12 +1,8 @@
 -- Reply frames.
-use Rattle.std.specs.Prelude.{ℕ, nat_lt, if◌then◌else◌, List, [], ◌∷◌, ◌++◌, length, map, Option, Some, None, Result}
+use Rattle.std.specs.Prelude.{ℕ, nat_lt, if◌then◌else◌, List, [], ◌∷◌, ◌++◌, length, Option, Some, None, Result}
 use Rattle.std.specs.Prelude.{Ok, Err}
 use Rattle.std.specs.Int.{w16, to_be_bytes}
-use Rattle.std.specs.FinMap.{entries}
 use Rattle.std.specs.declared.alloc.AllocError.{AllocError}
-use Rattle.cells.specs.declared.cell.Cell.{Cell}
-use Rattle.mm_text.specs.Canonical.{canonical}
-use Rattle.hyper_matrix.specs.Counts.{Place, Counts}
 use Rattle.hyper_rows.specs.declared.search.RowSum.{RowSum}
 use Rattle.hyper_matrix.specs.Matrix.{Matrix}
 use Rattle.batch_store.specs.declared.verdict.Kept.{Kept}
@@ -15,6 +11,7 @@ use Rattle.plain_engine.specs.declared.fault.PutFault.{PutFault}
 use Rattle.plain_engine.specs.declared.fault.PutFault.TheVariants.{Memory, NumberReused, OverTotal, BookFull}
 use Rattle.plain_engine.specs.declared.fault.PutFault.TheVariants.{RecordsDiffer}
 use Rattle.wire_proto.specs.Frames.{frame, number}
+use Rattle.wire_proto.specs.MatrixText.{matrix_text}
 use Rattle.wire_proto.specs.Keeping.{Event, put, cell, row, status, export, save}
 use Rattle.wire_proto.specs.declared.request.FrameFault.{FrameFault}
 use Rattle.wire_proto.specs.declared.request.FrameFault.TheVariants.{Memory as NoMemory, TooLarge, UnknownKind}
@@ -52,16 +49,6 @@ fault_code NoMemory = 1
 fault_code TooLarge = 50
 fault_code UnknownKind = 51
 fault_code BadLength = 52
-
--- the canonical text of a matrix: its cells by row and then by column
-abbrev pub cell_of : Place × ℕ → Cell
-cell_of entry = record { row = entry.0.0; col = entry.0.1; count = entry.1 }
-
-abbrev pub cells_in_order : Counts → List Cell
-cells_in_order counts = map cell_of (entries counts)
-
-unfoldable pub matrix_text : Matrix → List ℕ
-matrix_text m = canonical m.rows m.cols (cells_in_order m.counts)
 
 -- how the answer of a call is spelled; None where memory ran out
 abbrev pub put_reply : Result Kept PutFault → Option (List ℕ)

@@ -1,6 +1,7 @@
 -- The bytes of a reply.
 use Rattle.std.specs.Prelude.{◌≡◌, ℕ, ◌≤◌, List, length}
-use Rattle.wire_proto.specs.Replies.{text, matrix_text}
+use Rattle.wire_proto.specs.MatrixText.{matrix_text}
+use Rattle.wire_proto.specs.Replies.{text}
 use Rattle.wire_proto.specs.declared.asking.Spelled.{Spelled}
 use Rattle.wire_proto.specs.declared.asking.Spelled.TheVariants.{Short, Text}
 

@@ -1,6 +1,7 @@
 //! Asks the keeper what a request asks, and spells the reply.
 ghost use Rattle.std.specs.Prelude.{◌≡◌, ◌≢◌, ℕ, ◌+◌, ◌<◌, ◌≤◌, Some, None, IfOk, OnErr};
-ghost use Rattle.wire_proto.specs.Replies.{put_reply, text_reply, matrix_text};
+ghost use Rattle.wire_proto.specs.MatrixText.{matrix_text};
+ghost use Rattle.wire_proto.specs.Replies.{put_reply, text_reply};
 ghost use Rattle.wire_proto.specs.Answering.{Answers, RunsOut};
 ghost use Rattle.wire_proto.specs.Spelled.{spelled, fits_reply};
 

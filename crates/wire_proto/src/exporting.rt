@@ -1,10 +1,10 @@
-//! The text of a matrix as the body of a reply: its length first, then its bytes.
+//! The canonical text of a matrix, which is the body of a reply: its length first, then its bytes.
 //!
 //! The length is worked out by a walk over the cells, and the text is written by another, through the buffer of a
 //! writer: it never stands in memory as a whole.
 ghost use Rattle.std.specs.Prelude.{◌≡◌, ℕ, ◌+◌, ◌<◌, ◌≤◌, ◌^◌, length, decimal, MatchOption, OnOk, IfErr};
 ghost use Rattle.byte_io.specs.Writing.{HasTaken, HasStopped};
-ghost use Rattle.wire_proto.specs.Replies.{matrix_text};
+ghost use Rattle.wire_proto.specs.MatrixText.{matrix_text};
 ghost use Rattle.mm_text.specs.Canonical.{numbers_line};
 
 use crate::limits::MOST_BODY;
@@ -51,7 +51,10 @@ pub fn text_length(m: &Hyper) -> Option<u32>
     Some(sum as u32)
 }
 
-/// Writes the canonical text of a matrix, cell by cell from its blocks. It takes no memory.
+/// Writes the canonical text of a matrix, its cells by row and then by column.
+///
+/// At an Err `written` counts from the first byte of the text. It takes no memory and time in proportion to the bytes,
+/// and does not flush.
 pub fn write_text<W: Sink>(w: &mut W, m: &Hyper) -> Result<(), WriteFault>
     requires { W.failure_count w.old + 1 < 2 ^ 64 }
     ensures ok { OnOk result (HasTaken W.write_takes W.failure_count w.old w.new (matrix_text m.now)) }

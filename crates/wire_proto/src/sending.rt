@@ -2,7 +2,8 @@
 ghost use Rattle.std.specs.Prelude.{◌≡◌, ◌+◌, ◌<◌, ◌≤◌, ◌^◌, length};
 ghost use Rattle.wire_proto.specs.Spelled.{spelled, fits_reply};
 ghost use Rattle.wire_proto.specs.Closing.{Closes, Sends};
-ghost use Rattle.wire_proto.specs.Replies.{text as text_of, matrix_text};
+ghost use Rattle.wire_proto.specs.MatrixText.{matrix_text};
+ghost use Rattle.wire_proto.specs.Replies.{text as text_of};
 
 use crate::asking::Spelled;
 use crate::ended::Ended;

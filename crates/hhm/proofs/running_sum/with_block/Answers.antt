@@ -2,7 +2,7 @@ use Rattle.std.proofs.Common.{ap, ◌∙◌, subst, sym}
 use Rattle.cells.specs.Bounds.{AreWithin}
 use Rattle.hyper_matrix.specs.Cells.{built_of}
 use Rattle.hyper_matrix.specs.Matrix.{matrix}
-use Rattle.hyper_matrix.proofs.ListLaws.{built_of-same}
+use Rattle.hyper_matrix.proofs.BuiltOfLaws.{built_of-same}
 use Rattle.hhm.proofs.SumLemmas.{block_added}
 use Rattle.hhm.proofs.running_sum.with_block.Goals as goal
 

@@ -1,7 +1,7 @@
 use Rattle.std.proofs.Common.{subst}
 use Rattle.hyper_matrix.specs.Blocks.{Grows}
-use Rattle.hyper_rows.proofs.OrderLaws.{never_fall}
-use Rattle.hyper_rows.proofs.ListLaws.{exact_cells}
+use Rattle.hyper_rows.proofs.PlaceOrderLaws.{never_fall}
+use Rattle.hyper_rows.proofs.BuiltOfLaws.{exact_cells}
 use Rattle.hyper_matrix.proofs.BlockLaws.{grows_by}
 use Rattle.hyper_matrix.proofs.SplitLaws.{some_rows}
 use Rattle.hyper_matrix.proofs.split.push_block.Goals as goal

@@ -7,7 +7,7 @@ use Rattle.hyper_rows.specs.Rows.{cells_of}
 use Rattle.hyper_matrix.specs.Blocks.{all_cells}
 use Rattle.hyper_rows.specs.Cells.{entry_of}
 use Rattle.hyper_rows.specs.Places.{Precede, IsFirst}
-use Rattle.hyper_rows.proofs.OrderLaws.{sorted_back, precede_none}
+use Rattle.hyper_rows.proofs.PlaceOrderLaws.{sorted_back, precede_none}
 use Rattle.hyper_matrix.proofs.SumLaws.{first_of_blocks, ends_left, ends_right, split_cells}
 use Rattle.hyper_matrix.proofs.sum.end_before.Goals as goal
 

@@ -5,7 +5,7 @@ use Rattle.std.proofs.lemmas.List.Edits.{between_more}
 use Rattle.cells.specs.declared.cell.Cell.{Cell}
 use Rattle.hyper_rows.specs.Cells.{entry_of}
 use Rattle.hyper_rows.specs.Places.{Less, AllPlaces}
-use Rattle.hyper_rows.proofs.OrderLaws.{all_append}
+use Rattle.hyper_rows.proofs.PlaceOrderLaws.{all_append}
 use Rattle.hyper_matrix.proofs.sum.end_below.Goals as goal
 
 abbrev none : Cell

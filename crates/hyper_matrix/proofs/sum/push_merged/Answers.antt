@@ -2,7 +2,7 @@ use Rattle.std.proofs.Common.{ap, ◌∙◌, refl, arith}
 use Rattle.hyper_rows.specs.Rows.{Rows, rows_total, sum_rows}
 use Rattle.hyper_matrix.proofs.BlockLaws.{grows_by}
 use Rattle.hyper_rows.proofs.CellLaws.{sum_of_cells}
-use Rattle.hyper_rows.proofs.OrderLaws.{never_fall}
+use Rattle.hyper_rows.proofs.PlaceOrderLaws.{never_fall}
 use Rattle.hyper_matrix.proofs.SumLaws.{grows_sum, grows_shared, sum_rising, sum_some, sum_total, added_total}
 use Rattle.hyper_matrix.proofs.sum.push_merged.Goals as goal
 

@@ -5,8 +5,8 @@ use Rattle.std.proofs.lemmas.List.{drop_all}
 use Rattle.hyper_rows.specs.Counts.{Place, place_cmp, count_sum, built, ewise_add}
 use Rattle.hyper_matrix.specs.Blocks.{all_cells}
 use Rattle.hyper_matrix.proofs.BlockLaws.{sum-append}
-use Rattle.hyper_rows.proofs.ListLaws.{entries_total}
-use Rattle.hyper_rows.proofs.OrderLaws.{sorted_front, sorted_back}
+use Rattle.hyper_rows.proofs.BuiltOfLaws.{entries_total}
+use Rattle.hyper_rows.proofs.PlaceOrderLaws.{sorted_front, sorted_back}
 use Rattle.hyper_matrix.proofs.SumLaws.{nothing_last, listed, part_cells, part_step, part_count}
 use Rattle.hyper_matrix.proofs.sum.sum_all.Goals as goal
 

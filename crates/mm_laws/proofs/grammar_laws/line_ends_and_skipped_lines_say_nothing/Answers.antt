@@ -11,7 +11,8 @@ returns-clause-returns c = λ text text' limits rows cols cells plain is fits fi
 )
 
 pub returns-clause-skipped : goal.returns-clause-skipped
-returns-clause-skipped c = λ text text' limits rows cols cells first before after line is is' skipped short fits fits'. (
-  skipped_more text text' limits rows cols cells first before after line is is' skipped short fits',
-  skipped_less text text' limits rows cols cells first before after line is is' skipped fits,
-)
+returns-clause-skipped c =
+    λ text text' limits rows cols cells first before after line is is' skipped short fits fits'. (
+      skipped_more text text' limits rows cols cells first before after line is is' skipped short fits',
+      skipped_less text text' limits rows cols cells first before after line is is' skipped fits,
+    )

@@ -3,7 +3,7 @@ use Rattle.std.specs.List.{AllByRecursion}
 use Rattle.mm_text.specs.Canonical.{entry_lines}
 use Rattle.hyper_matrix.specs.Shared.{LiesWithin}
 use Rattle.cells.specs.Bounds.{IsDimension}
-use Rattle.wire_proto.specs.Replies.{cell_of, matrix_text}
+use Rattle.wire_proto.specs.MatrixText.{cell_of, matrix_text}
 use Rattle.wire_proto.proofs.exporting.text_length.Given as goal
 
 abbrev pub invariant-loop-cell : goal.invariant-loop-cell

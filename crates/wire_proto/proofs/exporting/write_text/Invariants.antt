@@ -3,7 +3,7 @@ use Rattle.std.specs.List.{AllByRecursion}
 use Rattle.mm_text.specs.Canonical.{entry_lines}
 use Rattle.mm_text.specs.Writing.{HasWritten}
 use Rattle.hyper_matrix.specs.Shared.{LiesWithin}
-use Rattle.wire_proto.specs.Replies.{cell_of, matrix_text}
+use Rattle.wire_proto.specs.MatrixText.{cell_of, matrix_text}
 use Rattle.wire_proto.proofs.exporting.write_text.Given as goal
 
 abbrev pub invariant-loop-cell : goal.invariant-loop-cell

@@ -1,5 +1,5 @@
 use Rattle.std.proofs.Common.{arith}
-use Rattle.wire_proto.specs.Replies.{matrix_text}
+use Rattle.wire_proto.specs.MatrixText.{matrix_text}
 use Rattle.wire_proto.proofs.SendLemmas.{length_text}
 use Rattle.wire_proto.proofs.sending.send_reply.Goals as goal
 

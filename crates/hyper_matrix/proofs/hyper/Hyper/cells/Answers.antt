@@ -6,7 +6,7 @@ use Rattle.hyper_matrix.specs.Matrix.{Matrix}
 use Rattle.hyper_matrix.specs.Blocks.{all_cells}
 use Rattle.hyper_matrix.specs.Shared.{LiesWithin}
 use Rattle.hyper_rows.specs.Cells.{entry_of}
-use Rattle.hyper_rows.proofs.PlaceLaws.{entries-in_order}
+use Rattle.hyper_rows.proofs.SortedListLaws.{entries-in_order}
 use Rattle.hyper_matrix.proofs.MatrixLaws.{cells_within}
 use Rattle.hyper_matrix.proofs.hyper.Hyper.cells.Goals as goal
 

@@ -4,7 +4,7 @@ use Rattle.hyper_rows.specs.Counts.{total, ewise_add}
 use Rattle.hyper_rows.specs.Cells.{built_of}
 use Rattle.hyper_matrix.specs.Matrix.{Matrix, matrix}
 use Rattle.hyper_matrix.specs.Shared.{Holds}
-use Rattle.hyper_rows.proofs.OrderLaws.{sorted_rising}
+use Rattle.hyper_rows.proofs.PlaceOrderLaws.{sorted_rising}
 use Rattle.hyper_matrix.proofs.BuildLaws.{entries_within}
 use Rattle.hyper_matrix.proofs.MatrixLaws.{holds_added, added_to_none, kept_total, no_blocks}
 use Rattle.hyper_matrix.proofs.hyper.Hyper.into_sum_with_cells.Goals as goal

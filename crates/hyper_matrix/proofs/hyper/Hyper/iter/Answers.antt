@@ -4,7 +4,7 @@ use Rattle.std.specs.FinMap.{entries}
 use Rattle.hyper_matrix.specs.Matrix.{Matrix}
 use Rattle.hyper_matrix.specs.Blocks.{all_cells, AreBlocks}
 use Rattle.hyper_matrix.specs.Shared.{LiesWithin}
-use Rattle.hyper_rows.proofs.PlaceLaws.{entries-in_order}
+use Rattle.hyper_rows.proofs.SortedListLaws.{entries-in_order}
 use Rattle.hyper_matrix.proofs.hyper.Hyper.iter.Goals as goal
 
 pub new-requires : goal.new-requires

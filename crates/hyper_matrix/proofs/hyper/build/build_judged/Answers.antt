@@ -3,7 +3,7 @@ use Rattle.cells.specs.Bounds.{AreWithin}
 use Rattle.cells.specs.Order.{Rise}
 use Rattle.hyper_rows.specs.Cells.{built_of, cell_total}
 use Rattle.hyper_matrix.specs.Matrix.{matrix}
-use Rattle.hyper_rows.proofs.ListLaws.{built_of-none, built_of-same}
+use Rattle.hyper_rows.proofs.BuiltOfLaws.{built_of-none, built_of-same}
 use Rattle.hyper_matrix.proofs.RefusalLaws.{no_faults}
 use Rattle.hyper_matrix.proofs.hyper.build.build_judged.Goals as goal
 

@@ -1,4 +1,4 @@
-use Rattle.hyper_rows.proofs.OrderLaws.{sorted_rising}
+use Rattle.hyper_rows.proofs.PlaceOrderLaws.{sorted_rising}
 use Rattle.hyper_matrix.proofs.BuildLaws.{entries_within}
 use Rattle.hyper_matrix.proofs.hyper.build.of_list.Goals as goal
 

@@ -9,7 +9,7 @@ use Rattle.hyper_rows.specs.Cells.{entry_of, built_of, cell_total, cells_at}
 use Rattle.cells.specs.declared.cell.Cell.{Cell}
 use Rattle.std.specs.FinMap.{get, get-from_entries, empty, is_sorted, entries}
 use Rattle.hyper_rows.specs.Rows.{Rows, InOrder, cells_of, counts_of}
-use Rattle.hyper_rows.proofs.PlaceLaws.{built-in_order, entries-in_order}
+use Rattle.hyper_rows.proofs.SortedListLaws.{built-in_order, entries-in_order}
 use Rattle.hyper_rows.proofs.CellLaws.{sorted_rows, same_place}
 use Rattle.hyper_rows.proofs.CountLaws.{places_total, gathered-rising, total-built, gathered, get-built, built-append}
 use Rattle.hyper_rows.proofs.CountLaws.{same_counts}

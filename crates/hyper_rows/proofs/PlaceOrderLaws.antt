@@ -15,7 +15,7 @@ use Rattle.hyper_rows.proofs.CountLaws.{places_total, T_first, T_second, T_both,
 use Rattle.hyper_rows.proofs.CountLaws.{ewise_add_comm, ewise_add_assoc}
 use Rattle.cells.proofs.OrderLaws.{less_place}
 use Rattle.hyper_rows.proofs.BuildLaws.{not_below}
-use Rattle.hyper_rows.proofs.PlaceLaws.{built-in_order, places_of_sum, same_tie}
+use Rattle.hyper_rows.proofs.SortedListLaws.{built-in_order, places_of_sum, same_tie}
 
 pub before_before : (p q r : Place) → Less p q → Less q r → Less p r
 before_before p q r a b = subst (λ o. T (is_lt o)) (sym (places_total.trans p q r (is_less _ a) (is_less _ b))) tt
