@@ -1,15 +1,17 @@
 -- Which parts of a batch have cells.
-use Rattle.std.proofs.Common.{◌≡◌, ℕ, ◌<◌, Bool, true, false, cond, ◌||◌, List, [], ◌∷◌, length, Some, None, refl, ◌∙◌}
-use Rattle.std.proofs.Common.{ap, arith}
+use Rattle.std.proofs.Common.{◌≡◌, ℕ, zero, suc, ◌<◌, Bool, true, false, cond, ◌||◌, List, [], ◌∷◌, ◌++◌, length, map}
+use Rattle.std.proofs.Common.{Some, None, refl, ◌∙◌, ap, arith}
+use Rattle.std.proofs.lemmas.Bool.{eq-eqb, ne_eqb}
+use Rattle.std.proofs.lemmas.List.{map-append}
 use Rattle.std.specs.List.{list_any}
 use Rattle.std.specs.FinMap.{entries, len, len-entries}
 use Rattle.hyper_rows.specs.Parts.{part_entries}
 use Rattle.hyper_matrix.specs.Counts.{Place, Counts, part, in_part}
-use Rattle.hyper_matrix.specs.Matrix.{Matrix, matrix}
+use Rattle.hyper_matrix.specs.Parts.{parts_below}
 use Rattle.hyper_matrix.proofs.PartLaws.{entries-part}
 use Rattle.batch_store.specs.Batches.{Submission}
 use Rattle.batch_store.specs.Parts.{concerns}
-use Rattle.batch_store.specs.Cuts.{cut_of, share_of}
+use Rattle.batch_store.specs.Cuts.{cut_of, share_of, shares_below, unless_empty}
 use Rattle.batch_store.proofs.PartLaws.{none_in}
 
 some_in : (s k : ℕ) (es : List (Place × ℕ)) → list_any (λ (e : Place × ℕ). in_part s k e.0) es ≡ true →
@@ -35,31 +37,19 @@ some_cells s k m here = omega (
 no_cells : (s k : ℕ) (m : Counts) → concerns s k m ≡ false → len (part m s k) ≡ 0
 no_cells s k m none = len-entries (part m s k) ∙ ap length (entries-part m s k ∙ none_in s k (entries m) none)
 
-module _ (s k : ℕ) (b : Submission) (m p : Matrix) (same : m ≡ b.matrix)
-    (is : p ≡ record m { counts = part m.counts s k }) where
-  cut_is : p ≡ cut_of s k b
-  cut_is = is ∙ ap (λ (x : Matrix). matrix x.rows x.cols (part x.counts s k)) same
+-- a part with no cell is no share
+pub share_is : (s k : ℕ) (b : Submission) → unless_empty (cut_of s k b) ≡ share_of s k b
+share_is s k b = by (concerns s k b.matrix.counts) refl
+  where
+    by : (x : Bool) → concerns s k b.matrix.counts ≡ x →
+        unless_empty (cut_of s k b) ≡ cond x (Some (cut_of s k b)) None
+    by true here = ap (λ t. cond t None (Some (cut_of s k b)))
+        (ne_eqb _ _ (λ e. omega (arith, e, some_cells s k b.matrix.counts here)))
+    by false none = ap (λ t. cond t None (Some (cut_of s k b))) (eq-eqb _ _ (no_cells s k b.matrix.counts none))
 
-  pub no_share : len p.counts ≡ 0 → None ≡ share_of s k b
-  no_share none = by (concerns s k b.matrix.counts) refl
-    where
-      by : (x : Bool) → concerns s k b.matrix.counts ≡ x → None ≡ cond x (Some (cut_of s k b)) None
-      by true here = absurd (omega (
-        arith,
-        none,
-        ap (λ (x : Matrix). len x.counts) cut_is,
-        some_cells s k b.matrix.counts here,
-      ))
-      by false other = refl
-
-  pub some_share : 0 < len p.counts → Some p ≡ share_of s k b
-  some_share some = by (concerns s k b.matrix.counts) refl
-    where
-      by : (x : Bool) → concerns s k b.matrix.counts ≡ x → Some p ≡ cond x (Some (cut_of s k b)) None
-      by true here = ap Some cut_is
-      by false other = absurd (omega (
-        arith,
-        some,
-        ap (λ (x : Matrix). len x.counts) cut_is,
-        no_cells s k b.matrix.counts other,
-      ))
+-- the shares are the parts, and None for those with no cell
+pub shares_of_parts : (n k : ℕ) (b : Submission) → map unless_empty (parts_below n k b.matrix) ≡ shares_below n k b
+shares_of_parts zero k b = refl
+shares_of_parts (suc n) k b =
+    map-append unless_empty (parts_below n k b.matrix) (cut_of n k b ∷ [])
+    ∙ (λ i. shares_of_parts n k b i ++ share_is n k b i ∷ [])

@@ -1,10 +1,10 @@
-//! The part of a batch that is cut before its shard is asked, and the preparation of the shard for it.
+//! The parts of a batch, cut before any shard is asked, and the preparation of a shard for its part.
 //!
 //! Cutting reads the batch and takes memory, and concerns no shard. So where shards are shared, a put cuts its batch
 //! first, and holds a shard only for what needs the shard's layers.
 ghost use Rattle.std.specs.Prelude.{◌≡◌, ◌<◌, IfOk, IfErr};
 ghost use Rattle.std.specs.Arc.{arc_value};
-ghost use Rattle.batch_store.specs.Cuts.{cut_of, share_of};
+ghost use Rattle.batch_store.specs.Cuts.{cut_of, shares_below, unless_empty};
 ghost use Rattle.batch_store.specs.Parts.{part_of};
 ghost use Rattle.batch_store.specs.Shards.{IsReady, Refuses, Stays};
 
@@ -15,23 +15,34 @@ use hyper_matrix::Hyper;
 use std::alloc::{AllocError, Global};
 use std::sync::Arc;
 
+// A part, and None where it has no cell.
+fn unless_empty(part: Hyper) -> Option<Hyper>
+    ensures { result ≡ unless_empty part }
+{
+    if part.entries() == 0 {
+        None
+    } else {
+        Some(part)
+    }
+}
+
 impl Batch {
-    /// The part of the batch in shard `s` of `k`, and None where none of its cells, a stored zero neither, lies there.
-    /// One pass over the batch, as `Hyper::part`.
+    /// The parts of the batch in all shards of `k`, in order, and None for a shard in which none of its cells, a stored
+    /// zero neither, lies. One pass over the batch, as `Hyper::parts`.
     ///
     /// # Errors
     ///
     /// A growth was refused.
-    pub fn share(&self, alloc: Global, s: u64, k: u64) -> Result<Option<Hyper>, AllocError>
-        requires { s < k }
-        ensures { IfOk result (λ p. p ≡ share_of s k self.now) }
+    pub fn shares(&self, alloc: Global, k: u64) -> Result<Vec<Option<Hyper>>, AllocError>
+        requires { 0 < k }
+        ensures { IfOk result (λ shares. shares.items ≡ shares_below k k self.now) }
     {
-        let part = self.matrix.part(alloc, s, k)?;
-        if part.entries() == 0 {
-            Ok(None)
-        } else {
-            Ok(Some(part))
+        let parts = self.matrix.parts(alloc, k)?;
+        let mut shares = Vec::with_capacity(alloc, parts.len())?;
+        'parts: for part in parts {
+            shares.push(unless_empty(part))?;
         }
+        Ok(shares)
     }
 }
 

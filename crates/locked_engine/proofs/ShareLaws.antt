@@ -9,9 +9,8 @@ use Rattle.hyper_matrix.specs.Counts.{Counts, total}
 use Rattle.hyper_matrix.specs.Matrix.{Matrix}
 use Rattle.batch_store.specs.Batches.{Submission}
 use Rattle.batch_store.specs.Parts.{concerns, below}
-use Rattle.batch_store.specs.Cuts.{cut_of, share_of}
+use Rattle.batch_store.specs.Cuts.{cut_of, share_of, shares_below}
 use Rattle.batch_store.proofs.PartLaws.{below-suc, below-all, part_of-unconcerned}
-use Rattle.locked_engine.specs.Moments.{shares_below}
 
 pub length-shares : (n k : ℕ) (b : Submission) → length (shares_below n k b) ≡ n
 length-shares zero k b = refl

@@ -7,18 +7,13 @@
 --     Show vs xs          each view shows the layers of the shard at its place
 --     HaveSize r c vs     each view has these dimensions
 --     sights_content vs   the sum of what views of shards show
---     shares_below n k b  the parts of a batch for the shards below n of k, in order, and None for a shard in which no
---                         cell of it lies
-use Rattle.std.specs.Prelude.{◌≡◌, ℕ, zero, suc, ◌+◌, List, [], ◌∷◌, ◌++◌, Option}
+use Rattle.std.specs.Prelude.{◌≡◌, ℕ, ◌+◌, List, [], ◌∷◌}
 use Rattle.std.specs.FinMap.{empty, len}
 use Rattle.hyper_rows.specs.declared.search.RowSum.{RowSum}
 use Rattle.hyper_matrix.specs.Counts.{Counts, ewise_add, total}
 use Rattle.hyper_matrix.specs.RowOf.{row_of}
-use Rattle.hyper_matrix.specs.Matrix.{Matrix}
 use Rattle.layer_cascade.specs.Cascade.{content}
 use Rattle.batch_store.specs.Setups.{Setting}
-use Rattle.batch_store.specs.Batches.{Submission}
-use Rattle.batch_store.specs.Cuts.{share_of}
 use Rattle.batch_store.specs.Shards.{Holding, Sight, AreHeld, layering_of}
 
 pub record IsShardOf (v : Setting) (s : ℕ) (x : Holding) : Type 0 where
@@ -50,7 +45,3 @@ HaveSize r c (v ∷ vs) = (v.layers.rows ≡ r) × (v.layers.cols ≡ c) × Have
 abbrev pub sights_content : List Sight → Counts
 sights_content [] = empty
 sights_content (v ∷ vs) = ewise_add (content v.layers.layers) (sights_content vs)
-
-abbrev pub shares_below : ℕ → ℕ → Submission → List (Option Matrix)
-shares_below zero k b = []
-shares_below (suc n) k b = shares_below n k b ++ share_of n k b ∷ []

@@ -14,7 +14,6 @@
 #![tactic(auto)]
 
 mod close;
-mod cut;
 mod engine;
 mod export;
 mod fault;

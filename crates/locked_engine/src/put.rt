@@ -2,10 +2,9 @@
 ghost use Rattle.std.specs.Prelude.{◌≡◌, ◌⊎◌, ◌+◌, ◌≤◌, ◌<◌, OnOk, OnErr};
 ghost use Rattle.std.specs.Arc.{arc_value};
 ghost use Rattle.batch_store.specs.Batches.{batch_total};
+ghost use Rattle.batch_store.specs.Cuts.{shares_below};
 ghost use Rattle.batch_store.specs.Parts.{below};
-ghost use Rattle.locked_engine.specs.Moments.{shares_below};
 
-use crate::cut::shares_of;
 use crate::engine::Engine;
 use crate::fault::Unadmitted;
 use crate::locked_book::fresh;
@@ -92,7 +91,7 @@ impl<N: Named, H: Ledger> Engine<N, H> {
         ensures first_kept { OnErr result (first.new.amount ≡ first.old.amount) }
     {
         self.ask(rt, b)?;
-        let shares = shares_of(alloc, b, self.setup.shards())?;
+        let shares = b.shares(alloc, self.setup.shards())?;
         // The batch lives on behind this call, so no lock is held while its cells are given back.
         let own = Arc::try_clone(b)?;
         let kept = self.put_from(rt, alloc, first, second, own, &shares, 0)?;
