@@ -1,12 +1,16 @@
--- Which parts of a batch have cells.
-use Rattle.std.proofs.Common.{◌≡◌, ℕ, zero, suc, ◌<◌, Bool, true, false, cond, ◌||◌, List, [], ◌∷◌, ◌++◌, length, map}
-use Rattle.std.proofs.Common.{Some, None, refl, ◌∙◌, ap, arith}
-use Rattle.std.proofs.lemmas.Bool.{eq-eqb, ne_eqb}
+-- Which parts of a batch have cells, and where each stands among all.
+use Rattle.std.proofs.Common.{◌≡◌, ℕ, zero, suc, ◌<◌, Bool, true, false, cond, ◌||◌, List, [], ◌∷◌, ◌++◌, length}
+use Rattle.std.proofs.Common.{map, get_or, inl, inr, Option, Some, None, refl, sym, ◌∙◌, ap, arith, length-append}
+use Rattle.std.proofs.Math.ListN.{get_or-append}
+use Rattle.std.proofs.Math.Seq.{get_or-append_seam}
+use Rattle.std.proofs.lemmas.Bool.{cases_lt, eq-eqb, ne_eqb}
 use Rattle.std.proofs.lemmas.List.{map-append}
+use Rattle.std.proofs.lemmas.Option.{same_Some}
 use Rattle.std.specs.List.{list_any}
 use Rattle.std.specs.FinMap.{entries, len, len-entries}
 use Rattle.hyper_rows.specs.Parts.{part_entries}
 use Rattle.hyper_matrix.specs.Counts.{Place, Counts, part, in_part}
+use Rattle.hyper_matrix.specs.Matrix.{Matrix}
 use Rattle.hyper_matrix.specs.Parts.{parts_below}
 use Rattle.hyper_matrix.proofs.PartLaws.{entries-part}
 use Rattle.batch_store.specs.Batches.{Submission}
@@ -53,3 +57,44 @@ shares_of_parts zero k b = refl
 shares_of_parts (suc n) k b =
     map-append unless_empty (parts_below n k b.matrix) (cut_of n k b ∷ [])
     ∙ (λ i. shares_of_parts n k b i ++ share_is n k b i ∷ [])
+
+pub length-shares : (n k : ℕ) (b : Submission) → length (shares_below n k b) ≡ n
+length-shares zero k b = refl
+length-shares (suc n) k b = omega (arith, length-append (shares_below n k b) (share_of n k b ∷ []), length-shares n k b)
+
+-- the part at place s is that of shard s
+pub share_at : (n k s : ℕ) (b : Submission) (d : Option Matrix) → s < n →
+    get_or (shares_below n k b) s d ≡ share_of s k b
+share_at zero k s b d below = absurd (omega arith)
+share_at (suc n) k s b d below = elim (cases_lt s n) [
+  | inl before ↦
+      get_or-append (shares_below n k b) (share_of n k b ∷ []) d s (omega (arith, length-shares n k b, before)) ∙
+      share_at n k s b d before
+  | inr behind ↦
+      let last : s ≡ n = omega arith in
+      let place : s ≡ length (shares_below n k b) = omega (arith, length-shares n k b) in
+      ap (λ (i : ℕ). get_or (shares_below n k b ++ share_of n k b ∷ []) i d) place
+      ∙ get_or-append_seam (shares_below n k b) (share_of n k b) [] d
+      ∙ ap (λ (i : ℕ). share_of i k b) (sym last)
+]
+
+-- what is found at place s
+pub share_in : (s k : ℕ) (b : Submission) (xs : List (Option Matrix)) (x : Option Matrix) → xs ≡ shares_below k k b →
+    s < k → x ≡ get_or xs s x → x ≡ share_of s k b
+share_in s k b xs x all here is = is ∙ ap (λ (ys : List (Option Matrix)). get_or ys s x) all ∙ share_at k k s b x here
+
+-- a shard that has a share is one that the batch concerns, and its share is the part
+pub share_found : (s k : ℕ) (b : Submission) (m : Matrix) → Some m ≡ share_of s k b →
+    (m ≡ cut_of s k b) × (concerns s k b.matrix.counts ≡ true)
+share_found s k b m is = by (concerns s k b.matrix.counts) is
+  where
+    by : (x : Bool) → Some m ≡ cond x (Some (cut_of s k b)) None → (m ≡ cut_of s k b) × (x ≡ true)
+    by true is = (same_Some _ _ is, refl)
+    by false is = absurd cc
+
+pub share_missing : (s k : ℕ) (b : Submission) → None ≡ share_of s k b → concerns s k b.matrix.counts ≡ false
+share_missing s k b is = by (concerns s k b.matrix.counts) is
+  where
+    by : (x : Bool) → None ≡ cond x (Some (cut_of s k b)) None → x ≡ false
+    by true is = absurd cc
+    by false is = refl

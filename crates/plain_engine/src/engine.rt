@@ -11,7 +11,7 @@ ghost use Rattle.batch_store.specs.Batches.{values};
 
 use crate::export::sum_of;
 use crate::fault::PutFault;
-use crate::put::put_from;
+use crate::put::put_fresh;
 use crate::status::Status;
 use batch_store::{Batch, Book, Kept, Setup, Shard, Verdict};
 use hyper_matrix::{Hyper, RowSum};
@@ -176,7 +176,7 @@ impl PlainEngine {
     /// reply that it keeps, and one that it refuses is refused, both by one look-up and without memory. A fresh batch
     /// is prepared in each shard that it concerns, then the book admits it, and each of these shards takes its part in.
     ///
-    /// A fresh batch is read some three times for each shard, and costs what its parts cost the shards' layers.
+    /// A fresh batch is read once and cut into its parts, which cost what they cost the shards' layers.
     ///
     /// # Errors
     ///
@@ -205,7 +205,7 @@ impl PlainEngine {
             Verdict::BookFull => return Err(PutFault::BookFull),
         }
         let k = self.setup.shards();
-        let answer = put_from(self.shards.as_mut_slice(), alloc, k, &mut self.book, b);
+        let answer = put_fresh(self.shards.as_mut_slice(), alloc, k, &mut self.book, b);
         // Any call on the book tells what it keeps.
         let _accepted = self.book.len();
         match answer {

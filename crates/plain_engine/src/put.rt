@@ -1,9 +1,13 @@
-//! Putting a batch: the verdict, then every growth, then one admission and the commits, which can't fail.
-ghost use Rattle.std.specs.Prelude.{◌≡◌, ◌+◌, ◌<◌, ◌≤◌, ◌++◌, [], ◌∷◌, IfOk, OnOk, OnErr, false, length, map};
+//! Putting a batch: the verdict, the cut into parts, then every other growth, then one admission and the commits, which
+//! can't fail.
+ghost use Rattle.std.specs.Prelude.{◌≡◌, ◌+◌, ◌<◌, ◌≤◌, ◌++◌, [], ◌∷◌, IfOk, IfSome, IfNone, OnOk, OnErr, true, false};
+ghost use Rattle.std.specs.Prelude.{length, map};
 ghost use Rattle.std.specs.Arc.{arc_value};
 ghost use Rattle.batch_store.specs.declared.verdict.Verdict.TheVariants.{Fresh};
 ghost use Rattle.batch_store.specs.Batches.{batch_total};
 ghost use Rattle.batch_store.specs.Books.{list_total};
+ghost use Rattle.batch_store.specs.Cuts.{cut_of, shares_below};
+ghost use Rattle.batch_store.specs.Parts.{concerns};
 ghost use Rattle.batch_store.specs.Shards.{IsReady, stands, shard_total, amount_in};
 ghost use Rattle.batch_store.specs.Verdicts.{kept};
 ghost use Rattle.plain_engine.specs.Object.{verdict_in};
@@ -11,20 +15,42 @@ ghost use Rattle.plain_engine.specs.Puts.{shard_after, AllTake, AreAllHeld};
 ghost use Rattle.plain_engine.specs.Standing.{bare_shard};
 
 use batch_store::{Batch, Book, Kept, Prepared, Shard, ShardFault};
+use hyper_matrix::Hyper;
 use std::alloc::{AllocError, Global};
 use std::sync::Arc;
 
-// All that a shard needs to take a batch whose pair is new there, and whose part fits.
-fn prepared_for(shard: &mut Shard, alloc: Global, b: &Arc<Batch>) -> Result<Prepared, AllocError>
+// A batch's part in shard s, and None where no cell of it lies there.
+fn share_in<'a>(shares: &'a [Option<Hyper>], b: &Batch, s: u64, k: u64) -> Option<&'a Hyper>
+    requires told { shares.now ≡ shares_below k k b.now }
+    requires shard { s < k }
+    requires most { k ≤ 64 }
+    ensures part { IfSome result (λ m. m.now ≡ cut_of s k b.now) }
+    ensures some { IfSome result (λ m. concerns s k b.now.matrix.counts ≡ true) }
+    ensures none { IfNone result (concerns s k b.now.matrix.counts ≡ false) }
+{
+    match &shares[s as usize] {
+        Some(share) => Some(share),
+        None => None,
+    }
+}
+
+// All that a shard needs to take a batch whose pair is new there, and whose part, this one, fits.
+fn prepared_for(
+    shard: &mut Shard,
+    alloc: Global,
+    b: &Arc<Batch>,
+    share: &Hyper,
+) -> Result<Prepared, AllocError>
     requires rows { (arc_value b.now).matrix.rows ≡ shard.old.setup.rows }
     requires cols { (arc_value b.now).matrix.cols ≡ shard.old.setup.cols }
+    requires share { share.now ≡ cut_of shard.old.number shard.old.setup.shards (arc_value b.now) }
     requires absent { stands (arc_value b.now).client (arc_value b.now).number shard.old.record_list ≡ false }
     requires fits { shard_total shard.old + amount_in shard.old (arc_value b.now) ≤ shard.old.setup.limit }
     ensures bare { bare_shard shard.new ≡ bare_shard shard.old }
     ensures batch { IfOk result (λ p. p.batch ≡ arc_value b.now) }
     ensures ready { IfOk result (IsReady shard.new) }
 {
-    match shard.prepare(alloc, b) {
+    match shard.prepare_with(alloc, b, share) {
         Ok(prepared) => Ok(prepared),
         Err(ShardFault::Memory) => Err(AllocError),
         Err(ShardFault::AlreadyThere) => unreachable!(),
@@ -32,22 +58,22 @@ fn prepared_for(shard: &mut Shard, alloc: Global, b: &Arc<Batch>) -> Result<Prep
     }
 }
 
-/// Prepares those of these shards, of k, that a fresh batch concerns, admits it, and commits in each on the way back:
-/// every growth stands before the admission, and nothing fails behind it. Where a growth was refused, what the shards
-/// and the book hold is as before.
-///
-/// It calls itself once for each shard, of at most 64.
-pub fn put_from(
+// Prepares those of these shards, of k, that a fresh batch concerns, admits it, and commits in each on the way back.
+//
+// It calls itself once for each shard, of at most 64.
+fn put_from(
     shards: &mut [Shard],
     alloc: Global,
     k: u64,
     book: &mut Book,
     b: Arc<Batch>,
+    shares: &[Option<Hyper>],
 ) -> Result<Kept, AllocError>
     requires fresh { verdict_in book.old.setup book.old.list (arc_value b) ≡ Fresh }
     requires rows { (arc_value b).matrix.rows ≡ book.old.setup.rows }
     requires cols { (arc_value b).matrix.cols ≡ book.old.setup.cols }
     requires k { k ≡ book.old.setup.shards }
+    requires shares { shares.now ≡ shares_below k k (arc_value b) }
     requires take { AllTake book.old.setup (arc_value b) shards.old }
     ensures setup { book.new.setup ≡ book.old.setup }
     ensures list { OnOk result (book.new.list ≡ book.old.list ++ arc_value b ∷ []) }
@@ -64,12 +90,41 @@ pub fn put_from(
     };
     // A call on a shard tells what it keeps, here and after the commit.
     let _held = first.total();
-    if !b.concerns(first.number(), k) {
-        return put_from(rest, alloc, k, book, b);
-    }
-    let prepared = prepared_for(first, alloc, &b)?;
-    let kept = put_from(rest, alloc, k, book, b)?;
+    let Some(share) = share_in(shares, &b, first.number(), k) else {
+        return put_from(rest, alloc, k, book, b, shares);
+    };
+    let prepared = prepared_for(first, alloc, &b, share)?;
+    let kept = put_from(rest, alloc, k, book, b, shares)?;
     first.commit(prepared);
     let _held = first.total();
     Ok(kept)
+}
+
+/// Cuts a fresh batch into its parts, prepares those of these shards, of k, that it concerns, admits it, and commits in
+/// each on the way back: every growth stands before the admission, and nothing fails behind it. Where a growth was
+/// refused, what the shards and the book hold is as before.
+pub fn put_fresh(
+    shards: &mut [Shard],
+    alloc: Global,
+    k: u64,
+    book: &mut Book,
+    b: Arc<Batch>,
+) -> Result<Kept, AllocError>
+    requires fresh { verdict_in book.old.setup book.old.list (arc_value b) ≡ Fresh }
+    requires rows { (arc_value b).matrix.rows ≡ book.old.setup.rows }
+    requires cols { (arc_value b).matrix.cols ≡ book.old.setup.cols }
+    requires k { k ≡ book.old.setup.shards }
+    requires some { 0 < k }
+    requires take { AllTake book.old.setup (arc_value b) shards.old }
+    ensures setup { book.new.setup ≡ book.old.setup }
+    ensures list { OnOk result (book.new.list ≡ book.old.list ++ arc_value b ∷ []) }
+    ensures kept { IfOk result (λ r. r ≡
+        kept (length book.old.list) (list_total book.old.list + batch_total (arc_value b))) }
+    ensures shards { OnOk result (map bare_shard shards.new ≡ map (shard_after (arc_value b)) shards.old) }
+    ensures held { OnOk result (AreAllHeld shards.new) }
+    ensures same_list { OnErr result (book.new.list ≡ book.old.list) }
+    ensures same_shards { OnErr result (map bare_shard shards.new ≡ map bare_shard shards.old) }
+{
+    let shares = b.shares(alloc, k)?;
+    put_from(shards, alloc, k, book, b, &shares)
 }

@@ -9,8 +9,8 @@ use Rattle.plain_engine.proofs.PutLaws.{all_take, keeps_after, keeps_same, writt
 use Rattle.plain_engine.proofs.engine.PlainEngine.put.Goals as goal
 use Rattle.plain_engine.proofs.engine.PlainEngine.put.Goals.{in-Ok, in-Err}
 
-pub put_from-answer-requires-clause-take : goal.put_from-answer-requires-clause-take
-put_from-answer-requires-clause-take c =
+pub put_fresh-answer-requires-clause-take : goal.put_fresh-answer-requires-clause-take
+put_fresh-answer-requires-clause-take c =
     let v = c.self.inside.setup in
     let book = c.self.inside.book in
     let b = arc_value c.args.b in
@@ -30,8 +30,8 @@ invariant_of-self c =
     let xs = c.self.inside.shards.items in
     let b = arc_value c.args.b in
     let inv = c.self.invariant in
-    let after = c.put_from-answer.new.book in
-    let ys = c.put_from-answer.new.shards in
+    let after = c.put_fresh-answer.new.book in
+    let ys = c.put_fresh-answer.new.shards in
     let value = c.as_mut_slice.ensures.value in
     elim c.match-answer.branch [
       | in-Ok w ↦
