@@ -1,7 +1,7 @@
 //! A block: a run of rows that matrices may share, with its first place and its number of cells beside the pointer.
 //!
-//! Rows that are shared are never changed. Those that have one owner can be exchanged for others, which takes no
-//! memory.
+//! Rows that are shared are never changed. Those that have one owner can be exchanged for others, and counts can be
+//! added to theirs, which takes no memory.
 ghost use Rattle.std.specs.Prelude.{◌≡◌, ℕ, ◌+◌, ◌<◌, ◌^◌, IfOk, OnOk, IsTrue, IsFalse, [], length};
 ghost use Rattle.std.specs.Arc.{arc_value};
 ghost use Rattle.hyper_rows.specs.Cells.{cell_total};
@@ -58,6 +58,8 @@ fn exchange(shared: &mut Arc<Rows>, rows: &mut Rows) -> bool
 }
 
 // Adds the first cells of a list to the rows in place, unless somebody else has the rows too, and gives their number.
+// It stands apart so that its loops have registers of their own.
+#[inline(never)]
 fn add_to(shared: &mut Arc<Rows>, cells: &[Cell]) -> usize
     requires { rows_total (arc_value shared.old) + cell_total cells.now < 2 ^ 64 }
     ensures { AddsFirst (arc_value shared.old) (arc_value shared.new) cells.now result }

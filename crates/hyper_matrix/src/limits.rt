@@ -9,5 +9,6 @@ pub const BLOCK_CELLS: usize = 256;
 /// Each such part takes another walk over the other matrix's blocks.
 pub const LISTED_BLOCKS: usize = 512;
 
-/// A block of up to so many times the cells that it gets is looked through for their places.
+/// Times the cells that a block gets: a block of more cells isn't looked through for their places. Measured: 2, 4 and 8
+/// take the same time.
 pub const IN_PLACE_SHARE: usize = 4;

@@ -17,4 +17,6 @@ mod plain_sums;
 #[cfg(test)]
 mod refused_growth;
 #[cfg(test)]
+mod standing_places;
+#[cfg(test)]
 mod worked_rows;

@@ -23,6 +23,26 @@ pub fn cells_of(alloc: Global, triples: &[Triple]) -> Result<Vec<Cell>, AllocErr
     Ok(cells)
 }
 
+/// Of the first n places of rows of this width, every step-th with `more`, and the others with `count`, if that isn't 0.
+pub fn grid(
+    alloc: Global,
+    (n, width, step): Triple,
+    more: u64,
+    count: u64,
+) -> Result<Vec<Cell>, AllocError> {
+    let mut cells = Vec::new(alloc);
+    for k in 0..n {
+        let row = k.checked_div(width).unwrap_or(0);
+        let col = k.checked_rem(width).unwrap_or(0);
+        if k.checked_rem(step) == Some(0) {
+            cells.push(cell((row, col, more)))?;
+        } else if count > 0 {
+            cells.push(cell((row, col, count)))?;
+        }
+    }
+    Ok(cells)
+}
+
 /// The square matrix of a list that has no fault.
 pub fn built(alloc: Global, side: u64, cells: &[Cell]) -> Result<Hyper, AllocError>
     requires { IsDimension side }

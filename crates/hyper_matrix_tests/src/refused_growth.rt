@@ -1,29 +1,9 @@
 //! What stands after a growth was refused.
-use crate::matrices::{SIDE, Triple, built, cell, has, lent_sum_has};
+use crate::matrices::{SIDE, Triple, built, grid, has, lent_sum_has};
 use cells::Cell;
 use hyper_matrix::Hyper;
 use std::alloc::{AllocError, Global};
 use std::test::Fail;
-
-// Of the first n places of rows of this width, every step-th with `more`, and the others with `count`, if that isn't 0.
-fn grid(
-    alloc: Global,
-    (n, width, step): Triple,
-    more: u64,
-    count: u64,
-) -> Result<Vec<Cell>, AllocError> {
-    let mut cells = Vec::new(alloc);
-    for k in 0..n {
-        let row = k.checked_div(width).unwrap_or(0);
-        let col = k.checked_rem(width).unwrap_or(0);
-        if k.checked_rem(step) == Some(0) {
-            cells.push(cell((row, col, more)))?;
-        } else if count > 0 {
-            cells.push(cell((row, col, count)))?;
-        }
-    }
-    Ok(cells)
-}
 
 // Whether a sum has these cells. Where it is refused memory, the first matrix is to have its cells still, and the sum
 // is to come out the next time.

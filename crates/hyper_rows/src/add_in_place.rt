@@ -33,8 +33,8 @@ fn find(
 }
 
 /// Adds the counts of the first cells of a list in order to the entries that stand at their places, up to the first
-/// cell whose place has none, and gives the number of the cells before it. Where the cells lie close, so many steps as
-/// there are entries up to there.
+/// cell whose place has none, and gives the number of the cells before it. The search goes from each place on to the
+/// next, so it takes at most a pass over the heads and the entries.
 pub fn add_found(heads: &[(u64, usize)], entries: &mut [(u64, u64)], cells: &[Cell]) -> usize
     requires well { AreRows heads.now entries.old }
     requires fits { rows_total (rows_of heads.now entries.old) + cell_total cells.now < 2 ^ 64 }

@@ -390,7 +390,7 @@ impl Rows {
     }
 
     /// Adds the counts of the first cells of a list in order where their places stand, up to the first cell whose place
-    /// doesn't, and gives the number of the cells before it. Takes no memory, and a pass over the rows up to there.
+    /// doesn't, and gives the number of the cells before it. Takes no memory, and at most a pass over the rows.
     pub fn add_found(&mut self, cells: &[Cell]) -> usize
         requires { rows_total self.old + cell_total cells.now < 2 ^ 64 }
         ensures { AddsFirst self.old self.new cells.now result }

@@ -1,0 +1,28 @@
+//! Sums in which all places of one matrix stand in the other: long rows and short ones, in blocks that are shared and in
+//! blocks that aren't.
+use crate::matrices::{SIDE, Triple, adds_up, built, grid};
+use std::alloc::{AllocError, Global};
+use std::test::Fail;
+
+fn adds_to_standing(alloc: Global, shape: Triple) -> Result<bool, AllocError> {
+    let ones = grid(alloc, shape, 1, 1)?;
+    let twos = grid(alloc, shape, 2, 0)?;
+    let want = grid(alloc, shape, 3, 1)?;
+    let a = built(alloc, SIDE, &ones)?;
+    let b = built(alloc, SIDE, &twos)?;
+    adds_up(alloc, a, b, &want)
+}
+
+#[test]
+fn standing_places(rt: HostRuntime) -> Result<(), Fail> {
+    for shape in [
+        (3, 2, 1),
+        (600, 1, 1),
+        (600, 700, 3),
+        (600, 10, 4),
+        (600, 10, 97),
+    ] {
+        assert!(rt; adds_to_standing(rt.alloc(), shape)?, "{shape:?}");
+    }
+    Ok(())
+}
