@@ -274,17 +274,6 @@ pub block_read : (blocks : List Rows) (i : ℕ) (block rows : Rows) → i < leng
     block ≡ get_or blocks i block → rows ≡ rows_at blocks i
 block_read blocks i block rows lt is at = is ∙ at ∙ sym (rows_read blocks i block lt)
 
-pub end_tested : (blocks : List Rows) (i j : ℕ) (rows : Rows) (p q : Place) (t v : Bool) → i ≡ j →
-    rows ≡ rows_at blocks i → p ≡ block_end rows → t ≡ is_before p q → t ≡ v →
-    is_before (block_end (rows_at blocks j)) q ≡ v
-end_tested blocks i j rows p q t v same is ends test value = ap (λ k. is_before (block_end (rows_at blocks k)) q)
-    (sym same) ∙ ap (λ (r : Rows). is_before (block_end r) q) (sym is) ∙ ap (λ (e : Place). is_before e q) (sym ends) ∙
-    sym test ∙ value
-
-pub full_read : (blocks : List Rows) (i j : ℕ) (rows : Rows) → i ≡ j → rows ≡ rows_at blocks i → RowsFull rows →
-    RowsFull (rows_at blocks j)
-full_read blocks i j rows same is f = subst (λ k. RowsFull (rows_at blocks k)) same (subst RowsFull is f)
-
 -- the sum of a row over the blocks
 
 module _ (blocks : List Rows) (i : ℕ) (lt : i < length blocks) where

@@ -15,7 +15,7 @@ ghost use Rattle.hyper_matrix.specs.RowOf.{IsFirst, HasNoneFrom};
 use crate::block::Block;
 use crate::row_sum::Entry;
 use cells::Cell;
-use hyper_rows::{RowSum, Rows};
+use hyper_rows::{RowSum, Rows, is_before, partition_point};
 
 // Where a block ends: the place of its last entry.
 fn block_end(rows: &Rows) -> (u64, u64)
@@ -26,6 +26,16 @@ fn block_end(rows: &Rows) -> (u64, u64)
     hyper_rows::row_end(rows, rows.row_count() - 1)
 }
 
+// Whether block k ends before the place.
+fn ends_before(blocks: &[Block], k: usize, place: (u64, u64)) -> bool
+    requires rows { HaveRows blocks.now }
+    requires within { k < length blocks.now }
+    ensures test { result ≡ is_before (block_end (rows_at blocks.now k)) place }
+    ensures full { RowsFull (rows_at blocks.now k) }
+{
+    is_before(block_end(blocks[k].rows()), place)
+}
+
 // How many blocks end before the place.
 fn blocks_before(blocks: &[Block], place: (u64, u64)) -> usize
     requires { HaveRows blocks.now }
@@ -33,17 +43,7 @@ fn blocks_before(blocks: &[Block], place: (u64, u64)) -> usize
     ensures full_before { 0 < result → RowsFull (rows_at blocks.now (result - 1)) }
     ensures full_behind { result < length blocks.now → RowsFull (rows_at blocks.now result) }
 {
-    let mut low = 0;
-    let mut high = blocks.len();
-    'halve: while low < high {
-        let middle = low + (high - low) / 2;
-        if hyper_rows::is_before(block_end(blocks[middle].rows()), place) {
-            low = middle + 1;
-        } else {
-            high = middle;
-        }
-    }
-    low
+    partition_point(blocks.len(), |k| ends_before(blocks, k, place))
 }
 
 /// The first cell at the place or behind it.
@@ -126,17 +126,7 @@ pub fn row_total(blocks: &[Block], row: u64) -> RowSum
 fn blocks_until(ends: &[u64], i: u64) -> usize
     ensures { TurnsAt (λ k. nat_le (slice_index ends.now k) i) (length ends.now) result }
 {
-    let mut low = 0;
-    let mut high = ends.len();
-    'ends: while low < high {
-        let middle = low + (high - low) / 2;
-        if ends[middle] <= i {
-            low = middle + 1;
-        } else {
-            high = middle;
-        }
-    }
-    low
+    partition_point(ends.len(), |k| ends[k] <= i)
 }
 
 // How many cells stand before block i.

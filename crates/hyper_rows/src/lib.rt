@@ -13,4 +13,4 @@ mod search;
 pub use build::rows_of_sorted;
 pub use rows::{Rows, push_heads, row_room};
 pub use run_cells::RunCells;
-pub use search::{RowSum, cell_at, first_from, is_before, row_end, row_sum};
+pub use search::{RowSum, cell_at, first_from, is_before, partition_point, row_end, row_sum};

@@ -1,7 +1,7 @@
 //! Searches in one run of rows, by bisection: in the rows by where they end, then in a row by column. Each takes time
 //! in the logarithm of the run's rows and entries, and no memory.
 ghost use Rattle.std.specs.Prelude.{◌≡◌, ℕ, ◌+◌, ◌-◌, ◌<◌, ◌≤◌, ◌^◌, [], T, length, take, nat_lt, nat_le};
-ghost use Rattle.std.specs.Prelude.{slice_index_or, slice_get, false, ◌++◌, ◌∷◌, List, Option, Some, None};
+ghost use Rattle.std.specs.Prelude.{slice_index_or, slice_get, true, false, ◌++◌, ◌∷◌, List, Option, Some, None};
 ghost use Rattle.std.specs.Option.{option_map};
 ghost use Rattle.std.specs.FinMap.{is_sorted};
 ghost use Rattle.hyper_rows.specs.Counts.{place_cmp, count_sum};
@@ -39,15 +39,19 @@ pub fn row_end(rows: &Rows, i: usize) -> (u64, u64)
     (rows.row(i), entries[entries.len() - 1].0)
 }
 
-// How many entries come before the column.
-fn entries_before(entries: &[(u64, u64)], col: u64) -> usize
-    ensures { TurnsAt (λ k. nat_lt (slice_index_or entries.now k (0, 0)).0 col) (length entries.now) result }
+/// Where a test of the numbers below `len` turns, by bisection: it holds of the number before, and not of this one. For
+/// a test that holds of the first numbers alone that is how many they are.
+pub fn partition_point<F: Fn(usize) -> bool>(len: usize, test: F) -> usize
+    requires { (k : ℕ) → k < len → F.pre test k }
+    ensures within { result ≤ len }
+    ensures before { 0 < result → F.post test (result - 1) true }
+    ensures behind { result < len → F.post test result false }
 {
     let mut low = 0;
-    let mut high = entries.len();
-    'entries: while low < high {
+    let mut high = len;
+    'halve: while low < high {
         let middle = low + (high - low) / 2;
-        if entries[middle].0 < col {
+        if test(middle) {
             low = middle + 1;
         } else {
             high = middle;
@@ -56,21 +60,18 @@ fn entries_before(entries: &[(u64, u64)], col: u64) -> usize
     low
 }
 
+// How many entries come before the column.
+fn entries_before(entries: &[(u64, u64)], col: u64) -> usize
+    ensures { TurnsAt (λ k. nat_lt (slice_index_or entries.now k (0, 0)).0 col) (length entries.now) result }
+{
+    partition_point(entries.len(), |k| entries[k].0 < col)
+}
+
 // How many rows end before the place.
 fn rows_before(rows: &Rows, place: (u64, u64)) -> usize
     ensures { TurnsAt (λ k. is_before (row_end rows.now k) place) (length rows.now) result }
 {
-    let mut low = 0;
-    let mut high = rows.row_count();
-    'rows: while low < high {
-        let middle = low + (high - low) / 2;
-        if is_before(row_end(rows, middle), place) {
-            low = middle + 1;
-        } else {
-            high = middle;
-        }
-    }
-    low
+    partition_point(rows.row_count(), |k| is_before(row_end(rows, k), place))
 }
 
 // Of a row's entries, the first at the place or behind it.
@@ -141,17 +142,7 @@ pub fn row_sum(rows: &Rows, row: u64) -> RowSum
 fn rows_until(rows: &Rows, i: usize) -> usize
     ensures { TurnsAt (λ k. nat_le (length (cells_of (take (k + 1) rows.now))) i) (length rows.now) result }
 {
-    let mut low = 0;
-    let mut high = rows.row_count();
-    'ends: while low < high {
-        let middle = low + (high - low) / 2;
-        if rows.end(middle) <= i {
-            low = middle + 1;
-        } else {
-            high = middle;
-        }
-    }
-    low
+    partition_point(rows.row_count(), |k| rows.end(k) <= i)
 }
 
 // How many entries the rows before row i have.
