@@ -32,7 +32,7 @@ passes layer layers cuts m i h more =
     (lt-leb _ _ more)
 
 module _ {Z : Type 0} where
-  counts_append : (a b : List (Arc Matrix Z)) →
+  pub counts_append : (a b : List (Arc Matrix Z)) →
       all_counts (values (a ++ b)) ≡ all_counts (values a) ++ all_counts (values b)
   counts_append a b = ap all_counts (map-append arc_value a b)
       ∙ map-append (λ (m : Matrix). m.counts) (values a) (values b)

@@ -74,7 +74,7 @@ replicate-more (suc n) x = ap (λ r. x ∷ r) (replicate-more n x)
     ∙ ap (λ k. replicate k x) {x = suc (n + 1)} {y = suc n + 1} (omega arith)
 
 module _ {Z : Type 0} where
-  pushed : (old new : List (Arc Matrix Z)) (layer : Arc Matrix Z) → new ≡ old ++ layer ∷ [] →
+  pub pushed : (old new : List (Arc Matrix Z)) (layer : Arc Matrix Z) → new ≡ old ++ layer ∷ [] →
       values new ≡ values old ++ arc_value layer ∷ []
   pushed old new layer is = ap values is ∙ map-append arc_value old (layer ∷ [])
 

@@ -5,3 +5,6 @@ pub mod KeptLemmas
 pub mod RowLemmas
 pub mod CarryLemmas
 pub mod FirstLayerLemmas
+pub mod RunLemmas
+pub mod KeptRunLemmas
+pub mod StepLemmas

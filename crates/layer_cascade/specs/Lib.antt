@@ -3,3 +3,5 @@ pub mod Cuts
 pub mod Layering
 pub mod Shared
 pub mod Columns
+pub mod Runs
+pub mod Steps

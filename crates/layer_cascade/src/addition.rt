@@ -14,6 +14,7 @@ ghost use Rattle.hyper_matrix.specs.Matrix.{matrix};
 ghost use Rattle.layer_cascade.specs.Cascade.{content, cascade, with_first, EndsAt};
 ghost use Rattle.layer_cascade.specs.Shared.{values, all_counts, HaveDims};
 
+use crate::layer::{Layer, Step};
 use cells::Cell;
 use hyper_matrix::Hyper;
 use std::alloc::{AllocError, Global};
@@ -24,30 +25,16 @@ use std::sync::Arc;
 /// Where the cascade of a matrix ends.
 #[derive(Drop)]
 pub struct CascadeEnd {
-    /// The layer, counted from 0.
+    /// The layer's number, counted from 0.
     pub place: usize,
-    /// The matrix with all layers up to that place.
-    pub sum: Hyper,
-}
-
-/// The sum of two matrices. It shares blocks with both, and where the second is empty it is the first.
-pub fn added(alloc: Global, sum: Hyper, layer: &Hyper) -> Result<Hyper, AllocError>
-    requires rows { sum.rows ≡ layer.now.rows }
-    requires cols { sum.cols ≡ layer.now.cols }
-    requires fits { total sum.counts + total layer.now.counts < 2 ^ 64 }
-    ensures { IfOk result (λ m. m ≡ record sum { counts = ewise_add sum.counts layer.now.counts }) }
-{
-    if layer.entries() == 0 {
-        return Ok(sum);
-    }
-    let sum = sum.ewise_add(alloc, layer)?;
-    Ok(sum)
+    /// What it holds then: the matrix with all layers up to that place.
+    pub layer: Layer,
 }
 
 /// Finds where the cascade of m ends. Only the layers up to that place are read.
 pub fn cascade_end(
     alloc: Global,
-    layers: &[Arc<Hyper>],
+    layers: &[Arc<Layer>],
     cuts: &[u64],
     m: &Hyper,
 ) -> Result<CascadeEnd, AllocError>
@@ -56,26 +43,24 @@ pub fn cascade_end(
     requires fits { total (content (all_counts (values layers.now))) + total m.now.counts < 2 ^ 64 }
     ensures place { IfOk result (λ s. EndsAt (all_counts (values layers.now)) cuts.now m.now.counts s.place) }
     ensures sum { IfOk result (λ s.
-        s.sum ≡ matrix m.now.rows m.now.cols (with_first (all_counts (values layers.now)) m.now.counts s.place)) }
+        s.layer ≡ matrix m.now.rows m.now.cols (with_first (all_counts (values layers.now)) m.now.counts s.place)) }
 {
-    let own = m.copy(alloc)?;
-    let mut sum = added(alloc, own, &layers[0])?;
+    let mut sum = m.copy(alloc)?;
     'places: for (place, cut) in cuts.iter().enumerate() {
-        if sum.entries() <= *cut {
-            return Ok(CascadeEnd { place, sum });
+        match layers[place].taking(alloc, sum, *cut)? {
+            Step::Ends(layer) => return Ok(CascadeEnd { place, layer }),
+            Step::Carries(carried) => sum = carried,
         }
-        sum = added(alloc, sum, &layers[place + 1])?;
     }
-    Ok(CascadeEnd {
-        place: cuts.len(),
-        sum,
-    })
+    let place = cuts.len();
+    let layer = layers[place].taking_any(alloc, sum)?;
+    Ok(CascadeEnd { place, layer })
 }
 
 /// Appends n layers that share one matrix.
 pub fn push_copies(
-    out: &mut Vec<Arc<Hyper>>,
-    layer: &Arc<Hyper>,
+    out: &mut Vec<Arc<Layer>>,
+    layer: &Arc<Layer>,
     n: usize,
 ) -> Result<(), AllocError>
     ensures { OnOk result (values out.new.items ≡ values out.old.items ++ replicate n (arc_value layer.now)) }
@@ -88,7 +73,7 @@ pub fn push_copies(
 }
 
 /// Appends layers that share their matrices with these.
-pub fn push_layers(out: &mut Vec<Arc<Hyper>>, layers: &[Arc<Hyper>]) -> Result<(), AllocError>
+pub fn push_layers(out: &mut Vec<Arc<Layer>>, layers: &[Arc<Layer>]) -> Result<(), AllocError>
     ensures { OnOk result (values out.new.items ≡ values out.old.items ++ values layers.now) }
 {
     'layers: for layer in layers {
@@ -101,40 +86,40 @@ pub fn push_layers(out: &mut Vec<Arc<Hyper>>, layers: &[Arc<Hyper>]) -> Result<(
 /// The layers after an addition: empty below the place where it ends, and shared above.
 pub fn layers_after(
     alloc: Global,
-    layers: &[Arc<Hyper>],
-    empty: &Arc<Hyper>,
+    layers: &[Arc<Layer>],
+    empty: &Arc<Layer>,
     end: CascadeEnd,
-) -> Result<Vec<Arc<Hyper>>, AllocError>
+) -> Result<Vec<Arc<Layer>>, AllocError>
     requires { end.place < length layers.now }
     ensures { IfOk result (λ after. values after.items
-        ≡ replicate end.place (arc_value empty.now) ++ end.sum ∷ values (drop (suc end.place) layers.now)) }
+        ≡ replicate end.place (arc_value empty.now) ++ end.layer ∷ values (drop (suc end.place) layers.now)) }
 {
     let mut after = Vec::with_capacity(alloc, layers.len())?;
     push_copies(&mut after, empty, end.place)?;
-    let sum = Arc::new(alloc, end.sum)?;
-    after.push(sum)?;
+    let layer = Arc::new(alloc, end.layer)?;
+    after.push(layer)?;
     push_layers(&mut after, &layers[end.place + 1..])?;
     Ok(after)
 }
 
 // A layer's matrix, given away. A layer that somebody else shares stays there as it was, and this is its copy.
-fn own_matrix(alloc: Global, layer: Arc<Hyper>) -> Result<Hyper, AllocError>
+fn own_layer(alloc: Global, layer: Arc<Layer>) -> Result<Hyper, AllocError>
     ensures { IfOk result (λ m. m ≡ arc_value layer) }
 {
     match Arc::try_unwrap(layer) {
-        Ok(layer) => Ok(layer),
-        Err(shared) => shared.copy(alloc),
+        Ok(layer) => layer.into_matrix(alloc),
+        Err(shared) => shared.sum(alloc),
     }
 }
 
 // The sum of a matrix and a layer, both given away.
-fn with_layer(alloc: Global, sum: Hyper, layer: Arc<Hyper>) -> Result<Hyper, AllocError>
+fn with_layer(alloc: Global, sum: Hyper, layer: Arc<Layer>) -> Result<Hyper, AllocError>
     requires rows { sum.rows ≡ (arc_value layer).rows }
     requires cols { sum.cols ≡ (arc_value layer).cols }
     requires fits { total sum.counts + total (arc_value layer).counts < 2 ^ 64 }
     ensures { IfOk result (λ m. m ≡ record sum { counts = ewise_add sum.counts (arc_value layer).counts }) }
 {
-    let layer = own_matrix(alloc, layer)?;
+    let layer = own_layer(alloc, layer)?;
     let sum = sum.into_sum(alloc, layer)?;
     Ok(sum)
 }
@@ -143,11 +128,11 @@ fn with_layer(alloc: Global, sum: Hyper, layer: Arc<Hyper>) -> Result<Hyper, All
 /// that can't hold the sum empty, and moves those above its end.
 pub fn cascaded(
     alloc: Global,
-    layers: Vec<Arc<Hyper>>,
+    layers: Vec<Arc<Layer>>,
     cuts: &[u64],
-    empty: &Arc<Hyper>,
+    empty: &Arc<Layer>,
     m: Hyper,
-) -> Result<Vec<Arc<Hyper>>, AllocError>
+) -> Result<Vec<Arc<Layer>>, AllocError>
     requires count { length layers.items ≡ length cuts.now + 1 }
     requires dims { HaveDims m.rows m.cols (values layers.items) }
     requires none { arc_value empty.now ≡ matrix m.rows m.cols no_counts }
@@ -162,8 +147,9 @@ pub fn cascaded(
     'carry: while let Some(layer) = rest.pop_front() {
         sum = with_layer(alloc, sum, layer)?;
         if rest.is_empty() || sum.entries() <= cuts[after.len()] {
-            let sum = Arc::new(alloc, sum)?;
-            after.push(sum)?;
+            let layer = Layer::of(alloc, sum)?;
+            let layer = Arc::new(alloc, layer)?;
+            after.push(layer)?;
             let mut above = Vec::from(rest);
             after.append(&mut above)?;
             return Ok(after);
@@ -178,11 +164,11 @@ pub fn cascaded(
 /// `cascaded` with the matrix that the list builds. The list is added to the first layer, and goes on with it.
 pub fn cascaded_cells(
     alloc: Global,
-    layers: Vec<Arc<Hyper>>,
+    layers: Vec<Arc<Layer>>,
     cuts: &[u64],
-    empty: &Arc<Hyper>,
+    empty: &Arc<Layer>,
     cells: &[Cell],
-) -> Result<Vec<Arc<Hyper>>, AllocError>
+) -> Result<Vec<Arc<Layer>>, AllocError>
     requires count { length layers.items ≡ length cuts.now + 1 }
     requires dims { HaveDims (arc_value empty.now).rows (arc_value empty.now).cols (values layers.items) }
     requires none { (arc_value empty.now).counts ≡ no_counts }
@@ -197,7 +183,7 @@ pub fn cascaded_cells(
     let mut layers = layers;
     let none = Arc::try_clone(empty)?;
     let first = mem::replace(&mut layers[0], none);
-    let first = own_matrix(alloc, first)?;
+    let first = own_layer(alloc, first)?;
     let sum = first.into_sum_with_cells(alloc, cells)?;
     let after = cascaded(alloc, layers, cuts, empty, sum)?;
     Ok(after)
@@ -208,7 +194,7 @@ pub fn sum_of_layers(
     alloc: Global,
     rows: u64,
     cols: u64,
-    layers: Vec<Arc<Hyper>>,
+    layers: Vec<Arc<Layer>>,
 ) -> Result<Hyper, AllocError>
     requires rows { IsDimension rows }
     requires cols { IsDimension cols }

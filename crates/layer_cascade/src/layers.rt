@@ -22,12 +22,12 @@ ghost use Rattle.layer_cascade.specs.Columns.{FirstColumn};
 ghost use Rattle.layer_cascade.specs.Layering.{IsLayering, no_layers, entries_of_layer};
 
 use crate::addition::{
-    added, cascade_end, cascaded, cascaded_cells, layers_after, push_copies, push_layers,
-    sum_of_layers,
+    cascade_end, cascaded, cascaded_cells, layers_after, push_copies, push_layers, sum_of_layers,
 };
 use crate::cuts::are_cuts;
 use crate::fault::CascadeFault;
-use crate::lookup::{column_from, earlier, plus};
+use crate::layer::Layer;
+use crate::lookup::{earlier, plus};
 use cells::Cell;
 use hyper_matrix::{Hyper, RowSum};
 use std::alloc::{AllocError, Global};
@@ -44,9 +44,9 @@ pub struct Layers {
     rows: u64,
     cols: u64,
     cuts: ArcSlice<u64>,
-    // The empty matrix, shared by all layers that hold nothing.
-    empty: Arc<Hyper>,
-    layers: Vec<Arc<Hyper>>,
+    // The empty layer, shared by all that hold nothing.
+    empty: Arc<Layer>,
+    layers: Vec<Arc<Layer>>,
 }
 
 impl Model for Layers {
@@ -90,7 +90,7 @@ fn empty_layers(alloc: Global, rows: u64, cols: u64, cuts: &[u64]) -> Result<Lay
     requires cuts { AreCuts cuts.now }
     ensures { IfOk result (λ layers. layers ≡ no_layers rows cols cuts.now) }
 {
-    let empty = Arc::new(alloc, Hyper::new(alloc, rows, cols))?;
+    let empty = Arc::new(alloc, Layer::new(alloc, rows, cols))?;
     let mut layers = Vec::with_capacity(alloc, cuts.len() + 1)?;
     push_copies(&mut layers, &empty, cuts.len() + 1)?;
     let cuts = ArcSlice::from_slice(alloc, cuts)?;
@@ -276,7 +276,7 @@ impl Layers {
     {
         let mut sum = Hyper::new(alloc, self.rows, self.cols);
         'layers: for layer in &self.layers {
-            sum = added(alloc, sum, layer)?;
+            sum = layer.added(alloc, sum)?;
         }
         Ok(sum)
     }
@@ -337,7 +337,7 @@ impl Layers {
     {
         let mut sum = 0;
         'rows: for layer in &self.layers {
-            sum += layer.row_total(row).total;
+            sum += layer.row_counts(row);
         }
         sum
     }
@@ -364,7 +364,7 @@ impl Layers {
     {
         let mut first = None;
         'firsts: for layer in &self.layers {
-            first = earlier(first, column_from(layer, row, from));
+            first = earlier(first, layer.column_from(row, from));
         }
         first
     }

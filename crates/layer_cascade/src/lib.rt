@@ -15,9 +15,11 @@ mod addition;
 mod cuts;
 mod fault;
 mod laws;
+mod layer;
 mod layers;
 mod limits;
 mod lookup;
+mod runs;
 mod view;
 
 pub use cuts::are_cuts;

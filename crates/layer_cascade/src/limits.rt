@@ -5,3 +5,7 @@ pub const MAX_CUTS: usize = 7;
 
 /// The greatest cut, in entries.
 pub const MAX_CUT: u64 = 1 << 40;
+
+/// The most matrices that a layer holds side by side. A look-up asks each, so there are few; a merge of so many at once
+/// writes each of their cells only five times, and the largest among them once.
+pub const MAX_RUNS: usize = 32;

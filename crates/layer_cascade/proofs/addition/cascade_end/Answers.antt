@@ -1,73 +1,99 @@
-use Rattle.std.proofs.Common.{◌+◌, sym, ap, ◌∙◌, arith, below_more}
+use Rattle.std.proofs.Common.{length, inl, inr, ap, subst, ◌∙◌, arith, below_more}
 use Rattle.std.specs.FinMap.{len}
-use Rattle.hyper_matrix.specs.Counts.{total}
-use Rattle.hyper_matrix.specs.Matrix.{Matrix, matrix}
-use Rattle.layer_cascade.specs.Cascade.{with_first}
+use Rattle.hyper_matrix.specs.Matrix.{Matrix}
 use Rattle.layer_cascade.specs.Shared.{values, all_counts}
-use Rattle.layer_cascade.proofs.LayerLemmas.{layer_counts, layer_dims, length-counts, with_start, with_next, next_fits}
-use Rattle.layer_cascade.proofs.LayerLemmas.{total-layer, sum_at, not_here}
+use Rattle.layer_cascade.specs.Steps.{Takes}
+use Rattle.layer_cascade.proofs.LayerLemmas.{length-counts, not_here}
+use Rattle.layer_cascade.proofs.StepLemmas.{carried_at, carried_first, carried_next, with_layer, meets_rows, meets_cols, meets_fits}
 use Rattle.layer_cascade.proofs.addition.cascade_end.Goals as goal
-
-pub added-requires-clause-fits : goal.added-requires-clause-fits
-added-requires-clause-fits c =
-    let layer = layer_counts c.args.layers.now 0 c.index-layers-0.result c.deref.result.now (omega arith)
-    c.index-layers-0.is c.deref.ensures in
-    omega (
-      arith,
-      c.requires.fits,
-      length-counts c.args.layers.now,
-      ap (λ (m : Matrix). total m.counts) c.in_ok-own.ensures,
-      ap total layer,
-      total-layer (all_counts (values c.args.layers.now)) 0 c.index-layers-0.result.value.counts
-          (omega (arith, length-counts c.args.layers.now)),
-    )
 
 pub places-init : goal.places-init
 places-init c = record {
-  here =
-      let layer = layer_counts c.args.layers.now 0 c.index-layers-0.result c.deref.result.now (omega arith)
-      c.index-layers-0.is c.deref.ensures in
-      sum_at _ _ _ _ _ c.in_ok-sum.ensures c.in_ok-own.ensures
-      (with_start (all_counts (values c.args.layers.now)) c.args.m.now.counts c.deref.result.now.counts _
-      (omega (arith, length-counts c.args.layers.now)) layer);
+  here = carried_first (all_counts (values c.args.layers.now)) c.in_ok-sum.sum c.args.m.now c.in_ok-sum.ensures;
   least = λ i h. absurd (omega arith);
 }
 
-pub added-requires-in-places-clause-rows : goal.added-requires-in-places-clause-rows
-added-requires-in-places-clause-rows c = ap (λ (m : Matrix). m.rows) c.places.invariant.here
-    ∙ sym (layer_dims c.args.layers.now (c.places.place + 1) c.index-layers-place.result c.deref-in-places.result.now
-    (omega arith) c.index-layers-place.is c.deref-in-places.ensures _ _ c.requires.dims).0
+pub taking-requires-clause-rows : goal.taking-requires-clause-rows
+taking-requires-clause-rows c =
+    meets_rows c.args.layers.now c.places.place c.index-layers-place.result c.deref.result.now (omega arith)
+    c.index-layers-place.is c.deref.ensures c.args.m.now c.places.sum c.places.invariant.here c.requires.dims
 
-pub added-requires-in-places-clause-cols : goal.added-requires-in-places-clause-cols
-added-requires-in-places-clause-cols c = ap (λ (m : Matrix). m.cols) c.places.invariant.here
-    ∙ sym (layer_dims c.args.layers.now (c.places.place + 1) c.index-layers-place.result c.deref-in-places.result.now
-    (omega arith) c.index-layers-place.is c.deref-in-places.ensures _ _ c.requires.dims).1
+pub taking-requires-clause-cols : goal.taking-requires-clause-cols
+taking-requires-clause-cols c =
+    meets_cols c.args.layers.now c.places.place c.index-layers-place.result c.deref.result.now (omega arith)
+    c.index-layers-place.is c.deref.ensures c.args.m.now c.places.sum c.places.invariant.here c.requires.dims
 
-pub added-requires-in-places-clause-fits : goal.added-requires-in-places-clause-fits
-added-requires-in-places-clause-fits c =
-    let layer = layer_counts c.args.layers.now (c.places.place + 1) c.index-layers-place.result
-    c.deref-in-places.result.now (omega arith) c.index-layers-place.is c.deref-in-places.ensures in
-    omega (
-      arith,
-      c.requires.fits,
-      ap (λ (m : Matrix). total m.counts) c.places.invariant.here,
-      next_fits (all_counts (values c.args.layers.now)) c.args.m.now.counts c.places.place
-          c.deref-in-places.result.now.counts c.index-layers-place.result.value.counts
-          (omega (arith, length-counts c.args.layers.now)) layer,
+pub taking-requires-clause-fits : goal.taking-requires-clause-fits
+taking-requires-clause-fits c =
+    meets_fits c.args.layers.now c.places.place c.index-layers-place.result c.deref.result.now (omega arith)
+    c.index-layers-place.is c.deref.ensures c.args.m.now c.places.sum c.places.invariant.here c.requires.fits
+
+pub returns-in-Ends-clause-sum : goal.returns-in-Ends-clause-sum
+returns-in-Ends-clause-sum c =
+    let takes = subst (Takes c.deref.result.now c.places.sum _) c.in-Ends.is c.in_ok-layer.ensures in
+    with_layer c.args.layers.now c.places.place c.index-layers-place.result c.deref.result.now (omega arith)
+    c.index-layers-place.is c.deref.ensures c.args.m.now c.places.sum c.places.invariant.here
+    c.in-Ends.layer takes.0
+
+pub returns-in-Ends-clause-place : goal.returns-in-Ends-clause-place
+returns-in-Ends-clause-place c =
+    let takes = subst (Takes c.deref.result.now c.places.sum _) c.in-Ends.is c.in_ok-layer.ensures in (
+      omega (arith, c.requires.count, length-counts c.args.layers.now),
+      inr (omega (arith, takes.1, ap (λ (m : Matrix). len m.counts) (returns-in-Ends-clause-sum c))),
+      c.places.invariant.least,
     )
 
 pub places-preserved : goal.places-preserved
-places-preserved c = record {
-  here =
-      let layer = layer_counts c.args.layers.now (c.places.place + 1) c.index-layers-place.result
-      c.deref-in-places.result.now (omega arith) c.index-layers-place.is c.deref-in-places.ensures in
-      sum_at _ _ (matrix c.args.m.now.rows c.args.m.now.cols
-      (with_first (all_counts (values c.args.layers.now)) c.args.m.now.counts c.places.place)) _ _
-      c.in_ok-sum-2.ensures c.places.invariant.here
-      (with_next (all_counts (values c.args.layers.now)) c.args.m.now.counts c.places.place
-      c.deref-in-places.result.now.counts _ (omega (arith, length-counts c.args.layers.now)) layer);
-  least = below_more _ _ c.places.invariant.least
-      (not_here (all_counts (values c.args.layers.now)) c.args.cuts.now c.args.m.now.counts c.places.place
-      (length-counts c.args.layers.now ∙ c.requires.count) (omega arith)
-      (omega (arith, c.entries.ensures, ap (λ (m : Matrix). len m.counts) c.places.invariant.here)));
-}
+places-preserved c =
+    let takes = subst (Takes c.deref.result.now c.places.sum _) c.in-Carries.is c.in_ok-layer.ensures in
+    let sum = with_layer c.args.layers.now c.places.place c.index-layers-place.result c.deref.result.now (omega arith)
+    c.index-layers-place.is c.deref.ensures c.args.m.now c.places.sum c.places.invariant.here
+    c.in-Carries.carried takes.0 in
+    record {
+      here = carried_next c.args.layers.now c.places.place c.index-layers-place.result c.deref.result.now (omega arith)
+          c.index-layers-place.is c.deref.ensures c.args.m.now c.places.sum c.places.invariant.here
+          c.in-Carries.carried takes.0;
+      least = below_more _ _ c.places.invariant.least
+          (not_here (all_counts (values c.args.layers.now)) c.args.cuts.now c.args.m.now.counts c.places.place
+          (length-counts c.args.layers.now ∙ c.requires.count) (omega arith)
+          (omega (arith, takes.1, ap (λ (m : Matrix). len m.counts) sum)));
+    }
+
+pub taking_any-requires-clause-rows : goal.taking_any-requires-clause-rows
+taking_any-requires-clause-rows c =
+    meets_rows c.args.layers.now (length c.args.cuts.now) c.index-layers-place-2.result c.deref-2.result.now
+    (omega (arith, c.requires.count)) c.index-layers-place-2.is c.deref-2.ensures c.args.m.now c.places.sum
+    (carried_at (all_counts (values c.args.layers.now)) c.places.sum c.args.m.now c.places.place
+    (length c.args.cuts.now) (omega (arith, c.places-test.false)) c.places.invariant.here)
+    c.requires.dims
+
+pub taking_any-requires-clause-cols : goal.taking_any-requires-clause-cols
+taking_any-requires-clause-cols c =
+    meets_cols c.args.layers.now (length c.args.cuts.now) c.index-layers-place-2.result c.deref-2.result.now
+    (omega (arith, c.requires.count)) c.index-layers-place-2.is c.deref-2.ensures c.args.m.now c.places.sum
+    (carried_at (all_counts (values c.args.layers.now)) c.places.sum c.args.m.now c.places.place
+    (length c.args.cuts.now) (omega (arith, c.places-test.false)) c.places.invariant.here)
+    c.requires.dims
+
+pub taking_any-requires-clause-fits : goal.taking_any-requires-clause-fits
+taking_any-requires-clause-fits c =
+    meets_fits c.args.layers.now (length c.args.cuts.now) c.index-layers-place-2.result c.deref-2.result.now
+    (omega (arith, c.requires.count)) c.index-layers-place-2.is c.deref-2.ensures c.args.m.now c.places.sum
+    (carried_at (all_counts (values c.args.layers.now)) c.places.sum c.args.m.now c.places.place
+    (length c.args.cuts.now) (omega (arith, c.places-test.false)) c.places.invariant.here)
+    c.requires.fits
+
+pub returns-clause-place : goal.returns-clause-place
+returns-clause-place c = (
+  omega (arith, c.requires.count, length-counts c.args.layers.now),
+  inl (omega (arith, c.requires.count, length-counts c.args.layers.now)),
+  (λ i h. c.places.invariant.least i (omega (arith, h, c.places-test.false))),
+)
+
+pub returns-clause-sum : goal.returns-clause-sum
+returns-clause-sum c =
+    with_layer c.args.layers.now (length c.args.cuts.now) c.index-layers-place-2.result c.deref-2.result.now
+    (omega (arith, c.requires.count)) c.index-layers-place-2.is c.deref-2.ensures c.args.m.now c.places.sum
+    (carried_at (all_counts (values c.args.layers.now)) c.places.sum c.args.m.now c.places.place
+    (length c.args.cuts.now) (omega (arith, c.places-test.false)) c.places.invariant.here)
+    c.in_ok-layer-2.layer c.in_ok-layer-2.ensures

@@ -25,7 +25,7 @@ overflow_add-sum c =
       more,
       ap (λ s. total (content (all_counts (values s)))) c.deref-layer-items.ensures.value,
       c.rows.invariant.summed,
-      c.row_total-sum.ensures.total,
+      c.row_counts-sum.ensures.value,
       row_fits (content (take c.rows.layer-index (all_counts (values items)))) c.args.row,
       row_fits c.deref.result.now.counts c.args.row,
     )
@@ -40,8 +40,8 @@ rows-preserved c =
     c.self.invariant.dims c.self.view_is in
     record {
       summed =
-          ap (λ n. n + c.row_total-sum.result.total) c.rows.invariant.summed
-          ∙ ap (λ n. total (row_of before c.args.row) + n) c.row_total-sum.ensures.total
+          ap (λ n. n + c.row_counts-sum.result) c.rows.invariant.summed
+          ∙ ap (λ n. total (row_of before c.args.row) + n) c.row_counts-sum.ensures.value
           ∙ sym (ap (λ m. total (row_of m c.args.row))
           (sum_more items c.rows.layer-index c.layer-item.result c.deref.result.now (omega arith) c.layer-item.is
           c.deref.ensures) ∙ ap total (row_of-ewise_add before here c.args.row)
@@ -49,6 +49,6 @@ rows-preserved c =
       outside = λ h. omega (
         arith,
         c.rows.invariant.outside h,
-        (c.row_total-sum.ensures.outside (omega (arith, dims.0, h))).1,
+        c.row_counts-sum.ensures.outside (omega (arith, dims.0, h)),
       );
     }

@@ -1,0 +1,6 @@
+use Rattle.layer_cascade.proofs.KeptRunLemmas.{keeps_none}
+use Rattle.layer_cascade.proofs.layer.Layer.new.Goals as goal
+
+pub invariant_of-result : goal.invariant_of-result
+invariant_of-result c = keeps_none c.args.rows c.args.cols c.new.result.items c.requires.rows c.requires.cols
+    c.new.ensures.items

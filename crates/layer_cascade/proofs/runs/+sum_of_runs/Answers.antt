@@ -1,0 +1,62 @@
+use Rattle.std.proofs.Common.{ap, ◌∙◌, arith, rules}
+use Rattle.hyper_matrix.specs.Counts.{total}
+use Rattle.hyper_matrix.specs.Matrix.{Matrix}
+use Rattle.layer_cascade.proofs.RunLemmas.{have_parts, total-parts, run_alone, runs_together}
+use Rattle.layer_cascade.proofs.runs.+sum_of_runs.Goals as goal
+
+pub sum_of_runs-requires : goal.sum_of_runs-requires
+sum_of_runs-requires t c =
+    let left = c.split_at.result.0.now in
+    let right = c.split_at.result.1.now in
+    let cut = c.split_at.ensures.by_index.0 in (
+      search rules,
+      (
+        c.requires.rows,
+        (
+          c.requires.cols,
+          (
+            (have_parts c.args.runs.now left right cut c.args.rows c.args.cols c.requires.dims).0,
+            omega (arith, total-parts c.args.runs.now left right cut, c.requires.fits),
+          ),
+        ),
+      ),
+    )
+
+pub sum_of_runs-requires-in_default : goal.sum_of_runs-requires-in_default
+sum_of_runs-requires-in_default t c =
+    let left = c.split_at.result.0.now in
+    let right = c.split_at.result.1.now in
+    let cut = c.split_at.ensures.by_index.0 in (
+      search rules,
+      (
+        c.requires.rows,
+        (
+          c.requires.cols,
+          (
+            (have_parts c.args.runs.now left right cut c.args.rows c.args.cols c.requires.dims).1,
+            omega (arith, total-parts c.args.runs.now left right cut, c.requires.fits),
+          ),
+        ),
+      ),
+    )
+
+pub into_sum-requires-clause-fits : goal.into_sum-requires-clause-fits
+into_sum-requires-clause-fits t c = omega (
+  arith,
+  ap (λ (m : Matrix). total m.counts) c.in_ok-sum-in_default.ensures,
+  ap (λ (m : Matrix). total m.counts) c.in_ok-rest-in_default.ensures,
+  total-parts c.args.runs.now c.split_at.result.0.now c.split_at.result.1.now c.split_at.ensures.by_index.0,
+  c.requires.fits,
+)
+
+pub returns-in_ok-only-in-len1 : goal.returns-in_ok-only-in-len1
+returns-in_ok-only-in-len1 t c =
+    c.in_ok-only-in-len1.ensures ∙ c.deref.ensures ∙ run_alone c.args.runs.now c.run-item.result c.args.rows c.args.cols c.requires.dims
+    c.in-len1.len_at_least c.in-len1.len_below c.run-item.is
+
+pub returns-in_ok-whole-in_default : goal.returns-in_ok-whole-in_default
+returns-in_ok-whole-in_default t c =
+    c.in_ok-whole-in_default.ensures
+    ∙ runs_together c.args.runs.now c.split_at.result.0.now c.split_at.result.1.now c.split_at.ensures.by_index.0 c.args.rows c.args.cols
+    c.in_ok-sum-in_default.sum c.in_ok-rest-in_default.rest
+    c.in_ok-sum-in_default.ensures c.in_ok-rest-in_default.ensures

@@ -1,0 +1,22 @@
+-- A layer as it is stored: runs, which are matrices side by side, and what is kept beside them.
+use Rattle.std.specs.Prelude.{◌≡◌, ℕ, ◌+◌, ◌<◌, ◌≤◌, ◌^◌, List, [], ◌∷◌, if◌then◌else◌, is_some}
+use Rattle.std.specs.FinMap.{get, len}
+use Rattle.cells.specs.Bounds.{IsDimension}
+use Rattle.hyper_matrix.specs.Counts.{Counts, Place, total}
+use Rattle.hyper_matrix.specs.Matrix.{Matrix}
+use Rattle.layer_cascade.specs.Cascade.{content}
+use Rattle.layer_cascade.specs.Shared.{all_counts, HaveDims}
+
+-- how many entries of a list stand at places where m has none
+abbrev pub count_new : Counts → List (Place × ℕ) → ℕ
+count_new m [] = 0
+count_new m (e ∷ es) = (if is_some (get m e.0) then 0 else 1) + count_new m es
+
+-- all runs have the layer's dimensions, `sum` is the total of all, and together they have at most `most` entries
+pub record KeepsRuns (rows cols sum most : ℕ) (runs : List Matrix) : Type 0 where
+  pub is_rows : IsDimension rows
+  pub is_cols : IsDimension cols
+  pub dims : HaveDims rows cols runs
+  pub total_is : sum ≡ total (content (all_counts runs))
+  pub fits : total (content (all_counts runs)) < 2 ^ 64
+  pub few : len (content (all_counts runs)) ≤ most

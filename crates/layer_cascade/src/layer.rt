@@ -1,0 +1,241 @@
+//! One layer: matrices side by side, which are added up only where it has to be known what they hold together.
+//!
+//! A small matrix that is added at once to a larger one is copied there with every block that it touches, and so is
+//! each one after it. Here it is put beside the others, which costs a pointer for each of them, as long as their entries
+//! together are no more than the cut: those of the sum can't be more. Then all are added up once.
+ghost use Rattle.std.specs.Prelude.{◌≡◌, ℕ, ◌+◌, ◌<◌, ◌≤◌, ◌^◌, ◌⊎◌, IfOk, IfSome};
+ghost use Rattle.std.specs.FinMap.{empty, get, len};
+ghost use Rattle.cells.specs.Bounds.{IsDimension};
+ghost use Rattle.hyper_matrix.specs.Counts.{total};
+ghost use Rattle.hyper_matrix.specs.Matrix.{matrix};
+ghost use Rattle.hyper_matrix.specs.RowOf.{row_of};
+ghost use Rattle.layer_cascade.specs.Columns.{FirstColumn};
+ghost use Rattle.layer_cascade.specs.Steps.{joined, Takes};
+
+use crate::limits::MAX_RUNS;
+use crate::runs::{
+    added_to_runs, column_in, count_in, entries_in, own_matrix, push_runs, row_counts_in,
+    sum_of_runs,
+};
+use hyper_matrix::Hyper;
+use std::alloc::{AllocError, Global};
+use std::marker::Model;
+use std::sync::Arc;
+
+/// What one layer holds: the sum of its runs, at most `MAX_RUNS`.
+///
+/// Contracts see it as that sum, a matrix.
+#[derive(Drop)]
+pub struct Layer {
+    rows: u64,
+    cols: u64,
+    // The total of all runs.
+    total: u64,
+    // At least the number of entries of the sum: the entries of all runs together.
+    most: u64,
+    runs: Vec<Arc<Hyper>>,
+}
+
+impl Model for Layer {
+    ghost use Rattle.hyper_matrix.specs.Matrix.{Matrix, matrix, coded_matrix};
+    ghost use Rattle.layer_cascade.specs.Cascade.{content};
+    ghost use Rattle.layer_cascade.specs.Runs.{KeepsRuns};
+    ghost use Rattle.layer_cascade.specs.Shared.{values, all_counts};
+
+    ghost Value = { Matrix };
+
+    ghost coded = { coded_matrix };
+
+    ghost view = { λ a. matrix a.rows a.cols (content (all_counts (values a.runs.items))) };
+
+    ghost invariant = { λ a. KeepsRuns a.rows a.cols a.total a.most (values a.runs.items) };
+}
+
+/// What an addition comes to at one layer.
+#[derive(Drop)]
+pub enum Step {
+    /// It ends: the layer holds the matrix too.
+    Ends(Layer),
+    /// The matrix and the layer have more entries than the cut. This is their sum, for the next layer.
+    Carries(Hyper),
+}
+
+impl Layer {
+    /// The layer that holds nothing. It takes no memory.
+    pub fn new(alloc: Global, rows: u64, cols: u64) -> Layer
+        requires rows { IsDimension rows }
+        requires cols { IsDimension cols }
+        ensures { result ≡ matrix rows cols empty }
+    {
+        Layer {
+            rows,
+            cols,
+            total: 0,
+            most: 0,
+            runs: Vec::new(alloc),
+        }
+    }
+
+    /// The layer of one matrix.
+    pub fn of(alloc: Global, m: Hyper) -> Result<Layer, AllocError>
+        ensures { IfOk result (λ layer. layer ≡ m) }
+    {
+        let (rows, cols) = m.dims();
+        let (total, most) = (m.total(), m.entries());
+        let run = Arc::new(alloc, m)?;
+        let mut runs = Vec::with_capacity(alloc, 1)?;
+        runs.push(run)?;
+        Ok(Layer {
+            rows,
+            cols,
+            total,
+            most,
+            runs,
+        })
+    }
+
+    /// The sum of all counts. Constant time.
+    pub fn total(&self) -> u64
+        ensures value { result ≡ total self.now.counts }
+        ensures fits { total self.now.counts < 2 ^ 64 }
+    {
+        self.total
+    }
+
+    /// The number of entries. Constant time for one run, else a look-up in each earlier run for each cell but those of
+    /// the first.
+    pub fn entries(&self) -> u64
+        ensures { result ≡ len self.now.counts }
+    {
+        let _bound = self.most;
+        entries_in(&self.runs)
+    }
+
+    /// The count at a place, or None where no run has an entry: a bisection in each run.
+    pub fn get(&self, row: u64, col: u64) -> Option<u64>
+        ensures value { result ≡ get self.now.counts (row, col) }
+        ensures outside { (self.now.rows ≤ row) ⊎ (self.now.cols ≤ col) → result ≡ None }
+    {
+        count_in(&self.runs, row, col)
+    }
+
+    /// The sum of the counts of a row.
+    pub fn row_counts(&self, row: u64) -> u64
+        ensures value { result ≡ total (row_of self.now.counts row) }
+        ensures outside { self.now.rows ≤ row → result ≡ 0 }
+    {
+        row_counts_in(&self.runs, row)
+    }
+
+    /// The first column with an entry in a row, at column `from` or behind it.
+    pub fn column_from(&self, row: u64, from: u64) -> Option<u64>
+        ensures first { FirstColumn self.now.counts row from result }
+        ensures within { IfSome result (λ col. (row < self.now.rows) × (col < self.now.cols)) }
+    {
+        column_in(&self.runs, row, from)
+    }
+
+    /// The sum of a matrix and all runs. It shares blocks with them.
+    pub fn added(&self, alloc: Global, m: Hyper) -> Result<Hyper, AllocError>
+        requires rows { m.rows ≡ self.now.rows }
+        requires cols { m.cols ≡ self.now.cols }
+        requires fits { total m.counts + total self.now.counts < 2 ^ 64 }
+        ensures { IfOk result (λ sum. sum ≡ joined self.now m) }
+    {
+        let sum = added_to_runs(alloc, m, &self.runs)?;
+        Ok(sum)
+    }
+
+    /// The sum of all runs, which shares blocks with them.
+    pub fn sum(&self, alloc: Global) -> Result<Hyper, AllocError>
+        ensures { IfOk result (λ m. m ≡ self.now) }
+    {
+        let none = Hyper::new(alloc, self.rows, self.cols);
+        let sum = self.added(alloc, none)?;
+        Ok(sum)
+    }
+
+    /// The sum of all runs, made from their own memory. A run that somebody else shares stays there as it was.
+    pub fn into_matrix(self, alloc: Global) -> Result<Hyper, AllocError>
+        ensures { IfOk result (λ m. m ≡ self) }
+    {
+        let mut runs = self.runs;
+        let Some(last) = runs.pop() else {
+            return Ok(Hyper::new(alloc, self.rows, self.cols));
+        };
+        let last = own_matrix(alloc, last)?;
+        let others = sum_of_runs(&runs, alloc, self.rows, self.cols)?;
+        let sum = last.into_sum(alloc, others)?;
+        Ok(sum)
+    }
+
+    // The entries of the runs and a matrix together, if there may be one run more, and the cut has room for them.
+    fn room(&self, m: &Hyper, cut: u64) -> Option<u64>
+        ensures { IfSome result (λ most. (len m.now.counts + len self.now.counts ≤ most) × (most ≤ cut)) }
+    {
+        if self.runs.len() >= MAX_RUNS {
+            return None;
+        }
+        let most = m.entries().checked_add(self.most)?;
+        if most > cut {
+            return None;
+        }
+        Some(most)
+    }
+
+    // The layer with a run more, which together have no more than so many entries.
+    fn with_run(&self, alloc: Global, m: Hyper, most: u64) -> Result<Layer, AllocError>
+        requires rows { m.rows ≡ self.now.rows }
+        requires cols { m.cols ≡ self.now.cols }
+        requires fits { total m.counts + total self.now.counts < 2 ^ 64 }
+        requires most { len m.counts + len self.now.counts ≤ most }
+        ensures { IfOk result (λ layer. layer ≡ joined self.now m) }
+    {
+        let total = m.total() + self.total;
+        let mut runs = Vec::with_capacity(alloc, self.runs.len() + 1)?;
+        push_runs(&mut runs, &self.runs)?;
+        let run = Arc::new(alloc, m)?;
+        runs.push(run)?;
+        Ok(Layer {
+            rows: self.rows,
+            cols: self.cols,
+            total,
+            most,
+            runs,
+        })
+    }
+
+    /// Takes a matrix in, if both together have at most the cut of entries. That is judged exactly: by the entries of
+    /// all runs, which are no fewer than those of the sum, and where these are more than the cut, or there are
+    /// `MAX_RUNS` runs, by the sum itself.
+    pub fn taking(&self, alloc: Global, m: Hyper, cut: u64) -> Result<Step, AllocError>
+        requires rows { m.rows ≡ self.now.rows }
+        requires cols { m.cols ≡ self.now.cols }
+        requires fits { total m.counts + total self.now.counts < 2 ^ 64 }
+        ensures { IfOk result (λ step. Takes self.now m cut step) }
+    {
+        if let Some(most) = self.room(&m, cut) {
+            let layer = self.with_run(alloc, m, most)?;
+            return Ok(Step::Ends(layer));
+        }
+        let sum = self.added(alloc, m)?;
+        if sum.entries() > cut {
+            return Ok(Step::Carries(sum));
+        }
+        let layer = Layer::of(alloc, sum)?;
+        Ok(Step::Ends(layer))
+    }
+
+    /// Takes a matrix in, whatever it has: the last layer has no cut. More than `MAX_RUNS` runs are added up.
+    pub fn taking_any(&self, alloc: Global, m: Hyper) -> Result<Layer, AllocError>
+        requires rows { m.rows ≡ self.now.rows }
+        requires cols { m.cols ≡ self.now.cols }
+        requires fits { total m.counts + total self.now.counts < 2 ^ 64 }
+        ensures { IfOk result (λ layer. layer ≡ joined self.now m) }
+    {
+        match self.taking(alloc, m, u64::MAX)? {
+            Step::Ends(layer) => Ok(layer),
+            Step::Carries(sum) => Layer::of(alloc, sum),
+        }
+    }
+}

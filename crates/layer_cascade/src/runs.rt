@@ -1,0 +1,158 @@
+//! The runs of a layer: matrices of the same dimensions side by side, each shared and never changed. They stand for
+//! their sum, which is built only where it has to be known what they hold together.
+ghost use Rattle.std.specs.Prelude.{◌≡◌, ℕ, ◌+◌, ◌<◌, ◌≤◌, ◌^◌, ◌⊎◌, ◌++◌, IfOk, OnOk, IfSome};
+ghost use Rattle.std.specs.Arc.{arc_value};
+ghost use Rattle.std.specs.FinMap.{get, len, entries};
+ghost use Rattle.cells.specs.Bounds.{IsDimension};
+ghost use Rattle.hyper_matrix.specs.Counts.{ewise_add, total};
+ghost use Rattle.hyper_matrix.specs.Matrix.{matrix};
+ghost use Rattle.hyper_matrix.specs.RowOf.{row_of};
+ghost use Rattle.layer_cascade.specs.Cascade.{content};
+ghost use Rattle.layer_cascade.specs.Columns.{FirstColumn};
+ghost use Rattle.layer_cascade.specs.Runs.{count_new};
+ghost use Rattle.layer_cascade.specs.Shared.{values, all_counts, HaveDims};
+
+use crate::lookup::{column_from, earlier, plus};
+use hyper_matrix::Hyper;
+use std::alloc::{AllocError, Global};
+use std::sync::Arc;
+
+/// Appends runs that share their matrices with these.
+pub fn push_runs(out: &mut Vec<Arc<Hyper>>, runs: &[Arc<Hyper>]) -> Result<(), AllocError>
+    ensures { OnOk result (values out.new.items ≡ values out.old.items ++ values runs.now) }
+{
+    'runs: for run in runs {
+        let copy = Arc::try_clone(run)?;
+        out.push(copy)?;
+    }
+    Ok(())
+}
+
+/// A run's matrix, given away. One that somebody else shares stays there as it was, and this is its copy.
+pub fn own_matrix(alloc: Global, run: Arc<Hyper>) -> Result<Hyper, AllocError>
+    ensures { IfOk result (λ m. m ≡ arc_value run) }
+{
+    match Arc::try_unwrap(run) {
+        Ok(m) => Ok(m),
+        Err(shared) => shared.copy(alloc),
+    }
+}
+
+/// The sum of runs: that of the first half and that of the second, added. So a cell is written as often as the runs can
+/// be halved, and not once for each run.
+pub fn sum_of_runs(
+    runs: &[Arc<Hyper>],
+    alloc: Global,
+    rows: u64,
+    cols: u64,
+) -> Result<Hyper, AllocError>
+    requires rows { IsDimension rows }
+    requires cols { IsDimension cols }
+    requires dims { HaveDims rows cols (values runs.now) }
+    requires fits { total (content (all_counts (values runs.now))) < 2 ^ 64 }
+    ensures { IfOk result (λ m. m ≡ matrix rows cols (content (all_counts (values runs.now)))) }
+{
+    match runs {
+        [] => Ok(Hyper::new(alloc, rows, cols)),
+        [run] => {
+            let only = run.copy(alloc)?;
+            Ok(only)
+        }
+        _ => {
+            let (left, right) = runs.split_at(runs.len() / 2);
+            let sum = sum_of_runs(left, alloc, rows, cols)?;
+            let rest = sum_of_runs(right, alloc, rows, cols)?;
+            let whole = sum.into_sum(alloc, rest)?;
+            Ok(whole)
+        }
+    }
+}
+
+/// The sum of a matrix and runs. The first run is mostly the largest: all others are added up with the matrix, and the
+/// sum to that run, whose blocks it shares but for those that it touches.
+pub fn added_to_runs(alloc: Global, m: Hyper, runs: &[Arc<Hyper>]) -> Result<Hyper, AllocError>
+    requires dims { HaveDims m.rows m.cols (values runs.now) }
+    requires fits { total m.counts + total (content (all_counts (values runs.now))) < 2 ^ 64 }
+    ensures { IfOk result (λ s. s ≡ record m { counts = ewise_add m.counts (content (all_counts (values runs.now))) }) }
+{
+    let Some((first, rest)) = runs.split_first() else {
+        return Ok(m);
+    };
+    let (rows, cols) = m.dims();
+    let others = sum_of_runs(rest, alloc, rows, cols)?;
+    let others = m.into_sum(alloc, others)?;
+    let sum = others.ewise_add(alloc, first)?;
+    Ok(sum)
+}
+
+/// The count at a place of the runs' sum, or None where no run has an entry.
+pub fn count_in(runs: &[Arc<Hyper>], row: u64, col: u64) -> Option<u64>
+    requires { total (content (all_counts (values runs.now))) < 2 ^ 64 }
+    ensures value { result ≡ get (content (all_counts (values runs.now))) (row, col) }
+    ensures outside { (rows : ℕ) (cols : ℕ) → HaveDims rows cols (values runs.now) →
+        (rows ≤ row) ⊎ (cols ≤ col) → result ≡ None }
+{
+    let mut count = None;
+    'counts: for run in runs {
+        count = plus(count, run.get(row, col));
+    }
+    count
+}
+
+/// The sum of the counts of a row in all runs.
+pub fn row_counts_in(runs: &[Arc<Hyper>], row: u64) -> u64
+    requires { total (content (all_counts (values runs.now))) < 2 ^ 64 }
+    ensures value { result ≡ total (row_of (content (all_counts (values runs.now))) row) }
+    ensures outside { (rows : ℕ) (cols : ℕ) → HaveDims rows cols (values runs.now) → rows ≤ row → result ≡ 0 }
+{
+    let mut sum = 0;
+    'rows: for run in runs {
+        sum += run.row_total(row).total;
+    }
+    sum
+}
+
+/// The first column with an entry in a row of the runs' sum, at column `from` or behind it.
+pub fn column_in(runs: &[Arc<Hyper>], row: u64, from: u64) -> Option<u64>
+    ensures first { FirstColumn (content (all_counts (values runs.now))) row from result }
+    ensures within { (rows : ℕ) (cols : ℕ) → HaveDims rows cols (values runs.now) →
+        IfSome result (λ col. (row < rows) × (col < cols)) }
+{
+    let mut first = None;
+    'firsts: for run in runs {
+        first = earlier(first, column_from(run, row, from));
+    }
+    first
+}
+
+/// How many entries a matrix has at places where none of these runs has one.
+pub fn new_entries(before: &[Arc<Hyper>], m: &Hyper) -> u64
+    requires { total (content (all_counts (values before.now))) < 2 ^ 64 }
+    ensures { result ≡ count_new (content (all_counts (values before.now))) (entries m.now.counts) }
+{
+    let bound = m.entries();
+    if before.is_empty() {
+        return bound;
+    }
+    let mut new = 0;
+    'cells: for cell in m.iter() {
+        if count_in(before, cell.row, cell.col).is_none() {
+            new += 1;
+        }
+    }
+    new
+}
+
+/// The number of entries of the runs' sum, which isn't built: those of each run that no earlier run has. With one run
+/// it takes constant time, with more a look-up in each earlier run for each cell but those of the first.
+pub fn entries_in(runs: &[Arc<Hyper>]) -> u64
+    requires fits { total (content (all_counts (values runs.now))) < 2 ^ 64 }
+    requires few { len (content (all_counts (values runs.now))) < 2 ^ 64 }
+    ensures { result ≡ len (content (all_counts (values runs.now))) }
+{
+    let mut entries = 0;
+    'runs: for (i, run) in runs.iter().enumerate() {
+        entries += new_entries(&runs[..i], run);
+    }
+    entries
+}
