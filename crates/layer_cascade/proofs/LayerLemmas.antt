@@ -115,53 +115,6 @@ module _ {Z : Type 0} (layers : List (Arc Matrix Z)) (i : ℕ) (item : Arc Matri
 pub length-counts : {Z : Type 0} (layers : List (Arc Matrix Z)) → length (all_counts (values layers)) ≡ length layers
 length-counts layers = length-map (values layers) (λ (m : Matrix). m.counts) ∙ length-map layers arc_value
 
--- m and the layers up to the next place
-pub with_next : (layers : List Counts) (m : Counts) (j : ℕ) (layer : Counts) (d : Counts) → suc j < length layers →
-    layer ≡ get_or layers (j + 1) d → with_first layers m (j + 1) ≡ ewise_add (with_first layers m j) layer
-with_next layers m j layer d h is =
-    ap (λ n. ewise_add m (content (take n layers))) {x = suc (j + 1)} {y = suc j + 1} (omega arith)
-    ∙ ap (ewise_add m) (content-more layers (suc j) d h
-    ∙ ap (λ n. ewise_add (content (take (suc j) layers)) (get_or layers n d)) {x = suc j} {y = j + 1} (omega arith)
-    ∙ ap (ewise_add (content (take (suc j) layers))) (sym is))
-    ∙ sym (ewise_add_assoc m (content (take (suc j) layers)) layer)
-
-pub total-with_first : (layers : List Counts) (m : Counts) (j : ℕ) →
-    total (with_first layers m j) ≤ total (content layers) + total m
-total-with_first layers m j = omega (
-  arith,
-  total-take layers (suc j),
-  total-ewise_add m (content (take (suc j) layers)),
-)
-
--- m and the first layer
-pub with_start : (layers : List Counts) (m layer d : Counts) → 0 < length layers → layer ≡ get_or layers 0 d →
-    with_first layers m 0 ≡ ewise_add m layer
-with_start [] m layer d h is = absurd (omega arith)
-with_start (first ∷ layers) m layer d h is = ap (ewise_add m) (ewise_add-empty first ∙ sym is)
-
--- a layer has no more than all
-pub total-layer : (layers : List Counts) (i : ℕ) (d : Counts) → i < length layers →
-    total (get_or layers i d) ≤ total (content layers)
-total-layer [] i d h = absurd (omega arith)
-total-layer (layer ∷ layers) zero d h = omega (arith, total-ewise_add layer (content layers))
-total-layer (layer ∷ layers) (suc i) d h =
-    omega (arith, total-layer layers i d (omega arith), total-ewise_add layer (content layers))
-
--- m with the layers up to a place, and the next layer too, have no more than m and all layers
-pub next_fits : (layers : List Counts) (m : Counts) (j : ℕ) (layer d : Counts) → suc j < length layers →
-    layer ≡ get_or layers (j + 1) d → total (with_first layers m j) + total layer ≤ total (content layers) + total m
-next_fits layers m j layer d h is = omega (
-  arith,
-  total-with_first layers m (j + 1),
-  ap total (with_next layers m j layer d h is),
-  total-ewise_add (with_first layers m j) layer,
-)
-
--- an empty matrix adds nothing
-pub added_none : (s : Matrix) (b : Counts) → len b ≡ 0 → s ≡ matrix s.rows s.cols (ewise_add s.counts b)
-added_none s b none = ap (matrix s.rows s.cols)
-    (sym (ap (ewise_add s.counts) (empty_of_len b none) ∙ ewise_add-empty s.counts))
-
 -- a sum to which one matrix more was added
 pub sum_at : (s a b : Matrix) (c w : Counts) → s ≡ matrix a.rows a.cols (ewise_add a.counts c) → a ≡ b →
     w ≡ ewise_add b.counts c → s ≡ matrix b.rows b.cols w

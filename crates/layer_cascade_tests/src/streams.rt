@@ -205,3 +205,61 @@ fn layers_given_away_agree_with_plans(rt: HostRuntime) -> Result<(), Fail> {
     }
     Ok(())
 }
+
+/// So many additions that the matrices that a layer holds side by side are added up on the way, whatever its cut.
+const MANY: u64 = 70;
+
+/// How many of these are in the view that is taken on the way.
+const SEEN: u64 = 25;
+
+fn check_many(rt: &impl Abort, alloc: Global, cuts: &[u64]) -> Result<(), Fail> {
+    let mut layers = Layers::new(alloc, 9, 9, cuts)?;
+    let mut others = Layers::new(alloc, 9, 9, cuts)?;
+    let mut view = layers.view(alloc)?;
+    for i in 0..MANY {
+        if i == SEEN {
+            view = layers.view(alloc)?;
+        }
+        add(alloc, &mut layers, &matrix(alloc, i)?)?;
+        others = moved(alloc, others, matrix(alloc, i)?)?;
+        assert!(rt; have_same_sizes(&layers, &others), "after {i}");
+        assert!(rt;
+            holds_first(alloc, &layers, i.wrapping_add(1))?,
+            "after {i}"
+        );
+    }
+    let seen = view.sum(alloc)?;
+    assert!(rt; are_same(alloc, &seen, &sum_of(alloc, 0, SEEN)?)?);
+    assert!(rt; into_sum_is(alloc, layers, &sum_of(alloc, 0, MANY)?)?);
+    Ok(())
+}
+
+#[test]
+fn matrices_side_by_side_agree_with_one(rt: HostRuntime) -> Result<(), Fail> {
+    for cuts in [&[] as &[u64], &[200], &[60], &[30, 70]] {
+        check_many(&rt, rt.alloc(), cuts)?;
+    }
+    Ok(())
+}
+
+/// How many entries the only layer has after so many matrices of the stream.
+fn entries_after(alloc: Global, matrices: u64) -> Result<Option<u64>, Fail> {
+    let mut layers = Layers::new(alloc, 9, 9, &[])?;
+    for i in 0..matrices {
+        add(alloc, &mut layers, &matrix(alloc, i)?)?;
+    }
+    Ok(layers.layer_entries(1))
+}
+
+#[test]
+fn a_layer_counts_a_place_once(rt: HostRuntime) -> Result<(), Fail> {
+    for matrices in [0, 1, 2, 31, 32, 33, MANY] {
+        let want = sum_of(rt.alloc(), 0, matrices)?.entries();
+        assert_eq!(rt;
+            entries_after(rt.alloc(), matrices)?,
+            Some(want),
+            "{matrices}"
+        );
+    }
+    Ok(())
+}
