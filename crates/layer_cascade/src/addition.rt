@@ -1,8 +1,8 @@
 //! The addition of a matrix to layers: where its cascade ends, and what the layers are then.
 //!
-//! The sum is carried from layer to layer: at each it takes the layer in, and stays there if it has at most the cut of
-//! entries. So each layer up to the end is read once, and none above it. All growth is made here, and nothing is
-//! changed.
+//! The matrix is carried from layer to layer: at each it is put beside what the layer holds, if all entries are within
+//! the cut, or added up with it, and stays there if the sum has at most the cut of entries. So no layer above the end
+//! is read. All growth is made here, and nothing is changed.
 ghost use Rattle.std.specs.Prelude.{◌≡◌, ℕ, suc, ◌+◌, ◌<◌, ◌^◌, ◌++◌, ◌∷◌, IfOk, OnOk, length, drop, replicate};
 ghost use Rattle.std.specs.Arc.{arc_value};
 ghost use Rattle.std.specs.FinMap.{empty as no_counts};

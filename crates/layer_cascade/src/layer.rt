@@ -1,8 +1,8 @@
 //! One layer: matrices side by side, which are added up only where it has to be known what they hold together.
 //!
 //! A small matrix that is added at once to a larger one is copied there with every block that it touches, and so is
-//! each one after it. Here it is put beside the others, which costs a pointer for each of them, as long as their entries
-//! together are no more than the cut: those of the sum can't be more. Then all are added up once.
+//! each one after it. Here it is put beside the others, which costs a pointer for each of them, as long as their
+//! entries together are no more than the cut: those of the sum can't be more. Then all are added up once.
 ghost use Rattle.std.specs.Prelude.{◌≡◌, ℕ, ◌+◌, ◌<◌, ◌≤◌, ◌^◌, ◌⊎◌, IfOk, IfSome};
 ghost use Rattle.std.specs.FinMap.{empty, get, len};
 ghost use Rattle.cells.specs.Bounds.{IsDimension};

@@ -1,13 +1,15 @@
 //! The layers, the two steps of an addition, and the look-ups in the sum of all layers.
 //!
-//! Layer 1 is the smallest and is merged at nearly every addition; a layer further up is merged only where the ones
-//! below it have outgrown their cuts. With cuts that grow by a constant factor an entry is so merged a few times for
-//! each layer, where one large matrix would be written anew for each addition.
+//! What a layer holds is the sum of the matrices that stand side by side in it. A matrix is put beside those of layer 1
+//! as long as the entries of all are within its cut, since their sum has no more; else they are added up, and the exact
+//! number of entries decides whether the sum stays or goes on to the next layer. With cuts that grow by a constant
+//! factor an entry is so merged a few times for each layer, where one large matrix would be written anew for each
+//! addition.
 //!
 //! Each layer is shared and never changed in place, so a plan takes over the layers that it leaves by a pointer, and to
 //! commit it is to exchange pointers. `Layers::add` makes both steps at once from layers that are given away, and
-//! copies nothing that nobody else has. A look-up asks each layer and puts the answers together; only `Layers::sum` and
-//! `Layers::into_sum` build the sum.
+//! copies nothing that nobody else has; it leaves one matrix in each layer. A look-up asks each matrix of each layer
+//! and puts the answers together; only `Layers::sum` and `Layers::into_sum` build the sum.
 ghost use Rattle.std.specs.Prelude.{◌≡◌, ℕ, ◌+◌, ◌<◌, ◌≤◌, ◌^◌, ◌⊎◌, ◌↔◌, IfOk, IfSome};
 ghost use Rattle.std.specs.FinMap.{get, len};
 ghost use Rattle.cells.specs.Bounds.{IsDimension, AreWithin};
@@ -148,7 +150,8 @@ impl Layers {
     /// layers below it are empty: each cascades into the next (Kepner, Davis and others, 2020). The caller sees to it
     /// that the dimensions are equal and that both totals together stay below 2^64.
     ///
-    /// Takes the time and memory of the sums up to that layer, in which blocks that meet no other are shared. The
+    /// Where `m` is put beside the matrices of a layer, that takes the time of a pointer for each of these, at most 32.
+    /// Else takes the time and memory of the sums up to that layer, in which blocks that meet no other are shared. The
     /// layers above it aren't read.
     ///
     /// # Errors
@@ -293,7 +296,9 @@ impl Layers {
         sum
     }
 
-    /// The number of entries of layer `i`, counted from 1; `None` for 0 and past the last layer. Constant time.
+    /// The number of entries of layer `i`, counted from 1; `None` for 0 and past the last layer. No memory.
+    /// Constant time where the layer holds one matrix. Else each cell, but those of the first, is looked up in the
+    /// matrices before its own: at most 31 bisections.
     pub fn layer_entries(&self, i: usize) -> Option<u64>
         ensures { result ≡ entries_of_layer self.now.layers i }
     {
@@ -305,7 +310,7 @@ impl Layers {
 
 impl Layers {
     /// The count at a place of the sum of all layers, or `None` if no layer has an entry there. Rows and columns count
-    /// from 0; a place out of range has none. No memory, a bisection in each layer.
+    /// from 0; a place out of range has none. No memory, a bisection in each matrix of each layer.
     pub fn get(&self, row: u64, col: u64) -> Option<u64>
         ensures value { result ≡ get (content self.now.layers) (row, col) }
         ensures outside { (self.now.rows ≤ row) ⊎ (self.now.cols ≤ col) → result ≡ None }
@@ -318,7 +323,8 @@ impl Layers {
     }
 
     /// The entries of a row, counted from 0, of the sum of all layers: how many columns have one, and the sum of their
-    /// counts. Zeros for a row out of range. No memory; a bisection in each layer for each of these columns.
+    /// counts. Zeros for a row out of range. No memory; a bisection in each matrix of each layer for each of these
+    /// columns.
     pub fn row_total(&self, row: u64) -> RowSum
         ensures entries { result.entries ≡ len (row_of (content self.now.layers) row) }
         ensures total { result.total ≡ total (row_of (content self.now.layers) row) }

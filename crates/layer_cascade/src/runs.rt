@@ -3,7 +3,8 @@
 ghost use Rattle.std.specs.Prelude.{◌≡◌, ℕ, ◌+◌, ◌<◌, ◌≤◌, ◌^◌, ◌⊎◌, ◌++◌, IfOk, OnOk, IfSome};
 ghost use Rattle.std.specs.Arc.{arc_value};
 ghost use Rattle.std.specs.FinMap.{get, len, entries};
-ghost use Rattle.cells.specs.Bounds.{IsDimension};
+ghost use Rattle.cells.specs.Bounds.{IsDimension, AreWithin};
+ghost use Rattle.hyper_matrix.specs.Cells.{built_of};
 ghost use Rattle.hyper_matrix.specs.Counts.{ewise_add, total};
 ghost use Rattle.hyper_matrix.specs.Matrix.{matrix};
 ghost use Rattle.hyper_matrix.specs.RowOf.{row_of};
@@ -12,7 +13,9 @@ ghost use Rattle.layer_cascade.specs.Columns.{FirstColumn};
 ghost use Rattle.layer_cascade.specs.Runs.{count_new};
 ghost use Rattle.layer_cascade.specs.Shared.{values, all_counts, HaveDims};
 
+use crate::limits::MOST_LISTED;
 use crate::lookup::{column_from, earlier, plus};
+use cells::{Cell, summed};
 use hyper_matrix::Hyper;
 use std::alloc::{AllocError, Global};
 use std::sync::Arc;
@@ -38,8 +41,51 @@ pub fn own_matrix(alloc: Global, run: Arc<Hyper>) -> Result<Hyper, AllocError>
     }
 }
 
+// The cells of all runs, one run after the other.
+fn cells_of_runs(alloc: Global, runs: &[Arc<Hyper>]) -> Result<Vec<Cell>, AllocError>
+    ensures sum { IfOk result (λ cells. built_of cells.items ≡ content (all_counts (values runs.now))) }
+    ensures within { (rows : ℕ) (cols : ℕ) → HaveDims rows cols (values runs.now) →
+        IfOk result (λ cells. AreWithin rows cols cells.items) }
+{
+    let mut cells = Vec::new(alloc);
+    'runs: for run in runs {
+        let mut list = run.cells(alloc)?;
+        cells.append(&mut list)?;
+    }
+    Ok(cells)
+}
+
+// The sum of runs, by a list of their cells that is sorted.
+fn sum_of_cells(
+    runs: &[Arc<Hyper>],
+    alloc: Global,
+    rows: u64,
+    cols: u64,
+) -> Result<Hyper, AllocError>
+    requires rows { IsDimension rows }
+    requires cols { IsDimension cols }
+    requires dims { HaveDims rows cols (values runs.now) }
+    requires fits { total (content (all_counts (values runs.now))) < 2 ^ 64 }
+    ensures { IfOk result (λ m. m ≡ matrix rows cols (content (all_counts (values runs.now)))) }
+{
+    let cells = cells_of_runs(alloc, runs)?;
+    let list = summed(alloc, &cells)?;
+    let none = Hyper::new(alloc, rows, cols);
+    let sum = none.into_sum_with_cells(alloc, &list)?;
+    Ok(sum)
+}
+
+// Whether all runs together have so few cells that a list of them is sorted in a few passes.
+fn are_short(runs: &[Arc<Hyper>]) -> bool {
+    let mut entries = 0u64;
+    for run in runs {
+        entries = entries.saturating_add(run.entries());
+    }
+    entries <= MOST_LISTED
+}
+
 /// The sum of runs: that of the first half and that of the second, added. So a cell is written as often as the runs can
-/// be halved, and not once for each run.
+/// be halved, and not once for each run. Runs that are short together are added up by a list of their cells.
 pub fn sum_of_runs(
     runs: &[Arc<Hyper>],
     alloc: Global,
@@ -57,6 +103,10 @@ pub fn sum_of_runs(
         [run] => {
             let only = run.copy(alloc)?;
             Ok(only)
+        }
+        _ if are_short(runs) => {
+            let listed = sum_of_cells(runs, alloc, rows, cols)?;
+            Ok(listed)
         }
         _ => {
             let (left, right) = runs.split_at(runs.len() / 2);

@@ -4,7 +4,8 @@ use Rattle.hyper_matrix.specs.Matrix.{Matrix}
 use Rattle.layer_cascade.specs.Shared.{values, all_counts}
 use Rattle.layer_cascade.specs.Steps.{Takes}
 use Rattle.layer_cascade.proofs.LayerLemmas.{length-counts, not_here}
-use Rattle.layer_cascade.proofs.StepLemmas.{carried_at, carried_first, carried_next, with_layer, meets_rows, meets_cols, meets_fits}
+use Rattle.layer_cascade.proofs.StepLemmas.{carried_at, carried_first, carried_next, with_layer, meets_rows, meets_cols}
+use Rattle.layer_cascade.proofs.StepLemmas.{meets_fits}
 use Rattle.layer_cascade.proofs.addition.cascade_end.Goals as goal
 
 pub places-init : goal.places-init

@@ -59,8 +59,10 @@ pub returns-then-is_empty-clause-dims : goal.returns-then-is_empty-clause-dims
 returns-then-is_empty-clause-dims c =
     dims_joined _ _ c.push.new.self.items c.from-above.result.items _ c.in_ok-append.ensures.items
     (dims_pushed _ _ c.carry.after.items _ c.in_ok-layer-2.layer c.in_ok-push.ensures.items c.carry.invariant.done
-    (ap (λ (m : Matrix). m.rows) (c.in_ok-layer-2.ensures.ok ∙ c.in_ok-layer.ensures ∙ c.in_ok-sum.ensures) ∙ c.carry.invariant.rows)
-    (ap (λ (m : Matrix). m.cols) (c.in_ok-layer-2.ensures.ok ∙ c.in_ok-layer.ensures ∙ c.in_ok-sum.ensures) ∙ c.carry.invariant.cols))
+    (ap (λ (m : Matrix). m.rows) (c.in_ok-layer-2.ensures.ok ∙ c.in_ok-layer.ensures ∙ c.in_ok-sum.ensures)
+    ∙ c.carry.invariant.rows)
+    (ap (λ (m : Matrix). m.cols) (c.in_ok-layer-2.ensures.ok ∙ c.in_ok-layer.ensures ∙ c.in_ok-sum.ensures)
+    ∙ c.carry.invariant.cols))
     (subst (λ l. HaveDims c.args.m.rows c.args.m.cols (values l)) (sym c.from-above.ensures.0)
     (subst (λ l. HaveDims c.args.m.rows c.args.m.cols (values l)) c.in-Some.ensures.items c.carry.invariant.left).2)
 

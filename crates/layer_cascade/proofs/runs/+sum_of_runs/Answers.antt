@@ -22,8 +22,8 @@ sum_of_runs-requires t c =
       ),
     )
 
-pub sum_of_runs-requires-in_default : goal.sum_of_runs-requires-in_default
-sum_of_runs-requires-in_default t c =
+pub sum_of_runs-requires-in_default-2 : goal.sum_of_runs-requires-in_default-2
+sum_of_runs-requires-in_default-2 t c =
     let left = c.split_at.result.0.now in
     let right = c.split_at.result.1.now in
     let cut = c.split_at.ensures.by_index.0 in (
@@ -43,20 +43,22 @@ sum_of_runs-requires-in_default t c =
 pub into_sum-requires-clause-fits : goal.into_sum-requires-clause-fits
 into_sum-requires-clause-fits t c = omega (
   arith,
-  ap (λ (m : Matrix). total m.counts) c.in_ok-sum-in_default.ensures,
-  ap (λ (m : Matrix). total m.counts) c.in_ok-rest-in_default.ensures,
+  ap (λ (m : Matrix). total m.counts) c.in_ok-sum-in_default-2.ensures,
+  ap (λ (m : Matrix). total m.counts) c.in_ok-rest-in_default-2.ensures,
   total-parts c.args.runs.now c.split_at.result.0.now c.split_at.result.1.now c.split_at.ensures.by_index.0,
   c.requires.fits,
 )
 
 pub returns-in_ok-only-in-len1 : goal.returns-in_ok-only-in-len1
 returns-in_ok-only-in-len1 t c =
-    c.in_ok-only-in-len1.ensures ∙ c.deref.ensures ∙ run_alone c.args.runs.now c.run-item.result c.args.rows c.args.cols c.requires.dims
+    c.in_ok-only-in-len1.ensures ∙ c.deref.ensures ∙ run_alone c.args.runs.now c.run-item.result c.args.rows
+    c.args.cols c.requires.dims
     c.in-len1.len_at_least c.in-len1.len_below c.run-item.is
 
-pub returns-in_ok-whole-in_default : goal.returns-in_ok-whole-in_default
-returns-in_ok-whole-in_default t c =
-    c.in_ok-whole-in_default.ensures
-    ∙ runs_together c.args.runs.now c.split_at.result.0.now c.split_at.result.1.now c.split_at.ensures.by_index.0 c.args.rows c.args.cols
-    c.in_ok-sum-in_default.sum c.in_ok-rest-in_default.rest
-    c.in_ok-sum-in_default.ensures c.in_ok-rest-in_default.ensures
+pub returns-in_ok-whole-in_default-2 : goal.returns-in_ok-whole-in_default-2
+returns-in_ok-whole-in_default-2 t c =
+    c.in_ok-whole-in_default-2.ensures
+    ∙ runs_together c.args.runs.now c.split_at.result.0.now c.split_at.result.1.now
+    c.split_at.ensures.by_index.0 c.args.rows c.args.cols
+    c.in_ok-sum-in_default-2.sum c.in_ok-rest-in_default-2.rest
+    c.in_ok-sum-in_default-2.ensures c.in_ok-rest-in_default-2.ensures

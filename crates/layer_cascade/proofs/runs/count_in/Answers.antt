@@ -21,7 +21,8 @@ plus-count-requires c =
     omega (
       arith,
       c.requires,
-      more_fits runs c.counts.run-index c.run-item.result c.deref.result.now (omega arith) c.run-item.is c.deref.ensures,
+      more_fits runs c.counts.run-index c.run-item.result c.deref.result.now (omega arith) c.run-item.is
+          c.deref.ensures,
       ap (λ o. unwrap_or o 0) c.counts.invariant.found,
       ap (λ o. unwrap_or o 0) c.get.ensures.value,
       count_below (content (take c.counts.run-index (all_counts (values runs)))) (c.args.row, c.args.col),

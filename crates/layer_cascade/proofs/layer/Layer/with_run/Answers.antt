@@ -9,7 +9,8 @@ use Rattle.layer_cascade.proofs.layer.Layer.with_run.Goals as goal
 pub invariant_of-result : goal.invariant_of-result
 invariant_of-result c =
     keeps_pushed c.push_runs.new.out.items c.push.new.self.items c.in_ok-run.run' (values c.self.inside.runs.items)
-    c.args.m c.in_ok-push.ensures.items (c.in_ok-push_runs.ensures ∙ ap (λ l. values l ++ values c.deref.result.now) c.in_ok-runs.ensures.items
+    c.args.m c.in_ok-push.ensures.items (c.in_ok-push_runs.ensures ∙ ap (λ l. values l ++ values
+    c.deref.result.now) c.in_ok-runs.ensures.items
     ∙ ap values c.deref.ensures.value) c.in_ok-run.ensures.ok _ _ _ _ c.self.invariant.is_rows
     c.self.invariant.is_cols c.self.invariant.dims
     (c.requires.rows ∙ sym (ap (λ (m : Matrix). m.rows) c.self.view_is))
