@@ -2,7 +2,7 @@ use Rattle.std.proofs.Common.{get_or, ap, ◌∙◌, sym, arith}
 use Rattle.hyper_matrix.specs.Counts.{total, ewise_add}
 use Rattle.hyper_matrix.specs.Cells.{built_of}
 use Rattle.hyper_matrix.specs.Matrix.{Matrix}
-use Rattle.hyper_matrix.proofs.ListLaws.{total-built_of}
+use Rattle.hyper_matrix.proofs.BuiltOfLaws.{total-built_of}
 use Rattle.std.proofs.Math.ListN.{set}
 use Rattle.layer_cascade.specs.Cascade.{cascade}
 use Rattle.layer_cascade.specs.Shared.{values, all_counts}

@@ -4,7 +4,7 @@ use Rattle.hyper_matrix.specs.Cells.{built_of, cell_total}
 use Rattle.hyper_matrix.specs.Counts.{ewise_add, total}
 use Rattle.hyper_matrix.specs.Matrix.{Matrix, matrix}
 use Rattle.hyper_matrix.proofs.CountLaws.{total-empty}
-use Rattle.hyper_matrix.proofs.ListLaws.{built_of-same, total-built_of}
+use Rattle.hyper_matrix.proofs.BuiltOfLaws.{built_of-same, total-built_of}
 use Rattle.layer_cascade.proofs.CascadeLaws.{empty-ewise_add}
 use Rattle.layer_cascade.proofs.runs.sum_of_cells.Goals as goal
 

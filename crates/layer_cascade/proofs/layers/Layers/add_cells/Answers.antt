@@ -2,7 +2,7 @@ use Rattle.std.proofs.Common.{ap, ◌∙◌, subst, refl, arith}
 use Rattle.std.specs.Arc.{arc_value}
 use Rattle.hyper_matrix.specs.Cells.{built_of}
 use Rattle.hyper_matrix.specs.Matrix.{Matrix, matrix}
-use Rattle.hyper_matrix.proofs.ListLaws.{total-built_of}
+use Rattle.hyper_matrix.proofs.BuiltOfLaws.{total-built_of}
 use Rattle.layer_cascade.specs.Cascade.{cascade}
 use Rattle.layer_cascade.specs.Layering.{Layering}
 use Rattle.layer_cascade.specs.Shared.{values, all_counts, HaveDims}
