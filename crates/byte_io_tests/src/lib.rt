@@ -6,7 +6,9 @@ mod counted;
 #[cfg(test)]
 mod scripts;
 mod sinks;
+mod splits;
 #[cfg(test)]
 mod writes;
 
 pub use sinks::{Full, OneByte};
+pub use splits::{halves, pieces, push_piece};

@@ -1,46 +1,80 @@
 //! A text that is read in blocks.
 use crate::cases::WIDE;
 use byte_io::{Script, Source};
-use mm_text::TextReader;
+use byte_io_tests::pieces;
+use mm_text::{Cell, Size, TextReader};
 use std::alloc::{AllocError, Global};
+use std::process::Abort;
 use std::test::Fail;
 
 const ENTRIES: u64 = 10_000;
 
-/// The pieces of a symmetric text, one for each entry line.
-fn pieces(alloc: Global) -> Result<Vec<Vec<u8>>, AllocError> {
-    let mut pieces = Vec::new(alloc);
+/// A symmetric text.
+fn text(alloc: Global) -> Result<Vec<u8>, AllocError> {
     let head = "%%MatrixMarket matrix coordinate integer symmetric\n9 9 10000\n";
-    pieces.push(head.as_bytes().to_vec(alloc)?)?;
+    let mut text = head.as_bytes().to_vec(alloc)?;
     for _ in 0..ENTRIES {
-        pieces.push(b"9 1 3\n".to_vec(alloc)?)?;
+        text.extend_from_slice(b"9 1 3\n")?;
     }
-    Ok(pieces)
+    Ok(text)
 }
 
-/// The two cells of an entry never part, and the last block is not full.
-#[test]
-fn blocks(rt: HostRuntime) -> Result<(), Fail> {
-    let mut source = Script::new(rt.alloc(), pieces(rt.alloc())?, None, None);
-    let mut reader = TextReader::new(rt.alloc(), WIDE)?;
-    assert!(rt; reader.size().is_none());
-    let mut block = Vec::with_capacity(rt.alloc(), 4095)?;
+/// Reads the next block, and tells whether it is not the last.
+fn read_next(
+    rt: &impl Abort,
+    source: &mut Script,
+    reader: &mut TextReader,
+    block: &mut Vec<Cell>,
+) -> bool {
+    block.clear();
+    assert_eq!(rt; source.failures(), 0);
+    let more = reader.read_block(source, block, 4095);
+    assert!(rt; more.is_ok());
+    more == Ok(true)
+}
+
+/// Reads all blocks of a source, and counts their cells. The two cells of an entry never part, and the last block is
+/// not full.
+fn count_blocks(
+    rt: &impl Abort,
+    source: &mut Script,
+    reader: &mut TextReader,
+    block: &mut Vec<Cell>,
+) -> u64 {
     let mut cells = 0u64;
     for _ in 0..ENTRIES {
-        if source.failures() != 0 {
-            break;
-        }
-        block.clear();
-        let more = reader.read_block(&mut source, &mut block, 4095);
-        assert!(rt; more.is_ok());
+        let more = read_next(rt, source, reader, block);
         cells = cells.saturating_add(block.len() as u64);
-        if more != Ok(true) {
+        if !more {
             break;
         }
         assert_eq!(rt; block.len(), 4094);
     }
+    cells
+}
+
+/// Reads the text.
+fn count_cells(rt: &impl Abort, alloc: Global, reader: &mut TextReader) -> Result<u64, AllocError> {
+    let text = text(alloc)?;
+    let mut source = Script::new(alloc, pieces(alloc, text.as_slice(), 6)?, None, None);
+    let mut block = Vec::with_capacity(alloc, 4095)?;
+    Ok(count_blocks(rt, &mut source, reader, &mut block))
+}
+
+/// Whether it is the size of the text.
+fn is_declared(size: Option<Size>) -> bool {
+    match size {
+        Some(size) => size.rows == 9 && size.entries == ENTRIES,
+        None => false,
+    }
+}
+
+#[test]
+fn blocks(rt: HostRuntime) -> Result<(), Fail> {
+    let mut reader = TextReader::new(rt.alloc(), WIDE)?;
+    assert!(rt; reader.size().is_none());
+    let cells = count_cells(&rt, rt.alloc(), &mut reader)?;
     assert_eq!(rt; cells, 2 * ENTRIES);
-    let declared = reader.size();
-    assert!(rt; declared.is_some_and(|size| size.rows == 9 && size.entries == ENTRIES));
+    assert!(rt; is_declared(reader.size()));
     Ok(())
 }

@@ -1,4 +1,5 @@
 //! A text with its answer, and the ways to read it.
+use byte_io_tests::{halves, pieces};
 use mm_text::{Cell, MmFault, MmFile, MmKind, Script, TextLimits, read_matrix};
 use std::alloc::{AllocError, Global};
 use std::process::Abort;
@@ -59,22 +60,11 @@ pub enum Cut {
 impl Cut {
     fn pieces(self, alloc: Global, text: &[u8]) -> Result<Vec<Vec<u8>>, AllocError> {
         match self {
-            Cut::Nowhere => Ok(vec![in alloc; text.to_vec(alloc)?]?),
-            Cut::At(place) => {
-                let (front, rest) = text.split_at(place.min(text.len()));
-                Ok(vec![in alloc; front.to_vec(alloc)?, rest.to_vec(alloc)?]?)
-            }
-            Cut::Everywhere => single_bytes(alloc, text),
+            Cut::Nowhere => pieces(alloc, text, text.len()),
+            Cut::At(place) => halves(alloc, text, place),
+            Cut::Everywhere => pieces(alloc, text, 1),
         }
     }
-}
-
-fn single_bytes(alloc: Global, text: &[u8]) -> Result<Vec<Vec<u8>>, AllocError> {
-    let mut pieces = Vec::with_capacity(alloc, text.len())?;
-    for byte in text {
-        pieces.push([*byte].to_vec(alloc)?)?;
-    }
-    Ok(pieces)
 }
 
 /// A text, and what reading it within the limits must give.

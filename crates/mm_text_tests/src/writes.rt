@@ -1,6 +1,6 @@
 //! Texts that are written, each beside the text written by hand.
 ghost use Rattle.std.specs.Prelude.{◌≡◌, ℕ, ◌+◌, ◌<◌, ◌≤◌, ◌^◌, length, vec_len, IsTrue};
-ghost use Rattle.cells.specs.Bounds.{AreWithin};
+ghost use Rattle.cells.specs.Bounds.{AreWithin, IsDimension};
 
 use byte_io::{Counted, Script, Sink, WriteFault};
 use byte_io_tests::{Full, OneByte};
@@ -24,33 +24,57 @@ fn cell(row: u64, col: u64, count: u64) -> Cell {
     Cell { row, col, count }
 }
 
-/// Writes a matrix into a sink that takes so many bytes. It must take the front of the text, and fail once if that is
-/// not all.
-fn check_limit(
-    rt: &impl Abort,
-    alloc: Global,
+/// A matrix that is written.
+#[derive(Clone, Copy)]
+struct Matrix<'a> {
     rows: u64,
     cols: u64,
-    cells: &[Cell],
-    want: &[u8],
-    limit: usize,
-) {
-    assert!(rt; 1 <= rows && rows <= LARGEST && 1 <= cols && cols <= LARGEST);
-    assert!(rt; are_within(rows, cols, cells));
-    let mut script = Script::new(alloc, Vec::new(alloc), None, Some(limit as u64));
-    let outcome = write_matrix(&mut script, rows, cols, cells);
-    let taken = want.len().min(limit);
-    assert!(rt; script.written() == &want[..taken]);
-    if taken < want.len() {
-        let fault = WriteFault {
-            written: limit as u128,
-        };
-        assert_eq!(rt; outcome, Err(fault));
-        assert_eq!(rt; Sink::failures(&script), 1);
+    cells: &'a [Cell],
+}
+
+/// Whether there are such matrices.
+fn is_matrix(rows: u64, cols: u64, cells: &[Cell]) -> bool
+    ensures rows { IsTrue result → IsDimension rows }
+    ensures cols { IsTrue result → IsDimension cols }
+    ensures within { IsTrue result → AreWithin rows cols cells.now }
+{
+    1 <= rows && rows <= LARGEST && 1 <= cols && cols <= LARGEST && are_within(rows, cols, cells)
+}
+
+fn write<W: Sink>(rt: &impl Abort, sink: &mut W, matrix: Matrix) -> Result<(), WriteFault>
+    requires { W.failure_count sink.old + 1 < 2 ^ 64 }
+{
+    assert!(rt; is_matrix(matrix.rows, matrix.cols, matrix.cells));
+    write_matrix(sink, matrix.rows, matrix.cols, matrix.cells)
+}
+
+/// How a text of this length ends in a sink that takes so many bytes: it fails once if that is not all.
+fn end_of(len: usize, limit: usize) -> (Result<(), WriteFault>, u64) {
+    if limit < len {
+        let written = limit as u128;
+        (Err(WriteFault { written }), 1)
     } else {
-        assert_eq!(rt; outcome, Ok(()));
-        assert_eq!(rt; Sink::failures(&script), 0);
+        (Ok(()), 0)
     }
+}
+
+/// Writes a matrix into a sink that takes so many bytes. It must take the front of the text, and fail once if that is
+/// not all.
+fn check_limit(rt: &impl Abort, alloc: Global, matrix: Matrix, want: &[u8], limit: usize) {
+    let mut script = Script::new(alloc, Vec::new(alloc), None, Some(limit as u64));
+    let outcome = write(rt, &mut script, matrix);
+    let failures = Sink::failures(&script);
+    assert_eq!(rt; (outcome, failures), end_of(want.len(), limit));
+    assert!(rt; script.written() == &want[..want.len().min(limit)]);
+}
+
+/// Writes a matrix into a sink of short writes.
+fn check_slow(rt: &impl Abort, alloc: Global, matrix: Matrix, want: &[u8]) {
+    let mut slow = OneByte {
+        inner: Script::new(alloc, Vec::new(alloc), None, None),
+    };
+    assert_eq!(rt; write(rt, &mut slow, matrix), Ok(()));
+    assert!(rt; slow.inner.written() == want);
 }
 
 /// Writes a matrix and compares its text, also with a sink that fails at each byte and with one of short writes.
@@ -62,17 +86,12 @@ fn check_text(
     cells: &[Cell],
     tail: &str,
 ) -> Result<(), AllocError> {
+    let matrix = Matrix { rows, cols, cells };
     let want = format!(in alloc; "{BANNER}{tail}")?;
     for limit in 0..=want.len() {
-        check_limit(rt, alloc, rows, cols, cells, want.as_bytes(), limit);
+        check_limit(rt, alloc, matrix, want.as_bytes(), limit);
     }
-    assert!(rt; 1 <= rows && rows <= LARGEST && 1 <= cols && cols <= LARGEST);
-    assert!(rt; are_within(rows, cols, cells));
-    let mut slow = OneByte {
-        inner: Script::new(alloc, Vec::new(alloc), None, None),
-    };
-    assert_eq!(rt; write_matrix(&mut slow, rows, cols, cells), Ok(()));
-    assert!(rt; slow.inner.written() == want.as_bytes());
+    check_slow(rt, alloc, matrix, want.as_bytes());
     Ok(())
 }
 
@@ -96,47 +115,69 @@ fn small_texts(rt: HostRuntime) -> Result<(), Fail> {
     Ok(())
 }
 
+/// Many cells at one place.
+fn many_cells(alloc: Global, count: u64) -> Result<Vec<Cell>, AllocError> {
+    let mut cells = Vec::new(alloc);
+    for _ in 0..count {
+        cells.push(cell(0, 2, 1))?;
+    }
+    Ok(cells)
+}
+
+/// Their text.
+fn many_lines(alloc: Global, count: u64) -> Result<String, AllocError> {
+    let mut want = format!(in alloc; "{BANNER}3 3 {count}\n")?;
+    for _ in 0..count {
+        want.push_str("1 3 1\n")?;
+    }
+    Ok(want)
+}
+
 /// A text that is handed on in several calls.
 #[test]
 fn long_text(rt: HostRuntime) -> Result<(), Fail> {
-    let mut cells = Vec::new(rt.alloc());
-    let mut want = format!(in rt.alloc(); "{BANNER}3 3 4097\n")?;
-    for _ in 0..4097u64 {
-        cells.push(cell(0, 2, 1))?;
-        want.push_str("1 3 1\n")?;
-    }
+    let cells = many_cells(rt.alloc(), 4097)?;
+    let want = many_lines(rt.alloc(), 4097)?;
+    let matrix = Matrix {
+        rows: 3,
+        cols: 3,
+        cells: cells.as_slice(),
+    };
     for limit in [16_320, 16_384, 16_385, 24_000, 30_000] {
-        check_limit(
-            &rt,
-            rt.alloc(),
-            3,
-            3,
-            cells.as_slice(),
-            want.as_bytes(),
-            limit,
-        );
+        check_limit(&rt, rt.alloc(), matrix, want.as_bytes(), limit);
     }
     Ok(())
 }
 
-#[test]
-fn blocks_of_cells(rt: HostRuntime) -> Result<(), Fail> {
-    let mut counted = Counted::new(Vec::new(rt.alloc()));
+/// Writes three cells in two blocks, of which one is empty, and one by one.
+fn write_blocks(rt: &impl Abort, counted: &mut Counted<Vec<u8>>) -> Result<(), WriteFault>
+    requires { counted.old.failures + 1 < 2 ^ 64 }
+{
     let mut writer = TextWriter::new(2, 2, 3);
     let block = [cell(0, 0, 1), cell(0, 1, 2)];
     assert!(rt; are_within(2, 2, &block));
-    assert_eq!(rt; writer.write_cells(&mut counted, &block), Ok(()));
-    assert_eq!(rt; writer.write_cells(&mut counted, &[]), Ok(()));
+    writer.write_cells(counted, &block)?;
+    writer.write_cells(counted, &[])?;
     let last = Cell {
         row: 1,
         col: 1,
         count: 3,
     };
-    assert_eq!(rt; writer.write_cell(&mut counted, last), Ok(()));
-    assert_eq!(rt; writer.finish(&mut counted), Ok(()));
+    writer.write_cell(counted, last)?;
+    writer.finish(counted)
+}
+
+#[test]
+fn blocks_of_cells(rt: HostRuntime) -> Result<(), Fail> {
+    let mut counted = Counted::new(Vec::new(rt.alloc()));
+    assert_eq!(rt; write_blocks(&rt, &mut counted), Ok(()));
     let want = format!(in rt.alloc(); "{BANNER}2 2 3\n1 1 1\n1 2 2\n2 2 3\n")?;
     assert!(rt; counted.into_inner().as_slice() == want.as_bytes());
+    Ok(())
+}
+
+#[test]
+fn a_full_sink_is_told(rt: HostRuntime) {
     let refused = write_matrix(&mut Full, 1, 1, &[]);
     assert_eq!(rt; refused, Err(WriteFault { written: 0 }));
-    Ok(())
 }

@@ -30,6 +30,15 @@ pub fn cells_of(alloc: Global, table: &[(u64, u64, u64)]) -> Result<Vec<Cell>, A
     Ok(cells)
 }
 
+// The matrix of these cells.
+fn matrix(alloc: Global, setup: &Setup, table: &[(u64, u64, u64)]) -> Result<Hyper, Fail>
+    ensures rows { IfOk result (λ m. m.rows ≡ setup.now.rows) }
+    ensures cols { IfOk result (λ m. m.cols ≡ setup.now.cols) }
+{
+    let cells = cells_of(alloc, table)?;
+    Ok(Hyper::build(alloc, setup.rows(), setup.cols(), &cells)?)
+}
+
 /// The batch of these cells.
 pub fn batch(
     alloc: Global,
@@ -41,17 +50,13 @@ pub fn batch(
     ensures rows { IfOk result (λ b. (arc_value b).matrix.rows ≡ setup.now.rows) }
     ensures cols { IfOk result (λ b. (arc_value b).matrix.cols ≡ setup.now.cols) }
 {
-    let cells = cells_of(alloc, table)?;
-    let matrix = Hyper::build(alloc, setup.rows(), setup.cols(), &cells)?;
+    let matrix = matrix(alloc, setup, table)?;
     let total = matrix.total();
-    let b = Arc::new(
-        alloc,
-        Batch {
-            client,
-            number,
-            matrix,
-            total,
-        },
-    )?;
-    Ok(b)
+    let b = Batch {
+        client,
+        number,
+        matrix,
+        total,
+    };
+    Ok(Arc::new(alloc, b)?)
 }

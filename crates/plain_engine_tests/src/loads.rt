@@ -25,18 +25,28 @@ pub fn list_of(alloc: Global, setup: &Setup, table: Batches) -> Result<Vec<Arc<B
     Ok(list)
 }
 
-// What the engine of a list has accepted, or why there is none.
-fn loaded(
+/// What the engine of a list has accepted, or why there is none.
+pub fn loaded(
+    rt: &impl RandomSource,
+    alloc: Global,
+    setup: Setup,
+    list: &[Arc<Batch>],
+) -> Result<Status, LoadFault>
+    requires { HaveDims setup.rows setup.cols (values list.now) }
+{
+    let engine = PlainEngine::from_batches(rt, alloc, setup, list)?;
+    Ok(engine.status())
+}
+
+// The same of a table.
+fn loaded_of(
     rt: &impl RandomSource,
     alloc: Global,
     setup: Setup,
     table: Batches,
 ) -> Result<Result<Status, LoadFault>, Fail> {
     let list = list_of(alloc, &setup, table)?;
-    match PlainEngine::from_batches(rt, alloc, setup, &list) {
-        Ok(engine) => Ok(Ok(engine.status())),
-        Err(fault) => Ok(Err(fault)),
-    }
+    Ok(loaded(rt, alloc, setup, &list))
 }
 
 static LISTS: &[(Batches, Result<Status, LoadFault>)] = &[
@@ -77,7 +87,7 @@ static LISTS: &[(Batches, Result<Status, LoadFault>)] = &[
 fn lists_are_judged_in_order(rt: HostRuntime) -> Result<(), Fail> {
     let setup = small_setup()?;
     for (list, expected) in LISTS {
-        let found = loaded(&rt, rt.alloc(), setup, list)?;
+        let found = loaded_of(&rt, rt.alloc(), setup, list)?;
         assert_eq!(rt; found, *expected);
     }
     Ok(())
@@ -88,7 +98,7 @@ static FULL: Batches = &[(7, 1, &[(0, 0, 5)]), (8, 1, &[(0, 0, 3)])];
 #[test]
 fn a_list_may_be_too_long(rt: HostRuntime) -> Result<(), Fail> {
     let setup = Setup::new(3, 3, &[2, 4], 2, 100, 1)?;
-    let found = loaded(&rt, rt.alloc(), setup, FULL)?;
+    let found = loaded_of(&rt, rt.alloc(), setup, FULL)?;
     assert_eq!(rt; found, Err(LoadFault::BookFull { at: 1 }));
     Ok(())
 }

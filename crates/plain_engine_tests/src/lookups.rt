@@ -3,7 +3,7 @@ use crate::batches::small_setup;
 use crate::expected::{
     expect_counts, expect_no_shard, expect_row, expect_shards, expect_view, exports,
 };
-use crate::puts::{Step, engine_of, put_all};
+use crate::puts::{Step, engine_of, put_all, small_engine_of};
 use batch_store::{Setup, ShardView};
 use plain_engine::PlainEngine;
 use std::alloc::{AllocError, Global};
@@ -35,8 +35,7 @@ static PLACES: &[(u64, u64, Option<u64>)] = &[
 
 #[test]
 fn cells_are_those_of_the_sum(rt: HostRuntime) -> Result<(), Fail> {
-    let setup = small_setup()?;
-    let engine = engine_of(&rt, rt.alloc(), setup, THREE)?;
+    let engine = small_engine_of(&rt, rt.alloc(), THREE)?;
     expect_counts(&rt, &engine, PLACES);
     Ok(())
 }
@@ -45,8 +44,7 @@ static ROWS: &[(u64, u64, u64)] = &[(0, 2, 10), (1, 2, 4), (2, 1, 1), (3, 0, 0),
 
 #[test]
 fn rows_are_those_of_the_sum(rt: HostRuntime) -> Result<(), Fail> {
-    let setup = small_setup()?;
-    let engine = engine_of(&rt, rt.alloc(), setup, THREE)?;
+    let engine = small_engine_of(&rt, rt.alloc(), THREE)?;
     for (row, entries, total) in ROWS {
         expect_row(&rt, &engine, *row, *entries, *total);
     }
@@ -55,8 +53,7 @@ fn rows_are_those_of_the_sum(rt: HostRuntime) -> Result<(), Fail> {
 
 #[test]
 fn an_export_is_the_sum(rt: HostRuntime) -> Result<(), Fail> {
-    let setup = small_setup()?;
-    let engine = engine_of(&rt, rt.alloc(), setup, THREE)?;
+    let engine = small_engine_of(&rt, rt.alloc(), THREE)?;
     let has = exports(rt.alloc(), &engine, SUM)?;
     assert!(rt; has);
     Ok(())
@@ -64,8 +61,7 @@ fn an_export_is_the_sum(rt: HostRuntime) -> Result<(), Fail> {
 
 #[test]
 fn shards_have_their_batches(rt: HostRuntime) -> Result<(), Fail> {
-    let setup = small_setup()?;
-    let engine = engine_of(&rt, rt.alloc(), setup, THREE)?;
+    let engine = small_engine_of(&rt, rt.alloc(), THREE)?;
     // The first batch has a stored zero in row 1.
     expect_shards(&rt, &engine, &[(0, 11, 3), (1, 4, 2)]);
     expect_no_shard(&rt, &engine, 2);

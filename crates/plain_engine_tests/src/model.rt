@@ -56,6 +56,16 @@ fn total_of(counts: &Counts) -> u64 {
 }
 
 impl Plain {
+    // Nothing, within the limits of a setup.
+    fn new(alloc: Global, setup: &Setup) -> Plain {
+        Plain {
+            limit: setup.limit(),
+            most: setup.max_batches() as usize,
+            lines: Vec::new(alloc),
+            cells: BTreeMap::new(alloc),
+        }
+    }
+
     fn total(&self) -> u64 {
         match self.lines.last() {
             Some(line) => line.after,
@@ -83,27 +93,27 @@ impl Plain {
         Ok(())
     }
 
-    fn put(
-        &mut self,
-        alloc: Global,
-        pair: (u64, u64),
-        list: &[(u64, u64, u64)],
-    ) -> Result<Answer, AllocError> {
-        let batch = summed(alloc, list)?;
-        let total = total_of(&batch);
-        if let Some(answer) = self.repeat(pair, batch.len(), total) {
-            return Ok(answer);
+    // What a batch is answered that isn't taken.
+    fn refused(&self, pair: (u64, u64), cells: usize, total: u64) -> Option<Answer> {
+        if let Some(answer) = self.repeat(pair, cells, total) {
+            return Some(answer);
         }
         let accepted = self.total();
         if total > self.limit.saturating_sub(accepted) {
-            return Ok(Err(PutFault::OverTotal { accepted }));
+            return Some(Err(PutFault::OverTotal { accepted }));
         }
         if self.lines.len() >= self.most {
-            return Ok(Err(PutFault::BookFull));
+            return Some(Err(PutFault::BookFull));
         }
+        None
+    }
+
+    // Takes a batch that isn't refused.
+    fn accept(&mut self, pair: (u64, u64), batch: &Counts) -> Result<Answer, AllocError> {
         let place = self.lines.len() as u64;
-        let after = accepted.wrapping_add(total);
-        self.take(&batch)?;
+        let total = total_of(batch);
+        let after = self.total().wrapping_add(total);
+        self.take(batch)?;
         self.lines.push(Line {
             pair,
             cells: batch.len(),
@@ -111,6 +121,19 @@ impl Plain {
             after,
         })?;
         Ok(Ok((place, after)))
+    }
+
+    fn put(
+        &mut self,
+        alloc: Global,
+        pair: (u64, u64),
+        list: &[(u64, u64, u64)],
+    ) -> Result<Answer, AllocError> {
+        let batch = summed(alloc, list)?;
+        match self.refused(pair, batch.len(), total_of(&batch)) {
+            Some(answer) => Ok(answer),
+            None => self.accept(pair, &batch),
+        }
     }
 
     fn row(&self, row: u64) -> (u64, u64) {
@@ -175,14 +198,15 @@ fn cells_for(
     Ok(cells)
 }
 
-// A generated put: what the engine answers, and what the plain one does.
-fn put_drawn(
+// Compares what both answer to a generated put.
+fn agree_on_put(
+    rt: &impl Abort,
     alloc: Global,
     setup: &Setup,
     engine: &mut PlainEngine,
     plain: &mut Plain,
     stream: &mut Stream,
-) -> Result<(Answer, Answer), Fail>
+) -> Result<(), Fail>
     requires { engine.old.setup ≡ setup.now }
     ensures { engine.new.setup ≡ setup.now }
 {
@@ -190,7 +214,8 @@ fn put_drawn(
     let cells = cells_for(alloc, pair, stream.below(5) == 0)?;
     let expected = plain.put(alloc, pair, &cells)?;
     let answer = put(alloc, setup, engine, pair, &cells)?;
-    Ok((answer, expected))
+    assert_eq!(rt; answer, expected);
+    Ok(())
 }
 
 // Compares a row's cells, one column past the last too, and its sum.
@@ -229,7 +254,7 @@ fn agree_on_export(
     alloc: Global,
     engine: &PlainEngine,
     plain: &Plain,
-) -> Result<(), Fail> {
+) -> Result<(), AllocError> {
     let sum = engine.export(alloc)?;
     let cells = sum.cells(alloc)?;
     let expected = listed(alloc, &plain.cells)?;
@@ -247,7 +272,7 @@ fn agree_on_batches(
     alloc: Global,
     engine: &PlainEngine,
     plain: &Plain,
-) -> Result<(), Fail> {
+) -> Result<(), AllocError> {
     let batches = engine.batches(alloc)?;
     assert_eq!(rt; batches.len(), plain.lines.len());
     for (batch, line) in batches.iter().zip(&plain.lines) {
@@ -263,6 +288,18 @@ fn status_of(plain: &Plain) -> Status {
     }
 }
 
+// Compares all that both hold.
+fn agree_on_all(
+    rt: &impl Abort,
+    alloc: Global,
+    engine: &PlainEngine,
+    plain: &Plain,
+) -> Result<(), AllocError> {
+    agree_on_rows(rt, engine, plain);
+    agree_on_export(rt, alloc, engine, plain)?;
+    agree_on_batches(rt, alloc, engine, plain)
+}
+
 fn agree<R: RandomSource + Abort>(
     rt: &R,
     alloc: Global,
@@ -270,23 +307,16 @@ fn agree<R: RandomSource + Abort>(
     steps: u64,
 ) -> Result<(), Fail> {
     let mut engine = PlainEngine::new(rt, alloc, setup)?;
-    let mut plain = Plain {
-        limit: setup.limit(),
-        most: setup.max_batches() as usize,
-        lines: Vec::new(alloc),
-        cells: BTreeMap::new(alloc),
-    };
+    let mut plain = Plain::new(alloc, &setup);
     let mut stream = Stream {
         state: setup.limit(),
     };
     'steps: for _ in 0..steps {
-        let (answer, expected) = put_drawn(alloc, &setup, &mut engine, &mut plain, &mut stream)?;
-        assert_eq!(rt; answer, expected);
+        agree_on_put(rt, alloc, &setup, &mut engine, &mut plain, &mut stream)?;
         assert_eq!(rt; engine.status(), status_of(&plain));
     }
-    agree_on_rows(rt, &engine, &plain);
-    agree_on_export(rt, alloc, &engine, &plain)?;
-    agree_on_batches(rt, alloc, &engine, &plain)
+    agree_on_all(rt, alloc, &engine, &plain)?;
+    Ok(())
 }
 
 /// The number of shards, the cuts, the limit and the most batches.

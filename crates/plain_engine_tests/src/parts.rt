@@ -3,7 +3,7 @@ ghost use Rattle.std.specs.Prelude.{◌≡◌, IfOk};
 ghost use Rattle.plain_engine.specs.Standing.{HaveSetup};
 
 use crate::batches::small_setup;
-use crate::puts::{Step, engine_of};
+use crate::puts::{Step, engine_of, small_engine_of};
 use batch_store::{Book, Setup, Shard};
 use plain_engine::{PlainEngine, Status, join_parts};
 use std::alloc::Global;
@@ -23,6 +23,32 @@ fn shards_of(engine: PlainEngine) -> Vec<Shard>
 {
     let (_, _, shards) = engine.parts();
     shards
+}
+
+// The book of the engine that has put the batches of a table.
+fn made_book<R: RandomSource + Abort>(
+    rt: &R,
+    alloc: Global,
+    setup: Setup,
+    steps: &[Step],
+) -> Result<Book, Fail>
+    ensures { IfOk result (λ book. book.setup ≡ setup) }
+{
+    let engine = engine_of(rt, alloc, setup, steps)?;
+    Ok(book_of(engine))
+}
+
+// Its shards.
+fn made_shards<R: RandomSource + Abort>(
+    rt: &R,
+    alloc: Global,
+    setup: Setup,
+    steps: &[Step],
+) -> Result<Vec<Shard>, Fail>
+    ensures { IfOk result (λ shards. HaveSetup setup shards.items) }
+{
+    let engine = engine_of(rt, alloc, setup, steps)?;
+    Ok(shards_of(engine))
 }
 
 /// What a book and shards make: the status of an engine, or the lengths of the book and of the shards handed back.
@@ -70,8 +96,8 @@ const WITH_EMPTY: &[Step] = &[(7, 1, &[(0, 0, 5)], Ok((0, 5))), (9, 1, &[], Ok((
 
 fn mixed<R: RandomSource + Abort>(rt: &R, alloc: Global, case: &Case) -> Result<Joined, Fail> {
     let setup = small_setup()?;
-    let book = book_of(engine_of(rt, alloc, setup, case.0)?);
-    let shards = shards_of(engine_of(rt, alloc, setup, case.1)?);
+    let book = made_book(rt, alloc, setup, case.0)?;
+    let shards = made_shards(rt, alloc, setup, case.1)?;
     Ok(joined(setup, book, shards))
 }
 
@@ -121,18 +147,33 @@ fn records_are_compared_with_the_book(rt: HostRuntime) -> Result<(), Fail> {
     Ok(())
 }
 
+// What an engine's parts make again.
+fn rejoined(engine: PlainEngine) -> Joined {
+    let (setup, book, shards) = engine.parts();
+    joined(setup, book, shards)
+}
+
+// The batches of an engine's book, their total, and the number of shards.
+fn part_sizes(engine: PlainEngine) -> (u64, u64, usize) {
+    let (_, book, shards) = engine.parts();
+    (book.len(), book.total(), shards.len())
+}
+
+#[test]
+fn an_engine_has_a_book_and_shards(rt: HostRuntime) -> Result<(), Fail> {
+    let engine = small_engine_of(&rt, rt.alloc(), TWO)?;
+    assert_eq!(rt; part_sizes(engine), (2, 9, 2));
+    Ok(())
+}
+
 #[test]
 fn parts_make_the_engine_again(rt: HostRuntime) -> Result<(), Fail> {
-    let engine = engine_of(&rt, rt.alloc(), small_setup()?, TWO)?;
-    let (setup, book, shards) = engine.parts();
-    assert_eq!(rt; (book.len(), book.total(), shards.len()), (2, 9, 2));
-    assert_eq!(rt;
-        joined(setup, book, shards),
-        Ok(Status {
-            batches: 2,
-            total: 9
-        })
-    );
+    let engine = small_engine_of(&rt, rt.alloc(), TWO)?;
+    let status = Status {
+        batches: 2,
+        total: 9,
+    };
+    assert_eq!(rt; rejoined(engine), Ok(status));
     Ok(())
 }
 
@@ -145,16 +186,25 @@ fn without_last(engine: PlainEngine) -> Vec<Shard>
     shards
 }
 
+// What a book and shards without the last make.
+fn joined_without_last<R: RandomSource + Abort>(
+    rt: &R,
+    alloc: Global,
+    setup: Setup,
+) -> Result<Joined, Fail> {
+    let book = made_book(rt, alloc, setup, NONE)?;
+    let engine = engine_of(rt, alloc, setup, NONE)?;
+    Ok(joined(setup, book, without_last(engine)))
+}
+
 #[test]
 fn a_shard_may_be_missing(rt: HostRuntime) -> Result<(), Fail> {
-    let setup = small_setup()?;
-    let book = book_of(engine_of(&rt, rt.alloc(), setup, NONE)?);
-    let shards = without_last(engine_of(&rt, rt.alloc(), setup, NONE)?);
-    assert_eq!(rt; joined(setup, book, shards), Err((0, 1)));
+    let found = joined_without_last(&rt, rt.alloc(), small_setup()?)?;
+    assert_eq!(rt; found, Err((0, 1)));
     Ok(())
 }
 
-// The shards of an engine, the last of them twice as long in the list: once more at its end.
+// The shards of an engine, from the last to the first.
 fn turned(alloc: Global, engine: PlainEngine) -> Result<Vec<Shard>, Fail>
     ensures { IfOk result (λ shards. HaveSetup engine.setup shards.items) }
 {
@@ -166,11 +216,21 @@ fn turned(alloc: Global, engine: PlainEngine) -> Result<Vec<Shard>, Fail>
     Ok(turned)
 }
 
+// What a book and shards in another order make.
+fn joined_turned<R: RandomSource + Abort>(
+    rt: &R,
+    alloc: Global,
+    setup: Setup,
+) -> Result<Joined, Fail> {
+    let book = made_book(rt, alloc, setup, NONE)?;
+    let engine = engine_of(rt, alloc, setup, NONE)?;
+    let shards = turned(alloc, engine)?;
+    Ok(joined(setup, book, shards))
+}
+
 #[test]
 fn shards_have_their_places(rt: HostRuntime) -> Result<(), Fail> {
-    let setup = small_setup()?;
-    let book = book_of(engine_of(&rt, rt.alloc(), setup, NONE)?);
-    let shards = turned(rt.alloc(), engine_of(&rt, rt.alloc(), setup, NONE)?)?;
-    assert_eq!(rt; joined(setup, book, shards), Err((0, 2)));
+    let found = joined_turned(&rt, rt.alloc(), small_setup()?)?;
+    assert_eq!(rt; found, Err((0, 2)));
     Ok(())
 }

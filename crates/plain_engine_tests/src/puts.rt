@@ -77,6 +77,16 @@ pub fn engine_of<R: RandomSource + Abort>(
     Ok(engine)
 }
 
+/// The same of the small setup.
+pub fn small_engine_of<R: RandomSource + Abort>(
+    rt: &R,
+    alloc: Global,
+    steps: &[Step],
+) -> Result<PlainEngine, Fail> {
+    let setup = small_setup()?;
+    engine_of(rt, alloc, setup, steps)
+}
+
 // Repeats, and numbers used for other batches: another total, or as many counts in more places. A batch of as many
 // cells with the same total in another place is known all the same.
 static REPEATS: &[Step] = &[
@@ -91,8 +101,7 @@ static REPEATS: &[Step] = &[
 
 #[test]
 fn repeats_are_answered_their_replies(rt: HostRuntime) -> Result<(), Fail> {
-    let setup = small_setup()?;
-    let engine = engine_of(&rt, rt.alloc(), setup, REPEATS)?;
+    let engine = small_engine_of(&rt, rt.alloc(), REPEATS)?;
     expect_status(&rt, &engine, 3, 14);
     expect_counts(&rt, &engine, &[(0, 0, Some(14))]);
     Ok(())
@@ -110,8 +119,7 @@ static WITHIN_100: &[Step] = &[
 
 #[test]
 fn the_limit_is_kept_exactly(rt: HostRuntime) -> Result<(), Fail> {
-    let setup = small_setup()?;
-    let engine = engine_of(&rt, rt.alloc(), setup, WITHIN_100)?;
+    let engine = small_engine_of(&rt, rt.alloc(), WITHIN_100)?;
     expect_status(&rt, &engine, 3, 100);
     Ok(())
 }
@@ -145,8 +153,7 @@ static EMPTY: &[Step] = &[(9, 1, &[], Ok((0, 0))), (9, 1, &[], Ok((0, 0)))];
 
 #[test]
 fn an_empty_batch_concerns_no_shard(rt: HostRuntime) -> Result<(), Fail> {
-    let setup = small_setup()?;
-    let engine = engine_of(&rt, rt.alloc(), setup, EMPTY)?;
+    let engine = small_engine_of(&rt, rt.alloc(), EMPTY)?;
     expect_status(&rt, &engine, 1, 0);
     expect_shards(&rt, &engine, &[(0, 0, 0), (1, 0, 0)]);
     Ok(())

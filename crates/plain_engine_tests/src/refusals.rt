@@ -6,8 +6,8 @@ ghost use Rattle.batch_store.specs.Books.{HaveDims};
 
 use crate::batches::small_setup;
 use crate::expected::{expect_counts, expect_shards, expect_status, exports};
-use crate::loads::{Batches, list_of};
-use crate::puts::{Step, engine_of, put};
+use crate::loads::{Batches, list_of, loaded};
+use crate::puts::{Step, put, small_engine_of};
 use batch_store::{Batch, Setup};
 use plain_engine::{LoadFault, PlainEngine, PutFault, Status};
 use std::alloc::{AllocError, Global};
@@ -78,7 +78,7 @@ static PUT: &[Step] = &[(7, 1, &[(0, 0, 5), (1, 0, 4)], Ok((0, 9)))];
 
 #[test]
 fn refused_reads_succeed_again(rt: HostRuntime) -> Result<(), Fail> {
-    let engine = engine_of(&rt, rt.alloc(), small_setup()?, PUT)?;
+    let engine = small_engine_of(&rt, rt.alloc(), PUT)?;
     let exported = exported_at_last(rt.alloc(), &engine)?;
     let listed = listed_at_last(rt.alloc(), &engine)?;
     assert_eq!(rt; (exported, listed), (true, 1));
@@ -95,13 +95,10 @@ fn loaded_at_last(
 ) -> Result<Status, LoadFault>
     requires { HaveDims setup.rows setup.cols (values list.now) }
 {
-    match PlainEngine::from_batches(rt, alloc, setup, list) {
-        Err(LoadFault::Memory) => {}
-        Err(fault) => return Err(fault),
-        Ok(engine) => return Ok(engine.status()),
+    match loaded(rt, alloc, setup, list) {
+        Err(LoadFault::Memory) => loaded(rt, alloc, setup, list),
+        answer => answer,
     }
-    let engine = PlainEngine::from_batches(rt, alloc, setup, list)?;
-    Ok(engine.status())
 }
 
 static ONE: Batches = &[(7, 1, &[(0, 0, 5), (1, 0, 4)])];

@@ -2,9 +2,9 @@
 ghost use Rattle.std.specs.Prelude.{◌≡◌, IfOk};
 
 use byte_io::Script;
+use byte_io_tests::pieces;
 use snap_file::{SnapFault, Snapshot, read_snapshot};
 use std::alloc::{AllocError, Global};
-use std::test::Fail;
 
 /// The head of 3 rows, 3 columns, cuts 2 and 4, 2 shards, limit 100, at most 10 batches; 1 batch, total 5.
 /// Then client 7, number 1, 1 cell: row 0, column 0, count 5.
@@ -41,13 +41,8 @@ pub fn source(
 ) -> Result<Script, AllocError>
     ensures { IfOk result (λ script. script.failures ≡ 0) }
 {
-    let mut pieces = Vec::new(alloc);
-    for piece in bytes.chunks(size.max(1)) {
-        let mut copy = Vec::new(alloc);
-        copy.extend_from_slice(piece)?;
-        pieces.push(copy)?;
-    }
-    Ok(Script::new(alloc, pieces, fail_read, None))
+    let list = pieces(alloc, bytes, size)?;
+    Ok(Script::new(alloc, list, fail_read, None))
 }
 
 /// What these bytes are read as, in pieces of `size`.
@@ -56,17 +51,24 @@ pub fn read(
     bytes: &[u8],
     size: usize,
     max_bytes: u64,
-) -> Result<Result<Snapshot, SnapFault>, Fail> {
-    let mut script = source(alloc, bytes, size, None)?;
-    Ok(read_snapshot(alloc, &mut script, max_bytes))
+) -> Result<Snapshot, SnapFault> {
+    match source(alloc, bytes, size, None) {
+        Ok(mut script) => read_snapshot(alloc, &mut script, max_bytes),
+        Err(_) => Err(SnapFault::Memory),
+    }
+}
+
+/// The fault of these bytes, in pieces of `size`.
+pub fn fault_within(alloc: Global, bytes: &[u8], size: usize, max_bytes: u64) -> Option<SnapFault> {
+    read(alloc, bytes, size, max_bytes).err()
 }
 
 /// The fault of these bytes, in one piece and byte by byte, where the two are the same.
-pub fn fault(alloc: Global, bytes: &[u8]) -> Result<Option<SnapFault>, Fail> {
-    let whole = read(alloc, bytes, bytes.len(), MOST_BYTES)?.err();
-    let parts = read(alloc, bytes, 1, MOST_BYTES)?.err();
+pub fn fault(alloc: Global, bytes: &[u8]) -> Option<SnapFault> {
+    let whole = fault_within(alloc, bytes, bytes.len(), MOST_BYTES);
+    let parts = fault_within(alloc, bytes, 1, MOST_BYTES);
     if whole != parts {
-        return Ok(Some(SnapFault::Read));
+        return Some(SnapFault::Read);
     }
-    Ok(whole)
+    whole
 }

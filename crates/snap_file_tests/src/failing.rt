@@ -3,24 +3,38 @@
 use crate::bytes::{MOST_BYTES, ONE, TWO, read, source};
 use byte_io::{Script, Source, WriteFault};
 use snap_file::{SnapFault, Snapshot, read_snapshot, write_snapshot};
-use std::alloc::Global;
+use std::alloc::{AllocError, Global};
 use std::process::Abort;
 use std::test::Fail;
+
+// The fault of these bytes, one byte a read, of which that number `failing` fails, and how often one failed.
+fn fault_failing(
+    alloc: Global,
+    bytes: &[u8],
+    failing: u64,
+) -> Result<(Option<SnapFault>, u64), AllocError> {
+    let mut script = source(alloc, bytes, 1, Some(failing))?;
+    let fault = read_snapshot(alloc, &mut script, MOST_BYTES).err();
+    Ok((fault, script.failures()))
+}
 
 #[test]
 fn each_read_fails_in_turn(rt: HostRuntime) -> Result<(), Fail> {
     for bytes in [ONE, TWO] {
         // One byte a read, and one read more at the end.
         for failing in 0..=bytes.len() as u64 {
-            let mut script = source(rt.alloc(), bytes, 1, Some(failing))?;
-            let answer = read_snapshot(rt.alloc(), &mut script, MOST_BYTES);
-            assert_eq!(rt; answer.err(), Some(SnapFault::Read), "read {failing}");
-            assert_eq!(rt; script.failures(), 1);
+            let found = fault_failing(rt.alloc(), bytes, failing)?;
+            assert_eq!(rt; found, (Some(SnapFault::Read), 1), "read {failing}");
         }
-        let later = bytes.len() as u64 + 1;
-        let mut script = source(rt.alloc(), bytes, 1, Some(later))?;
-        let answer = read_snapshot(rt.alloc(), &mut script, MOST_BYTES);
-        assert_eq!(rt; answer.err(), None);
+    }
+    Ok(())
+}
+
+#[test]
+fn no_read_follows_the_end(rt: HostRuntime) -> Result<(), Fail> {
+    for bytes in [ONE, TWO] {
+        let found = fault_failing(rt.alloc(), bytes, bytes.len() as u64 + 1)?;
+        assert_eq!(rt; found, (None, 0));
     }
     Ok(())
 }
@@ -40,7 +54,7 @@ fn stops_at(alloc: Global, snapshot: &Snapshot, bytes: &[u8], room: usize) -> bo
 #[test]
 fn each_write_fails_in_turn(rt: HostRuntime) -> Result<(), Fail> {
     for bytes in [ONE, TWO] {
-        let snapshot = read(rt.alloc(), bytes, bytes.len(), MOST_BYTES)??;
+        let snapshot = read(rt.alloc(), bytes, bytes.len(), MOST_BYTES)?;
         for room in 0..bytes.len() {
             assert!(rt; stops_at(rt.alloc(), &snapshot, bytes, room), "{room}");
         }

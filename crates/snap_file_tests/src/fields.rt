@@ -2,7 +2,7 @@
 
 use crate::bytes::{ONE, TWO, fault};
 use snap_file::SnapFault;
-use std::alloc::Global;
+use std::alloc::{AllocError, Global};
 use std::process::Abort;
 use std::test::Fail;
 
@@ -101,7 +101,12 @@ static PAIRS: &[(u64, u64, Option<SnapFault>)] = &[
 ];
 
 // The bytes with these numbers in place of the fields from `at` on.
-fn with_fields(alloc: Global, bytes: &[u8], at: usize, values: &[u64]) -> Result<Vec<u8>, Fail> {
+fn with_fields(
+    alloc: Global,
+    bytes: &[u8],
+    at: usize,
+    values: &[u64],
+) -> Result<Vec<u8>, AllocError> {
     let mut copy = Vec::new(alloc);
     copy.extend_from_slice(&bytes[..at.min(bytes.len())])?;
     for value in values {
@@ -113,23 +118,39 @@ fn with_fields(alloc: Global, bytes: &[u8], at: usize, values: &[u64]) -> Result
 }
 
 // The bytes with another one at `at`.
-fn with_byte(alloc: Global, bytes: &[u8], at: usize, value: u8) -> Result<Vec<u8>, Fail> {
-    let mut copy = Vec::new(alloc);
-    for (i, byte) in bytes.iter().enumerate() {
-        copy.push(if i == at { value } else { *byte })?;
+fn with_byte(alloc: Global, bytes: &[u8], at: usize, value: u8) -> Result<Vec<u8>, AllocError> {
+    let mut copy = Vec::from_slice(alloc, bytes)?;
+    if let Some(byte) = copy.get_mut(at) {
+        *byte = value;
     }
     Ok(copy)
+}
+
+// The fault of the bytes with these numbers in place of the fields from `at` on.
+fn fault_with(
+    alloc: Global,
+    bytes: &[u8],
+    at: usize,
+    values: &[u64],
+) -> Result<Option<SnapFault>, AllocError> {
+    let bytes = with_fields(alloc, bytes, at, values)?;
+    Ok(fault(alloc, &bytes))
 }
 
 #[test]
 fn fields_are_judged_at_their_bounds(rt: HostRuntime) -> Result<(), Fail> {
     for (at, value, expected) in FIELDS {
-        let bytes = with_fields(rt.alloc(), ONE, *at, &[*value])?;
-        assert_eq!(rt; fault(rt.alloc(), &bytes)?, *expected, "{value} at {at}");
+        let found = fault_with(rt.alloc(), ONE, *at, &[*value])?;
+        assert_eq!(rt; found, *expected, "{value} at {at}");
     }
+    Ok(())
+}
+
+#[test]
+fn bytes_are_judged_at_their_bounds(rt: HostRuntime) -> Result<(), Fail> {
     for (at, value, expected) in BYTES {
         let bytes = with_byte(rt.alloc(), ONE, *at, *value)?;
-        assert_eq!(rt; fault(rt.alloc(), &bytes)?, *expected, "{value} at {at}");
+        assert_eq!(rt; fault(rt.alloc(), &bytes), *expected, "{value} at {at}");
     }
     Ok(())
 }
@@ -137,8 +158,8 @@ fn fields_are_judged_at_their_bounds(rt: HostRuntime) -> Result<(), Fail> {
 #[test]
 fn cells_stand_in_order(rt: HostRuntime) -> Result<(), Fail> {
     for (row, col, expected) in ORDERS {
-        let bytes = with_fields(rt.alloc(), TWO, 126, &[*row, *col])?;
-        assert_eq!(rt; fault(rt.alloc(), &bytes)?, *expected, "({row}, {col})");
+        let found = fault_with(rt.alloc(), TWO, 126, &[*row, *col])?;
+        assert_eq!(rt; found, *expected, "({row}, {col})");
     }
     Ok(())
 }
@@ -146,12 +167,8 @@ fn cells_stand_in_order(rt: HostRuntime) -> Result<(), Fail> {
 #[test]
 fn pairs_stand_once(rt: HostRuntime) -> Result<(), Fail> {
     for (client, number, expected) in PAIRS {
-        let bytes = with_fields(rt.alloc(), TWO, 150, &[*client, *number])?;
-        assert_eq!(rt;
-            fault(rt.alloc(), &bytes)?,
-            *expected,
-            "({client}, {number})"
-        );
+        let found = fault_with(rt.alloc(), TWO, 150, &[*client, *number])?;
+        assert_eq!(rt; found, *expected, "({client}, {number})");
     }
     Ok(())
 }

@@ -1,14 +1,15 @@
 //! What a client sends, and the session that answers it.
-ghost use Rattle.std.specs.Prelude.{◌<◌};
 
 use crate::hex::bytes_of;
 use crate::replies::{is_reply, split_frame};
 use batch_store::{Setup, SetupFault};
+use byte_io_tests::pieces;
 use bytes::Bytes;
 use mm_text::Script;
 use plain_engine::{PlainEngine, Status};
 use std::alloc::{AllocError, Global};
 use std::process::Abort;
+use std::random::RandomSource;
 use std::test::Fail;
 use wire_proto::{EncodeFault, Ended, Request, encode_request, serve_engine};
 
@@ -61,18 +62,33 @@ fn text_frame(alloc: Global, pair: (u64, u64), text: &str) -> Result<Vec<u8>, En
     encode_request(alloc, &request)
 }
 
+// The request of a frame that has no text.
+fn short_request(ask: Ask) -> Option<Request> {
+    match ask {
+        Ask::Cell(row, col) => Some(Request::Cell { row, col }),
+        Ask::Row(row) => Some(Request::Row { row }),
+        Ask::Status => Some(Request::Status),
+        Ask::Export => Some(Request::Export),
+        Ask::Save => Some(Request::Save),
+        Ask::Stop => Some(Request::Stop),
+        Ask::Put(..) | Ask::Text(..) | Ask::Raw(_) => None,
+    }
+}
+
+fn short_frame(alloc: Global, ask: Ask) -> Result<Vec<u8>, EncodeFault> {
+    match short_request(ask) {
+        Some(request) => encode_request(alloc, &request),
+        None => Ok(Vec::new(alloc)),
+    }
+}
+
 /// The bytes of a table's frame.
 pub fn frame(alloc: Global, ask: Ask) -> Result<Vec<u8>, EncodeFault> {
     match ask {
         Ask::Put(client, number, tail) => put_frame(alloc, (client, number), tail.as_bytes()),
         Ask::Text(client, number, text) => text_frame(alloc, (client, number), text),
-        Ask::Cell(row, col) => encode_request(alloc, &Request::Cell { row, col }),
-        Ask::Row(row) => encode_request(alloc, &Request::Row { row }),
-        Ask::Status => encode_request(alloc, &Request::Status),
-        Ask::Export => encode_request(alloc, &Request::Export),
-        Ask::Save => encode_request(alloc, &Request::Save),
-        Ask::Stop => encode_request(alloc, &Request::Stop),
         Ask::Raw(digits) => Ok(bytes_of(alloc, digits)?),
+        short => short_frame(alloc, short),
     }
 }
 
@@ -86,15 +102,10 @@ pub fn frames(alloc: Global, asks: &[Ask]) -> Result<Vec<u8>, EncodeFault> {
     Ok(all)
 }
 
-/// Bytes as a link gives them: in pieces of this size.
-pub fn pieces(alloc: Global, all: &[u8], size: usize) -> Result<Vec<Vec<u8>>, AllocError>
-    requires { 0 < size }
-{
-    let mut list = Vec::new(alloc);
-    for piece in all.chunks(size) {
-        list.push(Vec::from_slice(alloc, piece)?)?;
-    }
-    Ok(list)
+/// A new engine of the small setup.
+pub fn small_engine<R: RandomSource>(rt: &R, alloc: Global) -> Result<PlainEngine, Fail> {
+    let setup = small_setup()?;
+    Ok(PlainEngine::new(rt, alloc, setup)?)
 }
 
 /// The most reads of a session: more than any of these tables needs.
@@ -120,8 +131,20 @@ pub fn run(
     Ran { ended, link }
 }
 
-/// Compares how a session ended, and all that was written.
-pub fn expect(rt: &impl Abort, ran: &Ran, ended: Ended, written: &[u8]) {
+/// What fails of a link's calls: the read with this number, and writes after so many bytes.
+pub type Failing = (Option<u64>, Option<u64>);
+
+/// Serves these pieces over an engine, and compares how it ends and all that is written.
+pub fn expect_run(
+    rt: &impl Abort,
+    alloc: Global,
+    engine: &mut PlainEngine,
+    list: Vec<Vec<u8>>,
+    failing: Failing,
+    ended: Ended,
+    written: &[u8],
+) {
+    let ran = run(alloc, engine, list, failing.0, failing.1);
     assert_eq!(rt; ran.ended, ended);
     assert!(rt; ran.link.written() == written);
 }
@@ -136,14 +159,12 @@ pub fn exchange(
     rt: &impl Abort,
     alloc: Global,
     engine: &mut PlainEngine,
-    sent: Vec<u8>,
+    sent: &[u8],
     ended: Ended,
     expected: &[u8],
 ) -> Result<(), AllocError> {
-    let mut list = Vec::new(alloc);
-    list.push(sent)?;
-    let ran = run(alloc, engine, list, None, None);
-    expect(rt, &ran, ended, expected);
+    let list = pieces(alloc, sent, sent.len())?;
+    expect_run(rt, alloc, engine, list, (None, None), ended, expected);
     Ok(())
 }
 
@@ -170,7 +191,14 @@ pub fn check(
     let sent = frames(alloc, session.0)?;
     let expected = bytes_of(alloc, session.1)?;
     expect_replies(rt, expected.as_slice());
-    exchange(rt, alloc, engine, sent, session.2, expected.as_slice())?;
+    exchange(
+        rt,
+        alloc,
+        engine,
+        sent.as_slice(),
+        session.2,
+        expected.as_slice(),
+    )?;
     expect_status(rt, engine, session.3.0, session.3.1);
     Ok(())
 }

@@ -1,8 +1,8 @@
 //! One session cut in every way gives the same bytes.
 
-use crate::asks::{Ask, expect, expect_status, frames, pieces, run, small_setup};
+use crate::asks::{Ask, expect_run, expect_status, frames, small_engine};
 use crate::hex::bytes_of;
-use plain_engine::PlainEngine;
+use byte_io_tests::{halves, pieces};
 use std::alloc::Global;
 use std::process::Abort;
 use std::random::RandomSource;
@@ -29,9 +29,8 @@ fn serve_pieces<R: RandomSource + Abort>(
     ended: Ended,
     expected: &[u8],
 ) -> Result<(), Fail> {
-    let mut engine = PlainEngine::new(rt, alloc, small_setup()?)?;
-    let ran = run(alloc, &mut engine, list, None, None);
-    expect(rt, &ran, ended, expected);
+    let mut engine = small_engine(rt, alloc)?;
+    expect_run(rt, alloc, &mut engine, list, (None, None), ended, expected);
     expect_status(rt, &engine, 2, 8);
     Ok(())
 }
@@ -49,15 +48,6 @@ fn a_session_in_pieces_of_one_size(rt: HostRuntime) -> Result<(), Fail> {
         serve_pieces(&rt, alloc, list, ended, expected.as_slice())?;
     }
     Ok(())
-}
-
-// Two pieces, cut at this place.
-fn halves(alloc: Global, all: &[u8], at: usize) -> Result<Vec<Vec<u8>>, Fail> {
-    let (front, rest) = all.split_at_checked(at).ok_or("a place behind the end")?;
-    let mut list = Vec::new(alloc);
-    list.push(Vec::from_slice(alloc, front)?)?;
-    list.push(Vec::from_slice(alloc, rest)?)?;
-    Ok(list)
 }
 
 #[test]

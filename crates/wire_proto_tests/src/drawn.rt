@@ -1,11 +1,11 @@
 //! Frames that are drawn: all requests, mostly puts, with repeats and faults, and bad headers.
 ghost use Rattle.std.specs.Prelude.{◌<◌};
 
-use crate::asks::put_frame;
+use crate::asks::{Ask, frame, put_frame};
 use crate::plain::{Counts, add};
 use std::alloc::{AllocError, Global};
 use std::collections::BTreeMap;
-use wire_proto::{EncodeFault, Request, encode_request};
+use wire_proto::EncodeFault;
 
 pub const ROWS: u64 = 5;
 
@@ -203,24 +203,33 @@ fn frame_of_put(
     put_frame(alloc, pair, tail.as_slice())
 }
 
+// A frame of a request without a text, as a table has it.
+fn ask_of(drawn: &Drawn) -> Option<Ask> {
+    match drawn {
+        Drawn::Cell(row, col) => Some(Ask::Cell(*row, *col)),
+        Drawn::Row(row) => Some(Ask::Row(*row)),
+        Drawn::Status => Some(Ask::Status),
+        Drawn::Export => Some(Ask::Export),
+        Drawn::Save => Some(Ask::Save),
+        Drawn::Stop => Some(Ask::Stop),
+        Drawn::Put { .. } | Drawn::Bad(_) => None,
+    }
+}
+
+fn short_frame_of(alloc: Global, drawn: &Drawn) -> Result<Vec<u8>, EncodeFault> {
+    match ask_of(drawn) {
+        Some(ask) => frame(alloc, ask),
+        None => Ok(Vec::new(alloc)),
+    }
+}
+
 /// Its bytes.
 pub fn frame_of(alloc: Global, drawn: &Drawn) -> Result<Vec<u8>, EncodeFault> {
     match drawn {
         Drawn::Put { pair, cells, twist } => {
             frame_of_put(alloc, *pair, cells.as_slice(), *twist)
         }
-        Drawn::Cell(row, col) => encode_request(
-            alloc,
-            &Request::Cell {
-                row: *row,
-                col: *col,
-            },
-        ),
-        Drawn::Row(row) => encode_request(alloc, &Request::Row { row: *row }),
-        Drawn::Status => encode_request(alloc, &Request::Status),
-        Drawn::Export => encode_request(alloc, &Request::Export),
-        Drawn::Save => encode_request(alloc, &Request::Save),
-        Drawn::Stop => encode_request(alloc, &Request::Stop),
         Drawn::Bad(bad) => Ok(Vec::from_slice(alloc, &bad.header())?),
+        short => short_frame_of(alloc, short),
     }
 }

@@ -1,8 +1,11 @@
 //! Each read and each write of a session fails in turn.
 
-use crate::asks::{Ask, exchange, expect, expect_status, frames, pieces, run, small_setup};
+use crate::asks::{
+    Ask, Failing, Session, check, exchange, expect_run, expect_status, frame, frames, small_engine,
+};
 use crate::cuts::{ASKS, REPLIES};
 use crate::hex::bytes_of;
+use byte_io_tests::pieces;
 use plain_engine::PlainEngine;
 use std::alloc::Global;
 use std::process::Abort;
@@ -18,9 +21,32 @@ pub fn again(
     expected: &[u8],
 ) -> Result<(), Fail> {
     let sent = frames(alloc, ASKS)?;
-    exchange(rt, alloc, engine, sent, Ended::Closed { rest: 0 }, expected)?;
+    let ended = Ended::Closed { rest: 0 };
+    exchange(rt, alloc, engine, sent.as_slice(), ended, expected)?;
     expect_status(rt, engine, 2, 8);
     Ok(())
+}
+
+// The first bytes of these.
+fn front(bytes: &[u8], len: usize) -> &[u8] {
+    &bytes[..len.min(bytes.len())]
+}
+
+// Serves these pieces over a new engine and a link whose calls fail, and then the session again.
+fn fail<R: RandomSource + Abort>(
+    rt: &R,
+    alloc: Global,
+    list: Vec<Vec<u8>>,
+    failing: Failing,
+    ended: Ended,
+    written: &[u8],
+    batches: u64,
+) -> Result<(), Fail> {
+    let mut engine = small_engine(rt, alloc)?;
+    expect_run(rt, alloc, &mut engine, list, failing, ended, written);
+    assert_eq!(rt; engine.status().batches, batches);
+    let expected = bytes_of(alloc, REPLIES)?;
+    again(rt, alloc, &mut engine, expected.as_slice())
 }
 
 // The write fails after so many bytes.
@@ -31,16 +57,21 @@ fn fail_write<R: RandomSource + Abort>(
     expected: &[u8],
     room: usize,
 ) -> Result<(), Fail> {
-    let mut engine = PlainEngine::new(rt, alloc, small_setup()?)?;
-    let ran = run(alloc, &mut engine, list, None, Some(room as u64));
     let ended = Ended::WriteFault {
         written: room as u128,
     };
-    let (front, _) = expected.split_at_checked(room).ok_or("too many bytes")?;
-    expect(rt, &ran, ended, front);
+    let failing = (None, Some(room as u64));
     // The second batch is accepted before the first byte of its reply is written.
-    assert_eq!(rt; engine.status().batches, if room < 21 { 1 } else { 2 });
-    again(rt, alloc, &mut engine, expected)
+    let batches = if room < 21 { 1 } else { 2 };
+    fail(
+        rt,
+        alloc,
+        list,
+        failing,
+        ended,
+        front(expected, room),
+        batches,
+    )
 }
 
 #[test]
@@ -73,13 +104,17 @@ fn fail_read<R: RandomSource + Abort>(
     expected: &[u8],
     reads: u64,
 ) -> Result<(), Fail> {
-    let mut engine = PlainEngine::new(rt, alloc, small_setup()?)?;
-    let ran = run(alloc, &mut engine, list, Some(reads), None);
     let (bytes, batches) = answered_after(reads);
-    let (front, _) = expected.split_at_checked(bytes).ok_or("too many bytes")?;
-    expect(rt, &ran, Ended::ReadFault, front);
-    assert_eq!(rt; engine.status().batches, batches);
-    again(rt, alloc, &mut engine, expected)
+    let written = front(expected, bytes);
+    fail(
+        rt,
+        alloc,
+        list,
+        (Some(reads), None),
+        Ended::ReadFault,
+        written,
+        batches,
+    )
 }
 
 #[test]
@@ -94,23 +129,29 @@ fn each_read_fails_in_turn(rt: HostRuntime) -> Result<(), Fail> {
     Ok(())
 }
 
-static FIVE: Ask = Ask::Put(7, 1, "3 3 1\n1 1 5\n");
+const FIVE: Ask = Ask::Put(7, 1, "3 3 1\n1 1 5\n");
+
+// The first reply is lost behind its third byte.
+fn lose_reply(rt: &impl Abort, alloc: Global, engine: &mut PlainEngine) -> Result<(), Fail> {
+    let sent = frame(alloc, FIVE)?;
+    let list = pieces(alloc, sent.as_slice(), 100)?;
+    let ended = Ended::WriteFault { written: 3 };
+    expect_run(rt, alloc, engine, list, (None, Some(3)), ended, &[0, 0, 0]);
+    Ok(())
+}
+
+// The batch is sent again.
+static AGAIN: Session = (
+    &[FIVE, Ask::Status],
+    "00000010 81 0000000000000000 0000000000000005
+     00000010 84 0000000000000001 0000000000000005",
+    Ended::Closed { rest: 0 },
+    (1, 5),
+);
 
 #[test]
 fn a_batch_whose_reply_was_lost_counts_once(rt: HostRuntime) -> Result<(), Fail> {
-    let alloc = rt.alloc();
-    let mut engine = PlainEngine::new(&rt, alloc, small_setup()?)?;
-    let sent = frames(alloc, &[FIVE])?;
-    let list = pieces(alloc, sent.as_slice(), 100)?;
-    let ran = run(alloc, &mut engine, list, None, Some(3));
-    expect(&rt, &ran, Ended::WriteFault { written: 3 }, &[0, 0, 0]);
-    let sent = frames(alloc, &[FIVE, Ask::Status])?;
-    let expected = bytes_of(
-        alloc,
-        "00000010 81 0000000000000000 0000000000000005
-         00000010 84 0000000000000001 0000000000000005",
-    )?;
-    let ended = Ended::Closed { rest: 0 };
-    exchange(&rt, alloc, &mut engine, sent, ended, expected.as_slice())?;
-    Ok(())
+    let mut engine = small_engine(&rt, rt.alloc())?;
+    lose_reply(&rt, rt.alloc(), &mut engine)?;
+    check(&rt, rt.alloc(), &mut engine, &AGAIN)
 }

@@ -1,9 +1,9 @@
 //! Frames: headers at their bounds, and the requests that pieces make.
 
-use crate::asks::{Ask, frame};
+use crate::asks::{Ask, frame, put_request};
 use crate::hex::bytes_of;
-use bytes::Bytes;
-use std::alloc::Global;
+use std::alloc::{AllocError, Global};
+use std::process::Abort;
 use std::test::Fail;
 use wire_proto::{EncodeFault, FrameFault, Frames, Request, encode_request};
 
@@ -59,72 +59,104 @@ fn next_kind(alloc: Global, frames: &mut Frames) -> Result<Option<u8>, FrameFaul
     }
 }
 
+// Feeds bytes one by one, with no request before the last.
+fn feed_bytes(
+    rt: &impl Abort,
+    alloc: Global,
+    frames: &mut Frames,
+    bytes: &[u8],
+) -> Result<(), AllocError> {
+    for byte in bytes {
+        assert_eq!(rt; next_kind(alloc, frames), Ok(None));
+        frames.feed(alloc, &[*byte])?;
+    }
+    Ok(())
+}
+
+// Feeds a header byte by byte. A fault stays, whatever comes behind it.
+fn check_header(
+    rt: &impl Abort,
+    alloc: Global,
+    bytes: &[u8],
+    expected: Result<Option<u8>, FrameFault>,
+) -> Result<(), AllocError> {
+    let mut frames = Frames::new(alloc);
+    feed_bytes(rt, alloc, &mut frames, bytes)?;
+    assert_eq!(rt; next_kind(alloc, &mut frames), expected);
+    if expected.is_err() {
+        frames.feed(alloc, &[0u8; 40])?;
+        assert_eq!(rt; next_kind(alloc, &mut frames), expected);
+    }
+    Ok(())
+}
+
 #[test]
 fn headers_are_judged_at_their_fifth_byte(rt: HostRuntime) -> Result<(), Fail> {
-    let alloc = rt.alloc();
     for (digits, expected) in HEADERS {
-        let bytes = bytes_of(alloc, *digits)?;
-        let mut frames = Frames::new(alloc);
-        for byte in bytes.as_slice() {
-            assert_eq!(rt; next_kind(alloc, &mut frames), Ok(None));
-            frames.feed(alloc, &[*byte])?;
-        }
-        assert_eq!(rt; next_kind(alloc, &mut frames), *expected);
-        if expected.is_err() {
-            frames.feed(alloc, &[0u8; 40])?;
-            assert_eq!(rt; next_kind(alloc, &mut frames), *expected);
-        }
+        let bytes = bytes_of(rt.alloc(), *digits)?;
+        check_header(&rt, rt.alloc(), bytes.as_slice(), *expected)?;
     }
+    Ok(())
+}
+
+/// The text of a request, where it is a put of this pair.
+pub fn text_of_put(request: &Option<Request>, pair: (u64, u64)) -> Option<&[u8]> {
+    match request {
+        Some(
+            Request::Put {
+                client,
+                number,
+                text,
+            },
+        ) if (*client, *number) == pair => Some(text.as_slice()),
+        _ => None,
+    }
+}
+
+// Feeds the frame of this put in pieces of 64 KiB.
+fn feed_put(
+    rt: &impl Abort,
+    alloc: Global,
+    frames: &mut Frames,
+    text: &[u8],
+) -> Result<(), EncodeFault> {
+    let request = put_request(alloc, (7, u64::MAX), text)?;
+    let frame = encode_request(alloc, &request)?;
+    for piece in frame.as_slice().chunks(65_536) {
+        assert_eq!(rt; next_kind(alloc, frames), Ok(None));
+        frames.feed(alloc, piece)?;
+    }
+    Ok(())
+}
+
+// Feeds a put of this text, and compares it.
+fn expect_put(
+    rt: &impl Abort,
+    alloc: Global,
+    frames: &mut Frames,
+    text: &[u8],
+) -> Result<(), Fail> {
+    feed_put(rt, alloc, frames, text)?;
+    let request = frames.next(alloc)?;
+    assert!(rt; text_of_put(&request, (7, u64::MAX)) == Some(text));
     Ok(())
 }
 
 #[test]
 fn a_longest_put_comes_whole_in_pieces(rt: HostRuntime) -> Result<(), Fail> {
-    let alloc = rt.alloc();
-    let text = vec![in alloc; 37u8; 16_777_200]?;
-    let request = Request::Put {
-        client: 7,
-        number: u64::MAX,
-        text: Bytes::copy_from_slice(alloc, text.as_slice())?,
-    };
-    let frame = encode_request(alloc, &request)?;
-    let mut frames = Frames::new(alloc);
-    for piece in frame.as_slice().chunks(65_536) {
-        assert_eq!(rt; next_kind(alloc, &mut frames), Ok(None));
-        frames.feed(alloc, piece)?;
-    }
-    match frames.next(alloc) {
-        Ok(
-            Some(
-                Request::Put {
-                    client,
-                    number,
-                    text: read,
-                },
-            ),
-        ) => {
-            assert_eq!(rt; (client, number), (7, u64::MAX));
-            assert!(rt; read.as_slice() == text.as_slice());
-        }
-        _ => assert!(rt; false),
-    }
-    assert_eq!(rt; next_kind(alloc, &mut frames), Ok(None));
+    let text = vec![in rt.alloc(); 37u8; 16_777_200]?;
+    let mut frames = Frames::new(rt.alloc());
+    expect_put(&rt, rt.alloc(), &mut frames, text.as_slice())?;
+    assert_eq!(rt; next_kind(rt.alloc(), &mut frames), Ok(None));
     Ok(())
 }
 
 #[test]
 fn a_put_that_is_one_byte_longer_has_no_frame(rt: HostRuntime) -> Result<(), Fail> {
-    let alloc = rt.alloc();
-    let text = vec![in alloc; 37u8; 16_777_201]?;
-    let request = Request::Put {
-        client: 7,
-        number: 1,
-        text: Bytes::copy_from_slice(alloc, text.as_slice())?,
-    };
-    assert_eq!(rt;
-        encode_request(alloc, &request).err(),
-        Some(EncodeFault::TooLarge)
-    );
+    let text = vec![in rt.alloc(); 37u8; 16_777_201]?;
+    let request = put_request(rt.alloc(), (7, 1), text.as_slice())?;
+    let fault = encode_request(rt.alloc(), &request).err();
+    assert_eq!(rt; fault, Some(EncodeFault::TooLarge));
     Ok(())
 }
 

@@ -1,10 +1,11 @@
 //! Generated sessions, with bad headers, frames that end too early and cuts anywhere, are answered as a plain session
 //! answers them, byte for byte; so they are where any read fails, or a write at any byte.
 
-use crate::asks::{expect, expect_status, pieces, run};
+use crate::asks::{Failing, expect_run, expect_status, run};
 use crate::drawn::{COLS, Drawn, ROWS, Stream, draw, frame_of};
 use crate::plain::{Plain, spell};
 use batch_store::Setup;
+use byte_io_tests::{pieces, push_piece};
 use plain_engine::PlainEngine;
 use std::alloc::{AllocError, Global};
 use std::process::Abort;
@@ -68,6 +69,34 @@ fn end_of(drawn: &Drawn) -> Option<Ended> {
     }
 }
 
+// Sends a front of a frame alone.
+fn send_part(stream: &mut Stream, frame: &[u8], case: &mut Case) -> Result<(), AllocError> {
+    let front = part(stream, frame);
+    let rest = front.len() as u64;
+    case.ended = Ended::Closed { rest };
+    case.sent.extend_from_slice(front)
+}
+
+// Sends a frame, and tells whether the session goes on behind it.
+fn send_frame(
+    alloc: Global,
+    drawn: &Drawn,
+    frame: &[u8],
+    plain: &mut Plain,
+    case: &mut Case,
+) -> Result<bool, AllocError> {
+    let said = plain.answer(alloc, drawn)?;
+    let reply = spell(alloc, &said)?;
+    case.push(frame, reply.as_slice(), plain)?;
+    match end_of(drawn) {
+        None => Ok(true),
+        Some(ended) => {
+            case.ended = ended;
+            Ok(false)
+        }
+    }
+}
+
 // Draws a frame, and tells whether the session goes on behind it.
 fn draw_frame(
     alloc: Global,
@@ -78,23 +107,10 @@ fn draw_frame(
     let drawn = draw(alloc, stream)?;
     let frame = frame_of(alloc, &drawn)?;
     if stream.below(25) == 0 {
-        let front = part(stream, frame.as_slice());
-        case.sent.extend_from_slice(front)?;
-        case.ended = Ended::Closed {
-            rest: front.len() as u64,
-        };
+        send_part(stream, frame.as_slice(), case)?;
         return Ok(false);
     }
-    let said = plain.answer(alloc, &drawn)?;
-    let reply = spell(alloc, &said)?;
-    case.push(frame.as_slice(), reply.as_slice(), plain)?;
-    match end_of(&drawn) {
-        None => Ok(true),
-        Some(ended) => {
-            case.ended = ended;
-            Ok(false)
-        }
-    }
+    Ok(send_frame(alloc, &drawn, frame.as_slice(), plain, case)?)
 }
 
 // Draws frames up to a Stop, a bad header, or a frame that ends too early.
@@ -118,6 +134,11 @@ fn draw_case(
     Ok(case)
 }
 
+// The bytes up to a place, and those behind it.
+fn cut_at(bytes: &[u8], at: usize) -> (&[u8], &[u8]) {
+    bytes.split_at(at.min(bytes.len()))
+}
+
 // Appends a piece in two.
 fn push_halves(
     alloc: Global,
@@ -125,13 +146,9 @@ fn push_halves(
     piece: &[u8],
     at: usize,
 ) -> Result<(), AllocError> {
-    if let Some((front, rest)) = piece.split_at_checked(at) {
-        list.push(Vec::from_slice(alloc, front)?)?;
-        list.push(Vec::from_slice(alloc, rest)?)?;
-    } else {
-        list.push(Vec::from_slice(alloc, piece)?)?;
-    }
-    Ok(())
+    let (front, rest) = cut_at(piece, at);
+    push_piece(list, alloc, front)?;
+    push_piece(list, alloc, rest)
 }
 
 // Bytes in pieces of at most 90 bytes.
@@ -155,8 +172,8 @@ fn agree_once(
     let most = stream.below(14);
     let case = draw_case(alloc, stream, plain, most)?;
     let list = cut(alloc, stream, case.sent.as_slice())?;
-    let ran = run(alloc, engine, list, None, None);
-    expect(rt, &ran, case.ended, case.replies.as_slice());
+    let replies = case.replies.as_slice();
+    expect_run(rt, alloc, engine, list, (None, None), case.ended, replies);
     expect_status(rt, engine, plain.batches(), plain.total());
     Ok(())
 }
@@ -218,21 +235,38 @@ fn go_on(
     engine: &mut PlainEngine,
     case: &Case,
     mark: Mark,
-) -> Result<(), Fail> {
-    let (_, sent) = case
-        .sent
-        .as_slice()
-        .split_at_checked(mark.sent)
-        .ok_or("no such place")?;
-    let (_, replies) = case
-        .replies
-        .as_slice()
-        .split_at_checked(mark.replied)
-        .ok_or("no such place")?;
+) -> Result<(), AllocError> {
+    let (_, sent) = cut_at(case.sent.as_slice(), mark.sent);
+    let (_, replies) = cut_at(case.replies.as_slice(), mark.replied);
     let list = pieces(alloc, sent, 1_000)?;
     let ran = run(alloc, engine, list, None, None);
     assert!(rt; ran.link.written() == replies);
     Ok(())
+}
+
+// What fails, how the session ends then, how many bytes are written, and the place behind the last frame that counts.
+#[derive(Clone, Copy)]
+struct Fault {
+    failing: Failing,
+    ended: Ended,
+    written: usize,
+    mark: Mark,
+}
+
+// Serves a session with a fault in pieces of a size, and goes on.
+fn fail<R: RandomSource + Abort>(
+    rt: &R,
+    alloc: Global,
+    engine: &mut PlainEngine,
+    case: &Case,
+    size: usize,
+    fault: Fault,
+) -> Result<(), AllocError> {
+    let list = pieces(alloc, case.sent.as_slice(), size)?;
+    let (front, _) = cut_at(case.replies.as_slice(), fault.written);
+    expect_run(rt, alloc, engine, list, fault.failing, fault.ended, front);
+    expect_status(rt, engine, fault.mark.batches, fault.mark.total);
+    go_on(rt, alloc, engine, case, fault.mark)
 }
 
 fn fail_write<R: RandomSource + Abort>(
@@ -241,22 +275,16 @@ fn fail_write<R: RandomSource + Abort>(
     setup: Setup,
     case: &Case,
     room: usize,
-) -> Result<(), Fail> {
+) -> Result<(), AllocError> {
     let mut engine = PlainEngine::new(rt, alloc, setup)?;
-    let list = pieces(alloc, case.sent.as_slice(), 1_000)?;
-    let ran = run(alloc, &mut engine, list, None, Some(room as u64));
-    let (front, _) = case
-        .replies
-        .as_slice()
-        .split_at_checked(room)
-        .ok_or("no such place")?;
-    let ended = Ended::WriteFault {
-        written: room as u128,
+    let written = room as u128;
+    let fault = Fault {
+        failing: (None, Some(room as u64)),
+        ended: Ended::WriteFault { written },
+        written: room,
+        mark: first_past(case.marks.as_slice(), room),
     };
-    expect(rt, &ran, ended, front);
-    let mark = first_past(case.marks.as_slice(), room);
-    expect_status(rt, &engine, mark.batches, mark.total);
-    go_on(rt, alloc, &mut engine, case, mark)
+    fail(rt, alloc, &mut engine, case, 1_000, fault)
 }
 
 fn fail_read<R: RandomSource + Abort>(
@@ -265,19 +293,16 @@ fn fail_read<R: RandomSource + Abort>(
     setup: Setup,
     case: &Case,
     reads: usize,
-) -> Result<(), Fail> {
+) -> Result<(), AllocError> {
     let mut engine = PlainEngine::new(rt, alloc, setup)?;
-    let list = pieces(alloc, case.sent.as_slice(), PIECE)?;
-    let ran = run(alloc, &mut engine, list, Some(reads as u64), None);
     let mark = last_within(case.marks.as_slice(), reads.saturating_mul(PIECE));
-    let (front, _) = case
-        .replies
-        .as_slice()
-        .split_at_checked(mark.replied)
-        .ok_or("no such place")?;
-    expect(rt, &ran, Ended::ReadFault, front);
-    expect_status(rt, &engine, mark.batches, mark.total);
-    go_on(rt, alloc, &mut engine, case, mark)
+    let fault = Fault {
+        failing: (Some(reads as u64), None),
+        ended: Ended::ReadFault,
+        written: mark.replied,
+        mark,
+    };
+    fail(rt, alloc, &mut engine, case, PIECE, fault)
 }
 
 // How many bytes a read gives.

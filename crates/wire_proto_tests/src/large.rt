@@ -1,13 +1,15 @@
 //! The longest text that a reply carries, and one that is a byte longer. With the checks of `rt try --test` it takes
 //! minutes (`--seconds 600`).
 
-use crate::asks::{Ask, exchange, frame, pieces, put_frame, run};
+use crate::asks::{Ask, Ran, exchange, frame, put_frame, run};
 use crate::drawn::push_line;
 use crate::hex::bytes_of;
 use crate::replies::text_len;
 use batch_store::Setup;
+use byte_io_tests::pieces;
 use plain_engine::PlainEngine;
 use std::alloc::{AllocError, Global};
+use std::process::Abort;
 use std::test::Fail;
 use wire_proto::{EncodeFault, Ended};
 
@@ -50,22 +52,32 @@ fn all_and_export(alloc: Global) -> Result<Vec<u8>, EncodeFault> {
     Ok(sent)
 }
 
-#[test]
-fn the_longest_text_is_sent_and_no_longer_one(rt: HostRuntime) -> Result<(), Fail> {
-    let alloc = rt.alloc();
-    let setup = Setup::new(MOST, MOST, &[4_096], 1, u64::MAX, 10)?;
-    let mut engine = PlainEngine::new(&rt, alloc, setup)?;
+// Compares how long the text is, behind two replies of 21 bytes.
+fn expect_longest(rt: &impl Abort, ran: &Ran) {
+    assert_eq!(rt; ran.ended, Ended::Closed { rest: 0 });
+    let reply = ran.link.written().get(42..).unwrap_or(&[]);
+    assert_eq!(rt; text_len(reply), Some(16_777_216));
+}
+
+// Sends all cells.
+fn export_longest(
+    rt: &impl Abort,
+    alloc: Global,
+    engine: &mut PlainEngine,
+) -> Result<(), EncodeFault> {
     let sent = all_and_export(alloc)?;
     let list = pieces(alloc, sent.as_slice(), 65_536)?;
-    let ran = run(alloc, &mut engine, list, None, None);
-    assert_eq!(rt; ran.ended, Ended::Closed { rest: 0 });
-    // Two replies of 21 bytes stand before it.
-    let (_, reply) = ran
-        .link
-        .written()
-        .split_at_checked(42)
-        .ok_or("no third reply")?;
-    assert_eq!(rt; text_len(reply), Some(16_777_216));
+    let ran = run(alloc, engine, list, None, None);
+    expect_longest(rt, &ran);
+    Ok(())
+}
+
+// Sends a count that makes the text one byte longer.
+fn export_longer(
+    rt: &impl Abort,
+    alloc: Global,
+    engine: &mut PlainEngine,
+) -> Result<(), EncodeFault> {
     let sent = last_and_export(alloc, 3, 90_000_000_000)?;
     let expected = bytes_of(
         alloc,
@@ -73,6 +85,22 @@ fn the_longest_text_is_sent_and_no_longer_one(rt: HostRuntime) -> Result<(), Fai
          0000000a ff 0028 0000000000000000",
     )?;
     let ended = Ended::Closed { rest: 0 };
-    exchange(&rt, alloc, &mut engine, sent, ended, expected.as_slice())?;
+    exchange(
+        rt,
+        alloc,
+        engine,
+        sent.as_slice(),
+        ended,
+        expected.as_slice(),
+    )?;
+    Ok(())
+}
+
+#[test]
+fn the_longest_text_is_sent_and_no_longer_one(rt: HostRuntime) -> Result<(), Fail> {
+    let setup = Setup::new(MOST, MOST, &[4_096], 1, u64::MAX, 10)?;
+    let mut engine = PlainEngine::new(&rt, rt.alloc(), setup)?;
+    export_longest(&rt, rt.alloc(), &mut engine)?;
+    export_longer(&rt, rt.alloc(), &mut engine)?;
     Ok(())
 }

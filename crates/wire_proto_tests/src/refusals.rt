@@ -1,15 +1,17 @@
 //! Growths that are refused. `rt try --test --fail-alloc N` refuses the Nth growth of each test, for some N one of the
 //! calls below: a session says that memory ran out and ends, and a new one is answered as if nothing had been.
 
-use crate::asks::{Ask, Ran, frames, pieces, run, small_setup};
+use crate::asks::{Ask, Ran, frames, run, small_engine};
 use crate::cuts::{ASKS, REPLIES};
 use crate::failures::again;
+use crate::frames::text_of_put;
 use crate::hex::bytes_of;
+use byte_io_tests::pieces;
 use plain_engine::PlainEngine;
 use std::alloc::{AllocError, Global};
 use std::process::Abort;
 use std::test::Fail;
-use wire_proto::{Ended, FrameFault, Frames, Request};
+use wire_proto::{EncodeFault, Ended, FrameFault, Frames, Request};
 
 // What is written where memory ran out.
 const NO_MEMORY: [u8; 15] = [0, 0, 0, 10, 255, 0, 1, 0, 0, 0, 0, 0, 0, 0, 0];
@@ -36,16 +38,20 @@ fn ended_well(ran: &Ran, replies: &[u8]) -> bool {
     }
 }
 
-#[test]
-fn a_session_without_memory_says_so(rt: HostRuntime) -> Result<(), Fail> {
-    let alloc = rt.alloc();
-    let mut engine = PlainEngine::new(&rt, alloc, small_setup()?)?;
-    let replies = bytes_of(alloc, REPLIES)?;
+// Whether a session over an engine ends as it is to.
+fn is_served(alloc: Global, engine: &mut PlainEngine, replies: &[u8]) -> Result<bool, EncodeFault> {
     let sent = frames(alloc, ASKS)?;
     let list = pieces(alloc, sent.as_slice(), 60)?;
-    let ran = run(alloc, &mut engine, list, None, None);
-    assert!(rt; ended_well(&ran, replies.as_slice()));
-    again(&rt, alloc, &mut engine, replies.as_slice())
+    let ran = run(alloc, engine, list, None, None);
+    Ok(ended_well(&ran, replies))
+}
+
+#[test]
+fn a_session_without_memory_says_so(rt: HostRuntime) -> Result<(), Fail> {
+    let mut engine = small_engine(&rt, rt.alloc())?;
+    let replies = bytes_of(rt.alloc(), REPLIES)?;
+    assert!(rt; is_served(rt.alloc(), &mut engine, replies.as_slice())?);
+    again(&rt, rt.alloc(), &mut engine, replies.as_slice())
 }
 
 // Feeds a piece, and again where memory was refused, which is to change nothing.
@@ -64,32 +70,32 @@ fn next_at_last(frames: &mut Frames, alloc: Global) -> Result<Option<Request>, F
     }
 }
 
-// Whether a request is this put.
-fn is_put(request: &Option<Request>, pair: (u64, u64), text_len: usize) -> bool {
-    match request {
-        Some(
-            Request::Put {
-                client,
-                number,
-                text,
-            },
-        ) => (*client, *number) == pair && text.len() == text_len,
-        _ => false,
+// Feeds a put and a Stop in pieces.
+fn feed_frames(alloc: Global, frames: &mut Frames) -> Result<(), EncodeFault> {
+    let sent = crate::asks::frames(alloc, &[Ask::Put(7, 1, "3 3 1\n1 1 5\n"), Ask::Stop])?;
+    for piece in sent.as_slice().chunks(30) {
+        feed_at_last(frames, alloc, piece)?;
     }
+    Ok(())
+}
+
+fn next_is_put(alloc: Global, frames: &mut Frames) -> Result<bool, FrameFault> {
+    let put = next_at_last(frames, alloc)?;
+    let text = text_of_put(&put, (7, 1)).unwrap_or(&[]);
+    Ok(text.len() == 61)
+}
+
+fn next_is_stop(alloc: Global, frames: &mut Frames) -> Result<bool, FrameFault> {
+    let stop = next_at_last(frames, alloc)?;
+    Ok(matches!(stop, Some(Request::Stop)))
 }
 
 #[test]
 fn frames_without_memory_lose_nothing(rt: HostRuntime) -> Result<(), Fail> {
-    let alloc = rt.alloc();
-    let sent = frames(alloc, &[Ask::Put(7, 1, "3 3 1\n1 1 5\n"), Ask::Stop])?;
-    let mut frames = Frames::new(alloc);
-    for piece in sent.as_slice().chunks(30) {
-        feed_at_last(&mut frames, alloc, piece)?;
-    }
-    let put = next_at_last(&mut frames, alloc)?;
-    assert!(rt; is_put(&put, (7, 1), 61));
-    let stop = next_at_last(&mut frames, alloc)?;
-    assert!(rt; matches!(&stop, Some(Request::Stop)));
+    let mut frames = Frames::new(rt.alloc());
+    feed_frames(rt.alloc(), &mut frames)?;
+    assert!(rt; next_is_put(rt.alloc(), &mut frames)?);
+    assert!(rt; next_is_stop(rt.alloc(), &mut frames)?);
     assert_eq!(rt; frames.len(), 0);
     Ok(())
 }

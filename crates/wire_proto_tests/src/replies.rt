@@ -1,14 +1,15 @@
 //! Replies: each row of their layout is read, and whatever is no reply isn't.
 
-use crate::asks::{Ask, frames, run, small_setup};
+use crate::asks::{Ask, frames, run, small_engine};
 use crate::hex::bytes_of;
 use batch_store::Kept;
+use byte_io_tests::pieces;
 use hyper_matrix::RowSum;
 use plain_engine::{PlainEngine, Status};
 use std::alloc::{AllocError, Global};
 use std::process::Abort;
 use std::test::Fail;
-use wire_proto::{Reply, decode_reply};
+use wire_proto::{EncodeFault, Reply, decode_reply};
 
 /// The first frame of some bytes, and what stands behind it, where it is whole.
 pub fn split_frame(bytes: &[u8]) -> Option<(&[u8], &[u8])> {
@@ -148,15 +149,24 @@ static ANSWERS: &[Reply<'static>] = &[
     Reply::Stopping,
 ];
 
+// Serves frames over an engine, and compares the replies.
+fn expect_answers(
+    rt: &impl Abort,
+    alloc: Global,
+    engine: &mut PlainEngine,
+) -> Result<(), EncodeFault> {
+    let sent = frames(alloc, TWO_PUTS)?;
+    let list = pieces(alloc, sent.as_slice(), 1_000)?;
+    let ran = run(alloc, engine, list, None, None);
+    assert_eq!(rt; ran.link.written().len(), 132);
+    are_replies(rt, ran.link.written(), ANSWERS);
+    Ok(())
+}
+
 #[test]
 fn the_replies_of_a_session_are_read(rt: HostRuntime) -> Result<(), Fail> {
-    let alloc = rt.alloc();
-    let mut engine = PlainEngine::new(&rt, alloc, small_setup()?)?;
-    let mut list = Vec::new(alloc);
-    list.push(frames(alloc, TWO_PUTS)?)?;
-    let ran = run(alloc, &mut engine, list, None, None);
-    assert_eq!(rt; ran.link.written().len(), 132);
-    are_replies(&rt, ran.link.written(), ANSWERS);
+    let mut engine = small_engine(&rt, rt.alloc())?;
+    expect_answers(&rt, rt.alloc(), &mut engine)?;
     Ok(())
 }
 

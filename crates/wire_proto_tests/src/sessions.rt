@@ -1,10 +1,9 @@
 //! Whole sessions, each over a new engine of three rows, three columns, a limit of 100 and at most 10 batches.
 
-use crate::asks::{
-    Ask, Session, check, exchange, expect_status, frame, pieces, put_frame, small_setup,
-};
+use crate::asks::{Ask, Session, check, exchange, expect_status, frame, put_frame, small_engine};
 use crate::hex::bytes_of;
 use batch_store::Setup;
+use byte_io_tests::pieces;
 use mm_text::Script;
 use plain_engine::PlainEngine;
 use std::alloc::Global;
@@ -156,12 +155,20 @@ static SESSIONS: &[Session] = &[
     ),
 ];
 
+// Runs a session over a new engine.
+fn check_new<R: RandomSource + Abort>(
+    rt: &R,
+    alloc: Global,
+    session: &Session,
+) -> Result<(), Fail> {
+    let mut engine = small_engine(rt, alloc)?;
+    check(rt, alloc, &mut engine, session)
+}
+
 #[test]
 fn sessions_are_answered(rt: HostRuntime) -> Result<(), Fail> {
-    let setup = small_setup()?;
     for session in SESSIONS {
-        let mut engine = PlainEngine::new(&rt, rt.alloc(), setup)?;
-        check(&rt, rt.alloc(), &mut engine, session)?;
+        check_new(&rt, rt.alloc(), session)?;
     }
     Ok(())
 }
@@ -227,11 +234,11 @@ fn refusal(alloc: Global, digits: &str) -> Result<Vec<u8>, Fail> {
 fn refuses<R: RandomSource + Abort>(
     rt: &R,
     alloc: Global,
-    sent: Vec<u8>,
+    sent: &[u8],
     digits: &str,
 ) -> Result<(), Fail> {
     let expected = refusal(alloc, digits)?;
-    let mut engine = PlainEngine::new(rt, alloc, small_setup()?)?;
+    let mut engine = small_engine(rt, alloc)?;
     let end = Ended::Closed { rest: 0 };
     exchange(rt, alloc, &mut engine, sent, end, expected.as_slice())?;
     expect_status(rt, &engine, 0, 0);
@@ -242,7 +249,7 @@ fn refuses<R: RandomSource + Abort>(
 fn texts_are_refused(rt: HostRuntime) -> Result<(), Fail> {
     for (ask, digits) in REFUSED_TEXTS {
         let sent = frame(rt.alloc(), *ask)?;
-        refuses(&rt, rt.alloc(), sent, *digits)?;
+        refuses(&rt, rt.alloc(), sent.as_slice(), *digits)?;
     }
     Ok(())
 }
@@ -252,7 +259,7 @@ fn a_line_of_a_put_has_at_most_1024_bytes(rt: HostRuntime) -> Result<(), Fail> {
     let alloc = rt.alloc();
     let blanks = vec![in alloc; b' '; 1_025]?;
     let sent = put_frame(alloc, (7, 1), blanks.as_slice())?;
-    refuses(&rt, alloc, sent, "0069 0000000000000002")
+    refuses(&rt, alloc, sent.as_slice(), "0069 0000000000000002")
 }
 
 static ONE_BATCH: Session = (
@@ -279,14 +286,22 @@ fn a_full_book_is_told_last(rt: HostRuntime) -> Result<(), Fail> {
     check(&rt, rt.alloc(), &mut engine, &ONE_BATCH)
 }
 
-#[test]
-fn turns_are_counted(rt: HostRuntime) -> Result<(), Fail> {
-    let alloc = rt.alloc();
-    let mut engine = PlainEngine::new(&rt, alloc, small_setup()?)?;
+// Serves four bytes in as many reads, of which so many are allowed, and writes nothing.
+fn ends_after(alloc: Global, engine: &mut PlainEngine, turns: u64) -> Result<Ended, Fail> {
     let list = pieces(alloc, &[0, 0, 0, 0], 1)?;
     let mut link = Script::new(alloc, list, None, None);
-    let ended = serve_engine(alloc, &mut link, &mut engine, 3);
+    let ended = serve_engine(alloc, &mut link, engine, turns);
+    if link.written().is_empty() {
+        Ok(ended)
+    } else {
+        Err("something was written".into())
+    }
+}
+
+#[test]
+fn turns_are_counted(rt: HostRuntime) -> Result<(), Fail> {
+    let mut engine = small_engine(&rt, rt.alloc())?;
+    let ended = ends_after(rt.alloc(), &mut engine, 3)?;
     assert_eq!(rt; ended, Ended::TooManyTurns);
-    assert!(rt; link.written().is_empty());
     Ok(())
 }

@@ -4,6 +4,7 @@ ghost use Rattle.std.specs.Prelude.{◌≡◌, ⊤};
 use crate::asks::{Ask, frame, small_setup};
 use crate::hex::bytes_of;
 use batch_store::{Batch, Kept, Setup};
+use byte_io_tests::pieces;
 use hyper_matrix::{Hyper, RowSum};
 use mm_text::Script;
 use plain_engine::{PutFault, Status};
@@ -134,12 +135,11 @@ fn check(
     rt: &impl Abort,
     alloc: Global,
     store: &mut Told,
-    sent: Vec<u8>,
+    sent: &[u8],
     expected: &[u8],
     ended: Ended,
-) -> Result<(), Fail> {
-    let mut list = Vec::new(alloc);
-    list.push(sent)?;
+) -> Result<(), AllocError> {
+    let list = pieces(alloc, sent, sent.len())?;
     let mut link = Script::new(alloc, list, None, None);
     assert_eq!(rt; serve(alloc, &mut link, store, 100), ended);
     assert!(rt; link.written() == expected);
@@ -158,7 +158,14 @@ fn stores_are_answered_for(rt: HostRuntime) -> Result<(), Fail> {
             refusal: *refusal,
             saved: *saved,
         };
-        check(&rt, alloc, &mut store, sent, expected.as_slice(), *ended)?;
+        check(
+            &rt,
+            alloc,
+            &mut store,
+            sent.as_slice(),
+            expected.as_slice(),
+            *ended,
+        )?;
     }
     Ok(())
 }
