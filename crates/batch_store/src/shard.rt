@@ -332,6 +332,18 @@ impl Shard {
 }
 
 impl Shard {
+    /// Adds up parts that stand side by side in layer 1, so that the batch that needs their sum finds most of it made
+    /// (`Layers::gather`). What the shard holds stays, also on an error.
+    ///
+    /// # Errors
+    ///
+    /// A growth was refused.
+    pub fn gather(&mut self, alloc: Global) -> Result<(), AllocError>
+        ensures { self.new ≡ self.old }
+    {
+        self.layers.gather(alloc)
+    }
+
     /// The layers and the length of the record as they are now, for a reader who takes its time: what is committed
     /// later doesn't change them. One growth, of a pointer for each layer.
     ///

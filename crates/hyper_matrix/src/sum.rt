@@ -3,11 +3,11 @@
 //! The sum goes through the blocks in order and gives each the cells that lie below the next block's first place. A
 //! block that gets none goes over as it is, by what is kept beside its pointer: nothing behind that is read. In any
 //! other that nobody shares the counts are added where they stand, up to the first cell whose place it hasn't; so where
-//! cells come again nothing is copied. What is left is added up in spare rows, and the block and the spare rows exchange
-//! theirs, so that the next sum is made in the memory that the block had. So a block that nobody shares takes memory for
-//! a sum of up to `BLOCK_CELLS` cells only where its rows are more than that memory has room for, which is once or twice
-//! in its life (`row_room`). A block that is shared stays as it was where it is shared, and the sum takes memory of its
-//! own; a sum of more cells is split into new blocks, and the old one is freed.
+//! cells come again nothing is copied. What is left is added up in spare rows, and the block and the spare rows
+//! exchange theirs, so that the next sum is made in the memory that the block had. So a block that nobody shares takes
+//! memory for a sum of up to `BLOCK_CELLS` cells only where its rows are more than that memory has room for, which is
+//! once or twice in its life (`row_room`). A block that is shared stays as it was where it is shared, and the sum takes
+//! memory of its own; a sum of more cells is split into new blocks, and the old one is freed.
 //!
 //! So a small matrix joins a large one for the price of the blocks that it touches and of a pointer for each other. A
 //! sum takes no entry away, so blocks never crumble. Another matrix comes as a list of its cells: any part of it is a

@@ -23,7 +23,8 @@ pub fn cells_of(alloc: Global, triples: &[Triple]) -> Result<Vec<Cell>, AllocErr
     Ok(cells)
 }
 
-/// Of the first n places of rows of this width, every step-th with `more`, and the others with `count`, if that isn't 0.
+/// Of the first n places of rows of this width, every step-th with `more`, and the others with `count`, if that isn't
+/// 0.
 pub fn grid(
     alloc: Global,
     (n, width, step): Triple,

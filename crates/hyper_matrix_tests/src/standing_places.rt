@@ -1,5 +1,5 @@
-//! Sums in which all places of one matrix stand in the other: long rows and short ones, in blocks that are shared and in
-//! blocks that aren't.
+//! Sums in which all places of one matrix stand in the other: long rows and short ones, in blocks that are shared and
+//! in blocks that aren't.
 use crate::matrices::{SIDE, Triple, adds_up, built, grid};
 use std::alloc::{AllocError, Global};
 use std::test::Fail;

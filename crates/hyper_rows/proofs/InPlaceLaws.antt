@@ -1,5 +1,6 @@
 -- Rows in which the count of one entry is changed: the places stay, and what the rows build changes by that count.
-use Rattle.std.proofs.Common.{◌≡◌, ℕ, zero, suc, ◌+◌, ◌-◌, ◌<◌, ◌≤◌, ◌^◌, ◌&&◌, Bool, true, false, cond, T, List, [], ◌∷◌}
+use Rattle.std.proofs.Common.{◌≡◌, ℕ, zero, suc, ◌+◌, ◌-◌, ◌<◌, ◌≤◌, ◌^◌, ◌&&◌, Bool, true, false, cond, T}
+use Rattle.std.proofs.Common.{List, [], ◌∷◌}
 use Rattle.std.proofs.Common.{◌++◌, length, get_or, take, drop, map, Some, None, sym, ◌∙◌, ap, subst, refl, arith}
 use Rattle.std.proofs.Common.{length-take, length-drop, length-set, take-append-drop, append_assoc}
 use Rattle.std.specs.List.{slice_range}
@@ -7,7 +8,8 @@ use Rattle.std.specs.Ordering.{eq_by_cmp, is_lt}
 use Rattle.std.specs.FinMap.{get, is_sorted}
 use Rattle.std.specs.FinMap.Entries.{below_all}
 use Rattle.std.proofs.Math.ListN.{set}
-use Rattle.std.proofs.lemmas.List.{drop-set-lt, drop-set-add, take-set-le, get_or-take, get_or-drop, map-append, drop_more}
+use Rattle.std.proofs.lemmas.List.{drop-set-lt, drop-set-add, take-set-le, get_or-take, get_or-drop}
+use Rattle.std.proofs.lemmas.List.{map-append, drop_more}
 use Rattle.std.proofs.lemmas.List.{take_more, length-map}
 use Rattle.std.proofs.Math.Seq.{take-set-lt}
 use Rattle.hyper_rows.specs.Counts.{Place, place_cmp, plus, Counts, built, ewise_add, count_sum, total}
@@ -76,7 +78,8 @@ part_before es i e j v h k =
     ∙ ap (take (e - i)) (drop-set-add i es (j - i) v)
     ∙ take-set-le (e - i) (drop i es) (j - i) v (omega arith)
 
-part_get : (es : Entries) (i e j : ℕ) (d : ℕ × ℕ) → i ≤ j → j < e → get_or (slice_range es i e) (j - i) d ≡ get_or es j d
+part_get : (es : Entries) (i e j : ℕ) (d : ℕ × ℕ) → i ≤ j → j < e →
+    get_or (slice_range es i e) (j - i) d ≡ get_or es j d
 part_get es i e j d h k =
     get_or-take (e - i) (drop i es) (j - i) d (omega arith) ∙ get_or-drop i es (j - i) d
     ∙ ap (λ n. get_or es n d) (omega arith)
@@ -251,7 +254,8 @@ module _ (hs : List (ℕ × ℕ)) (old es : Entries) (cells : List Cell) (k i j 
           numbers = numbers_of hs new old;
           places = same_places _ _ _ _ _ s ∙ adds.places;
           sums = built_more _ _ _ _ _ s
-              ∙ ap (λ (m : Counts). ewise_add m (built ((((get_or hs i (0, 0)).0, (get_or es j (0, 0)).0), cell.count) ∷ [])))
+              ∙ ap (λ (m : Counts).
+                  ewise_add m (built ((((get_or hs i (0, 0)).0, (get_or es j (0, 0)).0), cell.count) ∷ [])))
               adds.sums
               ∙ ap (λ r. ewise_add (ewise_add (built (cells_of (rows_of hs old))) (built_of (take k cells)))
               (built (((r, (get_or es j (0, 0)).0), cell.count) ∷ []))) stands.row

@@ -12,7 +12,7 @@ ghost use Rattle.hyper_matrix.specs.RowOf.{row_of};
 ghost use Rattle.layer_cascade.specs.Columns.{FirstColumn};
 ghost use Rattle.layer_cascade.specs.Steps.{joined, Takes};
 
-use crate::limits::MAX_RUNS;
+use crate::limits::{GATHERED_RUNS, MAX_RUNS};
 use crate::runs::{
     added_to_runs, column_in, count_in, entries_in, own_matrix, push_runs, row_counts_in,
     sum_of_runs,
@@ -224,6 +224,18 @@ impl Layer {
         }
         let layer = Layer::of(alloc, sum)?;
         Ok(Step::Ends(layer))
+    }
+
+    /// The same layer with its runs added up, where they are `GATHERED_RUNS` or more.
+    pub fn gathered(&self, alloc: Global) -> Result<Option<Layer>, AllocError>
+        ensures { IfOk result (λ gathered. IfSome gathered (λ layer. layer ≡ self.now)) }
+    {
+        if self.runs.len() < GATHERED_RUNS {
+            return Ok(None);
+        }
+        let sum = self.sum(alloc)?;
+        let layer = Layer::of(alloc, sum)?;
+        Ok(Some(layer))
     }
 
     /// Takes a matrix in, whatever it has: the last layer has no cut. More than `MAX_RUNS` runs are added up.

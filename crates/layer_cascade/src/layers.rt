@@ -188,6 +188,23 @@ impl Layers {
         *self = plan.after;
     }
 
+    /// Adds up the matrices that stand side by side in layer 1, where they are `GATHERED_RUNS` or more, so that the
+    /// addition that needs their sum doesn't have all of them to add up. What the layers hold stays, also on an error.
+    ///
+    /// Takes the time and memory of that sum, of at most the first cut of entries where there is one.
+    ///
+    /// # Errors
+    ///
+    /// A growth was refused.
+    pub fn gather(&mut self, alloc: Global) -> Result<(), AllocError>
+        ensures { self.new ≡ self.old }
+    {
+        if let Some(layer) = self.layers[0].gathered(alloc)? {
+            self.layers[0] = Arc::new(alloc, layer)?;
+        }
+        Ok(())
+    }
+
     /// The layers with `m` added, as `plan` and `commit` leave them, made from their own memory.
     ///
     /// Nothing is changed that somebody else shares: a layer, or a block of one. What nobody else has is moved, and

@@ -95,7 +95,19 @@ impl<N: Named, H: Ledger> Engine<N, H> {
         // The batch lives on behind this call, so no lock is held while its cells are given back.
         let own = Arc::try_clone(b)?;
         let kept = self.put_from(rt, alloc, first, second, own, &shares, 0)?;
+        self.gather(rt, alloc, kept.index % self.setup.shards());
         Ok(kept)
+    }
+
+    // Adds up parts that stand side by side in a shard, one shard for each accepted batch in turn, while no other lock
+    // is held: so a put seldom finds many to add up in all its shards. What the shard holds stays, and where memory is
+    // refused the parts stay as they are.
+    fn gather<R: Wait>(&self, rt: &R, alloc: Global, s: u64)
+        requires { s < N.setup.shards }
+    {
+        let mut guard = self.shards[s as usize].lock(rt);
+        let locked = &mut *guard;
+        let _ = locked.shard.gather(alloc);
     }
 
     // The shards from s on: each that the batch concerns is locked and made ready, then the book accepts, and each gets

@@ -42,8 +42,8 @@ impl Hyper {
     /// `s` of `k`. The parts of all shards add up to the matrix.
     ///
     /// Reads the number of each row, and takes the time and memory of building a matrix of the cells that are in the
-    /// shard. A list of them, 24 bytes each, is held meanwhile, with room for an even share at once. Where there is one shard, it shares all blocks, as
-    /// `copy`.
+    /// shard. A list of them, 24 bytes each, is held meanwhile, with room for an even share at once. Where there is one
+    /// shard, it shares all blocks, as `copy`.
     ///
     /// # Errors
     ///

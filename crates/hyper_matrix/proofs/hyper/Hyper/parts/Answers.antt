@@ -2,7 +2,8 @@ use Rattle.std.proofs.Common.{◌∙◌, ap, arith}
 use Rattle.hyper_rows.specs.Counts.{total}
 use Rattle.hyper_matrix.specs.Matrix.{Matrix, matrix}
 use Rattle.hyper_matrix.specs.Parts.{shard_part}
-use Rattle.hyper_matrix.proofs.PartLaws.{list_at, part_sorted, part_within, part_fits, part_built, parts_more, parts-one}
+use Rattle.hyper_matrix.proofs.PartLaws.{list_at, part_sorted, part_within, part_fits, part_built, parts_more}
+use Rattle.hyper_matrix.proofs.PartLaws.{parts-one}
 use Rattle.hyper_matrix.proofs.hyper.Hyper.parts.Goals as goal
 
 pub returns-then-k-eq1 : goal.returns-then-k-eq1
