@@ -255,7 +255,7 @@ module _ (hs : List (ℕ × ℕ)) (old es : Entries) (cells : List Cell) (k i j 
           places = same_places _ _ _ _ _ s ∙ adds.places;
           sums = built_more _ _ _ _ _ s
               ∙ ap (λ (m : Counts).
-                  ewise_add m (built ((((get_or hs i (0, 0)).0, (get_or es j (0, 0)).0), cell.count) ∷ [])))
+              ewise_add m (built ((((get_or hs i (0, 0)).0, (get_or es j (0, 0)).0), cell.count) ∷ [])))
               adds.sums
               ∙ ap (λ r. ewise_add (ewise_add (built (cells_of (rows_of hs old))) (built_of (take k cells)))
               (built (((r, (get_or es j (0, 0)).0), cell.count) ∷ []))) stands.row
