@@ -95,13 +95,16 @@ impl<N: Named, H: Ledger> Engine<N, H> {
         // The batch lives on behind this call, so no lock is held while its cells are given back.
         let own = Arc::try_clone(b)?;
         let kept = self.put_from(rt, alloc, first, second, own, &shares, 0)?;
-        self.gather(rt, alloc, kept.index % self.setup.shards());
+        let due = kept.index % self.setup.shards();
+        if shares[due as usize].is_some() {
+            self.gather(rt, alloc, due);
+        }
         Ok(kept)
     }
 
-    // Adds up parts that stand side by side in a shard, one shard for each accepted batch in turn, while no other lock
-    // is held: so a put seldom finds many to add up in all its shards. What the shard holds stays, and where memory is
-    // refused the parts stay as they are.
+    // Adds up parts that stand side by side in a shard, while no other lock is held. Each accepted batch does so in at
+    // most one of the shards that it concerns, another in turn: so a put seldom finds many to add up in all its shards.
+    // What the shard holds stays, and where memory is refused the parts stay as they are.
     fn gather<R: Wait>(&self, rt: &R, alloc: Global, s: u64)
         requires { s < N.setup.shards }
     {
