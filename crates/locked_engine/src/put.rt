@@ -96,7 +96,7 @@ impl<N: Named, H: Ledger> Engine<N, H> {
         let own = Arc::try_clone(b)?;
         let kept = self.put_from(rt, alloc, first, second, own, &shares, 0)?;
         let due = kept.index % self.setup.shards();
-        if shares[due as usize].is_some() {
+        if let Some(Some(_)) = shares.get(due as usize) {
             self.gather(rt, alloc, due);
         }
         Ok(kept)
