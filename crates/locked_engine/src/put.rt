@@ -25,7 +25,9 @@ impl<N: Named, H: Ledger> Engine<N, H> {
     /// refuses is refused, both without memory. A fresh batch is cut into its parts, outside all locks. Then each shard
     /// that it concerns is locked, in rising order, and prepares; the book is locked, asked again, and admits it; and
     /// on the way back each shard takes its part in and gives its lock back. No cell is read or copied under the book's
-    /// lock, and under a shard's lock only those of the part and of the layers that it meets.
+    /// lock, and under a shard's lock only those of the part and of the layers that it meets. Once all locks are given
+    /// back, one of these shards, another at each put, may be locked once more, to add up what stands side by side in
+    /// its first layer (`Shard::gather`).
     ///
     /// A first acceptance raises the seat's first share by the batch's total. After every other answer the seat is as
     /// before, and so are, as far as this call goes, every shard and the book, but for free places.
