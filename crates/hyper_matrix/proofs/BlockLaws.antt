@@ -6,10 +6,6 @@ use Rattle.hyper_rows.specs.Counts.{Place, count_sum}
 use Rattle.hyper_rows.specs.Rows.{Rows, cells_of}
 use Rattle.hyper_matrix.specs.Blocks.{all_cells, IsBlock, AreBlocks, Grows}
 
-pub sum-append : (xs ys : List (Place × ℕ)) → count_sum (xs ++ ys) ≡ count_sum xs + count_sum ys
-sum-append [] ys = omega arith
-sum-append (x ∷ xs) ys = omega (arith, sum-append xs ys)
-
 pub all_cells-append : (a b : List Rows) → all_cells (a ++ b) ≡ all_cells a ++ all_cells b
 all_cells-append [] b = refl
 all_cells-append (x ∷ a) b = ap (λ (r : List (Place × ℕ)). cells_of x ++ r) (all_cells-append a b) ∙

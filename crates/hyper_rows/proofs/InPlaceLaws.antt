@@ -26,6 +26,7 @@ use Rattle.hyper_rows.proofs.CountLaws.{plus_assoc, plus_comm, plus-none, ewise_
 use Rattle.hyper_rows.proofs.CountLaws.{total-ewise_add}
 use Rattle.hyper_rows.proofs.CellLaws.{sum_of_cells}
 use Rattle.hyper_rows.proofs.BuiltOfLaws.{built_joined, total-built_of, built_of-none}
+use Rattle.hyper_rows.proofs.SearchLaws.{sum-append}
 
 -- two lists of cells that differ in the count of one
 record Recounts (old new : List (Place × ℕ)) (p : Place) (m n : ℕ) : Type 0 where
@@ -170,10 +171,6 @@ same_places : (old new : List (Place × ℕ)) (p : Place) (m n : ℕ) → Recoun
 same_places old new p m n s =
     ap (map (λ (e : Place × ℕ). e.0)) s.new_is ∙ keys-append s.front ((p, n) ∷ s.back)
     ∙ sym (ap (map (λ (e : Place × ℕ). e.0)) s.old_is ∙ keys-append s.front ((p, m) ∷ s.back))
-
-sum-append : (xs ys : List (Place × ℕ)) → count_sum (xs ++ ys) ≡ count_sum xs + count_sum ys
-sum-append [] ys = omega arith
-sum-append (x ∷ xs) ys = omega (arith, sum-append xs ys)
 
 count_within : (old new : List (Place × ℕ)) (p : Place) (m n : ℕ) → Recounts old new p m n → m ≤ count_sum old
 count_within old new p m n s = omega (arith, ap count_sum s.old_is, sum-append s.front ((p, m) ∷ s.back))

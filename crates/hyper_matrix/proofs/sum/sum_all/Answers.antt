@@ -4,7 +4,7 @@ use Rattle.std.specs.FinMap.{is_sorted}
 use Rattle.std.proofs.lemmas.List.{drop_all}
 use Rattle.hyper_rows.specs.Counts.{Place, place_cmp, count_sum, built, ewise_add}
 use Rattle.hyper_matrix.specs.Blocks.{all_cells}
-use Rattle.hyper_matrix.proofs.BlockLaws.{sum-append}
+use Rattle.hyper_rows.proofs.SearchLaws.{sum-append}
 use Rattle.hyper_rows.proofs.BuiltOfLaws.{entries_total}
 use Rattle.hyper_rows.proofs.PlaceOrderLaws.{sorted_front, sorted_back}
 use Rattle.hyper_matrix.proofs.SumLaws.{nothing_last, listed, part_cells, part_step, part_count}

@@ -6,7 +6,7 @@ use Rattle.hyper_rows.specs.Counts.{Place, place_cmp, count_sum, built, ewise_ad
 use Rattle.hyper_rows.specs.Rows.{cells_of}
 use Rattle.hyper_matrix.specs.Blocks.{all_cells, AreBlocks}
 use Rattle.hyper_rows.specs.Cells.{entry_of}
-use Rattle.hyper_matrix.proofs.BlockLaws.{sum-append}
+use Rattle.hyper_rows.proofs.SearchLaws.{sum-append}
 use Rattle.hyper_rows.proofs.PlaceOrderLaws.{sorted_front, sorted_back}
 use Rattle.hyper_matrix.proofs.SumLaws.{nothing_first, nothing_last, split_cells, sum_step, part_total}
 use Rattle.hyper_matrix.proofs.sum.sum_blocks.Goals as goal
