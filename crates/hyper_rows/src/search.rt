@@ -67,11 +67,24 @@ fn entries_before(entries: &[(u64, u64)], col: u64) -> usize
     partition_point(entries.len(), |k| entries[k].0 < col)
 }
 
+// Whether row i ends before the place. Its entries are read only where it is the place's row.
+fn ends_before(rows: &Rows, i: usize, place: (u64, u64)) -> bool
+    requires { i < length rows.now }
+    ensures { result ≡ is_before (row_end rows.now i) place }
+{
+    let row = rows.row(i);
+    if row == place.0 {
+        is_before(row_end(rows, i), place)
+    } else {
+        row < place.0
+    }
+}
+
 // How many rows end before the place.
 fn rows_before(rows: &Rows, place: (u64, u64)) -> usize
     ensures { TurnsAt (λ k. is_before (row_end rows.now k) place) (length rows.now) result }
 {
-    partition_point(rows.row_count(), |k| is_before(row_end(rows, k), place))
+    partition_point(rows.row_count(), |k| ends_before(rows, k, place))
 }
 
 // Of a row's entries, the first at the place or behind it.
