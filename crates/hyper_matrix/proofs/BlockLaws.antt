@@ -2,7 +2,7 @@
 use Rattle.std.proofs.Common.{◌≡◌, ℕ, zero, suc, ◌+◌, ◌<◌, ◌≤◌, List, [], ◌∷◌, ◌++◌, length, get_or, take, sym, ◌∙◌, ap}
 use Rattle.std.proofs.Common.{subst, refl, arith, append_assoc}
 use Rattle.std.proofs.lemmas.List.{append-nil, take_more}
-use Rattle.hyper_rows.specs.Counts.{Place, count_sum}
+use Rattle.hyper_rows.specs.Counts.{Place}
 use Rattle.hyper_rows.specs.Rows.{Rows, cells_of}
 use Rattle.hyper_matrix.specs.Blocks.{all_cells, IsBlock, AreBlocks, Grows}
 

@@ -125,7 +125,7 @@ find_past : (q : Place) (e : Place × ℕ) (es : List (Place × ℕ)) → is_bef
 find_past q e es b = ap (λ t. cond t (Some e.1) (find place_cmp q es)) (before_other e.0 q b)
 
 -- what comes before a place comes before what is not before that place
-before_until : (x q p : Place) → is_before x q ≡ true → is_before p q ≡ false → is_before x p ≡ true
+pub before_until : (x q p : Place) → is_before x q ≡ true → is_before p q ≡ false → is_before x p ≡ true
 before_until x q p a b = elim (before_is x q a) [
   | inl less ↦ elim (not_below q p b) [
     | inl h ↦ before_row x.0 x.1 p.0 p.1 (omega arith)

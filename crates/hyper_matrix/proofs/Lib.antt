@@ -7,6 +7,7 @@ pub mod BuildLaws
 pub mod SplitLaws
 pub mod SumLaws
 pub mod BlockSearchLaws
+pub mod BlockEndLaws
 pub mod RowOfLaws
 pub mod QueryLaws
 pub mod CellIterLaws

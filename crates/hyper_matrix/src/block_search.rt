@@ -26,19 +26,31 @@ fn block_end(rows: &Rows) -> (u64, u64)
     hyper_rows::row_end(rows, rows.row_count() - 1)
 }
 
-// Whether block k ends before the place.
+// Whether block k ends before the place. Where this block and the next begin mostly tells that, and both stand beside
+// the pointers: what these point to is read only where the place is between them.
 fn ends_before(blocks: &[Block], k: usize, place: (u64, u64)) -> bool
     requires rows { HaveRows blocks.now }
+    requires sorted { T (is_sorted place_cmp (all_cells blocks.now)) }
     requires within { k < length blocks.now }
     ensures test { result ≡ is_before (block_end (rows_at blocks.now k)) place }
     ensures full { RowsFull (rows_at blocks.now k) }
 {
-    is_before(block_end(blocks[k].rows()), place)
+    let block = &blocks[k];
+    // Known by it: no row is empty. The count isn't used, so nothing is read for it.
+    let _count = block.rows().row_count();
+    if !is_before(block.first(), place) {
+        return false;
+    }
+    if k + 1 < blocks.len() && !is_before(place, blocks[k + 1].first()) {
+        return true;
+    }
+    is_before(block_end(block.rows()), place)
 }
 
 // How many blocks end before the place.
 fn blocks_before(blocks: &[Block], place: (u64, u64)) -> usize
-    requires { HaveRows blocks.now }
+    requires rows { HaveRows blocks.now }
+    requires sorted { T (is_sorted place_cmp (all_cells blocks.now)) }
     ensures turn { TurnsAt (λ k. is_before (block_end (rows_at blocks.now k)) place) (length blocks.now) result }
     ensures full_before { 0 < result → RowsFull (rows_at blocks.now (result - 1)) }
     ensures full_behind { result < length blocks.now → RowsFull (rows_at blocks.now result) }

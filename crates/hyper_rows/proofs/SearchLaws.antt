@@ -20,7 +20,7 @@ use Rattle.hyper_rows.specs.Counts.{Place, place_cmp, count_sum}
 use Rattle.hyper_rows.specs.Rows.{Entries, Rows, at_places, cells_of}
 use Rattle.hyper_rows.specs.Search.{is_before, first_from, row_cells, last_place, row_end, TurnsAt, StandsAt, IsRowSum}
 use Rattle.hyper_rows.specs.Search.{RowsFrom, RowsFull}
-use Rattle.hyper_rows.proofs.CountLaws.{places_total, T_first, T_second, T_both}
+use Rattle.hyper_rows.proofs.CountLaws.{places_total, T_first, T_second}
 use Rattle.cells.proofs.OrderLaws.{less_place}
 use Rattle.hyper_rows.proofs.BuildLaws.{not_below}
 

@@ -1,4 +1,4 @@
-use Rattle.std.proofs.Common.{◌≡◌, ◌+◌, ◌%◌, ◌++◌, ◌∙◌, sym, ap, map, arith, drop}
+use Rattle.std.proofs.Common.{◌+◌, ◌%◌, ◌++◌, ◌∙◌, sym, ap, map, arith, drop}
 use Rattle.hyper_rows.specs.Rows.{cells_of, at_places}
 use Rattle.hyper_rows.specs.Cells.{entry_of}
 use Rattle.hyper_rows.specs.Parts.{part_entries}
