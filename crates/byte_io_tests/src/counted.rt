@@ -5,6 +5,7 @@ use crate::scripts::read_all;
 use byte_io::{Counted, DeviceFault, Link, Sink, Source};
 use std::io;
 use std::io::{Error, ErrorKind, Read, Write};
+use std::process::Abort;
 use std::test::Fail;
 
 /// A reader and writer whose first call fails with an error of this kind. Later ones move nothing.
@@ -51,21 +52,30 @@ const KINDS: [ErrorKind; 6] = [
     ErrorKind::Other,
 ];
 
+// A read that fails, and one that gives nothing.
+fn expect_failed_read(rt: &impl Abort, kind: ErrorKind) {
+    let mut reader = Counted::new(FailsOnce { kind, calls: 0 });
+    assert_eq!(rt; reader.read(&mut [0u8; 4]), Err(DeviceFault));
+    assert_eq!(rt; Source::failures(&reader), 1);
+    assert_eq!(rt; reader.read(&mut [0u8; 4]), Ok(0));
+    assert_eq!(rt; reader.into_inner().calls, 2);
+}
+
+// A write that fails, and one that takes nothing.
+fn expect_failed_write(rt: &impl Abort, kind: ErrorKind) {
+    let mut writer = Counted::new(FailsOnce { kind, calls: 0 });
+    assert_eq!(rt; writer.write(b"ab"), Err(DeviceFault));
+    assert_eq!(rt; Sink::failures(&writer), 1);
+    assert_eq!(rt; writer.write(b"ab"), Ok(0));
+    assert_eq!(rt; writer.into_inner().calls, 2);
+}
+
 #[test]
-fn errors_are_failures(rt: HostRuntime) -> Result<(), Fail> {
+fn errors_are_failures(rt: HostRuntime) {
     for kind in KINDS {
-        let mut reader = Counted::new(FailsOnce { kind, calls: 0 });
-        assert_eq!(rt; reader.read(&mut [0u8; 4]), Err(DeviceFault));
-        assert_eq!(rt; Source::failures(&reader), 1);
-        assert_eq!(rt; reader.read(&mut [0u8; 4]), Ok(0));
-        assert_eq!(rt; reader.into_inner().calls, 2);
-        let mut writer = Counted::new(FailsOnce { kind, calls: 0 });
-        assert_eq!(rt; writer.write(b"ab"), Err(DeviceFault));
-        assert_eq!(rt; Sink::failures(&writer), 1);
-        assert_eq!(rt; writer.write(b"ab"), Ok(0));
-        assert_eq!(rt; writer.into_inner().calls, 2);
+        expect_failed_read(&rt, kind);
+        expect_failed_write(&rt, kind);
     }
-    Ok(())
 }
 
 #[test]

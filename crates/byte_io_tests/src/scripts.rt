@@ -3,6 +3,7 @@ ghost use Rattle.std.specs.Prelude.{◌≡◌, ℕ, ◌+◌, ◌<◌, ◌≤◌,
 
 use byte_io::{DeviceFault, Script, Sink, Source};
 use std::alloc::{AllocError, Global};
+use std::process::Abort;
 use std::test::Fail;
 
 /// The pieces of a text that is cut at each `/`.
@@ -14,69 +15,132 @@ fn cut(alloc: Global, text: &str) -> Result<Vec<Vec<u8>>, AllocError> {
     Ok(pieces)
 }
 
-/// What reads into `size` bytes give, one behind another with a `|` between, until one gives nothing or fails; then
-/// `!` if it failed.
+/// Appends bytes that were read, and a `|` behind them.
+fn push_bytes(all: &mut Vec<u8>, bytes: &[u8]) -> Result<(), AllocError> {
+    all.extend_from_slice(bytes)?;
+    all.push(b'|')?;
+    Ok(())
+}
+
+/// Appends what one read gave, and tells whether it is the last.
+fn push_read(
+    all: &mut Vec<u8>,
+    read: Result<usize, DeviceFault>,
+    buffer: &[u8],
+) -> Result<bool, AllocError>
+    requires { IfOk read (λ n. n ≤ length buffer.now) }
+{
+    match read {
+        Ok(0) => return Ok(true),
+        Ok(n) => push_bytes(all, &buffer[..n])?,
+        Err(_) => all.push(b'!')?,
+    }
+    Ok(false)
+}
+
+/// What reads into a buffer give, one behind another with a `|` between, until one gives nothing or fails; then `!` if
+/// it failed.
+fn append_reads<R: Source>(
+    all: &mut Vec<u8>,
+    r: &mut R,
+    buffer: &mut [u8],
+) -> Result<(), AllocError>
+    requires { R.failure_count r.old + 1 < 2 ^ 64 }
+{
+    for _ in 0..100u64 {
+        if r.failures() != 0 {
+            break;
+        }
+        let read = r.read(buffer);
+        if push_read(all, read, buffer)? {
+            break;
+        }
+    }
+    Ok(())
+}
+
+/// The same with a buffer of `size` bytes.
 pub fn read_all<R: Source>(alloc: Global, r: &mut R, size: usize) -> Result<Vec<u8>, AllocError>
     requires { R.failure_count r.old + 1 < 2 ^ 64 }
 {
     let mut buffer = vec![in alloc; 0u8; size]?;
     let mut all = Vec::new(alloc);
-    for _ in 0..100u64 {
-        if r.failures() != 0 {
-            break;
-        }
-        match r.read(buffer.as_mut_slice()) {
-            Ok(0) => break,
-            Ok(n) => {
-                all.extend_from_slice(&buffer.as_slice()[..n])?;
-                all.push(b'|')?;
-            }
-            Err(_) => all.push(b'!')?,
-        }
-    }
+    append_reads(&mut all, r, buffer.as_mut_slice())?;
     Ok(all)
+}
+
+/// Pieces, the size of the buffer, the read that fails, and what is read.
+type Row = (&'static str, usize, Option<u64>, &'static str);
+
+static ROWS: &[Row] = &[
+    ("", 4, None, ""),
+    ("/", 4, None, ""),
+    ("abc", 4, None, "abc|"),
+    ("abc", 2, None, "ab|c|"),
+    ("ab/c", 4, None, "ab|c|"),
+    ("/ab///c/", 4, None, "ab|c|"),
+    ("abcde/fg", 2, None, "ab|cd|e|fg|"),
+    ("ab/c", 0, None, ""),
+    ("ab/c", 4, Some(0), "!"),
+    ("ab/c", 4, Some(1), "ab|!"),
+    ("ab/c", 4, Some(2), "ab|c|!"),
+    ("ab/c", 4, Some(3), "ab|c|"),
+];
+
+fn reads_as(alloc: Global, row: &Row) -> Result<bool, AllocError> {
+    let pieces = cut(alloc, row.0)?;
+    let mut script = Script::new(alloc, pieces, row.2, None);
+    let got = read_all(alloc, &mut script, row.1)?;
+    Ok(got.as_slice() == row.3.as_bytes())
 }
 
 #[test]
 fn script_reads(rt: HostRuntime) -> Result<(), Fail> {
-    let rows = [
-        ("", 4, None, ""),
-        ("/", 4, None, ""),
-        ("abc", 4, None, "abc|"),
-        ("abc", 2, None, "ab|c|"),
-        ("ab/c", 4, None, "ab|c|"),
-        ("/ab///c/", 4, None, "ab|c|"),
-        ("abcde/fg", 2, None, "ab|cd|e|fg|"),
-        ("ab/c", 0, None, ""),
-        ("ab/c", 4, Some(0), "!"),
-        ("ab/c", 4, Some(1), "ab|!"),
-        ("ab/c", 4, Some(2), "ab|c|!"),
-        ("ab/c", 4, Some(3), "ab|c|"),
-    ];
-    for (pieces, size, fail_read, want) in rows {
-        let pieces = cut(rt.alloc(), pieces)?;
-        let mut script = Script::new(rt.alloc(), pieces, fail_read, None);
-        let got = read_all(rt.alloc(), &mut script, size)?;
-        assert!(rt; got.as_slice() == want.as_bytes(), "{want}");
+    for row in ROWS {
+        assert!(rt; reads_as(rt.alloc(), row)?, "{}", row.3);
     }
     Ok(())
 }
 
-#[test]
-fn script_fails_on(rt: HostRuntime) -> Result<(), Fail> {
-    let mut script = Script::new(rt.alloc(), cut(rt.alloc(), "abc")?, Some(1), Some(2));
+// Two bytes are read, and then none.
+fn read_and_fail(rt: &impl Abort, script: &mut Script)
+    requires { script.old.failures + 2 < 2 ^ 64 }
+    ensures { script.new.failures ≡ 2 }
+{
     let mut buffer = [0u8; 2];
     assert_eq!(rt; script.read(&mut buffer), Ok(2));
     assert_eq!(rt; &buffer, b"ab");
     assert_eq!(rt; script.read(&mut buffer), Err(DeviceFault));
     assert_eq!(rt; script.read(&mut buffer), Err(DeviceFault));
-    assert_eq!(rt; Source::failures(&script), 2);
-    assert_eq!(rt; script.write(b"x"), Ok(1));
+    assert_eq!(rt; Source::failures(script), 2);
+}
+
+// A byte is written, and a write of none takes none.
+fn write_one(rt: &impl Abort, script: &mut Script, bytes: &[u8])
+    requires { script.old.failures ≡ 2 }
+    ensures { script.new.failures ≡ 2 }
+{
+    assert_eq!(rt; script.write(bytes), Ok(1));
     assert_eq!(rt; script.write(b""), Ok(0));
-    assert_eq!(rt; script.write(b"yz"), Ok(1));
-    assert_eq!(rt; script.write(b""), Ok(0));
+    assert_eq!(rt; Sink::failures(script), 2);
+}
+
+// Two bytes are written, and then none.
+fn write_and_fail(rt: &impl Abort, script: &mut Script)
+    requires { script.old.failures ≡ 2 }
+{
+    write_one(rt, script, b"x");
+    write_one(rt, script, b"yz");
     assert_eq!(rt; script.write(b"z"), Err(DeviceFault));
-    assert_eq!(rt; Sink::failures(&script), 3);
+    assert_eq!(rt; Sink::failures(script), 3);
     assert_eq!(rt; script.written(), b"xy".as_slice());
+}
+
+#[test]
+fn script_fails_on(rt: HostRuntime) -> Result<(), Fail> {
+    let pieces = cut(rt.alloc(), "abc")?;
+    let mut script = Script::new(rt.alloc(), pieces, Some(1), Some(2));
+    read_and_fail(&rt, &mut script);
+    write_and_fail(&rt, &mut script);
     Ok(())
 }
