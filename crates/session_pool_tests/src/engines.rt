@@ -4,8 +4,8 @@ ghost use Rattle.locked_engine.specs.Opened.{NamesEngine};
 
 use batch_store::Setup;
 use byte_io::{Script, Source};
-use crossbeam_channel::bounded;
-use locked_engine::{Engine, Named, Names};
+use crossbeam_channel::{Receiver, Sender, bounded};
+use locked_engine::{Engine, Named, Names, Seat};
 use plain_engine::PlainEngine;
 use session_pool::{Disk, Gate, PoolFault, PoolReport, Saver, Session, run_pool};
 use std::alloc::Global;
@@ -38,8 +38,96 @@ pub fn unopened(
 /// back.
 pub type Outcome = (Result<PoolReport, PoolFault>, PlainEngine);
 
-// Opens an engine, serves sessions over these links, numbered in order, by a pool with the first `workers` of its
-// seats, and closes it.
+/// The engine of several threads that has these names, and its seats.
+pub fn opened<N: Named, H: Ledger>(
+    alloc: Global,
+    plain: PlainEngine,
+    names: Names,
+) -> Result<(Engine<N, H>, Vec<Seat<N, H>>), Fail>
+    requires named { NamesEngine names N.setup N.seats N.name N.parts H.name H.parts }
+    requires made_from { plain.setup ≡ names.setup }
+{
+    match Engine::<N, H>::open(alloc, plain, names) {
+        Ok(opened) => Ok(opened),
+        Err(_) => Err("open".into()),
+    }
+}
+
+/// The engine of one thread again, with all seats given back.
+pub fn closed<N: Named, H: Ledger, R>(
+    rt: &R,
+    alloc: Global,
+    engine: Engine<N, H>,
+    seats: Vec<Seat<N, H>>,
+) -> Result<PlainEngine, Fail> {
+    match engine.close(rt, alloc, seats) {
+        Ok(closed) => Ok(closed),
+        Err(_) => Err("close".into()),
+    }
+}
+
+// Sends a session over a link that hasn't failed.
+fn send_session<R: Wait>(
+    rt: &R,
+    sender: &Sender<Session<Script>, Global>,
+    number: u64,
+    link: Script,
+) -> Result<(), Fail> {
+    if link.failures() > 0 {
+        return Err("a link that has failed".into());
+    }
+    match sender.send(rt, Session::new(number, link)) {
+        Ok(()) => Ok(()),
+        Err(_) => Err("not sent".into()),
+    }
+}
+
+// Sends sessions over these links, numbered in order.
+fn send_all<R: Wait>(
+    rt: &R,
+    sender: &Sender<Session<Script>, Global>,
+    links: Vec<Script>,
+) -> Result<(), Fail> {
+    let mut number = 0u64;
+    for link in links {
+        send_session(rt, sender, number, link)?;
+        number = number.saturating_add(1);
+    }
+    Ok(())
+}
+
+// A closed channel with sessions over these links, numbered in order.
+fn queued<R: Wait>(
+    rt: &R,
+    alloc: Global,
+    links: Vec<Script>,
+) -> Result<Receiver<Session<Script>, Global>, Fail> {
+    let (sender, receiver) = bounded(alloc, links.len())?;
+    send_all(rt, &sender, links)?;
+    Ok(receiver)
+}
+
+// Serves sessions by a pool with the first `workers` of an engine's seats.
+fn served<
+    N: Named + Send + Sync,
+    H: Ledger + Send + Sync,
+    G: Gate<R> + Sync,
+    R: Threads + Wait + Disk + Sync,
+>(
+    rt: &R,
+    alloc: Global,
+    engine: &Engine<N, H>,
+    seats: &mut [Seat<N, H>],
+    workers: usize,
+    gate: &G,
+    saver: &Saver,
+    sessions: &Receiver<Session<Script>, Global>,
+) -> Result<Result<PoolReport, PoolFault>, Fail> {
+    let (serving, _) = seats.split_at_mut_checked(workers).ok_or("too few seats")?;
+    Ok(run_pool(rt, alloc, engine, serving, sessions, gate, saver))
+}
+
+// Opens an engine, serves sessions by a pool with the first `workers` of its seats, and closes it.
 fn pooled<
     N: Named + Send + Sync,
     H: Ledger + Send + Sync,
@@ -53,29 +141,16 @@ fn pooled<
     workers: usize,
     gate: &G,
     saver: &Saver,
-    links: Vec<Script>,
+    sessions: &Receiver<Session<Script>, Global>,
 ) -> Result<Outcome, Fail>
     requires named { NamesEngine names N.setup N.seats N.name N.parts H.name H.parts }
     requires made_from { plain.setup ≡ names.setup }
 {
-    let (engine, mut seats) = Engine::<N, H>::open(alloc, plain, names).map_err(|_| "open")?;
-    let (sender, receiver) = bounded(alloc, links.len())?;
-    let mut number = 0u64;
-    for link in links {
-        if link.failures() > 0 {
-            return Err("a link that has failed".into());
-        }
-        if sender.send(rt, Session::new(number, link)).is_err() {
-            return Err("not sent".into());
-        }
-        number = number.saturating_add(1);
-    }
-    drop(sender);
-    let Some((serving, _)) = seats.split_at_mut_checked(workers) else {
-        return Err("too few seats".into());
-    };
-    let report = run_pool(rt, alloc, &engine, serving, &receiver, gate, saver);
-    let closed = engine.close(rt, alloc, seats).map_err(|_| "close")?;
+    let (engine, mut seats) = opened::<N, H>(alloc, plain, names)?;
+    let report = served(
+        rt, alloc, &engine, &mut seats, workers, gate, saver, sessions,
+    )?;
+    let closed = closed(rt, alloc, engine, seats)?;
     Ok((report, closed))
 }
 
@@ -90,8 +165,26 @@ pub fn pool_over<G: Gate<R> + Sync, R: Threads + Wait + Disk + RandomSource + Sy
     saver: &Saver,
     links: Vec<Script>,
 ) -> Result<Outcome, Fail> {
+    let sessions = queued(rt, alloc, links)?;
     let (plain, names) = unopened(rt, alloc, seats)?;
-    pooled::<Brand, Brand, G, R>(rt, alloc, plain, names, workers, gate, saver, links)
+    pooled::<Brand, Brand, G, R>(rt, alloc, plain, names, workers, gate, saver, &sessions)
+}
+
+/// Serves sessions over these links by a pool with all of an engine's seats and without snapshots, and compares how many
+/// were served, and the number of batches that are accepted then and their total.
+pub fn expect_pool<G: Gate<R> + Sync, R: Threads + Wait + Disk + RandomSource + Abort + Sync>(
+    rt: &R,
+    alloc: Global,
+    workers: usize,
+    gate: &G,
+    links: Vec<Script>,
+    count: u64,
+    accepted: (u64, u64),
+) -> Result<(), Fail> {
+    let saver = Saver::new(None);
+    let outcome = pool_over(rt, alloc, workers, workers, gate, &saver, links)?;
+    expect_served(rt, &outcome, workers as u64, count, accepted);
+    Ok(())
 }
 
 /// A pool started so many workers, which served so many sessions, and the engine has accepted this many batches of this

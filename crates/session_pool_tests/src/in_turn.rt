@@ -2,7 +2,7 @@
 ghost use Rattle.std.specs.Prelude.{◌≡◌, ◌+◌, ◌<◌, ◌^◌};
 ghost use Rattle.locked_engine.specs.Opened.{NamesEngine};
 
-use crate::engines::{expect_status, unopened};
+use crate::engines::{closed, expect_status, opened, unopened};
 use crate::frames::{REPLIES, two_puts_and_a_cell};
 use crate::gates::end_after;
 use byte_io::Script;
@@ -147,9 +147,9 @@ fn opened_and_closed<N: Named, H: Ledger, R: Wait + Disk + Abort>(
     requires named { NamesEngine names N.setup N.seats N.name N.parts H.name H.parts }
     requires made_from { plain.setup ≡ names.setup }
 {
-    let (engine, mut seats) = Engine::<N, H>::open(alloc, plain, names).map_err(|_| "open")?;
+    let (engine, mut seats) = opened::<N, H>(alloc, plain, names)?;
     serve_again(rt, alloc, &engine, &mut seats, case)?;
-    let closed = engine.close(rt, alloc, seats).map_err(|_| "close")?;
+    let closed = closed(rt, alloc, engine, seats)?;
     expect_status(rt, &closed, WHOLE.accepted);
     Ok(())
 }
