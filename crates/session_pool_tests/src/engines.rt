@@ -107,6 +107,17 @@ fn queued<R: Wait>(
     Ok(receiver)
 }
 
+// The first of these seats.
+fn first_seats<N: Named, H: Ledger>(
+    seats: &mut [Seat<N, H>],
+    count: usize,
+) -> Result<&mut [Seat<N, H>], Fail> {
+    match seats.split_at_mut_checked(count) {
+        Some((first, _)) => Ok(first),
+        None => Err("too few seats".into()),
+    }
+}
+
 // Serves sessions by a pool with the first `workers` of an engine's seats.
 fn served<
     N: Named + Send + Sync,
@@ -123,7 +134,7 @@ fn served<
     saver: &Saver,
     sessions: &Receiver<Session<Script>, Global>,
 ) -> Result<Result<PoolReport, PoolFault>, Fail> {
-    let (serving, _) = seats.split_at_mut_checked(workers).ok_or("too few seats")?;
+    let serving = first_seats(seats, workers)?;
     Ok(run_pool(rt, alloc, engine, serving, sessions, gate, saver))
 }
 

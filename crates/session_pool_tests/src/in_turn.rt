@@ -6,6 +6,7 @@ use crate::engines::{closed, expect_status, opened, unopened};
 use crate::frames::{REPLIES, two_puts_and_a_cell};
 use crate::gates::end_after;
 use byte_io::Script;
+use byte_io_tests::pieces;
 use locked_engine::{Engine, Named, Names, Seat};
 use plain_engine::PlainEngine;
 use session_pool::{Disk, Saver, SeatKeeper};
@@ -70,24 +71,11 @@ fn failing_read(read: u64) -> Case {
     }
 }
 
-// A list of bytes in pieces of one.
-fn single_bytes(alloc: Global, bytes: &[u8]) -> Result<Vec<Vec<u8>>, AllocError> {
-    let mut pieces = Vec::new(alloc);
-    for byte in bytes {
-        let piece = vec![in alloc; *byte]?;
-        pieces.push(piece)?;
-    }
-    Ok(pieces)
-}
-
+// The frames in one piece, or in pieces of one byte.
 fn pieces_of(alloc: Global, by_byte: bool) -> Result<Vec<Vec<u8>>, AllocError> {
     let frames = two_puts_and_a_cell(alloc)?;
-    if by_byte {
-        return single_bytes(alloc, &frames);
-    }
-    let mut pieces = Vec::new(alloc);
-    pieces.push(frames)?;
-    Ok(pieces)
+    let size = if by_byte { 1 } else { frames.len() };
+    pieces(alloc, &frames, size)
 }
 
 // Serves a link by a seat.
