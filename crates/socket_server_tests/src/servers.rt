@@ -83,11 +83,17 @@ fn accepted(batches: u64, total: u64) -> Outcome {
     (true, Ok(Status { batches, total }))
 }
 
-#[test]
-fn batches_over_tcp_are_answered_and_saved(rt: HostRuntime) -> Result<(), Fail> {
-    let alloc = rt.alloc();
-    let path = "tcp_test.snapshot";
-    let settings = settings(alloc, Some(ANY_PORT), None, Some(path))?;
+// Whether puts, look-ups and a save over TCP are answered.
+fn is_put_and_saved<
+    R: Threads
+        + Wait
+        + Clock
+        + Disk
+        + Host
+        + RandomSource
+        + Net<Listener = TcpListener, Stream = TcpStream>
+        + Sync,
+>(rt: &R, alloc: Global, settings: Settings) -> bool {
     let turns = [
         (&put(7, b'5')[..], ACCEPTED_FIRST),
         (&put(8, b'3')[..], ACCEPTED_SECOND),
@@ -99,9 +105,15 @@ fn batches_over_tcp_are_answered_and_saved(rt: HostRuntime) -> Result<(), Fail> 
         (SAVE, SAVED_TWO),
         STOP,
     ];
-    let outcome = over_tcp(&rt, alloc, settings, &turns);
-    assert!(&rt; outcome == accepted(2, 8));
-    assert_eq!(&rt; saved_batches(&rt, alloc, path)?, 2);
+    over_tcp(rt, alloc, settings, &turns) == accepted(2, 8)
+}
+
+#[test]
+fn batches_over_tcp_are_answered_and_saved(rt: HostRuntime) -> Result<(), Fail> {
+    let path = "tcp_test.snapshot";
+    let settings = settings(rt.alloc(), Some(ANY_PORT), None, Some(path))?;
+    assert!(&rt; is_put_and_saved(&rt, rt.alloc(), settings));
+    assert_eq!(&rt; saved_batches(&rt, rt.alloc(), path)?, 2);
     fs::remove_file(&rt, path)?;
     Ok(())
 }
@@ -112,23 +124,37 @@ fn saved_batches(rt: &impl Files, alloc: Global, path: &str) -> Result<usize, Fa
     Ok(saved.batches.len())
 }
 
-#[test]
-fn a_saved_server_goes_on_over_a_unix_socket(rt: HostRuntime) -> Result<(), Fail> {
-    let alloc = rt.alloc();
-    fs::create_dir(&rt, "unix_test")?;
-    let path = "unix_test/socket";
-    let snapshot = "unix_test/snapshot";
-    let first = settings(alloc, None, Some(path), Some(snapshot))?;
+// Whether a first server over a Unix socket answers two puts and a save.
+fn is_put_first<
+    R: Threads
+        + Wait
+        + Clock
+        + Disk
+        + Host
+        + RandomSource
+        + Net<Listener = TcpListener, Stream = TcpStream>
+        + Sync,
+>(rt: &R, alloc: Global, settings: Settings) -> bool {
     let turns = [
         (&put(7, b'5')[..], ACCEPTED_FIRST),
         (&put(8, b'3')[..], ACCEPTED_SECOND),
         (SAVE, SAVED_TWO),
         STOP,
     ];
-    let outcome = over_unix(&rt, alloc, first, &turns);
-    assert!(&rt; outcome == accepted(2, 8));
-    assert!(&rt; !fs::exists(&rt, path)?);
-    let second = settings(alloc, None, Some(path), Some(snapshot))?;
+    over_unix(rt, alloc, settings, &turns) == accepted(2, 8)
+}
+
+// Whether a second one goes on from there.
+fn is_put_again<
+    R: Threads
+        + Wait
+        + Clock
+        + Disk
+        + Host
+        + RandomSource
+        + Net<Listener = TcpListener, Stream = TcpStream>
+        + Sync,
+>(rt: &R, alloc: Global, settings: Settings) -> bool {
     let turns = [
         (STATUS, COUNTS_TWO),
         (&put(7, b'5')[..], ACCEPTED_FIRST),
@@ -136,39 +162,76 @@ fn a_saved_server_goes_on_over_a_unix_socket(rt: HostRuntime) -> Result<(), Fail
         EXPORT,
         STOP,
     ];
-    let outcome = over_unix(&rt, alloc, second, &turns);
-    assert!(&rt; outcome == accepted(2, 8));
+    over_unix(rt, alloc, settings, &turns) == accepted(2, 8)
+}
+
+#[test]
+fn a_saved_server_goes_on_over_a_unix_socket(rt: HostRuntime) -> Result<(), Fail> {
+    let path = "unix_test/socket";
+    let snapshot = "unix_test/snapshot";
+    fs::create_dir(&rt, "unix_test")?;
+    let first = settings(rt.alloc(), None, Some(path), Some(snapshot))?;
+    assert!(&rt; is_put_first(&rt, rt.alloc(), first));
+    assert!(&rt; !fs::exists(&rt, path)?);
+    let second = settings(rt.alloc(), None, Some(path), Some(snapshot))?;
+    assert!(&rt; is_put_again(&rt, rt.alloc(), second));
     fs::remove_file(&rt, snapshot)?;
     fs::remove_dir(&rt, "unix_test")?;
     Ok(())
 }
 
+// Whether a server that has no place for snapshots says so.
+fn is_not_saved<
+    R: Threads
+        + Wait
+        + Clock
+        + Disk
+        + Host
+        + RandomSource
+        + Net<Listener = TcpListener, Stream = TcpStream>
+        + Sync,
+>(rt: &R, alloc: Global, settings: Settings) -> bool {
+    let turns = [(STATUS, COUNTS_NONE), (SAVE, SAVE_OFF)];
+    over_tcp(rt, alloc, settings, &turns) == accepted(0, 0)
+}
+
 #[test]
 fn the_last_session_ends_both_acceptors(rt: HostRuntime) -> Result<(), Fail> {
-    let alloc = rt.alloc();
     let path = "last_test.socket";
     let settings = Settings {
         sessions: 1,
-        ..settings(alloc, Some(ANY_PORT), Some(path), None)?
+        ..settings(rt.alloc(), Some(ANY_PORT), Some(path), None)?
     };
-    let turns = [(STATUS, COUNTS_NONE), (SAVE, SAVE_OFF)];
-    let outcome = over_tcp(&rt, alloc, settings, &turns);
-    assert!(&rt; outcome == accepted(0, 0));
+    assert!(&rt; is_not_saved(&rt, rt.alloc(), settings));
     assert!(&rt; !fs::exists(&rt, path)?);
     Ok(())
 }
 
-#[test]
-fn a_save_without_its_folder_fails(rt: HostRuntime) -> Result<(), Fail> {
-    let alloc = rt.alloc();
-    let settings = settings(alloc, Some(ANY_PORT), None, Some("no_such_folder/snapshot"))?;
+// Whether a save that fails is told, to the client and at the end.
+fn fails_to_save<
+    R: Threads
+        + Wait
+        + Clock
+        + Disk
+        + Host
+        + RandomSource
+        + Net<Listener = TcpListener, Stream = TcpStream>
+        + Sync,
+>(rt: &R, alloc: Global, settings: Settings) -> bool {
     let turns = [
         (&put(7, b'5')[..], ACCEPTED_FIRST),
         (SAVE, SAVE_FAILED),
         (STATUS, COUNTS_ONE),
         STOP,
     ];
-    let outcome = over_tcp(&rt, alloc, settings, &turns);
-    assert!(&rt; outcome == (true, Err(ServerFault::Save(SaveFault::Create))));
+    let fault = ServerFault::Save(SaveFault::Create);
+    over_tcp(rt, alloc, settings, &turns) == (true, Err(fault))
+}
+
+#[test]
+fn a_save_without_its_folder_fails(rt: HostRuntime) -> Result<(), Fail> {
+    let path = "no_such_folder/snapshot";
+    let settings = settings(rt.alloc(), Some(ANY_PORT), None, Some(path))?;
+    assert!(&rt; fails_to_save(&rt, rt.alloc(), settings));
     Ok(())
 }
