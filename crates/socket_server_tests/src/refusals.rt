@@ -119,15 +119,48 @@ fn runs_with<
     Ok(fault.is_none())
 }
 
+// Whether each of these numbers is refused.
+fn are_refused<
+    R: Threads
+        + Wait
+        + Clock
+        + Disk
+        + Host
+        + RandomSource
+        + Net<Listener = TcpListener, Stream = TcpStream>
+        + Sync,
+>(rt: &R, alloc: Global, list: &[u64]) -> Result<bool, Fail> {
+    for workers in list {
+        if !has_bad_workers(rt, alloc, *workers)? {
+            return Ok(false);
+        }
+    }
+    Ok(true)
+}
+
+// Whether each of these numbers is taken.
+fn are_taken<
+    R: Threads
+        + Wait
+        + Clock
+        + Disk
+        + Host
+        + RandomSource
+        + Net<Listener = TcpListener, Stream = TcpStream>
+        + Sync,
+>(rt: &R, alloc: Global, list: &[u64]) -> Result<bool, Fail> {
+    for workers in list {
+        if !lacks_address(rt, alloc, *workers)? || !runs_with(rt, alloc, *workers)? {
+            return Ok(false);
+        }
+    }
+    Ok(true)
+}
+
 #[test]
 fn there_are_one_to_32_workers(rt: HostRuntime) -> Result<(), Fail> {
-    for workers in [0, 33, u64::MAX] {
-        assert!(&rt; has_bad_workers(&rt, rt.alloc(), workers)?);
-    }
-    for workers in [1, 32] {
-        assert!(&rt; lacks_address(&rt, rt.alloc(), workers)?);
-        assert!(&rt; runs_with(&rt, rt.alloc(), workers)?);
-    }
+    assert!(&rt; are_refused(&rt, rt.alloc(), &[0, 33, u64::MAX])?);
+    assert!(&rt; are_taken(&rt, rt.alloc(), &[1, 32])?);
     Ok(())
 }
 
