@@ -167,6 +167,27 @@ struct Reader<N: Named, H: Ledger> {
     fits: bool,
 }
 
+// The total of the sum of all shards.
+fn exported_total<N: Named, H: Ledger, R: Wait>(
+    rt: &R,
+    alloc: Global,
+    engine: &Engine<N, H>,
+) -> Result<u64, AllocError> {
+    let sum = engine.export(rt, alloc)?;
+    Ok(sum.total())
+}
+
+// How many batches are listed.
+fn listed_count<N: Named, H: Ledger, R: Wait>(
+    rt: &R,
+    alloc: Global,
+    engine: &Engine<N, H>,
+    seat: &mut Seat<N, H>,
+) -> Result<u64, AllocError> {
+    let list = engine.batch_list(rt, alloc, seat)?;
+    Ok(list.len() as u64)
+}
+
 // Reads once: the sum of all shards, one of them, and then the status and the list.
 fn read_once<N: Named, H: Ledger, R: Wait>(
     rt: &R,
@@ -174,11 +195,11 @@ fn read_once<N: Named, H: Ledger, R: Wait>(
     engine: &Engine<N, H>,
     reader: &mut Reader<N, H>,
 ) -> Result<bool, AllocError> {
-    let exported = engine.export(rt, alloc)?.total();
+    let exported = exported_total(rt, alloc, engine)?;
     let s = reader.batches % engine.setup().shards();
     let held = engine.look(rt, s, |shard| (shard.number(), shard.total()));
     let status = engine.status(rt, &mut reader.seat);
-    let list = engine.batch_list(rt, alloc, &mut reader.seat)?;
+    let count = listed_count(rt, alloc, engine, &mut reader.seat)?;
     let grows = reader.total <= exported && reader.batches <= status.batches;
     let fits = match held {
         Some((number, total)) => number == s && total <= status.total,
@@ -191,7 +212,7 @@ fn read_once<N: Named, H: Ledger, R: Wait>(
             && fits
             && exported <= status.total
             && status.total <= LIMIT
-            && status.batches <= list.len() as u64,
+            && status.batches <= count,
     )
 }
 
@@ -258,13 +279,33 @@ fn add(counts: &mut Counts, place: (u64, u64), count: u64) -> Result<(), AllocEr
     Ok(())
 }
 
-// The cells that are drawn, each place once.
-fn summed(alloc: Global, draw: Draw) -> Result<Counts, AllocError> {
+// Adds cells up, each place once.
+fn added(alloc: Global, cells: &[(u64, u64, u64)]) -> Result<Counts, AllocError> {
     let mut counts = BTreeMap::new(alloc);
-    for (row, col, count) in &cells_for(alloc, draw)? {
+    for (row, col, count) in cells {
         add(&mut counts, (*row, *col), *count)?;
     }
     Ok(counts)
+}
+
+// The cells that are drawn, each place once.
+fn summed(alloc: Global, draw: Draw) -> Result<Counts, AllocError> {
+    let cells = cells_for(alloc, draw)?;
+    added(alloc, &cells)
+}
+
+// Adds counts to others.
+fn add_all(sum: &mut Counts, cells: &Counts) -> Result<(), AllocError> {
+    for (place, count) in cells {
+        add(sum, *place, *count)?;
+    }
+    Ok(())
+}
+
+// How many cells a drawn batch has, and their total.
+fn sizes_of(alloc: Global, draw: Draw) -> Result<(usize, u64), AllocError> {
+    let cells = summed(alloc, draw)?;
+    Ok((cells.len(), total_of(&cells)))
 }
 
 fn total_of(counts: &Counts) -> u64 {
@@ -329,18 +370,25 @@ struct Model {
     total: u64,
 }
 
+impl Accepted {
+    fn sizes(&self) -> (usize, u64) {
+        (self.cells.len(), self.total)
+    }
+}
+
 impl Model {
-    // Takes in a batch that was accepted next. False where its pair was accepted before.
-    fn take(&mut self, alloc: Global, draw: Draw) -> Result<bool, AllocError> {
-        let cells = summed(alloc, draw)?;
-        let total = total_of(&cells);
-        let new = self
-            .places
-            .insert((draw.client, draw.number), self.list.len())?
-            .is_none();
-        for (place, count) in &cells {
-            add(&mut self.sum, *place, *count)?;
+    fn new(alloc: Global) -> Model {
+        Model {
+            list: Vec::new(alloc),
+            places: BTreeMap::new(alloc),
+            sum: BTreeMap::new(alloc),
+            total: 0,
         }
+    }
+
+    // Puts a batch of these cells at the end of the list.
+    fn push(&mut self, draw: Draw, cells: Counts) -> Result<(), AllocError> {
+        let total = total_of(&cells);
         self.list.push(Accepted {
             draw,
             cells,
@@ -348,68 +396,83 @@ impl Model {
             before: self.total,
         })?;
         self.total = self.total.wrapping_add(total);
-        Ok(new)
+        Ok(())
+    }
+
+    // Takes in a batch that was accepted next. False where its pair was accepted before.
+    fn take(&mut self, alloc: Global, draw: Draw) -> Result<bool, AllocError> {
+        let place = self.list.len();
+        let before = self.places.insert((draw.client, draw.number), place)?;
+        let cells = summed(alloc, draw)?;
+        add_all(&mut self.sum, &cells)?;
+        self.push(draw, cells)?;
+        Ok(before.is_none())
+    }
+
+    // Takes in batches that were accepted one after another. False where one of them is none that was drawn, or a pair
+    // stands twice.
+    fn take_all(&mut self, alloc: Global, batches: &[Arc<Batch>]) -> Result<bool, AllocError> {
+        for b in batches {
+            let new = match drawn(alloc, b)? {
+                Some(draw) => self.take(alloc, draw)?,
+                None => false,
+            };
+            if !new {
+                return Ok(false);
+            }
+        }
+        Ok(true)
+    }
+
+    // The accepted batch of this pair.
+    fn found(&self, draw: Draw) -> Option<&Accepted> {
+        match self.places.get(&(draw.client, draw.number)) {
+            Some(place) => self.list.get(*place),
+            None => None,
+        }
     }
 
     // Whether the batch that was drawn stands at a place of the list, or one of as many cells and the same total, and
     // the totals up to there are these.
-    fn has(&self, cells: &Counts, draw: Draw, index: u64, after: u64) -> bool {
+    fn has(&self, sizes: (usize, u64), draw: Draw, index: u64, after: u64) -> bool {
         match self.list.get(index as usize) {
             Some(line) => {
                 (line.draw.client, line.draw.number) == (draw.client, draw.number)
-                    && line.cells.len() == cells.len()
-                    && line.total == total_of(cells)
+                    && line.sizes() == sizes
                     && line.before.wrapping_add(line.total) == after
             }
             None => false,
         }
     }
 
+    // Whether a pair stands for a batch of other sizes.
+    fn has_other(&self, sizes: (usize, u64), draw: Draw) -> bool {
+        match self.found(draw) {
+            Some(line) => line.sizes() != sizes,
+            None => false,
+        }
+    }
+
+    // Whether a batch of this total would pass the limit, and its own wasn't accepted by then.
+    fn is_over(&self, total: u64, draw: Draw, accepted: u64) -> bool {
+        let is_new = match self.found(draw) {
+            Some(line) => line.before >= accepted,
+            None => true,
+        };
+        is_new && accepted <= self.total && total > LIMIT.saturating_sub(accepted)
+    }
+
     // Whether a put may have been answered so, at some moment.
     fn allows(&self, alloc: Global, line: &Line) -> Result<bool, AllocError> {
         let draw = line.draw;
-        let cells = summed(alloc, draw)?;
-        let total = total_of(&cells);
-        let place = self.places.get(&(draw.client, draw.number)).copied();
-        let found = place.and_then(|place| self.list.get(place));
+        let sizes = sizes_of(alloc, draw)?;
         Ok(match line.answer {
-            Ok((index, after)) => self.has(&cells, draw, index, after),
-            Err(PutFault::NumberReused) => match found {
-                Some(line) => line.cells.len() != cells.len() || line.total != total,
-                None => false,
-            },
-            Err(PutFault::OverTotal { accepted }) => {
-                accepted <= self.total
-                    && total > LIMIT.saturating_sub(accepted)
-                    && match found {
-                        Some(line) => line.before >= accepted,
-                        None => true,
-                    }
-            }
+            Ok((index, after)) => self.has(sizes, draw, index, after),
+            Err(PutFault::NumberReused) => self.has_other(sizes, draw),
+            Err(PutFault::OverTotal { accepted }) => self.is_over(sizes.1, draw, accepted),
             Err(_) => false,
         })
     }
-}
-
-// The model of the batches of an engine. None where one of them is none that was drawn, or a pair stands twice.
-fn model_of(alloc: Global, batches: &[Arc<Batch>]) -> Result<Option<Model>, AllocError> {
-    let mut model = Model {
-        list: Vec::new(alloc),
-        places: BTreeMap::new(alloc),
-        sum: BTreeMap::new(alloc),
-        total: 0,
-    };
-    for b in batches {
-        match drawn(alloc, b)? {
-            Some(draw) => {
-                if !model.take(alloc, draw)? {
-                    return Ok(None);
-                }
-            }
-            None => return Ok(None),
-        }
-    }
-    Ok(Some(model))
 }
 
 // Whether a batch has a cell in shard s.
@@ -447,6 +510,44 @@ fn agree_on_shard(rt: &impl Abort, shard: &Shard, model: &Model, s: u64) {
     assert_eq!(rt; shard.total(), total_in(&model.sum, s));
 }
 
+// How many batches were answered to somebody.
+fn told_count(alloc: Global, lines: &[Line]) -> Result<usize, AllocError> {
+    let mut told = BTreeMap::new(alloc);
+    for line in lines {
+        if let Ok((index, _)) = line.answer {
+            told.insert(index, ())?;
+        }
+    }
+    Ok(told.len())
+}
+
+// How many puts were accepted, and how many would have passed the limit.
+fn answer_counts(lines: &[Line]) -> (usize, usize) {
+    let mut accepted = 0usize;
+    let mut refused = 0usize;
+    for line in lines {
+        match line.answer {
+            Ok(_) => accepted = accepted.wrapping_add(1),
+            Err(PutFault::OverTotal { accepted: _ }) => refused = refused.wrapping_add(1),
+            Err(_) => {}
+        }
+    }
+    (accepted, refused)
+}
+
+// Each answer is one that the model allows.
+fn expect_allowed(
+    rt: &impl Abort,
+    alloc: Global,
+    lines: &[Line],
+    model: &Model,
+) -> Result<(), AllocError> {
+    for line in lines {
+        assert!(rt; model.allows(alloc, line)?);
+    }
+    Ok(())
+}
+
 // Each answer is one that the model allows, and each accepted batch was answered to somebody. There were repeats, and
 // the limit was reached.
 fn agree_on_answers(
@@ -454,22 +555,10 @@ fn agree_on_answers(
     alloc: Global,
     lines: &[Line],
     model: &Model,
-) -> Result<(), Fail> {
-    let mut told = BTreeMap::new(alloc);
-    let mut accepted = 0usize;
-    let mut refused = 0usize;
-    for line in lines {
-        assert!(rt; model.allows(alloc, line)?);
-        match line.answer {
-            Ok((index, _)) => {
-                told.insert(index, ())?;
-                accepted = accepted.wrapping_add(1);
-            }
-            Err(PutFault::OverTotal { accepted: _ }) => refused = refused.wrapping_add(1),
-            Err(_) => {}
-        }
-    }
-    assert_eq!(rt; told.len(), model.list.len());
+) -> Result<(), AllocError> {
+    expect_allowed(rt, alloc, lines, model)?;
+    assert_eq!(rt; told_count(alloc, lines)?, model.list.len());
+    let (accepted, refused) = answer_counts(lines);
     assert!(rt; accepted > model.list.len() && refused > 0);
     Ok(())
 }
@@ -490,7 +579,7 @@ fn agree_on_sum(
     alloc: Global,
     closed: &PlainEngine,
     model: &Model,
-) -> Result<(), Fail> {
+) -> Result<(), AllocError> {
     let sum = closed.export(alloc)?;
     let has = has_counts(alloc, &sum, &model.sum)?;
     assert!(rt; has);
@@ -506,13 +595,35 @@ fn agree_on_shards(rt: &impl Abort, closed: &PlainEngine, model: &Model) -> Resu
 }
 
 // Compares all that an engine has with the model of its batches.
-fn agree(rt: &impl Abort, alloc: Global, closed: &PlainEngine, lines: &[Line]) -> Result<(), Fail> {
+fn agree_with(
+    rt: &impl Abort,
+    alloc: Global,
+    closed: &PlainEngine,
+    model: &Model,
+    lines: &[Line],
+) -> Result<(), Fail> {
+    agree_on_status(rt, closed, model);
+    agree_on_answers(rt, alloc, lines, model)?;
+    agree_on_sum(rt, alloc, closed, model)?;
+    agree_on_shards(rt, closed, model)
+}
+
+// Takes a model of an engine's batches. None of them is one that nobody put, and no pair stands twice.
+fn take_batches(
+    rt: &impl Abort,
+    alloc: Global,
+    closed: &PlainEngine,
+    model: &mut Model,
+) -> Result<(), AllocError> {
     let batches = closed.batches(alloc)?;
-    let model = model_of(alloc, &batches)?.ok_or("a batch that nobody put, or one twice")?;
-    agree_on_status(rt, closed, &model);
-    agree_on_answers(rt, alloc, lines, &model)?;
-    agree_on_sum(rt, alloc, closed, &model)?;
-    agree_on_shards(rt, closed, &model)
+    assert!(rt; model.take_all(alloc, &batches)?);
+    Ok(())
+}
+
+fn agree(rt: &impl Abort, alloc: Global, closed: &PlainEngine, lines: &[Line]) -> Result<(), Fail> {
+    let mut model = Model::new(alloc);
+    take_batches(rt, alloc, closed, &mut model)?;
+    agree_with(rt, alloc, closed, &model, lines)
 }
 
 #[test]
@@ -533,29 +644,50 @@ fn put_at_once<N: Named + Send + Sync, H: Ledger + Send + Sync, R: Threads + Wai
     requires made_from { plain.setup ≡ names.setup }
 {
     let (engine, seats) = opened::<N, H>(alloc, plain, names)?;
-    let (mut writers, mut readers) = seated(alloc, seats)?;
-    run(rt, alloc, &engine, &mut writers, &mut readers);
-    let mut seats = Vec::new(alloc);
-    let lines = leave_writers(rt, alloc, writers, &mut seats)?;
-    leave_readers(rt, readers, &mut seats)?;
+    let (seats, lines) = put_from_all(rt, alloc, &engine, seats)?;
     let closed = closed(rt, alloc, engine, seats)?;
     agree(rt, alloc, &closed, &lines)
+}
+
+// Puts and reads from these seats at once: the seats again, and what the puts were answered.
+fn put_from_all<N: Named + Send + Sync, H: Ledger + Send + Sync, R: Threads + Wait + Abort + Sync>(
+    rt: &R,
+    alloc: Global,
+    engine: &Engine<N, H>,
+    seats: Vec<Seat<N, H>>,
+) -> Result<(Vec<Seat<N, H>>, Vec<Line>), AllocError> {
+    let (mut writers, mut readers) = seated(alloc, seats)?;
+    run(rt, alloc, engine, &mut writers, &mut readers);
+    leave_all(rt, alloc, writers, readers)
+}
+
+// Takes back all seats, and what the writers were answered.
+fn leave_all<N: Named, H: Ledger>(
+    rt: &impl Abort,
+    alloc: Global,
+    writers: Vec<Writer<N, H>>,
+    readers: Vec<Reader<N, H>>,
+) -> Result<(Vec<Seat<N, H>>, Vec<Line>), AllocError> {
+    let mut seats = Vec::new(alloc);
+    let mut lines = Vec::new(alloc);
+    leave_writers(rt, writers, &mut seats, &mut lines)?;
+    leave_readers(rt, readers, &mut seats)?;
+    Ok((seats, lines))
 }
 
 // Takes back the seats of all writers, which have put all, and what they were answered.
 fn leave_writers<N: Named, H: Ledger>(
     rt: &impl Abort,
-    alloc: Global,
     writers: Vec<Writer<N, H>>,
     seats: &mut Vec<Seat<N, H>>,
-) -> Result<Vec<Line>, AllocError> {
-    let mut lines = Vec::new(alloc);
+    lines: &mut Vec<Line>,
+) -> Result<(), AllocError> {
     for writer in writers {
         assert!(rt; writer.ended);
-        seats.push(writer.seat)?;
         lines.extend_from_slice(&writer.lines)?;
+        seats.push(writer.seat)?;
     }
-    Ok(lines)
+    Ok(())
 }
 
 // Takes back the seats of all readers, which have found nothing that doesn't fit.
@@ -571,6 +703,38 @@ fn leave_readers<N: Named, H: Ledger>(
     Ok(())
 }
 
+fn writer_at<N: Named, H: Ledger>(alloc: Global, seat: Seat<N, H>) -> Writer<N, H> {
+    Writer {
+        seat,
+        lines: Vec::new(alloc),
+        ended: false,
+    }
+}
+
+fn reader_at<N: Named, H: Ledger>(seat: Seat<N, H>) -> Reader<N, H> {
+    Reader {
+        seat,
+        batches: 0,
+        total: 0,
+        fits: false,
+    }
+}
+
+// Seats a thread: a writer where there are too few of them, and a reader otherwise.
+fn seat_next<N: Named, H: Ledger>(
+    alloc: Global,
+    writers: &mut Vec<Writer<N, H>>,
+    readers: &mut Vec<Reader<N, H>>,
+    seat: Seat<N, H>,
+) -> Result<(), AllocError> {
+    if (writers.len() as u64) < WRITERS {
+        writers.push(writer_at(alloc, seat))?;
+    } else {
+        readers.push(reader_at(seat))?;
+    }
+    Ok(())
+}
+
 // Writers at the first seats, readers at the others.
 fn seated<N: Named, H: Ledger>(
     alloc: Global,
@@ -579,20 +743,7 @@ fn seated<N: Named, H: Ledger>(
     let mut writers = Vec::new(alloc);
     let mut readers = Vec::new(alloc);
     for seat in seats {
-        if (writers.len() as u64) < WRITERS {
-            writers.push(Writer {
-                seat,
-                lines: Vec::new(alloc),
-                ended: false,
-            })?;
-        } else {
-            readers.push(Reader {
-                seat,
-                batches: 0,
-                total: 0,
-                fits: false,
-            })?;
-        }
+        seat_next(alloc, &mut writers, &mut readers, seat)?;
     }
     Ok((writers, readers))
 }

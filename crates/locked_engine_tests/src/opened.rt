@@ -65,6 +65,24 @@ pub fn closed<N: Named, H: Ledger, R>(
     }
 }
 
+/// The first of these seats.
+pub fn first_seat<N: Named, H: Ledger>(seats: &mut [Seat<N, H>]) -> Result<&mut Seat<N, H>, Fail> {
+    match seats.first_mut() {
+        Some(seat) => Ok(seat),
+        None => Err("no seat".into()),
+    }
+}
+
+/// The first two of these seats.
+pub fn two_seats<N: Named, H: Ledger>(
+    seats: &mut [Seat<N, H>],
+) -> Result<(&mut Seat<N, H>, &mut Seat<N, H>), Fail> {
+    match seats {
+        [first, second, ..] => Ok((first, second)),
+        _ => Err("no two seats".into()),
+    }
+}
+
 fn answered<N: Named, H: Ledger, R: Wait>(
     rt: &R,
     alloc: Global,

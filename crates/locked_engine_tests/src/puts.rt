@@ -3,7 +3,7 @@ ghost use Rattle.std.specs.Prelude.{◌≡◌};
 ghost use Rattle.locked_engine.specs.Opened.{NamesEngine};
 
 use crate::expected::{expect_closed, expect_count, expect_status};
-use crate::opened::{Step, closed, opened, put_all, unopened};
+use crate::opened::{Step, closed, first_seat, opened, put_all, unopened};
 use batch_store::Setup;
 use locked_engine::PutFault::{BookFull, NumberReused, OverTotal};
 use locked_engine::{Engine, Named, Names, Seat};
@@ -111,10 +111,9 @@ fn put_steps<N: Named, H: Ledger, R: Wait + Abort>(
     seats: &mut [Seat<N, H>],
     case: &Case,
 ) -> Result<(), Fail> {
-    let seat = seats.first_mut().ok_or("no seat")?;
+    let seat = first_seat(seats)?;
     put_all(rt, alloc, engine, seat, case.steps)?;
-    let (batches, total) = case.accepted;
-    expect_status(rt, engine, seat, batches, total);
-    expect_count(rt, alloc, engine, seat, batches)?;
+    expect_status(rt, engine, seat, case.accepted.0, case.accepted.1);
+    expect_count(rt, alloc, engine, seat, case.accepted.0)?;
     Ok(())
 }

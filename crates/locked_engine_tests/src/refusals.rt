@@ -5,7 +5,7 @@ ghost use Rattle.locked_engine.specs.Opened.{NamesEngine};
 
 use crate::batches::{Cells, small_setup};
 use crate::expected::{expect_closed, expect_counts, expect_status, has_cells};
-use crate::opened::{Answer, closed, opened, put, unopened};
+use crate::opened::{Answer, closed, first_seat, opened, put, unopened};
 use locked_engine::{CloseFault, Engine, Named, Names, PutFault, Seat};
 use plain_engine::PlainEngine;
 use std::alloc::{AllocError, Global};
@@ -117,11 +117,22 @@ fn refused_and_again<N: Named, H: Ledger, R: Wait + Abort>(
     requires made_from { plain.setup ≡ names.setup }
 {
     let (engine, mut seats) = opened_at_last::<N, H>(alloc, plain, names)?;
-    let seat = seats.first_mut().ok_or("no seat")?;
-    put_twice(rt, alloc, &engine, seat)?;
-    read_at_last(rt, alloc, &engine, seat)?;
+    put_and_read(rt, alloc, &engine, &mut seats)?;
     let closed = closed_at_last(rt, alloc, engine, seats)?;
     expect_closed(rt, &closed, (1, 9), &[(0, 5, 1), (1, 4, 1)]);
+    Ok(())
+}
+
+// Puts and reads from the first seat.
+fn put_and_read<N: Named, H: Ledger, R: Wait + Abort>(
+    rt: &R,
+    alloc: Global,
+    engine: &Engine<N, H>,
+    seats: &mut [Seat<N, H>],
+) -> Result<(), Fail> {
+    let seat = first_seat(seats)?;
+    put_twice(rt, alloc, engine, seat)?;
+    read_at_last(rt, alloc, engine, seat)?;
     Ok(())
 }
 

@@ -3,13 +3,14 @@ ghost use Rattle.std.specs.Prelude.{◌≡◌};
 ghost use Rattle.locked_engine.specs.Opened.{NamesEngine};
 
 use crate::batches::small_setup;
-use crate::opened::{Answer, closed, opened, put, unopened};
+use crate::opened::{Answer, closed, opened, put, two_seats, unopened};
 use locked_engine::PutFault::OverTotal;
 use locked_engine::{CloseFault, Engine, Named, Names, OpenFault, Seat};
 use plain_engine::PlainEngine;
 use std::alloc::Global;
 use std::marker::Brand;
 use std::process::Abort;
+use std::random::RandomSource;
 use std::sync::Wait;
 use std::sync::ledger::Ledger;
 use std::test::Fail;
@@ -20,17 +21,34 @@ static BAD: &[usize] = &[0, 33, 64, usize::MAX];
 
 static GOOD: &[usize] = &[1, 2, 31, 32];
 
+// Why there are no names for so many seats.
+fn names_fault(
+    rt: &impl RandomSource,
+    alloc: Global,
+    plain: &PlainEngine,
+    seats: usize,
+) -> Option<OpenFault> {
+    Names::new(rt, alloc, plain, seats).err()
+}
+
+fn expect_faults<R: RandomSource + Abort>(
+    rt: &R,
+    alloc: Global,
+    plain: &PlainEngine,
+    list: &[usize],
+    fault: Option<OpenFault>,
+) {
+    for seats in list {
+        assert_eq!(rt; names_fault(rt, alloc, plain, *seats), fault);
+    }
+}
+
 #[test]
 fn there_are_1_to_32_seats(rt: HostRuntime) -> Result<(), Fail> {
-    let plain = PlainEngine::new(&rt, rt.alloc(), small_setup()?)?;
-    for seats in BAD {
-        let fault = Names::new(&rt, rt.alloc(), &plain, *seats).err();
-        assert_eq!(&rt; fault, Some(OpenFault::BadSeats));
-    }
-    for seats in GOOD {
-        let fault = Names::new(&rt, rt.alloc(), &plain, *seats).err();
-        assert_eq!(&rt; fault, None);
-    }
+    let setup = small_setup()?;
+    let plain = PlainEngine::new(&rt, rt.alloc(), setup)?;
+    expect_faults(&rt, rt.alloc(), &plain, BAD, Some(OpenFault::BadSeats));
+    expect_faults(&rt, rt.alloc(), &plain, GOOD, None);
     Ok(())
 }
 
@@ -68,10 +86,9 @@ fn put_from_both<N: Named + Send + Sync, H: Ledger + Send + Sync, R: Threads + W
     engine: &Engine<N, H>,
     seats: &mut [Seat<N, H>],
 ) -> Result<(), Fail> {
-    assert_eq!(rt; (engine.seat_count(), seats.len()), (2, 2));
-    let (first, others) = seats.split_first_mut().ok_or("no first seat")?;
-    let second = others.first_mut().ok_or("no second seat")?;
-    assert_eq!(rt; (first.number(), second.number()), (0, 1));
+    assert!(rt; engine.seat_count() == 2 && seats.len() == 2);
+    let (first, second) = two_seats(seats)?;
+    assert!(rt; first.number() == 0 && second.number() == 1);
     let (a, b) = put_at_once(rt, alloc, engine, first, second);
     expect_one_accepted(rt, a, b);
     Ok(())

@@ -4,7 +4,7 @@ ghost use Rattle.locked_engine.specs.Opened.{NamesEngine};
 
 use crate::batches::{Cells, small_setup};
 use crate::expected::{expect_batch, expect_counts, expect_export, expect_row, expect_status};
-use crate::opened::{Answer, closed, opened, put, put_all, unopened};
+use crate::opened::{Answer, closed, opened, put, put_all, two_seats, unopened};
 use batch_store::Batch;
 use locked_engine::{Engine, Named, Names, Seat};
 use plain_engine::PlainEngine;
@@ -141,6 +141,10 @@ fn put_by_both<N: Named + Send + Sync, H: Ledger + Send + Sync, R: Threads + Wai
     let (engine, mut seats) = opened::<N, H>(alloc, plain, names)?;
     put_and_read(rt, alloc, &engine, &mut seats)?;
     let closed = closed(rt, alloc, engine, seats)?;
+    expect_listed(rt, alloc, &closed)
+}
+
+fn expect_listed(rt: &impl Abort, alloc: Global, closed: &PlainEngine) -> Result<(), Fail> {
     let list = closed.batches(alloc)?;
     expect_both(rt, alloc, &list)
 }
@@ -151,8 +155,7 @@ fn put_and_read<N: Named + Send + Sync, H: Ledger + Send + Sync, R: Threads + Wa
     engine: &Engine<N, H>,
     seats: &mut [Seat<N, H>],
 ) -> Result<(), Fail> {
-    let (first, others) = seats.split_first_mut().ok_or("no first seat")?;
-    let second = others.first_mut().ok_or("no second seat")?;
+    let (first, second) = two_seats(seats)?;
     put_first(rt, alloc, engine, first)?;
     put_second(rt, alloc, engine, second);
     read_both(rt, alloc, engine, first)?;
