@@ -2,6 +2,7 @@ pub mod SumLaws
 pub mod WorldLaws
 pub mod LockedLaws
 pub mod StandLaws
+pub mod ViewLaws
 pub mod SameLaws
 pub mod PutLaws
 pub mod LookLaws

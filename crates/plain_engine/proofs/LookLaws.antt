@@ -1,21 +1,19 @@
--- What look-ups in one shard say of the whole, and what halves of the shards hold.
-use Rattle.std.proofs.Common.{◌≡◌, ℕ, zero, suc, ◌+◌, ◌<◌, ◌≤◌, ◌%◌, Bool, true, false, cond, eqb, List, [], ◌∷◌, ◌++◌}
-use Rattle.std.proofs.Common.{length, take, drop, get_or, Option, None, refl, sym, ◌∙◌, ap, subst, arith}
-use Rattle.std.specs.FinMap.{get, empty}
+-- What look-ups in one shard say of the whole, and lists of shards of one setup.
+use Rattle.std.proofs.Common.{◌≡◌, ℕ, zero, suc, ◌+◌, ◌<◌, ◌%◌, Bool, true, false, cond, eqb, List, [], ◌∷◌, ◌++◌}
+use Rattle.std.proofs.Common.{length, take, get_or, Option, None, refl, sym, ◌∙◌, ap, subst, arith}
+use Rattle.std.specs.FinMap.{get}
 use Rattle.std.proofs.lemmas.Bool.{eq-eqb}
 use Rattle.std.proofs.lemmas.Bool.Decides.{nat_tests}
-use Rattle.hyper_matrix.specs.Counts.{Place, Counts, ewise_add, part, in_part}
-use Rattle.hyper_matrix.specs.Matrix.{Matrix, matrix}
+use Rattle.hyper_matrix.specs.Counts.{Place, Counts, part, in_part}
 use Rattle.hyper_matrix.specs.RowOf.{row_of}
-use Rattle.hyper_matrix.proofs.CountLaws.{same_counts, get-part, ewise_add_assoc, ewise_add-empty}
+use Rattle.hyper_matrix.proofs.CountLaws.{same_counts, get-part}
 use Rattle.hyper_matrix.proofs.RowOfLaws.{get-row_of}
 use Rattle.layer_cascade.specs.Cascade.{content}
-use Rattle.layer_cascade.proofs.CascadeLaws.{empty-ewise_add}
 use Rattle.batch_store.specs.Setups.{Setting}
 use Rattle.batch_store.specs.Batches.{Submission}
 use Rattle.batch_store.specs.Shards.{Holding}
 use Rattle.plain_engine.specs.Object.{summed}
-use Rattle.plain_engine.specs.Standing.{StandsAt, Stand, HaveSetup, shards_total, shards_content}
+use Rattle.plain_engine.specs.Standing.{StandsAt, Stand, HaveSetup, shards_total}
 use Rattle.plain_engine.proofs.StandLaws.{holds_part}
 
 pub stands_here : (v : Setting) (list : List Submission) (i j : ℕ) (xs : List Holding) (x : Holding) →
@@ -65,12 +63,6 @@ have_take v zero (x ∷ xs) h = tt
 have_take v (suc n) [] h = tt
 have_take v (suc n) (x ∷ xs) h = (h.0, have_take v n xs h.1)
 
-pub have_drop : (v : Setting) (n : ℕ) (xs : List Holding) → HaveSetup v xs → HaveSetup v (drop n xs)
-have_drop v zero [] h = tt
-have_drop v zero (x ∷ xs) h = h
-have_drop v (suc n) [] h = tt
-have_drop v (suc n) (x ∷ xs) h = have_drop v n xs h.1
-
 pub have_push : (v : Setting) (xs : List Holding) (x : Holding) → HaveSetup v xs → x.setup ≡ v →
     HaveSetup v (xs ++ x ∷ [])
 have_push v [] x h is = (is, tt)
@@ -83,31 +75,6 @@ have_pop v (y ∷ ys) x h =
     let rest = have_pop v ys x h.1 in
     ((h.0, rest.0), rest.1)
 
-pub contents-append : (xs ys : List Holding) →
-    shards_content (xs ++ ys) ≡ ewise_add (shards_content xs) (shards_content ys)
-contents-append [] ys = sym (empty-ewise_add (shards_content ys))
-contents-append (x ∷ xs) ys = ap (ewise_add (content x.layers)) (contents-append xs ys)
-    ∙ sym (ewise_add_assoc (content x.layers) (shards_content xs) (shards_content ys))
-
 pub totals-append : (xs ys : List Holding) → shards_total (xs ++ ys) ≡ shards_total xs + shards_total ys
 totals-append [] ys = omega arith
 totals-append (x ∷ xs) ys = omega (arith, totals-append xs ys)
-
--- one shard alone
-pub held_alone : (v : Setting) (xs : List Holding) (x : Holding) → HaveSetup v xs → 1 ≤ length xs → length xs < 2 →
-    x ≡ get_or xs 0 x → matrix x.setup.rows x.setup.cols (content x.layers) ≡ matrix v.rows v.cols (shards_content xs)
-held_alone v [] x made some few is = absurd (omega arith)
-held_alone v (y ∷ z ∷ zs) x made some few is = absurd (omega arith)
-held_alone v (y ∷ []) x made some few is =
-    let setup : x.setup ≡ v = ap (λ (w : Holding). w.setup) is ∙ made.0 in
-    let held : content x.layers ≡ ewise_add (content y.layers) empty = ap (λ (w : Holding). content w.layers) is
-    ∙ sym (ewise_add-empty (content y.layers)) in
-    λ i. matrix (setup i).rows (setup i).cols (held i)
-
--- two halves together
-pub held_together : (v : Setting) (xs left right : List Holding) (sum rest : Matrix) → xs ≡ left ++ right →
-    sum ≡ matrix v.rows v.cols (shards_content left) → rest ≡ matrix v.rows v.cols (shards_content right)
-    → record sum { counts = ewise_add sum.counts rest.counts } ≡ matrix v.rows v.cols (shards_content xs)
-held_together v xs left right sum rest cut is other =
-    (λ i. matrix (is i).rows (is i).cols (ewise_add (is i).counts (other i).counts))
-    ∙ ap (matrix v.rows v.cols) (sym (contents-append left right) ∙ ap shards_content (sym cut))

@@ -9,7 +9,7 @@ ghost use Rattle.plain_engine.specs.Standing.{AreEmpty, Stand, StandsAt, KeepsEn
 ghost use Rattle.plain_engine.specs.Standing.{standing, bare, bare_shard};
 ghost use Rattle.batch_store.specs.Batches.{values};
 
-use crate::export::sum_of;
+use crate::export::{sum_of_views, views_of};
 use crate::fault::PutFault;
 use crate::put::put_fresh;
 use crate::status::Status;
@@ -147,9 +147,8 @@ impl PlainEngine {
     pub fn export(&self, alloc: Global) -> Result<Hyper, AllocError>
         ensures { IfOk result (λ m. m ≡ export_of self.now.setup self.now.book.list) }
     {
-        // The totals of all shards are within the limit, and the limit is below 2^64.
-        let _limit = self.setup.limit();
-        let sum = sum_of(&self.shards, alloc, &self.setup)?;
+        let views = views_of(&self.shards, alloc)?;
+        let sum = sum_of_views(&views, alloc, &self.setup)?;
         Ok(sum)
     }
 

@@ -1,39 +1,57 @@
-//! The sum of shards, added in pairs.
-ghost use Rattle.std.specs.Prelude.{◌≡◌, ◌<◌, ◌^◌, IfOk};
+//! The sum of what shards hold: a view of each, and the views added in pairs.
+ghost use Rattle.std.specs.Prelude.{◌≡◌, IfOk};
+ghost use Rattle.hyper_matrix.specs.Counts.{ewise_add};
 ghost use Rattle.hyper_matrix.specs.Matrix.{matrix};
-ghost use Rattle.layer_cascade.specs.Cascade.{content};
-ghost use Rattle.plain_engine.specs.Standing.{HaveSetup, shards_total, shards_content};
+ghost use Rattle.plain_engine.specs.Views.{Show, HaveSize, sights_content};
 
-use batch_store::{Setup, Shard};
+use batch_store::{Setup, Shard, ShardView};
 use hyper_matrix::Hyper;
 use std::alloc::{AllocError, Global};
 
-// What one shard holds.
-fn held_by(shard: &Shard, alloc: Global) -> Result<Hyper, AllocError>
-    ensures { IfOk result (λ m. m ≡ matrix shard.now.setup.rows shard.now.setup.cols (content shard.now.layers)) }
+/// A view of each of these shards, in order.
+pub fn views_of(shards: &[Shard], alloc: Global) -> Result<Vec<ShardView>, AllocError>
+    ensures { IfOk result (λ views. Show views.items shards.now) }
 {
-    let view = shard.view(alloc)?;
-    view.sum(alloc)
+    let mut views = Vec::with_capacity(alloc, shards.len())?;
+    'shards: for shard in shards {
+        views.push(shard.view(alloc)?)?;
+    }
+    Ok(views)
 }
 
-/// The sum of what these shards hold: that of the first half and that of the second, added. So a cell is written as
-/// often as the shards can be halved, and not once for each shard.
-pub fn sum_of(shards: &[Shard], alloc: Global, setup: &Setup) -> Result<Hyper, AllocError>
-    requires made { HaveSetup setup.now shards.now }
-    requires fits { shards_total shards.now < 2 ^ 64 }
-    ensures { IfOk result (λ m. m ≡ matrix setup.now.rows setup.now.cols (shards_content shards.now)) }
+// The sum of two matrices of the same dimensions.
+fn added(alloc: Global, a: Hyper, b: Hyper) -> Result<Hyper, AllocError>
+    requires rows { a.rows ≡ b.rows }
+    requires cols { a.cols ≡ b.cols }
+    ensures { IfOk result (λ sum. sum ≡ record a { counts = ewise_add a.counts b.counts }) }
 {
-    match shards {
+    if a.total().checked_add(b.total()).is_none() {
+        return Err(AllocError);
+    }
+    a.into_sum(alloc, b)
+}
+
+/// The sum of what views of shards show, in the setup's dimensions: that of the first half and that of the second,
+/// added. So a cell is written as often as the views can be halved, and not once for each view.
+///
+/// # Errors
+///
+/// A growth was refused, or the views' totals together pass 2^64 - 1.
+pub fn sum_of_views(views: &[ShardView], alloc: Global, setup: &Setup) -> Result<Hyper, AllocError>
+    requires { HaveSize setup.now.rows setup.now.cols views.now }
+    ensures { IfOk result (λ m. m ≡ matrix setup.now.rows setup.now.cols (sights_content views.now)) }
+{
+    match views {
         [] => Ok(Hyper::new(alloc, setup.rows(), setup.cols())),
-        [shard] => {
-            let held = held_by(shard, alloc)?;
-            Ok(held)
+        [view] => {
+            let seen = view.sum(alloc)?;
+            Ok(seen)
         }
         _ => {
-            let (left, right) = shards.split_at(shards.len() / 2);
-            let sum = sum_of(left, alloc, setup)?;
-            let rest = sum_of(right, alloc, setup)?;
-            let whole = sum.into_sum(alloc, rest)?;
+            let (left, right) = views.split_at(views.len() / 2);
+            let sum = sum_of_views(left, alloc, setup)?;
+            let rest = sum_of_views(right, alloc, setup)?;
+            let whole = added(alloc, sum, rest)?;
             Ok(whole)
         }
     }

@@ -1,16 +1,17 @@
 use Rattle.std.proofs.Common.{sym, subst}
 use Rattle.batch_store.specs.Setups.{Setting}
-use Rattle.locked_engine.specs.Moments.{HaveSize}
-use Rattle.locked_engine.proofs.MomentLaws.{show_size, sum_shown}
+use Rattle.plain_engine.specs.Views.{HaveSize}
+use Rattle.plain_engine.proofs.ViewLaws.{show_size, sum_shown}
+use Rattle.locked_engine.proofs.MomentLaws.{made_with}
 use Rattle.locked_engine.proofs.engine.Engine.export.Goals as goal
 
-pub sum_of-requires : goal.sum_of-requires
-sum_of-requires g c =
+pub sum_of_views-requires : goal.sum_of_views-requires
+sum_of_views-requires g c =
     let v = g.N.Named.setup in
     let seen = c.in_ok-views.ensures in
     let vs = c.in_ok-views.views.items in
     subst (λ (w : Setting). HaveSize w.rows w.cols c.deref.result.now) (sym c.self.invariant.0)
-    (subst (HaveSize v.rows v.cols) (sym c.deref.ensures.value) (show_size v 0 vs seen.0 seen.1 seen.3))
+    (subst (HaveSize v.rows v.cols) (sym c.deref.ensures.value) (show_size v vs seen.0 (made_with v 0 seen.0 seen.1) seen.3))
 
 pub returns : goal.returns
 returns g c =

@@ -1,18 +1,18 @@
 use Rattle.std.proofs.Common.{sym, ◌∙◌, subst, rules}
-use Rattle.locked_engine.specs.Moments.{HaveSize}
-use Rattle.locked_engine.proofs.MomentLaws.{size_take, size_drop, seen_alone, seen_together}
-use Rattle.locked_engine.proofs.export.+sum_of.Goals as goal
+use Rattle.plain_engine.specs.Views.{HaveSize}
+use Rattle.plain_engine.proofs.ViewLaws.{size_take, size_drop, seen_alone, seen_together}
+use Rattle.plain_engine.proofs.export.+sum_of_views.Goals as goal
 
-pub sum_of-requires : goal.sum_of-requires
-sum_of-requires t c =
+pub sum_of_views-requires : goal.sum_of_views-requires
+sum_of_views-requires t c =
     let v = c.args.setup.now in (
       search rules,
       subst (HaveSize v.rows v.cols) (sym c.split_at.ensures.front)
           (size_take v.rows v.cols _ c.args.views.now c.requires),
     )
 
-pub sum_of-requires-in_default : goal.sum_of-requires-in_default
-sum_of-requires-in_default t c =
+pub sum_of_views-requires-in_default : goal.sum_of_views-requires-in_default
+sum_of_views-requires-in_default t c =
     let v = c.args.setup.now in (
       search rules,
       subst (HaveSize v.rows v.cols) (sym c.split_at.ensures.back)

@@ -1,0 +1,91 @@
+-- Views of shards, and what they show together.
+use Rattle.std.proofs.Common.{◌≡◌, ℕ, zero, suc, ◌+◌, ◌<◌, ◌≤◌, List, [], ◌∷◌, ◌++◌, length, take, drop, get_or, refl}
+use Rattle.std.proofs.Common.{sym, ◌∙◌, ap, subst, arith}
+use Rattle.std.proofs.lemmas.List.{take_more}
+use Rattle.hyper_matrix.specs.Counts.{ewise_add}
+use Rattle.hyper_matrix.specs.Matrix.{Matrix, matrix}
+use Rattle.hyper_matrix.proofs.CountLaws.{ewise_add_assoc, ewise_add-empty}
+use Rattle.layer_cascade.specs.Cascade.{content}
+use Rattle.layer_cascade.proofs.CascadeLaws.{empty-ewise_add}
+use Rattle.batch_store.specs.Setups.{Setting}
+use Rattle.batch_store.specs.Shards.{Holding, Sight, layering_of}
+use Rattle.plain_engine.specs.Standing.{HaveSetup, shards_content}
+use Rattle.plain_engine.specs.Views.{Show, HaveSize, sights_content}
+
+pub show_push : (vs : List Sight) (xs : List Holding) (v : Sight) (x : Holding) → Show vs xs →
+    v.layers ≡ layering_of x → Show (vs ++ v ∷ []) (xs ++ x ∷ [])
+show_push [] [] v x h is = (is, tt)
+show_push [] (y ∷ ys) v x h is = absurd h
+show_push (w ∷ ws) [] v x h is = absurd h
+show_push (w ∷ ws) (y ∷ ys) v x h is = (h.0, show_push ws ys v x h.1 is)
+
+-- one shard more, and a view of it
+pub show_more : (vs ws : List Sight) (xs : List Holding) (i : ℕ) (v : Sight) (x : Holding) → i < length xs →
+    Show vs (take i xs) → ws ≡ vs ++ v ∷ [] → v.layers ≡ layering_of x → x ≡ get_or xs i x → Show ws (take (i + 1) xs)
+show_more vs ws xs i v x below shown pushed seen is =
+    subst (λ (us : List Sight). Show us (take (i + 1) xs)) (sym pushed)
+    (subst (Show (vs ++ v ∷ [])) (sym (take_more xs i x below))
+    (show_push vs (take i xs) v (get_or xs i x) shown (seen ∙ ap layering_of is)))
+
+-- views of shards of a setup have its dimensions
+pub show_size : (v : Setting) (vs : List Sight) (xs : List Holding) → HaveSetup v xs → Show vs xs →
+    HaveSize v.rows v.cols vs
+show_size v [] xs made h = tt
+show_size v (w ∷ ws) [] made h = absurd h
+show_size v (w ∷ ws) (x ∷ xs) made h = (
+  ap (λ l. l.rows) h.0 ∙ ap (λ (s : Setting). s.rows) made.0,
+  ap (λ l. l.cols) h.0 ∙ ap (λ (s : Setting). s.cols) made.0,
+  show_size v ws xs made.1 h.1,
+)
+
+-- they show what the shards hold
+pub show_content : (vs : List Sight) (xs : List Holding) → Show vs xs → sights_content vs ≡ shards_content xs
+show_content [] [] h = refl
+show_content [] (x ∷ xs) h = absurd h
+show_content (w ∷ ws) [] h = absurd h
+show_content (w ∷ ws) (x ∷ xs) h = λ i. ewise_add (content ((h.0 i).layers)) (show_content ws xs h.1 i)
+
+pub size_take : (r c n : ℕ) (vs : List Sight) → HaveSize r c vs → HaveSize r c (take n vs)
+size_take r c zero [] h = tt
+size_take r c zero (v ∷ vs) h = tt
+size_take r c (suc n) [] h = tt
+size_take r c (suc n) (v ∷ vs) h = (h.0, h.1, size_take r c n vs h.2)
+
+pub size_drop : (r c n : ℕ) (vs : List Sight) → HaveSize r c vs → HaveSize r c (drop n vs)
+size_drop r c zero [] h = tt
+size_drop r c zero (v ∷ vs) h = h
+size_drop r c (suc n) [] h = tt
+size_drop r c (suc n) (v ∷ vs) h = size_drop r c n vs h.2
+
+sights-append : (vs ws : List Sight) → sights_content (vs ++ ws) ≡ ewise_add (sights_content vs) (sights_content ws)
+sights-append [] ws = sym (empty-ewise_add (sights_content ws))
+sights-append (v ∷ vs) ws =
+    ap (ewise_add (content v.layers.layers)) (sights-append vs ws) ∙
+    sym (ewise_add_assoc (content v.layers.layers) (sights_content vs) (sights_content ws))
+
+-- one view alone
+pub seen_alone : (r c : ℕ) (vs : List Sight) (v : Sight) → HaveSize r c vs → 1 ≤ length vs → length vs < 2 →
+    v ≡ get_or vs 0 v → matrix v.layers.rows v.layers.cols (content v.layers.layers) ≡ matrix r c (sights_content vs)
+seen_alone r c [] v size some few is = absurd (omega arith)
+seen_alone r c (w ∷ x ∷ xs) v size some few is = absurd (omega arith)
+seen_alone r c (w ∷ []) v size some few is =
+    let rows : v.layers.rows ≡ r = ap (λ (s : Sight). s.layers.rows) is ∙ size.0 in
+    let cols : v.layers.cols ≡ c = ap (λ (s : Sight). s.layers.cols) is ∙ size.1 in
+    let seen : content v.layers.layers ≡ ewise_add (content w.layers.layers) (sights_content []) = ap
+    (λ (s : Sight). content s.layers.layers) is ∙ sym (ewise_add-empty (content w.layers.layers)) in
+    λ i. matrix (rows i) (cols i) (seen i)
+
+-- two halves together
+pub seen_together : (r c : ℕ) (vs left right : List Sight) (sum rest : Matrix) → vs ≡ left ++ right →
+    sum ≡ matrix r c (sights_content left) → rest ≡ matrix r c (sights_content right)
+    → record sum { counts = ewise_add sum.counts rest.counts } ≡ matrix r c (sights_content vs)
+seen_together r c vs left right sum rest cut is other =
+    (λ i. matrix (is i).rows (is i).cols (ewise_add (is i).counts (other i).counts))
+    ∙ ap (matrix r c) (sym (sights-append left right) ∙ ap sights_content (sym cut))
+
+-- the sum of views of shards is that of what the shards hold
+pub sum_shown : (v w : Setting) (vs ws : List Sight) (xs : List Holding) (sum : Matrix) →
+    sum ≡ matrix w.rows w.cols (sights_content ws) → w ≡ v → ws ≡ vs → Show vs xs →
+    sum ≡ matrix v.rows v.cols (shards_content xs)
+sum_shown v w vs ws xs sum is setup views shown = is ∙ (λ i. matrix (setup i).rows (setup i).cols
+    (sights_content (views i))) ∙ ap (matrix v.rows v.cols) (show_content vs xs shown)

@@ -1,5 +1,0 @@
-use Rattle.std.proofs.Common.{length}
-use Rattle.plain_engine.proofs.export.+sum_of.Given as goal
-
-abbrev pub decreases-sum_of : goal.decreases-sum_of
-decreases-sum_of l = length l.shards.now
