@@ -8,3 +8,4 @@ pub mod FirstLayerLemmas
 pub mod RunLemmas
 pub mod KeptRunLemmas
 pub mod StepLemmas
+pub mod PairLemmas

@@ -13,9 +13,10 @@ ghost use Rattle.layer_cascade.specs.Columns.{FirstColumn};
 ghost use Rattle.layer_cascade.specs.Steps.{joined, Takes};
 
 use crate::limits::{GATHERED_RUNS, MAX_RUNS};
+use crate::pairs::{due_pair, with_pair_added};
 use crate::runs::{
-    added_to_runs, column_in, count_in, entries_in, own_matrix, push_runs, row_counts_in,
-    sum_of_runs,
+    added_to_runs, column_in, count_in, entries_bound, entries_in, own_matrix, push_runs,
+    row_counts_in, sum_of_runs,
 };
 use hyper_matrix::Hyper;
 use std::alloc::{AllocError, Global};
@@ -236,6 +237,29 @@ impl Layer {
         let sum = self.sum(alloc)?;
         let layer = Layer::of(alloc, sum)?;
         Ok(Some(layer))
+    }
+
+    /// Whether two neighbouring runs are to be added up (`due_pair`).
+    pub fn has_due_pair(&self) -> bool {
+        due_pair(&self.runs).is_some()
+    }
+
+    /// The same layer with two neighbouring runs added up, where two are to be (`due_pair`). The others are shared.
+    pub fn paired(&self, alloc: Global) -> Result<Option<Layer>, AllocError>
+        ensures { IfOk result (λ paired. IfSome paired (λ layer. layer ≡ self.now)) }
+    {
+        let Some(place) = due_pair(&self.runs) else {
+            return Ok(None);
+        };
+        let runs = with_pair_added(&self.runs, place, alloc, self.rows, self.cols)?;
+        let most = entries_bound(&runs).min(self.most);
+        Ok(Some(Layer {
+            rows: self.rows,
+            cols: self.cols,
+            total: self.total,
+            most,
+            runs,
+        }))
     }
 
     /// Takes a matrix in, whatever it has: the last layer has no cut. More than `MAX_RUNS` runs are added up.

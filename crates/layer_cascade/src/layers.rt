@@ -10,7 +10,7 @@
 //! commit it is to exchange pointers. `Layers::add` makes both steps at once from layers that are given away, and
 //! copies nothing that nobody else has; it leaves one matrix in each layer. A look-up asks each matrix of each layer
 //! and puts the answers together; only `Layers::sum` and `Layers::into_sum` build the sum.
-ghost use Rattle.std.specs.Prelude.{◌≡◌, ℕ, ◌+◌, ◌<◌, ◌≤◌, ◌^◌, ◌⊎◌, ◌↔◌, IfOk, IfSome};
+ghost use Rattle.std.specs.Prelude.{◌≡◌, ℕ, ◌+◌, ◌<◌, ◌≤◌, ◌^◌, ◌⊎◌, ◌↔◌, IfOk, IfSome, length};
 ghost use Rattle.std.specs.FinMap.{get, len};
 ghost use Rattle.cells.specs.Bounds.{IsDimension, AreWithin};
 ghost use Rattle.cells.specs.Order.{Rise};
@@ -105,6 +105,18 @@ fn empty_layers(alloc: Global, rows: u64, cols: u64, cuts: &[u64]) -> Result<Lay
     })
 }
 
+// The place, counted from 0, of the first layer behind layer 1 in which two neighbouring matrices are to be added up.
+fn due_layer(layers: &[Arc<Layer>]) -> Option<usize>
+    ensures { IfSome result (λ place. place < length layers.now) }
+{
+    for place in 1..layers.len() {
+        if layers[place].has_due_pair() {
+            return Some(place);
+        }
+    }
+    None
+}
+
 impl Layers {
     /// Empty layers, one more than there are cuts, for matrices with these numbers of rows and columns, each from 1 to
     /// 2^60. The first cut is that of layer 1. Takes memory for the layers alone.
@@ -188,10 +200,12 @@ impl Layers {
         *self = plan.after;
     }
 
-    /// Adds up the matrices that stand side by side in layer 1, where they are `GATHERED_RUNS` or more, so that the
-    /// addition that needs their sum doesn't have all of them to add up. What the layers hold stays, also on an error.
+    /// Adds up matrices that stand side by side, so that the addition that needs their sum doesn't have all of them to
+    /// add up: in layer 1 all, where they are `GATHERED_RUNS` or more, and two neighbours in the first deeper layer that
+    /// has two of like size (`PAIR_RATIO`, `MOST_PAIRED`). What the layers hold stays, also on an error.
     ///
-    /// Takes the time and memory of that sum, of at most the first cut of entries where there is one.
+    /// Takes the time and memory of these sums: of at most the first cut of entries where there is one, and of at most
+    /// `MOST_PAIRED`.
     ///
     /// # Errors
     ///
@@ -199,8 +213,29 @@ impl Layers {
     pub fn gather(&mut self, alloc: Global) -> Result<(), AllocError>
         ensures { self.new ≡ self.old }
     {
+        self.gather_first(alloc)?;
+        self.gather_deeper(alloc)
+    }
+
+    // Adds up all matrices of layer 1, where they are `GATHERED_RUNS` or more.
+    fn gather_first(&mut self, alloc: Global) -> Result<(), AllocError>
+        ensures { self.new ≡ self.old }
+    {
         if let Some(layer) = self.layers[0].gathered(alloc)? {
             self.layers[0] = Arc::new(alloc, layer)?;
+        }
+        Ok(())
+    }
+
+    // Adds up two neighbouring matrices of the first deeper layer that has two to add up.
+    fn gather_deeper(&mut self, alloc: Global) -> Result<(), AllocError>
+        ensures { self.new ≡ self.old }
+    {
+        let Some(place) = due_layer(&self.layers) else {
+            return Ok(());
+        };
+        if let Some(layer) = self.layers[place].paired(alloc)? {
+            self.layers[place] = Arc::new(alloc, layer)?;
         }
         Ok(())
     }

@@ -19,6 +19,7 @@ mod layer;
 mod layers;
 mod limits;
 mod lookup;
+mod pairs;
 mod runs;
 mod view;
 

@@ -10,8 +10,16 @@ pub const MAX_CUT: u64 = 1 << 40;
 /// writes each of their cells four times at most, and those of the first once.
 pub const MAX_RUNS: usize = 16;
 
-/// The fewest matrices side by side that `Layers::gather` adds up.
+/// The fewest matrices side by side in layer 1 that `Layers::gather` adds up.
 pub const GATHERED_RUNS: usize = 8;
 
-/// The most cells of several matrices that are added up by a list of all. So many are sorted in a few passes.
+/// The most entries of two matrices together that `Layers::gather` adds up in a deeper layer: about 2 milliseconds. It
+/// is more than twice the cut of 65,536, so that two matrices that passed this cut are added up too.
+pub const MOST_PAIRED: u64 = 160_000;
+
+/// Two matrices side by side are added up where the earlier one has fewer entries than so many times the later one. So
+/// a cell is written anew with matrices that are not much smaller than its own, and a layer ends with few matrices.
+pub const PAIR_RATIO: u64 = 3;
+
+/// The most cells of more than two matrices that are added up by a list of all. So many are sorted in a few passes.
 pub const MOST_LISTED: u64 = 16_384;

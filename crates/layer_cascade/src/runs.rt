@@ -75,17 +75,27 @@ fn sum_of_cells(
     Ok(sum)
 }
 
-// Whether all runs together have so few cells that a list of them is sorted in a few passes.
-fn are_short(runs: &[Arc<Hyper>]) -> bool {
-    let mut entries = 0u64;
-    for run in runs {
-        entries = entries.saturating_add(run.entries());
+/// The entries of all runs together, up to 2^64 - 1. Those of their sum can't be more.
+pub fn entries_bound(runs: &[Arc<Hyper>]) -> u64
+    ensures { len (content (all_counts (values runs.now))) < 2 ^ 64 →
+        len (content (all_counts (values runs.now))) ≤ result }
+{
+    let mut bound = 0u64;
+    'bounds: for run in runs {
+        bound = bound.saturating_add(run.entries());
     }
-    entries <= MOST_LISTED
+    bound
+}
+
+// Whether there are several runs, which together have so few cells that a list of them is sorted in a few passes. Two
+// runs are merged in less time.
+fn are_listed(runs: &[Arc<Hyper>]) -> bool {
+    runs.len() > 2 && entries_bound(runs) <= MOST_LISTED
 }
 
 /// The sum of runs: that of the first half and that of the second, added. So a cell is written as often as the runs can
-/// be halved, and not once for each run. Runs that are short together are added up by a list of their cells.
+/// be halved, and not once for each run. More than two runs that are short together are added up by a list of their
+/// cells.
 pub fn sum_of_runs(
     runs: &[Arc<Hyper>],
     alloc: Global,
@@ -104,7 +114,7 @@ pub fn sum_of_runs(
             let only = run.copy(alloc)?;
             Ok(only)
         }
-        _ if are_short(runs) => {
+        _ if are_listed(runs) => {
             let listed = sum_of_cells(runs, alloc, rows, cols)?;
             Ok(listed)
         }

@@ -38,7 +38,7 @@ fn cells_of(alloc: Global, from: u64, to: u64) -> Result<Vec<Cell>, AllocError> 
 }
 
 /// The sum of these matrices.
-fn sum_of(alloc: Global, from: u64, to: u64) -> Result<Hyper, BuildFault> {
+pub fn sum_of(alloc: Global, from: u64, to: u64) -> Result<Hyper, BuildFault> {
     match cells_of(alloc, from, to) {
         Ok(cells) => Hyper::build(alloc, 9, 9, &cells),
         Err(_) => Err(BuildFault::Memory),
@@ -46,12 +46,12 @@ fn sum_of(alloc: Global, from: u64, to: u64) -> Result<Hyper, BuildFault> {
 }
 
 /// Matrix `i` of the stream.
-fn matrix(alloc: Global, i: u64) -> Result<Hyper, BuildFault> {
+pub fn matrix(alloc: Global, i: u64) -> Result<Hyper, BuildFault> {
     sum_of(alloc, i, i.wrapping_add(1))
 }
 
 /// Whether two matrices have the same cells.
-fn are_same(alloc: Global, a: &Hyper, b: &Hyper) -> Result<bool, AllocError> {
+pub fn are_same(alloc: Global, a: &Hyper, b: &Hyper) -> Result<bool, AllocError> {
     let cells = a.cells(alloc)?;
     let others = b.cells(alloc)?;
     Ok(cells.as_slice() == others.as_slice())
@@ -89,7 +89,7 @@ fn keeps_cuts(layers: &Layers) -> bool {
 }
 
 /// Whether layers with the first so many matrices of the stream hold what these build.
-fn holds_first(alloc: Global, layers: &Layers, matrices: u64) -> Result<bool, Fail> {
+pub fn holds_first(alloc: Global, layers: &Layers, matrices: u64) -> Result<bool, Fail> {
     let m = sum_of(alloc, 0, matrices)?;
     let same = sum_is(alloc, layers, &m)?;
     Ok(same && keeps_cuts(layers) && look_ups_agree(layers, &m))
@@ -126,7 +126,7 @@ fn layers_agree_with_one_matrix(rt: HostRuntime) -> Result<(), Fail> {
 }
 
 /// Whether the layers have the same number of entries, layer by layer.
-fn have_same_sizes(a: &Layers, b: &Layers) -> bool {
+pub fn have_same_sizes(a: &Layers, b: &Layers) -> bool {
     for i in 1..9usize {
         if a.layer_entries(i) != b.layer_entries(i) {
             return false;
@@ -182,7 +182,7 @@ fn check_shared(rt: &impl Abort, alloc: Global, cuts: &[u64]) -> Result<(), Fail
     Ok(())
 }
 
-fn into_sum_is(alloc: Global, layers: Layers, m: &Hyper) -> Result<bool, AllocError> {
+pub fn into_sum_is(alloc: Global, layers: Layers, m: &Hyper) -> Result<bool, AllocError> {
     let sum = layers.into_sum(alloc)?;
     are_same(alloc, &sum, m)
 }
