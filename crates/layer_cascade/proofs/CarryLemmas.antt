@@ -48,16 +48,16 @@ module _ {Z : Type 0} where
       told_next = ap (λ r. all_counts (values done) ++ cascade (all_counts (values r)) (drop (length done) cuts)
           sum.counts) (sym next) ∙ told
 
-      pub stopped : (pushed above final : List (Arc Matrix Z)) (made : Arc Matrix Z) → pushed ≡ done ++ made ∷ [] →
-          above ≡ behind → final ≡ pushed ++ above → arc_value made ≡ new → (length cuts ≤ length done)
+      -- the cascade ends here
+      pub ended : (final : List (Arc Matrix Z)) (made : Matrix) → values final ≡ values done ++ made ∷ values behind →
+          made.counts ≡ new.counts → (length cuts ≤ length done)
           ⊎ ((length done < length cuts) × (len new.counts ≤ get_or cuts (length done) 0)) →
           all_counts (values final) ≡ all
-      stopped pushed above final made push rest_is append made_is holds =
+      ended final made final_is made_is holds =
           let left = all_counts (values behind) in
-          ap (λ l. all_counts (values l)) (append ∙ ap (λ p. p ++ above) push ∙ append_assoc done (made ∷ []) above
-          ∙ ap (λ r. done ++ made ∷ r) rest_is)
-          ∙ counts_append done (made ∷ behind)
-          ∙ ap (λ (c : Counts). all_counts (values done) ++ c ∷ left) (ap (λ (m : Matrix). m.counts) made_is ∙ new_is)
+          ap all_counts final_is
+          ∙ map-append (λ (m : Matrix). m.counts) (values done) (made ∷ values behind)
+          ∙ ap (λ (c : Counts). all_counts (values done) ++ c ∷ left) (made_is ∙ new_is)
           ∙ ap (λ l. all_counts (values done) ++ l)
           (sym (stays (arc_value layer).counts left cuts sum.counts (length done)
           (subst (λ (c : Counts). (length cuts ≤ length done)
@@ -92,7 +92,8 @@ module _ {Z : Type 0} where
       (subst (HaveDims r c) (sym (map-append arc_value done (made ∷ [])))
       (dims-append r c (values done) (arc_value made ∷ []) dims (rows, cols, tt)))
 
-  pub dims_joined : (r c : ℕ) (a b all : List (Arc Matrix Z)) → all ≡ a ++ b → HaveDims r c (values a) →
-      HaveDims r c (values b) → HaveDims r c (values all)
-  dims_joined r c a b all is x y = subst (λ l. HaveDims r c (values l)) (sym is)
-      (subst (HaveDims r c) (sym (map-append arc_value a b)) (dims-append r c (values a) (values b) x y))
+  pub dims_ended : (r c : ℕ) (done behind final : List (Arc Matrix Z)) (made : Matrix) →
+      values final ≡ values done ++ made ∷ values behind → HaveDims r c (values done) → made.rows ≡ r → made.cols ≡ c →
+      HaveDims r c (values behind) → HaveDims r c (values final)
+  dims_ended r c done behind final made is dims rows cols left = subst (HaveDims r c) (sym is)
+      (dims-append r c (values done) (made ∷ values behind) dims (rows, cols, left))

@@ -13,8 +13,11 @@ ghost use Rattle.hyper_matrix.specs.Counts.{ewise_add, total};
 ghost use Rattle.hyper_matrix.specs.Matrix.{matrix};
 ghost use Rattle.layer_cascade.specs.Cascade.{content, cascade, with_first, EndsAt};
 ghost use Rattle.layer_cascade.specs.Shared.{values, all_counts, HaveDims};
+ghost use Rattle.layer_cascade.specs.Steps.{Takes};
 
 use crate::layer::{Layer, Step};
+use crate::limits::MOST_BESIDE;
+use crate::lists::with_list;
 use cells::Cell;
 use hyper_matrix::Hyper;
 use std::alloc::{AllocError, Global};
@@ -124,6 +127,36 @@ fn with_layer(alloc: Global, sum: Hyper, layer: Arc<Layer>) -> Result<Hyper, All
     Ok(sum)
 }
 
+// What an addition comes to at a layer that is given away. One that somebody else shares stays there as it was.
+fn own_step(alloc: Global, layer: Arc<Layer>, m: Hyper, cut: u64) -> Result<Step, AllocError>
+    requires rows { m.rows ≡ (arc_value layer).rows }
+    requires cols { m.cols ≡ (arc_value layer).cols }
+    requires fits { total m.counts + total (arc_value layer).counts < 2 ^ 64 }
+    ensures { IfOk result (λ step. Takes (arc_value layer) m cut step) }
+{
+    match Arc::try_unwrap(layer) {
+        Ok(layer) => layer.into_step(alloc, m, cut),
+        Err(shared) => shared.taking(alloc, m, cut),
+    }
+}
+
+// The layers that are done, the one where the cascade ends, and those above it, which are moved.
+fn ended(
+    alloc: Global,
+    done: Vec<Arc<Layer>>,
+    layer: Layer,
+    above: VecDeque<Arc<Layer>>,
+) -> Result<Vec<Arc<Layer>>, AllocError>
+    ensures { IfOk result (λ after. values after.items ≡ values done.items ++ layer ∷ values above.items) }
+{
+    let mut after = done;
+    let layer = Arc::new(alloc, layer)?;
+    after.push(layer)?;
+    let mut above = Vec::from(above);
+    after.append(&mut above)?;
+    Ok(after)
+}
+
 /// The layers once m was added to them, made from their own memory: the cascade goes from layer to layer, leaves each
 /// that can't hold the sum empty, and moves those above its end.
 pub fn cascaded(
@@ -145,14 +178,18 @@ pub fn cascaded(
     let mut rest = VecDeque::from(layers);
     let mut sum = m;
     'carry: while let Some(layer) = rest.pop_front() {
-        sum = with_layer(alloc, sum, layer)?;
-        if rest.is_empty() || sum.entries() <= cuts[after.len()] {
-            let layer = Layer::of(alloc, sum)?;
-            let layer = Arc::new(alloc, layer)?;
-            after.push(layer)?;
-            let mut above = Vec::from(rest);
-            after.append(&mut above)?;
-            return Ok(after);
+        if rest.is_empty() {
+            let sum = with_layer(alloc, sum, layer)?;
+            let last = Layer::of(alloc, sum)?;
+            let all = ended(alloc, after, last, rest)?;
+            return Ok(all);
+        }
+        match own_step(alloc, layer, sum, cuts[after.len()])? {
+            Step::Ends(layer) => {
+                let all = ended(alloc, after, layer, rest)?;
+                return Ok(all);
+            }
+            Step::Carries(carried) => sum = carried,
         }
         let none = Arc::try_clone(empty)?;
         after.push(none)?;
@@ -189,8 +226,8 @@ pub fn cascaded_cells(
     Ok(after)
 }
 
-/// The sum of all layers, each given away.
-pub fn sum_of_layers(
+// The sum of all layers, from the first to the last.
+fn sum_in_turn(
     alloc: Global,
     rows: u64,
     cols: u64,
@@ -207,5 +244,66 @@ pub fn sum_of_layers(
     'moved: while let Some(layer) = rest.pop_front() {
         sum = with_layer(alloc, sum, layer)?;
     }
+    Ok(sum)
+}
+
+// The cells of layers, one layer after the other.
+fn cells_of_layers(alloc: Global, layers: &[Arc<Layer>]) -> Result<Vec<Cell>, AllocError>
+    ensures sum { IfOk result (λ cells. built_of cells.items ≡ content (all_counts (values layers.now))) }
+    ensures within { (rows cols : ℕ) → HaveDims rows cols (values layers.now) →
+        IfOk result (λ cells. AreWithin rows cols cells.items) }
+{
+    let mut cells = Vec::new(alloc);
+    'layers: for layer in layers {
+        layer.push_cells(alloc, &mut cells)?;
+    }
+    Ok(cells)
+}
+
+// The cells of layers that are given away, whose memory is free then.
+fn into_cells(alloc: Global, layers: Vec<Arc<Layer>>) -> Result<Vec<Cell>, AllocError>
+    ensures sum { IfOk result (λ cells. built_of cells.items ≡ content (all_counts (values layers.items))) }
+    ensures within { (rows cols : ℕ) → HaveDims rows cols (values layers.items) →
+        IfOk result (λ cells. AreWithin rows cols cells.items) }
+{
+    let cells = cells_of_layers(alloc, &layers)?;
+    Ok(cells)
+}
+
+// Whether all layers together have few enough entries for one list of their cells.
+fn are_listed(layers: &[Arc<Layer>]) -> bool {
+    let mut most = 0u64;
+    for layer in layers {
+        most = most.saturating_add(layer.most_entries());
+    }
+    most <= MOST_BESIDE
+}
+
+/// The sum of all layers, each given away. The cells of all but the last are listed, where they aren't too many, and
+/// that list is added to the last.
+pub fn sum_of_layers(
+    alloc: Global,
+    rows: u64,
+    cols: u64,
+    layers: Vec<Arc<Layer>>,
+) -> Result<Hyper, AllocError>
+    requires rows { IsDimension rows }
+    requires cols { IsDimension cols }
+    requires dims { HaveDims rows cols (values layers.items) }
+    requires fits { total (content (all_counts (values layers.items))) < 2 ^ 64 }
+    ensures { IfOk result (λ m. m ≡ matrix rows cols (content (all_counts (values layers.items)))) }
+{
+    let mut layers = layers;
+    let Some(last) = layers.pop() else {
+        return Ok(Hyper::new(alloc, rows, cols));
+    };
+    let last = own_layer(alloc, last)?;
+    if !are_listed(&layers) {
+        let others = sum_in_turn(alloc, rows, cols, layers)?;
+        let sum = last.into_sum(alloc, others)?;
+        return Ok(sum);
+    }
+    let cells = into_cells(alloc, layers)?;
+    let sum = with_list(alloc, last, cells)?;
     Ok(sum)
 }

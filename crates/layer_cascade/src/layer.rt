@@ -3,21 +3,24 @@
 //! A small matrix that is added at once to a larger one is copied there with every block that it touches, and so is
 //! each one after it. Here it is put beside the others, which costs a pointer for each of them, as long as their
 //! entries together are no more than the cut: those of the sum can't be more. Then all are added up once.
-ghost use Rattle.std.specs.Prelude.{◌≡◌, ℕ, ◌+◌, ◌<◌, ◌≤◌, ◌^◌, ◌⊎◌, IfOk, IfSome};
+ghost use Rattle.std.specs.Prelude.{◌≡◌, ℕ, ◌+◌, ◌<◌, ◌≤◌, ◌^◌, ◌⊎◌, IfOk, OnOk, IfSome};
 ghost use Rattle.std.specs.FinMap.{empty, get, len};
-ghost use Rattle.cells.specs.Bounds.{IsDimension};
-ghost use Rattle.hyper_matrix.specs.Counts.{total};
+ghost use Rattle.cells.specs.Bounds.{IsDimension, AreWithin};
+ghost use Rattle.hyper_matrix.specs.Cells.{built_of};
+ghost use Rattle.hyper_matrix.specs.Counts.{ewise_add, total};
 ghost use Rattle.hyper_matrix.specs.Matrix.{matrix};
 ghost use Rattle.hyper_matrix.specs.RowOf.{row_of};
 ghost use Rattle.layer_cascade.specs.Columns.{FirstColumn};
 ghost use Rattle.layer_cascade.specs.Steps.{joined, Takes};
 
-use crate::limits::{GATHERED_RUNS, MAX_RUNS};
+use crate::limits::{GATHERED_RUNS, MAX_RUNS, MOST_BESIDE};
+use crate::lists::{push_cells_of, with_list};
 use crate::pairs::{due_pair, with_pair_added};
 use crate::runs::{
     added_to_runs, column_in, count_in, entries_bound, entries_in, own_matrix, push_runs,
     row_counts_in, sum_of_runs,
 };
+use cells::Cell;
 use hyper_matrix::Hyper;
 use std::alloc::{AllocError, Global};
 use std::marker::Model;
@@ -273,5 +276,88 @@ impl Layer {
             Step::Ends(layer) => Ok(layer),
             Step::Carries(sum) => Layer::of(alloc, sum),
         }
+    }
+}
+
+// What an addition does with a layer that is given away.
+impl Layer {
+    /// The entries of all runs together: those of their sum are no more. Constant time.
+    pub fn most_entries(&self) -> u64 {
+        self.most
+    }
+
+    /// Appends the cells of all runs, one run after the other.
+    pub fn push_cells(&self, alloc: Global, out: &mut Vec<Cell>) -> Result<(), AllocError>
+        ensures sum { OnOk result (built_of out.new.items ≡ ewise_add (built_of out.old.items) self.now.counts) }
+        ensures within { AreWithin self.now.rows self.now.cols out.old.items →
+            OnOk result (AreWithin self.now.rows self.now.cols out.new.items) }
+    {
+        push_cells_of(alloc, out, &self.runs)
+    }
+
+    // The cells of a matrix and of all runs.
+    fn into_cells(self, alloc: Global, m: Hyper) -> Result<Vec<Cell>, AllocError>
+        requires rows { m.rows ≡ self.rows }
+        requires cols { m.cols ≡ self.cols }
+        ensures sum { IfOk result (λ cells. built_of cells.items ≡ ewise_add m.counts self.counts) }
+        ensures within { IfOk result (λ cells. AreWithin m.rows m.cols cells.items) }
+    {
+        let mut cells = m.cells(alloc)?;
+        self.push_cells(alloc, &mut cells)?;
+        Ok(cells)
+    }
+
+    // The sum of a matrix and all runs, made from their own memory: by a list of all cells where there are several runs.
+    fn into_joined(self, alloc: Global, m: Hyper) -> Result<Hyper, AllocError>
+        requires rows { m.rows ≡ self.rows }
+        requires cols { m.cols ≡ self.cols }
+        requires fits { total m.counts + total self.counts < 2 ^ 64 }
+        ensures { IfOk result (λ sum. sum ≡ joined self m) }
+    {
+        if self.runs.len() < 2 {
+            let own = self.into_matrix(alloc)?;
+            let sum = m.into_sum(alloc, own)?;
+            return Ok(sum);
+        }
+        let none = Hyper::new(alloc, self.rows, self.cols);
+        let cells = self.into_cells(alloc, m)?;
+        let sum = with_list(alloc, none, cells)?;
+        Ok(sum)
+    }
+
+    // As `room`, where it is worth while to put the matrix beside the runs: their list stays short, and the first isn't
+    // much larger, as it is where places come again and the sum of all stays in the layer. Then counts are added where
+    // they stand.
+    fn room_beside(&self, m: &Hyper, cut: u64) -> Option<u64>
+        ensures { IfSome result (λ most. (len m.now.counts + len self.now.counts ≤ most) × (most ≤ cut)) }
+    {
+        let first = match self.runs.first() {
+            Some(run) => run.entries(),
+            None => 0,
+        };
+        if first / 3 > m.entries() / 2 {
+            return None;
+        }
+        self.room(m, cut.min(MOST_BESIDE))
+    }
+
+    /// Takes a matrix in, as `taking`, where the layer is given away. The matrix is put beside the runs only as long as
+    /// all together have at most `MOST_BESIDE` entries, and the first has at most one and a half times its own.
+    pub fn into_step(self, alloc: Global, m: Hyper, cut: u64) -> Result<Step, AllocError>
+        requires rows { m.rows ≡ self.rows }
+        requires cols { m.cols ≡ self.cols }
+        requires fits { total m.counts + total self.counts < 2 ^ 64 }
+        ensures { IfOk result (λ step. Takes self m cut step) }
+    {
+        if let Some(most) = self.room_beside(&m, cut) {
+            let layer = self.with_run(alloc, m, most)?;
+            return Ok(Step::Ends(layer));
+        }
+        let sum = self.into_joined(alloc, m)?;
+        if sum.entries() > cut {
+            return Ok(Step::Carries(sum));
+        }
+        let layer = Layer::of(alloc, sum)?;
+        Ok(Step::Ends(layer))
     }
 }

@@ -18,6 +18,7 @@ mod laws;
 mod layer;
 mod layers;
 mod limits;
+mod lists;
 mod lookup;
 mod pairs;
 mod runs;

@@ -23,3 +23,7 @@ pub const PAIR_RATIO: u64 = 3;
 
 /// The most cells of more than two matrices that are added up by a list of all. So many are sorted in a few passes.
 pub const MOST_LISTED: u64 = 16_384;
+
+/// The most entries that an addition to layers that are given away leaves side by side in a layer, and the most that are
+/// added up by one list at the end: the list and the memory of its sort are 48 bytes each, some 100 MB together.
+pub const MOST_BESIDE: u64 = 1 << 21;

@@ -1,58 +1,81 @@
-use Rattle.std.proofs.Common.{◌≡◌, [], ap, ◌∙◌, sym, subst, arith}
-use Rattle.std.specs.Arc.{arc_value}
-use Rattle.std.proofs.lemmas.List.{drop_all}
+use Rattle.std.proofs.Common.{ap, ◌∙◌, sym, subst, refl, arith}
+use Rattle.cells.specs.Bounds.{AreWithin}
 use Rattle.hyper_matrix.specs.Counts.{ewise_add, total}
-use Rattle.hyper_matrix.specs.Matrix.{Matrix, matrix}
-use Rattle.hyper_matrix.proofs.CountLaws.{ewise_add_assoc, ewise_add-empty, total-ewise_add}
+use Rattle.hyper_matrix.specs.Matrix.{matrix}
+use Rattle.hyper_matrix.proofs.BuiltOfLaws.{total-built_of}
 use Rattle.layer_cascade.specs.Cascade.{content}
-use Rattle.layer_cascade.specs.Shared.{values, all_counts, HaveDims}
-use Rattle.layer_cascade.proofs.CascadeLaws.{empty-ewise_add}
+use Rattle.layer_cascade.specs.Shared.{values, all_counts}
+use Rattle.layer_cascade.proofs.RunLemmas.{have_left, left_fits, last_rows, last_cols, both_fit, last_added}
 use Rattle.layer_cascade.proofs.addition.sum_of_layers.Goals as goal
 
-pub moved-init : goal.moved-init
-moved-init c = record {
-  told = ap (λ (m : Matrix). ewise_add m.counts (content (all_counts (values c.from-rest.result.items))))
-      c.new-sum.ensures ∙ empty-ewise_add (content (all_counts (values c.from-rest.result.items)))
-      ∙ ap (λ l. content (all_counts (values l))) c.from-rest.ensures.0;
-  rows = ap (λ (m : Matrix). m.rows) c.new-sum.ensures;
-  cols = ap (λ (m : Matrix). m.cols) c.new-sum.ensures;
-  left = subst (λ l. HaveDims c.args.rows c.args.cols (values l)) (sym c.from-rest.ensures.0) c.requires.dims;
-}
+pub sum_in_turn-requires-clause-dims : goal.sum_in_turn-requires-clause-dims
+sum_in_turn-requires-clause-dims c =
+    have_left c.args.layers.items c.pop.new.self.items c.pop.new.self.items c.in-Some.last c.in-Some.ensures.items refl
+    _ c.args.rows c.args.cols c.requires.dims c.requires.fits refl
 
-pub with_layer-requires-clause-fits : goal.with_layer-requires-clause-fits
-with_layer-requires-clause-fits c =
-    let behind = content (all_counts (values c.pop_front.new.self.items)) in
+pub sum_in_turn-requires-clause-fits : goal.sum_in_turn-requires-clause-fits
+sum_in_turn-requires-clause-fits c =
+    left_fits c.args.layers.items c.pop.new.self.items c.pop.new.self.items c.in-Some.last c.in-Some.ensures.items refl
+    _ c.args.rows c.args.cols c.requires.dims c.requires.fits refl
+
+pub into_sum-requires-clause-rows : goal.into_sum-requires-clause-rows
+into_sum-requires-clause-rows c =
+    last_rows c.args.layers.items c.pop.new.self.items c.pop.new.self.items c.in-Some.last c.in-Some.ensures.items refl
+    _ c.args.rows c.args.cols c.requires.dims c.requires.fits refl
+    c.in_ok-last.last c.in_ok-others.others c.in_ok-last.ensures c.in_ok-others.ensures
+
+pub into_sum-requires-clause-cols : goal.into_sum-requires-clause-cols
+into_sum-requires-clause-cols c =
+    last_cols c.args.layers.items c.pop.new.self.items c.pop.new.self.items c.in-Some.last c.in-Some.ensures.items refl
+    _ c.args.rows c.args.cols c.requires.dims c.requires.fits refl
+    c.in_ok-last.last c.in_ok-others.others c.in_ok-last.ensures c.in_ok-others.ensures
+
+pub into_sum-requires-clause-fits : goal.into_sum-requires-clause-fits
+into_sum-requires-clause-fits c =
+    both_fit c.args.layers.items c.pop.new.self.items c.pop.new.self.items c.in-Some.last c.in-Some.ensures.items refl
+    _ c.args.rows c.args.cols c.requires.dims c.requires.fits refl
+    c.in_ok-last.last c.in_ok-others.others c.in_ok-last.ensures c.in_ok-others.ensures
+
+pub returns-then-not-are_listed : goal.returns-then-not-are_listed
+returns-then-not-are_listed c =
+    last_added c.args.layers.items c.pop.new.self.items c.pop.new.self.items c.in-Some.last c.in-Some.ensures.items refl
+    _ c.args.rows c.args.cols c.requires.dims c.requires.fits refl
+    c.in_ok-last.last c.in_ok-others.others c.in_ok-last.ensures c.in_ok-others.ensures c.in_ok-sum.sum
+    c.in_ok-sum.ensures
+
+pub with_list-requires-clause-within : goal.with_list-requires-clause-within
+with_list-requires-clause-within c =
+    let others = matrix c.args.rows c.args.cols (content (all_counts (values c.pop.new.self.items))) in
+    subst (λ n. AreWithin n c.in_ok-last.last.cols c.in_ok-cells.cells.items)
+    (sym (last_rows c.args.layers.items c.pop.new.self.items c.pop.new.self.items c.in-Some.last
+    c.in-Some.ensures.items refl _ c.args.rows c.args.cols c.requires.dims c.requires.fits refl
+    c.in_ok-last.last others c.in_ok-last.ensures refl))
+    (subst (λ n. AreWithin c.args.rows n c.in_ok-cells.cells.items)
+    (sym (last_cols c.args.layers.items c.pop.new.self.items c.pop.new.self.items c.in-Some.last
+    c.in-Some.ensures.items refl _ c.args.rows c.args.cols c.requires.dims c.requires.fits refl
+    c.in_ok-last.last others c.in_ok-last.ensures refl))
+    (c.in_ok-cells.ensures.within c.args.rows c.args.cols
+    (have_left c.args.layers.items c.pop.new.self.items c.pop.new.self.items c.in-Some.last c.in-Some.ensures.items refl
+    _ c.args.rows c.args.cols c.requires.dims c.requires.fits refl)))
+
+pub with_list-requires-clause-fits : goal.with_list-requires-clause-fits
+with_list-requires-clause-fits c =
+    let others = matrix c.args.rows c.args.cols (content (all_counts (values c.pop.new.self.items))) in
     omega (
       arith,
-      c.requires.fits,
-      ap total c.moved.invariant.told,
-      total-ewise_add c.moved.sum.counts (content (all_counts (values c.moved.rest.items))),
-      ap (λ l. total (content (all_counts (values l)))) c.in-Some.ensures.items,
-      total-ewise_add (arc_value c.in-Some.layer).counts behind,
+      both_fit c.args.layers.items c.pop.new.self.items c.pop.new.self.items c.in-Some.last c.in-Some.ensures.items refl
+          _ c.args.rows c.args.cols c.requires.dims c.requires.fits refl
+          c.in_ok-last.last others c.in_ok-last.ensures refl,
+      ap total c.in_ok-cells.ensures.sum,
+      total-built_of c.in_ok-cells.cells.items,
     )
-
-pub moved-preserved : goal.moved-preserved
-moved-preserved c =
-    let behind = content (all_counts (values c.pop_front.new.self.items)) in
-    record {
-      told = ap (λ (m : Matrix). ewise_add m.counts behind) c.in_ok-sum.ensures
-          ∙ ewise_add_assoc c.moved.sum.counts (arc_value c.in-Some.layer).counts behind
-          ∙ ap (λ l. ewise_add c.moved.sum.counts (content (all_counts (values l)))) (sym c.in-Some.ensures.items)
-          ∙ c.moved.invariant.told;
-      rows = ap (λ (m : Matrix). m.rows) c.in_ok-sum.ensures ∙ c.moved.invariant.rows;
-      cols = ap (λ (m : Matrix). m.cols) c.in_ok-sum.ensures ∙ c.moved.invariant.cols;
-      left = (subst (λ l. HaveDims c.args.rows c.args.cols (values l)) c.in-Some.ensures.items
-          c.moved.invariant.left).2;
-    }
 
 pub returns : goal.returns
 returns c =
-    let none : c.moved.rest.items ≡ [] = drop_all 0 c.moved.rest.items
-    (omega (arith, c.in_default.ensures.cases.0, c.moved.rest.ok)) in
-    let all : c.moved.sum.counts ≡ content (all_counts (values c.args.layers.items)) =
-    sym (ewise_add-empty c.moved.sum.counts)
-    ∙ ap (λ l. ewise_add c.moved.sum.counts (content (all_counts (values l)))) (sym none)
-    ∙ c.moved.invariant.told in
-    ap (λ r. matrix r c.moved.sum.cols c.moved.sum.counts) c.moved.invariant.rows
-    ∙ ap (λ n. matrix c.args.rows n c.moved.sum.counts) c.moved.invariant.cols
-    ∙ ap (matrix c.args.rows c.args.cols) all
+    let others = matrix c.args.rows c.args.cols (content (all_counts (values c.pop.new.self.items))) in
+    last_added c.args.layers.items c.pop.new.self.items c.pop.new.self.items c.in-Some.last c.in-Some.ensures.items refl
+    _ c.args.rows c.args.cols c.requires.dims c.requires.fits refl
+    c.in_ok-last.last others c.in_ok-last.ensures refl c.in_ok-sum-2.sum
+    (c.in_ok-sum-2.ensures
+    ∙ ap (λ n. matrix c.in_ok-last.last.rows c.in_ok-last.last.cols (ewise_add c.in_ok-last.last.counts n))
+    c.in_ok-cells.ensures.sum)

@@ -2,7 +2,7 @@ use Rattle.std.proofs.Common.{◌≡◌, length}
 use Rattle.hyper_matrix.specs.Counts.{ewise_add}
 use Rattle.layer_cascade.specs.Cascade.{content}
 use Rattle.layer_cascade.specs.Shared.{values, all_counts, HaveDims}
-use Rattle.layer_cascade.proofs.addition.sum_of_layers.Given as goal
+use Rattle.layer_cascade.proofs.addition.sum_in_turn.Given as goal
 
 abbrev pub invariant-moved : goal.invariant-moved
 invariant-moved l = record {
