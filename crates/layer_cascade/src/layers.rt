@@ -7,9 +7,10 @@
 //! addition.
 //!
 //! Each layer is shared and never changed in place, so a plan takes over the layers that it leaves by a pointer, and to
-//! commit it is to exchange pointers. `Layers::add` makes both steps at once from layers that are given away, and
-//! copies nothing that nobody else has; it leaves one matrix in each layer. A look-up asks each matrix of each layer
-//! and puts the answers together; only `Layers::sum` and `Layers::into_sum` build the sum.
+//! commit it is to exchange pointers. `Layers::add` makes both steps at once from layers that are given away: what it
+//! adds up it takes from their memory, several matrices of a layer by one list of their cells, and the last layer it
+//! leaves one matrix. A look-up asks each matrix of each layer and puts the answers together; only `Layers::sum` and
+//! `Layers::into_sum` build the sum.
 ghost use Rattle.std.specs.Prelude.{◌≡◌, ℕ, ◌+◌, ◌<◌, ◌≤◌, ◌^◌, ◌⊎◌, ◌↔◌, IfOk, IfSome, length};
 ghost use Rattle.std.specs.FinMap.{get, len};
 ghost use Rattle.cells.specs.Bounds.{IsDimension, AreWithin};
@@ -243,8 +244,9 @@ impl Layers {
     /// The layers with `m` added, as `plan` and `commit` leave them, made from their own memory.
     ///
     /// Nothing is changed that somebody else shares: a layer, or a block of one. What nobody else has is moved, and
-    /// freed as the cascade goes on. Takes the time of the sums up to the layer where it ends, which for blocks that
-    /// meet no other is that of a pointer.
+    /// freed as the cascade goes on. Takes the time of the sums up to the layer where it ends, which is that of a pointer
+    /// where a matrix is put beside others, and for blocks that meet no other. Several matrices that stand side by side
+    /// are added up by a list of their cells, at most 2^21 of them and those of `m`: that takes 48 bytes for each.
     ///
     /// # Errors
     ///
@@ -306,7 +308,8 @@ impl Layers {
         })
     }
 
-    /// The sum of all layers, as `sum`, made from their own memory: the layers are gone.
+    /// The sum of all layers, as `sum`, made from their own memory: the layers are gone. Where all but the last have at
+    /// most 2^21 entries together, a list of their cells is added to the last, which takes 48 bytes for each of them.
     ///
     /// # Errors
     ///

@@ -25,5 +25,5 @@ pub const PAIR_RATIO: u64 = 3;
 pub const MOST_LISTED: u64 = 16_384;
 
 /// The most entries that an addition to layers that are given away leaves side by side in a layer, and the most that are
-/// added up by one list at the end: the list and the memory of its sort are 48 bytes each, some 100 MB together.
+/// added up by one list at the end. The list and the memory of its sort take 24 bytes each for an entry: some 100 MB.
 pub const MOST_BESIDE: u64 = 1 << 21;

@@ -37,13 +37,13 @@ returns-then-is_empty-clause-counts c =
     c.carry.invariant.told c.in_ok-all.all.items c.in_ok-last.last c.in_ok-all.ensures
     (ap (λ (m : Matrix). m.counts) c.in_ok-last.ensures)
     (inl
-        (omega (
-          arith,
-          c.carry.invariant.count,
-          ap length c.in-Some.ensures.items,
-          eqb-true _ _ (sym c.if-is_empty.ensures),
-          c.pop_front.new.self.ok,
-        )))
+    (omega (
+      arith,
+      c.carry.invariant.count,
+      ap length c.in-Some.ensures.items,
+      eqb-true _ _ (sym c.if-is_empty.ensures),
+      c.pop_front.new.self.ok,
+    )))
 
 pub returns-then-is_empty-clause-dims : goal.returns-then-is_empty-clause-dims
 returns-then-is_empty-clause-dims c =
