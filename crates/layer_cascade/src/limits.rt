@@ -7,15 +7,15 @@ pub const MAX_CUTS: usize = 7;
 pub const MAX_CUT: u64 = 1 << 40;
 
 /// The most matrices that a layer holds side by side. A look-up asks each, so there are few; a merge of so many at once
-/// writes each of their cells four times at most, and those of the first once.
+/// moves each of their cells four times at most.
 pub const MAX_RUNS: usize = 16;
 
 /// The fewest matrices side by side in layer 1 that `Layers::gather` adds up.
 pub const GATHERED_RUNS: usize = 8;
 
-/// The most entries of two matrices together that `Layers::gather` adds up in a deeper layer: about 2 milliseconds. It
-/// is more than twice the cut of 65,536, so that two matrices that passed this cut are added up too.
-pub const MOST_PAIRED: u64 = 160_000;
+/// The most entries of two matrices together that `Layers::gather` adds up in a deeper layer: about a millisecond, so
+/// that few puts take much longer than most.
+pub const MOST_PAIRED: u64 = 40_000;
 
 /// Two matrices side by side are added up where the earlier one has fewer entries than so many times the later one. So
 /// a cell is written anew with matrices that are not much smaller than its own, and a layer ends with few matrices.
@@ -25,5 +25,9 @@ pub const PAIR_RATIO: u64 = 3;
 pub const MOST_LISTED: u64 = 16_384;
 
 /// The most entries that an addition to layers that are given away leaves side by side in a layer, and the most that are
-/// added up by one list at the end. The list and the memory of its sort take 24 bytes each for an entry: some 100 MB.
+/// added up by one list of all. The list and the memory of its sort take 24 bytes each for an entry: some 100 MB.
 pub const MOST_BESIDE: u64 = 1 << 21;
+
+/// The first matrix of a layer is merged with the others in one list where it has at most so many times the entries of
+/// these. Where it has more, most of its blocks may be shared as they are.
+pub const FIRST_SHARE: u64 = 4;

@@ -13,7 +13,8 @@ ghost use Rattle.layer_cascade.specs.Columns.{FirstColumn};
 ghost use Rattle.layer_cascade.specs.Runs.{count_new};
 ghost use Rattle.layer_cascade.specs.Shared.{values, all_counts, HaveDims};
 
-use crate::limits::MOST_LISTED;
+use crate::limits::{FIRST_SHARE, MOST_BESIDE, MOST_LISTED};
+use crate::lists::with_list;
 use crate::lookup::{column_from, earlier, plus};
 use cells::{Cell, summed};
 use hyper_matrix::Hyper;
@@ -128,8 +129,17 @@ pub fn sum_of_runs(
     }
 }
 
-/// The sum of a matrix and runs. The first run is mostly the largest: all others are added up with the matrix, and the
-/// sum to that run, whose blocks it shares but for those that it touches.
+// Whether a run and those behind it are added up by one list of all their cells: there are many of them, and the first
+// run isn't so much larger than the others that most of its blocks may stay as they are.
+fn are_alike(first: &Hyper, rest: &[Arc<Hyper>]) -> bool {
+    let others = entries_bound(rest);
+    let all = first.entries().saturating_add(others);
+    MOST_LISTED < all && all <= MOST_BESIDE && first.entries() <= others.saturating_mul(FIRST_SHARE)
+}
+
+/// The sum of a matrix and runs. Where the first run is the largest by far, all others are added up with the matrix,
+/// and the sum to that run, whose blocks it shares but for those that it touches. Else one list of the cells of all
+/// runs is merged.
 pub fn added_to_runs(alloc: Global, m: Hyper, runs: &[Arc<Hyper>]) -> Result<Hyper, AllocError>
     requires dims { HaveDims m.rows m.cols (values runs.now) }
     requires fits { total m.counts + total (content (all_counts (values runs.now))) < 2 ^ 64 }
@@ -138,6 +148,11 @@ pub fn added_to_runs(alloc: Global, m: Hyper, runs: &[Arc<Hyper>]) -> Result<Hyp
     let Some((first, rest)) = runs.split_first() else {
         return Ok(m);
     };
+    if are_alike(first, rest) {
+        let cells = cells_of_runs(alloc, runs)?;
+        let merged = with_list(alloc, m, cells)?;
+        return Ok(merged);
+    }
     let (rows, cols) = m.dims();
     let others = sum_of_runs(rest, alloc, rows, cols)?;
     let others = m.into_sum(alloc, others)?;

@@ -1,5 +1,6 @@
 use Rattle.std.proofs.Common.{ap, ◌∙◌, arith}
-use Rattle.hyper_matrix.specs.Counts.{total}
+use Rattle.hyper_matrix.specs.Counts.{ewise_add, total}
+use Rattle.hyper_matrix.proofs.BuiltOfLaws.{total-built_of}
 use Rattle.hyper_matrix.proofs.CountLaws.{total-ewise_add}
 use Rattle.hyper_matrix.specs.Matrix.{Matrix, matrix}
 use Rattle.layer_cascade.specs.Cascade.{content}
@@ -9,6 +10,21 @@ use Rattle.layer_cascade.proofs.runs.added_to_runs.Goals as goal
 
 pub returns-in_default : goal.returns-in_default
 returns-in_default c = no_runs c.args.runs.now c.args.m (c.in_default.ensures.cases)
+
+pub with_list-requires-clause-within : goal.with_list-requires-clause-within
+with_list-requires-clause-within c = c.in_ok-cells.ensures.within c.args.m.rows c.args.m.cols c.requires.dims
+
+pub with_list-requires-clause-fits : goal.with_list-requires-clause-fits
+with_list-requires-clause-fits c = omega (
+  arith,
+  c.requires.fits,
+  ap total c.in_ok-cells.ensures.sum,
+  total-built_of c.in_ok-cells.cells.items,
+)
+
+pub returns-then-are_alike : goal.returns-then-are_alike
+returns-then-are_alike c = c.in_ok-merged.ensures
+    ∙ ap (λ (n : _). matrix c.args.m.rows c.args.m.cols (ewise_add c.args.m.counts n)) c.in_ok-cells.ensures.sum
 
 pub sum_of_runs-requires-clause-fits : goal.sum_of_runs-requires-clause-fits
 sum_of_runs-requires-clause-fits c = omega (
@@ -33,12 +49,12 @@ ewise_add-requires-clause-fits c = omega (
   ap (λ (m : Matrix). total m.counts) c.in_ok-others.ensures,
   ap (λ (m : Matrix). total m.counts) c.in_ok-others-2.ensures,
   total-ewise_add c.args.m.counts c.in_ok-others.others.counts,
-  ap (λ (m : Matrix). total m.counts) c.deref.ensures,
+  ap (λ (m : Matrix). total m.counts) c.deref-2.ensures,
 )
 
 pub returns : goal.returns
 returns c = first_added c.args.runs.now c.in-Some.rest.now c.in-Some.first.now c.in-Some.ensures.cases.0 c.args.m
-    c.in_ok-others.others c.in_ok-others-2.others c.in_ok-sum.sum c.deref.result.now
+    c.in_ok-others.others c.in_ok-others-2.others c.in_ok-sum.sum c.deref-2.result.now
     (c.in_ok-others.ensures ∙ ap (λ p. matrix p.0 p.1 (content (all_counts (values c.in-Some.rest.now))))
     c.dims-rows.ensures.value)
-    c.in_ok-others-2.ensures c.in_ok-sum.ensures c.deref.ensures
+    c.in_ok-others-2.ensures c.in_ok-sum.ensures c.deref-2.ensures
