@@ -1,6 +1,6 @@
 -- Where a block of a list in order ends, told by where it and the next block begin.
-use Rattle.std.proofs.Common.{◌≡◌, ℕ, ◌+◌, ◌<◌, Bool, true, false, T, List, [], ◌∷◌, ◌++◌, length, get_or, take, drop, sym}
-use Rattle.std.proofs.Common.{◌∙◌, subst, refl, arith}
+use Rattle.std.proofs.Common.{◌≡◌, ℕ, ◌+◌, ◌<◌, Bool, true, false, T, List, [], ◌∷◌, ◌++◌, length, get_or, take, drop}
+use Rattle.std.proofs.Common.{sym, ◌∙◌, subst, refl, arith}
 use Rattle.std.specs.FinMap.{is_sorted}
 use Rattle.hyper_rows.specs.Counts.{Place, place_cmp}
 use Rattle.hyper_rows.specs.Rows.{Rows, cells_of}

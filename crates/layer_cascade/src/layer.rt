@@ -307,7 +307,7 @@ impl Layer {
         Ok(cells)
     }
 
-    // The sum of a matrix and all runs, made from their own memory: by a list of all cells where there are several runs.
+    // The sum of a matrix and all runs, made from their own memory: by a list of all cells where there are several.
     fn into_joined(self, alloc: Global, m: Hyper) -> Result<Hyper, AllocError>
         requires rows { m.rows ≡ self.rows }
         requires cols { m.cols ≡ self.cols }

@@ -202,8 +202,8 @@ impl Layers {
     }
 
     /// Adds up matrices that stand side by side, so that the addition that needs their sum doesn't have all of them to
-    /// add up: in layer 1 all, where they are `GATHERED_RUNS` or more, and two neighbours in the first deeper layer that
-    /// has two of like size (`PAIR_RATIO`, `MOST_PAIRED`). What the layers hold stays, also on an error.
+    /// add up: in layer 1 all, where they are `GATHERED_RUNS` or more, and two neighbours in the first deeper layer
+    /// that has two of like size (`PAIR_RATIO`, `MOST_PAIRED`). What the layers hold stays, also on an error.
     ///
     /// Takes the time and memory of these sums: of at most the first cut of entries where there is one, and of at most
     /// `MOST_PAIRED`.
@@ -244,8 +244,8 @@ impl Layers {
     /// The layers with `m` added, as `plan` and `commit` leave them, made from their own memory.
     ///
     /// Nothing is changed that somebody else shares: a layer, or a block of one. What nobody else has is moved, and
-    /// freed as the cascade goes on. Takes the time of the sums up to the layer where it ends, which is that of a pointer
-    /// where a matrix is put beside others, and for blocks that meet no other. Several matrices that stand side by side
+    /// freed as the cascade goes on. Takes the time of the sums up to the layer where it ends, which is that of a
+    /// pointer where a matrix is put beside others, and for blocks that meet no other. Several matrices that stand side by side
     /// are added up by a list of their cells, at most 2^21 of them and those of `m`: that takes 48 bytes for each.
     ///
     /// # Errors

@@ -13,9 +13,9 @@ pub const MAX_RUNS: usize = 16;
 /// The fewest matrices side by side in layer 1 that `Layers::gather` adds up.
 pub const GATHERED_RUNS: usize = 8;
 
-/// The most entries of two matrices together that `Layers::gather` adds up in a deeper layer: about a millisecond, so
-/// that few puts take much longer than most.
-pub const MOST_PAIRED: u64 = 40_000;
+/// The most entries of two matrices together that `Layers::gather` adds up in a deeper layer: about two milliseconds, as
+/// for an addition that passes a cut of 65,536.
+pub const MOST_PAIRED: u64 = 66_000;
 
 /// Two matrices side by side are added up where the earlier one has fewer entries than so many times the later one. So
 /// a cell is written anew with matrices that are not much smaller than its own, and a layer ends with few matrices.
@@ -24,10 +24,6 @@ pub const PAIR_RATIO: u64 = 3;
 /// The most cells of more than two matrices that are added up by a list of all. So many are sorted in a few passes.
 pub const MOST_LISTED: u64 = 16_384;
 
-/// The most entries that an addition to layers that are given away leaves side by side in a layer, and the most that are
-/// added up by one list of all. The list and the memory of its sort take 24 bytes each for an entry: some 100 MB.
+/// The most entries that an addition to layers that are given away leaves side by side in a layer, and the most that
+/// are added up by one list of all. The list and the memory of its sort take 24 bytes each for an entry: some 100 MB.
 pub const MOST_BESIDE: u64 = 1 << 21;
-
-/// The first matrix of a layer is merged with the others in one list where it has at most so many times the entries of
-/// these. Where it has more, most of its blocks may be shared as they are.
-pub const FIRST_SHARE: u64 = 4;

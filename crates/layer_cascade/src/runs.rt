@@ -13,7 +13,7 @@ ghost use Rattle.layer_cascade.specs.Columns.{FirstColumn};
 ghost use Rattle.layer_cascade.specs.Runs.{count_new};
 ghost use Rattle.layer_cascade.specs.Shared.{values, all_counts, HaveDims};
 
-use crate::limits::{FIRST_SHARE, MOST_BESIDE, MOST_LISTED};
+use crate::limits::{MOST_BESIDE, MOST_LISTED};
 use crate::lists::with_list;
 use crate::lookup::{column_from, earlier, plus};
 use cells::{Cell, summed};
@@ -130,16 +130,16 @@ pub fn sum_of_runs(
 }
 
 // Whether a run and those behind it are added up by one list of all their cells: there are many of them, and the first
-// run isn't so much larger than the others that most of its blocks may stay as they are.
+// run has no more than the others together. Where it has more, it may share blocks with the sum.
 fn are_alike(first: &Hyper, rest: &[Arc<Hyper>]) -> bool {
     let others = entries_bound(rest);
     let all = first.entries().saturating_add(others);
-    MOST_LISTED < all && all <= MOST_BESIDE && first.entries() <= others.saturating_mul(FIRST_SHARE)
+    MOST_LISTED < all && all <= MOST_BESIDE && first.entries() <= others
 }
 
-/// The sum of a matrix and runs. Where the first run is the largest by far, all others are added up with the matrix,
-/// and the sum to that run, whose blocks it shares but for those that it touches. Else one list of the cells of all
-/// runs is merged.
+/// The sum of a matrix and runs. Where the first run is the larger part, all others are added up with the matrix, and
+/// the sum to that run, whose blocks it shares but for those that it touches. Else one list of the cells of all runs is
+/// merged.
 pub fn added_to_runs(alloc: Global, m: Hyper, runs: &[Arc<Hyper>]) -> Result<Hyper, AllocError>
     requires dims { HaveDims m.rows m.cols (values runs.now) }
     requires fits { total m.counts + total (content (all_counts (values runs.now))) < 2 ^ 64 }

@@ -181,8 +181,8 @@ pub fn pool_over<G: Gate<R> + Sync, R: Threads + Wait + Disk + RandomSource + Sy
     pooled::<Brand, Brand, G, R>(rt, alloc, plain, names, workers, gate, saver, &sessions)
 }
 
-/// Serves sessions over these links by a pool with all of an engine's seats and without snapshots, and compares how many
-/// were served, and the number of batches that are accepted then and their total.
+/// Serves sessions over these links by a pool with all of an engine's seats and without snapshots, and compares how
+/// many were served, and the number of batches that are accepted then and their total.
 pub fn expect_pool<G: Gate<R> + Sync, R: Threads + Wait + Disk + RandomSource + Abort + Sync>(
     rt: &R,
     alloc: Global,

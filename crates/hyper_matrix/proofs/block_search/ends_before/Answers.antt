@@ -12,7 +12,8 @@ pub returns-then-not-is_before-clause-test : goal.returns-then-not-is_before-cla
 returns-then-not-is_before-clause-test c =
     let here = block_read c.args.blocks.now c.args.k c.index-blocks-k.result _ c.requires.within refl
     c.index-blocks-k.is in
-    sym (begins_behind (rows_at c.args.blocks.now c.args.k) c.first.result c.args.place (full_read c.args.blocks.now c.args.k _ _ c.requires.within c.rows.ensures c.index-blocks-k.is
+    sym (begins_behind (rows_at c.args.blocks.now c.args.k) c.first.result c.args.place
+    (full_read c.args.blocks.now c.args.k _ _ c.requires.within c.rows.ensures c.index-blocks-k.is
     c.row_count-count.ensures.full)
     (full_block c.args.blocks.now c.args.k c.requires.rows c.requires.within)
     (block_sorted c.args.blocks.now c.args.k c.requires.sorted c.requires.within)
@@ -28,7 +29,8 @@ returns-then-not-is_before-2-clause-test c =
     let next = block_read c.args.blocks.now (c.args.k + 1) c.index-blocks-k-then-k-blocks.result _ (omega arith) refl
     c.index-blocks-k-then-k-blocks.is in
     sym (next_begins c.args.blocks.now c.args.k c.first-then-k-blocks.result c.args.place c.requires.sorted
-    c.requires.rows (omega arith) (full_read c.args.blocks.now c.args.k _ _ c.requires.within c.rows.ensures c.index-blocks-k.is
+    c.requires.rows (omega arith)
+    (full_read c.args.blocks.now c.args.k _ _ c.requires.within c.rows.ensures c.index-blocks-k.is
     c.row_count-count.ensures.full)
     (subst (λ (r : Rows). IsFirst c.first-then-k-blocks.result (cells_of r)) next c.first-then-k-blocks.ensures)
     (sym c.is_before-then-k-blocks.ensures ∙ c.if-not-is_before-2.true))
