@@ -19,7 +19,7 @@ use Rattle.hyper_rows.proofs.CountLaws.{ewise_add_assoc, built-append, total-ewi
 use Rattle.hyper_rows.proofs.CountLaws.{total-built, total-ewise_add}
 use Rattle.hyper_rows.proofs.CellLaws.{counts_of-sum_rows, in_order-sum_rows, sorted_rows, sum_of_cells}
 use Rattle.hyper_rows.proofs.CellLaws.{total-counts_of}
-use Rattle.hyper_rows.proofs.BuiltOfLaws.{counts_of-built, total-built_of}
+use Rattle.hyper_rows.proofs.BuiltOfLaws.{counts_of-built, entries_total}
 use Rattle.hyper_rows.proofs.MergeLaws.{split_at, merged-nil, merged_less, merged_greater, merged_same}
 use Rattle.hyper_rows.proofs.PlaceOrderLaws.{all_map, precedes, before_first, before_begin, below_first, columns_rise}
 use Rattle.hyper_rows.proofs.PlaceOrderLaws.{next_left, next_right, next_sum, sorted_back}
@@ -142,7 +142,7 @@ sum_step old rest block cells j e out new is g front other stand_left stand_righ
 
 -- the rows of a block's sum with cells were added behind
 pub grows_sum : (old new : List Rows) (block added sum : Rows) (cells : List Cell) → IsBlock block →
-    T (is_sorted place_cmp (cells_of block)) → InOrder added → built (cells_of added) ≡ built_of cells →
+    T (is_sorted place_cmp (cells_of block)) → InOrder added → cells_of added ≡ map entry_of cells →
     sum ≡ sum_rows block added → Grows old new (cells_of sum) → GrowsBySum old new (cells_of block) (map entry_of cells)
 grows_sum old new block added sum cells b sorted order told is grows =
     let first = in_block block b sorted in
@@ -153,7 +153,7 @@ grows_sum old new block added sum cells b sorted order told is grows =
       sorted = sorted_rows sum all.numbers all.columns;
       sums = sym (counts_of-built sum all) ∙ ap counts_of is ∙ counts_of-sum_rows block added first order
           ∙ ap (λ (m : Counts). ewise_add m (counts_of added)) (counts_of-built block first) ∙
-          ap (ewise_add (built (cells_of block))) (counts_of-built added order ∙ told);
+          ap (ewise_add (built (cells_of block))) (counts_of-built added order ∙ ap built told);
     }
 
 -- a block alone
@@ -202,10 +202,9 @@ module _ (block added : Rows) (cells : List Cell) (n : ℕ) (adds : AddsFirst bl
   }
 
 -- the totals of a block and of the rows of cells
-pub added_total : (added : Rows) (cells : List Cell) → built (cells_of added) ≡ built_of cells →
+pub added_total : (added : Rows) (cells : List Cell) → cells_of added ≡ map entry_of cells →
     rows_total added ≡ cell_total cells
-added_total added cells told = sym (sum_of_cells added) ∙ sym (total-built (cells_of added)) ∙ ap total told ∙
-    total-built_of cells
+added_total added cells told = sym (sum_of_cells added) ∙ ap count_sum told ∙ entries_total cells
 
 -- a part of cells has no more than the whole
 pub part_total : (cells : List Cell) (j e : ℕ) → j ≤ e → cell_total (slice_range cells j e) ≤ cell_total cells

@@ -2,10 +2,10 @@
 //!
 //! A block may end inside a row, and the next one begin with the rest under the same number. So a row of ten million
 //! columns takes as many blocks as ten million rows. Each cell is written once.
-ghost use Rattle.std.specs.Prelude.{◌≡◌, ℕ, ◌+◌, ◌-◌, ◌<◌, ◌≤◌, ◌^◌, ◌++◌, T, OnOk, length, map, drop};
+ghost use Rattle.std.specs.Prelude.{◌≡◌, ℕ, ◌+◌, ◌-◌, ◌<◌, ◌≤◌, ◌++◌, T, OnOk, length, map, drop};
 ghost use Rattle.std.specs.FinMap.{is_sorted};
 ghost use Rattle.hyper_rows.specs.Counts.{place_cmp};
-ghost use Rattle.hyper_rows.specs.Cells.{entry_of, cell_total};
+ghost use Rattle.hyper_rows.specs.Cells.{entry_of};
 ghost use Rattle.hyper_matrix.specs.Blocks.{AreBlocks, Grows};
 
 use crate::block::Block;
@@ -24,7 +24,6 @@ fn push_block(
     requires blocks { AreBlocks out.old.items }
     requires some { 0 < length cells.now }
     requires cells { T (is_sorted place_cmp (map entry_of cells.now)) }
-    requires fits { cell_total cells.now < 2 ^ 64 }
     ensures { OnOk result (Grows out.old.items out.new.items (map entry_of cells.now)) }
 {
     let rows = rows_of_sorted(alloc, cells, room)?;
@@ -40,7 +39,6 @@ fn push_block(
 pub fn push_blocks(alloc: Global, out: &mut Vec<Block>, cells: &[Cell]) -> Result<(), AllocError>
     requires blocks { AreBlocks out.old.items }
     requires cells { T (is_sorted place_cmp (map entry_of cells.now)) }
-    requires fits { cell_total cells.now < 2 ^ 64 }
     ensures { OnOk result (Grows out.old.items out.new.items (map entry_of cells.now)) }
 {
     let size = cells.len() / (cells.len() / BLOCK_CELLS + 1) + 1;

@@ -1,15 +1,14 @@
 -- What a list of cells builds: it doesn't depend on the order of the list, and each place has the sum of its counts.
-use Rattle.std.proofs.Common.{eqb, T, ◌≡◌, ℕ, ◌+◌, ◌<◌, ◌&&◌, Bool, true, false, cond, List, [], ◌∷◌, ◌++◌, length}
+use Rattle.std.proofs.Common.{eqb, ◌≡◌, ℕ, ◌+◌, ◌<◌, ◌&&◌, Bool, true, false, cond, List, [], ◌∷◌, ◌++◌, length}
 use Rattle.std.proofs.Common.{subst, map, Option, Some, None, sym, ◌∙◌, ap, refl, arith}
 use Rattle.std.specs.Prelude.{IsSome, ◌↔◌, unwrap_or}
 use Rattle.std.proofs.lemmas.List.{map-append}
-use Rattle.hyper_rows.specs.Counts.{Place, place_cmp, plus, count_at, ewise_add, built, total, count_sum}
+use Rattle.hyper_rows.specs.Counts.{Place, plus, count_at, ewise_add, built, total, count_sum}
 use Rattle.cells.specs.Sums.{sum_at, stands_at}
 use Rattle.hyper_rows.specs.Cells.{entry_of, built_of, cell_total, cells_at}
 use Rattle.cells.specs.declared.cell.Cell.{Cell}
-use Rattle.std.specs.FinMap.{get, get-from_entries, empty, is_sorted, entries}
+use Rattle.std.specs.FinMap.{get, get-from_entries, empty}
 use Rattle.hyper_rows.specs.Rows.{Rows, InOrder, cells_of, counts_of}
-use Rattle.hyper_rows.proofs.SortedListLaws.{built-in_order, entries-in_order}
 use Rattle.hyper_rows.proofs.CellLaws.{sorted_rows, same_place}
 use Rattle.hyper_rows.proofs.CountLaws.{places_total, gathered-rising, total-built, gathered, get-built, built-append}
 use Rattle.hyper_rows.proofs.CountLaws.{same_counts}
@@ -97,12 +96,3 @@ sum_at-told q (cell ∷ cells) = step (stands_at q cell) (sum_at-told q cells)
 pub built_of-same : (xs ys : List Cell) → ((q : Place) → sum_at q ys ≡ sum_at q xs) → built_of ys ≡ built_of xs
 built_of-same xs ys same = same_counts _ _ (λ q. get-built_of ys q ∙ sym (sum_at-told q ys) ∙ same q ∙
     sum_at-told q xs ∙ sym (get-built_of xs q))
-
--- rows that build what a list in strict order builds have just its cells
-pub exact_cells : (rows : Rows) (cells : List Cell) → InOrder rows → built (cells_of rows) ≡ built_of cells →
-    T (is_sorted place_cmp (map entry_of cells)) → cells_of rows ≡ map entry_of cells
-exact_cells rows cells order told sorted =
-    let here = sorted_rows rows order.numbers order.columns in
-    sym (entries-in_order (cells_of rows) here) ∙ ap entries
-    (sym (built-in_order (cells_of rows) here) ∙ told ∙ built-in_order (map entry_of cells) sorted) ∙
-    entries-in_order (map entry_of cells) sorted

@@ -9,7 +9,7 @@ use Rattle.hyper_rows.specs.Counts.{Place, place_cmp, Counts, built, ewise_add}
 use Rattle.hyper_rows.specs.Rows.{Rows, Entries, KeysAbove, AreRising, ColumnsRise, cells_of, at_places}
 use Rattle.hyper_rows.specs.Places.{Less, AllPlaces, Precede, IsFirst, BeginsFrom}
 use Rattle.hyper_rows.specs.Cells.{entry_of}
-use Rattle.cells.specs.Order.{Follows, NeverFall, Precedes, Rise}
+use Rattle.cells.specs.Order.{Precedes, Rise}
 use Rattle.cells.specs.declared.cell.Cell.{Cell}
 use Rattle.hyper_rows.proofs.CountLaws.{places_total, T_first, T_second, T_both, is_less, less_not_equal, built-append}
 use Rattle.hyper_rows.proofs.CountLaws.{ewise_add_comm, ewise_add_assoc}
@@ -203,15 +203,14 @@ columns_rise (row ∷ rows) h = (
   columns_rise rows (sorted_back (at_places row.0 row.1) (cells_of rows) h),
 )
 
--- cells whose entries are in order never fall
-pub never_fall : (cells : List Cell) → T (is_sorted place_cmp (map entry_of cells)) → NeverFall cells
-never_fall [] h k d m = absurd (omega arith)
-never_fall (x ∷ []) h k d m = absurd (omega arith)
-never_fall (x ∷ y ∷ cells) h zero d m = elim (place_less (x.row, x.col) (y.row, y.col)
-    (T_first _ _ (T_first _ _ h))) [ inl a ↦ inl a | inr a ↦ inr (a.0, omega (arith, a.1)) ]
-never_fall (x ∷ y ∷ cells) h (suc k) d m =
-    subst (λ n. Follows (get_or (y ∷ cells) k d) (get_or (x ∷ y ∷ cells) n d)) {x = suc (k + 1)} {y = suc k + 1}
-    (omega arith) (never_fall (y ∷ cells) (T_second _ _ h) k d (omega arith))
+-- the places of cells whose entries are in order rise
+pub rises : (cells : List Cell) → T (is_sorted place_cmp (map entry_of cells)) → Rise cells
+rises [] h k d m = absurd (omega arith)
+rises (x ∷ []) h k d m = absurd (omega arith)
+rises (x ∷ y ∷ cells) h zero d m = place_less (x.row, x.col) (y.row, y.col) (T_first _ _ (T_first _ _ h))
+rises (x ∷ y ∷ cells) h (suc k) d m =
+    subst (λ n. Precedes (get_or (y ∷ cells) k d) (get_or (x ∷ y ∷ cells) n d)) {x = suc (k + 1)} {y = suc k + 1}
+    (omega arith) (rises (y ∷ cells) (T_second _ _ h) k d (omega arith))
 
 -- a place that precedes another
 less_cell : (x y : Cell) → Precedes x y → Less (x.row, x.col) (y.row, y.col)

@@ -152,10 +152,15 @@ fn first_place(heads: &[(u64, usize)], entries: &[(u64, u64)]) -> (u64, u64)
     (heads[0].0, entries[0].0)
 }
 
-// Appends the cells of a row.
+// Appends the cells of a row. A row of one entry, as most are in many streams, is a plain push.
 pub fn push_row(out: &mut Vec<Cell>, row: u64, entries: &[(u64, u64)]) -> Result<(), AllocError>
     ensures { OnOk result (map entry_of out.new.items ≡ map entry_of out.old.items ++ at_places row entries.now) }
 {
+    if entries.len() == 1 {
+        let (col, count) = entries[0];
+        out.push(Cell { row, col, count })?;
+        return Ok(());
+    }
     out.extend(
         entries.iter().map(|e| Cell {
             row,

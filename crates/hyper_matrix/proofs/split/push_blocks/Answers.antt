@@ -1,5 +1,4 @@
 use Rattle.std.proofs.Common.{refl, arith}
-use Rattle.hyper_matrix.proofs.SumLaws.{part_total}
 use Rattle.hyper_matrix.proofs.SplitLaws.{sorted_slice, split_more, all_split}
 use Rattle.hyper_matrix.proofs.split.push_blocks.Goals as goal
 
@@ -9,14 +8,6 @@ split-init c = record { within = omega arith; blocks = c.requires.blocks; told =
 pub push_block-requires-clause-cells : goal.push_block-requires-clause-cells
 push_block-requires-clause-cells c = sorted_slice c.args.cells.now c.split.from c.min-to.result
     (omega arith) c.requires.cells
-
-pub push_block-requires-clause-fits : goal.push_block-requires-clause-fits
-push_block-requires-clause-fits c = omega (
-  arith,
-  part_total c.args.cells.now c.split.from c.min-to.result
-      (omega arith),
-  c.requires.fits,
-)
 
 pub split-preserved : goal.split-preserved
 split-preserved c = split_more _ _ _ c.args.cells.now c.split.from c.min-to.result (omega arith)

@@ -2,7 +2,7 @@ use Rattle.std.proofs.Common.{ap, ◌∙◌, refl, arith}
 use Rattle.hyper_rows.specs.Rows.{Rows, rows_total, sum_rows}
 use Rattle.hyper_matrix.proofs.BlockLaws.{grows_by}
 use Rattle.hyper_rows.proofs.CellLaws.{sum_of_cells}
-use Rattle.hyper_rows.proofs.PlaceOrderLaws.{never_fall}
+use Rattle.hyper_rows.proofs.PlaceOrderLaws.{rises}
 use Rattle.hyper_matrix.proofs.SumLaws.{grows_sum, grows_shared, sum_rising, sum_some, sum_total, added_total}
 use Rattle.hyper_matrix.proofs.sum.push_merged.Goals as goal
 
@@ -12,7 +12,7 @@ returns-then-cells-eq0-clause-sum c = grows_shared c.args.out.now.items c.push.n
     c.requires.other)
 
 pub set_sorted-requires-clause-sorted : goal.set_sorted-requires-clause-sorted
-set_sorted-requires-clause-sorted c = never_fall c.args.cells.now c.requires.cells
+set_sorted-requires-clause-sorted c = rises c.args.cells.now c.requires.cells
 
 pub set_sum-requires : goal.set_sum-requires
 set_sum-requires c = omega (
