@@ -115,7 +115,8 @@ module _ (hs : List (ℕ × ℕ)) (cells : List Cell) (base row i : ℕ) (state 
         below = below_push row cell.row hs (row, i) (omega arith) state.below h;
         told = ap (λ (p : Entries). done ++ at_places cell.row p) (entry_more cells i i d (omega arith) lt ∙
             ap (λ (p : Entries). p ++ (cell.col, cell.count) ∷ []) (between_none (entries_in cells) i))
-            ∙ ap (λ (t : List (Place × ℕ)). t ++ entry_of cell ∷ []) done_row.told ∙ sym (map_more entry_of cells i d lt);
+            ∙ ap (λ (t : List (Place × ℕ)). t ++ entry_of cell ∷ []) done_row.told
+            ∙ sym (map_more entry_of cells i d lt);
       }
 
 -- the first cell
@@ -151,7 +152,9 @@ module _ (hs : List (ℕ × ℕ)) (cells : List Cell) (base row i : ℕ) (state 
     (hs' : List (ℕ × ℕ)) where
   pub step_same : (row' : ℕ) (d : Cell) → i < length cells → (get_or cells i d).row ≡ row → hs' ≡ hs → row' ≡ row →
       (x : ℕ) × IsOpen hs' cells x row' (i + 1)
-  step_same row' d lt same is_heads is_row = (base, rw (is_heads, is_row) (open_more hs cells base row i state d lt same))
+  step_same row' d lt same is_heads is_row =
+      let more = open_more hs cells base row i state d lt same in
+      (base, rw (is_heads, is_row) more)
 
   pub step_next : (row' : ℕ) (d : Cell) → i < length cells → row < (get_or cells i d).row → hs' ≡ hs ++ (row, i) ∷ [] →
       row' ≡ (get_or cells i d).row → (x : ℕ) × IsOpen hs' cells x row' (i + 1)

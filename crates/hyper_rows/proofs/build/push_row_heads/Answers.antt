@@ -1,4 +1,4 @@
-use Rattle.std.proofs.Common.{◌∙◌, ℕ, sym, ap, subst, length, map, get_or, List, arith}
+use Rattle.std.proofs.Common.{◌∙◌, sym, ap, subst, length, map, get_or, arith}
 use Rattle.std.proofs.lemmas.List.{get_or_default, take_all}
 use Rattle.cells.specs.declared.cell.Cell.{Cell}
 use Rattle.hyper_rows.specs.Cells.{entry_of}
@@ -17,7 +17,7 @@ cells-init c = record {
   here = λ d. ap (λ (x : Cell). x.row) (get_or_default c.args.cells.now 0 none d c.requires.some);
   state = (
     0,
-    subst (λ (hs : List (ℕ × ℕ)). IsOpen hs c.args.cells.now 0 (get_or c.args.cells.now 0 none).row 1) (sym c.requires.no_heads)
+    subst (λ hs. IsOpen hs c.args.cells.now 0 (get_or c.args.cells.now 0 none).row 1) (sym c.requires.no_heads)
         (open_first c.args.cells.now none c.requires.some),
   );
 }
@@ -32,8 +32,8 @@ cells-preserved c =
         here = λ d. w.row-is ∙ here_next c.args.cells.now c.cells.i none d c.cells-test.true;
         state = step_next _ c.args.cells.now _ c.cells.row c.cells.i state _ _ none c.cells-test.true
             (next_row c.args.cells.now c.cells.i c.cells.row none c.requires.sorted c.cells.invariant.begins
-            c.cells-test.true (c.cells.invariant.here none) w.if-next-row.true) (cc (w.heads-is, w.in_ok-push.ensures.items))
-            w.row-is;
+            c.cells-test.true (c.cells.invariant.here none) w.if-next-row.true)
+            (cc (w.heads-is, w.in_ok-push.ensures.items)) w.row-is;
       }
       | else-next-row w ↦ record {
         begins = omega arith;
