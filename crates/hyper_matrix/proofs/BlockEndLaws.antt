@@ -10,6 +10,7 @@ use Rattle.hyper_rows.proofs.PlaceOrderLaws.{sorted_back, precedes}
 use Rattle.hyper_rows.proofs.SearchLaws.{AllBefore, ends_before, as_true}
 use Rattle.hyper_matrix.specs.Blocks.{all_cells}
 use Rattle.hyper_matrix.specs.BlockSearch.{block_end, HaveRows, rows_at}
+use Rattle.hyper_matrix.proofs.BlockLaws.{first_front}
 use Rattle.hyper_matrix.proofs.BlockSearchLaws.{block_ends, full_block, block_behind, block_read, blocks_at}
 use Rattle.hyper_matrix.proofs.BlockSearchLaws.{before_until}
 
@@ -35,10 +36,6 @@ last_precedes [] e [] q h f = absurd f
 last_precedes [] e (y ∷ ys) q h f = subst (λ (r : Place). is_before e.0 r ≡ true) (sym f) (as_true _ h.0.0)
 last_precedes (x ∷ front) e ys q h f = last_precedes front e ys q h.1 f
 
-first_of_two : (q : Place) (xs ys : List (Place × ℕ)) → IsFirst q xs → IsFirst q (xs ++ ys)
-first_of_two q [] ys f = absurd f
-first_of_two q (x ∷ xs) ys f = f
-
 -- a block ends before a place at which the next one has begun
 pub next_begins : (blocks : List Rows) (k : ℕ) (p q : Place) → T (is_sorted place_cmp (all_cells blocks)) →
     HaveRows blocks → k + 1 < length blocks → RowsFull (rows_at blocks k) →
@@ -53,7 +50,7 @@ next_begins blocks k p q sorted have lt full first begun =
     (sorted_back (all_cells (take k blocks)) (all_cells (drop k blocks))
     (subst (λ (l : List (Place × ℕ)). T (is_sorted place_cmp l)) (blocks_at blocks k) sorted)) in
     let here : IsFirst p (all_cells (drop (k + 1) blocks)) = subst (IsFirst p) (sym (block_behind blocks (k + 1) lt))
-    (first_of_two p (cells_of (rows_at blocks (k + 1))) _ first) in
+    (first_front p (cells_of (rows_at blocks (k + 1))) _ first) in
     let last : is_before (block_end block) p ≡ true = last_precedes ends.front (block_end block, ends.count)
     (all_cells (drop (k + 1) blocks)) p
     (subst (λ (l : List (Place × ℕ)). Precede l (all_cells (drop (k + 1) blocks))) ends.is

@@ -4,7 +4,13 @@ use Rattle.std.proofs.Common.{subst, refl, arith, append_assoc}
 use Rattle.std.proofs.lemmas.List.{append-nil, take_more}
 use Rattle.hyper_rows.specs.Counts.{Place}
 use Rattle.hyper_rows.specs.Rows.{Rows, cells_of}
+use Rattle.hyper_rows.specs.Places.{IsFirst}
 use Rattle.hyper_matrix.specs.Blocks.{all_cells, IsBlock, AreBlocks, Grows}
+
+-- the first of two lists begins where both do
+pub first_front : (k : Place) (xs ys : List (Place × ℕ)) → IsFirst k xs → IsFirst k (xs ++ ys)
+first_front k [] ys f = absurd f
+first_front k (x ∷ xs) ys f = f
 
 pub all_cells-append : (a b : List Rows) → all_cells (a ++ b) ≡ all_cells a ++ all_cells b
 all_cells-append [] b = refl

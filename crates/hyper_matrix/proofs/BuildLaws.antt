@@ -4,6 +4,7 @@ use Rattle.std.proofs.Common.{Some, sym, ◌∙◌, ap}
 use Rattle.std.specs.List.{AllByRecursion}
 use Rattle.std.specs.FinMap.{is_sorted}
 use Rattle.std.proofs.lemmas.List.Elements.{All-head, All-tail}
+use Rattle.std.proofs.ByRecursion.{All-append}
 use Rattle.cells.specs.declared.cell.Cell.{Cell}
 use Rattle.cells.specs.Bounds.{IsDimension, IsWithin, AreWithin}
 use Rattle.hyper_rows.specs.Counts.{Place, place_cmp, built, count_sum}
@@ -14,6 +15,7 @@ use Rattle.hyper_rows.proofs.BuiltOfLaws.{entries_total}
 use Rattle.hyper_matrix.specs.Blocks.{all_cells, Grows}
 use Rattle.hyper_matrix.specs.Shared.{shared_counts, LiesWithin, Holds}
 use Rattle.hyper_matrix.specs.Refusals.{first_fault}
+use Rattle.hyper_matrix.proofs.MatrixLaws.{cells_within}
 use Rattle.hyper_matrix.specs.declared.judge.BuildFault.TheVariants.{Memory, IndexOutOfRange, SumTooLarge}
 
 -- want of memory is no fault of a list
@@ -36,6 +38,14 @@ entries_within r c (x ∷ cells) w = (
   All-head (IsWithin r c) x cells w,
   entries_within r c cells (All-tail (IsWithin r c) x cells w),
 )
+
+-- a list of cells within the dimensions to which entries within them were appended
+pub appended_within : (r c : ℕ) (old new : List Cell) (es : List (Place × ℕ)) →
+    map entry_of new ≡ map entry_of old ++ es → AllByRecursion (LiesWithin r c) es → AreWithin r c old →
+    AreWithin r c new
+appended_within r c old new es is more within =
+    cells_within r c new (subst (AllByRecursion (LiesWithin r c)) (sym is)
+    (All-append (LiesWithin r c) (map entry_of old) es (entries_within r c old within) more))
 
 -- blocks that hold a list of cells in order
 pub holds_sorted : (r c : ℕ) (blocks none : List Rows) (cells : List Cell) (sum : ℕ) → IsDimension r → IsDimension c →

@@ -14,7 +14,7 @@ use Rattle.hyper_rows.specs.Places.{Less, AllPlaces, Precede, IsFirst, BeginsFro
 use Rattle.hyper_rows.specs.Cells.{entry_of, built_of, cell_total}
 use Rattle.hyper_rows.specs.InPlace.{AddsFirst}
 use Rattle.cells.specs.declared.cell.Cell.{Cell}
-use Rattle.hyper_matrix.proofs.BlockLaws.{all_cells-append}
+use Rattle.hyper_matrix.proofs.BlockLaws.{all_cells-append, first_front}
 use Rattle.hyper_rows.proofs.CountLaws.{ewise_add_assoc, built-append, total-ewise_add, ewise_add_comm, ewise_add-empty}
 use Rattle.hyper_rows.proofs.CountLaws.{total-built, total-ewise_add}
 use Rattle.hyper_rows.proofs.CellLaws.{counts_of-sum_rows, in_order-sum_rows, sorted_rows, sum_of_cells}
@@ -34,10 +34,6 @@ nothing_first a = ap (λ (m : Counts). ewise_add m a) built-nil ∙ ewise_add_co
 
 pub nothing_last : (a : Counts) → ewise_add a (built []) ≡ a
 nothing_last a = ap (ewise_add a) built-nil ∙ ewise_add-empty a
-
-first_front : (k : Place) (xs ys : List (Place × ℕ)) → IsFirst k xs → IsFirst k (xs ++ ys)
-first_front k [] ys f = absurd f
-first_front k (x ∷ xs) ys f = f
 
 -- the cells from j on are those up to e and those from e on
 pub split_cells : (cells : List Cell) (j e : ℕ) → j ≤ e → map entry_of (drop j cells) ≡

@@ -3,7 +3,7 @@
 //!
 //! A look-up is a bisection in the blocks, then in one of them, so it takes time in the logarithm of the entries and no
 //! memory.
-ghost use Rattle.std.specs.Prelude.{◌≡◌, ◌<◌, ◌≤◌, ◌⊎◌, MatchOption, IfOk, IfSome, map, slice_get};
+ghost use Rattle.std.specs.Prelude.{◌≡◌, ◌<◌, ◌≤◌, ◌⊎◌, ◌++◌, MatchOption, IfOk, OnOk, IfSome, map, slice_get};
 ghost use Rattle.std.specs.Option.{option_map};
 ghost use Rattle.std.specs.FinMap.{get, entries};
 ghost use Rattle.cells.specs.Bounds.{AreWithin};
@@ -44,6 +44,24 @@ impl Hyper {
         block_search::first_in_row(&self.blocks, row, from)
     }
 
+    /// Appends the cells by row and then by column. Each lies within the dimensions.
+    ///
+    /// Room is made at once for these cells and no more, so a caller that appends several matrices makes the room for
+    /// all of them first.
+    ///
+    /// # Errors
+    ///
+    /// Memory for the list was refused.
+    pub fn push_cells(&self, out: &mut Vec<Cell>) -> Result<(), AllocError>
+        ensures order { OnOk result
+            (map entry_of out.new.items ≡ map entry_of out.old.items ++ entries self.now.counts) }
+        ensures within { AreWithin self.now.rows self.now.cols out.old.items →
+            OnOk result (AreWithin self.now.rows self.now.cols out.new.items) }
+    {
+        push_all_cells(out, &self.blocks)?;
+        Ok(())
+    }
+
     /// The cells by row and then by column, in a list of their own with no room to spare. Each lies within the
     /// dimensions.
     ///
@@ -55,7 +73,7 @@ impl Hyper {
         ensures within { IfOk result (λ cells. AreWithin self.now.rows self.now.cols cells.items) }
     {
         let mut cells = Vec::with_capacity(alloc, self.entries() as usize)?;
-        push_all_cells(&mut cells, &self.blocks)?;
+        self.push_cells(&mut cells)?;
         Ok(cells)
     }
 }

@@ -1,29 +1,14 @@
-use Rattle.std.proofs.Common.{◌≡◌, ◌++◌, map, sym, ap, ◌∙◌, subst}
-use Rattle.std.specs.List.{AllByRecursion}
+use Rattle.std.proofs.Common.{◌++◌, map, length, ap, ◌∙◌, arith}
 use Rattle.std.specs.FinMap.{entries}
-use Rattle.cells.specs.Bounds.{AreWithin}
-use Rattle.hyper_matrix.specs.Matrix.{Matrix}
-use Rattle.hyper_matrix.specs.Blocks.{all_cells}
-use Rattle.hyper_matrix.specs.Shared.{LiesWithin}
 use Rattle.hyper_rows.specs.Cells.{entry_of}
-use Rattle.hyper_rows.proofs.SortedListLaws.{entries-in_order}
-use Rattle.hyper_matrix.proofs.MatrixLaws.{cells_within}
 use Rattle.hyper_matrix.proofs.hyper.Hyper.cells.Goals as goal
 
 pub returns-clause-order : goal.returns-clause-order
 returns-clause-order c =
-    c.in_ok-push_all_cells.ensures ∙ ap (λ xs. map entry_of xs ++
-    all_cells c.deref.result.now) c.in_ok-cells.ensures.items ∙ ap all_cells c.deref.ensures.value
-    ∙ sym (entries-in_order (all_cells c.self.inside.blocks.items) c.self.invariant.holds.sorted) ∙
-    ap (λ (m : Matrix). entries m.counts) c.self.view_is
+    c.in_ok-push_cells.ensures.order
+    ∙ ap (λ xs. map entry_of xs ++ entries c.args.self.now.counts) c.in_ok-cells.ensures.items
 
 pub returns-clause-within : goal.returns-clause-within
 returns-clause-within c =
-    let told : map entry_of c.push_all_cells.new.out.items ≡
-    all_cells c.self.inside.blocks.items = c.in_ok-push_all_cells.ensures ∙
-    ap (λ xs. map entry_of xs ++ all_cells c.deref.result.now) c.in_ok-cells.ensures.items ∙
-    ap all_cells c.deref.ensures.value in
-    subst (λ (m : Matrix). AreWithin m.rows m.cols c.push_all_cells.new.out.items) c.self.view_is
-    (cells_within c.self.inside.rows c.self.inside.cols c.push_all_cells.new.out.items
-    (subst (AllByRecursion (LiesWithin c.self.inside.rows c.self.inside.cols))
-    (sym told) c.self.invariant.holds.within))
+    c.in_ok-push_cells.ensures.within
+    (λ k d h. absurd (omega (arith, h, ap length c.in_ok-cells.ensures.items)))
