@@ -11,16 +11,13 @@ use Rattle.std.proofs.lemmas.List.{map-append, take-map, take-append-drop, drop_
 use Rattle.hyper_rows.specs.Counts.{Place, place_cmp, Counts, count_at, add_at, add_all, ewise_add, plus, total}
 use Rattle.hyper_rows.proofs.CountLaws.{places_total, get-add_at, plus-none, T_first, T_second, less_not_equal, tied}
 use Rattle.hyper_rows.proofs.CountLaws.{ewise_add-empty, ewise_add_assoc, ewise_add_comm, total-ewise_add}
-use Rattle.hyper_rows.proofs.CountLaws.{same_counts, get-built, gathered-rising}
-use Rattle.hyper_rows.proofs.BuiltOfLaws.{built_joined}
+use Rattle.hyper_rows.proofs.CountLaws.{same_counts, get-built, gathered-rising, built-append}
 use Rattle.hyper_rows.proofs.SortedListLaws.{same_tie}
 use Rattle.hyper_rows.specs.Cells.{entry_of, built_of}
 use Rattle.hyper_rows.specs.Counts.{built}
 use Rattle.cells.specs.declared.cell.Cell.{Cell}
-use Rattle.cells.specs.Bounds.{AreWithin, IsWithin}
 use Rattle.std.specs.FinMap.{get-entries}
 use Rattle.std.specs.Prelude.{map}
-use Rattle.std.proofs.lemmas.List.Elements.{All-append}
 use Rattle.hyper_matrix.specs.Matrix.{Matrix, matrix}
 use Rattle.layer_cascade.specs.Cascade.{content}
 use Rattle.layer_cascade.specs.Runs.{count_new}
@@ -242,17 +239,13 @@ module _ {Z : Type 0} (runs rest left : List (Arc Matrix Z)) (last : Arc Matrix 
         ∙ (λ i. matrix (others_are i).rows (others_are i).cols (ewise_add (m_is i).counts (others_are i).counts))
         ∙ ap (matrix r c) (sym content-last) ∙ view
 
--- a list of a matrix's cells in order builds it
-pub listed : (list : List Cell) (m : Counts) → map entry_of list ≡ entries m → built_of list ≡ m
-listed list m is = ap built is ∙ same_counts _ _ (λ q. get-built (entries m) q
-    ∙ gathered-rising q (entries m) (entries_sorted m) ∙ sym (get-entries m q))
+-- the entries of a map build it
+built-entries : (m : Counts) → built (entries m) ≡ m
+built-entries m = same_counts _ _ (λ q. get-built (entries m) q ∙ gathered-rising q (entries m) (entries_sorted m)
+    ∙ sym (get-entries m q))
 
--- the cells of one run more
-pub listed_more : (old new list : List Cell) (before here : Counts) → new ≡ old ++ list → built_of old ≡ before →
-    map entry_of list ≡ entries here → built_of new ≡ ewise_add before here
-listed_more old new list before here is told order = ap built_of is ∙ built_joined old list
-    ∙ ap (λ b. ewise_add b (built_of list)) told ∙ ap (ewise_add before) (listed list here order)
-
-pub joined_within : (r c : ℕ) (old new list : List Cell) → new ≡ old ++ list → AreWithin r c old →
-    AreWithin r c list → AreWithin r c new
-joined_within r c old new list is h k = subst (AreWithin r c) (sym is) (All-append (IsWithin r c) old list h k)
+-- a list to which a matrix's cells were appended
+pub listed_more : (old new : List Cell) (before here : Counts) →
+    map entry_of new ≡ map entry_of old ++ entries here → built_of old ≡ before → built_of new ≡ ewise_add before here
+listed_more old new before here is told = ap built is ∙ built-append (map entry_of old) (entries here)
+    ∙ ap (λ b. ewise_add b (built (entries here))) told ∙ ap (ewise_add before) (built-entries here)

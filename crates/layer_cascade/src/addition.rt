@@ -247,40 +247,30 @@ fn sum_in_turn(
     Ok(sum)
 }
 
-// The cells of layers, one layer after the other.
+// The entries of all layers together, up to 2^64 - 1: those of each layer's matrices side by side.
+fn most_in(layers: &[Arc<Layer>]) -> u64 {
+    let mut most = 0u64;
+    for layer in layers {
+        most = most.saturating_add(layer.most_entries());
+    }
+    most
+}
+
+// The cells of layers, one layer after the other, in a list that has room for all from the start.
 fn cells_of_layers(alloc: Global, layers: &[Arc<Layer>]) -> Result<Vec<Cell>, AllocError>
     ensures sum { IfOk result (λ cells. built_of cells.items ≡ content (all_counts (values layers.now))) }
     ensures within { (rows cols : ℕ) → HaveDims rows cols (values layers.now) →
         IfOk result (λ cells. AreWithin rows cols cells.items) }
 {
-    let mut cells = Vec::new(alloc);
+    let mut cells = Vec::with_capacity(alloc, most_in(layers) as usize)?;
     'layers: for layer in layers {
-        layer.push_cells(alloc, &mut cells)?;
+        layer.push_cells(&mut cells)?;
     }
     Ok(cells)
-}
-
-// The cells of layers that are given away, whose memory is free then.
-fn into_cells(alloc: Global, layers: Vec<Arc<Layer>>) -> Result<Vec<Cell>, AllocError>
-    ensures sum { IfOk result (λ cells. built_of cells.items ≡ content (all_counts (values layers.items))) }
-    ensures within { (rows cols : ℕ) → HaveDims rows cols (values layers.items) →
-        IfOk result (λ cells. AreWithin rows cols cells.items) }
-{
-    let cells = cells_of_layers(alloc, &layers)?;
-    Ok(cells)
-}
-
-// Whether all layers together have few enough entries for one list of their cells.
-fn are_listed(layers: &[Arc<Layer>]) -> bool {
-    let mut most = 0u64;
-    for layer in layers {
-        most = most.saturating_add(layer.most_entries());
-    }
-    most <= MOST_BESIDE
 }
 
 /// The sum of all layers, each given away. The cells of all but the last are listed, where they aren't too many, and
-/// that list is added to the last.
+/// that list is added to the last. The memory of what is listed is free while the list is sorted.
 pub fn sum_of_layers(
     alloc: Global,
     rows: u64,
@@ -298,12 +288,13 @@ pub fn sum_of_layers(
         return Ok(Hyper::new(alloc, rows, cols));
     };
     let last = own_layer(alloc, last)?;
-    if !are_listed(&layers) {
+    if most_in(&layers) > MOST_BESIDE {
         let others = sum_in_turn(alloc, rows, cols, layers)?;
         let sum = last.into_sum(alloc, others)?;
         return Ok(sum);
     }
-    let cells = into_cells(alloc, layers)?;
+    let cells = cells_of_layers(alloc, &layers)?;
+    drop(layers);
     let sum = with_list(alloc, last, cells)?;
     Ok(sum)
 }

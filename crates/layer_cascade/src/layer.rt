@@ -14,11 +14,11 @@ ghost use Rattle.layer_cascade.specs.Columns.{FirstColumn};
 ghost use Rattle.layer_cascade.specs.Steps.{joined, Takes};
 
 use crate::limits::{GATHERED_RUNS, MAX_RUNS, MOST_BESIDE};
-use crate::lists::{push_cells_of, with_list};
+use crate::lists::{cells_with, entries_bound, of_cells, push_cells_of};
 use crate::pairs::{due_pair, with_pair_added};
 use crate::runs::{
-    added_to_runs, column_in, count_in, entries_bound, entries_in, own_matrix, push_runs,
-    row_counts_in, sum_of_runs,
+    added_to_runs, column_in, count_in, entries_in, own_matrix, push_runs, row_counts_in,
+    sum_of_runs,
 };
 use cells::Cell;
 use hyper_matrix::Hyper;
@@ -287,27 +287,16 @@ impl Layer {
     }
 
     /// Appends the cells of all runs, one run after the other.
-    pub fn push_cells(&self, alloc: Global, out: &mut Vec<Cell>) -> Result<(), AllocError>
+    pub fn push_cells(&self, out: &mut Vec<Cell>) -> Result<(), AllocError>
         ensures sum { OnOk result (built_of out.new.items ≡ ewise_add (built_of out.old.items) self.now.counts) }
         ensures within { AreWithin self.now.rows self.now.cols out.old.items →
             OnOk result (AreWithin self.now.rows self.now.cols out.new.items) }
     {
-        push_cells_of(alloc, out, &self.runs)
+        push_cells_of(out, &self.runs)
     }
 
-    // The cells of a matrix and of all runs.
-    fn into_cells(self, alloc: Global, m: Hyper) -> Result<Vec<Cell>, AllocError>
-        requires rows { m.rows ≡ self.rows }
-        requires cols { m.cols ≡ self.cols }
-        ensures sum { IfOk result (λ cells. built_of cells.items ≡ ewise_add m.counts self.counts) }
-        ensures within { IfOk result (λ cells. AreWithin m.rows m.cols cells.items) }
-    {
-        let mut cells = m.cells(alloc)?;
-        self.push_cells(alloc, &mut cells)?;
-        Ok(cells)
-    }
-
-    // The sum of a matrix and all runs, made from their own memory: by a list of all cells where there are several.
+    // The sum of a matrix and all runs, made from their own memory: by a list of all cells where there are several. The
+    // runs' memory is free while that list is sorted.
     fn into_joined(self, alloc: Global, m: Hyper) -> Result<Hyper, AllocError>
         requires rows { m.rows ≡ self.rows }
         requires cols { m.cols ≡ self.cols }
@@ -319,9 +308,10 @@ impl Layer {
             let sum = m.into_sum(alloc, own)?;
             return Ok(sum);
         }
-        let none = Hyper::new(alloc, self.rows, self.cols);
-        let cells = self.into_cells(alloc, m)?;
-        let sum = with_list(alloc, none, cells)?;
+        let runs = self.runs;
+        let cells = cells_with(alloc, m, &runs)?;
+        drop(runs);
+        let sum = of_cells(alloc, self.rows, self.cols, cells)?;
         Ok(sum)
     }
 

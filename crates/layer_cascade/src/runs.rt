@@ -3,8 +3,7 @@
 ghost use Rattle.std.specs.Prelude.{◌≡◌, ℕ, ◌+◌, ◌<◌, ◌≤◌, ◌^◌, ◌⊎◌, ◌++◌, IfOk, OnOk, IfSome};
 ghost use Rattle.std.specs.Arc.{arc_value};
 ghost use Rattle.std.specs.FinMap.{get, len, entries};
-ghost use Rattle.cells.specs.Bounds.{IsDimension, AreWithin};
-ghost use Rattle.hyper_matrix.specs.Cells.{built_of};
+ghost use Rattle.cells.specs.Bounds.{IsDimension};
 ghost use Rattle.hyper_matrix.specs.Counts.{ewise_add, total};
 ghost use Rattle.hyper_matrix.specs.Matrix.{matrix};
 ghost use Rattle.hyper_matrix.specs.RowOf.{row_of};
@@ -14,9 +13,8 @@ ghost use Rattle.layer_cascade.specs.Runs.{count_new};
 ghost use Rattle.layer_cascade.specs.Shared.{values, all_counts, HaveDims};
 
 use crate::limits::{MOST_BESIDE, MOST_LISTED};
-use crate::lists::with_list;
+use crate::lists::{entries_bound, sum_by_list};
 use crate::lookup::{column_from, earlier, plus};
-use cells::{Cell, summed};
 use hyper_matrix::Hyper;
 use std::alloc::{AllocError, Global};
 use std::sync::Arc;
@@ -40,52 +38,6 @@ pub fn own_matrix(alloc: Global, run: Arc<Hyper>) -> Result<Hyper, AllocError>
         Ok(m) => Ok(m),
         Err(shared) => shared.copy(alloc),
     }
-}
-
-// The cells of all runs, one run after the other.
-fn cells_of_runs(alloc: Global, runs: &[Arc<Hyper>]) -> Result<Vec<Cell>, AllocError>
-    ensures sum { IfOk result (λ cells. built_of cells.items ≡ content (all_counts (values runs.now))) }
-    ensures within { (rows : ℕ) (cols : ℕ) → HaveDims rows cols (values runs.now) →
-        IfOk result (λ cells. AreWithin rows cols cells.items) }
-{
-    let mut cells = Vec::new(alloc);
-    'runs: for run in runs {
-        let mut list = run.cells(alloc)?;
-        cells.append(&mut list)?;
-    }
-    Ok(cells)
-}
-
-// The sum of runs, by a list of their cells that is sorted.
-fn sum_of_cells(
-    runs: &[Arc<Hyper>],
-    alloc: Global,
-    rows: u64,
-    cols: u64,
-) -> Result<Hyper, AllocError>
-    requires rows { IsDimension rows }
-    requires cols { IsDimension cols }
-    requires dims { HaveDims rows cols (values runs.now) }
-    requires fits { total (content (all_counts (values runs.now))) < 2 ^ 64 }
-    ensures { IfOk result (λ m. m ≡ matrix rows cols (content (all_counts (values runs.now)))) }
-{
-    let cells = cells_of_runs(alloc, runs)?;
-    let list = summed(alloc, &cells)?;
-    let none = Hyper::new(alloc, rows, cols);
-    let sum = none.into_sum_with_cells(alloc, &list)?;
-    Ok(sum)
-}
-
-/// The entries of all runs together, up to 2^64 - 1. Those of their sum can't be more.
-pub fn entries_bound(runs: &[Arc<Hyper>]) -> u64
-    ensures { len (content (all_counts (values runs.now))) < 2 ^ 64 →
-        len (content (all_counts (values runs.now))) ≤ result }
-{
-    let mut bound = 0u64;
-    'bounds: for run in runs {
-        bound = bound.saturating_add(run.entries());
-    }
-    bound
 }
 
 // Whether there are several runs, which together have so few cells that a list of them is sorted in a few passes. Two
@@ -116,7 +68,8 @@ pub fn sum_of_runs(
             Ok(only)
         }
         _ if are_listed(runs) => {
-            let listed = sum_of_cells(runs, alloc, rows, cols)?;
+            let none = Hyper::new(alloc, rows, cols);
+            let listed = sum_by_list(alloc, none, runs)?;
             Ok(listed)
         }
         _ => {
@@ -129,17 +82,19 @@ pub fn sum_of_runs(
     }
 }
 
-// Whether a run and those behind it are added up by one list of all their cells: there are many of them, and the first
-// run has no more than the others together. Where it has more, it may share blocks with the sum.
-fn are_alike(first: &Hyper, rest: &[Arc<Hyper>]) -> bool {
+// Whether a matrix, a run and those behind it are added up by one list of all their cells: there are many of them, and
+// neither the run nor the matrix has more than the other runs, or all runs, together. Else that one's blocks may stay.
+fn are_alike(m: &Hyper, first: &Hyper, rest: &[Arc<Hyper>]) -> bool {
     let others = entries_bound(rest);
-    let all = first.entries().saturating_add(others);
-    MOST_LISTED < all && all <= MOST_BESIDE && first.entries() <= others
+    let runs = first.entries().saturating_add(others);
+    let all = m.entries().saturating_add(runs);
+    let is_bounded = MOST_LISTED < all && all <= MOST_BESIDE;
+    is_bounded && first.entries() <= others && m.entries() <= runs
 }
 
 /// The sum of a matrix and runs. Where the first run is the larger part, all others are added up with the matrix, and
-/// the sum to that run, whose blocks it shares but for those that it touches. Else one list of the cells of all runs is
-/// merged.
+/// the sum to that run, whose blocks it shares but for those that it touches. So it is too where the matrix is the
+/// larger part. Else one list of the cells of all is merged.
 pub fn added_to_runs(alloc: Global, m: Hyper, runs: &[Arc<Hyper>]) -> Result<Hyper, AllocError>
     requires dims { HaveDims m.rows m.cols (values runs.now) }
     requires fits { total m.counts + total (content (all_counts (values runs.now))) < 2 ^ 64 }
@@ -148,9 +103,8 @@ pub fn added_to_runs(alloc: Global, m: Hyper, runs: &[Arc<Hyper>]) -> Result<Hyp
     let Some((first, rest)) = runs.split_first() else {
         return Ok(m);
     };
-    if are_alike(first, rest) {
-        let cells = cells_of_runs(alloc, runs)?;
-        let merged = with_list(alloc, m, cells)?;
+    if are_alike(&m, first, rest) {
+        let merged = sum_by_list(alloc, m, runs)?;
         return Ok(merged);
     }
     let (rows, cols) = m.dims();

@@ -7,8 +7,8 @@ use Rattle.layer_cascade.proofs.addition.cells_of_layers.Goals as goal
 
 pub layers-init : goal.layers-init
 layers-init c = record {
-  told = sym (built_of-none c.new-cells.result.items (ap length c.new-cells.ensures.items));
-  within = λ rows cols have k d h. absurd (omega (arith, h, ap length c.new-cells.ensures.items));
+  told = sym (built_of-none c.in_ok-cells.cells.items (ap length c.in_ok-cells.ensures.items));
+  within = λ rows cols have k d h. absurd (omega (arith, h, ap length c.in_ok-cells.ensures.items));
 }
 
 pub layers-preserved : goal.layers-preserved

@@ -36,8 +36,8 @@ into_sum-requires-clause-fits c =
     _ c.args.rows c.args.cols c.requires.dims c.requires.fits refl
     c.in_ok-last.last c.in_ok-others.others c.in_ok-last.ensures c.in_ok-others.ensures
 
-pub returns-then-not-are_listed : goal.returns-then-not-are_listed
-returns-then-not-are_listed c =
+pub returns-then-most_in-gt-MOST_BESIDE : goal.returns-then-most_in-gt-MOST_BESIDE
+returns-then-most_in-gt-MOST_BESIDE c =
     last_added c.args.layers.items c.pop.new.self.items c.pop.new.self.items c.in-Some.last c.in-Some.ensures.items refl
     _ c.args.rows c.args.cols c.requires.dims c.requires.fits refl
     c.in_ok-last.last c.in_ok-others.others c.in_ok-last.ensures c.in_ok-others.ensures c.in_ok-sum.sum
@@ -45,26 +45,26 @@ returns-then-not-are_listed c =
 
 pub with_list-requires-clause-within : goal.with_list-requires-clause-within
 with_list-requires-clause-within c =
-    let others = matrix c.args.rows c.args.cols (content (all_counts (values c.pop.new.self.items))) in
+    let others = matrix c.args.rows c.args.cols (content (all_counts (values c.deref-2.result.now))) in
     subst (λ n. AreWithin n c.in_ok-last.last.cols c.in_ok-cells.cells.items)
-    (sym (last_rows c.args.layers.items c.pop.new.self.items c.pop.new.self.items c.in-Some.last
-    c.in-Some.ensures.items refl _ c.args.rows c.args.cols c.requires.dims c.requires.fits refl
+    (sym (last_rows c.args.layers.items c.pop.new.self.items c.deref-2.result.now c.in-Some.last
+    c.in-Some.ensures.items c.deref-2.ensures.value _ c.args.rows c.args.cols c.requires.dims c.requires.fits refl
     c.in_ok-last.last others c.in_ok-last.ensures refl))
     (subst (λ n. AreWithin c.args.rows n c.in_ok-cells.cells.items)
-    (sym (last_cols c.args.layers.items c.pop.new.self.items c.pop.new.self.items c.in-Some.last
-    c.in-Some.ensures.items refl _ c.args.rows c.args.cols c.requires.dims c.requires.fits refl
+    (sym (last_cols c.args.layers.items c.pop.new.self.items c.deref-2.result.now c.in-Some.last
+    c.in-Some.ensures.items c.deref-2.ensures.value _ c.args.rows c.args.cols c.requires.dims c.requires.fits refl
     c.in_ok-last.last others c.in_ok-last.ensures refl))
     (c.in_ok-cells.ensures.within c.args.rows c.args.cols
-    (have_left c.args.layers.items c.pop.new.self.items c.pop.new.self.items c.in-Some.last c.in-Some.ensures.items refl
-    _ c.args.rows c.args.cols c.requires.dims c.requires.fits refl)))
+    (have_left c.args.layers.items c.pop.new.self.items c.deref-2.result.now c.in-Some.last c.in-Some.ensures.items
+    c.deref-2.ensures.value _ c.args.rows c.args.cols c.requires.dims c.requires.fits refl)))
 
 pub with_list-requires-clause-fits : goal.with_list-requires-clause-fits
 with_list-requires-clause-fits c =
-    let others = matrix c.args.rows c.args.cols (content (all_counts (values c.pop.new.self.items))) in
+    let others = matrix c.args.rows c.args.cols (content (all_counts (values c.deref-2.result.now))) in
     omega (
       arith,
-      both_fit c.args.layers.items c.pop.new.self.items c.pop.new.self.items c.in-Some.last c.in-Some.ensures.items refl
-          _ c.args.rows c.args.cols c.requires.dims c.requires.fits refl
+      both_fit c.args.layers.items c.pop.new.self.items c.deref-2.result.now c.in-Some.last c.in-Some.ensures.items
+          c.deref-2.ensures.value _ c.args.rows c.args.cols c.requires.dims c.requires.fits refl
           c.in_ok-last.last others c.in_ok-last.ensures refl,
       ap total c.in_ok-cells.ensures.sum,
       total-built_of c.in_ok-cells.cells.items,
@@ -72,9 +72,9 @@ with_list-requires-clause-fits c =
 
 pub returns : goal.returns
 returns c =
-    let others = matrix c.args.rows c.args.cols (content (all_counts (values c.pop.new.self.items))) in
-    last_added c.args.layers.items c.pop.new.self.items c.pop.new.self.items c.in-Some.last c.in-Some.ensures.items refl
-    _ c.args.rows c.args.cols c.requires.dims c.requires.fits refl
+    let others = matrix c.args.rows c.args.cols (content (all_counts (values c.deref-2.result.now))) in
+    last_added c.args.layers.items c.pop.new.self.items c.deref-2.result.now c.in-Some.last c.in-Some.ensures.items
+    c.deref-2.ensures.value _ c.args.rows c.args.cols c.requires.dims c.requires.fits refl
     c.in_ok-last.last others c.in_ok-last.ensures refl c.in_ok-sum-2.sum
     (c.in_ok-sum-2.ensures
     ∙ ap (λ n. matrix c.in_ok-last.last.rows c.in_ok-last.last.cols (ewise_add c.in_ok-last.last.counts n))

@@ -1,6 +1,10 @@
 use Rattle.std.proofs.Common.{ap, ◌∙◌, arith, rules}
-use Rattle.hyper_matrix.specs.Counts.{total}
-use Rattle.hyper_matrix.specs.Matrix.{Matrix}
+use Rattle.hyper_matrix.specs.Counts.{ewise_add, total}
+use Rattle.hyper_matrix.specs.Matrix.{Matrix, matrix}
+use Rattle.hyper_matrix.proofs.CountLaws.{total-empty}
+use Rattle.layer_cascade.specs.Cascade.{content}
+use Rattle.layer_cascade.specs.Shared.{values, all_counts}
+use Rattle.layer_cascade.proofs.CascadeLaws.{empty-ewise_add}
 use Rattle.layer_cascade.proofs.RunLemmas.{have_parts, total-parts, run_alone, runs_together}
 use Rattle.layer_cascade.proofs.runs.+sum_of_runs.Goals as goal
 
@@ -62,3 +66,18 @@ returns-in_ok-whole-in_default-2 t c =
     c.split_at.ensures.by_index.0 c.args.rows c.args.cols
     c.in_ok-sum-in_default-2.sum c.in_ok-rest-in_default-2.rest
     c.in_ok-sum-in_default-2.ensures c.in_ok-rest-in_default-2.ensures
+
+pub sum_by_list-requires-clause-fits : goal.sum_by_list-requires-clause-fits
+sum_by_list-requires-clause-fits t c = omega (
+  arith,
+  c.requires.fits,
+  ap (λ (m : Matrix). total m.counts) c.new-none.ensures,
+  total-empty,
+)
+
+pub returns-in_ok-listed-in_default : goal.returns-in_ok-listed-in_default
+returns-in_ok-listed-in_default t c =
+    let all = content (all_counts (values c.args.runs.now)) in
+    c.in_ok-listed-in_default.ensures
+    ∙ ap (λ (m : Matrix). matrix m.rows m.cols (ewise_add m.counts all)) c.new-none.ensures
+    ∙ ap (matrix c.args.rows c.args.cols) (empty-ewise_add all)

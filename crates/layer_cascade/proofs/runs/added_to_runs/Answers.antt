@@ -1,6 +1,5 @@
 use Rattle.std.proofs.Common.{ap, ◌∙◌, arith}
-use Rattle.hyper_matrix.specs.Counts.{ewise_add, total}
-use Rattle.hyper_matrix.proofs.BuiltOfLaws.{total-built_of}
+use Rattle.hyper_matrix.specs.Counts.{total}
 use Rattle.hyper_matrix.proofs.CountLaws.{total-ewise_add}
 use Rattle.hyper_matrix.specs.Matrix.{Matrix, matrix}
 use Rattle.layer_cascade.specs.Cascade.{content}
@@ -10,21 +9,6 @@ use Rattle.layer_cascade.proofs.runs.added_to_runs.Goals as goal
 
 pub returns-in_default : goal.returns-in_default
 returns-in_default c = no_runs c.args.runs.now c.args.m (c.in_default.ensures.cases)
-
-pub with_list-requires-clause-within : goal.with_list-requires-clause-within
-with_list-requires-clause-within c = c.in_ok-cells.ensures.within c.args.m.rows c.args.m.cols c.requires.dims
-
-pub with_list-requires-clause-fits : goal.with_list-requires-clause-fits
-with_list-requires-clause-fits c = omega (
-  arith,
-  c.requires.fits,
-  ap total c.in_ok-cells.ensures.sum,
-  total-built_of c.in_ok-cells.cells.items,
-)
-
-pub returns-then-are_alike : goal.returns-then-are_alike
-returns-then-are_alike c = c.in_ok-merged.ensures
-    ∙ ap (λ (n : _). matrix c.args.m.rows c.args.m.cols (ewise_add c.args.m.counts n)) c.in_ok-cells.ensures.sum
 
 pub sum_of_runs-requires-clause-fits : goal.sum_of_runs-requires-clause-fits
 sum_of_runs-requires-clause-fits c = omega (
