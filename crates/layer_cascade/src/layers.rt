@@ -8,9 +8,9 @@
 //!
 //! Each layer is shared and never changed in place, so a plan takes over the layers that it leaves by a pointer, and to
 //! commit it is to exchange pointers. `Layers::add` makes both steps at once from layers that are given away: what it
-//! adds up it takes from their memory, several matrices of a layer by one list of their cells, and the last layer it
-//! leaves one matrix. A look-up asks each matrix of each layer and puts the answers together; only `Layers::sum` and
-//! `Layers::into_sum` build the sum.
+//! adds up it takes from their memory, several matrices of a layer by one list of their cells, and it leaves a single
+//! matrix in the last layer. A look-up asks each matrix of each layer and puts the answers together; only `Layers::sum`
+//! and `Layers::into_sum` build the sum.
 ghost use Rattle.std.specs.Prelude.{◌≡◌, ℕ, ◌+◌, ◌<◌, ◌≤◌, ◌^◌, ◌⊎◌, ◌↔◌, IfOk, IfSome, length};
 ghost use Rattle.std.specs.FinMap.{get, len};
 ghost use Rattle.cells.specs.Bounds.{IsDimension, AreWithin};
@@ -165,7 +165,9 @@ impl Layers {
     ///
     /// Where `m` is put beside the matrices of a layer, that takes the time of a pointer for each of these, at most 32.
     /// Else takes the time and memory of the sums up to that layer, in which blocks that meet no other are shared. The
-    /// layers above it aren't read.
+    /// layers above it aren't read. Where matrices stand side by side, and neither the first of them nor what is added
+    /// is the larger part, all are added up by one list of their cells, of at most 2^21: it takes 24 bytes for each, and
+    /// as much again while it is sorted.
     ///
     /// # Errors
     ///
@@ -245,8 +247,9 @@ impl Layers {
     ///
     /// Nothing is changed that somebody else shares: a layer, or a block of one. What nobody else has is moved, and
     /// freed as the cascade goes on. Takes the time of the sums up to the layer where it ends, which is that of a
-    /// pointer where a matrix is put beside others, and for blocks that meet no other. Several matrices that stand side by side
-    /// are added up by a list of their cells, at most 2^21 of them and those of `m`: that takes 48 bytes for each.
+    /// pointer where a matrix is put beside others, and for blocks that meet no other. Several matrices that stand side
+    /// by side are added up by a list of their cells, at most 2^21 of them and those of `m`: that takes 48 bytes for
+    /// each.
     ///
     /// # Errors
     ///

@@ -13,8 +13,8 @@ pub const MAX_RUNS: usize = 16;
 /// The fewest matrices side by side in layer 1 that `Layers::gather` adds up.
 pub const GATHERED_RUNS: usize = 8;
 
-/// The most entries of two matrices together that `Layers::gather` adds up in a deeper layer: about two milliseconds, as
-/// for an addition that passes a cut of 65,536.
+/// The most entries of two matrices together that `Layers::gather` adds up in a deeper layer: about two milliseconds,
+/// as for an addition that passes a cut of 65,536.
 pub const MOST_PAIRED: u64 = 66_000;
 
 /// Two matrices side by side are added up where the earlier one has fewer entries than so many times the later one. So
@@ -25,5 +25,6 @@ pub const PAIR_RATIO: u64 = 3;
 pub const MOST_LISTED: u64 = 16_384;
 
 /// The most entries that an addition to layers that are given away leaves side by side in a layer, and the most that
-/// are added up by one list of all. The list and the memory of its sort take 24 bytes each for an entry: some 100 MB.
+/// are added up by one list of all: by `Layers::into_sum`, and where the layers stay, as for `Layers::plan`. The list
+/// and the memory of its sort take 24 bytes each for an entry: some 100 MB.
 pub const MOST_BESIDE: u64 = 1 << 21;

@@ -1,6 +1,7 @@
 //! Two runs of a layer that stand side by side, added up while the others stay as they are.
 //!
-//! Done again and again, it leaves few runs, each several times as large as the next, in the manner of a binary counter.
+//! Done again and again, it leaves few runs, each several times as large as the next, in the manner of a binary
+//! counter.
 ghost use Rattle.std.specs.Prelude.{◌≡◌, ◌+◌, ◌<◌, ◌^◌, length, IfOk, IfSome};
 ghost use Rattle.cells.specs.Bounds.{IsDimension};
 ghost use Rattle.hyper_matrix.specs.Counts.{total};

@@ -23,5 +23,6 @@ invariant_of-self c =
 
 pub returns-in_ok-self-inside : goal.returns-in_ok-self-inside
 returns-in_ok-self-inside c =
-    ap (λ l. layering c.self.inside.rows c.self.inside.cols (arc_slice_items c.self.inside.cuts) (all_counts l)) (same c)
+    ap (λ l. layering c.self.inside.rows c.self.inside.cols (arc_slice_items c.self.inside.cuts) (all_counts l))
+    (same c)
     ∙ c.self.view_is
