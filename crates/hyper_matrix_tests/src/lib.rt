@@ -5,6 +5,8 @@
 #![tactic(auto)]
 
 #[cfg(test)]
+mod listed_cells;
+#[cfg(test)]
 mod long_row;
 #[cfg(test)]
 mod look_ups;
