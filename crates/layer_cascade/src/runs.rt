@@ -82,19 +82,17 @@ pub fn sum_of_runs(
     }
 }
 
-// Whether a matrix, a run and those behind it are added up by one list of all their cells: there are many of them, and
-// neither the run nor the matrix has more than the other runs, or all runs, together. Else that one's blocks may stay.
+// Whether a matrix, a run and those behind it are added up by a list of their cells: there are many of them, and the run
+// has no more than those behind it together. Where it has more, it may share blocks with the sum.
 fn are_alike(m: &Hyper, first: &Hyper, rest: &[Arc<Hyper>]) -> bool {
     let others = entries_bound(rest);
     let runs = first.entries().saturating_add(others);
     let all = m.entries().saturating_add(runs);
-    let is_bounded = MOST_LISTED < all && all <= MOST_BESIDE;
-    is_bounded && first.entries() <= others && m.entries() <= runs
+    MOST_LISTED < all && all <= MOST_BESIDE && first.entries() <= others
 }
 
 /// The sum of a matrix and runs. Where the first run is the larger part, all others are added up with the matrix, and
-/// the sum to that run, whose blocks it shares but for those that it touches. So it is too where the matrix is the
-/// larger part. Else one list of the cells of all is merged.
+/// the sum to that run, whose blocks it shares but for those that it touches. Else one list of cells is merged.
 pub fn added_to_runs(alloc: Global, m: Hyper, runs: &[Arc<Hyper>]) -> Result<Hyper, AllocError>
     requires dims { HaveDims m.rows m.cols (values runs.now) }
     requires fits { total m.counts + total (content (all_counts (values runs.now))) < 2 ^ 64 }
