@@ -165,9 +165,9 @@ impl Layers {
     ///
     /// Where `m` is put beside the matrices of a layer, that takes the time of a pointer for each of these, at most 32.
     /// Else takes the time and memory of the sums up to that layer, in which blocks that meet no other are shared. The
-    /// layers above it aren't read. Where matrices stand side by side, and the first of them has no more than the others
-    /// together, all are added up by one list of their cells, of at most 2^21: it takes 24 bytes for each, and as much
-    /// again while it is sorted.
+    /// layers above it aren't read. Where matrices stand side by side, and the first of them has no more than the
+    /// others together, all are added up by one list of their cells, of at most 2^21: it takes 24 bytes for each, and
+    /// as much again while it is sorted.
     ///
     /// # Errors
     ///

@@ -82,8 +82,8 @@ pub fn sum_of_runs(
     }
 }
 
-// Whether a matrix, a run and those behind it are added up by a list of their cells: there are many of them, and the run
-// has no more than those behind it together. Where it has more, it may share blocks with the sum.
+// Whether a matrix, a run and those behind it are added up by a list of their cells: there are many of them, and the
+// run has no more than those behind it together. Where it has more, it may share blocks with the sum.
 fn are_alike(m: &Hyper, first: &Hyper, rest: &[Arc<Hyper>]) -> bool {
     let others = entries_bound(rest);
     let runs = first.entries().saturating_add(others);
