@@ -1,10 +1,127 @@
-use Rattle.std.proofs.Common.{sym, subst}
+use Rattle.std.proofs.Common.{sym, subst, arith}
 use Rattle.std.proofs.lemmas.Result.{err_from_is_err_and}
 use Rattle.batch_store.specs.Setups.{Setting}
 use Rattle.snap_file.specs.Table.{head}
 use Rattle.snap_file.specs.Outcomes.{HasRead}
 use Rattle.snap_file.specs.declared.head.Head.{Head}
 use Rattle.snap_file.proofs.head.read_head.Goals as goal
+
+-- no call has failed before the next one
+pub next_u32_in-requires-clause-failures : goal.next_u32_in-requires-clause-failures
+next_u32_in-requires-clause-failures g c =
+    omega (arith, c.requires.failures, c.in_ok-_mark.ensures.no_failure)
+
+pub next_u64_in-requires-2-clause-failures : goal.next_u64_in-requires-2-clause-failures
+next_u64_in-requires-2-clause-failures g c =
+    omega (arith, c.requires.failures, c.in_ok-_mark.ensures.no_failure, c.in_ok-_version.ensures.no_failure)
+
+pub next_u64_in-requires-3-clause-failures : goal.next_u64_in-requires-3-clause-failures
+next_u64_in-requires-3-clause-failures g c =
+    omega (
+      arith,
+      c.requires.failures,
+      c.in_ok-_mark.ensures.no_failure,
+      c.in_ok-_version.ensures.no_failure,
+      c.in_ok-rows.ensures.no_failure,
+    )
+
+pub next_u8_in-requires-clause-failures : goal.next_u8_in-requires-clause-failures
+next_u8_in-requires-clause-failures g c =
+    omega (
+      arith,
+      c.requires.failures,
+      c.in_ok-_mark.ensures.no_failure,
+      c.in_ok-_version.ensures.no_failure,
+      c.in_ok-rows.ensures.no_failure,
+      c.in_ok-cols.ensures.no_failure,
+    )
+
+pub read_cuts-requires-clause-failures : goal.read_cuts-requires-clause-failures
+read_cuts-requires-clause-failures g c =
+    omega (
+      arith,
+      c.requires.failures,
+      c.in_ok-_mark.ensures.no_failure,
+      c.in_ok-_version.ensures.no_failure,
+      c.in_ok-rows.ensures.no_failure,
+      c.in_ok-cols.ensures.no_failure,
+      c.in_ok-cut_count.ensures.no_failure,
+    )
+
+pub next_u8_in-requires-2-clause-failures : goal.next_u8_in-requires-2-clause-failures
+next_u8_in-requires-2-clause-failures g c =
+    omega (
+      arith,
+      c.requires.failures,
+      c.in_ok-_mark.ensures.no_failure,
+      c.in_ok-_version.ensures.no_failure,
+      c.in_ok-rows.ensures.no_failure,
+      c.in_ok-cols.ensures.no_failure,
+      c.in_ok-cut_count.ensures.no_failure,
+      c.in_ok-cuts.ensures.no_failure,
+    )
+
+pub next_u64_in-requires-4-clause-failures : goal.next_u64_in-requires-4-clause-failures
+next_u64_in-requires-4-clause-failures g c =
+    omega (
+      arith,
+      c.requires.failures,
+      c.in_ok-_mark.ensures.no_failure,
+      c.in_ok-_version.ensures.no_failure,
+      c.in_ok-rows.ensures.no_failure,
+      c.in_ok-cols.ensures.no_failure,
+      c.in_ok-cut_count.ensures.no_failure,
+      c.in_ok-cuts.ensures.no_failure,
+      c.in_ok-shards.ensures.no_failure,
+    )
+
+pub next_u64_in-requires-5-clause-failures : goal.next_u64_in-requires-5-clause-failures
+next_u64_in-requires-5-clause-failures g c =
+    omega (
+      arith,
+      c.requires.failures,
+      c.in_ok-_mark.ensures.no_failure,
+      c.in_ok-_version.ensures.no_failure,
+      c.in_ok-rows.ensures.no_failure,
+      c.in_ok-cols.ensures.no_failure,
+      c.in_ok-cut_count.ensures.no_failure,
+      c.in_ok-cuts.ensures.no_failure,
+      c.in_ok-shards.ensures.no_failure,
+      c.in_ok-limit.ensures.no_failure,
+    )
+
+pub next_u64_in-requires-6-clause-failures : goal.next_u64_in-requires-6-clause-failures
+next_u64_in-requires-6-clause-failures g c =
+    omega (
+      arith,
+      c.requires.failures,
+      c.in_ok-_mark.ensures.no_failure,
+      c.in_ok-_version.ensures.no_failure,
+      c.in_ok-rows.ensures.no_failure,
+      c.in_ok-cols.ensures.no_failure,
+      c.in_ok-cut_count.ensures.no_failure,
+      c.in_ok-cuts.ensures.no_failure,
+      c.in_ok-shards.ensures.no_failure,
+      c.in_ok-limit.ensures.no_failure,
+      c.in_ok-max_batches.ensures.no_failure,
+    )
+
+pub next_u64_in-requires-7-clause-failures : goal.next_u64_in-requires-7-clause-failures
+next_u64_in-requires-7-clause-failures g c =
+    omega (
+      arith,
+      c.requires.failures,
+      c.in_ok-_mark.ensures.no_failure,
+      c.in_ok-_version.ensures.no_failure,
+      c.in_ok-rows.ensures.no_failure,
+      c.in_ok-cols.ensures.no_failure,
+      c.in_ok-cut_count.ensures.no_failure,
+      c.in_ok-cuts.ensures.no_failure,
+      c.in_ok-shards.ensures.no_failure,
+      c.in_ok-limit.ensures.no_failure,
+      c.in_ok-max_batches.ensures.no_failure,
+      c.in_ok-batches.ensures.no_failure,
+    )
 
 pub returns-in_err-_mark-clause-err : goal.returns-in_err-_mark-clause-err
 unfolding head

@@ -172,3 +172,9 @@ returns-in-Ok-clause-run g c =
     (run_more c.args.head.now.setup.rows c.args.head.now.setup.cols c.args.tally.now.cells.items
     c.args.tally.now.least_row c.args.tally.now.least_col cell c.requires.run
     (sym c.stands_before-early.ensures ∙ c.in_ok-refuse-3.ensures.ok) in_row in_col)
+
+pub next_u64-requires-2 : goal.next_u64-requires-2
+next_u64-requires-2 g c = omega (arith, c.requires.failures, c.in_ok-row.ensures.no_failure)
+
+pub next_u64-requires-3 : goal.next_u64-requires-3
+next_u64-requires-3 g c = omega (arith, c.requires.failures, c.in_ok-row.ensures.no_failure, c.in_ok-col.ensures.no_failure)
