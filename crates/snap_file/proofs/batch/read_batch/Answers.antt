@@ -1,4 +1,4 @@
-use Rattle.std.proofs.Common.{◌≡◌, sym, subst, ◌∙◌}
+use Rattle.std.proofs.Common.{◌≡◌, sym, subst, ◌∙◌, arith}
 use Rattle.std.proofs.lemmas.Result.{err_from_is_err_and}
 use Rattle.batch_store.specs.Batches.{values}
 use Rattle.snap_file.specs.Table.{Progress, batch}
@@ -93,3 +93,12 @@ returns-clause-ok g c = λ s m k h.
     (values c.push_batch.new.batches.items) c.read_entries.new.tally.counted x.1 x.2 c.in_ok-push_batch.ensures.ok in
     subst (λ (q : Progress). HasRead {S = g.row.R.Denot} g.R.Source.read_gives g.R.Source.failure_count m s
     c.read_entries.new.r c.read_entries.new.reader (k q)) is x.3
+
+pub next_u64-requires-2 : goal.next_u64-requires-2
+next_u64-requires-2 g c = omega (arith, c.requires.failures, c.in_ok-client.ensures.no_failure)
+
+pub next_u64-requires-3 : goal.next_u64-requires-3
+next_u64-requires-3 g c = omega (arith, c.requires.failures, c.in_ok-client.ensures.no_failure, c.in_ok-number.ensures.no_failure)
+
+pub read_entries-requires-clause-failures : goal.read_entries-requires-clause-failures
+read_entries-requires-clause-failures g c = omega (arith, c.requires.failures, c.in_ok-client.ensures.no_failure, c.in_ok-number.ensures.no_failure, c.in_ok-count.ensures.no_failure)

@@ -42,3 +42,9 @@ loop-batch-init g c =
           (flat_map batch_bytes list) c.push_head.new.writer
           (c.push_head.ensures.taken ∙ c.new-writer.ensures.taken) front;
     }
+
+pub write_batch-requires-clause-failures : goal.write_batch-requires-clause-failures
+write_batch-requires-clause-failures g c = omega (arith, c.requires.failures, c.loop-batch.invariant.failures)
+
+pub finish-requires-clause-failures : goal.finish-requires-clause-failures
+finish-requires-clause-failures g c = omega (arith, c.requires.failures, c.loop-batch.invariant.failures)
