@@ -1,0 +1,46 @@
+use Rattle.std.proofs.Common.{◌≡◌, ap, arith}
+use Rattle.batch_store.specs.Setups.{Setting}
+use Rattle.batch_store.specs.Books.{list_total}
+use Rattle.plain_engine.specs.Standing.{Standing}
+use Rattle.locked_engine.proofs.engine.Engine.close.Goals as goal
+
+-- with all seats back, their first shares are the first ledger
+pub returns-in-Ok-clause-seats : goal.returns-in-Ok-clause-seats
+returns-in-Ok-clause-seats g c =
+    let named = c.self.invariant in
+    let parts = c.gather-first.ensures.parts in
+    let all : c.gather-first.result.0.parts ≡ g.N.Ledger.parts =
+    omega (arith, parts.0, c.if-len-self.false, c.len.ensures, named.1, named.4) in
+    omega (
+      arith,
+      c.gather-first.ensures.first,
+      c.audit.ensures.whole all,
+      c.into_inner-book.result.first_is,
+      ap (λ (e : Standing). list_total e.book.list) c.in-Ok.ensures.ok,
+    )
+
+-- and both ledgers have the book's total
+pub returns-clause-differ : goal.returns-clause-differ
+returns-clause-differ g c = λ shards book e.
+    let named = c.self.invariant in
+    let parts = c.gather-first.ensures.parts in
+    let all : c.gather-first.result.0.parts ≡ g.N.Ledger.parts =
+    omega (arith, parts.0, c.if-len-self.false, c.len.ensures, named.1, named.4) in
+    let both : c.unlock_all.new.second.parts ≡ g.H.Ledger.parts =
+    omega (arith, parts.1, c.unlock_all.ensures.parts, c.if-len-self.false, c.len.ensures, named.1, named.2, named.5) in
+    let same_shards : c.in-Err.shards ≡ shards = cc in
+    let same_book : c.in-Err.book ≡ book = cc in
+    let back = c.in-Err.ensures.err in
+    let kept = rw back.0 at c.total-total.ensures.kept in
+    let inside = c.into_inner-book.result in
+    rw (← same_shards, ← same_book, back.0, back.1) (
+      omega (
+        arith,
+        c.unlock_all.ensures.amount,
+        c.gather-first.ensures.balanced,
+        c.audit-2.ensures.whole both,
+        inside.second_is,
+      ),
+      omega (arith, kept.within, ap (λ (v : Setting). v.limit) inside.setup_is),
+      omega (arith, c.gather-first.ensures.first, c.audit.ensures.whole all, inside.first_is),
+    )
