@@ -98,7 +98,15 @@ pub next_u64-requires-2 : goal.next_u64-requires-2
 next_u64-requires-2 g c = omega (arith, c.requires.failures, c.in_ok-client.ensures.no_failure)
 
 pub next_u64-requires-3 : goal.next_u64-requires-3
-next_u64-requires-3 g c = omega (arith, c.requires.failures, c.in_ok-client.ensures.no_failure, c.in_ok-number.ensures.no_failure)
+next_u64-requires-3 g c =
+    omega (arith, c.requires.failures, c.in_ok-client.ensures.no_failure, c.in_ok-number.ensures.no_failure)
 
 pub read_entries-requires-clause-failures : goal.read_entries-requires-clause-failures
-read_entries-requires-clause-failures g c = omega (arith, c.requires.failures, c.in_ok-client.ensures.no_failure, c.in_ok-number.ensures.no_failure, c.in_ok-count.ensures.no_failure)
+read_entries-requires-clause-failures g c =
+    omega (
+      arith,
+      c.requires.failures,
+      c.in_ok-client.ensures.no_failure,
+      c.in_ok-number.ensures.no_failure,
+      c.in_ok-count.ensures.no_failure,
+    )

@@ -177,4 +177,5 @@ pub next_u64-requires-2 : goal.next_u64-requires-2
 next_u64-requires-2 g c = omega (arith, c.requires.failures, c.in_ok-row.ensures.no_failure)
 
 pub next_u64-requires-3 : goal.next_u64-requires-3
-next_u64-requires-3 g c = omega (arith, c.requires.failures, c.in_ok-row.ensures.no_failure, c.in_ok-col.ensures.no_failure)
+next_u64-requires-3 g c =
+    omega (arith, c.requires.failures, c.in_ok-row.ensures.no_failure, c.in_ok-col.ensures.no_failure)
