@@ -86,15 +86,7 @@ impl<'a> Case<'a> {
         end: &str,
         expected: Expected,
     ) -> Result<Case<'a>, AllocError> {
-        let mut text = front.as_bytes().to_vec(alloc)?;
-        text.extend_from_slice(name.as_bytes())?;
-        text.extend_from_slice(end.as_bytes())?;
-        Ok(Case {
-            name,
-            text,
-            limits: WIDE,
-            expected,
-        })
+        Case::of_parts(alloc, name, front, &[(name, 1), (end, 1)], expected)
     }
 
     /// The text of these parts behind a front, within wide limits.

@@ -220,6 +220,19 @@ fn check_max_bytes(
     Ok(())
 }
 
+/// Checks the texts of a table, behind a front that all have.
+fn check_all_max_bytes(
+    rt: &impl Abort,
+    alloc: Global,
+    front: &str,
+    table: &[(Parts, Limited)],
+) -> Result<(), AllocError> {
+    for (parts, limited) in table {
+        check_max_bytes(rt, alloc, front, parts, limited)?;
+    }
+    Ok(())
+}
+
 fn check_max_entries(
     rt: &impl Abort,
     alloc: Global,
@@ -236,12 +249,8 @@ fn check_max_entries(
 
 #[test]
 fn most_bytes(rt: HostRuntime) -> Result<(), Fail> {
-    for (parts, limited) in SHORT {
-        check_max_bytes(&rt, rt.alloc(), "", parts, limited)?;
-    }
-    for (parts, limited) in BEHIND_BANNER {
-        check_max_bytes(&rt, rt.alloc(), GENERAL, parts, limited)?;
-    }
+    check_all_max_bytes(&rt, rt.alloc(), "", SHORT)?;
+    check_all_max_bytes(&rt, rt.alloc(), GENERAL, BEHIND_BANNER)?;
     Ok(())
 }
 
