@@ -39,6 +39,17 @@ refused_here v w list done left rest all b at fault setup same count so_far cut 
     ∙ refused (verdict_in v done b) (length done) (first_refusal v (done ++ b ∷ []) rest) fault
     ((λ i. refusal_of (verdict_in (sym setup i) (sym same i) b) (sym count i) None) ∙ h)
 
+-- behind a fresh batch the rest is judged
+pub passed_here : (v w : Setting) (list done left rest all more : List Submission) (b : Submission) → w ≡ v →
+    list ≡ done → first_refusal v [] all ≡ first_refusal v done left → left ≡ b ∷ rest → more ≡ done ++ b ∷ [] →
+    verdict_in w list b ≡ Fresh → first_refusal v [] all ≡ first_refusal v more rest
+passed_here v w list done left rest all more b setup same so_far cut next fresh =
+    so_far
+    ∙ ap (first_refusal v done) cut
+    ∙ ap (λ (r : Verdict). refusal_of r (length done) (first_refusal v (done ++ b ∷ []) rest))
+    ((λ i. verdict_in (sym setup i) (sym same i) b) ∙ fresh)
+    ∙ ap (λ (l : List Submission). first_refusal v l rest) (sym next)
+
 -- == A list that a book accepts
 
 -- in a list of distinct entries none before an entry has its pair
