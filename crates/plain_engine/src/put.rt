@@ -58,6 +58,21 @@ fn prepared_for(
     }
 }
 
+// Makes a free place in the book for a fresh batch, and admits it.
+fn admitted(book: &mut Book, b: Arc<Batch>) -> Result<Kept, AllocError>
+    requires fresh { verdict_in book.old.setup book.old.list (arc_value b) ≡ Fresh }
+    requires rows { (arc_value b).matrix.rows ≡ book.old.setup.rows }
+    requires cols { (arc_value b).matrix.cols ≡ book.old.setup.cols }
+    ensures setup { book.new.setup ≡ book.old.setup }
+    ensures list { OnOk result (book.new.list ≡ book.old.list ++ arc_value b ∷ []) }
+    ensures kept { IfOk result (λ r. r ≡
+        kept (length book.old.list) (list_total book.old.list + batch_total (arc_value b))) }
+    ensures same_list { OnErr result (book.new.list ≡ book.old.list) }
+{
+    book.reserve(&b)?;
+    Ok(book.admit(b))
+}
+
 // Prepares those of these shards, of k, that a fresh batch concerns, admits it, and commits in each on the way back.
 //
 // It calls itself once for each shard, of at most 64.
@@ -85,8 +100,7 @@ fn put_from(
     ensures same_shards { OnErr result (map bare_shard shards.new ≡ map bare_shard shards.old) }
 {
     let Some((first, rest)) = shards.split_first_mut() else {
-        book.reserve(&b)?;
-        return Ok(book.admit(b));
+        return admitted(book, b);
     };
     // A call on a shard tells what it keeps, here and after the commit.
     let _held = first.total();
