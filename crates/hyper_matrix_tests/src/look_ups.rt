@@ -1,5 +1,5 @@
 //! Look-ups in the matrix {(0, 0): 3, (0, 1): 0, (2, 2): 4} of 3 by 3, and in the empty matrix.
-use crate::matrices::{Triple, built, cell, cells_of};
+use crate::matrices::{Triple, cell, small};
 use hyper_matrix::{Entry, Hyper, RowSum};
 use std::alloc::{AllocError, Global};
 use std::test::Fail;
@@ -78,8 +78,7 @@ fn first_wrong(
     list: &[Triple],
     questions: &[LookUp],
 ) -> Result<Option<LookUp>, AllocError> {
-    let list = cells_of(alloc, list)?;
-    let m = built(alloc, 3, &list)?;
+    let m = small(alloc, list)?;
     for question in questions {
         if !is_answered(&m, *question) {
             return Ok(Some(*question));

@@ -54,6 +54,23 @@ pub fn built(alloc: Global, side: u64, cells: &[Cell]) -> Result<Hyper, AllocErr
     }
 }
 
+/// The matrix of 3 by 3 of a list that has no fault.
+pub fn small(alloc: Global, triples: &[Triple]) -> Result<Hyper, AllocError> {
+    let cells = cells_of(alloc, triples)?;
+    built(alloc, 3, &cells)
+}
+
+/// The matrix of a grid (`grid`).
+pub fn built_grid(
+    alloc: Global,
+    shape: Triple,
+    more: u64,
+    count: u64,
+) -> Result<Hyper, AllocError> {
+    let cells = grid(alloc, shape, more, count)?;
+    built(alloc, SIDE, &cells)
+}
+
 fn listed(alloc: Global, m: &Hyper, want: &[Cell]) -> Result<bool, AllocError> {
     let cells = m.cells(alloc)?;
     Ok(cells.as_slice() == want)

@@ -1,5 +1,5 @@
 //! The parts of a matrix, worked out by hand, and of a matrix of many blocks.
-use crate::matrices::{SIDE, Triple, built, cell, cells_of, has};
+use crate::matrices::{SIDE, Triple, built, cell, cells_of, has, small};
 use cells::Cell;
 use hyper_matrix::Hyper;
 use std::alloc::{AllocError, Global};
@@ -31,11 +31,11 @@ static PARTS: &[Parted] = &[
 
 fn parts(alloc: Global, case: &Parted) -> Result<bool, AllocError> {
     let (list, s, k, want) = *case;
-    let want = cells_of(alloc, want)?;
-    let m = built(alloc, 3, &cells_of(alloc, list)?)?;
     if s >= k {
         return Ok(false);
     }
+    let want = cells_of(alloc, want)?;
+    let m = small(alloc, list)?;
     let part = m.part(alloc, s, k)?;
     Ok(part.dims() == (3, 3) && has(alloc, &part, &want)?)
 }
@@ -52,8 +52,8 @@ fn shards_have_their_rows(rt: HostRuntime) -> Result<(), Fail> {
 fn tall(alloc: Global, n: u64, only: Option<u64>) -> Result<Vec<Cell>, AllocError> {
     let mut cells = Vec::new(alloc);
     for k in 0..n {
-        let row = k.checked_div(3).unwrap_or(0);
-        if only.is_none() || row.checked_rem(5) == only {
+        let row = k / 3;
+        if only.is_none() || only == Some(row % 5) {
             cells.push(cell((row, k, 1)))?;
         }
     }
@@ -80,18 +80,22 @@ fn parts_of_many_blocks(rt: HostRuntime) -> Result<(), Fail> {
     Ok(())
 }
 
+// Whether a part is that of shard s of k.
+fn part_is(alloc: Global, m: &Hyper, s: u64, k: u64, part: &Hyper) -> Result<bool, AllocError> {
+    if s >= k {
+        return Ok(false);
+    }
+    let want = m.part(alloc, s, k)?.cells(alloc)?;
+    Ok(part.dims() == m.dims() && has(alloc, part, &want)?)
+}
+
 // Whether the parts of all shards of k are those that `part` gives one by one.
 fn parts_are(alloc: Global, m: &Hyper, k: u64, parts: &[Hyper]) -> Result<bool, AllocError> {
     if parts.len() as u64 != k {
         return Ok(false);
     }
     for (s, part) in parts.iter().enumerate() {
-        let s = s as u64;
-        if s >= k {
-            return Ok(false);
-        }
-        let want = m.part(alloc, s, k)?;
-        if part.dims() != m.dims() || !has(alloc, part, &want.cells(alloc)?)? {
+        if !part_is(alloc, m, s as u64, k, part)? {
             return Ok(false);
         }
     }

@@ -1,15 +1,13 @@
 //! Sums in which all places of one matrix stand in the other: long rows and short ones, in blocks that are shared and
 //! in blocks that aren't.
-use crate::matrices::{SIDE, Triple, adds_up, built, grid};
+use crate::matrices::{Triple, adds_up, built_grid, grid};
 use std::alloc::{AllocError, Global};
 use std::test::Fail;
 
 fn adds_to_standing(alloc: Global, shape: Triple) -> Result<bool, AllocError> {
-    let ones = grid(alloc, shape, 1, 1)?;
-    let twos = grid(alloc, shape, 2, 0)?;
+    let a = built_grid(alloc, shape, 1, 1)?;
+    let b = built_grid(alloc, shape, 2, 0)?;
     let want = grid(alloc, shape, 3, 1)?;
-    let a = built(alloc, SIDE, &ones)?;
-    let b = built(alloc, SIDE, &twos)?;
     adds_up(alloc, a, b, &want)
 }
 

@@ -1,7 +1,7 @@
 //! Lists and sums that were worked out by hand, in a matrix of 3 by 3.
 ghost use Rattle.cells.specs.Bounds.{IsDimension};
 
-use crate::matrices::{Triple, adds_up, built, cell, cells_of, has};
+use crate::matrices::{Triple, adds_up, built, cell, cells_of, has, small};
 use hyper_matrix::{BuildFault, Hyper};
 use std::alloc::{AllocError, Global};
 use std::test::Fail;
@@ -47,18 +47,15 @@ static REFUSED: &[(&[Triple], BuildFault)] = &[
 ];
 
 fn builds(alloc: Global, list: &[Triple], want: &[Triple]) -> Result<bool, AllocError> {
+    let m = small(alloc, list)?;
     let want = cells_of(alloc, want)?;
-    let list = cells_of(alloc, list)?;
-    let m = built(alloc, 3, &list)?;
     Ok(m.dims() == (3, 3) && has(alloc, &m, &want)?)
 }
 
 fn sums(alloc: Global, xs: &[Triple], ys: &[Triple], want: &[Triple]) -> Result<bool, AllocError> {
+    let a = small(alloc, xs)?;
+    let b = small(alloc, ys)?;
     let want = cells_of(alloc, want)?;
-    let xs = cells_of(alloc, xs)?;
-    let ys = cells_of(alloc, ys)?;
-    let a = built(alloc, 3, &xs)?;
-    let b = built(alloc, 3, &ys)?;
     adds_up(alloc, a, b, &want)
 }
 
