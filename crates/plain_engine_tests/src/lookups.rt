@@ -7,6 +7,7 @@ use crate::puts::{Step, engine_of, put_all, small_engine_of};
 use batch_store::{Setup, ShardView};
 use plain_engine::PlainEngine;
 use std::alloc::{AllocError, Global};
+use std::process::Abort;
 use std::test::Fail;
 
 // Rows 0 and 2 are of shard 0, row 1 is of shard 1.
@@ -104,13 +105,23 @@ fn first_view(alloc: Global, engine: &PlainEngine) -> Result<ShardView, AllocErr
     }
 }
 
+// As `expect_view`, of the view of shard 0.
+fn expect_first_view(
+    rt: &impl Abort,
+    alloc: Global,
+    engine: &PlainEngine,
+    expected: (u64, u64, u64),
+) -> Result<(), AllocError> {
+    let view = first_view(alloc, engine)?;
+    expect_view(rt, alloc, &view, expected)
+}
+
 #[test]
 fn layers_keep_their_cuts(rt: HostRuntime) -> Result<(), Fail> {
     let setup = Setup::new(3, 10, &[2, 4], 1, 100, 10)?;
     let engine = engine_of(&rt, rt.alloc(), setup, TEN)?;
     assert_eq!(rt; layers(&engine), Some([Some(1), Some(3), Some(6), None]));
-    let view = first_view(rt.alloc(), &engine)?;
-    expect_view(&rt, rt.alloc(), &view, (10, 10, 10))?;
+    expect_first_view(&rt, rt.alloc(), &engine, (10, 10, 10))?;
     Ok(())
 }
 
