@@ -3,6 +3,7 @@ pub mod CutLemmas
 pub mod LayerLemmas
 pub mod KeptLemmas
 pub mod RowLemmas
+pub mod RowEntryLemmas
 pub mod CarryLemmas
 pub mod FirstLayerLemmas
 pub mod RunLemmas

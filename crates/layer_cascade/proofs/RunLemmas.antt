@@ -26,7 +26,7 @@ use Rattle.layer_cascade.proofs.CascadeLaws.{empty-ewise_add}
 use Rattle.layer_cascade.proofs.CarryLemmas.{counts_append}
 use Rattle.layer_cascade.proofs.LayerLemmas.{content-append}
 
-len-add_at : (m : Counts) (p : Place) (n : ℕ) → len (add_at m p n) ≡ cond (is_some (get m p)) 0 1 + len m
+pub len-add_at : (m : Counts) (p : Place) (n : ℕ) → len (add_at m p n) ≡ cond (is_some (get m p)) 0 1 + len m
 unfolding add_at
 len-add_at m p n = len-insert places_total m p (count_at m p + n) ∙ step (is_some (get m p))
   where

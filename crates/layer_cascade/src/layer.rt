@@ -10,15 +10,15 @@ ghost use Rattle.hyper_matrix.specs.Cells.{built_of};
 ghost use Rattle.hyper_matrix.specs.Counts.{ewise_add, total};
 ghost use Rattle.hyper_matrix.specs.Matrix.{matrix};
 ghost use Rattle.hyper_matrix.specs.RowOf.{row_of};
-ghost use Rattle.layer_cascade.specs.Columns.{FirstColumn};
+ghost use Rattle.layer_cascade.specs.Cascade.{content};
+ghost use Rattle.layer_cascade.specs.Shared.{values, all_counts, HaveDims};
 ghost use Rattle.layer_cascade.specs.Steps.{joined, Takes};
 
 use crate::limits::{GATHERED_RUNS, MAX_RUNS, MOST_BESIDE};
 use crate::lists::{cells_with, entries_bound, of_cells, push_cells_of};
 use crate::pairs::{due_pair, with_pair_added};
 use crate::runs::{
-    added_to_runs, column_in, count_in, entries_in, own_matrix, push_runs, row_counts_in,
-    sum_of_runs,
+    added_to_runs, count_in, entries_in, own_matrix, push_runs, row_counts_in, sum_of_runs,
 };
 use cells::Cell;
 use hyper_matrix::Hyper;
@@ -131,12 +131,12 @@ impl Layer {
         row_counts_in(&self.runs, row)
     }
 
-    /// The first column with an entry in a row, at column `from` or behind it.
-    pub fn column_from(&self, row: u64, from: u64) -> Option<u64>
-        ensures first { FirstColumn self.now.counts row from result }
-        ensures within { IfSome result (λ col. (row < self.now.rows) × (col < self.now.cols)) }
+    /// The matrices side by side, whose sum the layer is.
+    pub fn runs(&self) -> &[Arc<Hyper>]
+        ensures sum { self.now.counts ≡ content (all_counts (values result.now)) }
+        ensures dims { HaveDims self.now.rows self.now.cols (values result.now) }
     {
-        column_in(&self.runs, row, from)
+        self.runs.as_slice()
     }
 
     /// The sum of a matrix and all runs. It shares blocks with them.

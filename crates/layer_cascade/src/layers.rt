@@ -21,7 +21,6 @@ ghost use Rattle.hyper_matrix.specs.Matrix.{matrix};
 ghost use Rattle.layer_cascade.specs.Cascade.{cascade, content};
 ghost use Rattle.layer_cascade.specs.Cuts.{AreCuts};
 ghost use Rattle.hyper_matrix.specs.RowOf.{row_of};
-ghost use Rattle.layer_cascade.specs.Columns.{FirstColumn};
 ghost use Rattle.layer_cascade.specs.Layering.{IsLayering, no_layers, entries_of_layer};
 
 use crate::addition::{
@@ -30,7 +29,8 @@ use crate::addition::{
 use crate::cuts::are_cuts;
 use crate::fault::CascadeFault;
 use crate::layer::Layer;
-use crate::lookup::{earlier, plus};
+use crate::lookup::plus;
+use crate::row_entries::columns_with_layer;
 use cells::Cell;
 use hyper_matrix::{Hyper, RowSum};
 use std::alloc::{AllocError, Global};
@@ -381,8 +381,8 @@ impl Layers {
     }
 
     /// The entries of a row, counted from 0, of the sum of all layers: how many columns have one, and the sum of their
-    /// counts. Zeros for a row out of range. No memory; a bisection in each matrix of each layer for each of these
-    /// columns.
+    /// counts. Zeros for a row out of range. No memory; a bisection for each cell of the row in each matrix, and for those
+    /// of the smaller matrices a look-up in the larger ones.
     pub fn row_total(&self, row: u64) -> RowSum
         ensures entries { result.entries ≡ len (row_of (content self.now.layers) row) }
         ensures total { result.total ≡ total (row_of (content self.now.layers) row) }
@@ -406,30 +406,19 @@ impl Layers {
         sum
     }
 
-    // The number of columns with an entry in a row.
+    // The number of columns with an entry in a row, counted from the deepest layer to the first.
     fn row_entries(&self, row: u64) -> u64
         ensures value { result ≡ len (row_of (content self.now.layers) row) }
         ensures outside { self.now.rows ≤ row → result ≡ 0 }
     {
+        let layers = self.layers.as_slice();
         let mut entries = 0;
-        let mut from = 0;
-        'columns: while let Some(col) = self.first_column(row, from) {
-            entries += 1;
-            from = col + 1;
+        let mut place = layers.len();
+        'layers: while place > 0 {
+            let deeper = &layers[place..];
+            place -= 1;
+            entries = columns_with_layer(entries, &layers[place], deeper, row);
         }
         entries
-    }
-
-    // The first column with an entry in a row, at column `from` or behind it.
-    fn first_column(&self, row: u64, from: u64) -> Option<u64>
-        ensures first { FirstColumn (content self.now.layers) row from result }
-        ensures within { IfSome result (λ col. (row < self.now.rows) × (col < self.now.cols)) }
-        ensures narrow { self.now.cols ≤ 2 ^ 60 }
-    {
-        let mut first = None;
-        'firsts: for layer in &self.layers {
-            first = earlier(first, layer.column_from(row, from));
-        }
-        first
     }
 }

@@ -21,6 +21,7 @@ mod limits;
 mod lists;
 mod lookup;
 mod pairs;
+mod row_entries;
 mod runs;
 mod view;
 

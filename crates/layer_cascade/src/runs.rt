@@ -1,6 +1,6 @@
 //! The runs of a layer: matrices of the same dimensions side by side, each shared and never changed. They stand for
 //! their sum, which is built only where it has to be known what they hold together.
-ghost use Rattle.std.specs.Prelude.{◌≡◌, ℕ, ◌+◌, ◌<◌, ◌≤◌, ◌^◌, ◌⊎◌, ◌++◌, IfOk, OnOk, IfSome};
+ghost use Rattle.std.specs.Prelude.{◌≡◌, ℕ, ◌+◌, ◌<◌, ◌≤◌, ◌^◌, ◌⊎◌, ◌++◌, IfOk, OnOk};
 ghost use Rattle.std.specs.Arc.{arc_value};
 ghost use Rattle.std.specs.FinMap.{get, len, entries};
 ghost use Rattle.cells.specs.Bounds.{IsDimension};
@@ -8,13 +8,12 @@ ghost use Rattle.hyper_matrix.specs.Counts.{ewise_add, total};
 ghost use Rattle.hyper_matrix.specs.Matrix.{matrix};
 ghost use Rattle.hyper_matrix.specs.RowOf.{row_of};
 ghost use Rattle.layer_cascade.specs.Cascade.{content};
-ghost use Rattle.layer_cascade.specs.Columns.{FirstColumn};
 ghost use Rattle.layer_cascade.specs.Runs.{count_new};
 ghost use Rattle.layer_cascade.specs.Shared.{values, all_counts, HaveDims};
 
 use crate::limits::{MOST_BESIDE, MOST_LISTED};
 use crate::lists::{entries_bound, sum_by_list};
-use crate::lookup::{column_from, earlier, plus};
+use crate::lookup::plus;
 use hyper_matrix::Hyper;
 use std::alloc::{AllocError, Global};
 use std::sync::Arc;
@@ -137,19 +136,6 @@ pub fn row_counts_in(runs: &[Arc<Hyper>], row: u64) -> u64
         sum += run.row_total(row).total;
     }
     sum
-}
-
-/// The first column with an entry in a row of the runs' sum, at column `from` or behind it.
-pub fn column_in(runs: &[Arc<Hyper>], row: u64, from: u64) -> Option<u64>
-    ensures first { FirstColumn (content (all_counts (values runs.now))) row from result }
-    ensures within { (rows : ℕ) (cols : ℕ) → HaveDims rows cols (values runs.now) →
-        IfSome result (λ col. (row < rows) × (col < cols)) }
-{
-    let mut first = None;
-    'firsts: for run in runs {
-        first = earlier(first, column_from(run, row, from));
-    }
-    first
 }
 
 /// How many entries a matrix has at places where none of these runs has one.
