@@ -86,6 +86,42 @@ fn one_cell_stays_in_the_first_layer(rt: HostRuntime) -> Result<(), Fail> {
     Ok(())
 }
 
+/// Column 0 of row 1 comes to stand in two matrices of each of two layers, and its others in one or two matrices.
+const COLUMNS_AGAIN: [(u64, u64); 14] = [
+    (0, 0),
+    (1, 0),
+    (1, 1),
+    (2, 0),
+    (2, 1),
+    (1, 0),
+    (1, 2),
+    (1, 0),
+    (0, 2),
+    (2, 2),
+    (2, 1),
+    (1, 0),
+    (1, 1),
+    (1, 0),
+];
+
+fn row_is(layers: &Layers, row: u64, entries: u64, total: u64) -> bool {
+    let sum = layers.row_total(row);
+    sum.entries == entries && sum.total == total
+}
+
+#[test]
+fn a_column_counts_once(rt: HostRuntime) -> Result<(), Fail> {
+    let mut layers = Layers::new(rt.alloc(), 3, 3, &[4])?;
+    for (row, col) in COLUMNS_AGAIN {
+        add_cell(rt.alloc(), &mut layers, row, col, 1)?;
+    }
+    assert_eq!(rt; sizes(&layers), [2, 8, u64::MAX]);
+    for (row, entries, total) in [(0, 2, 2), (1, 3, 8), (2, 3, 4), (3, 0, 0)] {
+        assert!(rt; row_is(&layers, row, entries, total), "row {row}");
+    }
+    Ok(())
+}
+
 /// Whether these are new layers of 3 rows and 5 columns, with the cuts 2 and 4.
 fn are_new(layers: &Layers) -> bool {
     layers.dims() == (3, 5)
