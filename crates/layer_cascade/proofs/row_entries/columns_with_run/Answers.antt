@@ -9,7 +9,6 @@ use Rattle.layer_cascade.proofs.row_entries.columns_with_run.Goals as goal
 use Rattle.layer_cascade.proofs.row_entries.columns_with_run.Goals.{then-not-runs_have+then-not-layers_have}
 use Rattle.layer_cascade.proofs.row_entries.columns_with_run.Goals.{else-not-runs_have}
 use Rattle.layer_cascade.proofs.row_entries.columns_with_run.Goals.{else-not-runs_have-via-else-not-runs_have}
-use Rattle.layer_cascade.proofs.row_entries.columns_with_run.Goals.{else-not-runs_have-via-then-not-runs_have+else-not-layers_have}
 
 pub returns-then-found-eq0 : goal.returns-then-found-eq0
 returns-then-found-eq0 c =
@@ -69,7 +68,7 @@ columns-preserved c =
         arith,
         w.columns-is,
         ap {B = ℕ} (λ b. cond b 0 1) (elim w.else-not-runs_have.branch [
-          | else-not-runs_have-via-then-not-runs_have+else-not-layers_have k ↦
+          | goal.else-not-runs_have-via-then-not-runs_have+else-not-layers_have k ↦
               some_of_first deeper before q k.if-not-layers_have.ensures
           | else-not-runs_have-via-else-not-runs_have k ↦
               some_of_second deeper before q k.if-not-runs_have.ensures

@@ -14,11 +14,12 @@ pub runs-preserved : goal.runs-preserved
 runs-preserved c =
     let q : Place = (c.args.row, c.args.col) in
     let item = c.run-item.result in
+    let here = is_some (get (arc_value item).counts q) in
     one_asked c.args.runs.now c.runs.run-index item q (omega arith) c.run-item.is c.runs.have c.if-have.have
     c.runs.invariant (elim c.if-have.branch [
-      | then-have w ↦ w.have-is ∙ w.if-have.true ∙ sym (ap (λ b. b || is_some (get (arc_value item).counts q)) w.if-have.true)
+      | then-have w ↦ w.have-is ∙ w.if-have.true ∙ sym (ap (λ b. b || here) w.if-have.true)
       | else-have w ↦
           w.have-is ∙ w.is_some-have.ensures ∙ ap is_some w.get.ensures.value
           ∙ ap (λ (m : Matrix). is_some (get m.counts q)) w.deref.ensures
-          ∙ sym (ap (λ b. b || is_some (get (arc_value item).counts q)) w.if-have.false)
+          ∙ sym (ap (λ b. b || here) w.if-have.false)
     ])
