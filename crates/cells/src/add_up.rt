@@ -1,7 +1,8 @@
 //! The cells of a list with the counts of equal places added up: `GrB_Matrix_build` of GraphBLAS C API 2.0 combines
 //! them by its operator `dup`, here plus.
 //!
-//! The list is sorted first. Equal places stand together then, and one pass adds them up where they stand.
+//! A list that isn't in order is sorted first. Equal places stand together then, and one pass adds them up where they
+//! stand.
 ghost use Rattle.std.specs.Prelude.{◌≡◌, ℕ, ◌+◌, ◌<◌, ◌≤◌, ◌^◌, ◌↔◌, IsTrue, IsOk, IfOk, length, take};
 ghost use Rattle.cells.specs.Bounds.{AreWithin};
 ghost use Rattle.cells.specs.Order.{NeverFall, Rise};
@@ -42,6 +43,25 @@ fn add_up(cells: &mut [Cell]) -> usize
     last + 1
 }
 
+/// The places of a list in order, each once and with the sum of its counts, in the list's own memory.
+///
+/// Takes a pass, and no memory.
+pub fn added_up(cells: Vec<Cell>) -> Vec<Cell>
+    requires order { NeverFall cells.items }
+    requires fits { cell_total cells.items < 2 ^ 64 }
+    ensures rises { Rise result.items }
+    ensures sums { (q : ℕ × ℕ) → sum_at q result.items ≡ sum_at q cells.items }
+    ensures total { cell_total result.items ≡ cell_total cells.items }
+{
+    let mut list = cells;
+    if list.is_empty() {
+        return list;
+    }
+    let places = add_up(&mut list);
+    list.truncate(places);
+    list
+}
+
 /// The places of a list by row and then by column, each once and with the sum of its counts.
 ///
 /// Takes the time and memory of `sorted`, and a pass.
@@ -58,11 +78,6 @@ pub fn summed(alloc: Global, cells: &[Cell]) -> Result<Vec<Cell>, AllocError>
         AreWithin rows cols list.items) }
     ensures none { length cells.now ≡ 0 → IsOk result }
 {
-    let mut list = sorted(alloc, cells)?;
-    if list.is_empty() {
-        return Ok(list);
-    }
-    let places = add_up(&mut list);
-    list.truncate(places);
-    Ok(list)
+    let list = sorted(alloc, cells)?;
+    Ok(added_up(list))
 }

@@ -16,7 +16,7 @@ mod order;
 mod sort;
 mod total;
 
-pub use add_up::summed;
+pub use add_up::{added_up, summed};
 pub use cell::Cell;
 pub use order::{is_in_order, rises};
 pub use sort::sorted;
