@@ -3,8 +3,8 @@
 
     python3 bench/memory.py PATH-TO-FILL_ENGINE [--batches N] [--shards K]
 
-For N batches of one cell, and N / 1000 batches of 1,000 cells, spread evenly over 2^60 by 2^60, so that nearly each cell
-has a row of its own. It prints the peak memory in bytes for each batch and for each cell. Linux.
+For N batches of one cell, and N / 1000 batches of 1,000 cells, spread evenly over 2^60 by 2^60, so that nearly each
+cell has a row of its own. It prints the peak memory in bytes for each batch and for each cell. Linux.
 """
 import argparse
 import subprocess
@@ -12,7 +12,7 @@ import time
 
 
 def peak(program, what, batches, cells, shards):
-    """The peak memory of one run in bytes, as the system tells it of the running program, asked every few milliseconds."""
+    """The peak memory of one run in bytes, as the system tells it of the running program every few milliseconds."""
     words = [program, what, str(batches), str(cells), str(shards)]
     most = 0
     with subprocess.Popen(words, stdout=subprocess.DEVNULL) as run:
@@ -40,7 +40,8 @@ def main():
             sizes[what] = peak(arguments.program, what, batches, cells, arguments.shards)
         rows = (("book", sizes["book"]), ("shards", sizes["engine"] - sizes["book"]), ("both", sizes["engine"]))
         for what, size in rows:
-            print(f"| {batches:,} | {cells:,} | {what} | {size / batches:,.0f} | {size / (batches * cells):,.1f} |", flush=True)
+            of_batch, of_cell = size / batches, size / (batches * cells)
+            print(f"| {batches:,} | {cells:,} | {what} | {of_batch:,.0f} | {of_cell:,.1f} |", flush=True)
 
 
 if __name__ == "__main__":

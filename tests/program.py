@@ -162,7 +162,7 @@ def fields(*values):
 
 
 def snapshot(batches, total, rows=3, cols=3, cuts=(2, 4), shards=2, limit=100, most=10, count=None):
-    """The bytes of a snapshot. A batch is its client, its number, and its cells; a cell is a row, a column and a count."""
+    """The bytes of a snapshot. A batch is its client, its number and its cells; a cell is a row, a column, a count."""
     head = b"HHMSNAP\n" + field(1, 4) + fields(rows, cols) + field(len(cuts), 1) + fields(*cuts) + field(shards, 1)
     head += fields(limit, most, len(batches) if count is None else count, total)
     return head + b"".join(

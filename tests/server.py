@@ -284,7 +284,8 @@ def a_log_is_counted():
                                  capture_output=True, text=True, timeout=WAIT)
             check("the example", run.stdout, "batches 3 skipped lines 1 accepted total 25007\n")
         with server.client() as hhm:
-            check("the example's sum", list(cells_of(hhm.export())), [(r, c, n) for (r, c), n in sorted(counts.items())])
+            cells = [(row, col, count) for (row, col), count in sorted(counts.items())]
+            check("the example's sum", list(cells_of(hhm.export())), cells)
         server.stop("the example", 3, 25007)
 
 

@@ -126,10 +126,10 @@ def put_frame(client: int, number: int, text: Text) -> bytes:
 class Client:
     """A connection to a server, made when it is first needed, and made again where it is lost.
 
-    `tcp` is "host:port" and `unix` a path; give one of them. `client` is the client's number, from 0 to 2^64 - 1; `rows`
-    and `cols` are the server's dimensions, for `put` of cells. `timeout` is in seconds, for each answer. `attempts` is how
-    often a request is sent before a fault of the connection is given up, with `pause` seconds after the first fault and
-    twice as many after each further one, at most ten.
+    `tcp` is "host:port" and `unix` a path; give one of them. `client` is the client's number, from 0 to 2^64 - 1;
+    `rows` and `cols` are the server's dimensions, for `put` of cells. `timeout` is in seconds, for each answer.
+    `attempts` is how often a request is sent before a fault of the connection is given up, with `pause` seconds after
+    the first fault and twice as many after each further one, at most ten.
     """
 
     def __init__(
@@ -378,7 +378,8 @@ def main() -> int:
     given = parser().parse_args()
     client = given.client if given.word == "put" else 0
     try:
-        with Client(tcp=given.tcp, unix=given.unix, client=client, timeout=given.timeout, attempts=given.attempts) as hhm:
+        limits = {"timeout": given.timeout, "attempts": given.attempts}
+        with Client(tcp=given.tcp, unix=given.unix, client=client, **limits) as hhm:
             sys.stdout.buffer.write(answer(hhm, given))
             sys.stdout.buffer.flush()
     except Refused as refused:

@@ -15,6 +15,7 @@ pub const BLOCK_CELLS: usize = 4_096;
 /// million cells with the cut 4,096, in a plain Rust program of this method: with 32,768 a sixth slower, with 131,072
 /// about as fast.
 pub const LATEST_ENTRIES: u64 = 65_536;
+
 /// The most bytes of a snapshot that the program reads.
 pub const SNAPSHOT_BYTES: u64 = 1 << 40;
 
@@ -23,3 +24,7 @@ pub const CHECK_CUTS: [u64; 3] = [4_096, 65_536, 1_048_576];
 
 /// The most digits that a number of an option has.
 pub const MAX_DIGITS: usize = 20;
+
+/// Bytes: the allocation that `keep_freed_memory` makes and frees, the longest that counts, 32 MiB with its page of
+/// bookkeeping.
+pub const KEPT_BYTES: usize = (32 << 20) - 8_192;

@@ -9,6 +9,7 @@ mod cli;
 mod fault;
 mod last_layer;
 mod limits;
+mod memory;
 mod numbers;
 mod report;
 mod running_sum;
@@ -19,6 +20,7 @@ mod sum;
 mod sum_tests;
 
 use crate::check::run_check;
+use crate::memory::keep_freed_memory;
 use crate::numbers::read_list;
 use crate::report::Fault;
 use crate::serve::{ServeFault, settings_of};
@@ -41,6 +43,7 @@ enum Outcome {
 }
 
 fn main(rt: HostRuntime) -> ExitCode {
+    keep_freed_memory(rt.alloc());
     match run(&rt) {
         Ok(Outcome::Ended(code)) => code,
         Ok(Outcome::Serve(settings)) => {
