@@ -7,10 +7,10 @@
 //! there, so it costs no page. Other C libraries do nothing of the kind, and nothing rests on it but time.
 
 use crate::limits::KEPT_BYTES;
-use std::alloc::Global;
+use std::alloc::{AllocError, Global};
 
 /// Makes and frees one allocation of `KEPT_BYTES`. Where it is refused nothing is lost.
 pub fn keep_freed_memory(alloc: Global) {
-    let made: Result<Vec<u8>, _> = Vec::with_capacity(alloc, KEPT_BYTES);
+    let made: Result<Vec<u8>, AllocError> = Vec::with_capacity(alloc, KEPT_BYTES);
     drop(made);
 }
