@@ -13,9 +13,9 @@ pub const MAX_RUNS: usize = 16;
 /// The fewest matrices side by side in layer 1 that `Layers::gather` adds up.
 pub const GATHERED_RUNS: usize = 8;
 
-/// The most entries of two matrices together that `Layers::gather` adds up in a deeper layer: about two milliseconds,
-/// as for an addition that passes a cut of 65,536.
-pub const MOST_PAIRED: u64 = 66_000;
+/// The most entries of two matrices together that `Layers::gather` adds up in a deeper layer: about a millisecond, half
+/// of what an addition takes that passes a cut of 65,536.
+pub const MOST_PAIRED: u64 = 33_000;
 
 /// Two matrices side by side are added up where the earlier one has fewer entries than so many times the later one. So
 /// a cell is written anew with matrices that are not much smaller than its own, and a layer ends with few matrices.
