@@ -8,6 +8,7 @@ use Rattle.hyper_rows.specs.Counts.{Place}
 use Rattle.hyper_rows.specs.Rows.{Entries, Rows, rows_from, rows_of, EndsAt, AreRows, start_from, cells_of, at_places}
 use Rattle.hyper_rows.specs.Rows.{heads_moved, Fit, KeysAbove, AreRising}
 use Rattle.hyper_matrix.specs.Blocks.{EndsIn, split_heads}
+use Rattle.hyper_rows.proofs.BuildLaws.{rising_from}
 use Rattle.hyper_rows.proofs.RowLaws.{ends-append, ends-take, ends-drop, ends_le, ends_within, moved_rows, moved_ends}
 
 -- two parts, one behind the other
@@ -160,14 +161,6 @@ rising_drop xs zero a = a
 rising_drop [] (suc i) a = a
 rising_drop (x ∷ xs) (suc i) a = rising_drop xs i a.1
 
-above_rows : (j at : ℕ) (hs : List (ℕ × ℕ)) (es : Entries) → KeysAbove j hs → KeysAbove j (rows_from at hs es)
-above_rows j at [] es a = tt
-above_rows j at (x ∷ hs) es a = (a.0, above_rows j x.1 hs es a.1)
-
-pub rising_rows : (at : ℕ) (hs : List (ℕ × ℕ)) (es : Entries) → AreRising hs → AreRising (rows_from at hs es)
-rising_rows at [] es a = tt
-rising_rows at (x ∷ hs) es a = (above_rows x.0 x.1 hs es a.0, rising_rows x.1 hs es a.1)
-
 above_heads : (j at : ℕ) (hs : List (ℕ × ℕ)) (es : Entries) → KeysAbove j (rows_from at hs es) → KeysAbove j hs
 above_heads j at [] es a = tt
 above_heads j at (x ∷ hs) es a = (a.0, above_heads j x.1 hs es a.1)
@@ -185,7 +178,7 @@ split_rising hs es row from last to a cut =
     let at_last : get_or (drop row hs) (last - row) (0, 0) ≡
     get_or hs last (0, 0) = get_or-drop row hs (last - row) (0, 0) ∙
     ap (λ k. get_or hs k (0, 0)) (omega (arith, cut.order)) in
-    rising_rows from (split_heads hs row last to) es (subst
+    rising_from from (split_heads hs row last to) es (subst
     (λ (h : ℕ × ℕ). AreRising (slice_range hs row last ++ (h.0, to) ∷ [])) at_last
     (rising_cut (drop row hs) (last - row) (0, 0) to (rising_drop hs row heads)
     (omega (arith, cut.order, cut.within, length-drop row hs))))

@@ -170,7 +170,7 @@ above_rows : (k at : ℕ) (hs : List (ℕ × ℕ)) (es : Entries) → KeysAbove 
 above_rows k at [] es a = tt
 above_rows k at (x ∷ hs) es a = (a.0, above_rows k x.1 hs es a.1)
 
-rising_from : (at : ℕ) (hs : List (ℕ × ℕ)) (es : Entries) → AreRising hs → AreRising (rows_from at hs es)
+pub rising_from : (at : ℕ) (hs : List (ℕ × ℕ)) (es : Entries) → AreRising hs → AreRising (rows_from at hs es)
 rising_from at [] es r = tt
 rising_from at (x ∷ hs) es r = (above_rows x.0 x.1 hs es r.0, rising_from x.1 hs es r.1)
 
