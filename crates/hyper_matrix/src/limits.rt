@@ -5,9 +5,16 @@
 /// copies.
 pub const BLOCK_CELLS: usize = 256;
 
-/// Blocks: so many of one matrix are added to another at once, as a list of their cells: some 100,000, 24 bytes each.
-/// Each such part takes another walk over the other matrix's blocks.
+/// Blocks: the most of one matrix that are added to another at once, as a list of their cells: some 100,000, 24 bytes
+/// each. Each such part takes another walk over the other matrix's blocks.
 pub const LISTED_BLOCKS: usize = 512;
+
+/// Blocks: the fewest, some 4,000 cells. A short list is made in memory that is in use; one of a whole matrix of
+/// thousands of cells is made in new pages, which cost more than its cells.
+pub const FEWEST_LISTED: usize = 16;
+
+/// Parts: the most in which a matrix is added to another, where they may have less than `LISTED_BLOCKS` blocks each.
+pub const LISTED_PARTS: usize = 8;
 
 /// Times the cells that a block gets: a block of more cells isn't looked through for their places. Measured: 2, 4 and 8
 /// take the same time.

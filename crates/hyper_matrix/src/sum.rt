@@ -24,7 +24,7 @@ ghost use Rattle.hyper_matrix.specs.Blocks.{all_cells, IsBlock, AreBlocks, Grows
 
 use crate::block::Block;
 use crate::blocks::push_all_cells;
-use crate::limits::{BLOCK_CELLS, LISTED_BLOCKS};
+use crate::limits::{BLOCK_CELLS, FEWEST_LISTED, LISTED_BLOCKS, LISTED_PARTS};
 use crate::split_run::push_run;
 use cells::Cell;
 use hyper_rows::{Rows, row_room};
@@ -253,11 +253,14 @@ pub fn sum_all(
     ensures sums { IfOk result (λ out. built (all_cells out.items) ≡
         ewise_add (built (all_cells blocks.items)) (built (all_cells others.now))) }
 {
+    let part = (others.len() / LISTED_PARTS)
+        .min(LISTED_BLOCKS)
+        .max(FEWEST_LISTED);
     let mut sum = blocks;
     let mut cells = Vec::new(alloc);
     let mut at = 0;
     'parts: while at < others.len() {
-        let end = at.saturating_add(LISTED_BLOCKS).min(others.len());
+        let end = at.saturating_add(part).min(others.len());
         cells.clear();
         push_all_cells(&mut cells, &others[at..end])?;
         sum = sum_blocks(alloc, sum, &cells)?;
