@@ -10,3 +10,4 @@ pub mod RunLemmas
 pub mod KeptRunLemmas
 pub mod StepLemmas
 pub mod PairLemmas
+pub mod PendingLemmas

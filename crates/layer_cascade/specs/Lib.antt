@@ -5,3 +5,4 @@ pub mod Shared
 pub mod Columns
 pub mod Runs
 pub mod Steps
+pub mod Pending
