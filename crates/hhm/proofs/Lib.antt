@@ -2,5 +2,4 @@ pub mod NumberLemmas
 pub mod SumLemmas
 pub mod ReadLemmas
 pub mod CountLemmas
-pub mod LastLayerLaws
 pub mod CheckLemmas

@@ -24,6 +24,7 @@ use Rattle.mm_text.proofs.BoundLemmas.{stage_sized, spells_bounds}
 use Rattle.mm_text.proofs.Clean.{none_within_lines}
 use Rattle.mm_text.proofs.Faultless.{spells_clean}
 use Rattle.hyper_matrix.specs.Cells.{cell_total}
+use Rattle.hyper_matrix.specs.Matrix.{Matrix}
 use Rattle.hhm.specs.Sum.{sum_limits, ReadsText, StopsText, IsUnsummed}
 use Rattle.hhm.specs.Running.{IsSumOf, CanTake}
 use Rattle.hhm.specs.Reading.{IsSized, HandsOut, IsSumming, HasSummed}
@@ -47,12 +48,11 @@ spelled_sized text size cells spells =
     let bounds = spells_bounds text sum_limits size.rows size.cols cells spells in
     record { rows = bounds.0; cols = bounds.1; within = bounds.2 }
 
--- layers take cells that lie within the dimensions of their sum
+-- a sum takes cells that lie within its dimensions
 can_take : (rows cols : ℕ) (cells block : List Cell) (sum : RunningSum) → IsSumOf rows cols cells sum →
     AreWithin rows cols block → CanTake sum block
-can_take rows cols cells block (Fits layers) is within =
-    subst (λ r. AreWithin r layers.cols block) (sym is.rows_are)
-    (subst (λ c. AreWithin rows c block) (sym is.cols_are) within)
+can_take rows cols cells block (Fits m) is within =
+    subst (λ (x : Matrix). AreWithin x.rows x.cols block) (sym is) within
 can_take rows cols cells block TooLarge is within = tt
 
 -- what isn't judged yet is at most a piece

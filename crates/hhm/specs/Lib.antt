@@ -5,5 +5,4 @@ pub mod Faults
 pub mod Reading
 pub mod Checks
 pub mod Reports
-pub mod LastLayer
 pub mod Serving

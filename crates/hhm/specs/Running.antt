@@ -3,26 +3,20 @@ use Rattle.std.specs.Prelude.{◌≡◌, ℕ, ◌<◌, ◌≤◌, ◌^◌, List,
 use Rattle.cells.specs.Bounds.{AreWithin}
 use Rattle.cells.specs.declared.cell.Cell.{Cell}
 use Rattle.hyper_matrix.specs.Cells.{built_of, cell_total}
-use Rattle.layer_cascade.specs.Cascade.{content}
-use Rattle.layer_cascade.specs.Layering.{Layering}
+use Rattle.hyper_matrix.specs.Matrix.{matrix}
 use Rattle.hhm.specs.declared.fault.SumFault.{SumFault}
 use Rattle.hhm.specs.declared.fault.SumFault.TheVariants as fault
 use Rattle.hhm.specs.declared.running_sum.RunningSum.{RunningSum}
 use Rattle.hhm.specs.declared.running_sum.RunningSum.TheVariants.{Fits, TooLarge}
 
--- The layers have these dimensions, and add up to what the cells build.
-pub record LayersSum (rows cols : ℕ) (cells : List Cell) (layers : Layering) : Type 0 where
-  pub rows_are : layers.rows ≡ rows
-  pub cols_are : layers.cols ≡ cols
-  pub sum_is : content layers.layers ≡ built_of cells
-
+-- the sum is the matrix that the cells build, in these dimensions, or their counts pass 64 bits
 abbrev pub IsSumOf : ℕ → ℕ → List Cell → RunningSum → Type 0
-IsSumOf rows cols cells (Fits layers) = LayersSum rows cols cells layers
+IsSumOf rows cols cells (Fits m) = m ≡ matrix rows cols (built_of cells)
 IsSumOf rows cols cells TooLarge = 2 ^ 64 ≤ cell_total cells
 
--- a block of cells lies within the dimensions of the layers, if there are any left
+-- a block of cells lies within the dimensions of the sum, if it is still held
 abbrev pub CanTake : RunningSum → List Cell → Type 0
-CanTake (Fits layers) block = AreWithin layers.rows layers.cols block
+CanTake (Fits m) block = AreWithin m.rows m.cols block
 CanTake TooLarge block = Unit {0}
 
 -- the sum was grown by a block of cells

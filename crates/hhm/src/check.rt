@@ -6,7 +6,6 @@ ghost use Rattle.byte_io.specs.Writing.{HasTaken, HasStopped};
 ghost use Rattle.byte_io.specs.declared.fault.WriteFault.{WriteFault};
 ghost use Rattle.hyper_matrix.specs.Counts.{total, ewise_add};
 ghost use Rattle.hyper_matrix.specs.Matrix.{matrix};
-ghost use Rattle.layer_cascade.specs.Cascade.{content};
 ghost use Rattle.batch_store.specs.Setups.{Setting};
 ghost use Rattle.batch_store.specs.Batches.{Submission, values};
 ghost use Rattle.batch_store.specs.Books.{list_total, AreAccepted};
@@ -19,7 +18,7 @@ use arrayvec::ArrayString;
 use batch_store::{Batch, Setup};
 use byte_io::{Sink, write_all};
 use hyper_matrix::Hyper;
-use layer_cascade::Layers;
+use layer_cascade::PendingLayers;
 use snap_file::load;
 use std::alloc::{AllocError, Global};
 use std::rt::Files;
@@ -28,20 +27,20 @@ use std::sync::Arc;
 // More than the bytes of the longest line: six numbers of at most 20 digits, and 44 more.
 const LINE_CAPACITY: usize = 256;
 
-// Layers with a batch added. They share the batch's blocks.
-fn with_batch(alloc: Global, layers: Layers, batch: &Batch) -> Result<Layers, AllocError>
+// Layers with a batch added, whose cells wait in their list.
+fn with_batch(
+    alloc: Global,
+    layers: PendingLayers,
+    batch: &Batch,
+) -> Result<PendingLayers, AllocError>
     requires rows { batch.now.matrix.rows ≡ layers.rows }
     requires cols { batch.now.matrix.cols ≡ layers.cols }
-    requires fits { total (content layers.layers) + total batch.now.matrix.counts < 2 ^ 64 }
+    requires fits { total layers.counts + total batch.now.matrix.counts < 2 ^ 64 }
     ensures dims { IfOk result (λ after. (after.rows ≡ layers.rows) × (after.cols ≡ layers.cols)) }
-    ensures sum { IfOk result (λ after. content after.layers ≡
-        ewise_add (content layers.layers) batch.now.matrix.counts) }
+    ensures sum { IfOk result (λ after. after.counts ≡ ewise_add layers.counts batch.now.matrix.counts) }
 {
-    // Any call on layers tells what they keep.
-    let _dims = layers.dims();
     let matrix = &batch.matrix;
-    let own = matrix.copy(alloc)?;
-    let after = layers.add(alloc, own)?;
+    let after = layers.add(alloc, matrix)?;
     Ok(after)
 }
 
@@ -134,7 +133,8 @@ fn write_check<W: Sink>(
 /// Reads the snapshot under `path`, and writes the line `rows R cols C shards K batches B total T entries E`, where E
 /// is the number of cells of the sum of all batches.
 ///
-/// Takes the memory of the batches and of layers with the cuts 4,096, 65,536 and 1,048,576.
+/// Takes the memory of the batches, of layers with the cuts 4,096, 65,536 and 1,048,576, and of a list of at most 2^21
+/// cells that wait before them, or of one batch that has more: 24 bytes each, and as much again while it is sorted.
 ///
 /// # Errors
 ///

@@ -8,13 +8,8 @@ pub const TEXT_LIMITS: TextLimits = TextLimits {
     max_entries: 1 << 40,
 };
 
-/// The most cells of a text's list that go into the layers at once.
+/// The most cells of a text's list that are sorted and added to the sum at once.
 pub const BLOCK_CELLS: usize = 4_096;
-
-/// Entries: the most that the first part of the last layer takes, at most 65 bytes each, so some 4 MB. Measured on two
-/// million cells with the cut 4,096, in a plain Rust program of this method: with 32,768 a sixth slower, with 131,072
-/// about as fast.
-pub const LATEST_ENTRIES: u64 = 65_536;
 
 /// The most bytes of a snapshot that the program reads.
 pub const SNAPSHOT_BYTES: u64 = 1 << 40;

@@ -7,7 +7,6 @@
 mod check;
 mod cli;
 mod fault;
-mod last_layer;
 mod limits;
 mod memory;
 mod numbers;

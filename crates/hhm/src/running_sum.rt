@@ -1,46 +1,48 @@
 //! The sum of the cells so far: layers, as long as the counts fit 64 bits together.
 //!
-//! A block of cells is sorted, with the counts of equal places added up, and added into the layers; so most additions
-//! touch the small layers alone. Whether the counts still fit is judged first, so that want of memory never stands for
+//! A block of cells is sorted, with the counts of equal places added up, and appended to the list of cells that wait
+//! before the layers (`PendingLayers`): such lists in order are merged later on, many at once. Whether the counts still fit is judged first, so that want of memory never stands for
 //! a total that is too large. Once the total has passed 2^64 - 1 nothing is added any more, and memory is given back:
 //! the text is only read to its end, since a fault in it is told first.
 ghost use Rattle.std.specs.Prelude.{◌≡◌, ℕ, ◌+◌, ◌<◌, ◌≤◌, ◌^◌, ◌⊎◌, ◌↔◌, List};
 ghost use Rattle.std.specs.Prelude.{IsTrue, OnErr, IfOk, IfErr, IfNone, IfSome};
+ghost use Rattle.std.specs.FinMap.{empty};
 ghost use Rattle.cells.specs.Bounds.{IsDimension, AreWithin};
 ghost use Rattle.cells.specs.declared.cell.Cell.{Cell};
 ghost use Rattle.hyper_matrix.specs.Cells.{built_of, cell_total};
 ghost use Rattle.hyper_matrix.specs.Counts.{total};
 ghost use Rattle.hyper_matrix.specs.Matrix.{matrix};
-ghost use Rattle.layer_cascade.specs.Cascade.{content};
 ghost use Rattle.layer_cascade.specs.Cuts.{AreCuts};
-ghost use Rattle.layer_cascade.specs.Layering.{no_layers};
 ghost use Rattle.hhm.specs.Running.{IsSumOf, CanTake, GrowsBy, FitsBehind, IsRefused};
 
 use crate::fault::SumFault;
-use crate::last_layer::layer_cuts;
 use cells::{Cell, checked_total, summed};
 use hyper_matrix::Hyper;
-use layer_cascade::{CascadeFault, Layers};
+use layer_cascade::{CascadeFault, PendingLayers};
 use std::alloc::{AllocError, Global};
 
 /// The running sum of a list of cells.
 #[derive(Drop)]
 pub enum RunningSum {
     /// The counts of all cells so far are in these layers.
-    Fits(Layers),
+    Fits(PendingLayers),
     /// The counts of all cells so far add up to more than 2^64 - 1.
     TooLarge,
 }
 
-/// Empty layers, of which the last may be in two parts.
-pub fn empty_layers(alloc: Global, rows: u64, cols: u64, cuts: &[u64]) -> Result<Layers, AllocError>
+/// Empty layers with these cuts.
+pub fn empty_layers(
+    alloc: Global,
+    rows: u64,
+    cols: u64,
+    cuts: &[u64],
+) -> Result<PendingLayers, AllocError>
     requires rows { IsDimension rows }
     requires cols { IsDimension cols }
     requires cuts { AreCuts cuts.now }
-    ensures { IfOk result (λ layers. layers ≡ no_layers rows cols layers.cuts) }
+    ensures { IfOk result (λ layers. layers ≡ matrix rows cols empty) }
 {
-    let cuts = layer_cuts(alloc, cuts)?;
-    match Layers::new(alloc, rows, cols, &cuts) {
+    match PendingLayers::new(alloc, rows, cols, cuts) {
         Ok(layers) => Ok(layers),
         Err(CascadeFault::Memory) => Err(AllocError),
         Err(CascadeFault::BadCuts) => unreachable!(),
@@ -48,9 +50,13 @@ pub fn empty_layers(alloc: Global, rows: u64, cols: u64, cuts: &[u64]) -> Result
 }
 
 // The layers with a block of cells added, whose counts fit beside theirs.
-fn with_block(alloc: Global, layers: Layers, block: &[Cell]) -> Result<Layers, AllocError>
+fn with_block(
+    alloc: Global,
+    layers: PendingLayers,
+    block: &[Cell],
+) -> Result<PendingLayers, AllocError>
     requires within { AreWithin layers.rows layers.cols block.now }
-    requires fits { total (content layers.layers) + cell_total block.now < 2 ^ 64 }
+    requires fits { total layers.counts + cell_total block.now < 2 ^ 64 }
     ensures { IfOk result (λ after. GrowsBy (RunningSum.Fits layers) block.now (RunningSum.Fits after)) }
 {
     let list = summed(alloc, block)?;
@@ -59,8 +65,8 @@ fn with_block(alloc: Global, layers: Layers, block: &[Cell]) -> Result<Layers, A
 }
 
 // Whether the counts of a block fit beside those of the layers.
-fn fits_beside(layers: &Layers, block: &[Cell]) -> bool
-    ensures { IsTrue result ↔ (total (content layers.now.layers) + cell_total block.now < 2 ^ 64) }
+fn fits_beside(layers: &PendingLayers, block: &[Cell]) -> bool
+    ensures { IsTrue result ↔ (total layers.now.counts + cell_total block.now < 2 ^ 64) }
 {
     match checked_total(block) {
         Some(sum) => layers.total().checked_add(sum).is_some(),
@@ -69,7 +75,7 @@ fn fits_beside(layers: &Layers, block: &[Cell]) -> bool
 }
 
 // The sum of layers and a block of cells.
-fn add_block(alloc: Global, layers: Layers, block: &[Cell]) -> Result<RunningSum, AllocError>
+fn add_block(alloc: Global, layers: PendingLayers, block: &[Cell]) -> Result<RunningSum, AllocError>
     requires { AreWithin layers.rows layers.cols block.now }
     ensures ok { IfOk result (GrowsBy (RunningSum.Fits layers) block.now) }
     ensures memory { OnErr result (FitsBehind (RunningSum.Fits layers) block.now) }
@@ -82,7 +88,7 @@ fn add_block(alloc: Global, layers: Layers, block: &[Cell]) -> Result<RunningSum
 }
 
 impl RunningSum {
-    /// The sum of a block of cells, in layers with these cuts, the last of them in two parts (`layer_cuts`).
+    /// The sum of a block of cells, in layers with these cuts.
     pub fn new(
         alloc: Global,
         rows: u64,

@@ -1,7 +1,8 @@
 //! `sum`: reads a text, adds its cells into layers block by block, and writes the canonical text of the sum.
 //!
-//! The list of the text's cells is never held: memory goes to the layers and to one block. The time is that of one pass
-//! over the text, of the additions that the cuts ask for, and of one pass over the sum.
+//! The list of the text's cells is never held as a whole: memory goes to the layers, to one block, and to the latest
+//! cells, at most 2^21, which wait in a list before they go into the layers. The time is that of one pass over the text,
+//! of the additions that the cuts ask for, and of one pass over the sum.
 ghost use Rattle.std.specs.Prelude.{◌≡◌, ℕ, ◌+◌, ◌<◌, ◌≤◌, ◌^◌, ◌⊎◌, ◌↔◌, List, vec_capacity};
 ghost use Rattle.std.specs.Prelude.{Some, Err, OnOk, OnErr, IfOk, IfErr};
 ghost use Rattle.mm_text.specs.declared.size.Size.{Size};
@@ -99,8 +100,9 @@ fn read_running<R: Source>(alloc: Global, r: &mut R, cuts: &[u64]) -> Result<Run
 /// Sums the cells of a Matrix Market text, and writes the canonical text of the sum.
 ///
 /// The cells of the text's list go into layers with these cuts (none to seven, rising, each 1 to 2^40 entries), in
-/// blocks of at most 4,096; the last layer may be kept in two parts. Then the sum of the layers is written, its cells
-/// by row and then by column. The cuts decide time and memory, and never what is written.
+/// blocks of at most 4,096, which wait in a list until it has twice as many cells as the last cut says, at least
+/// 131,072 and at most 2^21. Then the sum of all is written, its cells by row and then by column. The cuts decide time
+/// and memory, and never what is written.
 ///
 /// # Errors
 ///

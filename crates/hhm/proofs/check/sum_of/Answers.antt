@@ -1,16 +1,13 @@
-use Rattle.std.proofs.Common.{◌+◌, length, ap, sym, ◌∙◌}
-use Rattle.layer_cascade.specs.Cascade.{content}
-use Rattle.layer_cascade.specs.Layering.{Layering}
-use Rattle.layer_cascade.proofs.KeptLemmas.{content-no_layers}
+use Rattle.std.proofs.Common.{ap, sym, ◌∙◌}
+use Rattle.hyper_matrix.specs.Matrix.{Matrix}
 use Rattle.hhm.proofs.CheckLemmas.{dims_at, sum_fits, sum_more}
 use Rattle.hhm.proofs.check.sum_of.Goals as goal
 
 pub loop-batch-init : goal.loop-batch-init
 loop-batch-init c = record {
-  rows = ap (λ (v : Layering). v.rows) c.in_ok-layers.ensures ∙ c.rows.ensures.value;
-  cols = ap (λ (v : Layering). v.cols) c.in_ok-layers.ensures ∙ c.cols.ensures.value;
-  sum = ap (λ (v : Layering). content v.layers) c.in_ok-layers.ensures ∙
-      content-no_layers (length c.in_ok-layers.layers.cuts + 1);
+  rows = ap (λ (m : Matrix). m.rows) c.in_ok-layers.ensures ∙ c.rows.ensures.value;
+  cols = ap (λ (m : Matrix). m.cols) c.in_ok-layers.ensures ∙ c.cols.ensures.value;
+  sum = ap (λ (m : Matrix). m.counts) c.in_ok-layers.ensures;
 }
 
 pub with_batch-requires-clause-rows : goal.with_batch-requires-clause-rows
@@ -29,7 +26,7 @@ pub with_batch-requires-clause-fits : goal.with_batch-requires-clause-fits
 with_batch-requires-clause-fits c =
     sum_fits c.args.batches.now c.loop-batch.batch-index c.batch-item.result c.deref.result.now c.loop-batch-test.true
     c.batch-item.is c.deref.ensures
-    (content c.loop-batch.layers.layers) c.args.setup.now.limit c.loop-batch.invariant.sum c.requires.within
+    c.loop-batch.layers.counts c.args.setup.now.limit c.loop-batch.invariant.sum c.requires.within
     c.requires.sound.fits
 
 pub loop-batch-preserved : goal.loop-batch-preserved
@@ -38,6 +35,5 @@ loop-batch-preserved c = record {
   cols = c.in_ok-layers-2.ensures.dims.1 ∙ c.loop-batch.invariant.cols;
   sum = sum_more c.args.batches.now c.loop-batch.batch-index c.batch-item.result c.deref.result.now
       c.loop-batch-test.true c.batch-item.is c.deref.ensures
-      (content c.loop-batch.layers.layers)
-      (content c.in_ok-layers-2.layers.layers) c.loop-batch.invariant.sum c.in_ok-layers-2.ensures.sum;
+      c.loop-batch.layers.counts c.in_ok-layers-2.layers.counts c.loop-batch.invariant.sum c.in_ok-layers-2.ensures.sum;
 }

@@ -1,5 +1,4 @@
 use Rattle.std.proofs.Common.{◌≡◌, take}
-use Rattle.layer_cascade.specs.Cascade.{content}
 use Rattle.batch_store.specs.Batches.{values}
 use Rattle.hhm.specs.Checks.{sum_of_batches}
 use Rattle.hhm.proofs.check.sum_of.Given as goal
@@ -8,5 +7,5 @@ abbrev pub invariant-loop-batch : goal.invariant-loop-batch
 invariant-loop-batch l = record {
   rows : l.layers.rows ≡ l.setup.rows;
   cols : l.layers.cols ≡ l.setup.cols;
-  sum : content l.layers.layers ≡ sum_of_batches (values (take l.batch-index l.batches));
+  sum : l.layers.counts ≡ sum_of_batches (values (take l.batch-index l.batches));
 }

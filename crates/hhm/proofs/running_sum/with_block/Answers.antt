@@ -1,7 +1,6 @@
-use Rattle.std.proofs.Common.{ap, ◌∙◌, subst, sym}
+use Rattle.std.proofs.Common.{ap, ◌∙◌, subst, sym, arith}
 use Rattle.cells.specs.Bounds.{AreWithin}
 use Rattle.hyper_matrix.specs.Cells.{built_of}
-use Rattle.hyper_matrix.specs.Matrix.{matrix}
 use Rattle.hyper_matrix.proofs.BuiltOfLaws.{built_of-same}
 use Rattle.hhm.proofs.SumLemmas.{block_added}
 use Rattle.hhm.proofs.running_sum.with_block.Goals as goal
@@ -12,7 +11,5 @@ add_cells-requires-clause-within c = subst (AreWithin c.args.layers.rows c.args.
 
 pub returns : goal.returns
 returns c =
-    block_added c.args.layers c.in_ok-after.after (matrix 0 0
-    (built_of c.deref.result.now)) 0 0 c.args.block.now c.add_cells.ensures.kept
-    (ap (λ cells. matrix 0 0 (built_of cells)) c.deref.ensures.value ∙
-    ap (matrix 0 0) (built_of-same _ _ c.in_ok-list.ensures.sums)) c.in_ok-after.ensures.added
+    block_added c.args.layers c.in_ok-after.after c.deref.result.now c.args.block.now
+    (ap built_of c.deref.ensures.value ∙ built_of-same _ _ c.in_ok-list.ensures.sums) c.in_ok-after.ensures

@@ -1,7 +1,14 @@
-use Rattle.std.proofs.Common.{subst}
-use Rattle.hhm.specs.Running.{IsSumOf}
+use Rattle.std.proofs.Common.{subst, sym}
+use Rattle.std.specs.Prelude.{OnErr}
+use Rattle.hhm.specs.Running.{IsSumOf, FitsBehind}
+use Rattle.hhm.specs.declared.running_sum.RunningSum.{RunningSum}
 use Rattle.hhm.proofs.SumLemmas.{stays_passed}
 use Rattle.hhm.proofs.running_sum.RunningSum.add.Goals as goal
+
+pub returns-in-Fits-clause-memory : goal.returns-in-Fits-clause-memory
+returns-in-Fits-clause-memory c =
+    subst (λ (sum : RunningSum). OnErr c.add_block.result (FitsBehind sum c.args.block.now)) (sym c.in-Fits.is)
+    c.add_block.ensures.memory
 
 pub returns-in-TooLarge-clause-ok : goal.returns-in-TooLarge-clause-ok
 returns-in-TooLarge-clause-ok c rows cols cells is =
