@@ -8,4 +8,6 @@ mod gathers;
 #[cfg(test)]
 mod layers;
 #[cfg(test)]
+mod pending;
+#[cfg(test)]
 mod streams;
