@@ -59,6 +59,34 @@ module _ {Z : Type 0} (old new : List (Arc Matrix Z)) (run : Arc Matrix Z) (held
         );
       }
 
+-- the runs of two layers
+module _ {Z : Type 0} (all : List (Arc Matrix Z)) (held more : List Matrix) (are : values all ≡ held ++ more) where
+  pub content-beside : content (all_counts (values all)) ≡ ewise_add (content (all_counts more))
+      (content (all_counts held))
+  content-beside = ap (λ l. content (all_counts l)) are
+      ∙ ap content (map-append (λ (x : Matrix). x.counts) held more)
+      ∙ content-append (all_counts held) (all_counts more)
+      ∙ ewise_add_comm (content (all_counts held)) (content (all_counts more))
+
+  pub keeps_beside : (r c sum most : ℕ) → IsDimension r → IsDimension c → HaveDims r c held → HaveDims r c more →
+      sum ≡ total (content (all_counts more)) + total (content (all_counts held)) → sum < 2 ^ 64 →
+      len (content (all_counts more)) + len (content (all_counts held)) ≤ most → KeepsRuns r c sum most (values all)
+  keeps_beside r c sum most is_rows is_cols dims dims_more sum_is fits few =
+      let both = ap total content-beside ∙ total-ewise_add (content (all_counts more)) (content (all_counts held)) in
+      record {
+        is_rows = is_rows;
+        is_cols = is_cols;
+        dims = subst (HaveDims r c) (sym are) (dims-append r c held more dims dims_more);
+        total_is = omega (arith, both, sum_is);
+        fits = omega (arith, both, sum_is, fits);
+        few = omega (
+          arith,
+          few,
+          ap len content-beside,
+          len-ewise_add-le (content (all_counts more)) (content (all_counts held)),
+        );
+      }
+
 -- the only run
 module _ {Z : Type 0} (old new : List (Arc Matrix Z)) (run : Arc Matrix Z) (m : Matrix) (push : new ≡ old ++ run ∷ [])
     (none : old ≡ []) (run_is : arc_value run ≡ m) where

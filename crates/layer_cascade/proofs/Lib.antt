@@ -11,3 +11,4 @@ pub mod KeptRunLemmas
 pub mod StepLemmas
 pub mod PairLemmas
 pub mod PendingLemmas
+pub mod WalkLemmas

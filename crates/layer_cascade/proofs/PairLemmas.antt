@@ -48,6 +48,28 @@ module _ {Z : Type 0} (runs before from pair behind : List (Arc Matrix Z)) (cut 
       (dims-append r c (values before) (m ∷ []) here.0
       (ap (λ (x : Matrix). x.rows) sum, ap (λ (x : Matrix). x.cols) sum, tt)) there.1)
 
+-- the runs in front, and the sum of those behind them in a run of its own
+module _ {Z : Type 0} (runs front rest : List (Arc Matrix Z)) (cut : runs ≡ front ++ rest)
+    (none first all : List (Arc Matrix Z)) (run : Arc Matrix Z) (m : Matrix) (r c : ℕ) (nothing : none ≡ [])
+    (shared : values first ≡ values none ++ values front) (push : all ≡ first ++ run ∷ []) (run_is : arc_value run ≡ m)
+    (sum : m ≡ matrix r c (content (all_counts (values rest)))) where
+  values-settled : values all ≡ values front ++ m ∷ []
+  values-settled = pushed first all run push ∙ ap (λ (x : Matrix). values first ++ x ∷ []) run_is
+      ∙ ap (λ l. l ++ m ∷ []) (shared ∙ ap (λ l. values l ++ values front) nothing)
+
+  pub content-settled : content (all_counts (values all)) ≡ content (all_counts (values runs))
+  content-settled =
+      ap (λ l. content (all_counts l)) values-settled
+      ∙ content-both (values front) (m ∷ [])
+      ∙ ap (ewise_add (content (all_counts (values front)))) (ewise_add-empty m.counts
+      ∙ ap (λ (x : Matrix). x.counts) sum)
+      ∙ sym (content-parts runs front rest cut)
+
+  pub dims-settled : HaveDims r c (values runs) → HaveDims r c (values all)
+  dims-settled dims = subst (HaveDims r c) (sym values-settled)
+      (dims-append r c (values front) (m ∷ []) (have_parts runs front rest cut r c dims).0
+      (ap (λ (x : Matrix). x.rows) sum, ap (λ (x : Matrix). x.cols) sum, tt))
+
 -- a layer that holds what the one in its place held
 pub values-set : {Z : Type 0} (layers : List (Arc Matrix Z)) (i : ℕ) (old new : Arc Matrix Z) → i < length layers →
     old ≡ get_or layers i old → arc_value new ≡ arc_value old → values (set layers i new) ≡ values layers

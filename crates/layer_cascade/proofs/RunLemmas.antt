@@ -35,7 +35,7 @@ len-add_at m p n = len-insert places_total m p (count_at m p + n) ∙ step (is_s
     step false = omega arith
 
 -- a place below another isn't that one
-other : (p q : Place) → T (is_lt (place_cmp p q)) → eq_by_cmp place_cmp q p ≡ false
+pub other : (p q : Place) → T (is_lt (place_cmp p q)) → eq_by_cmp place_cmp q p ≡ false
 other p q h = step (eq_by_cmp place_cmp q p) refl
   where
     step : (b : Bool) → eq_by_cmp place_cmp q p ≡ b → b ≡ false
@@ -87,6 +87,11 @@ new_below m b = omega (arith, count_new-le m (entries b), len-entries b)
 pub one_new : (m : Counts) (e : Place × ℕ) (es : List (Place × ℕ)) → is_some (get m e.0) ≡ false →
     count_new m (e ∷ es) ≡ 1 + count_new m es
 one_new m e es none = ap (λ b. cond b 0 1 + count_new m es) none
+
+-- and one that isn't
+pub none_new : (m : Counts) (e : Place × ℕ) (es : List (Place × ℕ)) → is_some (get m e.0) ≡ true →
+    count_new m (e ∷ es) ≡ 0 + count_new m es
+none_new m e es held = ap (λ b. cond b 0 1 + count_new m es) held
 
 -- beside nothing all are new
 pub all_new : {Z : Type 0} (before : List (Arc Matrix Z)) (b : Counts) → length before ≡ 0 →
@@ -150,6 +155,14 @@ run_alone (x ∷ []) run r c dims some few is =
     let rows : (arc_value run).rows ≡ r = ap (λ (m : Matrix). m.rows) here ∙ dims.0 in
     let cols : (arc_value run).cols ≡ c = ap (λ (m : Matrix). m.cols) here ∙ dims.1 in
     λ i. matrix (rows i) (cols i) (held i)
+
+-- what a single run holds is what its matrix does
+pub alone_counts : {Z : Type 0} (runs : List (Arc Matrix Z)) (run : Arc Matrix Z) → 1 ≤ length runs →
+    length runs < 2 → run ≡ get_or runs 0 run → (arc_value run).counts ≡ content (all_counts (values runs))
+alone_counts {Z} [] run some few is = absurd (omega arith)
+alone_counts {Z} (x ∷ y ∷ runs) run some few is = absurd (omega arith)
+alone_counts {Z} (x ∷ []) run some few is = ap (λ (r : Arc Matrix Z). (arc_value r).counts) is
+    ∙ sym (ewise_add-empty (arc_value x).counts)
 
 -- the first runs
 pub counts-take : {Z : Type 0} (i : ℕ) (runs : List (Arc Matrix Z)) →

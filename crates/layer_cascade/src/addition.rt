@@ -1,8 +1,8 @@
 //! The addition of a matrix to layers: where its cascade ends, and what the layers are then.
 //!
-//! The matrix is carried from layer to layer: at each it is put beside what the layer holds, if all entries are within
-//! the cut, or added up with it, and stays there if the sum has at most the cut of entries. So no layer above the end
-//! is read. All growth is made here, and nothing is changed.
+//! The matrix is carried from layer to layer: at each it is put beside what the layer holds, and stays there if all
+//! together have at most the cut of entries. Else all goes on, in one or two matrices. So no layer above the end is
+//! read. All growth is made here, and nothing is changed.
 ghost use Rattle.std.specs.Prelude.{◌≡◌, ℕ, suc, ◌+◌, ◌<◌, ◌^◌, ◌++◌, ◌∷◌, IfOk, OnOk, length, drop, replicate};
 ghost use Rattle.std.specs.Arc.{arc_value};
 ghost use Rattle.std.specs.FinMap.{empty as no_counts};
@@ -48,7 +48,8 @@ pub fn cascade_end(
     ensures sum { IfOk result (λ s.
         s.layer ≡ matrix m.now.rows m.now.cols (with_first (all_counts (values layers.now)) m.now.counts s.place)) }
 {
-    let mut sum = m.copy(alloc)?;
+    let copy = m.copy(alloc)?;
+    let mut sum = Layer::of(alloc, copy)?;
     'places: for (place, cut) in cuts.iter().enumerate() {
         match layers[place].taking(alloc, sum, *cut)? {
             Step::Ends(layer) => return Ok(CascadeEnd { place, layer }),
@@ -136,7 +137,10 @@ fn own_step(alloc: Global, layer: Arc<Layer>, m: Hyper, cut: u64) -> Result<Step
 {
     match Arc::try_unwrap(layer) {
         Ok(layer) => layer.into_step(alloc, m, cut),
-        Err(shared) => shared.taking(alloc, m, cut),
+        Err(shared) => {
+            let m = Layer::of(alloc, m)?;
+            shared.taking(alloc, m, cut)
+        }
     }
 }
 
@@ -189,7 +193,7 @@ pub fn cascaded(
                 let all = ended(alloc, after, layer, rest)?;
                 return Ok(all);
             }
-            Step::Carries(carried) => sum = carried,
+            Step::Carries(carried) => sum = carried.into_matrix(alloc)?,
         }
         let none = Arc::try_clone(empty)?;
         after.push(none)?;

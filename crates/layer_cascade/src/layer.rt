@@ -2,7 +2,8 @@
 //!
 //! A small matrix that is added at once to a larger one is copied there with every block that it touches, and so is
 //! each one after it. Here it is put beside the others, which costs a pointer for each of them, as long as their
-//! entries together are no more than the cut: those of the sum can't be more. Then all are added up once.
+//! entries together are no more than the cut: those of the sum can't be more. Then all are added up once, or all but a
+//! large first one, and the places are counted: whether the layer keeps them or they go on, their sum isn't built.
 ghost use Rattle.std.specs.Prelude.{◌≡◌, ℕ, ◌+◌, ◌<◌, ◌≤◌, ◌^◌, ◌⊎◌, IfOk, OnOk, IfSome};
 ghost use Rattle.std.specs.FinMap.{empty, get, len};
 ghost use Rattle.cells.specs.Bounds.{IsDimension, AreWithin};
@@ -16,7 +17,7 @@ ghost use Rattle.layer_cascade.specs.Steps.{joined, Takes};
 
 use crate::limits::{GATHERED_RUNS, MAX_RUNS, MOST_BESIDE};
 use crate::lists::{cells_with, entries_bound, of_cells, push_cells_of};
-use crate::pairs::{due_pair, with_pair_added};
+use crate::pairs::{due_pair, kept_in_front, with_pair_added, with_rest_added};
 use crate::runs::{
     added_to_runs, count_in, entries_in, own_matrix, push_runs, row_counts_in, sum_of_runs,
 };
@@ -35,7 +36,8 @@ pub struct Layer {
     cols: u64,
     // The total of all runs.
     total: u64,
-    // At least the number of entries of the sum: the entries of all runs together.
+    // At least the number of entries of the sum: that number as it was counted last, and the entries of the runs that
+    // were put beside the others since.
     most: u64,
     runs: Vec<Arc<Hyper>>,
 }
@@ -58,10 +60,10 @@ impl Model for Layer {
 /// What an addition comes to at one layer.
 #[derive(Drop)]
 pub enum Step {
-    /// It ends: the layer holds the matrix too.
+    /// It ends: the layer holds what was carried to it too.
     Ends(Layer),
-    /// The matrix and the layer have more entries than the cut. This is their sum, for the next layer.
-    Carries(Hyper),
+    /// Both together have more entries than the cut. They go to the next layer, one or two matrices side by side.
+    Carries(Layer),
 }
 
 impl Layer {
@@ -106,8 +108,8 @@ impl Layer {
         self.total
     }
 
-    /// The number of entries. Constant time for one run, else a look-up in each earlier run for each cell but those of
-    /// the first.
+    /// The number of entries. Constant time for one run, and a step for each cell of two. Each cell of a third and those
+    /// behind it takes a look-up in each earlier run.
     pub fn entries(&self) -> u64
         ensures { result ≡ len self.now.counts }
     {
@@ -209,24 +211,92 @@ impl Layer {
         })
     }
 
-    /// Takes a matrix in, if both together have at most the cut of entries. That is judged exactly: by the entries of
-    /// all runs, which are no fewer than those of the sum, and where these are more than the cut, or there are
-    /// `MAX_RUNS` runs, by the sum itself.
-    pub fn taking(&self, alloc: Global, m: Hyper, cut: u64) -> Result<Step, AllocError>
+    // The runs of both side by side, those of this layer first. More entries than 64 bits can count would need more
+    // memory than there is, and stand for a want of it.
+    fn beside(&self, alloc: Global, m: Layer) -> Result<Layer, AllocError>
+        requires rows { m.rows ≡ self.now.rows }
+        requires cols { m.cols ≡ self.now.cols }
+        requires fits { total m.counts + total self.now.counts < 2 ^ 64 }
+        ensures { IfOk result (λ layer. layer ≡ joined self.now m) }
+    {
+        let total = m.total + self.total;
+        let Some(most) = m.most.checked_add(self.most) else {
+            return Err(AllocError);
+        };
+        let mut runs = Vec::with_capacity(alloc, self.runs.len() + m.runs.len())?;
+        push_runs(&mut runs, &self.runs)?;
+        push_runs(&mut runs, &m.runs)?;
+        Ok(Layer {
+            rows: self.rows,
+            cols: self.cols,
+            total,
+            most,
+            runs,
+        })
+    }
+
+    // The same layer with other runs, whose sum is the same.
+    fn with_runs(&self, runs: Vec<Arc<Hyper>>) -> Layer
+        requires content { content (all_counts (values runs.items)) ≡ self.now.counts }
+        requires dims { HaveDims self.now.rows self.now.cols (values runs.items) }
+        ensures { result ≡ self.now }
+    {
+        let most = entries_bound(&runs).min(self.most);
+        Layer {
+            rows: self.rows,
+            cols: self.cols,
+            total: self.total,
+            most,
+            runs,
+        }
+    }
+
+    // The same layer in one or two runs (`kept_in_front`).
+    fn settled(self, alloc: Global) -> Result<Layer, AllocError>
+        ensures { IfOk result (λ layer. layer ≡ self) }
+    {
+        let kept = kept_in_front(&self.runs);
+        if self.runs.len() <= kept + 1 {
+            return Ok(self);
+        }
+        let runs = with_rest_added(&self.runs, kept, alloc, self.rows, self.cols)?;
+        Ok(self.with_runs(runs))
+    }
+
+    // The same layer, whose bound is the exact number of entries, and that number.
+    fn counted(self) -> (Layer, u64)
+        ensures same { result.0 ≡ self }
+        ensures entries { result.1 ≡ len self.counts }
+    {
+        let entries = self.entries();
+        let layer = Layer {
+            rows: self.rows,
+            cols: self.cols,
+            total: self.total,
+            most: entries,
+            runs: self.runs,
+        };
+        (layer, entries)
+    }
+
+    /// Takes in what is carried to this layer, if both together have at most the cut of entries. That is judged
+    /// exactly: by a bound of the entries, and where that is more than the cut, or there are more than `MAX_RUNS` runs,
+    /// by a count of the places of one or two runs. Only the smaller part is written for it where the first run is large.
+    pub fn taking(&self, alloc: Global, m: Layer, cut: u64) -> Result<Step, AllocError>
         requires rows { m.rows ≡ self.now.rows }
         requires cols { m.cols ≡ self.now.cols }
         requires fits { total m.counts + total self.now.counts < 2 ^ 64 }
         ensures { IfOk result (λ step. Takes self.now m cut step) }
     {
-        if let Some(most) = self.room(&m, cut) {
-            let layer = self.with_run(alloc, m, most)?;
+        let layer = self.beside(alloc, m)?;
+        if layer.runs.len() <= MAX_RUNS && layer.most_entries() <= cut {
             return Ok(Step::Ends(layer));
         }
-        let sum = self.added(alloc, m)?;
-        if sum.entries() > cut {
-            return Ok(Step::Carries(sum));
+        let layer = layer.settled(alloc)?;
+        let (layer, entries) = layer.counted();
+        if entries > cut {
+            return Ok(Step::Carries(layer));
         }
-        let layer = Layer::of(alloc, sum)?;
         Ok(Step::Ends(layer))
     }
 
@@ -255,34 +325,31 @@ impl Layer {
             return Ok(None);
         };
         let runs = with_pair_added(&self.runs, place, alloc, self.rows, self.cols)?;
-        let most = entries_bound(&runs).min(self.most);
-        Ok(Some(Layer {
-            rows: self.rows,
-            cols: self.cols,
-            total: self.total,
-            most,
-            runs,
-        }))
+        Ok(Some(self.with_runs(runs)))
     }
 
-    /// Takes a matrix in, whatever it has: the last layer has no cut. More than `MAX_RUNS` runs are added up.
-    pub fn taking_any(&self, alloc: Global, m: Hyper) -> Result<Layer, AllocError>
+    /// Takes in what is carried to this layer, whatever it has: the last layer has no cut. More than `MAX_RUNS` runs are
+    /// added up.
+    pub fn taking_any(&self, alloc: Global, m: Layer) -> Result<Layer, AllocError>
         requires rows { m.rows ≡ self.now.rows }
         requires cols { m.cols ≡ self.now.cols }
         requires fits { total m.counts + total self.now.counts < 2 ^ 64 }
         ensures { IfOk result (λ layer. layer ≡ joined self.now m) }
     {
-        match self.taking(alloc, m, u64::MAX)? {
-            Step::Ends(layer) => Ok(layer),
-            Step::Carries(sum) => Layer::of(alloc, sum),
+        let layer = self.beside(alloc, m)?;
+        if layer.runs.len() <= MAX_RUNS {
+            return Ok(layer);
         }
+        layer.settled(alloc)
     }
 }
 
 // What an addition does with a layer that is given away.
 impl Layer {
-    /// The entries of all runs together: those of their sum are no more. Constant time.
-    pub fn most_entries(&self) -> u64 {
+    /// A bound of the entries of the sum. Constant time.
+    pub fn most_entries(&self) -> u64
+        ensures { len self.now.counts ≤ result }
+    {
         self.most
     }
 
@@ -344,10 +411,11 @@ impl Layer {
             return Ok(Step::Ends(layer));
         }
         let sum = self.into_joined(alloc, m)?;
-        if sum.entries() > cut {
-            return Ok(Step::Carries(sum));
-        }
+        let entries = sum.entries();
         let layer = Layer::of(alloc, sum)?;
+        if entries > cut {
+            return Ok(Step::Carries(layer));
+        }
         Ok(Step::Ends(layer))
     }
 }

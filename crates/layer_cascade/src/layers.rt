@@ -1,8 +1,8 @@
 //! The layers, the two steps of an addition, and the look-ups in the sum of all layers.
 //!
 //! What a layer holds is the sum of the matrices that stand side by side in it. A matrix is put beside those of layer 1
-//! as long as the entries of all are within its cut, since their sum has no more; else they are added up, and the exact
-//! number of entries decides whether the sum stays or goes on to the next layer. With cuts that grow by a constant
+//! as long as the entries of all are within its cut, since their sum has no more; else they are added up into one or two,
+//! and the exact number of entries decides whether these stay or go on to the next layer, side by side. With cuts that grow by a constant
 //! factor an entry is so merged a few times for each layer, where one large matrix would be written anew for each
 //! addition.
 //!
@@ -163,11 +163,13 @@ impl Layers {
     /// layers below it are empty: each cascades into the next (Kepner, Davis and others, 2020). The caller sees to it
     /// that the dimensions are equal and that both totals together stay below 2^64.
     ///
-    /// Where `m` is put beside the matrices of a layer, that takes the time of a pointer for each of these, at most 32.
-    /// Else takes the time and memory of the sums up to that layer, in which blocks that meet no other are shared. The
-    /// layers above it aren't read. Where matrices stand side by side, and the first of them has no more than the
-    /// others together, all are added up by one list of their cells, of at most 2^21: it takes 24 bytes for each, and
-    /// as much again while it is sorted.
+    /// Where `m` is put beside the matrices of a layer, that takes the time of a pointer for each of these, at most 16.
+    /// Where all together may pass its cut, they are added up into one matrix; or all but the first, where it has a
+    /// third of what the others have, or more, and all have more than 16,384 entries. Then the places of the one or two
+    /// are counted, in a step for each cell and without memory, and they stay or go on as they are. In sums blocks that
+    /// meet no other are shared; where the first matrix has no more than the others together, one list of all cells is
+    /// made, of at most 2^21: it takes 24 bytes for each, and as much again while it is sorted. The layers above that
+    /// one aren't read.
     ///
     /// # Errors
     ///
@@ -355,8 +357,8 @@ impl Layers {
     }
 
     /// The number of entries of layer `i`, counted from 1; `None` for 0 and past the last layer. No memory.
-    /// Constant time where the layer holds one matrix. Else each cell, but those of the first, is looked up in the
-    /// matrices before its own: at most 31 bisections.
+    /// Constant time where the layer holds one matrix, and a step for each cell where it holds two of like size. Else
+    /// each cell, but those of the first, is looked up in the matrices before its own: at most 15 bisections.
     pub fn layer_entries(&self, i: usize) -> Option<u64>
         ensures { result ≡ entries_of_layer self.now.layers i }
     {

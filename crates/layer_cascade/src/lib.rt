@@ -25,6 +25,7 @@ mod pending;
 mod row_entries;
 mod runs;
 mod view;
+mod walk;
 
 pub use cuts::are_cuts;
 pub use fault::CascadeFault;

@@ -13,13 +13,16 @@ pub const MAX_RUNS: usize = 16;
 /// The fewest matrices side by side in layer 1 that `Layers::gather` adds up.
 pub const GATHERED_RUNS: usize = 8;
 
-/// The most entries of two matrices together that `Layers::gather` adds up in a deeper layer: about a millisecond, half
-/// of what an addition takes that passes a cut of 65,536.
+/// The most entries of two matrices together that `Layers::gather` adds up in a deeper layer: about a millisecond.
 pub const MOST_PAIRED: u64 = 33_000;
 
 /// Two matrices side by side are added up where the earlier one has fewer entries than so many times the later one. So
 /// a cell is written anew with matrices that are not much smaller than its own, and a layer ends with few matrices.
 pub const PAIR_RATIO: u64 = 3;
+
+/// Where a matrix has more than so many times the entries of another, each cell of the other is looked up in it, and
+/// else both are walked through, to tell how many places are new: a look-up takes as long as so many steps.
+pub const WALKED_RATIO: u64 = 16;
 
 /// The most cells of more than two matrices that are added up by a list of all. So many are sorted in a few passes.
 pub const MOST_LISTED: u64 = 16_384;

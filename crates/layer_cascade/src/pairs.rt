@@ -2,14 +2,15 @@
 //!
 //! Done again and again, it leaves few runs, each several times as large as the next, in the manner of a binary
 //! counter.
-ghost use Rattle.std.specs.Prelude.{◌≡◌, ◌+◌, ◌<◌, ◌^◌, length, IfOk, IfSome};
+ghost use Rattle.std.specs.Prelude.{◌≡◌, ◌+◌, ◌<◌, ◌≤◌, ◌^◌, length, IfOk, IfSome};
 ghost use Rattle.cells.specs.Bounds.{IsDimension};
 ghost use Rattle.hyper_matrix.specs.Counts.{total};
 ghost use Rattle.layer_cascade.specs.Cascade.{content};
 ghost use Rattle.layer_cascade.specs.Shared.{values, all_counts, HaveDims};
 
-use crate::limits::{MOST_PAIRED, PAIR_RATIO};
-use crate::runs::{push_runs, sum_of_runs};
+use crate::limits::{MOST_LISTED, MOST_PAIRED, PAIR_RATIO};
+use crate::lists::entries_bound;
+use crate::runs::{added_to_runs, push_runs, sum_of_runs};
 use hyper_matrix::Hyper;
 use std::alloc::{AllocError, Global};
 use std::sync::Arc;
@@ -58,5 +59,47 @@ pub fn with_pair_added(
     let run = Arc::new(alloc, sum)?;
     after.push(run)?;
     push_runs(&mut after, behind)?;
+    Ok(after)
+}
+
+/// How many runs in front stay as they are where runs are added up: the first, if it has at least a third of what all
+/// others have together and a list of all would be long, and else none. Only time rests on it.
+pub fn kept_in_front(runs: &[Arc<Hyper>]) -> usize
+    ensures { result ≤ length runs.now }
+{
+    let Some((first, rest)) = runs.split_first() else {
+        return 0;
+    };
+    let others = entries_bound(rest);
+    if first.entries() < others / 3 || first.entries().saturating_add(others) <= MOST_LISTED {
+        return 0;
+    }
+    1
+}
+
+/// The first runs, which are shared, and all others added up into one.
+pub fn with_rest_added(
+    runs: &[Arc<Hyper>],
+    kept: usize,
+    alloc: Global,
+    rows: u64,
+    cols: u64,
+) -> Result<Vec<Arc<Hyper>>, AllocError>
+    requires kept { kept ≤ length runs.now }
+    requires rows { IsDimension rows }
+    requires cols { IsDimension cols }
+    requires dims { HaveDims rows cols (values runs.now) }
+    requires fits { total (content (all_counts (values runs.now))) < 2 ^ 64 }
+    ensures content { IfOk result (λ after.
+        content (all_counts (values after.items)) ≡ content (all_counts (values runs.now))) }
+    ensures dims { IfOk result (λ after. HaveDims rows cols (values after.items)) }
+{
+    let (front, rest) = runs.split_at(kept);
+    let none = Hyper::new(alloc, rows, cols);
+    let sum = added_to_runs(alloc, none, rest)?;
+    let mut after = Vec::with_capacity(alloc, kept + 1)?;
+    push_runs(&mut after, front)?;
+    let run = Arc::new(alloc, sum)?;
+    after.push(run)?;
     Ok(after)
 }

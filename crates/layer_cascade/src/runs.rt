@@ -11,9 +11,10 @@ ghost use Rattle.layer_cascade.specs.Cascade.{content};
 ghost use Rattle.layer_cascade.specs.Runs.{count_new};
 ghost use Rattle.layer_cascade.specs.Shared.{values, all_counts, HaveDims};
 
-use crate::limits::{MOST_BESIDE, MOST_LISTED};
+use crate::limits::{MOST_BESIDE, MOST_LISTED, WALKED_RATIO};
 use crate::lists::{entries_bound, sum_by_list};
 use crate::lookup::plus;
+use crate::walk::new_beside;
 use hyper_matrix::Hyper;
 use std::alloc::{AllocError, Global};
 use std::sync::Arc;
@@ -138,15 +139,25 @@ pub fn row_counts_in(runs: &[Arc<Hyper>], row: u64) -> u64
     sum
 }
 
-/// How many entries a matrix has at places where none of these runs has one.
+/// How many entries a matrix has at places where none of these runs has one. Beside one run, of which it has no small
+/// part, both are walked through; else each of its cells is looked up in each run.
 pub fn new_entries(before: &[Arc<Hyper>], m: &Hyper) -> u64
     requires { total (content (all_counts (values before.now))) < 2 ^ 64 }
     ensures { result ≡ count_new (content (all_counts (values before.now))) (entries m.now.counts) }
 {
-    let bound = m.entries();
-    if before.is_empty() {
-        return bound;
+    match before {
+        [] => m.entries(),
+        [run] if run.entries() / WALKED_RATIO <= m.entries() => new_beside(run, m),
+        _ => new_by_look_ups(before, m),
     }
+}
+
+// As `new_entries`, where each cell is looked up.
+fn new_by_look_ups(before: &[Arc<Hyper>], m: &Hyper) -> u64
+    requires { total (content (all_counts (values before.now))) < 2 ^ 64 }
+    ensures { result ≡ count_new (content (all_counts (values before.now))) (entries m.now.counts) }
+{
+    let _bound = m.entries();
     let mut new = 0;
     'cells: for cell in m.iter() {
         if count_in(before, cell.row, cell.col).is_none() {
@@ -157,7 +168,8 @@ pub fn new_entries(before: &[Arc<Hyper>], m: &Hyper) -> u64
 }
 
 /// The number of entries of the runs' sum, which isn't built: those of each run that no earlier run has. With one run
-/// it takes constant time, with more a look-up in each earlier run for each cell but those of the first.
+/// it takes constant time, and with two a step for each cell. With more each cell of the third and those behind it
+/// takes a look-up in each earlier run.
 pub fn entries_in(runs: &[Arc<Hyper>]) -> u64
     requires fits { total (content (all_counts (values runs.now))) < 2 ^ 64 }
     requires few { len (content (all_counts (values runs.now))) < 2 ^ 64 }

@@ -9,5 +9,6 @@ mod gathers;
 mod layers;
 #[cfg(test)]
 mod pending;
+mod passing;
 #[cfg(test)]
 mod streams;

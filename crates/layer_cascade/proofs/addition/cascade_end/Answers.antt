@@ -10,7 +10,8 @@ use Rattle.layer_cascade.proofs.addition.cascade_end.Goals as goal
 
 pub places-init : goal.places-init
 places-init c = record {
-  here = carried_first (all_counts (values c.args.layers.now)) c.in_ok-sum.sum c.args.m.now c.in_ok-sum.ensures;
+  here = carried_first (all_counts (values c.args.layers.now)) c.in_ok-sum.sum c.args.m.now
+      (c.in_ok-sum.ensures ∙ c.in_ok-copy.ensures);
   least = λ i h. absurd (omega arith);
 }
 

@@ -84,6 +84,7 @@ returns-in-Ends-clause-dims c =
 pub carry-preserved : goal.carry-preserved
 carry-preserved c =
     let takes = subst (Takes (arc_value c.in-Some.layer) c.carry.sum _) c.in-Carries.is c.in_ok-layer.ensures in
+    let sum = c.in_ok-sum-in-Carries.ensures in
     let left = subst (λ l. HaveDims c.args.m.rows c.args.m.cols (values l)) c.in-Some.ensures.items
     c.carry.invariant.left in
     record {
@@ -95,7 +96,7 @@ carry-preserved c =
         length-append c.carry.after.items (c.in_ok-none.none ∷ []),
       );
       told = carried c.carry.after.items c.carry.rest.items c.pop_front.new.self.items c.in-Some.layer c.args.cuts.now
-          c.carry.sum c.in-Carries.carried _ c.in-Some.ensures.items (ap (λ (m : Matrix). m.counts) takes.0)
+          c.carry.sum c.in_ok-sum-in-Carries.sum _ c.in-Some.ensures.items (ap (λ (m : Matrix). m.counts) (sum ∙ takes.0))
           c.carry.invariant.told
           c.push.new.self.items c.in_ok-none.none c.in_ok-push.ensures.items
           (ap (λ (m : Matrix). m.counts) (c.in_ok-none.ensures ∙ c.requires.none))
@@ -106,11 +107,11 @@ carry-preserved c =
             eqb-false _ _ (sym c.if-is_empty.ensures),
             c.pop_front.new.self.ok,
           ))
-          (subst (λ n. get_or c.args.cuts.now n 0 < len c.in-Carries.carried.counts) {x = c.len-in-Some.result}
+          (subst (λ n. get_or c.args.cuts.now n 0 < len c.in_ok-sum-in-Carries.sum.counts) {x = c.len-in-Some.result}
           {y = length c.carry.after.items} (omega (arith, c.len-in-Some.ensures, c.carry.after.ok))
-          (omega (arith, takes.1)));
-      rows = ap (λ (m : Matrix). m.rows) takes.0 ∙ c.carry.invariant.rows;
-      cols = ap (λ (m : Matrix). m.cols) takes.0 ∙ c.carry.invariant.cols;
+          (omega (arith, takes.1, ap (λ (m : Matrix). len m.counts) sum)));
+      rows = ap (λ (m : Matrix). m.rows) (sum ∙ takes.0) ∙ c.carry.invariant.rows;
+      cols = ap (λ (m : Matrix). m.cols) (sum ∙ takes.0) ∙ c.carry.invariant.cols;
       done = dims_pushed _ _ c.carry.after.items _ c.in_ok-none.none c.in_ok-push.ensures.items c.carry.invariant.done
           (ap (λ (m : Matrix). m.rows) (c.in_ok-none.ensures ∙ c.requires.none))
           (ap (λ (m : Matrix). m.cols) (c.in_ok-none.ensures ∙ c.requires.none));
@@ -120,7 +121,7 @@ carry-preserved c =
         c.carry.invariant.fits,
         ap (λ r. total (content (all_counts (values r)))) c.in-Some.ensures.items,
         total-ewise_add (arc_value c.in-Some.layer).counts (content (all_counts (values c.pop_front.new.self.items))),
-        ap (λ (m : Matrix). total m.counts) takes.0,
+        ap (λ (m : Matrix). total m.counts) (sum ∙ takes.0),
         total-ewise_add c.carry.sum.counts (arc_value c.in-Some.layer).counts,
       );
     }

@@ -1,17 +1,30 @@
-use Rattle.std.proofs.Common.{ap, arith}
+use Rattle.std.proofs.Common.{ap, ◌∙◌, arith}
 use Rattle.std.specs.FinMap.{len}
 use Rattle.hyper_matrix.specs.Matrix.{Matrix}
-use Rattle.layer_cascade.proofs.RunLemmas.{len-ewise_add-le}
 use Rattle.layer_cascade.proofs.layer.Layer.taking.Goals as goal
 
-pub returns-in-Some : goal.returns-in-Some
-returns-in-Some c = (
-  c.in_ok-layer.ensures,
+pub returns : goal.returns
+returns c = (
+  c.counted-layer.ensures.same ∙ c.in_ok-layer-2.ensures ∙ c.in_ok-layer.ensures,
   omega (
     arith,
-    ap (λ (m : Matrix). len m.counts) c.in_ok-layer.ensures,
-    len-ewise_add-le c.args.m.counts c.args.self.now.counts,
-    c.in-Some.ensures.0,
-    c.in-Some.ensures.1,
+    c.if-entries-cut.false,
+    c.counted-layer.ensures.entries,
+    ap (λ (m : Matrix). len m.counts) c.counted-layer.ensures.same,
   ),
 )
+
+pub returns-then-entries-cut : goal.returns-then-entries-cut
+returns-then-entries-cut c = (
+  c.counted-layer.ensures.same ∙ c.in_ok-layer-2.ensures ∙ c.in_ok-layer.ensures,
+  omega (
+    arith,
+    c.if-entries-cut.true,
+    c.counted-layer.ensures.entries,
+    ap (λ (m : Matrix). len m.counts) c.counted-layer.ensures.same,
+  ),
+)
+
+pub returns-then-most_entries-cut : goal.returns-then-most_entries-cut
+returns-then-most_entries-cut c =
+    (c.in_ok-layer.ensures, omega (arith, c.if-most_entries-cut.true, c.most_entries.ensures))

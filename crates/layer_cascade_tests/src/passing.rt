@@ -1,0 +1,156 @@
+//! Layers of many entries that pass a cut, beside layers that are built anew from lists of cells at each addition.
+use crate::adding::add;
+use crate::streams::are_same;
+use cells::Cell;
+use hyper_matrix::{BuildFault, Hyper};
+use layer_cascade::Layers;
+use std::alloc::{AllocError, Global};
+use std::process::Abort;
+use std::test::Fail;
+
+const SIDE: u64 = 1 << 20;
+
+/// A stream of matrices, each of the same number of cells. Its places come again after so many.
+#[derive(Drop)]
+struct Stream {
+    places: u64,
+    cells: u64,
+}
+
+impl Stream {
+    fn cell(&self, i: u64) -> Cell {
+        let place = i % self.places.max(1);
+        Cell {
+            row: place.wrapping_mul(40_503) % 65_536,
+            col: place / 65_536,
+            count: i % 7,
+        }
+    }
+
+    fn list(&self, alloc: Global, matrix: u64) -> Result<Vec<Cell>, AllocError> {
+        let mut list = Vec::new(alloc);
+        let from = matrix.wrapping_mul(self.cells);
+        for i in from..from.wrapping_add(self.cells) {
+            list.push(self.cell(i))?;
+        }
+        Ok(list)
+    }
+}
+
+/// What a layer holds with the cells of a list, built from the cells of both.
+fn built_with(alloc: Global, layer: &Hyper, list: &[Cell]) -> Result<Hyper, Fail> {
+    let mut cells = layer.cells(alloc)?;
+    cells.extend_from_slice(list)?;
+    Ok(Hyper::build(alloc, SIDE, SIDE, &cells)?)
+}
+
+/// Layers that hold a matrix each.
+#[derive(Drop)]
+struct Model {
+    cuts: Vec<u64>,
+    layers: Vec<Hyper>,
+}
+
+impl Model {
+    fn new(alloc: Global, cuts: &[u64]) -> Result<Model, AllocError> {
+        let mut layers = Vec::new(alloc);
+        for _ in 0..cuts.len().wrapping_add(1) {
+            layers.push(Hyper::new(alloc, SIDE, SIDE))?;
+        }
+        Ok(Model {
+            cuts: Vec::from_slice(alloc, cuts)?,
+            layers,
+        })
+    }
+
+    fn add(&mut self, alloc: Global, list: &[Cell]) -> Result<(), Fail> {
+        let mut carried = Hyper::build(alloc, SIDE, SIDE, list)?;
+        for (place, layer) in self.layers.iter_mut().enumerate() {
+            let sum = built_with(alloc, layer, carried.cells(alloc)?.as_slice())?;
+            match self.cuts.get(place) {
+                Some(cut) if sum.entries() > *cut => {
+                    *layer = Hyper::new(alloc, SIDE, SIDE);
+                    carried = sum;
+                }
+                _ => {
+                    *layer = sum;
+                    return Ok(());
+                }
+            }
+        }
+        Ok(())
+    }
+
+    fn sum(&self, alloc: Global) -> Result<Hyper, Fail> {
+        let mut sum = Hyper::new(alloc, SIDE, SIDE);
+        for layer in &self.layers {
+            sum = built_with(alloc, &sum, layer.cells(alloc)?.as_slice())?;
+        }
+        Ok(sum)
+    }
+
+    fn has_sizes(&self, layers: &Layers) -> bool {
+        for (i, layer) in self.layers.iter().enumerate() {
+            if layers.layer_entries(i.wrapping_add(1)) != Some(layer.entries()) {
+                return false;
+            }
+        }
+        true
+    }
+}
+
+/// Whether the layers hold what a matrix holds: at the places of a list, and as a whole.
+fn hold(alloc: Global, layers: &Layers, m: &Hyper, list: &[Cell]) -> Result<bool, AllocError> {
+    for cell in list {
+        if layers.get(cell.row, cell.col) != m.get(cell.row, cell.col) {
+            return Ok(false);
+        }
+    }
+    let sum = layers.sum(alloc)?;
+    Ok(are_same(alloc, &sum, m)? && layers.total() == m.total())
+}
+
+/// The entries of each of three layers once so many matrices were added, all of which agree with the model.
+fn check(
+    rt: &impl Abort,
+    alloc: Global,
+    cuts: &[u64],
+    stream: &Stream,
+    matrices: u64,
+) -> Result<[u64; 3], Fail> {
+    let mut layers = Layers::new(alloc, SIDE, SIDE, cuts)?;
+    let mut model = Model::new(alloc, cuts)?;
+    for i in 0..matrices {
+        let list = stream.list(alloc, i)?;
+        add(alloc, &mut layers, &Hyper::build(alloc, SIDE, SIDE, &list)?)?;
+        model.add(alloc, &list)?;
+        assert!(rt; model.has_sizes(&layers), "sizes after {i}");
+        if i.wrapping_add(1) == matrices {
+            let sum = model.sum(alloc)?;
+            assert!(rt; hold(alloc, &layers, &sum, &list)?, "after {i}");
+        }
+    }
+    let mut sizes = [0u64; 3];
+    for (size, layer) in sizes.iter_mut().zip(model.layers.iter()) {
+        *size = layer.entries();
+    }
+    Ok(sizes)
+}
+
+/// Cuts, the stream's places and cells of a matrix, the matrices, and the entries of each layer at the end. In the
+/// first row all places differ, and what passes a cut goes on in two matrices. In the second they come again, and the
+/// layer stays.
+const ROWS: [(&[u64], u64, u64, u64, [u64; 3]); 2] = [
+    (&[18_000], 1 << 20, 6_000, 5, [6_000, 24_000, 0]),
+    (&[18_000], 17_000, 6_000, 5, [17_000, 0, 0]),
+];
+
+#[test]
+fn layers_that_pass_a_cut_agree_with_lists(rt: HostRuntime) -> Result<(), Fail> {
+    for (cuts, places, cells, matrices, want) in ROWS {
+        let stream = Stream { places, cells };
+        let sizes = check(&rt, rt.alloc(), cuts, &stream, matrices)?;
+        assert_eq!(rt; sizes, want, "{places} places in matrices of {cells}");
+    }
+    Ok(())
+}
