@@ -69,20 +69,6 @@ is_added r c cuts layers m told fits = record {
   fits = omega (arith, ap total (content-cascade layers cuts m told.count), total-ewise_add (content layers) m);
 }
 
-pub keeps_added : (r c : ℕ) (cuts : List ℕ) (layers after : List Matrix) (none m : Matrix) (v : Layering) →
-    KeepsLayers r c cuts layers none → layering r c cuts (all_counts layers) ≡ v →
-    total (content v.layers) + total m.counts < 2 ^ 64 → m.rows ≡ v.rows → m.cols ≡ v.cols →
-    all_counts after ≡ cascade (all_counts layers) cuts m.counts → HaveDims m.rows m.cols after →
-    KeepsLayers r c cuts after none
-keeps_added r c cuts layers after none m v keeps view fits rows cols told dims = record {
-  told = subst (λ l. IsLayering (layering r c cuts l)) (sym told)
-      (is_added r c cuts (all_counts layers) m.counts keeps.told
-      (omega (arith, fits, ap (λ (w : Layering). total (content w.layers)) view)));
-  dims = subst (λ k. HaveDims r k after) (cols ∙ sym (ap (λ (w : Layering). w.cols) view))
-      (subst (λ k. HaveDims k m.cols after) (rows ∙ sym (ap (λ (w : Layering). w.rows) view)) dims);
-  none = keeps.none;
-}
-
 -- the layers after an addition
 module _ (r c : ℕ) (cuts cuts' : List ℕ) (layers after : List Matrix) (none none' m sum : Matrix) (j : ℕ)
     (keeps : KeepsLayers r c cuts layers none) (ends : EndsAt (all_counts layers) cuts m.counts j)

@@ -32,7 +32,7 @@ module _ {Z : Type 0} (old new : List (Arc Matrix Z)) (run : Arc Matrix Z) (held
   values-more = pushed old new run push ∙ ap (λ l. l ++ arc_value run ∷ []) old_are
       ∙ ap (λ (x : Matrix). held ++ x ∷ []) run_is
 
-  pub content-pushed : content (all_counts (values new)) ≡ ewise_add m.counts (content (all_counts held))
+  content-pushed : content (all_counts (values new)) ≡ ewise_add m.counts (content (all_counts held))
   content-pushed =
       ap (λ l. content (all_counts l)) values-more
       ∙ ap content (map-append (λ (x : Matrix). x.counts) held (m ∷ []))
@@ -40,7 +40,7 @@ module _ {Z : Type 0} (old new : List (Arc Matrix Z)) (run : Arc Matrix Z) (held
       ∙ ap (ewise_add (content (all_counts held))) (ewise_add-empty m.counts)
       ∙ ewise_add_comm (content (all_counts held)) m.counts
 
-  pub keeps_pushed : (r c sum most : ℕ) → IsDimension r → IsDimension c → HaveDims r c held → m.rows ≡ r →
+  keeps_pushed : (r c sum most : ℕ) → IsDimension r → IsDimension c → HaveDims r c held → m.rows ≡ r →
       m.cols ≡ c → sum ≡ total m.counts + total (content (all_counts held)) → sum < 2 ^ 64 →
       len m.counts + len (content (all_counts held)) ≤ most → KeepsRuns r c sum most (values new)
   keeps_pushed r c sum most is_rows is_cols dims rows cols sum_is fits few =

@@ -4,8 +4,6 @@ pub mod LayerLemmas
 pub mod KeptLemmas
 pub mod RowLemmas
 pub mod RowEntryLemmas
-pub mod CarryLemmas
-pub mod FirstLayerLemmas
 pub mod RunLemmas
 pub mod KeptRunLemmas
 pub mod StepLemmas

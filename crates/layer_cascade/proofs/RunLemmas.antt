@@ -23,7 +23,6 @@ use Rattle.layer_cascade.specs.Cascade.{content}
 use Rattle.layer_cascade.specs.Runs.{count_new}
 use Rattle.layer_cascade.specs.Shared.{values, all_counts, HaveDims}
 use Rattle.layer_cascade.proofs.CascadeLaws.{empty-ewise_add}
-use Rattle.layer_cascade.proofs.CarryLemmas.{counts_append}
 use Rattle.layer_cascade.proofs.LayerLemmas.{content-append}
 
 pub len-add_at : (m : Counts) (p : Place) (n : ℕ) → len (add_at m p n) ≡ cond (is_some (get m p)) 0 1 + len m
@@ -118,6 +117,11 @@ len-take layers i = omega (
 dims-parts : (r c : ℕ) (a b : List Matrix) → HaveDims r c (a ++ b) → HaveDims r c a × HaveDims r c b
 dims-parts r c [] b h = (tt, h)
 dims-parts r c (m ∷ a) b h = let rest = dims-parts r c a b h.2 in ((h.0, h.1, rest.0), rest.1)
+
+counts_append : {Z : Type 0} (a b : List (Arc Matrix Z)) →
+    all_counts (values (a ++ b)) ≡ all_counts (values a) ++ all_counts (values b)
+counts_append a b = ap all_counts (map-append arc_value a b)
+    ∙ map-append (λ (m : Matrix). m.counts) (values a) (values b)
 
 -- runs in two parts
 module _ {Z : Type 0} (runs left right : List (Arc Matrix Z)) (is : runs ≡ left ++ right) where

@@ -22,7 +22,7 @@ abbrev pub Decides : Counts → List (Place × ℕ) → List (Place × ℕ) → 
 Decides m left es = AllPlaces (λ q. is_some (get m q) ≡ is_some (find place_cmp q left)) es
 
 -- a list without its head is in order still
-pub rises-from : (q : Place) (es : List (Place × ℕ)) → T (is_sorted place_cmp es) →
+rises-from : (q : Place) (es : List (Place × ℕ)) → T (is_sorted place_cmp es) →
     T (is_sorted place_cmp (from_place q es))
 rises-from q [] h = tt
 rises-from q (e ∷ es) h = step (is_before e.0 q) (rises-from q es (T_second _ _ h))
@@ -33,7 +33,7 @@ rises-from q (e ∷ es) h = step (is_before e.0 q) (rises-from q es (T_second _ 
     step false rest = h
 
 -- what is passed stands before q, so it isn't at p, before which all of it stands too
-pub find-from : (p q : Place) → ((r : Place) → T (is_before r q) → T (is_before r p)) → (es : List (Place × ℕ)) →
+find-from : (p q : Place) → ((r : Place) → T (is_before r q) → T (is_before r p)) → (es : List (Place × ℕ)) →
     find place_cmp p (from_place q es) ≡ find place_cmp p es
 find-from p q up [] = refl
 find-from p q up (e ∷ es) = step (is_before e.0 q) refl (find-from p q up es)
@@ -63,7 +63,7 @@ none_at q e es below behind Ordering.Greater is apart = absurd (false≢true (sy
     ∙ ap is_lt (places_total.antisymm e.0 q ∙ ap ordering_reverse is)))
 
 -- a place is found in what begins there or behind it exactly if it begins there
-pub first_found : (q : Place) (es : List (Place × ℕ)) (at : Bool) → T (is_sorted place_cmp es) →
+first_found : (q : Place) (es : List (Place × ℕ)) (at : Bool) → T (is_sorted place_cmp es) →
     (IsTrue at ↔ IsFirst q (from_place q es)) → is_some (find place_cmp q (from_place q es)) ≡ at
 first_found q [] true h is = absurd (is.0 refl)
 first_found q [] false h is = refl
@@ -84,7 +84,7 @@ first_found q (e ∷ es) at h is = step (is_before e.0 q) refl is (λ is. first_
     step false b is rest = here at b is (eq_by_cmp place_cmp q e.0) refl
 
 -- the places behind one are decided by what is left behind it
-pub decides-from : (m : Counts) (q : Place) (left es : List (Place × ℕ)) → T (below_all place_cmp q es) →
+decides-from : (m : Counts) (q : Place) (left es : List (Place × ℕ)) → T (below_all place_cmp q es) →
     Decides m left es → Decides m (from_place q left) es
 decides-from m q left [] below all = tt
 decides-from m q left (e ∷ es) below all = (

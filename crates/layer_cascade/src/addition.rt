@@ -5,15 +5,12 @@
 //! read. All growth is made here, and nothing is changed.
 ghost use Rattle.std.specs.Prelude.{◌≡◌, ℕ, suc, ◌+◌, ◌<◌, ◌^◌, ◌++◌, ◌∷◌, IfOk, OnOk, length, drop, replicate};
 ghost use Rattle.std.specs.Arc.{arc_value};
-ghost use Rattle.std.specs.FinMap.{empty as no_counts};
 ghost use Rattle.cells.specs.Bounds.{IsDimension, AreWithin};
-ghost use Rattle.cells.specs.Order.{Rise};
-ghost use Rattle.hyper_matrix.specs.Cells.{built_of, cell_total};
+ghost use Rattle.hyper_matrix.specs.Cells.{built_of};
 ghost use Rattle.hyper_matrix.specs.Counts.{ewise_add, total};
 ghost use Rattle.hyper_matrix.specs.Matrix.{matrix};
-ghost use Rattle.layer_cascade.specs.Cascade.{content, cascade, with_first, EndsAt};
+ghost use Rattle.layer_cascade.specs.Cascade.{content, with_first, EndsAt};
 ghost use Rattle.layer_cascade.specs.Shared.{values, all_counts, HaveDims};
-ghost use Rattle.layer_cascade.specs.Steps.{Takes};
 
 use crate::layer::{Layer, Step};
 use crate::limits::MOST_BESIDE;
@@ -22,7 +19,6 @@ use cells::Cell;
 use hyper_matrix::Hyper;
 use std::alloc::{AllocError, Global};
 use std::collections::VecDeque;
-use std::mem;
 use std::sync::Arc;
 
 /// Where the cascade of a matrix ends.
@@ -126,108 +122,6 @@ fn with_layer(alloc: Global, sum: Hyper, layer: Arc<Layer>) -> Result<Hyper, All
     let layer = own_layer(alloc, layer)?;
     let sum = sum.into_sum(alloc, layer)?;
     Ok(sum)
-}
-
-// What an addition comes to at a layer that is given away. One that somebody else shares stays there as it was.
-fn own_step(alloc: Global, layer: Arc<Layer>, m: Hyper, cut: u64) -> Result<Step, AllocError>
-    requires rows { m.rows ≡ (arc_value layer).rows }
-    requires cols { m.cols ≡ (arc_value layer).cols }
-    requires fits { total m.counts + total (arc_value layer).counts < 2 ^ 64 }
-    ensures { IfOk result (λ step. Takes (arc_value layer) m cut step) }
-{
-    match Arc::try_unwrap(layer) {
-        Ok(layer) => layer.into_step(alloc, m, cut),
-        Err(shared) => {
-            let m = Layer::of(alloc, m)?;
-            shared.taking(alloc, m, cut)
-        }
-    }
-}
-
-// The layers that are done, the one where the cascade ends, and those above it, which are moved.
-fn ended(
-    alloc: Global,
-    done: Vec<Arc<Layer>>,
-    layer: Layer,
-    above: VecDeque<Arc<Layer>>,
-) -> Result<Vec<Arc<Layer>>, AllocError>
-    ensures { IfOk result (λ after. values after.items ≡ values done.items ++ layer ∷ values above.items) }
-{
-    let mut after = done;
-    let layer = Arc::new(alloc, layer)?;
-    after.push(layer)?;
-    let mut above = Vec::from(above);
-    after.append(&mut above)?;
-    Ok(after)
-}
-
-/// The layers once m was added to them, made from their own memory: the cascade goes from layer to layer, leaves each
-/// that can't hold the sum empty, and moves those above its end.
-pub fn cascaded(
-    alloc: Global,
-    layers: Vec<Arc<Layer>>,
-    cuts: &[u64],
-    empty: &Arc<Layer>,
-    m: Hyper,
-) -> Result<Vec<Arc<Layer>>, AllocError>
-    requires count { length layers.items ≡ length cuts.now + 1 }
-    requires dims { HaveDims m.rows m.cols (values layers.items) }
-    requires none { arc_value empty.now ≡ matrix m.rows m.cols no_counts }
-    requires fits { total (content (all_counts (values layers.items))) + total m.counts < 2 ^ 64 }
-    ensures counts { IfOk result (λ after.
-        all_counts (values after.items) ≡ cascade (all_counts (values layers.items)) cuts.now m.counts) }
-    ensures dims { IfOk result (λ after. HaveDims m.rows m.cols (values after.items)) }
-{
-    let mut after = Vec::with_capacity(alloc, layers.len())?;
-    let mut rest = VecDeque::from(layers);
-    let mut sum = m;
-    'carry: while let Some(layer) = rest.pop_front() {
-        if rest.is_empty() {
-            let sum = with_layer(alloc, sum, layer)?;
-            let last = Layer::of(alloc, sum)?;
-            let all = ended(alloc, after, last, rest)?;
-            return Ok(all);
-        }
-        match own_step(alloc, layer, sum, cuts[after.len()])? {
-            Step::Ends(layer) => {
-                let all = ended(alloc, after, layer, rest)?;
-                return Ok(all);
-            }
-            Step::Carries(carried) => sum = carried.into_matrix(alloc)?,
-        }
-        let none = Arc::try_clone(empty)?;
-        after.push(none)?;
-    }
-    Ok(after)
-}
-
-/// The layers once a list of cells was added to them, in which each place stands once, by row and then by column: as
-/// `cascaded` with the matrix that the list builds. The list is added to the first layer, and goes on with it.
-pub fn cascaded_cells(
-    alloc: Global,
-    layers: Vec<Arc<Layer>>,
-    cuts: &[u64],
-    empty: &Arc<Layer>,
-    cells: &[Cell],
-) -> Result<Vec<Arc<Layer>>, AllocError>
-    requires count { length layers.items ≡ length cuts.now + 1 }
-    requires dims { HaveDims (arc_value empty.now).rows (arc_value empty.now).cols (values layers.items) }
-    requires none { (arc_value empty.now).counts ≡ no_counts }
-    requires rises { Rise cells.now }
-    requires within { AreWithin (arc_value empty.now).rows (arc_value empty.now).cols cells.now }
-    requires fits { total (content (all_counts (values layers.items))) + cell_total cells.now < 2 ^ 64 }
-    ensures counts { IfOk result (λ after. all_counts (values after.items) ≡ cascade (all_counts (values layers.items))
-        cuts.now (built_of cells.now)) }
-    ensures dims { IfOk result (λ after. HaveDims (arc_value empty.now).rows (arc_value empty.now).cols
-        (values after.items)) }
-{
-    let mut layers = layers;
-    let none = Arc::try_clone(empty)?;
-    let first = mem::replace(&mut layers[0], none);
-    let first = own_layer(alloc, first)?;
-    let sum = first.into_sum_with_cells(alloc, cells)?;
-    let after = cascaded(alloc, layers, cuts, empty, sum)?;
-    Ok(after)
 }
 
 // The sum of all layers, from the first to the last.

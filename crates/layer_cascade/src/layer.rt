@@ -15,8 +15,8 @@ ghost use Rattle.layer_cascade.specs.Cascade.{content};
 ghost use Rattle.layer_cascade.specs.Shared.{values, all_counts, HaveDims};
 ghost use Rattle.layer_cascade.specs.Steps.{joined, Takes};
 
-use crate::limits::{GATHERED_RUNS, MAX_RUNS, MOST_BESIDE};
-use crate::lists::{cells_with, entries_bound, of_cells, push_cells_of};
+use crate::limits::{GATHERED_RUNS, MAX_RUNS};
+use crate::lists::{entries_bound, push_cells_of};
 use crate::pairs::{due_pair, kept_in_front, with_pair_added, with_rest_added};
 use crate::runs::{
     added_to_runs, count_in, entries_in, own_matrix, push_runs, row_counts_in, sum_of_runs,
@@ -175,42 +175,6 @@ impl Layer {
         Ok(sum)
     }
 
-    // The entries of the runs and a matrix together, if there may be one run more, and the cut has room for them.
-    fn room(&self, m: &Hyper, cut: u64) -> Option<u64>
-        ensures { IfSome result (λ most. (len m.now.counts + len self.now.counts ≤ most) × (most ≤ cut)) }
-    {
-        if self.runs.len() >= MAX_RUNS {
-            return None;
-        }
-        let most = m.entries().checked_add(self.most)?;
-        if most > cut {
-            return None;
-        }
-        Some(most)
-    }
-
-    // The layer with a run more, which together have no more than so many entries.
-    fn with_run(&self, alloc: Global, m: Hyper, most: u64) -> Result<Layer, AllocError>
-        requires rows { m.rows ≡ self.now.rows }
-        requires cols { m.cols ≡ self.now.cols }
-        requires fits { total m.counts + total self.now.counts < 2 ^ 64 }
-        requires most { len m.counts + len self.now.counts ≤ most }
-        ensures { IfOk result (λ layer. layer ≡ joined self.now m) }
-    {
-        let total = m.total() + self.total;
-        let mut runs = Vec::with_capacity(alloc, self.runs.len() + 1)?;
-        push_runs(&mut runs, &self.runs)?;
-        let run = Arc::new(alloc, m)?;
-        runs.push(run)?;
-        Ok(Layer {
-            rows: self.rows,
-            cols: self.cols,
-            total,
-            most,
-            runs,
-        })
-    }
-
     // The runs of both side by side, those of this layer first. More entries than 64 bits can count would need more
     // memory than there is, and stand for a want of it.
     fn beside(&self, alloc: Global, m: Layer) -> Result<Layer, AllocError>
@@ -344,7 +308,7 @@ impl Layer {
     }
 }
 
-// What an addition does with a layer that is given away.
+// What the sum of layers that are given away reads of one.
 impl Layer {
     /// A bound of the entries of the sum. Constant time.
     pub fn most_entries(&self) -> u64
@@ -360,62 +324,5 @@ impl Layer {
             OnOk result (AreWithin self.now.rows self.now.cols out.new.items) }
     {
         push_cells_of(out, &self.runs)
-    }
-
-    // The sum of a matrix and all runs, made from their own memory: by a list of all cells where there are several. The
-    // runs' memory is free while that list is sorted.
-    fn into_joined(self, alloc: Global, m: Hyper) -> Result<Hyper, AllocError>
-        requires rows { m.rows ≡ self.rows }
-        requires cols { m.cols ≡ self.cols }
-        requires fits { total m.counts + total self.counts < 2 ^ 64 }
-        ensures { IfOk result (λ sum. sum ≡ joined self m) }
-    {
-        if self.runs.len() < 2 {
-            let own = self.into_matrix(alloc)?;
-            let sum = m.into_sum(alloc, own)?;
-            return Ok(sum);
-        }
-        let runs = self.runs;
-        let cells = cells_with(alloc, m, &runs)?;
-        drop(runs);
-        let sum = of_cells(alloc, self.rows, self.cols, cells)?;
-        Ok(sum)
-    }
-
-    // As `room`, where it is worth while to put the matrix beside the runs: their list stays short, and the first isn't
-    // much larger, as it is where places come again and the sum of all stays in the layer. Then counts are added where
-    // they stand.
-    fn room_beside(&self, m: &Hyper, cut: u64) -> Option<u64>
-        ensures { IfSome result (λ most. (len m.now.counts + len self.now.counts ≤ most) × (most ≤ cut)) }
-    {
-        let first = match self.runs.first() {
-            Some(run) => run.entries(),
-            None => 0,
-        };
-        if first / 3 > m.entries() / 2 {
-            return None;
-        }
-        self.room(m, cut.min(MOST_BESIDE))
-    }
-
-    /// Takes a matrix in, as `taking`, where the layer is given away. The matrix is put beside the runs only as long as
-    /// all together have at most `MOST_BESIDE` entries, and the first has at most one and a half times its own.
-    pub fn into_step(self, alloc: Global, m: Hyper, cut: u64) -> Result<Step, AllocError>
-        requires rows { m.rows ≡ self.rows }
-        requires cols { m.cols ≡ self.cols }
-        requires fits { total m.counts + total self.counts < 2 ^ 64 }
-        ensures { IfOk result (λ step. Takes self m cut step) }
-    {
-        if let Some(most) = self.room_beside(&m, cut) {
-            let layer = self.with_run(alloc, m, most)?;
-            return Ok(Step::Ends(layer));
-        }
-        let sum = self.into_joined(alloc, m)?;
-        let entries = sum.entries();
-        let layer = Layer::of(alloc, sum)?;
-        if entries > cut {
-            return Ok(Step::Carries(layer));
-        }
-        Ok(Step::Ends(layer))
     }
 }

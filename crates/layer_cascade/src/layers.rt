@@ -1,21 +1,17 @@
 //! The layers, the two steps of an addition, and the look-ups in the sum of all layers.
 //!
 //! What a layer holds is the sum of the matrices that stand side by side in it. A matrix is put beside those of layer 1
-//! as long as the entries of all are within its cut, since their sum has no more; else they are added up into one or two,
-//! and the exact number of entries decides whether these stay or go on to the next layer, side by side. With cuts that grow by a constant
-//! factor an entry is so merged a few times for each layer, where one large matrix would be written anew for each
-//! addition.
+//! as long as the entries of all are within its cut, since their sum has no more; else they are added up into one or
+//! two, and the exact number of entries decides whether these stay or go on to the next layer, side by side. With cuts
+//! that grow by a constant factor an entry is so merged a few times for each layer, where one large matrix would be
+//! written anew for each addition.
 //!
 //! Each layer is shared and never changed in place, so a plan takes over the layers that it leaves by a pointer, and to
-//! commit it is to exchange pointers. `Layers::add` makes both steps at once from layers that are given away: what it
-//! adds up it takes from their memory, several matrices of a layer by one list of their cells, and it leaves a single
-//! matrix in the last layer. A look-up asks each matrix of each layer and puts the answers together; only `Layers::sum`
-//! and `Layers::into_sum` build the sum.
+//! commit it is to exchange pointers. A look-up asks each matrix of each layer and puts the answers together; only
+//! `Layers::sum` and `Layers::into_sum` build the sum, the second from memory that is given away.
 ghost use Rattle.std.specs.Prelude.{◌≡◌, ℕ, ◌+◌, ◌<◌, ◌≤◌, ◌^◌, ◌⊎◌, ◌↔◌, IfOk, IfSome, length};
 ghost use Rattle.std.specs.FinMap.{get, len};
-ghost use Rattle.cells.specs.Bounds.{IsDimension, AreWithin};
-ghost use Rattle.cells.specs.Order.{Rise};
-ghost use Rattle.hyper_matrix.specs.Cells.{built_of, cell_total};
+ghost use Rattle.cells.specs.Bounds.{IsDimension};
 ghost use Rattle.hyper_matrix.specs.Counts.{total};
 ghost use Rattle.hyper_matrix.specs.Matrix.{matrix};
 ghost use Rattle.layer_cascade.specs.Cascade.{cascade, content};
@@ -23,15 +19,12 @@ ghost use Rattle.layer_cascade.specs.Cuts.{AreCuts};
 ghost use Rattle.hyper_matrix.specs.RowOf.{row_of};
 ghost use Rattle.layer_cascade.specs.Layering.{IsLayering, no_layers, entries_of_layer};
 
-use crate::addition::{
-    cascade_end, cascaded, cascaded_cells, layers_after, push_copies, push_layers, sum_of_layers,
-};
+use crate::addition::{cascade_end, layers_after, push_copies, push_layers, sum_of_layers};
 use crate::cuts::are_cuts;
 use crate::fault::CascadeFault;
 use crate::layer::Layer;
 use crate::lookup::plus;
 use crate::row_entries::columns_with_layer;
-use cells::Cell;
 use hyper_matrix::{Hyper, RowSum};
 use std::alloc::{AllocError, Global};
 use std::marker::Model;
@@ -243,57 +236,6 @@ impl Layers {
             self.layers[place] = Arc::new(alloc, layer)?;
         }
         Ok(())
-    }
-
-    /// The layers with `m` added, as `plan` and `commit` leave them, made from their own memory.
-    ///
-    /// Nothing is changed that somebody else shares: a layer, or a block of one. What nobody else has is moved, and
-    /// freed as the cascade goes on. Takes the time of the sums up to the layer where it ends, which is that of a
-    /// pointer where a matrix is put beside others, and for blocks that meet no other. Several matrices that stand side
-    /// by side are added up by a list of their cells, at most 2^21 of them and those of `m`: that takes 48 bytes for
-    /// each.
-    ///
-    /// # Errors
-    ///
-    /// A growth was refused. The layers and the matrix are gone then.
-    pub fn add(self, alloc: Global, m: Hyper) -> Result<Layers, AllocError>
-        requires rows { m.rows ≡ self.rows }
-        requires cols { m.cols ≡ self.cols }
-        requires fits { total (content self.layers) + total m.counts < 2 ^ 64 }
-        ensures { IfOk result (λ after. after ≡ record self { layers = cascade self.layers self.cuts m.counts }) }
-    {
-        let layers = cascaded(alloc, self.layers, &self.cuts, &self.empty, m)?;
-        Ok(Layers {
-            rows: self.rows,
-            cols: self.cols,
-            cuts: self.cuts,
-            empty: self.empty,
-            layers,
-        })
-    }
-
-    /// The layers with a list of cells added in which each place stands once, by row and then by column: as `add` with
-    /// the matrix that the list builds, and that matrix isn't made.
-    ///
-    /// # Errors
-    ///
-    /// A growth was refused. The layers are gone then.
-    pub fn add_cells(self, alloc: Global, cells: &[Cell]) -> Result<Layers, AllocError>
-        requires rises { Rise cells.now }
-        requires within { AreWithin self.rows self.cols cells.now }
-        requires fits { total (content self.layers) + cell_total cells.now < 2 ^ 64 }
-        ensures added { IfOk result (λ after. after ≡ record self
-            { layers = cascade self.layers self.cuts (built_of cells.now) }) }
-        ensures kept { IsLayering self }
-    {
-        let layers = cascaded_cells(alloc, self.layers, &self.cuts, &self.empty, cells)?;
-        Ok(Layers {
-            rows: self.rows,
-            cols: self.cols,
-            cuts: self.cuts,
-            empty: self.empty,
-            layers,
-        })
     }
 
     /// The same layers once more, which share all matrices with these. Takes one growth, of a pointer for each layer.

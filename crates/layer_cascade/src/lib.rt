@@ -7,8 +7,8 @@
 //! Hypersparse GraphBLAS Matrices").
 //!
 //! An addition has two steps: `Layers::plan` makes all growth and changes nothing, and `Layers::commit` puts the
-//! planned layers in place and cannot fail. Where nobody else reads the layers, `Layers::add` takes them and their
-//! memory, and gives them back with the matrix. `Layers::view` shows a reader the layers of one moment.
+//! planned layers in place and cannot fail. `Layers::view` shows a reader the layers of one moment, and
+//! `Layers::into_sum` adds up layers that are given away.
 #![tactic(auto)]
 
 mod addition;

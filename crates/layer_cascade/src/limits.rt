@@ -27,9 +27,8 @@ pub const WALKED_RATIO: u64 = 16;
 /// The most cells of more than two matrices that are added up by a list of all. So many are sorted in a few passes.
 pub const MOST_LISTED: u64 = 16_384;
 
-/// The most entries that an addition to layers that are given away leaves side by side in a layer, and the most that
-/// are added up by one list of all: by `Layers::into_sum`, and where the layers stay, as for `Layers::plan`. The list
-/// and the memory of its sort take 24 bytes each for an entry: some 100 MB.
+/// The most entries that are added up by one list of all: by `Layers::into_sum`, and where the layers stay, as for
+/// `Layers::plan`. The list and the memory of its sort take 24 bytes each for an entry: some 100 MB.
 pub const MOST_BESIDE: u64 = 1 << 21;
 
 /// Cells: the fewest that `PendingLayers` lets wait in its list where their places differ, however low the cuts are. The

@@ -34,11 +34,3 @@ pub fn add(alloc: Global, layers: &mut Layers, m: &Hyper) -> Result<(), AllocErr
     }
     Ok(())
 }
-
-/// The layers with a matrix, both given away.
-pub fn moved(alloc: Global, layers: Layers, m: Hyper) -> Result<Layers, AllocError> {
-    if fits(&layers, &m) {
-        return layers.add(alloc, m);
-    }
-    Ok(layers)
-}

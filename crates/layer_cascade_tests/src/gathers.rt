@@ -1,7 +1,7 @@
 //! Layers whose matrices are added up between additions, beside layers that are left alone.
 //!
 //! `rt try --test --fail-alloc N` refuses the growth number N: what the layers hold is then as before.
-use crate::adding::{add, moved};
+use crate::adding::add;
 use crate::streams::{are_same, have_same_sizes, holds_first, into_sum_is, matrix, sum_of};
 use layer_cascade::Layers;
 use std::alloc::{AllocError, Global};
@@ -26,7 +26,7 @@ fn gathered(alloc: Global, layers: &mut Layers, others: &Layers) -> Result<bool,
 }
 
 /// Gathers so many times after each addition. The cuts, the entries of each layer and all that is looked up are those
-/// of layers that were given away with each matrix.
+/// of layers that are left alone.
 fn check_gathered(rt: &impl Abort, alloc: Global, cuts: &[u64], gathers: u64) -> Result<(), Fail> {
     let mut layers = Layers::new(alloc, 9, 9, cuts)?;
     let mut others = Layers::new(alloc, 9, 9, cuts)?;
@@ -36,7 +36,7 @@ fn check_gathered(rt: &impl Abort, alloc: Global, cuts: &[u64], gathers: u64) ->
             view = layers.view(alloc)?;
         }
         add(alloc, &mut layers, &matrix(alloc, i)?)?;
-        others = moved(alloc, others, matrix(alloc, i)?)?;
+        add(alloc, &mut others, &matrix(alloc, i)?)?;
         for _ in 0..gathers {
             assert!(rt; gathered(alloc, &mut layers, &others)?, "after {i}");
         }

@@ -1,5 +1,5 @@
 //! Worked examples of layers of 3 rows and 3 columns.
-use crate::adding::{add, moved, planned};
+use crate::adding::{add, planned};
 use cells::Cell;
 use hyper_matrix::{BuildFault, Hyper};
 use layer_cascade::{CascadeFault, LayerView, Layers, are_cuts};
@@ -172,7 +172,7 @@ fn a_view_stays_as_it_was(rt: HostRuntime) -> Result<(), Fail> {
     let view = layers.view(rt.alloc())?;
     add_cell(rt.alloc(), &mut layers, 0, 0, 3)?;
     assert!(rt; sees(rt.alloc(), &view, 1, 5)?);
-    let layers = moved(rt.alloc(), layers, one_cell(rt.alloc(), 2, 1, 1)?)?;
+    add_cell(rt.alloc(), &mut layers, 2, 1, 1)?;
     assert!(rt; layers.layer_entries(1) == Some(2) && layers.total() == 9);
     assert!(rt; sees(rt.alloc(), &view, 1, 5)?);
     Ok(())

@@ -2,7 +2,7 @@
 use crate::adding::add;
 use crate::streams::are_same;
 use cells::Cell;
-use hyper_matrix::{BuildFault, Hyper};
+use hyper_matrix::Hyper;
 use layer_cascade::Layers;
 use std::alloc::{AllocError, Global};
 use std::process::Abort;

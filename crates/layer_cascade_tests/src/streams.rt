@@ -1,9 +1,5 @@
 //! Layers to which a stream of small matrices is added, beside the one matrix that all cells of the stream build.
-ghost use Rattle.std.specs.Prelude.{◌≡◌, ◌+◌, ◌<◌, ◌^◌};
-ghost use Rattle.hyper_matrix.specs.Counts.{total};
-ghost use Rattle.layer_cascade.specs.Cascade.{content};
-
-use crate::adding::{add, fits, moved};
+use crate::adding::add;
 use cells::Cell;
 use hyper_matrix::{BuildFault, Hyper};
 use layer_cascade::Layers;
@@ -95,6 +91,12 @@ pub fn holds_first(alloc: Global, layers: &Layers, matrices: u64) -> Result<bool
     Ok(same && keeps_cuts(layers) && look_ups_agree(layers, &m))
 }
 
+/// Whether the sum of layers that are given away has the cells of a matrix.
+pub fn into_sum_is(alloc: Global, layers: Layers, m: &Hyper) -> Result<bool, AllocError> {
+    let sum = layers.into_sum(alloc)?;
+    are_same(alloc, &sum, m)
+}
+
 const ALL_CUTS: [&[u64]; 6] = [
     &[],
     &[1],
@@ -113,6 +115,7 @@ fn check_planned(rt: &impl Abort, alloc: Global, cuts: &[u64]) -> Result<(), Fai
             "after {i}"
         );
     }
+    assert!(rt; into_sum_is(alloc, layers, &sum_of(alloc, 0, 20)?)?);
     Ok(())
 }
 
@@ -135,77 +138,6 @@ pub fn have_same_sizes(a: &Layers, b: &Layers) -> bool {
     true
 }
 
-/// Gives layers away with a matrix while a plan of the same addition shares them, which is then committed to others.
-fn add_while_shared(
-    alloc: Global,
-    layers: Layers,
-    m: Hyper,
-    others: &mut Layers,
-) -> Result<Layers, AllocError>
-    requires rows { m.rows ≡ layers.rows }
-    requires cols { m.cols ≡ layers.cols }
-    requires fits { total (content layers.layers) + total m.counts < 2 ^ 64 }
-{
-    let plan = layers.plan(alloc, &m)?;
-    let after = layers.add(alloc, m)?;
-    others.commit(plan);
-    Ok(after)
-}
-
-fn moved_while_shared(
-    alloc: Global,
-    layers: Layers,
-    m: Hyper,
-    others: &mut Layers,
-) -> Result<Layers, AllocError> {
-    if fits(&layers, &m) {
-        return add_while_shared(alloc, layers, m, others);
-    }
-    Ok(layers)
-}
-
-fn check_shared(rt: &impl Abort, alloc: Global, cuts: &[u64]) -> Result<(), Fail> {
-    let mut layers = Layers::new(alloc, 9, 9, cuts)?;
-    let mut others = Layers::new(alloc, 9, 9, cuts)?;
-    for i in 0..20u64 {
-        layers = moved_while_shared(alloc, layers, matrix(alloc, i)?, &mut others)?;
-        assert!(rt; have_same_sizes(&layers, &others), "after {i}");
-        assert!(rt;
-            holds_first(alloc, &layers, i.wrapping_add(1))?,
-            "after {i}"
-        );
-        assert!(rt;
-            holds_first(alloc, &others, i.wrapping_add(1))?,
-            "after {i}"
-        );
-    }
-    Ok(())
-}
-
-pub fn into_sum_is(alloc: Global, layers: Layers, m: &Hyper) -> Result<bool, AllocError> {
-    let sum = layers.into_sum(alloc)?;
-    are_same(alloc, &sum, m)
-}
-
-fn check_alone(rt: &impl Abort, alloc: Global, cuts: &[u64]) -> Result<(), Fail> {
-    let mut layers = Layers::new(alloc, 9, 9, cuts)?;
-    for i in 0..20u64 {
-        layers = moved(alloc, layers, matrix(alloc, i)?)?;
-    }
-    assert!(rt; holds_first(alloc, &layers, 20)?);
-    assert!(rt; into_sum_is(alloc, layers, &sum_of(alloc, 0, 20)?)?);
-    Ok(())
-}
-
-#[test]
-fn layers_given_away_agree_with_plans(rt: HostRuntime) -> Result<(), Fail> {
-    for cuts in ALL_CUTS {
-        check_shared(&rt, rt.alloc(), cuts)?;
-        check_alone(&rt, rt.alloc(), cuts)?;
-    }
-    Ok(())
-}
-
 /// So many additions that the matrices that a layer holds side by side are added up on the way, whatever its cut.
 const MANY: u64 = 70;
 
@@ -214,15 +146,12 @@ const SEEN: u64 = 25;
 
 fn check_many(rt: &impl Abort, alloc: Global, cuts: &[u64]) -> Result<(), Fail> {
     let mut layers = Layers::new(alloc, 9, 9, cuts)?;
-    let mut others = Layers::new(alloc, 9, 9, cuts)?;
     let mut view = layers.view(alloc)?;
     for i in 0..MANY {
         if i == SEEN {
             view = layers.view(alloc)?;
         }
         add(alloc, &mut layers, &matrix(alloc, i)?)?;
-        others = moved(alloc, others, matrix(alloc, i)?)?;
-        assert!(rt; have_same_sizes(&layers, &others), "after {i}");
         assert!(rt;
             holds_first(alloc, &layers, i.wrapping_add(1))?,
             "after {i}"
