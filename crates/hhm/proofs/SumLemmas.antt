@@ -1,5 +1,5 @@
 -- What one more block of cells does to a sum.
-use Rattle.std.proofs.Common.{◌≡◌, ℕ, ◌+◌, ◌<◌, ◌≤◌, ◌^◌, List, [], ◌++◌, length, refl, sym, ◌∙◌, ap, arith}
+use Rattle.std.proofs.Common.{◌≡◌, ℕ, ◌+◌, ◌<◌, ◌≤◌, ◌^◌, List, [], ◌++◌, refl, sym, ◌∙◌, ap, arith}
 use Rattle.std.proofs.Common.{Bool, true, false, ltb}
 use Rattle.std.specs.FinMap.{empty}
 use Rattle.std.specs.Prelude.{Result, Ok, Err, OnErr, IsTrue, ◌↔◌}

@@ -1,9 +1,10 @@
 //! The sum of the cells so far: layers, as long as the counts fit 64 bits together.
 //!
 //! A block of cells is sorted, with the counts of equal places added up, and appended to the list of cells that wait
-//! before the layers (`PendingLayers`): such lists in order are merged later on, many at once. Whether the counts still fit is judged first, so that want of memory never stands for
-//! a total that is too large. Once the total has passed 2^64 - 1 nothing is added any more, and memory is given back:
-//! the text is only read to its end, since a fault in it is told first.
+//! before the layers (`PendingLayers`): such lists in order are merged later on, many at once. Whether the counts still
+//! fit is judged first, so that want of memory never stands for a total that is too large. Once the total has passed
+//! 2^64 - 1 nothing is added any more, and memory is given back: the text is only read to its end, since a fault in it
+//! is told first.
 ghost use Rattle.std.specs.Prelude.{◌≡◌, ℕ, ◌+◌, ◌<◌, ◌≤◌, ◌^◌, ◌⊎◌, ◌↔◌, List};
 ghost use Rattle.std.specs.Prelude.{IsTrue, OnErr, IfOk, IfErr, IfNone, IfSome};
 ghost use Rattle.std.specs.FinMap.{empty};

@@ -1,8 +1,8 @@
 //! `sum`: reads a text, adds its cells into layers block by block, and writes the canonical text of the sum.
 //!
 //! The list of the text's cells is never held as a whole: memory goes to the layers, to one block, and to the latest
-//! cells, at most 2^21, which wait in a list before they go into the layers. The time is that of one pass over the text,
-//! of the additions that the cuts ask for, and of one pass over the sum.
+//! cells, at most 2^21, which wait in a list before they go into the layers. The time is that of one pass over the
+//! text, of the additions that the cuts ask for, and of one pass over the sum.
 ghost use Rattle.std.specs.Prelude.{◌≡◌, ℕ, ◌+◌, ◌<◌, ◌≤◌, ◌^◌, ◌⊎◌, ◌↔◌, List, vec_capacity};
 ghost use Rattle.std.specs.Prelude.{Some, Err, OnOk, OnErr, IfOk, IfErr};
 ghost use Rattle.mm_text.specs.declared.size.Size.{Size};

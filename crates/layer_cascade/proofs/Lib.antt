@@ -8,5 +8,5 @@ pub mod RunLemmas
 pub mod KeptRunLemmas
 pub mod StepLemmas
 pub mod PairLemmas
-pub mod PendingLemmas
 pub mod WalkLemmas
+pub mod PendingLemmas

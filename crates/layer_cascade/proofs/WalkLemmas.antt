@@ -99,7 +99,8 @@ decides-all m (e ∷ es) = (ap is_some (get-entries m e.0), decides-all m es)
 
 -- what an iterator gave, and what it left
 pub taken : (head : Option Cell) (before left : List (Place × ℕ)) →
-    MatchOption head ((before ≡ []) × (left ≡ [])) (λ cell. before ≡ entry_of cell ∷ left) → before ≡ left_with head left
+    MatchOption head ((before ≡ []) × (left ≡ [])) (λ cell. before ≡ entry_of cell ∷ left) →
+    before ≡ left_with head left
 taken None before left is = is.0
 taken (Some cell) before left is = is
 
@@ -110,7 +111,8 @@ module _ (m : Counts) (old left items es : List (Place × ℕ)) (e : Place × �
   both_rise : T (is_sorted place_cmp (e ∷ es))
   both_rise = subst (λ l. T (is_sorted place_cmp l)) steps rises
 
-  pub behind : T (is_sorted place_cmp es) × T (is_sorted place_cmp left) × Decides m left es × (is_some (get m e.0) ≡ at)
+  pub behind : T (is_sorted place_cmp es) × T (is_sorted place_cmp left) × Decides m left es
+      × (is_some (get m e.0) ≡ at)
   behind = (
     T_second _ _ both_rise,
     subst (λ l. T (is_sorted place_cmp l)) (sym passed) (rises-from e.0 old others_rise),

@@ -16,12 +16,9 @@ ghost use Rattle.layer_cascade.specs.Shared.{values, all_counts, HaveDims};
 ghost use Rattle.layer_cascade.specs.Steps.{joined, Takes};
 
 use crate::limits::{GATHERED_RUNS, MAX_RUNS};
-use crate::lists::{entries_bound, push_cells_of};
+use crate::lists::entries_bound;
 use crate::pairs::{due_pair, kept_in_front, with_pair_added, with_rest_added};
-use crate::runs::{
-    added_to_runs, count_in, entries_in, own_matrix, push_runs, row_counts_in, sum_of_runs,
-};
-use cells::Cell;
+use crate::runs::{added_to_runs, count_in, entries_in, push_runs, row_counts_in, sum_of_runs};
 use hyper_matrix::Hyper;
 use std::alloc::{AllocError, Global};
 use std::marker::Model;
@@ -108,8 +105,15 @@ impl Layer {
         self.total
     }
 
-    /// The number of entries. Constant time for one run, and a step for each cell of two. Each cell of a third and those
-    /// behind it takes a look-up in each earlier run.
+    /// The entries of all runs together: those of the sum are no more. Constant time.
+    pub fn most_entries(&self) -> u64
+        ensures { len self.now.counts ≤ result }
+    {
+        self.most
+    }
+
+    /// The number of entries. Constant time for one run, and a step for each cell of two. Each cell of a third and
+    /// those behind it takes a look-up in each earlier run.
     pub fn entries(&self) -> u64
         ensures { result ≡ len self.now.counts }
     {
@@ -158,20 +162,6 @@ impl Layer {
     {
         let none = Hyper::new(alloc, self.rows, self.cols);
         let sum = self.added(alloc, none)?;
-        Ok(sum)
-    }
-
-    /// The sum of all runs, made from their own memory. A run that somebody else shares stays there as it was.
-    pub fn into_matrix(self, alloc: Global) -> Result<Hyper, AllocError>
-        ensures { IfOk result (λ m. m ≡ self) }
-    {
-        let mut runs = self.runs;
-        let Some(last) = runs.pop() else {
-            return Ok(Hyper::new(alloc, self.rows, self.cols));
-        };
-        let last = own_matrix(alloc, last)?;
-        let others = sum_of_runs(&runs, alloc, self.rows, self.cols)?;
-        let sum = last.into_sum(alloc, others)?;
         Ok(sum)
     }
 
@@ -245,7 +235,8 @@ impl Layer {
 
     /// Takes in what is carried to this layer, if both together have at most the cut of entries. That is judged
     /// exactly: by a bound of the entries, and where that is more than the cut, or there are more than `MAX_RUNS` runs,
-    /// by a count of the places of one or two runs. Only the smaller part is written for it where the first run is large.
+    /// by a count of the places of one or two runs. Only the smaller part is written for it where the first run is
+    /// large.
     pub fn taking(&self, alloc: Global, m: Layer, cut: u64) -> Result<Step, AllocError>
         requires rows { m.rows ≡ self.now.rows }
         requires cols { m.cols ≡ self.now.cols }
@@ -276,11 +267,6 @@ impl Layer {
         Ok(Some(layer))
     }
 
-    /// Whether two neighbouring runs are to be added up (`due_pair`).
-    pub fn has_due_pair(&self) -> bool {
-        due_pair(&self.runs).is_some()
-    }
-
     /// The same layer with two neighbouring runs added up, where two are to be (`due_pair`). The others are shared.
     pub fn paired(&self, alloc: Global) -> Result<Option<Layer>, AllocError>
         ensures { IfOk result (λ paired. IfSome paired (λ layer. layer ≡ self.now)) }
@@ -292,8 +278,8 @@ impl Layer {
         Ok(Some(self.with_runs(runs)))
     }
 
-    /// Takes in what is carried to this layer, whatever it has: the last layer has no cut. More than `MAX_RUNS` runs are
-    /// added up.
+    /// Takes in what is carried to this layer, whatever it has: the last layer has no cut. More than `MAX_RUNS` runs
+    /// are added up.
     pub fn taking_any(&self, alloc: Global, m: Layer) -> Result<Layer, AllocError>
         requires rows { m.rows ≡ self.now.rows }
         requires cols { m.cols ≡ self.now.cols }
@@ -305,24 +291,5 @@ impl Layer {
             return Ok(layer);
         }
         layer.settled(alloc)
-    }
-}
-
-// What the sum of layers that are given away reads of one.
-impl Layer {
-    /// A bound of the entries of the sum. Constant time.
-    pub fn most_entries(&self) -> u64
-        ensures { len self.now.counts ≤ result }
-    {
-        self.most
-    }
-
-    /// Appends the cells of all runs, one run after the other.
-    pub fn push_cells(&self, out: &mut Vec<Cell>) -> Result<(), AllocError>
-        ensures sum { OnOk result (built_of out.new.items ≡ ewise_add (built_of out.old.items) self.now.counts) }
-        ensures within { AreWithin self.now.rows self.now.cols out.old.items →
-            OnOk result (AreWithin self.now.rows self.now.cols out.new.items) }
-    {
-        push_cells_of(out, &self.runs)
     }
 }

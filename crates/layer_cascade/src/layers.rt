@@ -8,23 +8,27 @@
 //!
 //! Each layer is shared and never changed in place, so a plan takes over the layers that it leaves by a pointer, and to
 //! commit it is to exchange pointers. A look-up asks each matrix of each layer and puts the answers together; only
-//! `Layers::sum` and `Layers::into_sum` build the sum, the second from memory that is given away.
-ghost use Rattle.std.specs.Prelude.{◌≡◌, ℕ, ◌+◌, ◌<◌, ◌≤◌, ◌^◌, ◌⊎◌, ◌↔◌, IfOk, IfSome, length};
+//! `Layers::sum` builds the sum.
+ghost use Rattle.std.specs.Prelude.{◌≡◌, ℕ, ◌+◌, ◌<◌, ◌≤◌, ◌^◌, ◌⊎◌, ◌↔◌, IfOk, OnOk, IfSome, length};
 ghost use Rattle.std.specs.FinMap.{get, len};
-ghost use Rattle.cells.specs.Bounds.{IsDimension};
-ghost use Rattle.hyper_matrix.specs.Counts.{total};
+ghost use Rattle.cells.specs.Bounds.{IsDimension, AreWithin};
+ghost use Rattle.hyper_matrix.specs.Cells.{built_of};
+ghost use Rattle.hyper_matrix.specs.Counts.{ewise_add, total};
 ghost use Rattle.hyper_matrix.specs.Matrix.{matrix};
 ghost use Rattle.layer_cascade.specs.Cascade.{cascade, content};
 ghost use Rattle.layer_cascade.specs.Cuts.{AreCuts};
 ghost use Rattle.hyper_matrix.specs.RowOf.{row_of};
 ghost use Rattle.layer_cascade.specs.Layering.{IsLayering, no_layers, entries_of_layer};
 
-use crate::addition::{cascade_end, layers_after, push_copies, push_layers, sum_of_layers};
+use crate::addition::{cascade_end, layers_after, push_copies, push_layers};
 use crate::cuts::are_cuts;
 use crate::fault::CascadeFault;
 use crate::layer::Layer;
+use crate::lists::push_cells_of;
 use crate::lookup::plus;
+use crate::pairs::due_pair;
 use crate::row_entries::columns_with_layer;
+use cells::Cell;
 use hyper_matrix::{Hyper, RowSum};
 use std::alloc::{AllocError, Global};
 use std::marker::Model;
@@ -104,7 +108,7 @@ fn due_layer(layers: &[Arc<Layer>]) -> Option<usize>
     ensures { IfSome result (λ place. place < length layers.now) }
 {
     for place in 1..layers.len() {
-        if layers[place].has_due_pair() {
+        if due_pair(layers[place].runs()).is_some() {
             return Some(place);
         }
     }
@@ -255,18 +259,26 @@ impl Layers {
         })
     }
 
-    /// The sum of all layers, as `sum`, made from their own memory: the layers are gone. Where all but the last have at
-    /// most 2^21 entries together, a list of their cells is added to the last, which takes 48 bytes for each of them.
-    ///
-    /// # Errors
-    ///
-    /// A growth was refused. The layers are gone then too.
-    pub fn into_sum(self, alloc: Global) -> Result<Hyper, AllocError>
-        ensures sum { IfOk result (λ m. m ≡ matrix self.rows self.cols (content self.layers)) }
-        ensures kept { IsLayering self }
+    // The entries of all layers' matrices together, up to 2^64 - 1. Those of the sum can't be more.
+    pub(crate) fn most_entries(&self) -> u64 {
+        let mut most = 0u64;
+        for layer in &self.layers {
+            most = most.saturating_add(layer.most_entries());
+        }
+        most
+    }
+
+    // Appends the cells of all layers, one matrix after the other.
+    pub(crate) fn push_cells(&self, out: &mut Vec<Cell>) -> Result<(), AllocError>
+        ensures sum { OnOk result (built_of out.new.items
+            ≡ ewise_add (built_of out.old.items) (content self.now.layers)) }
+        ensures within { AreWithin self.now.rows self.now.cols out.old.items →
+            OnOk result (AreWithin self.now.rows self.now.cols out.new.items) }
     {
-        let sum = sum_of_layers(alloc, self.rows, self.cols, self.layers)?;
-        Ok(sum)
+        'layers: for layer in &self.layers {
+            push_cells_of(out, layer.runs())?;
+        }
+        Ok(())
     }
 
     /// The sum of all layers, as a matrix of its own that shares blocks with them. Takes the time and memory of adding

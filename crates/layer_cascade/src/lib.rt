@@ -7,8 +7,8 @@
 //! Hypersparse GraphBLAS Matrices").
 //!
 //! An addition has two steps: `Layers::plan` makes all growth and changes nothing, and `Layers::commit` puts the
-//! planned layers in place and cannot fail. `Layers::view` shows a reader the layers of one moment, and
-//! `Layers::into_sum` adds up layers that are given away.
+//! planned layers in place and cannot fail. `Layers::view` shows a reader the layers of one moment. Where cells are
+//! only added, and the sum is asked for once, `PendingLayers` lets the latest of them wait in a list.
 #![tactic(auto)]
 
 mod addition;

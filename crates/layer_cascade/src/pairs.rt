@@ -8,7 +8,7 @@ ghost use Rattle.hyper_matrix.specs.Counts.{total};
 ghost use Rattle.layer_cascade.specs.Cascade.{content};
 ghost use Rattle.layer_cascade.specs.Shared.{values, all_counts, HaveDims};
 
-use crate::limits::{MOST_LISTED, MOST_PAIRED, PAIR_RATIO};
+use crate::limits::{FEWEST_KEPT, MOST_PAIRED, PAIR_RATIO};
 use crate::lists::entries_bound;
 use crate::runs::{added_to_runs, push_runs, sum_of_runs};
 use hyper_matrix::Hyper;
@@ -63,7 +63,7 @@ pub fn with_pair_added(
 }
 
 /// How many runs in front stay as they are where runs are added up: the first, if it has at least a third of what all
-/// others have together and a list of all would be long, and else none. Only time rests on it.
+/// others have together and all have more than `FEWEST_KEPT`, and else none. Only time rests on it.
 pub fn kept_in_front(runs: &[Arc<Hyper>]) -> usize
     ensures { result ≤ length runs.now }
 {
@@ -71,7 +71,7 @@ pub fn kept_in_front(runs: &[Arc<Hyper>]) -> usize
         return 0;
     };
     let others = entries_bound(rest);
-    if first.entries() < others / 3 || first.entries().saturating_add(others) <= MOST_LISTED {
+    if first.entries() < others / 3 || first.entries().saturating_add(others) <= FEWEST_KEPT {
         return 0;
     }
     1

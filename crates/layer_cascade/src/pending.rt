@@ -225,7 +225,9 @@ impl PendingLayers {
         })
     }
 
-    /// All of it as a matrix. The list is added up and its memory is free before the layers are.
+    /// All of it as a matrix. Where the list and the layers have at most 2^21 cells together, those of the layers are
+    /// appended to the list, and their memory is free before it is added up; else the list is, and then the layers are
+    /// added up beside it.
     ///
     /// # Errors
     ///
@@ -235,8 +237,17 @@ impl PendingLayers {
         ensures fits { total self.counts < 2 ^ 64 }
     {
         let (rows, cols) = self.layers.dims();
-        let latest = of_cells(alloc, rows, cols, self.pending)?;
-        let sum = self.layers.into_sum(alloc)?;
+        let layers = self.layers;
+        let mut cells = self.pending;
+        if layers.most_entries().saturating_add(cells.len() as u64) <= MOST_PENDING {
+            layers.push_cells(&mut cells)?;
+            drop(layers);
+            let all = of_cells(alloc, rows, cols, cells)?;
+            return Ok(all);
+        }
+        let latest = of_cells(alloc, rows, cols, cells)?;
+        let sum = layers.sum(alloc)?;
+        drop(layers);
         let m = sum.into_sum(alloc, latest)?;
         Ok(m)
     }

@@ -30,16 +30,6 @@ pub fn push_runs(out: &mut Vec<Arc<Hyper>>, runs: &[Arc<Hyper>]) -> Result<(), A
     Ok(())
 }
 
-/// A run's matrix, given away. One that somebody else shares stays there as it was, and this is its copy.
-pub fn own_matrix(alloc: Global, run: Arc<Hyper>) -> Result<Hyper, AllocError>
-    ensures { IfOk result (λ m. m ≡ arc_value run) }
-{
-    match Arc::try_unwrap(run) {
-        Ok(m) => Ok(m),
-        Err(shared) => shared.copy(alloc),
-    }
-}
-
 // Whether there are several runs, which together have so few cells that a list of them is sorted in a few passes. Two
 // runs are merged in less time.
 fn are_listed(runs: &[Arc<Hyper>]) -> bool {

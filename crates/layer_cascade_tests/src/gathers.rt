@@ -2,7 +2,7 @@
 //!
 //! `rt try --test --fail-alloc N` refuses the growth number N: what the layers hold is then as before.
 use crate::adding::add;
-use crate::streams::{are_same, have_same_sizes, holds_first, into_sum_is, matrix, sum_of};
+use crate::streams::{are_same, have_same_sizes, holds_first, matrix, sum_of};
 use layer_cascade::Layers;
 use std::alloc::{AllocError, Global};
 use std::process::Abort;
@@ -48,7 +48,6 @@ fn check_gathered(rt: &impl Abort, alloc: Global, cuts: &[u64], gathers: u64) ->
     }
     let seen = view.sum(alloc)?;
     assert!(rt; are_same(alloc, &seen, &sum_of(alloc, 0, SEEN)?)?);
-    assert!(rt; into_sum_is(alloc, layers, &sum_of(alloc, 0, MANY)?)?);
     Ok(())
 }
 

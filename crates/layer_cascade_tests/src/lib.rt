@@ -8,7 +8,8 @@ mod gathers;
 #[cfg(test)]
 mod layers;
 #[cfg(test)]
-mod pending;
 mod passing;
+#[cfg(test)]
+mod pending;
 #[cfg(test)]
 mod streams;

@@ -1,6 +1,7 @@
 //! Layers whose latest cells wait in a list, beside sums by hand.
 //!
-//! `rt try --test --fail-alloc N` refuses the growth number N: that is told, and the same cells are summed the next time.
+//! `rt try --test --fail-alloc N` refuses the growth number N: that is told, and the same cells are summed the next
+//! time.
 ghost use Rattle.std.specs.Prelude.{◌≡◌, ◌+◌, ◌<◌, ◌^◌, IsTrue, IfOk};
 ghost use Rattle.cells.specs.Bounds.{AreWithin};
 ghost use Rattle.hyper_matrix.specs.Counts.{total};

@@ -91,12 +91,6 @@ pub fn holds_first(alloc: Global, layers: &Layers, matrices: u64) -> Result<bool
     Ok(same && keeps_cuts(layers) && look_ups_agree(layers, &m))
 }
 
-/// Whether the sum of layers that are given away has the cells of a matrix.
-pub fn into_sum_is(alloc: Global, layers: Layers, m: &Hyper) -> Result<bool, AllocError> {
-    let sum = layers.into_sum(alloc)?;
-    are_same(alloc, &sum, m)
-}
-
 const ALL_CUTS: [&[u64]; 6] = [
     &[],
     &[1],
@@ -115,7 +109,6 @@ fn check_planned(rt: &impl Abort, alloc: Global, cuts: &[u64]) -> Result<(), Fai
             "after {i}"
         );
     }
-    assert!(rt; into_sum_is(alloc, layers, &sum_of(alloc, 0, 20)?)?);
     Ok(())
 }
 
@@ -159,7 +152,6 @@ fn check_many(rt: &impl Abort, alloc: Global, cuts: &[u64]) -> Result<(), Fail> 
     }
     let seen = view.sum(alloc)?;
     assert!(rt; are_same(alloc, &seen, &sum_of(alloc, 0, SEEN)?)?);
-    assert!(rt; into_sum_is(alloc, layers, &sum_of(alloc, 0, MANY)?)?);
     Ok(())
 }
 

@@ -1,4 +1,4 @@
-use Rattle.std.proofs.Common.{ap, ◌∙◌, subst, sym, arith}
+use Rattle.std.proofs.Common.{ap, ◌∙◌, subst, sym}
 use Rattle.cells.specs.Bounds.{AreWithin}
 use Rattle.hyper_matrix.specs.Cells.{built_of}
 use Rattle.hyper_matrix.proofs.BuiltOfLaws.{built_of-same}

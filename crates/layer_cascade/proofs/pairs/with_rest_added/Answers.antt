@@ -12,8 +12,8 @@ use Rattle.layer_cascade.proofs.pairs.with_rest_added.Goals as goal
 pub added_to_runs-requires-clause-dims : goal.added_to_runs-requires-clause-dims
 added_to_runs-requires-clause-dims c =
     subst (λ (m : Matrix). HaveDims m.rows m.cols (values c.split_at.result.1.now)) (sym c.new-none.ensures)
-    (have_parts c.args.runs.now c.split_at.result.0.now c.split_at.result.1.now c.split_at.ensures.by_index.0 c.args.rows
-    c.args.cols c.requires.dims).1
+    (have_parts c.args.runs.now c.split_at.result.0.now c.split_at.result.1.now c.split_at.ensures.by_index.0
+    c.args.rows c.args.cols c.requires.dims).1
 
 pub added_to_runs-requires-clause-fits : goal.added_to_runs-requires-clause-fits
 added_to_runs-requires-clause-fits c = omega (

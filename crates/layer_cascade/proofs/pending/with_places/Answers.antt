@@ -38,4 +38,5 @@ pub returns-clause-sum : goal.returns-clause-sum
 returns-clause-sum c =
     ap (λ (v : Layering). content v.layers) (c.commit.ensures ∙ c.in_ok-plan.ensures)
     ∙ content-cascade c.args.layers.layers c.args.layers.cuts c.in_ok-m.m.counts c.dims-rows.ensures.kept.count
-    ∙ ap (ewise_add (content c.args.layers.layers)) (built c.in_ok-m.m c.new-none.result _ _ c.args.cells.now c.new-none.ensures c.in_ok-m.ensures)
+    ∙ ap (ewise_add (content c.args.layers.layers))
+    (built c.in_ok-m.m c.new-none.result _ _ c.args.cells.now c.new-none.ensures c.in_ok-m.ensures)

@@ -1,7 +1,6 @@
 use Rattle.std.proofs.Common.{ap, sym, subst, ◌∙◌, arith}
 use Rattle.cells.specs.Bounds.{AreWithin}
 use Rattle.hyper_matrix.specs.Cells.{built_of}
-use Rattle.hyper_matrix.specs.Counts.{ewise_add}
 use Rattle.hyper_matrix.specs.Matrix.{Matrix}
 use Rattle.layer_cascade.proofs.RunLemmas.{listed_more}
 use Rattle.layer_cascade.proofs.PendingLemmas.{total_kept, more_matrix, keeps_more}

@@ -1,9 +1,8 @@
-use Rattle.std.proofs.Common.{◌≡◌, ◌+◌, ◌<◌, ◌^◌, ap, sym, subst, ◌∙◌, arith}
+use Rattle.std.proofs.Common.{ap, sym, subst, ◌∙◌, arith}
 use Rattle.std.proofs.lemmas.List.Elements.{All-append}
 use Rattle.cells.specs.Bounds.{IsWithin, AreWithin}
 use Rattle.hyper_matrix.specs.Cells.{built_of}
-use Rattle.hyper_matrix.specs.Counts.{ewise_add, total}
-use Rattle.hyper_matrix.specs.Matrix.{Matrix, matrix}
+use Rattle.hyper_matrix.specs.Matrix.{Matrix}
 use Rattle.hyper_matrix.proofs.BuiltOfLaws.{total-built_of, built_joined}
 use Rattle.layer_cascade.proofs.PendingLemmas.{total_kept, more_matrix, keeps_more}
 use Rattle.layer_cascade.proofs.pending.PendingLayers.add_cells.Goals as goal

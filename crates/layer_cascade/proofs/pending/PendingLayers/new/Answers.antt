@@ -1,4 +1,4 @@
-use Rattle.std.proofs.Common.{◌+◌, length, ap, sym, ◌∙◌, arith}
+use Rattle.std.proofs.Common.{◌+◌, length, ap, ◌∙◌, arith}
 use Rattle.hyper_matrix.specs.Counts.{total}
 use Rattle.hyper_matrix.specs.Cells.{cell_total}
 use Rattle.hyper_matrix.specs.Matrix.{matrix}
