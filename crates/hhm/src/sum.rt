@@ -101,8 +101,9 @@ fn read_running<R: Source>(alloc: Global, r: &mut R, cuts: &[u64]) -> Result<Run
 ///
 /// The cells of the text's list go into layers with these cuts (none to seven, rising, each 1 to 2^40 entries), in
 /// blocks of at most 4,096, which wait in a list until it has twice as many cells as the last cut says, at least
-/// 131,072 and at most 2^21. Then the sum of all is written, its cells by row and then by column. The cuts decide time
-/// and memory, and never what is written.
+/// 131,072 and at most 2^21, and 2^21 where there is no cut. Where places come again the list is added up earlier. Then
+/// the sum of all is written, its cells by row and then by column. The cuts decide time and memory, and never what is
+/// written.
 ///
 /// # Errors
 ///

@@ -13,7 +13,7 @@ pub const LISTED_BLOCKS: usize = 512;
 /// thousands of cells is made in new pages, which cost more than its cells.
 pub const FEWEST_LISTED: usize = 16;
 
-/// Parts: the most in which a matrix is added to another, where they may have less than `LISTED_BLOCKS` blocks each.
+/// Parts: about so many in which a matrix is added to another, each of `FEWEST_LISTED` to `LISTED_BLOCKS` blocks.
 pub const LISTED_PARTS: usize = 8;
 
 /// Times the cells that a block gets: a block of more cells isn't looked through for their places. Measured: 2, 4 and 8

@@ -105,7 +105,7 @@ impl Layer {
         self.total
     }
 
-    /// The entries of all runs together: those of the sum are no more. Constant time.
+    /// A bound of the entries of the sum, which may be less than the entries of all runs together. Constant time.
     pub fn most_entries(&self) -> u64
         ensures { len self.now.counts ≤ result }
     {

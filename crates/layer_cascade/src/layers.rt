@@ -259,7 +259,8 @@ impl Layers {
         })
     }
 
-    // The entries of all layers' matrices together, up to 2^64 - 1. Those of the sum can't be more.
+    // The bounds of all layers together, up to 2^64 - 1. The sum has no more entries; the matrices side by side may have,
+    // where places come again.
     pub(crate) fn most_entries(&self) -> u64 {
         let mut most = 0u64;
         for layer in &self.layers {

@@ -27,7 +27,7 @@ pub const WALKED_RATIO: u64 = 16;
 /// The most cells of more than two matrices that are added up by a list of all. So many are sorted in a few passes.
 pub const MOST_LISTED: u64 = 16_384;
 
-/// Entries of all matrices of a layer together: with fewer, what may pass its cut becomes one matrix. With more, a
+/// Entries of all matrices of a layer together: with no more, what may pass its cut becomes one matrix. With more, a
 /// large first matrix stays beside the sum of the others.
 pub const FEWEST_KEPT: u64 = 2_048;
 
