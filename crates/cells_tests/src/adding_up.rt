@@ -1,5 +1,5 @@
 //! Equal places added up, beside a plain map.
-use crate::shapes::{COUNTS, GREAT_COUNTS, SHAPES, Shape, cell, listed};
+use crate::shapes::{COUNTS, GREAT_COUNTS, LONG_COUNTS, SHAPES, Shape, cell, listed};
 use cells::{Cell, checked_total, rises, summed, total_of};
 use std::alloc::{AllocError, Global};
 use std::collections::BTreeMap;
@@ -96,6 +96,37 @@ fn lists_of_each_shape(rt: HostRuntime) -> Result<(), Fail> {
         assert!(rt; adds_up_shape(rt.alloc(), shape, &COUNTS)?, "{shape:?}");
     }
     assert!(rt; adds_up_shape(rt.alloc(), Shape::Within(90, 90), &GREAT_COUNTS)?);
+    Ok(())
+}
+
+#[test]
+fn long_lists_of_few_places(rt: HostRuntime) -> Result<(), Fail> {
+    for shape in [
+        Shape::Within(90, 90),
+        Shape::Within(1, 999),
+        Shape::Within(3, 2),
+        Shape::Same,
+    ] {
+        assert!(rt;
+            adds_up_shape(rt.alloc(), shape, &LONG_COUNTS)?,
+            "{shape:?}"
+        );
+    }
+    Ok(())
+}
+
+#[test]
+fn long_lists_of_many_places(rt: HostRuntime) -> Result<(), Fail> {
+    for shape in [
+        Shape::Within(1 << 60, 1 << 60),
+        Shape::Powers,
+        Shape::Falling,
+    ] {
+        assert!(rt;
+            adds_up_shape(rt.alloc(), shape, &LONG_COUNTS[..2])?,
+            "{shape:?}"
+        );
+    }
     Ok(())
 }
 

@@ -21,6 +21,8 @@ pub enum Shape {
     Within(u64, u64),
     // All in one row but every 16th cell, which lies anywhere.
     Crowded,
+    // Half of them in row 0, half of the rest in row 1, and so on.
+    Powers,
     // In order, in the order turned round, and all at one place.
     Rising,
     Falling,
@@ -35,6 +37,7 @@ impl Shape {
             Shape::Within(rows, cols) => cell(a % rows.max(1), b % cols.max(1), k),
             Shape::Crowded if k % 16 == 0 => cell(a, b, k),
             Shape::Crowded => cell(1 << 40, b % 1024, k),
+            Shape::Powers => cell(u64::from(a.trailing_zeros()), b, k),
             Shape::Rising => cell(k / 7, k % 7, k),
             Shape::Falling => cell(u64::MAX - k / 7, 7 - k % 7, k),
             Shape::Same => cell(u64::MAX, u64::MAX, k),
@@ -51,7 +54,7 @@ pub fn listed(alloc: Global, shape: Shape, count: u64) -> Result<Vec<Cell>, Allo
 }
 
 /// All of them.
-pub const SHAPES: [Shape; 11] = [
+pub const SHAPES: [Shape; 12] = [
     Shape::Within(1 << 60, 1 << 60),
     Shape::Within(u64::MAX, u64::MAX),
     Shape::Within(1, 1 << 60),
@@ -60,6 +63,7 @@ pub const SHAPES: [Shape; 11] = [
     Shape::Within(1000, 1000),
     Shape::Within(3, 2),
     Shape::Crowded,
+    Shape::Powers,
     Shape::Rising,
     Shape::Falling,
     Shape::Same,
@@ -70,3 +74,6 @@ pub const COUNTS: [u64; 9] = [0, 1, 2, 3, 100, 511, 512, 513, 4096];
 
 /// The same at the upper bound, for lists that are dealt and for those that give up.
 pub const GREAT_COUNTS: [u64; 4] = [16_383, 16_384, 16_385, 100_000];
+
+/// Numbers of cells that are distributed to parts first.
+pub const LONG_COUNTS: [u64; 3] = [16_385, 70_000, 300_000];
