@@ -9,7 +9,7 @@ use Rattle.hyper_matrix.specs.Counts.{place_cmp, ewise_add, total}
 use Rattle.hyper_matrix.specs.Matrix.{Matrix, matrix}
 use Rattle.hyper_matrix.proofs.CountLaws.{ewise_add-empty, ewise_add_comm, total-ewise_add, total-empty}
 use Rattle.layer_cascade.specs.Cascade.{content}
-use Rattle.layer_cascade.specs.Runs.{KeepsRuns}
+use Rattle.layer_cascade.specs.Runs.{KeepsRuns, CountsPlaces}
 use Rattle.layer_cascade.specs.Shared.{values, all_counts, HaveDims}
 use Rattle.layer_cascade.proofs.LayerLemmas.{content-append, dims-append, pushed}
 use Rattle.layer_cascade.proofs.RunLemmas.{len-ewise_add-le}
@@ -102,3 +102,10 @@ module _ {Z : Type 0} (old new : List (Arc Matrix Z)) (run : Arc Matrix Z) (m : 
       (keeps_pushed old new run [] m push (ap values none) run_is m.rows m.cols sum most rows cols tt (λ i. m.rows)
       (λ i. m.cols) (omega (arith, sum_is, total-empty)) (omega (arith, sum_is, fits))
       (omega (arith, most_is, len-empty place_cmp ℕ)))
+
+  pub counts_one : (places : ℕ) → places ≡ len m.counts → CountsPlaces 1 places (values new)
+  counts_one places are = subst (CountsPlaces 1 places)
+      (sym (values-more old new run [] m push (ap values none) run_is)) (record {
+        within = omega arith;
+        places_are = are ∙ sym (ap len (ewise_add-empty m.counts));
+      })

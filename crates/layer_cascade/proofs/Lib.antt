@@ -6,6 +6,7 @@ pub mod RowLemmas
 pub mod RowEntryLemmas
 pub mod RunLemmas
 pub mod KeptRunLemmas
+pub mod CountedLemmas
 pub mod StepLemmas
 pub mod PairLemmas
 pub mod WalkLemmas

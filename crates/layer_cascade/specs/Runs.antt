@@ -1,5 +1,5 @@
 -- A layer as it is stored: runs, which are matrices side by side, and what is kept beside them.
-use Rattle.std.specs.Prelude.{◌≡◌, ℕ, ◌+◌, ◌<◌, ◌≤◌, ◌^◌, List, [], ◌∷◌, if◌then◌else◌, is_some}
+use Rattle.std.specs.Prelude.{◌≡◌, ℕ, ◌+◌, ◌<◌, ◌≤◌, ◌^◌, List, [], ◌∷◌, length, take, if◌then◌else◌, is_some}
 use Rattle.std.specs.Prelude.{Option, Some, None}
 use Rattle.std.specs.FinMap.{get, len}
 use Rattle.cells.specs.declared.cell.Cell.{Cell}
@@ -34,3 +34,8 @@ pub record KeepsRuns (rows cols sum most : ℕ) (runs : List Matrix) : Type 0 wh
   pub total_is : sum ≡ total (content (all_counts runs))
   pub fits : total (content (all_counts runs)) < 2 ^ 64
   pub few : len (content (all_counts runs)) ≤ most
+
+-- the sum of the first `counted` runs has `places` entries
+pub record CountsPlaces (counted places : ℕ) (runs : List Matrix) : Type 0 where
+  pub within : counted ≤ length runs
+  pub places_are : places ≡ len (content (take counted (all_counts runs)))

@@ -12,6 +12,7 @@ ghost use Rattle.hyper_matrix.specs.Counts.{ewise_add, total};
 ghost use Rattle.hyper_matrix.specs.Matrix.{matrix};
 ghost use Rattle.hyper_matrix.specs.RowOf.{row_of};
 ghost use Rattle.layer_cascade.specs.Cascade.{content};
+ghost use Rattle.layer_cascade.specs.Runs.{CountsPlaces};
 ghost use Rattle.layer_cascade.specs.Shared.{values, all_counts, HaveDims};
 ghost use Rattle.layer_cascade.specs.Steps.{joined, Takes};
 
@@ -36,13 +37,17 @@ pub struct Layer {
     // At least the number of entries of the sum: that number as it was counted last, and the entries of the runs that
     // were put beside the others since.
     most: u64,
+    // Of how many runs in front the places are counted, and the entries of their sum. They are shared by whatever has
+    // the same runs in front.
+    counted: usize,
+    places: u64,
     runs: Vec<Arc<Hyper>>,
 }
 
 impl Model for Layer {
     ghost use Rattle.hyper_matrix.specs.Matrix.{Matrix, matrix, coded_matrix};
     ghost use Rattle.layer_cascade.specs.Cascade.{content};
-    ghost use Rattle.layer_cascade.specs.Runs.{KeepsRuns};
+    ghost use Rattle.layer_cascade.specs.Runs.{KeepsRuns, CountsPlaces};
     ghost use Rattle.layer_cascade.specs.Shared.{values, all_counts};
 
     ghost Value = { Matrix };
@@ -51,7 +56,9 @@ impl Model for Layer {
 
     ghost view = { λ a. matrix a.rows a.cols (content (all_counts (values a.runs.items))) };
 
-    ghost invariant = { λ a. KeepsRuns a.rows a.cols a.total a.most (values a.runs.items) };
+    ghost invariant = { λ a.
+        KeepsRuns a.rows a.cols a.total a.most (values a.runs.items)
+        × CountsPlaces a.counted a.places (values a.runs.items) };
 }
 
 /// What an addition comes to at one layer.
@@ -75,6 +82,8 @@ impl Layer {
             cols,
             total: 0,
             most: 0,
+            counted: 0,
+            places: 0,
             runs: Vec::new(alloc),
         }
     }
@@ -93,6 +102,8 @@ impl Layer {
             cols,
             total,
             most,
+            counted: 1,
+            places: most,
             runs,
         })
     }
@@ -112,13 +123,13 @@ impl Layer {
         self.most
     }
 
-    /// The number of entries. Constant time for one run, and a step for each cell of two. Each cell of a third and
-    /// those behind it takes a look-up in each earlier run.
+    /// The number of entries: constant time where all runs are counted. Else each cell of those that aren't takes a
+    /// look-up in each earlier run, and beside a single one a step for each cell of both.
     pub fn entries(&self) -> u64
         ensures { result ≡ len self.now.counts }
     {
         let _bound = self.most;
-        entries_in(&self.runs)
+        entries_in(&self.runs, self.counted, self.places)
     }
 
     /// The count at a place, or None where no run has an entry: a bisection in each run.
@@ -173,6 +184,9 @@ impl Layer {
         requires fits { total m.counts + total self.now.counts < 2 ^ 64 }
         ensures { IfOk result (λ layer. layer ≡ joined self.now m) }
     {
+        if self.runs.is_empty() {
+            return Ok(m);
+        }
         let total = m.total + self.total;
         let Some(most) = m.most.checked_add(self.most) else {
             return Err(AllocError);
@@ -185,22 +199,28 @@ impl Layer {
             cols: self.cols,
             total,
             most,
+            counted: self.counted,
+            places: self.places,
             runs,
         })
     }
 
-    // The same layer with other runs, whose sum is the same.
-    fn with_runs(&self, runs: Vec<Arc<Hyper>>) -> Layer
+    // The same layer with other runs, whose sum is the same, or with more of them counted.
+    fn with_runs(&self, runs: Vec<Arc<Hyper>>, counted: usize, places: u64) -> Layer
         requires content { content (all_counts (values runs.items)) ≡ self.now.counts }
         requires dims { HaveDims self.now.rows self.now.cols (values runs.items) }
+        requires counts { CountsPlaces counted places (values runs.items) }
         ensures { result ≡ self.now }
     {
-        let most = entries_bound(&runs).min(self.most);
+        let bound = places.saturating_add(entries_bound(&runs[counted..]));
+        let most = bound.min(self.most);
         Layer {
             rows: self.rows,
             cols: self.cols,
             total: self.total,
             most,
+            counted,
+            places,
             runs,
         }
     }
@@ -214,7 +234,7 @@ impl Layer {
             return Ok(self);
         }
         let runs = with_rest_added(&self.runs, kept, alloc, self.rows, self.cols)?;
-        Ok(self.with_runs(runs))
+        Ok(self.with_runs(runs, 0, 0))
     }
 
     // The same layer, whose bound is the exact number of entries, and that number.
@@ -228,6 +248,8 @@ impl Layer {
             cols: self.cols,
             total: self.total,
             most: entries,
+            counted: self.runs.len(),
+            places: entries,
             runs: self.runs,
         };
         (layer, entries)
@@ -275,7 +297,10 @@ impl Layer {
             return Ok(None);
         };
         let runs = with_pair_added(&self.runs, place, alloc, self.rows, self.cols)?;
-        Ok(Some(self.with_runs(runs)))
+        if place < self.counted {
+            return Ok(Some(self.with_runs(runs, 0, 0)));
+        }
+        Ok(Some(self.with_runs(runs, self.counted, self.places)))
     }
 
     /// Takes in what is carried to this layer, whatever it has: the last layer has no cut. More than `MAX_RUNS` runs

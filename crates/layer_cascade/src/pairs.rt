@@ -2,7 +2,7 @@
 //!
 //! Done again and again, it leaves few runs, each several times as large as the next, in the manner of a binary
 //! counter.
-ghost use Rattle.std.specs.Prelude.{◌≡◌, ◌+◌, ◌<◌, ◌≤◌, ◌^◌, length, IfOk, IfSome};
+ghost use Rattle.std.specs.Prelude.{◌≡◌, ◌+◌, ◌<◌, ◌≤◌, ◌^◌, length, take, IfOk, IfSome};
 ghost use Rattle.cells.specs.Bounds.{IsDimension};
 ghost use Rattle.hyper_matrix.specs.Counts.{total};
 ghost use Rattle.layer_cascade.specs.Cascade.{content};
@@ -50,6 +50,7 @@ pub fn with_pair_added(
     ensures content { IfOk result (λ after.
         content (all_counts (values after.items)) ≡ content (all_counts (values runs.now))) }
     ensures dims { IfOk result (λ after. HaveDims rows cols (values after.items)) }
+    ensures before { IfOk result (λ after. take place (values after.items) ≡ take place (values runs.now)) }
 {
     let (before, from) = runs.split_at(place);
     let (pair, behind) = from.split_at(2);

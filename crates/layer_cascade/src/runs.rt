@@ -8,7 +8,7 @@ ghost use Rattle.hyper_matrix.specs.Counts.{ewise_add, total};
 ghost use Rattle.hyper_matrix.specs.Matrix.{matrix};
 ghost use Rattle.hyper_matrix.specs.RowOf.{row_of};
 ghost use Rattle.layer_cascade.specs.Cascade.{content};
-ghost use Rattle.layer_cascade.specs.Runs.{count_new};
+ghost use Rattle.layer_cascade.specs.Runs.{count_new, CountsPlaces};
 ghost use Rattle.layer_cascade.specs.Shared.{values, all_counts, HaveDims};
 
 use crate::limits::{MOST_BESIDE, MOST_LISTED, WALKED_RATIO};
@@ -157,17 +157,18 @@ fn new_by_look_ups(before: &[Arc<Hyper>], m: &Hyper) -> u64
     new
 }
 
-/// The number of entries of the runs' sum, which isn't built: those of each run that no earlier run has. With one run
-/// it takes constant time, and with two a step for each cell. With more each cell of the third and those behind it
-/// takes a look-up in each earlier run.
-pub fn entries_in(runs: &[Arc<Hyper>]) -> u64
+/// The number of entries of the runs' sum, which isn't built: `places`, those of the first `counted` runs together, and
+/// those of each run behind them that no earlier run has. The first run takes constant time, and the second a step for
+/// each cell of both. Each cell of the third and those behind it takes a look-up in each earlier run.
+pub fn entries_in(runs: &[Arc<Hyper>], counted: usize, places: u64) -> u64
+    requires counts { CountsPlaces counted places (values runs.now) }
     requires fits { total (content (all_counts (values runs.now))) < 2 ^ 64 }
     requires few { len (content (all_counts (values runs.now))) < 2 ^ 64 }
     ensures { result ≡ len (content (all_counts (values runs.now))) }
 {
-    let mut entries = 0;
-    'runs: for (i, run) in runs.iter().enumerate() {
-        entries += new_entries(&runs[..i], run);
+    let mut entries = places;
+    'runs: for i in counted..runs.len() {
+        entries += new_entries(&runs[..i], &runs[i]);
     }
     entries
 }

@@ -1,6 +1,6 @@
-use Rattle.std.proofs.Common.{ℕ, ◌+◌, take, sym, ap, ◌∙◌, arith}
-use Rattle.std.specs.FinMap.{len, len-empty, entries}
-use Rattle.hyper_matrix.specs.Counts.{place_cmp, total}
+use Rattle.std.proofs.Common.{◌+◌, take, sym, ap, ◌∙◌, arith}
+use Rattle.std.specs.FinMap.{len, entries}
+use Rattle.hyper_matrix.specs.Counts.{total}
 use Rattle.layer_cascade.specs.Cascade.{content}
 use Rattle.layer_cascade.specs.Runs.{count_new}
 use Rattle.layer_cascade.specs.Shared.{values, all_counts}
@@ -9,7 +9,7 @@ use Rattle.layer_cascade.proofs.RunLemmas.{len-ewise_add, len-take, counts-take}
 use Rattle.layer_cascade.proofs.runs.entries_in.Goals as goal
 
 pub runs-init : goal.runs-init
-runs-init c = sym (len-empty place_cmp ℕ)
+runs-init c = c.requires.counts.places_are
 
 pub new_entries-entries-requires : goal.new_entries-entries-requires
 new_entries-entries-requires c = omega (

@@ -10,7 +10,7 @@ added-requires-clause-fits c = omega (
   arith,
   ap (λ (m : Matrix). total m.counts) c.new-none.ensures,
   total-empty,
-  c.self.invariant.fits,
+  c.self.invariant.0.fits,
   ap (λ (m : Matrix). total m.counts) c.self.view_is,
 )
 
