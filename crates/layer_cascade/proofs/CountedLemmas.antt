@@ -1,14 +1,16 @@
 -- How many places the first runs of a layer have, which is kept beside the runs.
-use Rattle.std.proofs.Common.{◌≡◌, ℕ, ◌+◌, ◌<◌, ◌≤◌, ◌^◌, List, ◌++◌, length, take, drop, sym, ◌∙◌, ap, arith}
+use Rattle.std.proofs.Common.{◌≡◌, ℕ, ◌+◌, ◌<◌, ◌≤◌, ◌^◌, List, ◌++◌, length, take, drop, get_or, sym, ◌∙◌, ap, arith}
 use Rattle.std.specs.declared.sync.Arc.{Arc}
-use Rattle.std.specs.FinMap.{len, len-empty}
-use Rattle.std.proofs.lemmas.List.{take-append-drop, take-append-le, take-map, length-take}
+use Rattle.std.specs.Arc.{arc_value}
+use Rattle.std.specs.FinMap.{len, len-empty, entries}
+use Rattle.std.proofs.lemmas.List.{take-append-drop, take-append-le, take-map, length-take, length-map}
 use Rattle.hyper_matrix.specs.Counts.{place_cmp, ewise_add}
 use Rattle.hyper_matrix.specs.Matrix.{Matrix}
 use Rattle.hyper_matrix.proofs.CountLaws.{ewise_add_comm}
 use Rattle.layer_cascade.specs.Cascade.{content}
-use Rattle.layer_cascade.specs.Runs.{CountsPlaces}
+use Rattle.layer_cascade.specs.Runs.{CountsPlaces, count_new}
 use Rattle.layer_cascade.specs.Shared.{values, all_counts}
+use Rattle.layer_cascade.proofs.LayerLemmas.{sum_more}
 use Rattle.layer_cascade.proofs.RunLemmas.{len-ewise_add, len-ewise_add-le, content-parts, counts-take}
 
 -- nothing is counted
@@ -68,3 +70,21 @@ module _ {Z : Type 0} (k p most : ℕ) (runs : List (Arc Matrix Z)) (counts : Co
     front_places,
     told (omega (arith, few, fits, rest_within)),
   )
+
+-- the places with those of one run more
+module _ {Z : Type 0} (runs : List (Arc Matrix Z)) (i : ℕ) (item : Arc Matrix Z) (x : Matrix) (h : i < length runs)
+    (at : item ≡ get_or runs i item) (is : x ≡ arc_value item) (places new : ℕ)
+    (told : new ≡ count_new (content (all_counts (values (take i runs)))) (entries x.counts)) where
+  pub places_more : places ≡ len (content (take i (all_counts (values runs)))) →
+      places + new ≡ len (content (take (i + 1) (all_counts (values runs))))
+  places_more are =
+      let before = content (take i (all_counts (values runs))) in
+      ap (λ n. n + new) are
+      ∙ ap (λ n. len before + n) (told ∙ ap (λ l. count_new (content l) (entries x.counts)) (counts-take i runs))
+      ∙ sym (ap len (sum_more runs i item x h at is) ∙ len-ewise_add before x.counts)
+
+  pub counts_more : CountsPlaces i places (values runs) → CountsPlaces (i + 1) (places + new) (values runs)
+  counts_more counts = record {
+    within = omega (arith, h, length-map runs arc_value);
+    places_are = places_more counts.places_are;
+  }

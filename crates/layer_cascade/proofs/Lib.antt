@@ -10,4 +10,5 @@ pub mod CountedLemmas
 pub mod StepLemmas
 pub mod PairLemmas
 pub mod WalkLemmas
+pub mod WithoutLemmas
 pub mod PendingLemmas

@@ -16,6 +16,11 @@ abbrev pub count_new : Counts → List (Place × ℕ) → ℕ
 count_new m [] = 0
 count_new m (e ∷ es) = (if is_some (get m e.0) then 0 else 1) + count_new m es
 
+-- a list without the entries at whose places m has one
+abbrev pub without : Counts → List (Place × ℕ) → List (Place × ℕ)
+without m [] = []
+without m (e ∷ es) = if is_some (get m e.0) then without m es else e ∷ without m es
+
 -- a cell, if there is one, and those that are left behind it
 abbrev pub left_with : Option Cell → List (Place × ℕ) → List (Place × ℕ)
 left_with None es = []

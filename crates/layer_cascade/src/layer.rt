@@ -3,7 +3,8 @@
 //! A small matrix that is added at once to a larger one is copied there with every block that it touches, and so is
 //! each one after it. Here it is put beside the others, which costs a pointer for each of them, as long as their
 //! entries together are no more than the cut: those of the sum can't be more. Then all are added up once, or all but a
-//! large first one, and the places are counted: whether the layer keeps them or they go on, their sum isn't built.
+//! large first one, unless they are few; and the places are counted: whether the layer keeps them or they go on, their
+//! sum isn't built. What was counted stays known as long as the same runs stand in front.
 ghost use Rattle.std.specs.Prelude.{◌≡◌, ℕ, ◌+◌, ◌<◌, ◌≤◌, ◌^◌, ◌⊎◌, IfOk, OnOk, IfSome};
 ghost use Rattle.std.specs.FinMap.{empty, get, len};
 ghost use Rattle.cells.specs.Bounds.{IsDimension, AreWithin};
@@ -16,10 +17,12 @@ ghost use Rattle.layer_cascade.specs.Runs.{CountsPlaces};
 ghost use Rattle.layer_cascade.specs.Shared.{values, all_counts, HaveDims};
 ghost use Rattle.layer_cascade.specs.Steps.{joined, Takes};
 
-use crate::limits::{GATHERED_RUNS, MAX_RUNS};
+use crate::limits::{GATHERED_RUNS, KEPT_RUNS, MAX_RUNS, MOST_COUNTED, MOST_LISTED};
 use crate::lists::entries_bound;
 use crate::pairs::{due_pair, kept_in_front, with_pair_added, with_rest_added};
-use crate::runs::{added_to_runs, count_in, entries_in, push_runs, row_counts_in, sum_of_runs};
+use crate::runs::{
+    added_to_runs, count_in, entries_in, places_to, push_runs, row_counts_in, sum_of_runs,
+};
 use hyper_matrix::Hyper;
 use std::alloc::{AllocError, Global};
 use std::marker::Model;
@@ -66,7 +69,7 @@ impl Model for Layer {
 pub enum Step {
     /// It ends: the layer holds what was carried to it too.
     Ends(Layer),
-    /// Both together have more entries than the cut. They go to the next layer, one or two matrices side by side.
+    /// Both together have more entries than the cut. They go to the next layer, side by side.
     Carries(Layer),
 }
 
@@ -225,40 +228,41 @@ impl Layer {
         }
     }
 
-    // The same layer in one or two runs (`kept_in_front`).
+    // The same layer in one or two runs (`kept_in_front`), or as it is, where it has at most `KEPT_RUNS` that may be
+    // large together: to walk through so few takes less time than to add them up.
     fn settled(self, alloc: Global) -> Result<Layer, AllocError>
         ensures { IfOk result (λ layer. layer ≡ self) }
     {
+        let stays = self.runs.len() <= KEPT_RUNS && self.most > MOST_LISTED;
         let kept = kept_in_front(&self.runs);
-        if self.runs.len() <= kept + 1 {
+        if stays || self.runs.len() <= kept + 1 {
             return Ok(self);
         }
         let runs = with_rest_added(&self.runs, kept, alloc, self.rows, self.cols)?;
         Ok(self.with_runs(runs, 0, 0))
     }
 
-    // The same layer, whose bound is the exact number of entries, and that number.
-    fn counted(self) -> (Layer, u64)
-        ensures same { result.0 ≡ self }
-        ensures entries { result.1 ≡ len self.counts }
+    /// The same layer with the places of so many more of its runs counted, or of all where there are fewer. Where none
+    /// is counted, two are: the first takes no time. The runs are shared.
+    pub fn counted_on(&self, alloc: Global, more: usize) -> Result<Layer, AllocError>
+        ensures { IfOk result (λ layer. layer ≡ self.now) }
     {
-        let entries = self.entries();
-        let layer = Layer {
-            rows: self.rows,
-            cols: self.cols,
-            total: self.total,
-            most: entries,
-            counted: self.runs.len(),
-            places: entries,
-            runs: self.runs,
-        };
-        (layer, entries)
+        let _bound = self.most;
+        let until = self
+            .counted
+            .saturating_add(more)
+            .max(2)
+            .min(self.runs.len());
+        let places = places_to(alloc, &self.runs, self.counted, self.places, until)?;
+        let mut runs = Vec::with_capacity(alloc, self.runs.len())?;
+        push_runs(&mut runs, &self.runs)?;
+        Ok(self.with_runs(runs, until, places))
     }
 
     /// Takes in what is carried to this layer, if both together have at most the cut of entries. That is judged
     /// exactly: by a bound of the entries, and where that is more than the cut, or there are more than `MAX_RUNS` runs,
-    /// by a count of the places of one or two runs. Only the smaller part is written for it where the first run is
-    /// large.
+    /// by a count of the places. At most `KEPT_RUNS` runs of more than `MOST_LISTED` entries are counted as they are,
+    /// from where the last count ended; else all runs but a large first one are added up before.
     pub fn taking(&self, alloc: Global, m: Layer, cut: u64) -> Result<Step, AllocError>
         requires rows { m.rows ≡ self.now.rows }
         requires cols { m.cols ≡ self.now.cols }
@@ -270,11 +274,17 @@ impl Layer {
             return Ok(Step::Ends(layer));
         }
         let layer = layer.settled(alloc)?;
-        let (layer, entries) = layer.counted();
-        if entries > cut {
+        let layer = layer.counted_on(alloc, layer.runs.len())?;
+        if layer.entries() > cut {
             return Ok(Step::Carries(layer));
         }
         Ok(Step::Ends(layer))
+    }
+
+    /// Whether places are to be counted before this layer passes its cut: not all runs are counted, and the bound is more
+    /// than three quarters of the cut, and at most `MOST_COUNTED`. Constant time.
+    pub fn is_to_count(&self, cut: u64) -> bool {
+        self.counted < self.runs.len() && self.most > cut - cut / 4 && self.most <= MOST_COUNTED
     }
 
     /// The same layer with its runs added up, where they are `GATHERED_RUNS` or more.

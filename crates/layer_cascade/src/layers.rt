@@ -115,6 +115,18 @@ fn due_layer(layers: &[Arc<Layer>]) -> Option<usize>
     None
 }
 
+// The place, counted from 0, of the first layer behind layer 1 and before the last in which places are to be counted.
+fn uncounted_layer(layers: &[Arc<Layer>], cuts: &[u64]) -> Option<usize>
+    ensures { IfSome result (λ place. place < length layers.now) }
+{
+    for place in 1..cuts.len().min(layers.len()) {
+        if layers[place].is_to_count(cuts[place]) {
+            return Some(place);
+        }
+    }
+    None
+}
+
 impl Layers {
     /// Empty layers, one more than there are cuts, for matrices with these numbers of rows and columns, each from 1 to
     /// 2^60. The first cut is that of layer 1. Takes memory for the layers alone.
@@ -229,12 +241,25 @@ impl Layers {
         Ok(())
     }
 
-    // Adds up two neighbouring matrices of the first deeper layer that has two to add up.
+    // Counts the places of one matrix more of the first deeper layer in which they are to be counted.
+    fn count_deeper(&mut self, alloc: Global) -> Result<(), AllocError>
+        ensures { self.new ≡ self.old }
+    {
+        let Some(place) = uncounted_layer(&self.layers, &self.cuts) else {
+            return Ok(());
+        };
+        let layer = self.layers[place].counted_on(alloc, 1)?;
+        self.layers[place] = Arc::new(alloc, layer)?;
+        Ok(())
+    }
+
+    // Adds up two neighbouring matrices of the first deeper layer that has two to add up. Where none has, places are
+    // counted.
     fn gather_deeper(&mut self, alloc: Global) -> Result<(), AllocError>
         ensures { self.new ≡ self.old }
     {
         let Some(place) = due_layer(&self.layers) else {
-            return Ok(());
+            return self.count_deeper(alloc);
         };
         if let Some(layer) = self.layers[place].paired(alloc)? {
             self.layers[place] = Arc::new(alloc, layer)?;

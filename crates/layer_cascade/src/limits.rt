@@ -7,14 +7,22 @@ pub const MAX_CUTS: usize = 7;
 pub const MAX_CUT: u64 = 1 << 40;
 
 /// The most matrices that a layer holds side by side. A look-up asks each, so there are few; a merge of so many at once
-/// moves each of their cells four times at most.
-pub const MAX_RUNS: usize = 16;
+/// moves each of their cells five times at most.
+pub const MAX_RUNS: usize = 32;
+
+/// The most matrices that go on as they are where a layer passes its cut with more than `MOST_LISTED` entries. Their
+/// places are counted by walks through all of them.
+pub const KEPT_RUNS: usize = 8;
 
 /// The fewest matrices side by side in layer 1 that `Layers::gather` adds up.
 pub const GATHERED_RUNS: usize = 8;
 
-/// The most entries of two matrices together that `Layers::gather` adds up in a deeper layer: about a millisecond.
-pub const MOST_PAIRED: u64 = 33_000;
+/// The most entries of two matrices together that `Layers::gather` adds up in a deeper layer: well under a millisecond.
+pub const MOST_PAIRED: u64 = 14_000;
+
+/// The most entries of a deeper layer, as its bound tells them, whose places `Layers::gather` counts before the layer
+/// passes its cut.
+pub const MOST_COUNTED: u64 = 1 << 17;
 
 /// Two matrices side by side are added up where the earlier one has fewer entries than so many times the later one. So
 /// a cell is written anew with matrices that are not much smaller than its own, and a layer ends with few matrices.

@@ -1,6 +1,6 @@
 //! The runs of a layer: matrices of the same dimensions side by side, each shared and never changed. They stand for
 //! their sum, which is built only where it has to be known what they hold together.
-ghost use Rattle.std.specs.Prelude.{◌≡◌, ℕ, ◌+◌, ◌<◌, ◌≤◌, ◌^◌, ◌⊎◌, ◌++◌, IfOk, OnOk};
+ghost use Rattle.std.specs.Prelude.{◌≡◌, ℕ, ◌+◌, ◌<◌, ◌≤◌, ◌^◌, ◌⊎◌, ◌++◌, length, IfOk, OnOk};
 ghost use Rattle.std.specs.Arc.{arc_value};
 ghost use Rattle.std.specs.FinMap.{get, len, entries};
 ghost use Rattle.cells.specs.Bounds.{IsDimension};
@@ -14,7 +14,7 @@ ghost use Rattle.layer_cascade.specs.Shared.{values, all_counts, HaveDims};
 use crate::limits::{MOST_BESIDE, MOST_LISTED, WALKED_RATIO};
 use crate::lists::{entries_bound, sum_by_list};
 use crate::lookup::plus;
-use crate::walk::new_beside;
+use crate::walk::{keep_new, new_beside};
 use hyper_matrix::Hyper;
 use std::alloc::{AllocError, Global};
 use std::sync::Arc;
@@ -155,6 +155,50 @@ fn new_by_look_ups(before: &[Arc<Hyper>], m: &Hyper) -> u64
         }
     }
     new
+}
+
+/// As `new_entries`. Beside several runs, of which it has no small part, each is walked through with a list of the
+/// matrix's cells, which keeps those that are new: a look-up in each run would take longer.
+///
+/// The list takes 24 bytes for each cell of the matrix.
+pub fn new_by_walks(alloc: Global, before: &[Arc<Hyper>], m: &Hyper) -> Result<u64, AllocError>
+    requires { total (content (all_counts (values before.now))) < 2 ^ 64 }
+    ensures { IfOk result (λ new. new ≡ count_new (content (all_counts (values before.now))) (entries m.now.counts)) }
+{
+    let ratio = WALKED_RATIO.saturating_mul(before.len() as u64);
+    if before.len() <= 1 || entries_bound(before) / ratio > m.entries() {
+        return Ok(new_entries(before, m));
+    }
+    let mut cells = Vec::new(alloc);
+    m.push_cells(&mut cells)?;
+    'runs: for run in before {
+        let kept = keep_new(&mut cells, run);
+        cells.truncate(kept);
+    }
+    Ok(cells.len() as u64)
+}
+
+/// The number of entries of the sum of the first `until` runs, of which `places` are those of the first `counted`
+/// together. Takes the time and memory of `new_by_walks` for each run between.
+pub fn places_to(
+    alloc: Global,
+    runs: &[Arc<Hyper>],
+    counted: usize,
+    places: u64,
+    until: usize,
+) -> Result<u64, AllocError>
+    requires counts { CountsPlaces counted places (values runs.now) }
+    requires order { counted ≤ until }
+    requires within { until ≤ length runs.now }
+    requires fits { total (content (all_counts (values runs.now))) < 2 ^ 64 }
+    requires few { len (content (all_counts (values runs.now))) < 2 ^ 64 }
+    ensures { IfOk result (λ all. CountsPlaces until all (values runs.now)) }
+{
+    let mut places = places;
+    'runs: for i in counted..until {
+        places += new_by_walks(alloc, &runs[..i], &runs[i])?;
+    }
+    Ok(places)
 }
 
 /// The number of entries of the runs' sum, which isn't built: `places`, those of the first `counted` runs together, and

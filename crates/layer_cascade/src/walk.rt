@@ -1,9 +1,10 @@
 //! Two matrices walked through side by side, to tell at how many places of the second the first has none.
-ghost use Rattle.std.specs.Prelude.{◌≡◌, ℕ, List, IsTrue, ◌↔◌};
-ghost use Rattle.std.specs.FinMap.{entries};
-ghost use Rattle.hyper_rows.specs.Counts.{Place};
+ghost use Rattle.std.specs.Prelude.{◌≡◌, ℕ, ◌≤◌, List, IsTrue, T, ◌↔◌, length, map, take};
+ghost use Rattle.std.specs.FinMap.{entries, is_sorted};
+ghost use Rattle.hyper_matrix.specs.Cells.{entry_of};
+ghost use Rattle.hyper_rows.specs.Counts.{Place, place_cmp};
 ghost use Rattle.hyper_rows.specs.Places.{IsFirst};
-ghost use Rattle.layer_cascade.specs.Runs.{count_new, from_place, left_with};
+ghost use Rattle.layer_cascade.specs.Runs.{count_new, from_place, left_with, without};
 
 use cells::Cell;
 use hyper_matrix::{Cells, Hyper};
@@ -49,4 +50,26 @@ pub fn new_beside(before: &Hyper, m: &Hyper) -> u64
         }
     }
     new
+}
+
+/// Moves the cells of a list in order at whose places a matrix has none to the front, in the same order, and gives
+/// their number. What stands behind them is not said. Takes constant time for each cell of both, and no memory.
+pub fn keep_new(cells: &mut [Cell], before: &Hyper) -> usize
+    requires order { T (is_sorted place_cmp (map entry_of cells.old)) }
+    ensures within { result ≤ length cells.new }
+    ensures kept { map entry_of (take result cells.new) ≡ without before.now.counts (map entry_of cells.old) }
+{
+    let mut others = before.iter();
+    let mut head = others.next();
+    let mut kept = 0;
+    'cells: for i in 0..cells.len() {
+        let cell = cells[i];
+        let place = (cell.row, cell.col);
+        head = advanced(&mut others, head, place);
+        if !stands_at(head, place) {
+            cells[kept] = cell;
+            kept += 1;
+        }
+    }
+    kept
 }

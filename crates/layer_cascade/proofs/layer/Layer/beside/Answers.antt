@@ -20,8 +20,8 @@ invariant_of-result c =
     let cols = ap (λ (m : Matrix). m.cols) c.m.view_is ∙ c.requires.cols
     ∙ sym (ap (λ (m : Matrix). m.cols) c.self.view_is) in
     let most : c.in-Some.most ≡ c.m.inside.most + c.self.inside.most = omega (arith, c.in-Some.ensures) in (
-      keeps_beside c.push_runs-2.new.out.items held (values c.m.inside.runs.items) all _ _ _ _ c.self.invariant.0.is_rows
-          c.self.invariant.0.is_cols c.self.invariant.0.dims
+      keeps_beside c.push_runs-2.new.out.items held (values c.m.inside.runs.items) all _ _ _ _
+          c.self.invariant.0.is_rows c.self.invariant.0.is_cols c.self.invariant.0.dims
           (subst (λ r. HaveDims r c.self.inside.cols (values c.m.inside.runs.items)) rows
           (subst (λ k. HaveDims c.m.inside.rows k (values c.m.inside.runs.items)) cols c.m.invariant.0.dims))
           (omega (arith, c.m.invariant.0.total_is, c.self.invariant.0.total_is))
@@ -34,7 +34,8 @@ invariant_of-result c =
             ap (λ (m : Matrix). total m.counts) c.m.view_is,
           ))
           (omega (arith, most, c.m.invariant.0.few, c.self.invariant.0.few)),
-      counts_beside c.self.inside.counted c.self.inside.places held (values c.m.inside.runs.items) (values c.push_runs-2.new.out.items) all c.self.invariant.1,
+      counts_beside c.self.inside.counted c.self.inside.places held (values c.m.inside.runs.items)
+          (values c.push_runs-2.new.out.items) all c.self.invariant.1,
     )
 
 pub returns : goal.returns

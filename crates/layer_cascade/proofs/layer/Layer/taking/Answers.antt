@@ -5,23 +5,23 @@ use Rattle.layer_cascade.proofs.layer.Layer.taking.Goals as goal
 
 pub returns : goal.returns
 returns c = (
-  c.counted-layer.ensures.same ∙ c.in_ok-layer-2.ensures ∙ c.in_ok-layer.ensures,
+  c.in_ok-layer-3.ensures ∙ c.in_ok-layer-2.ensures ∙ c.in_ok-layer.ensures,
   omega (
     arith,
     c.if-entries-cut.false,
-    c.counted-layer.ensures.entries,
-    ap (λ (m : Matrix). len m.counts) c.counted-layer.ensures.same,
+    c.entries.ensures,
+    ap (λ (m : Matrix). len m.counts) c.in_ok-layer-3.ensures,
   ),
 )
 
 pub returns-then-entries-cut : goal.returns-then-entries-cut
 returns-then-entries-cut c = (
-  c.counted-layer.ensures.same ∙ c.in_ok-layer-2.ensures ∙ c.in_ok-layer.ensures,
+  c.in_ok-layer-3.ensures ∙ c.in_ok-layer-2.ensures ∙ c.in_ok-layer.ensures,
   omega (
     arith,
     c.if-entries-cut.true,
-    c.counted-layer.ensures.entries,
-    ap (λ (m : Matrix). len m.counts) c.counted-layer.ensures.same,
+    c.entries.ensures,
+    ap (λ (m : Matrix). len m.counts) c.in_ok-layer-3.ensures,
   ),
 )
 
