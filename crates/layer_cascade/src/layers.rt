@@ -1,10 +1,10 @@
 //! The layers, the two steps of an addition, and the look-ups in the sum of all layers.
 //!
 //! What a layer holds is the sum of the matrices that stand side by side in it. A matrix is put beside those of layer 1
-//! as long as the entries of all are within its cut, since their sum has no more; else they are added up into one or
-//! two, and the exact number of entries decides whether these stay or go on to the next layer, side by side. With cuts
-//! that grow by a constant factor an entry is so merged a few times for each layer, where one large matrix would be
-//! written anew for each addition.
+//! as long as the entries of all are within its cut, since their sum has no more; else the exact number of entries is
+//! counted, of a few matrices as they are and of many once they are added up into one or two, and decides whether they
+//! stay or go on to the next layer, side by side. With cuts that grow by a constant factor an entry is so merged a few
+//! times for each layer, where one large matrix would be written anew for each addition.
 //!
 //! Each layer is shared and never changed in place, so a plan takes over the layers that it leaves by a pointer, and to
 //! commit it is to exchange pointers. A look-up asks each matrix of each layer and puts the answers together; only
@@ -172,13 +172,15 @@ impl Layers {
     /// layers below it are empty: each cascades into the next (Kepner, Davis and others, 2020). The caller sees to it
     /// that the dimensions are equal and that both totals together stay below 2^64.
     ///
-    /// Where `m` is put beside the matrices of a layer, that takes the time of a pointer for each of these, at most 16.
-    /// Where all together may pass its cut, they are added up into one matrix; or all but the first, where it has a
-    /// third of what the others have, or more, and all have more than 16,384 entries. Then the places of the one or two
-    /// are counted, in a step for each cell and without memory, and they stay or go on as they are. In sums blocks that
-    /// meet no other are shared; where the first matrix has no more than the others together, one list of all cells is
-    /// made, of at most 2^21: it takes 24 bytes for each, and as much again while it is sorted. The layers above that
-    /// one aren't read.
+    /// Where `m` is put beside the matrices of a layer, that takes the time of a pointer for each of these, at most 32.
+    /// Where all together may pass its cut, their places are counted, and they stay or go on. At most 8 matrices that
+    /// may have more than 16,384 entries are counted as they are, but for those of which the places are known
+    /// (`gather`): each takes a list of its cells, of 24 bytes for each, and a step for each cell of it and of the
+    /// matrices before it. Else they are first added up into one matrix; or all but the first, where it has a third of
+    /// what the others have, or more, and all have more than 2,048 entries, which takes a step for each cell then. In
+    /// sums blocks that meet no other are shared; where the first matrix has no more than the others together, one list
+    /// of all cells is made, of at most 2^21: it takes 24 bytes for each, and as much again while it is sorted. The
+    /// layers above that one aren't read.
     ///
     /// # Errors
     ///
@@ -216,10 +218,15 @@ impl Layers {
 
     /// Adds up matrices that stand side by side, so that the addition that needs their sum doesn't have all of them to
     /// add up: in layer 1 all, where they are `GATHERED_RUNS` or more, and two neighbours in the first deeper layer
-    /// that has two of like size (`PAIR_RATIO`, `MOST_PAIRED`). What the layers hold stays, also on an error.
+    /// that has two of like size (`PAIR_RATIO`, `MOST_PAIRED`). Where none has, it counts the places of one matrix more
+    /// in the first deeper layer that may have more than three quarters of its cut, and at most `MOST_COUNTED` entries,
+    /// so that the addition that passes the cut has few to count. What the layers hold stays, also on an error.
     ///
     /// Takes the time and memory of these sums: of at most the first cut of entries where there is one, and of at most
-    /// `MOST_PAIRED`.
+    /// `MOST_PAIRED`. A count takes a list of the matrix's cells, of 24 bytes for each, and a step for each cell of it
+    /// and of the matrices before it, at most `MOST_COUNTED` in all, and a step more in each of these for each cell of
+    /// the list; of a matrix that is small beside those before it each cell is looked up in each of them, and no memory
+    /// is taken.
     ///
     /// # Errors
     ///
@@ -337,8 +344,8 @@ impl Layers {
     }
 
     /// The number of entries of layer `i`, counted from 1; `None` for 0 and past the last layer. No memory.
-    /// Constant time where the layer holds one matrix, and a step for each cell where it holds two of like size. Else
-    /// each cell, but those of the first, is looked up in the matrices before its own: at most 15 bisections.
+    /// Constant time where the layer holds one matrix, and for those in front whose places are known (`gather`), and a
+    /// step for each cell where it holds two of like size. Else each cell, but those of the first, is looked up in the matrices before its own: at most 31 bisections.
     pub fn layer_entries(&self, i: usize) -> Option<u64>
         ensures { result ≡ entries_of_layer self.now.layers i }
     {

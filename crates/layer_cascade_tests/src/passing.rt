@@ -1,4 +1,5 @@
 //! Layers of many entries that pass a cut, beside layers that are built anew from lists of cells at each addition.
+//! Between additions places are counted or matrices are added up, so that a cut is met after none, some or all of that.
 use crate::adding::add;
 use crate::streams::are_same;
 use cells::Cell;
@@ -106,17 +107,26 @@ fn hold(alloc: Global, layers: &Layers, m: &Hyper, list: &[Cell]) -> Result<bool
             return Ok(false);
         }
     }
+    for cells in list.chunks(64) {
+        let row = cells[0].row;
+        let (told, want) = (layers.row_total(row), m.row_total(row));
+        if told.entries != want.entries || told.total != want.total {
+            return Ok(false);
+        }
+    }
     let sum = layers.sum(alloc)?;
     Ok(are_same(alloc, &sum, m)? && layers.total() == m.total())
 }
 
-/// The entries of each of three layers once so many matrices were added, all of which agree with the model.
+/// The entries of each of three layers once so many matrices were added, with so many steps of `gather` after each. All
+/// agree with the model.
 fn check(
     rt: &impl Abort,
     alloc: Global,
     cuts: &[u64],
     stream: &Stream,
     matrices: u64,
+    gathers: u64,
 ) -> Result<[u64; 3], Fail> {
     let mut layers = Layers::new(alloc, SIDE, SIDE, cuts)?;
     let mut model = Model::new(alloc, cuts)?;
@@ -124,6 +134,9 @@ fn check(
         let list = stream.list(alloc, i)?;
         add(alloc, &mut layers, &Hyper::build(alloc, SIDE, SIDE, &list)?)?;
         model.add(alloc, &list)?;
+        for _ in 0..gathers {
+            layers.gather(alloc)?;
+        }
         assert!(rt; model.has_sizes(&layers), "sizes after {i}");
         if i.wrapping_add(1) == matrices {
             let sum = model.sum(alloc)?;
@@ -149,8 +162,45 @@ const ROWS: [(&[u64], u64, u64, u64, [u64; 3]); 2] = [
 fn layers_that_pass_a_cut_agree_with_lists(rt: HostRuntime) -> Result<(), Fail> {
     for (cuts, places, cells, matrices, want) in ROWS {
         let stream = Stream { places, cells };
-        let sizes = check(&rt, rt.alloc(), cuts, &stream, matrices)?;
+        let sizes = check(&rt, rt.alloc(), cuts, &stream, matrices, 0)?;
         assert_eq!(rt; sizes, want, "{places} places in matrices of {cells}");
     }
     Ok(())
+}
+
+/// As `ROWS`, where three matrices of 7,100 cells pass the first cut at once, and no two of them are added up. In the
+/// first row all places differ, and two thirds are counted before the cut. In the others places come again, with no
+/// entry above the cut, and with one.
+const COUNTED: [(&[u64], u64, [u64; 3]); 3] = [
+    (&[5_000, 18_000], 1 << 20, [0, 0, 21_300]),
+    (&[5_000, 17_000], 17_000, [0, 17_000, 0]),
+    (&[5_000, 16_999], 17_000, [0, 0, 17_000]),
+];
+
+/// The rows of `COUNTED`, with so many steps of `gather` after each addition.
+fn check_counted(rt: &impl Abort, alloc: Global, gathers: u64) -> Result<(), Fail> {
+    for (cuts, places, want) in COUNTED {
+        let stream = Stream {
+            places,
+            cells: 7_100,
+        };
+        let sizes = check(rt, alloc, cuts, &stream, 3, gathers)?;
+        assert_eq!(rt; sizes, want, "{places} places, {gathers} steps");
+    }
+    Ok(())
+}
+
+#[test]
+fn layers_that_are_counted_at_their_cut_agree_with_lists(rt: HostRuntime) -> Result<(), Fail> {
+    check_counted(&rt, rt.alloc(), 0)
+}
+
+#[test]
+fn layers_that_are_counted_in_part_before_agree_with_lists(rt: HostRuntime) -> Result<(), Fail> {
+    check_counted(&rt, rt.alloc(), 1)
+}
+
+#[test]
+fn layers_that_are_counted_before_their_cut_agree_with_lists(rt: HostRuntime) -> Result<(), Fail> {
+    check_counted(&rt, rt.alloc(), 9)
 }

@@ -174,7 +174,7 @@ fn entries_after(alloc: Global, matrices: u64) -> Result<Option<u64>, Fail> {
 
 #[test]
 fn a_layer_counts_a_place_once(rt: HostRuntime) -> Result<(), Fail> {
-    for matrices in [0, 1, 2, 15, 16, 17, MANY] {
+    for matrices in [0, 1, 2, 16, 31, 32, 33, MANY] {
         let want = sum_of(rt.alloc(), 0, matrices)?.entries();
         assert_eq!(rt;
             entries_after(rt.alloc(), matrices)?,
