@@ -332,8 +332,8 @@ impl Shard {
 }
 
 impl Shard {
-    /// Adds up parts that stand side by side in the layers, so that the batch that needs their sum finds most of it
-    /// made: one bounded step (`Layers::gather`). What the shard holds stays, also on an error.
+    /// Adds up parts that stand side by side in the layers, or counts their places, so that the batch that needs that
+    /// finds most of it done: one bounded step (`Layers::gather`). What the shard holds stays, also on an error.
     ///
     /// # Errors
     ///

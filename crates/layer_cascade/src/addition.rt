@@ -1,8 +1,8 @@
 //! The addition of a matrix to layers: where its cascade ends, and what the layers are then.
 //!
 //! The matrix is carried from layer to layer: at each it is put beside what the layer holds, and stays there if all
-//! together have at most the cut of entries. Else all goes on, in one or two matrices. So no layer above the end is
-//! read. All growth is made here, and nothing is changed.
+//! together have at most the cut of entries. Else all goes on, side by side. So no layer above the end is read. All
+//! growth is made here, and nothing is changed.
 ghost use Rattle.std.specs.Prelude.{◌≡◌, ℕ, suc, ◌+◌, ◌<◌, ◌^◌, ◌++◌, ◌∷◌, IfOk, OnOk, length, drop, replicate};
 ghost use Rattle.std.specs.Arc.{arc_value};
 ghost use Rattle.hyper_matrix.specs.Counts.{total};

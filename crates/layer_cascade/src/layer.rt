@@ -40,8 +40,8 @@ pub struct Layer {
     // At least the number of entries of the sum: that number as it was counted last, and the entries of the runs that
     // were put beside the others since.
     most: u64,
-    // Of how many runs in front the places are counted, and the entries of their sum. They are shared by whatever has
-    // the same runs in front.
+    // Of how many runs in front the places are counted, and the entries of their sum, which what is put behind them
+    // doesn't change.
     counted: usize,
     places: u64,
     runs: Vec<Arc<Hyper>>,
@@ -281,8 +281,8 @@ impl Layer {
         Ok(Step::Ends(layer))
     }
 
-    /// Whether places are to be counted before this layer passes its cut: not all runs are counted, and the bound is more
-    /// than three quarters of the cut, and at most `MOST_COUNTED`. Constant time.
+    /// Whether places are to be counted before this layer passes its cut: not all runs are counted, and the bound is
+    /// more than three quarters of the cut, and at most `MOST_COUNTED`. Constant time.
     pub fn is_to_count(&self, cut: u64) -> bool {
         self.counted < self.runs.len() && self.most > cut - cut / 4 && self.most <= MOST_COUNTED
     }

@@ -223,10 +223,9 @@ impl Layers {
     /// so that the addition that passes the cut has few to count. What the layers hold stays, also on an error.
     ///
     /// Takes the time and memory of these sums: of at most the first cut of entries where there is one, and of at most
-    /// `MOST_PAIRED`. A count takes a list of the matrix's cells, of 24 bytes for each, and a step for each cell of it
-    /// and of the matrices before it, at most `MOST_COUNTED` in all, and a step more in each of these for each cell of
-    /// the list; of a matrix that is small beside those before it each cell is looked up in each of them, and no memory
-    /// is taken.
+    /// `MOST_PAIRED`. To count a matrix takes a list of its cells, of 24 bytes for each, and a walk through that list
+    /// and each matrix before it, each of at most `MOST_COUNTED` entries; where it is small beside those, each of its
+    /// cells is looked up in each of them instead, without a list.
     ///
     /// # Errors
     ///
@@ -345,7 +344,8 @@ impl Layers {
 
     /// The number of entries of layer `i`, counted from 1; `None` for 0 and past the last layer. No memory.
     /// Constant time where the layer holds one matrix, and for those in front whose places are known (`gather`), and a
-    /// step for each cell where it holds two of like size. Else each cell, but those of the first, is looked up in the matrices before its own: at most 31 bisections.
+    /// step for each cell where it holds two of like size. Else each cell, but those of the first, is looked up in the
+    /// matrices before its own: at most 31 bisections.
     pub fn layer_entries(&self, i: usize) -> Option<u64>
         ensures { result ≡ entries_of_layer self.now.layers i }
     {

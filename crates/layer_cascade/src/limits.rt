@@ -28,8 +28,9 @@ pub const MOST_COUNTED: u64 = 1 << 17;
 /// a cell is written anew with matrices that are not much smaller than its own, and a layer ends with few matrices.
 pub const PAIR_RATIO: u64 = 3;
 
-/// Where a matrix has more than so many times the entries of another, each cell of the other is looked up in it, and
-/// else both are walked through, to tell how many places are new: a look-up takes as long as so many steps.
+/// Where the matrices before another have, for each of them, more than so many times its entries, each of its cells is
+/// looked up in them, and else all are walked through, to tell how many places are new: a look-up takes as long as so
+/// many steps.
 pub const WALKED_RATIO: u64 = 16;
 
 /// The most cells of more than two matrices that are added up by a list of all. So many are sorted in a few passes.

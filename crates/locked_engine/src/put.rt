@@ -26,8 +26,8 @@ impl<N: Named, H: Ledger> Engine<N, H> {
     /// that it concerns is locked, in rising order, and prepares; the book is locked, asked again, and admits it; and
     /// on the way back each shard takes its part in and gives its lock back. No cell is read or copied under the book's
     /// lock, and under a shard's lock only those of the part and of the layers that it meets. Once all locks are given
-    /// back, one of these shards, another at each put, may be locked once more, to add up some of what stands side by
-    /// side in its layers (`Shard::gather`).
+    /// back, one of these shards, another at each put, may be locked once more, to add up or count some of what stands
+    /// side by side in its layers (`Shard::gather`).
     ///
     /// A first acceptance raises the seat's first share by the batch's total. After every other answer the seat is as
     /// before, and so are, as far as this call goes, every shard and the book, but for free places.
@@ -104,9 +104,10 @@ impl<N: Named, H: Ledger> Engine<N, H> {
         Ok(kept)
     }
 
-    // Adds up parts that stand side by side in a shard, while no other lock is held. Each accepted batch takes one such
-    // step in at most one of the shards that it concerns, another in turn: so a put finds few to add up in its shards.
-    // What the shard holds stays, and where memory is refused the parts stay as they are.
+    // Adds up parts that stand side by side in a shard, or counts their places, while no other lock is held. Each
+    // accepted batch takes one such step in at most one of the shards that it concerns, another in turn: so a put finds
+    // few to add up or count in its shards. What the shard holds stays, and where memory is refused the parts stay as
+    // they are.
     fn gather<R: Wait>(&self, rt: &R, alloc: Global, s: u64)
         requires { s < N.setup.shards }
     {

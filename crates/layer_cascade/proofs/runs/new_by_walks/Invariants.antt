@@ -8,4 +8,5 @@ use Rattle.layer_cascade.proofs.runs.new_by_walks.Given as goal
 
 abbrev pub invariant-runs : goal.invariant-runs
 invariant-runs l =
-    map entry_of l.cells.items ≡ without (content (take l.run-index (all_counts (values l.before)))) (entries l.m.counts)
+    let done = content (take l.run-index (all_counts (values l.before))) in
+    map entry_of l.cells.items ≡ without done (entries l.m.counts)
