@@ -3,3 +3,4 @@ pub mod SumLemmas
 pub mod ReadLemmas
 pub mod CountLemmas
 pub mod CheckLemmas
+pub mod ListLemmas

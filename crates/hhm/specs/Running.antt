@@ -1,6 +1,7 @@
 -- What a running sum holds of the cells that were added.
 use Rattle.std.specs.Prelude.{◌≡◌, ℕ, ◌<◌, ◌≤◌, ◌^◌, List, ◌++◌}
 use Rattle.cells.specs.Bounds.{AreWithin}
+use Rattle.cells.specs.Order.{Rise}
 use Rattle.cells.specs.declared.cell.Cell.{Cell}
 use Rattle.hyper_matrix.specs.Cells.{built_of, cell_total}
 use Rattle.hyper_matrix.specs.Matrix.{matrix}
@@ -8,6 +9,7 @@ use Rattle.hhm.specs.declared.fault.SumFault.{SumFault}
 use Rattle.hhm.specs.declared.fault.SumFault.TheVariants as fault
 use Rattle.hhm.specs.declared.running_sum.RunningSum.{RunningSum}
 use Rattle.hhm.specs.declared.running_sum.RunningSum.TheVariants.{Fits, TooLarge}
+use Rattle.hhm.specs.declared.running_sum.Summed.{Summed}
 
 -- the sum is the matrix that the cells build, in these dimensions, or their counts pass 64 bits
 abbrev pub IsSumOf : ℕ → ℕ → List Cell → RunningSum → Type 0
@@ -29,7 +31,14 @@ abbrev pub FitsBehind : RunningSum → List Cell → Type 0
 FitsBehind sum block = (rows cols : ℕ) (cells : List Cell) →
     IsSumOf rows cols cells sum → cell_total (cells ++ block) < 2 ^ 64
 
--- why the sum of these cells is no matrix: the counts pass 64 bits, or they do not and memory ran out
+-- this list is that of the sum of these cells: it builds the same, in these dimensions, and has each place once
+pub record ListsSum (rows cols : ℕ) (cells : List Cell) (sum : Summed) : Type 0 where
+  pub rows_are : sum.rows ≡ rows
+  pub cols_are : sum.cols ≡ cols
+  pub rises : Rise sum.cells.items
+  pub same : built_of sum.cells.items ≡ built_of cells
+
+-- why the sum of these cells has no list: the counts pass 64 bits, or they do not and memory ran out
 abbrev pub RefusesSum : List Cell → SumFault → Type 0
 RefusesSum cells fault.SumTooLarge = 2 ^ 64 ≤ cell_total cells
 RefusesSum cells fault.Memory = cell_total cells < 2 ^ 64
@@ -37,6 +46,6 @@ RefusesSum cells fault.BadCuts = ⊥
 RefusesSum cells (fault.Text told) = ⊥
 RefusesSum cells (fault.Output told) = ⊥
 
--- why a running sum is no matrix
+-- why a running sum has no list
 abbrev pub IsRefused : RunningSum → SumFault → Type 0
 IsRefused sum told = (rows cols : ℕ) (cells : List Cell) → IsSumOf rows cols cells sum → RefusesSum cells told

@@ -1,11 +1,11 @@
 //! `check`: reads a snapshot, and writes one line that says what it holds.
 ghost use Rattle.std.specs.Prelude.{◌≡◌, ℕ, ◌+◌, ◌<◌, ◌≤◌, ◌^◌, ◌⊎◌, ◌++◌, List, Err, decimal, length, OnOk, IfOk};
 ghost use Rattle.std.specs.Prelude.{IfErr};
+ghost use Rattle.std.specs.FinMap.{len};
 ghost use Rattle.arrayvec.specs.ArrayString.{array_string_len};
 ghost use Rattle.byte_io.specs.Writing.{HasTaken, HasStopped};
 ghost use Rattle.byte_io.specs.declared.fault.WriteFault.{WriteFault};
 ghost use Rattle.hyper_matrix.specs.Counts.{total, ewise_add};
-ghost use Rattle.hyper_matrix.specs.Matrix.{matrix};
 ghost use Rattle.batch_store.specs.Setups.{Setting};
 ghost use Rattle.batch_store.specs.Batches.{Submission, values};
 ghost use Rattle.batch_store.specs.Books.{list_total, AreAccepted};
@@ -17,8 +17,7 @@ use crate::running_sum::empty_layers;
 use arrayvec::ArrayString;
 use batch_store::{Batch, Setup};
 use byte_io::{Sink, write_all};
-use hyper_matrix::Hyper;
-use layer_cascade::PendingLayers;
+use pending_layers::PendingLayers;
 use snap_file::load;
 use std::alloc::{AllocError, Global};
 use std::rt::Files;
@@ -44,17 +43,17 @@ fn with_batch(
     Ok(after)
 }
 
-// The sum of all batches.
-fn sum_of(alloc: Global, setup: &Setup, batches: &[Arc<Batch>]) -> Result<Hyper, AllocError>
+// The number of entries of the sum of all batches.
+fn entries_of(alloc: Global, setup: &Setup, batches: &[Arc<Batch>]) -> Result<u64, AllocError>
     requires { AreAccepted setup.now (values batches.now) }
-    ensures { IfOk result (λ m. m ≡ matrix setup.now.rows setup.now.cols (sum_of_batches (values batches.now))) }
+    ensures { IfOk result (λ entries. entries ≡ len (sum_of_batches (values batches.now))) }
 {
-    let mut layers = empty_layers(alloc, setup.rows(), setup.cols(), &CHECK_CUTS)?;
+    let mut layers = empty_layers(alloc, setup.rows(), setup.cols(), &CHECK_CUTS, 0)?;
     for batch in batches {
         layers = with_batch(alloc, layers, batch)?;
     }
-    let sum = layers.into_sum(alloc)?;
-    Ok(sum)
+    let cells = layers.into_cells(alloc)?;
+    Ok(cells.len() as u64)
 }
 
 // The total that a batch keeps.
@@ -119,8 +118,8 @@ fn write_check<W: Sink>(
 {
     // The limit bounds the total.
     let _limit = setup.limit();
-    let entries = match sum_of(alloc, setup, batches) {
-        Ok(sum) => sum.entries(),
+    let entries = match entries_of(alloc, setup, batches) {
+        Ok(entries) => entries,
         Err(_) => return Err(CheckFault::Memory),
     };
     let line = line_of(setup, batches.len() as u64, total_of(batches), entries);
@@ -134,7 +133,8 @@ fn write_check<W: Sink>(
 /// is the number of cells of the sum of all batches.
 ///
 /// Takes the memory of the batches, of layers with the cuts 4,096, 65,536 and 1,048,576, and of a list of at most 2^21
-/// cells that wait before them, or of one batch that has more: 24 bytes each, and as much again while it is sorted.
+/// cells that wait before them, or of one batch that has more; and at the end of one list of all cells in these layers
+/// and that list: 24 bytes each, and as much again while it is sorted.
 ///
 /// # Errors
 ///

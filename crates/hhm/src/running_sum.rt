@@ -14,12 +14,13 @@ ghost use Rattle.hyper_matrix.specs.Cells.{built_of, cell_total};
 ghost use Rattle.hyper_matrix.specs.Counts.{total};
 ghost use Rattle.hyper_matrix.specs.Matrix.{matrix};
 ghost use Rattle.layer_cascade.specs.Cuts.{AreCuts};
-ghost use Rattle.hhm.specs.Running.{IsSumOf, CanTake, GrowsBy, FitsBehind, IsRefused};
+ghost use Rattle.hhm.specs.Running.{IsSumOf, CanTake, GrowsBy, FitsBehind, IsRefused, ListsSum};
 
 use crate::fault::SumFault;
 use cells::{Cell, checked_total, summed};
-use hyper_matrix::Hyper;
-use layer_cascade::{CascadeFault, PendingLayers};
+use layer_cascade::CascadeFault;
+use mm_text::Size;
+use pending_layers::PendingLayers;
 use std::alloc::{AllocError, Global};
 
 /// The running sum of a list of cells.
@@ -31,19 +32,28 @@ pub enum RunningSum {
     TooLarge,
 }
 
-/// Empty layers with these cuts.
+/// The cells of a sum by row and then by column, each place once, and the numbers of rows and of columns.
+#[derive(Drop)]
+pub struct Summed {
+    pub rows: u64,
+    pub cols: u64,
+    pub cells: Vec<Cell>,
+}
+
+/// Empty layers with these cuts, which have room for so many cells from the start, or for as many of them as may wait.
 pub fn empty_layers(
     alloc: Global,
     rows: u64,
     cols: u64,
     cuts: &[u64],
+    expected: u64,
 ) -> Result<PendingLayers, AllocError>
     requires rows { IsDimension rows }
     requires cols { IsDimension cols }
     requires cuts { AreCuts cuts.now }
     ensures { IfOk result (λ layers. layers ≡ matrix rows cols empty) }
 {
-    match PendingLayers::new(alloc, rows, cols, cuts) {
+    match PendingLayers::new(alloc, rows, cols, cuts, expected) {
         Ok(layers) => Ok(layers),
         Err(CascadeFault::Memory) => Err(AllocError),
         Err(CascadeFault::BadCuts) => unreachable!(),
@@ -89,25 +99,24 @@ fn add_block(alloc: Global, layers: PendingLayers, block: &[Cell]) -> Result<Run
 }
 
 impl RunningSum {
-    /// The sum of a block of cells, in layers with these cuts.
+    /// The sum of a block of cells, in layers with these cuts and room for the entries of the size line.
     pub fn new(
         alloc: Global,
-        rows: u64,
-        cols: u64,
+        size: Size,
         cuts: &[u64],
         block: &[Cell],
     ) -> Result<RunningSum, AllocError>
-        requires rows { IsDimension rows }
-        requires cols { IsDimension cols }
+        requires rows { IsDimension size.rows }
+        requires cols { IsDimension size.cols }
         requires cuts { AreCuts cuts.now }
-        requires within { AreWithin rows cols block.now }
-        ensures ok { IfOk result (IsSumOf rows cols block.now) }
+        requires within { AreWithin size.rows size.cols block.now }
+        ensures ok { IfOk result (IsSumOf size.rows size.cols block.now) }
         ensures memory { OnErr result (cell_total block.now < 2 ^ 64) }
     {
         if checked_total(block).is_none() {
             return Ok(RunningSum::TooLarge);
         }
-        let none = empty_layers(alloc, rows, cols, cuts)?;
+        let none = empty_layers(alloc, size.rows, size.cols, cuts, size.entries)?;
         let layers = with_block(alloc, none, block)?;
         Ok(RunningSum::Fits(layers))
     }
@@ -124,21 +133,26 @@ impl RunningSum {
         }
     }
 
-    /// The sum as a matrix.
+    /// The sum as one list of cells.
     ///
     /// `SumTooLarge` where the counts passed 64 bits, else the only refusal is want of memory.
-    pub fn into_matrix(self, alloc: Global) -> Result<Hyper, SumFault>
-        ensures ok { IfOk result (λ m. (rows cols : ℕ) (cells : List Cell) → IsSumOf rows cols cells self →
-            (m ≡ matrix rows cols (built_of cells)) × (cell_total cells < 2 ^ 64)) }
+    pub fn into_cells(self, alloc: Global) -> Result<Summed, SumFault>
+        ensures sized { IfOk result (λ sum. IsDimension sum.rows × IsDimension sum.cols
+            × AreWithin sum.rows sum.cols sum.cells.items) }
+        ensures ok { IfOk result (λ sum. (rows cols : ℕ) (cells : List Cell) → IsSumOf rows cols cells self →
+            ListsSum rows cols cells sum × (cell_total cells < 2 ^ 64)) }
         ensures err { IfErr result (IsRefused self) }
         ensures kinds { IfErr result (λ fault. (fault ≡ SumFault.SumTooLarge) ⊎ (fault ≡ SumFault.Memory)) }
     {
         match self {
             RunningSum::TooLarge => Err(SumFault::SumTooLarge),
-            RunningSum::Fits(layers) => match layers.into_sum(alloc) {
-                Ok(m) => Ok(m),
-                Err(_) => Err(SumFault::Memory),
-            },
+            RunningSum::Fits(layers) => {
+                let (rows, cols) = layers.dims();
+                match layers.into_cells(alloc) {
+                    Ok(cells) => Ok(Summed { rows, cols, cells }),
+                    Err(_) => Err(SumFault::Memory),
+                }
+            }
         }
     }
 }

@@ -1,8 +1,9 @@
 //! `sum`: reads a text, adds its cells into layers block by block, and writes the canonical text of the sum.
 //!
-//! The list of the text's cells is never held as a whole: memory goes to the layers, to one block, and to the latest
-//! cells, at most 2^21, which wait in a list before they go into the layers. The time is that of one pass over the
-//! text, of the additions that the cuts ask for, and of one pass over the sum.
+//! Memory goes to the layers, to one block, and to the latest cells, at most 2^21, which wait in a list before they go
+//! into the layers; and at the end to one list of the cells of all layers and of those that wait, and to as much again
+//! while it is sorted. A place whose cells are in several layers has several in that list. The time is that of one pass
+//! over the text, of the additions that the cuts ask for, of the sort, and of one pass over the sum.
 ghost use Rattle.std.specs.Prelude.{◌≡◌, ℕ, ◌+◌, ◌<◌, ◌≤◌, ◌^◌, ◌⊎◌, ◌↔◌, List, vec_capacity};
 ghost use Rattle.std.specs.Prelude.{Some, Err, OnOk, OnErr, IfOk, IfErr};
 ghost use Rattle.mm_text.specs.declared.size.Size.{Size};
@@ -24,9 +25,8 @@ use crate::running_sum::RunningSum;
 use byte_io::{Sink, Source};
 use cells::Cell;
 use layer_cascade::are_cuts;
-use mm_text::TextReader;
+use mm_text::{TextReader, write_matrix};
 use std::alloc::{AllocError, Global};
-use wire_proto::write_text;
 
 // The sum of the cells of a text's first block, in the dimensions of the size line that was read.
 fn first_sum(
@@ -44,7 +44,7 @@ fn first_sum(
     let Some(size) = reader.size() else {
         unreachable!()
     };
-    RunningSum::new(alloc, size.rows, size.cols, cuts, block)
+    RunningSum::new(alloc, size, cuts, block)
 }
 
 // Reads the blocks behind the first, and adds each to the sum of those before it, to the text's end.
@@ -102,8 +102,8 @@ fn read_running<R: Source>(alloc: Global, r: &mut R, cuts: &[u64]) -> Result<Run
 /// The cells of the text's list go into layers with these cuts (none to seven, rising, each 1 to 2^40 entries), in
 /// blocks of at most 4,096, which wait in a list until it has twice as many cells as the last cut says, at least
 /// 131,072 and at most 2^21, and 2^21 where there is no cut. Where places come again the list is added up earlier. Then
-/// the sum of all is written, its cells by row and then by column. The cuts decide time and memory, and never what is
-/// written.
+/// all is put into one list and written, its cells by row and then by column. The cuts decide time and memory, and
+/// never what is written.
 ///
 /// # Errors
 ///
@@ -146,8 +146,8 @@ pub fn run_sum<R: Source, W: Sink>(
         return Err(SumFault::BadCuts);
     }
     let sum = read_running(alloc, r, cuts)?;
-    match sum.into_matrix(alloc) {
-        Ok(m) => match write_text(w, &m) {
+    match sum.into_cells(alloc) {
+        Ok(sum) => match write_matrix(w, sum.rows, sum.cols, &sum.cells) {
             Ok(()) => Ok(()),
             Err(fault) => Err(SumFault::Output(fault)),
         },

@@ -11,4 +11,3 @@ pub mod StepLemmas
 pub mod PairLemmas
 pub mod WalkLemmas
 pub mod WithoutLemmas
-pub mod PendingLemmas

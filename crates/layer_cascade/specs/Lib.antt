@@ -5,4 +5,3 @@ pub mod Shared
 pub mod Columns
 pub mod Runs
 pub mod Steps
-pub mod Pending

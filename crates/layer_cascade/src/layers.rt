@@ -24,7 +24,7 @@ use crate::addition::{cascade_end, layers_after, push_copies, push_layers};
 use crate::cuts::are_cuts;
 use crate::fault::CascadeFault;
 use crate::layer::Layer;
-use crate::lists::push_cells_of;
+use crate::lists::{entries_bound, push_cells_of};
 use crate::lookup::plus;
 use crate::pairs::due_pair;
 use crate::row_entries::columns_with_layer;
@@ -290,23 +290,29 @@ impl Layers {
         })
     }
 
-    // The bounds of all layers together, up to 2^64 - 1. The sum has no more entries; the matrices side by side may have,
-    // where places come again.
-    pub(crate) fn most_entries(&self) -> u64 {
-        let mut most = 0u64;
+    // The cells of all matrices of all layers, up to 2^64 - 1: those of a place in several of them count in each.
+    fn listed_cells(&self) -> u64 {
+        let mut cells = 0u64;
         for layer in &self.layers {
-            most = most.saturating_add(layer.most_entries());
+            cells = cells.saturating_add(entries_bound(layer.runs()));
         }
-        most
+        cells
     }
 
-    // Appends the cells of all layers, one matrix after the other.
-    pub(crate) fn push_cells(&self, out: &mut Vec<Cell>) -> Result<(), AllocError>
+    /// Appends the cells of all layers to a list, those of each matrix of each layer by row and then by column. A place
+    /// that several matrices have stands in it several times. Room for all is made at once and exactly, 24 bytes for
+    /// each cell.
+    ///
+    /// # Errors
+    ///
+    /// A growth was refused. The layers are as before in any case.
+    pub fn push_cells(&self, out: &mut Vec<Cell>) -> Result<(), AllocError>
         ensures sum { OnOk result (built_of out.new.items
             ≡ ewise_add (built_of out.old.items) (content self.now.layers)) }
         ensures within { AreWithin self.now.rows self.now.cols out.old.items →
             OnOk result (AreWithin self.now.rows self.now.cols out.new.items) }
     {
+        out.reserve_exact(self.listed_cells() as usize)?;
         'layers: for layer in &self.layers {
             push_cells_of(out, layer.runs())?;
         }

@@ -7,8 +7,10 @@
 //! Hypersparse GraphBLAS Matrices").
 //!
 //! An addition has two steps: `Layers::plan` makes all growth and changes nothing, and `Layers::commit` puts the
-//! planned layers in place and cannot fail. `Layers::view` shows a reader the layers of one moment. Where cells are
-//! only added, and the sum is asked for once, `PendingLayers` lets the latest of them wait in a list.
+//! planned layers in place and cannot fail. `Layers::view` shows a reader the layers of one moment.
+//!
+//! Where cells are only added, and the sum is asked for once, lists of them can wait to be added up by `merged`, and
+//! `Layers::push_cells` lists what the layers hold.
 #![tactic(auto)]
 
 mod addition;
@@ -21,7 +23,6 @@ mod limits;
 mod lists;
 mod lookup;
 mod pairs;
-mod pending;
 mod row_entries;
 mod runs;
 mod view;
@@ -31,5 +32,5 @@ pub use cuts::are_cuts;
 pub use fault::CascadeFault;
 pub use laws::{cascades_add, cascades_add_all, cascades_end_once, cascades_keep_cuts};
 pub use layers::{Layers, Plan};
-pub use pending::PendingLayers;
+pub use lists::merged;
 pub use view::LayerView;

@@ -10,6 +10,4 @@ mod layers;
 #[cfg(test)]
 mod passing;
 #[cfg(test)]
-mod pending;
-#[cfg(test)]
 mod streams;

@@ -1,16 +1,16 @@
-use Rattle.std.proofs.Common.{◌≡◌, subst}
+use Rattle.std.proofs.Common.{◌≡◌, ℕ, List, subst, ap, ◌∙◌}
 use Rattle.byte_io.specs.Writing.{HasTaken, HasStopped}
 use Rattle.byte_io.specs.declared.fault.WriteFault.{WriteFault}
-use Rattle.hyper_matrix.specs.Matrix.{Matrix}
-use Rattle.wire_proto.specs.MatrixText.{matrix_text}
+use Rattle.mm_text.specs.Canonical.{canonical}
 use Rattle.hhm.specs.Sum.{sum_text}
 use Rattle.hhm.specs.declared.fault.SumFault.TheVariants.{SumTooLarge, Memory}
 use Rattle.hhm.specs.Running.{RefusesSum}
+use Rattle.hhm.proofs.ListLemmas.{text_listed}
 use Rattle.hhm.proofs.ReadLemmas.{unsummed_text}
 use Rattle.hhm.proofs.sum.run_sum.Goals as goal
 
-pub returns-in-Ok-write_text-clause-ok : goal.returns-in-Ok-write_text-clause-ok
-returns-in-Ok-write_text-clause-ok g c =
+pub returns-in-Ok-write_matrix-clause-ok : goal.returns-in-Ok-write_matrix-clause-ok
+returns-in-Ok-write_matrix-clause-ok g c =
     let size = c.in_ok-sum.ensures.ok.0 in
     let summed = c.in_ok-sum.ensures.ok.1 in
     let made = c.in-Ok.ensures.ok size.rows size.cols summed.cells summed.sum_is in (
@@ -18,8 +18,10 @@ returns-in-Ok-write_text-clause-ok g c =
       size.cols,
       summed.cells,
       record { reads_text = summed.reads_text; fits = made.1 },
-      subst (λ (m : Matrix). HasTaken g.W.Sink.write_takes g.W.Sink.failure_count c.args.w.now c.write_text.new.w
-          (matrix_text m)) made.0 c.in-Ok-write_text.ensures.ok,
+      subst (HasTaken g.W.Sink.write_takes g.W.Sink.failure_count c.args.w.now c.write_matrix.new.w)
+          (ap (canonical c.in-Ok.sum.rows c.in-Ok.sum.cols) c.deref.ensures.value
+          ∙ text_listed size.rows size.cols summed.cells c.in-Ok.sum made.0)
+          c.in-Ok-write_matrix.ensures.ok,
     )
 
 pub returns-in-Ok-clause-output : goal.returns-in-Ok-clause-output
@@ -27,16 +29,19 @@ returns-in-Ok-clause-output g c fault is =
     let size = c.in_ok-sum.ensures.ok.0 in
     let summed = c.in_ok-sum.ensures.ok.1 in
     let made = c.in-Ok.ensures.ok size.rows size.cols summed.cells summed.sum_is in
-    let same : c.in-Err-write_text.fault ≡ fault = cc in (
+    let same : c.in-Err-write_matrix.fault ≡ fault = cc in (
       size.rows,
       size.cols,
       summed.cells,
       record { reads_text = summed.reads_text; fits = made.1 },
-      subst (λ (f : WriteFault). HasStopped g.W.Sink.write_takes g.W.Sink.failure_count c.args.w.now c.write_text.new.w
+      subst (λ (f : WriteFault). HasStopped g.W.Sink.write_takes g.W.Sink.failure_count c.args.w.now
+          c.write_matrix.new.w
           (sum_text size.rows size.cols summed.cells) f.written) same
-          (subst (λ (m : Matrix). HasStopped g.W.Sink.write_takes g.W.Sink.failure_count c.args.w.now c.write_text.new.w
-          (matrix_text m) c.in-Err-write_text.fault.written) made.0
-          c.in-Err-write_text.ensures.err),
+          (subst (λ (text : List ℕ). HasStopped g.W.Sink.write_takes g.W.Sink.failure_count c.args.w.now
+          c.write_matrix.new.w text c.in-Err-write_matrix.fault.written)
+          (ap (canonical c.in-Ok.sum.rows c.in-Ok.sum.cols) c.deref.ensures.value
+          ∙ text_listed size.rows size.cols summed.cells c.in-Ok.sum made.0)
+          c.in-Err-write_matrix.ensures.err),
     )
 
 pub returns-clause-too_large : goal.returns-clause-too_large

@@ -9,11 +9,11 @@ with_block-requires-clause-fits c =
     omega (
       arith,
       fits,
-      total_is c.args.rows c.args.cols [] c.in_ok-none.none
-          (no_cells c.args.rows c.args.cols c.in_ok-none.none c.in_ok-none.ensures),
+      total_is c.args.size.rows c.args.size.cols [] c.in_ok-none.none
+          (no_cells c.args.size.rows c.args.size.cols c.in_ok-none.none c.in_ok-none.ensures),
     )
 
 pub returns-clause-ok : goal.returns-clause-ok
 returns-clause-ok c =
-    c.in_ok-layers.ensures c.args.rows c.args.cols []
-    (no_cells c.args.rows c.args.cols c.in_ok-none.none c.in_ok-none.ensures)
+    c.in_ok-layers.ensures c.args.size.rows c.args.size.cols []
+    (no_cells c.args.size.rows c.args.size.cols c.in_ok-none.none c.in_ok-none.ensures)

@@ -10,8 +10,8 @@ use Rattle.layer_cascade.proofs.layers.Layers.push_cells.Goals as goal
 
 pub layers-init : goal.layers-init
 layers-init c = record {
-  told = sym (ewise_add-empty (built_of c.args.out.now.items));
-  within = λ all. all;
+  told = ap built_of c.in_ok-reserve_exact.ensures.items ∙ sym (ewise_add-empty (built_of c.args.out.now.items));
+  within = subst (AreWithin c.args.self.now.rows c.args.self.now.cols) (sym c.in_ok-reserve_exact.ensures.items);
 }
 
 pub layers-preserved : goal.layers-preserved

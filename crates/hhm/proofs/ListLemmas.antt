@@ -1,0 +1,44 @@
+-- What a list of cells by row and then by column, each place once, says of the matrix that it builds.
+use Rattle.std.proofs.Common.{◌≡◌, ℕ, List, [], ◌∷◌, length, map, refl, sym, ap, ◌∙◌}
+use Rattle.std.specs.FinMap.{entries, len}
+use Rattle.std.proofs.lemmas.List.{length-map}
+use Rattle.cells.specs.declared.cell.Cell.{Cell}
+use Rattle.cells.specs.Order.{Rise}
+use Rattle.mm_text.specs.Canonical.{canonical}
+use Rattle.hyper_rows.proofs.PlaceOrderLaws.{sorted_rising}
+use Rattle.hyper_rows.proofs.SortedListLaws.{built-in_order, entries-in_order, len-in_order}
+use Rattle.hyper_matrix.specs.Cells.{built_of, entry_of}
+use Rattle.hyper_matrix.specs.Matrix.{matrix}
+use Rattle.wire_proto.specs.MatrixText.{cell_of, cells_in_order, matrix_text}
+use Rattle.hhm.specs.Running.{ListsSum}
+use Rattle.hhm.specs.Sum.{sum_text}
+use Rattle.hhm.specs.declared.running_sum.Summed.{Summed}
+
+cells_again : (cells : List Cell) → map cell_of (map entry_of cells) ≡ cells
+cells_again [] = refl
+cells_again (c ∷ cells) = ap (λ (l : List Cell). c ∷ l) (cells_again cells)
+
+-- its cells are those of the matrix
+pub cells_built : (cells : List Cell) → Rise cells → cells_in_order (built_of cells) ≡ cells
+cells_built cells rises =
+    let sorted = sorted_rising cells rises in
+    ap (map cell_of)
+    (ap entries (built-in_order (map entry_of cells) sorted) ∙ entries-in_order (map entry_of cells) sorted)
+    ∙ cells_again cells
+
+-- and as many as the matrix has entries
+pub cells_counted : (cells : List Cell) → Rise cells → length cells ≡ len (built_of cells)
+cells_counted cells rises =
+    let sorted = sorted_rising cells rises in
+    sym (ap len (built-in_order (map entry_of cells) sorted) ∙ len-in_order (map entry_of cells) sorted
+    ∙ length-map cells entry_of)
+
+-- its text is that of the matrix
+pub text_listed : (rows cols : ℕ) (cells : List Cell) (sum : Summed) → ListsSum rows cols cells sum →
+    canonical sum.rows sum.cols sum.cells.items ≡ sum_text rows cols cells
+unfolding matrix_text
+text_listed rows cols cells sum lists =
+    ap (λ n. canonical n sum.cols sum.cells.items) lists.rows_are
+    ∙ ap (λ n. canonical rows n sum.cells.items) lists.cols_are
+    ∙ ap (canonical rows cols) (sym (cells_built sum.cells.items lists.rises))
+    ∙ ap (λ m. matrix_text (matrix rows cols m)) lists.same
