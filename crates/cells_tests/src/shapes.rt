@@ -76,4 +76,4 @@ pub const COUNTS: [u64; 9] = [0, 1, 2, 3, 100, 511, 512, 513, 4096];
 pub const GREAT_COUNTS: [u64; 4] = [16_383, 16_384, 16_385, 100_000];
 
 /// Numbers of cells that are distributed to parts first.
-pub const LONG_COUNTS: [u64; 3] = [16_385, 70_000, 300_000];
+pub const LONG_COUNTS: [u64; 3] = [16_385, 40_000, 100_000];

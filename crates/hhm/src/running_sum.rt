@@ -1,10 +1,9 @@
 //! The sum of the cells so far: layers, as long as the counts fit 64 bits together.
 //!
-//! A block of cells is sorted, with the counts of equal places added up, and appended to the list of cells that wait
-//! before the layers (`PendingLayers`): such lists in order are merged later on, many at once. Whether the counts still
-//! fit is judged first, so that want of memory never stands for a total that is too large. Once the total has passed
-//! 2^64 - 1 nothing is added any more, and memory is given back: the text is only read to its end, since a fault in it
-//! is told first.
+//! A block of cells is appended to the list of cells that wait before the layers (`PendingLayers`): they are sorted and
+//! added up later on, many at once. Whether the counts still fit is judged first, so that want of memory never stands
+//! for a total that is too large. Once the total has passed 2^64 - 1 nothing is added any more, and memory is given
+//! back: the text is only read to its end, since a fault in it is told first.
 ghost use Rattle.std.specs.Prelude.{◌≡◌, ℕ, ◌+◌, ◌<◌, ◌≤◌, ◌^◌, ◌⊎◌, ◌↔◌, List};
 ghost use Rattle.std.specs.Prelude.{IsTrue, OnErr, IfOk, IfErr, IfNone, IfSome};
 ghost use Rattle.std.specs.FinMap.{empty};
@@ -17,7 +16,7 @@ ghost use Rattle.layer_cascade.specs.Cuts.{AreCuts};
 ghost use Rattle.hhm.specs.Running.{IsSumOf, CanTake, GrowsBy, FitsBehind, IsRefused, ListsSum};
 
 use crate::fault::SumFault;
-use cells::{Cell, checked_total, summed};
+use cells::{Cell, checked_total};
 use layer_cascade::CascadeFault;
 use mm_text::Size;
 use pending_layers::PendingLayers;
@@ -70,8 +69,7 @@ fn with_block(
     requires fits { total layers.counts + cell_total block.now < 2 ^ 64 }
     ensures { IfOk result (λ after. GrowsBy (RunningSum.Fits layers) block.now (RunningSum.Fits after)) }
 {
-    let list = summed(alloc, block)?;
-    let after = layers.add_cells(alloc, &list)?;
+    let after = layers.add_cells(alloc, block)?;
     Ok(after)
 }
 

@@ -12,5 +12,6 @@ pub const MOST_PENDING: u64 = 1 << 21;
 pub const FIRST_DUE: usize = 1 << 16;
 
 /// Where at least one in so many cells of the list went when it was added up, places come again, and it is added up
-/// early from then on: what it holds stays small then, and near the processor.
-pub const SPARED_SHARE: usize = 8;
+/// early from then on: what it holds stays small then, and near the processor. Where fewer go, what is left would be
+/// sorted again and again.
+pub const SPARED_SHARE: usize = 2;

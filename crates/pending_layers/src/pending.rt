@@ -1,9 +1,9 @@
 //! Layers to which cells are only added, and the latest of these in a list.
 //!
 //! Layers of matrices can be asked for a count at any time. Where they are only added to, the small ones needn't be
-//! matrices: lists of cells are put one behind the other, and all are added up once, by a sort that takes over what is
-//! in order already. SuiteSparse:GraphBLAS calls such cells pending tuples. A cell is so appended, sorted once among
-//! many, and put into a matrix once, where a cascade of matrices lists and builds it at each layer.
+//! matrices: lists of cells are put one behind the other, and all are sorted and added up once. SuiteSparse:GraphBLAS
+//! calls such cells pending tuples. A cell is so appended, sorted once among many, and put into a matrix once, where a
+//! cascade of matrices lists and builds it at each layer.
 //!
 //! Where places come again the list is added up early, since it holds few places then. Else it waits until it has as
 //! many cells as there may be, becomes a matrix and goes through the layers. At the end the layers' cells go back into
@@ -19,9 +19,9 @@ ghost use Rattle.layer_cascade.specs.Cascade.{content};
 ghost use Rattle.layer_cascade.specs.Cuts.{AreCuts};
 
 use crate::limits::{FIRST_DUE, LEAST_PENDING, MOST_PENDING, SPARED_SHARE};
-use cells::{Cell, total_of};
+use cells::{Cell, rises, total_of};
 use hyper_matrix::Hyper;
-use layer_cascade::{CascadeFault, Layers, merged};
+use layer_cascade::{CascadeFault, Layers, into_summed, merged};
 use std::alloc::{AllocError, Global};
 use std::marker::Model;
 
@@ -147,10 +147,10 @@ impl PendingLayers {
     /// The same with a list of cells added, in any order and with places that may stand in it more than once. The
     /// caller sees to it that they lie within the dimensions and that all counts together stay below 2^64.
     ///
-    /// The cells are appended to the list, 24 bytes for each. Where that has come to its bound it is added up first, in
-    /// its own memory and as much again, in less time where the lists that were added are in order by row and then by
-    /// column; and where it then has more than half of the cells that may wait, it becomes a matrix, which is added to
-    /// the layers as `Layers::plan` says.
+    /// The cells are appended to the list, 24 bytes for each. Where that has come to its bound it is sorted and added
+    /// up first, in as much memory again, which it doesn't take where it is in order by row and then by column; and
+    /// where it then has more than half of the cells that may wait, it becomes a matrix, which is added to the layers
+    /// as `Layers::plan` says.
     ///
     /// # Errors
     ///
@@ -214,7 +214,7 @@ impl PendingLayers {
         ensures { IfOk result (λ after. after ≡ self) }
     {
         let before = self.pending.len();
-        let mut pending = merged(alloc, self.pending)?;
+        let mut pending = into_summed(alloc, self.pending)?;
         if pending.len() <= self.most / 2 {
             let due = next_due(before, pending.len(), self.most);
             return Ok(PendingLayers {
@@ -251,9 +251,13 @@ impl PendingLayers {
         ensures fits { total self.counts < 2 ^ 64 }
     {
         let layers = self.layers;
-        let mut cells = self.pending;
+        let mut cells = into_summed(alloc, self.pending)?;
         layers.push_cells(&mut cells)?;
         drop(layers);
+        // Where the layers hold nothing there is nothing to merge.
+        if rises(&cells) {
+            return Ok(cells);
+        }
         let list = merged(alloc, cells)?;
         Ok(list)
     }
