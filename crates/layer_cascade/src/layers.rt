@@ -173,7 +173,7 @@ impl Layers {
     /// that the dimensions are equal and that both totals together stay below 2^64.
     ///
     /// Where `m` is put beside the matrices of a layer, that takes the time of a pointer for each of these, at most 32.
-    /// Where all together may pass its cut, their places are counted, and they stay or go on. At most 8 matrices that
+    /// Where all together may pass its cut, their places are counted, and they stay or go on. At most 16 matrices that
     /// may have more than 16,384 entries are counted as they are, but for those of which the places are known
     /// (`gather`): each takes a list of its cells, of 24 bytes for each, and a step for each cell of it and of the
     /// matrices before it. Else they are first added up into one matrix; or all but the first, where it has a third of

@@ -12,13 +12,13 @@ pub const MAX_RUNS: usize = 32;
 
 /// The most matrices that go on as they are where a layer passes its cut with more than `MOST_LISTED` entries. Their
 /// places are counted by walks through all of them.
-pub const KEPT_RUNS: usize = 8;
+pub const KEPT_RUNS: usize = 16;
 
 /// The fewest matrices side by side in layer 1 that `Layers::gather` adds up.
 pub const GATHERED_RUNS: usize = 8;
 
-/// The most entries of two matrices together that `Layers::gather` adds up in a deeper layer: well under a millisecond.
-pub const MOST_PAIRED: u64 = 14_000;
+/// The most entries of two matrices together that `Layers::gather` adds up in a deeper layer: about a millisecond.
+pub const MOST_PAIRED: u64 = 28_000;
 
 /// The most entries of a deeper layer, as its bound tells them, whose places `Layers::gather` counts before the layer
 /// passes its cut.
