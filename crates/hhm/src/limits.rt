@@ -8,7 +8,7 @@ pub const TEXT_LIMITS: TextLimits = TextLimits {
     max_entries: 1 << 40,
 };
 
-/// The most cells of a text's list that are sorted and added to the sum at once.
+/// The most cells of a text's list that are read and added to those that wait at once.
 pub const BLOCK_CELLS: usize = 4_096;
 
 /// The most bytes of a snapshot that the program reads.

@@ -1,9 +1,9 @@
 //! Layers to which cells are only added, and the latest of these in a list.
 //!
 //! Layers of matrices can be asked for a count at any time. Where they are only added to, the small ones needn't be
-//! matrices: lists of cells are put one behind the other, and all are sorted and added up once. SuiteSparse:GraphBLAS
-//! calls such cells pending tuples. A cell is so appended, sorted once among many, and put into a matrix once, where a
-//! cascade of matrices lists and builds it at each layer.
+//! matrices: cells are put one behind the other as they come, and all are sorted and added up once.
+//! SuiteSparse:GraphBLAS calls such cells pending tuples. A cell is so appended, sorted once among many, and put into a
+//! matrix once, where a cascade of matrices lists and builds it at each layer.
 //!
 //! Where places come again the list is added up early, since it holds few places then. Else it waits until it has as
 //! many cells as there may be, becomes a matrix and goes through the layers. At the end the layers' cells go back into
@@ -31,7 +31,7 @@ use std::marker::Model;
 #[derive(Drop)]
 pub struct PendingLayers {
     layers: Layers,
-    // Lists of cells one behind the other, which aren't in the layers.
+    // Cells as they came, which aren't in the layers.
     pending: Vec<Cell>,
     // The counts of the layers and of the list together.
     total: u64,
@@ -238,8 +238,9 @@ impl PendingLayers {
 
     /// All of it as one list of cells, by row and then by column, each place once.
     ///
-    /// The cells of the layers are appended to those that wait, for which room is made once and exactly, and the
-    /// layers' memory is free before the list is added up, in its own memory and as much again.
+    /// Those that wait are put in order first, in as much memory again unless they are. The cells of the layers are
+    /// appended to them, in room that is made once and exactly; then the layers' memory is free, and all are merged, in
+    /// half as much memory again.
     ///
     /// # Errors
     ///
