@@ -13,7 +13,9 @@ unfoldable pub folded : ℕ → ℕ
 folded x = bit_xor x (x / 2 ^ 32)
 
 unfoldable pub hash : Place → ℕ
-hash p = folded (bit_xor (p.0 * 0x9e37_79b9_7f4a_7c15 % 2 ^ 64) p.1) * 0x9fb2_1c65_1e98_df25 % 2 ^ 64
+hash p =
+    folded (bit_xor (p.0 * 0x9e37_79b9_7f4a_7c15 % 2 ^ 64) (p.1 * 0xc2b2_ae3d_27d4_eb4f % 2 ^ 64))
+    * 0x9fb2_1c65_1e98_df25 % 2 ^ 64
 
 unfoldable pub slot : ℕ → ℕ → ℕ
 slot n h = bit_and (h / 2 ^ 32) (n - 1)

@@ -8,9 +8,11 @@ use hyper_matrix::Hyper;
 use std::alloc::{AllocError, Global};
 use std::marker::Model;
 
-// Odd factors, which carry each bit into the upper half of a product: the first tells the rows apart, the second mixes
-// row and column.
+// Odd factors, which carry each bit into the upper half of a product. Columns have one of their own: the places of a
+// full row would otherwise differ by small numbers only, and crowd the same bits.
 const ROW_FACTOR: u64 = 0x9e37_79b9_7f4a_7c15;
+
+const COL_FACTOR: u64 = 0xc2b2_ae3d_27d4_eb4f;
 
 const PLACE_FACTOR: u64 = 0x9fb2_1c65_1e98_df25;
 
@@ -46,7 +48,8 @@ fn folded(x: u64) -> u64
 fn hash(row: u64, col: u64) -> u64
     ensures { result ≡ hash (row, col) }
 {
-    folded(row.wrapping_mul(ROW_FACTOR) ^ col).wrapping_mul(PLACE_FACTOR)
+    let mixed = row.wrapping_mul(ROW_FACTOR) ^ col.wrapping_mul(COL_FACTOR);
+    folded(mixed).wrapping_mul(PLACE_FACTOR)
 }
 
 // Which of n words a place has, by its hash.

