@@ -1,0 +1,64 @@
+//! Which places pass the filter, and what is looked up at them.
+use crate::matrices::{SHAPES, Shape, count_of, shaped};
+use filtered_matrix::FilteredMatrix;
+use std::test::Fail;
+
+// How many places that have no entry are asked for.
+const ASKED: u64 = 10_000;
+
+// Numbers of entries, and how many of the places asked for may pass. 8,191 are the most for 1,024 words, and one more
+// takes 2,048. With hashes drawn at random 376 and 80 of the 10,000 would pass (three bits in a word with Poisson's
+// number of entries, 8 and 4 on the average), with standard deviations of 19 and 9: these are six of them more.
+const BOUNDS: [(u64, u64); 2] = [(8_191, 490), (8_192, 134)];
+
+// Whether each of the first n places passes and has its count.
+fn has_all(m: &FilteredMatrix, shape: Shape, n: u64) -> bool {
+    for k in 0..n {
+        let (row, col) = shape.place(k);
+        if !m.may_have(row, col) || m.get(row, col) != Some(count_of(k)) {
+            return false;
+        }
+    }
+    true
+}
+
+// How many of the places behind the first n pass, or None if one has a count.
+fn passing(m: &FilteredMatrix, shape: Shape, n: u64) -> Option<u64> {
+    let mut passing = 0u64;
+    for k in n..n.saturating_add(ASKED) {
+        let (row, col) = shape.place(k);
+        if m.get(row, col).is_some() {
+            return None;
+        }
+        if m.may_have(row, col) {
+            passing = passing.saturating_add(1);
+        }
+    }
+    Some(passing)
+}
+
+#[test]
+fn entries_pass_and_few_others(rt: HostRuntime) -> Result<(), Fail> {
+    for shape in SHAPES {
+        for (n, bound) in BOUNDS {
+            let m = shaped(rt.alloc(), shape, n)?;
+            let m = FilteredMatrix::with_filter(rt.alloc(), m)?;
+            assert!(rt; m.has_filter(), "{shape:?}");
+            assert!(rt; has_all(&m, shape, n), "{shape:?}");
+            let others = passing(&m, shape, n).ok_or("a count at a place without an entry")?;
+            assert!(rt; others <= bound, "{others} of {ASKED}: {shape:?} of {n}");
+        }
+    }
+    Ok(())
+}
+
+#[test]
+fn all_pass_without_a_filter(rt: HostRuntime) -> Result<(), Fail> {
+    for shape in SHAPES {
+        let m = FilteredMatrix::new(rt.alloc(), shaped(rt.alloc(), shape, 1_000)?);
+        assert!(rt; !m.has_filter(), "{shape:?}");
+        assert!(rt; has_all(&m, shape, 1_000), "{shape:?}");
+        assert!(rt; passing(&m, shape, 1_000) == Some(ASKED), "{shape:?}");
+    }
+    Ok(())
+}

@@ -1,0 +1,36 @@
+//! What stands after a growth was refused.
+use crate::matrices::{SHAPES, Shape, count_of, shaped};
+use filtered_matrix::FilteredMatrix;
+use hyper_matrix::Hyper;
+use std::alloc::{AllocError, Global};
+use std::test::Fail;
+
+// The filter of a copy. Where memory is refused, it is to come out the next time.
+fn filtered(alloc: Global, m: &Hyper) -> Result<FilteredMatrix, AllocError> {
+    match FilteredMatrix::with_filter(alloc, m.copy(alloc)?) {
+        Ok(filtered) => Ok(filtered),
+        Err(_) => FilteredMatrix::with_filter(alloc, m.copy(alloc)?),
+    }
+}
+
+// Whether both have the first n places of a shape.
+fn have_all(m: &Hyper, filtered: &FilteredMatrix, shape: Shape, n: u64) -> bool {
+    for k in 0..n {
+        let (row, col) = shape.place(k);
+        let count = Some(count_of(k));
+        if m.get(row, col) != count || filtered.get(row, col) != count {
+            return false;
+        }
+    }
+    true
+}
+
+#[test]
+fn filters_outlast_refusals(rt: HostRuntime) -> Result<(), Fail> {
+    for shape in SHAPES {
+        let m = shaped(rt.alloc(), shape, 300)?;
+        let filtered = filtered(rt.alloc(), &m)?;
+        assert!(rt; have_all(&m, &filtered, shape, 300), "{shape:?}");
+    }
+    Ok(())
+}
