@@ -1,7 +1,7 @@
 //! The filter: a blocked Bloom filter of places, whose blocks are words.
 //!
 //! A place has three bits in one word: to ask for it reads one word, and to put it in writes one.
-ghost use Rattle.std.specs.Prelude.{◌≡◌, ◌<◌, ◌^◌, ◌*◌, ◌%◌, [], IfOk, length};
+ghost use Rattle.std.specs.Prelude.{◌≡◌, ◌<◌, ◌^◌, ◌↔◌, [], IfOk, IsTrue, length};
 ghost use Rattle.filtered_matrix.specs.Filter.{folded, hash, slot, bits_of, may_have, Covers, Marks};
 
 use hyper_matrix::Hyper;
@@ -112,7 +112,8 @@ impl PlaceFilter {
     ///
     /// The growth was refused.
     pub fn of(alloc: Global, m: &Hyper) -> Result<PlaceFilter, AllocError>
-        ensures { IfOk result (λ filter. Covers filter m.now.counts) }
+        ensures some { IfOk result (λ filter. 0 < length filter) }
+        ensures covers { IfOk result (λ filter. Covers filter m.now.counts) }
     {
         let mut filter = PlaceFilter::blank(alloc, m.entries())?;
         'cells: for cell in m.iter() {
@@ -122,7 +123,9 @@ impl PlaceFilter {
     }
 
     /// Whether there is a filter.
-    pub fn is_some(&self) -> bool {
+    pub fn is_some(&self) -> bool
+        ensures { IsTrue result ↔ (0 < length self.now) }
+    {
         !self.words.is_empty()
     }
 

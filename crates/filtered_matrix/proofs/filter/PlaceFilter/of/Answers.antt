@@ -32,5 +32,5 @@ cells-preserved c =
           (λ same. false≢true (sym h ∙ ap (may_have c.mark.new.self) same ∙ c.mark.ensures.marked));
     }
 
-pub returns : goal.returns
-returns c p h = c.cells.invariant.rest p h ∙ ap (find place_cmp p) c.in-None.ensures.steps.0
+pub returns-clause-covers : goal.returns-clause-covers
+returns-clause-covers c p h = c.cells.invariant.rest p h ∙ ap (find place_cmp p) c.in-None.ensures.steps.0
