@@ -11,6 +11,7 @@ ghost use Rattle.layer_cascade.specs.Cascade.{content, with_first, EndsAt};
 ghost use Rattle.layer_cascade.specs.Shared.{values, all_counts, HaveDims};
 
 use crate::layer::{Layer, Step};
+use crate::limits::FILTERED_AT_ONCE;
 use hyper_matrix::Hyper;
 use std::alloc::{AllocError, Global};
 use std::sync::Arc;
@@ -39,7 +40,7 @@ pub fn cascade_end(
         s.layer ≡ matrix m.now.rows m.now.cols (with_first (all_counts (values layers.now)) m.now.counts s.place)) }
 {
     let copy = m.copy(alloc)?;
-    let mut sum = Layer::of(alloc, copy)?;
+    let mut sum = Layer::of(alloc, copy, FILTERED_AT_ONCE)?;
     'places: for (place, cut) in cuts.iter().enumerate() {
         match layers[place].taking(alloc, sum, *cut)? {
             Step::Ends(layer) => return Ok(CascadeEnd { place, layer }),

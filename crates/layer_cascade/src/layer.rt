@@ -17,12 +17,14 @@ ghost use Rattle.layer_cascade.specs.Runs.{CountsPlaces};
 ghost use Rattle.layer_cascade.specs.Shared.{values, all_counts, HaveDims};
 ghost use Rattle.layer_cascade.specs.Steps.{joined, Takes};
 
+use crate::filters::{bare_run, filtered_to, with_filter_at};
 use crate::limits::{GATHERED_RUNS, KEPT_RUNS, MAX_RUNS, MOST_COUNTED, MOST_LISTED};
 use crate::lists::entries_bound;
 use crate::pairs::{due_pair, kept_in_front, with_pair_added, with_rest_added};
 use crate::runs::{
     added_to_runs, count_in, entries_in, places_to, push_runs, row_counts_in, sum_of_runs,
 };
+use filtered_matrix::FilteredMatrix;
 use hyper_matrix::Hyper;
 use std::alloc::{AllocError, Global};
 use std::marker::Model;
@@ -44,7 +46,7 @@ pub struct Layer {
     // doesn't change.
     counted: usize,
     places: u64,
-    runs: Vec<Arc<Hyper>>,
+    runs: Vec<Arc<FilteredMatrix>>,
 }
 
 impl Model for Layer {
@@ -91,13 +93,14 @@ impl Layer {
         }
     }
 
-    /// The layer of one matrix.
-    pub fn of(alloc: Global, m: Hyper) -> Result<Layer, AllocError>
+    /// The layer of one matrix, which gets a filter where it has from `FEWEST_FILTERED` entries to `most_filtered`.
+    pub fn of(alloc: Global, m: Hyper, most_filtered: u64) -> Result<Layer, AllocError>
         ensures { IfOk result (λ layer. layer ≡ m) }
     {
         let (rows, cols) = m.dims();
         let (total, most) = (m.total(), m.entries());
-        let run = Arc::new(alloc, m)?;
+        let filtered = filtered_to(alloc, m, most_filtered)?;
+        let run = Arc::new(alloc, filtered)?;
         let mut runs = Vec::with_capacity(alloc, 1)?;
         runs.push(run)?;
         Ok(Layer {
@@ -152,7 +155,7 @@ impl Layer {
     }
 
     /// The matrices side by side, whose sum the layer is.
-    pub fn runs(&self) -> &[Arc<Hyper>]
+    pub fn runs(&self) -> &[Arc<FilteredMatrix>]
         ensures sum { self.now.counts ≡ content (all_counts (values result.now)) }
         ensures dims { HaveDims self.now.rows self.now.cols (values result.now) }
     {
@@ -209,7 +212,7 @@ impl Layer {
     }
 
     // The same layer with other runs, whose sum is the same, or with more of them counted.
-    fn with_runs(&self, runs: Vec<Arc<Hyper>>, counted: usize, places: u64) -> Layer
+    fn with_runs(&self, runs: Vec<Arc<FilteredMatrix>>, counted: usize, places: u64) -> Layer
         requires content { content (all_counts (values runs.items)) ≡ self.now.counts }
         requires dims { HaveDims self.now.rows self.now.cols (values runs.items) }
         requires counts { CountsPlaces counted places (values runs.items) }
@@ -295,7 +298,7 @@ impl Layer {
             return Ok(None);
         }
         let sum = self.sum(alloc)?;
-        let layer = Layer::of(alloc, sum)?;
+        let layer = Layer::of(alloc, sum, u64::MAX)?;
         Ok(Some(layer))
     }
 
@@ -310,6 +313,17 @@ impl Layer {
         if place < self.counted {
             return Ok(Some(self.with_runs(runs, 0, 0)));
         }
+        Ok(Some(self.with_runs(runs, self.counted, self.places)))
+    }
+
+    /// The same layer with a filter beside a run that has none and is to have one (`bare_run`). The others are shared.
+    pub fn filtered(&self, alloc: Global) -> Result<Option<Layer>, AllocError>
+        ensures { IfOk result (λ filtered. IfSome filtered (λ layer. layer ≡ self.now)) }
+    {
+        let Some(place) = bare_run(&self.runs) else {
+            return Ok(None);
+        };
+        let runs = with_filter_at(&self.runs, place, alloc)?;
         Ok(Some(self.with_runs(runs, self.counted, self.places)))
     }
 

@@ -8,7 +8,8 @@
 //!
 //! Each layer is shared and never changed in place, so a plan takes over the layers that it leaves by a pointer, and to
 //! commit it is to exchange pointers. A look-up asks each matrix of each layer and puts the answers together; only
-//! `Layers::sum` builds the sum.
+//! `Layers::sum` builds the sum. Most of these matrices have no entry at the place, so beside most stands a filter of
+//! their places, which mostly says so from one word.
 ghost use Rattle.std.specs.Prelude.{◌≡◌, ℕ, ◌+◌, ◌<◌, ◌≤◌, ◌^◌, ◌⊎◌, ◌↔◌, IfOk, OnOk, IfSome, length};
 ghost use Rattle.std.specs.FinMap.{get, len};
 ghost use Rattle.cells.specs.Bounds.{IsDimension, AreWithin};
@@ -23,6 +24,7 @@ ghost use Rattle.layer_cascade.specs.Layering.{IsLayering, no_layers, entries_of
 use crate::addition::{cascade_end, layers_after, push_copies, push_layers};
 use crate::cuts::are_cuts;
 use crate::fault::CascadeFault;
+use crate::filters::bare_run;
 use crate::layer::Layer;
 use crate::lists::{entries_bound, push_cells_of};
 use crate::lookup::plus;
@@ -115,6 +117,18 @@ fn due_layer(layers: &[Arc<Layer>]) -> Option<usize>
     None
 }
 
+// The place, counted from 0, of the first layer behind layer 1 in which a matrix is to get its filter.
+fn bare_layer(layers: &[Arc<Layer>]) -> Option<usize>
+    ensures { IfSome result (λ place. place < length layers.now) }
+{
+    for place in 1..layers.len() {
+        if bare_run(layers[place].runs()).is_some() {
+            return Some(place);
+        }
+    }
+    None
+}
+
 // The place, counted from 0, of the first layer behind layer 1 and before the last in which places are to be counted.
 fn uncounted_layer(layers: &[Arc<Layer>], cuts: &[u64]) -> Option<usize>
     ensures { IfSome result (λ place. place < length layers.now) }
@@ -182,6 +196,9 @@ impl Layers {
     /// of all cells is made, of at most 2^21: it takes 24 bytes for each, and as much again while it is sorted. The
     /// layers above that one aren't read.
     ///
+    /// A filter for look-ups is made of the places of `m` alone, where it has from 256 to 32,768 entries: it takes 1 to
+    /// 2 bytes and some nanoseconds for each. Sums that are built here get theirs by `gather`.
+    ///
     /// # Errors
     ///
     /// A growth was refused.
@@ -218,12 +235,16 @@ impl Layers {
 
     /// Adds up matrices that stand side by side, so that the addition that needs their sum doesn't have all of them to
     /// add up: in layer 1 all, where they are `GATHERED_RUNS` or more, and two neighbours in the first deeper layer
-    /// that has two of like size (`PAIR_RATIO`, `MOST_PAIRED`). Where none has, it counts the places of one matrix more
-    /// in the first deeper layer that may have more than three quarters of its cut, and at most `MOST_COUNTED` entries,
-    /// so that the addition that passes the cut has few to count. What the layers hold stays, also on an error.
+    /// that has two of like size (`PAIR_RATIO`, `MOST_PAIRED`). Each sum of `FEWEST_FILTERED` entries or more gets a
+    /// filter of its places, for look-ups. Where no deeper layer has two to add up, one matrix of so many entries that
+    /// has no filter gets it, in the first deeper layer that has such a matrix. Where none has, it counts the places of
+    /// one matrix more in the first deeper layer that may have more than three quarters of its cut, and at most
+    /// `MOST_COUNTED` entries, so that the addition that passes the cut has few to count. What the layers hold stays,
+    /// also on an error.
     ///
     /// Takes the time and memory of these sums: of at most the first cut of entries where there is one, and of at most
-    /// `MOST_PAIRED`. To count a matrix takes a list of its cells, of 24 bytes for each, and a walk through that list
+    /// `MOST_PAIRED`. A filter takes 1 to 2 bytes and some nanoseconds for each entry of its matrix, which may be the
+    /// largest. To count a matrix takes a list of its cells, of 24 bytes for each, and a walk through that list
     /// and each matrix before it, each of at most `MOST_COUNTED` entries; where it is small beside those, each of its
     /// cells is looked up in each of them instead, without a list.
     ///
@@ -259,13 +280,27 @@ impl Layers {
         Ok(())
     }
 
-    // Adds up two neighbouring matrices of the first deeper layer that has two to add up. Where none has, places are
+    // Makes the filter of one matrix of the first deeper layer that has one to be filtered. Where none has, places are
     // counted.
+    fn filter_deeper(&mut self, alloc: Global) -> Result<(), AllocError>
+        ensures { self.new ≡ self.old }
+    {
+        let Some(place) = bare_layer(&self.layers) else {
+            return self.count_deeper(alloc);
+        };
+        if let Some(layer) = self.layers[place].filtered(alloc)? {
+            self.layers[place] = Arc::new(alloc, layer)?;
+        }
+        Ok(())
+    }
+
+    // Adds up two neighbouring matrices of the first deeper layer that has two to add up. Where none has, a filter is
+    // made.
     fn gather_deeper(&mut self, alloc: Global) -> Result<(), AllocError>
         ensures { self.new ≡ self.old }
     {
         let Some(place) = due_layer(&self.layers) else {
-            return self.count_deeper(alloc);
+            return self.filter_deeper(alloc);
         };
         if let Some(layer) = self.layers[place].paired(alloc)? {
             self.layers[place] = Arc::new(alloc, layer)?;
@@ -363,7 +398,8 @@ impl Layers {
 
 impl Layers {
     /// The count at a place of the sum of all layers, or `None` if no layer has an entry there. Rows and columns count
-    /// from 0; a place out of range has none. No memory, a bisection in each matrix of each layer.
+    /// from 0; a place out of range has none. Takes no memory; a word of the filter of each matrix that has one, and a
+    /// bisection in each that may have the place.
     pub fn get(&self, row: u64, col: u64) -> Option<u64>
         ensures value { result ≡ get (content self.now.layers) (row, col) }
         ensures outside { (self.now.rows ≤ row) ⊎ (self.now.cols ≤ col) → result ≡ None }

@@ -16,6 +16,7 @@
 mod addition;
 mod cuts;
 mod fault;
+mod filters;
 mod laws;
 mod layer;
 mod layers;

@@ -24,6 +24,15 @@ pub const MOST_PAIRED: u64 = 28_000;
 /// passes its cut.
 pub const MOST_COUNTED: u64 = 1 << 17;
 
+/// The fewest entries of a matrix that gets a filter of its places. A bisection in fewer is short, and so small a
+/// matrix is soon added up with others. Only time rests on it.
+pub const FEWEST_FILTERED: u64 = 256;
+
+/// The most entries of a matrix that gets its filter when it is put into the first layer: a filter takes some
+/// nanoseconds for each entry, and the addition waits for it. A matrix with more gets it later, by `Layers::gather`.
+/// Only time rests on it.
+pub const FILTERED_AT_ONCE: u64 = 1 << 15;
+
 /// Two matrices side by side are added up where the earlier one has fewer entries than so many times the later one. So
 /// a cell is written anew with matrices that are not much smaller than its own, and a layer ends with few matrices.
 pub const PAIR_RATIO: u64 = 3;

@@ -8,40 +8,43 @@ ghost use Rattle.hyper_matrix.specs.Counts.{total};
 ghost use Rattle.layer_cascade.specs.Cascade.{content};
 ghost use Rattle.layer_cascade.specs.Shared.{values, all_counts, HaveDims};
 
+use crate::filters::filtered_to;
 use crate::limits::{FEWEST_KEPT, MOST_PAIRED, PAIR_RATIO};
 use crate::lists::entries_bound;
 use crate::runs::{added_to_runs, push_runs, sum_of_runs};
+use filtered_matrix::FilteredMatrix;
 use hyper_matrix::Hyper;
 use std::alloc::{AllocError, Global};
 use std::sync::Arc;
 
-// Whether two neighbours with so many entries are to be added up.
-fn is_due(earlier: u64, later: u64) -> bool {
-    earlier < later.saturating_mul(PAIR_RATIO) && earlier.saturating_add(later) <= MOST_PAIRED
-}
-
 /// The place of the first run that is to be added up with the next one: it has fewer than `PAIR_RATIO` times as many
 /// entries, and together they have at most `MOST_PAIRED`. Only time rests on which it is.
-pub fn due_pair(runs: &[Arc<Hyper>]) -> Option<usize>
+pub fn due_pair(runs: &[Arc<FilteredMatrix>]) -> Option<usize>
     ensures { IfSome result (λ place. place + 1 < length runs.now) }
 {
     for next in 1..runs.len() {
         let place = next - 1;
-        if is_due(runs[place].entries(), runs[next].entries()) {
+        let (earlier, later) = (
+            runs[place].matrix().entries(),
+            runs[next].matrix().entries(),
+        );
+        let is_alike = earlier < later.saturating_mul(PAIR_RATIO);
+        if is_alike && earlier.saturating_add(later) <= MOST_PAIRED {
             return Some(place);
         }
     }
     None
 }
 
-/// The runs with the one at a place and the next added up, in their stead. All others are shared.
+/// The runs with the one at a place and the next added up, in their stead, with a filter where the sum isn't too small
+/// for one. All others are shared.
 pub fn with_pair_added(
-    runs: &[Arc<Hyper>],
+    runs: &[Arc<FilteredMatrix>],
     place: usize,
     alloc: Global,
     rows: u64,
     cols: u64,
-) -> Result<Vec<Arc<Hyper>>, AllocError>
+) -> Result<Vec<Arc<FilteredMatrix>>, AllocError>
     requires place { place + 1 < length runs.now }
     requires rows { IsDimension rows }
     requires cols { IsDimension cols }
@@ -55,9 +58,10 @@ pub fn with_pair_added(
     let (before, from) = runs.split_at(place);
     let (pair, behind) = from.split_at(2);
     let sum = sum_of_runs(pair, alloc, rows, cols)?;
+    let filtered = filtered_to(alloc, sum, u64::MAX)?;
     let mut after = Vec::with_capacity(alloc, runs.len() - 1)?;
     push_runs(&mut after, before)?;
-    let run = Arc::new(alloc, sum)?;
+    let run = Arc::new(alloc, filtered)?;
     after.push(run)?;
     push_runs(&mut after, behind)?;
     Ok(after)
@@ -65,27 +69,28 @@ pub fn with_pair_added(
 
 /// How many runs in front stay as they are where runs are added up: the first, if it has at least a third of what all
 /// others have together and all have more than `FEWEST_KEPT`, and else none. Only time rests on it.
-pub fn kept_in_front(runs: &[Arc<Hyper>]) -> usize
+pub fn kept_in_front(runs: &[Arc<FilteredMatrix>]) -> usize
     ensures { result ≤ length runs.now }
 {
     let Some((first, rest)) = runs.split_first() else {
         return 0;
     };
     let others = entries_bound(rest);
-    if first.entries() < others / 3 || first.entries().saturating_add(others) <= FEWEST_KEPT {
+    let entries = first.matrix().entries();
+    if entries < others / 3 || entries.saturating_add(others) <= FEWEST_KEPT {
         return 0;
     }
     1
 }
 
-/// The first runs, which are shared, and all others added up into one.
+/// The first runs, which are shared, and all others added up into one, without a filter: an addition waits for it.
 pub fn with_rest_added(
-    runs: &[Arc<Hyper>],
+    runs: &[Arc<FilteredMatrix>],
     kept: usize,
     alloc: Global,
     rows: u64,
     cols: u64,
-) -> Result<Vec<Arc<Hyper>>, AllocError>
+) -> Result<Vec<Arc<FilteredMatrix>>, AllocError>
     requires kept { kept ≤ length runs.now }
     requires rows { IsDimension rows }
     requires cols { IsDimension cols }
@@ -100,7 +105,8 @@ pub fn with_rest_added(
     let sum = added_to_runs(alloc, none, rest)?;
     let mut after = Vec::with_capacity(alloc, kept + 1)?;
     push_runs(&mut after, front)?;
-    let run = Arc::new(alloc, sum)?;
+    let bare = FilteredMatrix::new(alloc, sum);
+    let run = Arc::new(alloc, bare)?;
     after.push(run)?;
     Ok(after)
 }

@@ -11,11 +11,12 @@ ghost use Rattle.layer_cascade.specs.Columns.{HasColumns};
 ghost use Rattle.layer_cascade.specs.Shared.{values, all_counts};
 
 use crate::layer::Layer;
+use filtered_matrix::FilteredMatrix;
 use hyper_matrix::Hyper;
 use std::sync::Arc;
 
 // Whether one of these runs has an entry at a place. Behind the first that has one, none is asked.
-fn runs_have(runs: &[Arc<Hyper>], row: u64, col: u64) -> bool
+fn runs_have(runs: &[Arc<FilteredMatrix>], row: u64, col: u64) -> bool
     ensures { result ≡ is_some (get (content (all_counts (values runs.now))) (row, col)) }
 {
     let mut have = false;
@@ -40,7 +41,7 @@ fn layers_have(layers: &[Arc<Layer>], row: u64, col: u64) -> bool
 fn columns_with_run(
     found: u64,
     run: &Hyper,
-    before: &[Arc<Hyper>],
+    before: &[Arc<FilteredMatrix>],
     deeper: &[Arc<Layer>],
     row: u64,
 ) -> u64
@@ -79,7 +80,7 @@ pub fn columns_with_layer(found: u64, layer: &Layer, deeper: &[Arc<Layer>], row:
     let runs = layer.runs();
     let mut columns = found;
     'runs: for (i, run) in runs.iter().enumerate() {
-        columns = columns_with_run(columns, run, &runs[..i], deeper, row);
+        columns = columns_with_run(columns, run.matrix(), &runs[..i], deeper, row);
     }
     columns
 }

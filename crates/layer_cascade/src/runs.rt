@@ -15,12 +15,16 @@ use crate::limits::{MOST_BESIDE, MOST_LISTED, WALKED_RATIO};
 use crate::lists::{entries_bound, sum_by_list};
 use crate::lookup::plus;
 use crate::walk::{keep_new, new_beside};
+use filtered_matrix::FilteredMatrix;
 use hyper_matrix::Hyper;
 use std::alloc::{AllocError, Global};
 use std::sync::Arc;
 
 /// Appends runs that share their matrices with these.
-pub fn push_runs(out: &mut Vec<Arc<Hyper>>, runs: &[Arc<Hyper>]) -> Result<(), AllocError>
+pub fn push_runs(
+    out: &mut Vec<Arc<FilteredMatrix>>,
+    runs: &[Arc<FilteredMatrix>],
+) -> Result<(), AllocError>
     ensures { OnOk result (values out.new.items ≡ values out.old.items ++ values runs.now) }
 {
     'runs: for run in runs {
@@ -30,17 +34,11 @@ pub fn push_runs(out: &mut Vec<Arc<Hyper>>, runs: &[Arc<Hyper>]) -> Result<(), A
     Ok(())
 }
 
-// Whether there are several runs, which together have so few cells that a list of them is sorted in a few passes. Two
-// runs are merged in less time.
-fn are_listed(runs: &[Arc<Hyper>]) -> bool {
-    runs.len() > 2 && entries_bound(runs) <= MOST_LISTED
-}
-
 /// The sum of runs: that of the first half and that of the second, added. So a cell is written as often as the runs can
 /// be halved, and not once for each run. More than two runs that are short together are added up by a list of their
 /// cells.
 pub fn sum_of_runs(
-    runs: &[Arc<Hyper>],
+    runs: &[Arc<FilteredMatrix>],
     alloc: Global,
     rows: u64,
     cols: u64,
@@ -54,10 +52,11 @@ pub fn sum_of_runs(
     match runs {
         [] => Ok(Hyper::new(alloc, rows, cols)),
         [run] => {
-            let only = run.copy(alloc)?;
+            let only = run.matrix().copy(alloc)?;
             Ok(only)
         }
-        _ if are_listed(runs) => {
+        // A list of so few cells is sorted in a few passes. Two runs are merged in less time.
+        _ if runs.len() > 2 && entries_bound(runs) <= MOST_LISTED => {
             let none = Hyper::new(alloc, rows, cols);
             let listed = sum_by_list(alloc, none, runs)?;
             Ok(listed)
@@ -74,7 +73,7 @@ pub fn sum_of_runs(
 
 // Whether a matrix, a run and those behind it are added up by a list of their cells: there are many of them, and the
 // run has no more than those behind it together. Where it has more, it may share blocks with the sum.
-fn are_alike(m: &Hyper, first: &Hyper, rest: &[Arc<Hyper>]) -> bool {
+fn are_alike(m: &Hyper, first: &Hyper, rest: &[Arc<FilteredMatrix>]) -> bool {
     let others = entries_bound(rest);
     let runs = first.entries().saturating_add(others);
     let all = m.entries().saturating_add(runs);
@@ -83,7 +82,11 @@ fn are_alike(m: &Hyper, first: &Hyper, rest: &[Arc<Hyper>]) -> bool {
 
 /// The sum of a matrix and runs. Where the first run is the larger part, all others are added up with the matrix, and
 /// the sum to that run, whose blocks it shares but for those that it touches. Else one list of cells is merged.
-pub fn added_to_runs(alloc: Global, m: Hyper, runs: &[Arc<Hyper>]) -> Result<Hyper, AllocError>
+pub fn added_to_runs(
+    alloc: Global,
+    m: Hyper,
+    runs: &[Arc<FilteredMatrix>],
+) -> Result<Hyper, AllocError>
     requires dims { HaveDims m.rows m.cols (values runs.now) }
     requires fits { total m.counts + total (content (all_counts (values runs.now))) < 2 ^ 64 }
     ensures { IfOk result (λ s. s ≡ record m { counts = ewise_add m.counts (content (all_counts (values runs.now))) }) }
@@ -91,19 +94,19 @@ pub fn added_to_runs(alloc: Global, m: Hyper, runs: &[Arc<Hyper>]) -> Result<Hyp
     let Some((first, rest)) = runs.split_first() else {
         return Ok(m);
     };
-    if are_alike(&m, first, rest) {
+    if are_alike(&m, first.matrix(), rest) {
         let merged = sum_by_list(alloc, m, runs)?;
         return Ok(merged);
     }
     let (rows, cols) = m.dims();
     let others = sum_of_runs(rest, alloc, rows, cols)?;
     let others = m.into_sum(alloc, others)?;
-    let sum = others.ewise_add(alloc, first)?;
+    let sum = others.ewise_add(alloc, first.matrix())?;
     Ok(sum)
 }
 
 /// The count at a place of the runs' sum, or None where no run has an entry.
-pub fn count_in(runs: &[Arc<Hyper>], row: u64, col: u64) -> Option<u64>
+pub fn count_in(runs: &[Arc<FilteredMatrix>], row: u64, col: u64) -> Option<u64>
     requires { total (content (all_counts (values runs.now))) < 2 ^ 64 }
     ensures value { result ≡ get (content (all_counts (values runs.now))) (row, col) }
     ensures outside { (rows : ℕ) (cols : ℕ) → HaveDims rows cols (values runs.now) →
@@ -117,33 +120,36 @@ pub fn count_in(runs: &[Arc<Hyper>], row: u64, col: u64) -> Option<u64>
 }
 
 /// The sum of the counts of a row in all runs.
-pub fn row_counts_in(runs: &[Arc<Hyper>], row: u64) -> u64
+pub fn row_counts_in(runs: &[Arc<FilteredMatrix>], row: u64) -> u64
     requires { total (content (all_counts (values runs.now))) < 2 ^ 64 }
     ensures value { result ≡ total (row_of (content (all_counts (values runs.now))) row) }
     ensures outside { (rows : ℕ) (cols : ℕ) → HaveDims rows cols (values runs.now) → rows ≤ row → result ≡ 0 }
 {
     let mut sum = 0;
     'rows: for run in runs {
-        sum += run.row_total(row).total;
+        sum += run.matrix().row_total(row).total;
     }
     sum
 }
 
 /// How many entries a matrix has at places where none of these runs has one. Beside one run, of which it has no small
 /// part, both are walked through; else each of its cells is looked up in each run.
-pub fn new_entries(before: &[Arc<Hyper>], m: &Hyper) -> u64
+pub fn new_entries(before: &[Arc<FilteredMatrix>], m: &Hyper) -> u64
     requires { total (content (all_counts (values before.now))) < 2 ^ 64 }
     ensures { result ≡ count_new (content (all_counts (values before.now))) (entries m.now.counts) }
 {
     match before {
         [] => m.entries(),
-        [run] if run.entries() / WALKED_RATIO <= m.entries() => new_beside(run, m),
+        [run] if run.matrix().entries() / WALKED_RATIO <= m.entries() => new_beside(
+            run.matrix(),
+            m,
+        ),
         _ => new_by_look_ups(before, m),
     }
 }
 
 // As `new_entries`, where each cell is looked up.
-fn new_by_look_ups(before: &[Arc<Hyper>], m: &Hyper) -> u64
+fn new_by_look_ups(before: &[Arc<FilteredMatrix>], m: &Hyper) -> u64
     requires { total (content (all_counts (values before.now))) < 2 ^ 64 }
     ensures { result ≡ count_new (content (all_counts (values before.now))) (entries m.now.counts) }
 {
@@ -161,7 +167,11 @@ fn new_by_look_ups(before: &[Arc<Hyper>], m: &Hyper) -> u64
 /// matrix's cells, which keeps those that are new: a look-up in each run would take longer.
 ///
 /// The list takes 24 bytes for each cell of the matrix.
-pub fn new_by_walks(alloc: Global, before: &[Arc<Hyper>], m: &Hyper) -> Result<u64, AllocError>
+pub fn new_by_walks(
+    alloc: Global,
+    before: &[Arc<FilteredMatrix>],
+    m: &Hyper,
+) -> Result<u64, AllocError>
     requires { total (content (all_counts (values before.now))) < 2 ^ 64 }
     ensures { IfOk result (λ new. new ≡ count_new (content (all_counts (values before.now))) (entries m.now.counts)) }
 {
@@ -172,7 +182,7 @@ pub fn new_by_walks(alloc: Global, before: &[Arc<Hyper>], m: &Hyper) -> Result<u
     let mut cells = Vec::new(alloc);
     m.push_cells(&mut cells)?;
     'runs: for run in before {
-        let kept = keep_new(&mut cells, run);
+        let kept = keep_new(&mut cells, run.matrix());
         cells.truncate(kept);
     }
     Ok(cells.len() as u64)
@@ -182,7 +192,7 @@ pub fn new_by_walks(alloc: Global, before: &[Arc<Hyper>], m: &Hyper) -> Result<u
 /// together. Takes the time and memory of `new_by_walks` for each run between.
 pub fn places_to(
     alloc: Global,
-    runs: &[Arc<Hyper>],
+    runs: &[Arc<FilteredMatrix>],
     counted: usize,
     places: u64,
     until: usize,
@@ -196,7 +206,7 @@ pub fn places_to(
 {
     let mut places = places;
     'runs: for i in counted..until {
-        places += new_by_walks(alloc, &runs[..i], &runs[i])?;
+        places += new_by_walks(alloc, &runs[..i], runs[i].matrix())?;
     }
     Ok(places)
 }
@@ -204,7 +214,7 @@ pub fn places_to(
 /// The number of entries of the runs' sum, which isn't built: `places`, those of the first `counted` runs together, and
 /// those of each run behind them that no earlier run has. The first run takes constant time, and the second a step for
 /// each cell of both. Each cell of the third and those behind it takes a look-up in each earlier run.
-pub fn entries_in(runs: &[Arc<Hyper>], counted: usize, places: u64) -> u64
+pub fn entries_in(runs: &[Arc<FilteredMatrix>], counted: usize, places: u64) -> u64
     requires counts { CountsPlaces counted places (values runs.now) }
     requires fits { total (content (all_counts (values runs.now))) < 2 ^ 64 }
     requires few { len (content (all_counts (values runs.now))) < 2 ^ 64 }
@@ -212,7 +222,7 @@ pub fn entries_in(runs: &[Arc<Hyper>], counted: usize, places: u64) -> u64
 {
     let mut entries = places;
     'runs: for i in counted..runs.len() {
-        entries += new_entries(&runs[..i], &runs[i]);
+        entries += new_entries(&runs[..i], runs[i].matrix());
     }
     entries
 }

@@ -1,4 +1,4 @@
-use Rattle.std.proofs.Common.{arith}
+use Rattle.std.proofs.Common.{◌∙◌, arith}
 use Rattle.layer_cascade.proofs.RunLemmas.{have_parts, total-parts}
 use Rattle.layer_cascade.proofs.PairLemmas.{content-paired, dims-paired}
 use Rattle.layer_cascade.proofs.pairs.with_pair_added.Goals as goal
@@ -28,7 +28,8 @@ returns-clause-content c =
     c.split_at-2.result.1.now c.split_at.ensures.by_index.0 c.split_at-2.ensures.by_index.0
     c.in_ok-after.after.items c.push_runs.new.out.items c.push.new.self.items c.push_runs-2.new.out.items
     c.in_ok-run.run' c.in_ok-sum.sum c.args.rows c.args.cols c.in_ok-after.ensures.items c.in_ok-push_runs.ensures
-    c.in_ok-push.ensures.items c.in_ok-run.ensures.ok c.in_ok-push_runs-2.ensures c.in_ok-sum.ensures
+    c.in_ok-push.ensures.items (c.in_ok-run.ensures.ok ∙ c.in_ok-filtered.ensures) c.in_ok-push_runs-2.ensures
+    c.in_ok-sum.ensures
 
 pub returns-clause-dims : goal.returns-clause-dims
 returns-clause-dims c =
@@ -36,4 +37,5 @@ returns-clause-dims c =
     c.split_at-2.result.1.now c.split_at.ensures.by_index.0 c.split_at-2.ensures.by_index.0
     c.in_ok-after.after.items c.push_runs.new.out.items c.push.new.self.items c.push_runs-2.new.out.items
     c.in_ok-run.run' c.in_ok-sum.sum c.args.rows c.args.cols c.in_ok-after.ensures.items c.in_ok-push_runs.ensures
-    c.in_ok-push.ensures.items c.in_ok-run.ensures.ok c.in_ok-push_runs-2.ensures c.in_ok-sum.ensures c.requires.dims
+    c.in_ok-push.ensures.items (c.in_ok-run.ensures.ok ∙ c.in_ok-filtered.ensures) c.in_ok-push_runs-2.ensures
+    c.in_ok-sum.ensures c.requires.dims

@@ -30,7 +30,7 @@ returns-clause-content c =
     content-settled c.args.runs.now c.split_at.result.0.now c.split_at.result.1.now c.split_at.ensures.by_index.0
     c.in_ok-after.after.items c.push_runs.new.out.items c.push.new.self.items c.in_ok-run.run' c.in_ok-sum.sum
     c.args.rows c.args.cols c.in_ok-after.ensures.items c.in_ok-push_runs.ensures c.in_ok-push.ensures.items
-    c.in_ok-run.ensures.ok
+    (c.in_ok-run.ensures.ok ∙ c.new-bare.ensures)
     (c.in_ok-sum.ensures ∙ ap (λ (m : Matrix). matrix m.rows m.cols (ewise_add m.counts rest)) c.new-none.ensures
     ∙ ap (matrix c.args.rows c.args.cols) (empty-ewise_add rest))
 
@@ -40,7 +40,7 @@ returns-clause-dims c =
     dims-settled c.args.runs.now c.split_at.result.0.now c.split_at.result.1.now c.split_at.ensures.by_index.0
     c.in_ok-after.after.items c.push_runs.new.out.items c.push.new.self.items c.in_ok-run.run' c.in_ok-sum.sum
     c.args.rows c.args.cols c.in_ok-after.ensures.items c.in_ok-push_runs.ensures c.in_ok-push.ensures.items
-    c.in_ok-run.ensures.ok
+    (c.in_ok-run.ensures.ok ∙ c.new-bare.ensures)
     (c.in_ok-sum.ensures ∙ ap (λ (m : Matrix). matrix m.rows m.cols (ewise_add m.counts rest)) c.new-none.ensures
     ∙ ap (matrix c.args.rows c.args.cols) (empty-ewise_add rest))
     c.requires.dims

@@ -17,8 +17,8 @@ pub columns_with_run-columns-requires : goal.columns_with_run-columns-requires
 columns_with_run-columns-requires c =
     let runs = c.runs-runs.result.now in
     let deeper = content (all_counts (values c.args.deeper.now)) in
-    let dims = layer_dims runs c.runs.i c.index-runs-i.result c.deref.result.now (omega arith) c.index-runs-i.is
-    c.deref.ensures c.args.layer.now.rows c.args.layer.now.cols c.runs-runs.ensures.dims in
+    let dims = layer_dims runs c.runs.i c.index-runs-i.result c.matrix.result.now (omega arith) c.index-runs-i.is
+    (c.matrix.ensures ∙ c.deref.ensures) c.args.layer.now.rows c.args.layer.now.cols c.runs-runs.ensures.dims in
     subst (λ n. HasColumns (ewise_add deeper (content (all_counts (values (take c.runs.i runs))))) n c.args.row
     c.runs.columns) (sym dims.0)
     (subst (λ l. HasColumns (ewise_add deeper (content l)) c.args.layer.now.rows c.args.row c.runs.columns)
@@ -28,17 +28,17 @@ pub runs-preserved : goal.runs-preserved
 runs-preserved c =
     let runs = c.runs-runs.result.now in
     let deeper = content (all_counts (values c.args.deeper.now)) in
-    let here = c.deref.result.now.counts in
-    let dims = layer_dims runs c.runs.i c.index-runs-i.result c.deref.result.now (omega arith) c.index-runs-i.is
-    c.deref.ensures c.args.layer.now.rows c.args.layer.now.cols c.runs-runs.ensures.dims in
+    let here = c.matrix.result.now.counts in
+    let dims = layer_dims runs c.runs.i c.index-runs-i.result c.matrix.result.now (omega arith) c.index-runs-i.is
+    (c.matrix.ensures ∙ c.deref.ensures) c.args.layer.now.rows c.args.layer.now.cols c.runs-runs.ensures.dims in
     let before = content (all_counts (values (take c.runs.i runs))) in
     subst (λ n. HasColumns (ewise_add deeper (content (take (c.runs.i + 1) (all_counts (values runs))))) n c.args.row
     c.columns_with_run-columns.result) dims.0
-    (subst (λ (m : Counts). HasColumns m c.deref.result.now.rows c.args.row c.columns_with_run-columns.result)
+    (subst (λ (m : Counts). HasColumns m c.matrix.result.now.rows c.args.row c.columns_with_run-columns.result)
     (ewise_add_assoc deeper before here ∙ ap (ewise_add deeper)
     (ap (λ l. ewise_add (content l) here) (counts-take c.runs.i runs)
-    ∙ sym (sum_more runs c.runs.i c.index-runs-i.result c.deref.result.now (omega arith) c.index-runs-i.is
-    c.deref.ensures))) c.columns_with_run-columns.ensures)
+    ∙ sym (sum_more runs c.runs.i c.index-runs-i.result c.matrix.result.now (omega arith) c.index-runs-i.is
+    (c.matrix.ensures ∙ c.deref.ensures)))) c.columns_with_run-columns.ensures)
 
 pub returns : goal.returns
 returns c =

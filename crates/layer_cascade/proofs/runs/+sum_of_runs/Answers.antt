@@ -55,8 +55,8 @@ into_sum-requires-clause-fits t c = omega (
 
 pub returns-in_ok-only-in-len1 : goal.returns-in_ok-only-in-len1
 returns-in_ok-only-in-len1 t c =
-    c.in_ok-only-in-len1.ensures ∙ c.deref.ensures ∙ run_alone c.args.runs.now c.run-item.result c.args.rows
-    c.args.cols c.requires.dims
+    c.in_ok-only-in-len1.ensures ∙ c.matrix.ensures ∙ c.deref.ensures
+    ∙ run_alone c.args.runs.now c.run-item.result c.args.rows c.args.cols c.requires.dims
     c.in-len1.len_at_least c.in-len1.len_below c.run-item.is
 
 pub returns-in_ok-whole-in_default-2 : goal.returns-in_ok-whole-in_default-2

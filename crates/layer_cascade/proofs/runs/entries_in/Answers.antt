@@ -1,4 +1,4 @@
-use Rattle.std.proofs.Common.{◌+◌, ap, arith}
+use Rattle.std.proofs.Common.{◌∙◌, ◌+◌, ap, arith}
 use Rattle.hyper_matrix.specs.Counts.{total}
 use Rattle.layer_cascade.specs.Cascade.{content}
 use Rattle.layer_cascade.specs.Shared.{values, all_counts}
@@ -19,8 +19,9 @@ new_entries-entries-requires c = omega (
 )
 
 more : goal.runs-preserved
-more c = places_more c.args.runs.now c.runs.i c.index-runs-i.result c.deref.result.now (omega arith) c.index-runs-i.is
-    c.deref.ensures c.runs.entries c.new_entries-entries.result c.new_entries-entries.ensures c.runs.invariant
+more c = places_more c.args.runs.now c.runs.i c.index-runs-i.result c.matrix.result.now (omega arith) c.index-runs-i.is
+    (c.matrix.ensures ∙ c.deref.ensures) c.runs.entries c.new_entries-entries.result c.new_entries-entries.ensures
+    c.runs.invariant
 
 pub overflow_add-entries : goal.overflow_add-entries
 overflow_add-entries c = record {

@@ -31,7 +31,7 @@ runs-preserved c =
     let runs = c.args.before.now in
     let done = content (take c.runs.run-index (all_counts (values runs))) in
     let all = entries c.args.m.now.counts in
-    let here = c.deref.result.now in
+    let here = c.matrix.result.now in
     let kept : c.truncate.new.self.items ≡ take c.keep_new-kept.result c.keep_new-kept.new.cells =
     grind (arith, common_steps) in
     ap (map entry_of) kept ∙ c.keep_new-kept.ensures.kept
@@ -39,7 +39,7 @@ runs-preserved c =
     ∙ ap (without here.counts) c.runs.invariant
     ∙ sym (without-sum done here.counts all)
     ∙ ap (λ m. without m all) (sym (sum_more runs c.runs.run-index c.run-item.result here (omega arith) c.run-item.is
-    c.deref.ensures))
+    (c.matrix.ensures ∙ c.deref.ensures)))
 
 pub returns : goal.returns
 returns c =

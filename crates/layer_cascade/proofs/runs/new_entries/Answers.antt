@@ -13,5 +13,5 @@ pub returns-in-len1 : goal.returns-in-len1
 returns-in-len1 c =
     c.new_beside.ensures
     ∙ ap (λ b. count_new b (entries c.args.m.now.counts))
-    (ap (λ (m : Matrix). m.counts) c.deref-in-len1.ensures
+    (ap (λ (m : Matrix). m.counts) (c.matrix-in-len1.ensures ∙ c.deref-in-len1.ensures)
     ∙ alone_counts c.args.before.now c.run-item.result c.in-len1.len_at_least c.in-len1.len_below c.run-item.is)

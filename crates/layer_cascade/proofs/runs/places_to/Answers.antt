@@ -1,4 +1,4 @@
-use Rattle.std.proofs.Common.{◌+◌, ap, arith}
+use Rattle.std.proofs.Common.{◌∙◌, ◌+◌, ap, arith}
 use Rattle.hyper_matrix.specs.Counts.{total}
 use Rattle.layer_cascade.specs.Cascade.{content}
 use Rattle.layer_cascade.specs.Shared.{values, all_counts}
@@ -16,9 +16,9 @@ new_by_walks-requires c = omega (
 )
 
 more : goal.runs-preserved
-more c = counts_more c.args.runs.now c.runs.i c.index-runs-i.result c.deref.result.now
-    (omega (arith, c.runs-test.true, c.requires.within)) c.index-runs-i.is c.deref.ensures c.runs.places
-    c.in_ok-places.field-0 c.in_ok-places.ensures c.runs.invariant
+more c = counts_more c.args.runs.now c.runs.i c.index-runs-i.result c.matrix.result.now
+    (omega (arith, c.runs-test.true, c.requires.within)) c.index-runs-i.is (c.matrix.ensures ∙ c.deref.ensures)
+    c.runs.places c.in_ok-places.field-0 c.in_ok-places.ensures c.runs.invariant
 
 pub overflow_add-places : goal.overflow_add-places
 overflow_add-places c = omega (

@@ -20,29 +20,30 @@ overflow_add-sum c =
     omega (
       arith,
       c.requires,
-      more_fits runs c.rows.run-index c.run-item.result c.deref.result.now (omega arith) c.run-item.is c.deref.ensures,
+      more_fits runs c.rows.run-index c.run-item.result c.matrix.result.now (omega arith) c.run-item.is
+          (c.matrix.ensures ∙ c.deref.ensures),
       c.rows.invariant.summed,
       c.row_total-sum.ensures.total,
       row_fits (content (take c.rows.run-index (all_counts (values runs)))) c.args.row,
-      row_fits c.deref.result.now.counts c.args.row,
+      row_fits c.matrix.result.now.counts c.args.row,
     )
 
 pub rows-preserved : goal.rows-preserved
 rows-preserved c =
     let runs = c.args.runs.now in
     let before = content (take c.rows.run-index (all_counts (values runs))) in
-    let here = c.deref.result.now.counts in
+    let here = c.matrix.result.now.counts in
     record {
       summed =
           ap (λ n. n + c.row_total-sum.result.total) c.rows.invariant.summed
           ∙ ap (λ n. total (row_of before c.args.row) + n) c.row_total-sum.ensures.total
           ∙ sym (ap (λ m. total (row_of m c.args.row))
-          (sum_more runs c.rows.run-index c.run-item.result c.deref.result.now (omega arith) c.run-item.is
-          c.deref.ensures) ∙ ap total (row_of-ewise_add before here c.args.row)
+          (sum_more runs c.rows.run-index c.run-item.result c.matrix.result.now (omega arith) c.run-item.is
+          (c.matrix.ensures ∙ c.deref.ensures)) ∙ ap total (row_of-ewise_add before here c.args.row)
           ∙ total-ewise_add (row_of before c.args.row) (row_of here c.args.row));
       outside = λ rows cols have h.
-          let dims = layer_dims runs c.rows.run-index c.run-item.result c.deref.result.now (omega arith)
-          c.run-item.is c.deref.ensures rows cols have in
+          let dims = layer_dims runs c.rows.run-index c.run-item.result c.matrix.result.now (omega arith)
+          c.run-item.is (c.matrix.ensures ∙ c.deref.ensures) rows cols have in
           omega (
             arith,
             c.rows.invariant.outside rows cols have h,
