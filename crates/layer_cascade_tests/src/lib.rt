@@ -8,6 +8,8 @@ mod gathers;
 #[cfg(test)]
 mod layers;
 #[cfg(test)]
+mod look_ups;
+#[cfg(test)]
 mod passing;
 #[cfg(test)]
 mod streams;
