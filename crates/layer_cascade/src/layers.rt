@@ -254,18 +254,10 @@ impl Layers {
     pub fn gather(&mut self, alloc: Global) -> Result<(), AllocError>
         ensures { self.new ≡ self.old }
     {
-        self.gather_first(alloc)?;
-        self.gather_deeper(alloc)
-    }
-
-    // Adds up all matrices of layer 1, where they are `GATHERED_RUNS` or more.
-    fn gather_first(&mut self, alloc: Global) -> Result<(), AllocError>
-        ensures { self.new ≡ self.old }
-    {
         if let Some(layer) = self.layers[0].gathered(alloc)? {
             self.layers[0] = Arc::new(alloc, layer)?;
         }
-        Ok(())
+        self.gather_deeper(alloc)
     }
 
     // Counts the places of one matrix more of the first deeper layer in which they are to be counted.

@@ -71,15 +71,6 @@ pub fn sum_of_runs(
     }
 }
 
-// Whether a matrix, a run and those behind it are added up by a list of their cells: there are many of them, and the
-// run has no more than those behind it together. Where it has more, it may share blocks with the sum.
-fn are_alike(m: &Hyper, first: &Hyper, rest: &[Arc<FilteredMatrix>]) -> bool {
-    let others = entries_bound(rest);
-    let runs = first.entries().saturating_add(others);
-    let all = m.entries().saturating_add(runs);
-    MOST_LISTED < all && all <= MOST_BESIDE && first.entries() <= others
-}
-
 /// The sum of a matrix and runs. Where the first run is the larger part, all others are added up with the matrix, and
 /// the sum to that run, whose blocks it shares but for those that it touches. Else one list of cells is merged.
 pub fn added_to_runs(
@@ -94,14 +85,20 @@ pub fn added_to_runs(
     let Some((first, rest)) = runs.split_first() else {
         return Ok(m);
     };
-    if are_alike(&m, first.matrix(), rest) {
+    let front = first.matrix();
+    let behind = entries_bound(rest);
+    let all = m
+        .entries()
+        .saturating_add(front.entries().saturating_add(behind));
+    // Many are merged in one list. Where the first run has more than those behind it, the sum may share its blocks.
+    if MOST_LISTED < all && all <= MOST_BESIDE && front.entries() <= behind {
         let merged = sum_by_list(alloc, m, runs)?;
         return Ok(merged);
     }
     let (rows, cols) = m.dims();
     let others = sum_of_runs(rest, alloc, rows, cols)?;
     let others = m.into_sum(alloc, others)?;
-    let sum = others.ewise_add(alloc, first.matrix())?;
+    let sum = others.ewise_add(alloc, front)?;
     Ok(sum)
 }
 

@@ -33,12 +33,12 @@ ewise_add-requires-clause-fits c = omega (
   ap (λ (m : Matrix). total m.counts) c.in_ok-others.ensures,
   ap (λ (m : Matrix). total m.counts) c.in_ok-others-2.ensures,
   total-ewise_add c.args.m.counts c.in_ok-others.others.counts,
-  ap (λ (m : Matrix). total m.counts) (c.matrix-2.ensures ∙ c.deref-2.ensures),
+  ap (λ (m : Matrix). total m.counts) (c.matrix-front.ensures ∙ c.deref.ensures),
 )
 
 pub returns : goal.returns
 returns c = first_added c.args.runs.now c.in-Some.rest.now c.in-Some.first.now c.in-Some.ensures.cases.0 c.args.m
-    c.in_ok-others.others c.in_ok-others-2.others c.in_ok-sum.sum c.matrix-2.result.now
+    c.in_ok-others.others c.in_ok-others-2.others c.in_ok-sum.sum c.matrix-front.result.now
     (c.in_ok-others.ensures ∙ ap (λ p. matrix p.0 p.1 (content (all_counts (values c.in-Some.rest.now))))
     c.dims-rows.ensures.value)
-    c.in_ok-others-2.ensures c.in_ok-sum.ensures (c.matrix-2.ensures ∙ c.deref-2.ensures)
+    c.in_ok-others-2.ensures c.in_ok-sum.ensures (c.matrix-front.ensures ∙ c.deref.ensures)
