@@ -55,7 +55,7 @@ pub fn text_length(m: &Hyper) -> Option<u32>
 ///
 /// At an Err `written` counts from the first byte of the text. It takes no memory and time in proportion to the bytes,
 /// and does not flush.
-pub fn write_text<W: Sink>(w: &mut W, m: &Hyper) -> Result<(), WriteFault>
+pub(crate) fn write_text<W: Sink>(w: &mut W, m: &Hyper) -> Result<(), WriteFault>
     requires { W.failure_count w.old + 1 < 2 ^ 64 }
     ensures ok { OnOk result (HasTaken W.write_takes W.failure_count w.old w.new (matrix_text m.now)) }
     ensures err { IfErr result (λ fault.

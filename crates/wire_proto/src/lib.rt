@@ -26,7 +26,6 @@ mod texts;
 
 pub use decoding::{Reply, decode_reply};
 pub use ended::Ended;
-pub use exporting::write_text;
 pub use frames::Frames;
 pub use keeper::{Keeper, SaveRefusal};
 pub use laws::{
