@@ -405,8 +405,8 @@ impl Layers {
 
     /// The entries of a row, counted from 0, of the sum of all layers: how many columns have one, and the sum of their
     /// counts. Zeros for a row out of range. No memory. The first matrix that has the row, from the deepest layer on,
-    /// is counted by itself; in the others each cell of the row takes a bisection, and one in each matrix before until
-    /// one has the column.
+    /// is counted by itself; in the others each cell of the row takes a bisection, and a look-up, as `get` takes it, in
+    /// each matrix before until one has the column.
     pub fn row_total(&self, row: u64) -> RowSum
         ensures entries { result.entries ≡ len (row_of (content self.now.layers) row) }
         ensures total { result.total ≡ total (row_of (content self.now.layers) row) }
