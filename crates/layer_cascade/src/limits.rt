@@ -51,4 +51,4 @@ pub const FEWEST_KEPT: u64 = 2_048;
 
 /// The most entries that an addition adds up by one list of all. The list and the memory of its sort take 24 bytes each
 /// for an entry: some 100 MB.
-pub const MOST_BESIDE: u64 = 1 << 21;
+pub const LONGEST_LIST: u64 = 1 << 21;

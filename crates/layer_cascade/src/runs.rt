@@ -11,7 +11,7 @@ ghost use Rattle.layer_cascade.specs.Cascade.{content};
 ghost use Rattle.layer_cascade.specs.Runs.{count_new, CountsPlaces};
 ghost use Rattle.layer_cascade.specs.Shared.{values, all_counts, HaveDims};
 
-use crate::limits::{MOST_BESIDE, MOST_LISTED, WALKED_RATIO};
+use crate::limits::{LONGEST_LIST, MOST_LISTED, WALKED_RATIO};
 use crate::lists::{entries_bound, sum_by_list};
 use crate::lookup::plus;
 use crate::walk::{keep_new, new_beside};
@@ -91,7 +91,7 @@ pub fn added_to_runs(
         .entries()
         .saturating_add(front.entries().saturating_add(behind));
     // Many are merged in one list. Where the first run has more than those behind it, the sum may share its blocks.
-    if MOST_LISTED < all && all <= MOST_BESIDE && front.entries() <= behind {
+    if MOST_LISTED < all && all <= LONGEST_LIST && front.entries() <= behind {
         let merged = sum_by_list(alloc, m, runs)?;
         return Ok(merged);
     }
