@@ -1,6 +1,6 @@
 //! Tests of the sort of cells and of what is made of it, beside std's sort and plain maps.
 //!
-//! `rt try --test --fail-alloc 1..` refuses each growth in turn.
+//! `rt try --test --fail-alloc N` refuses the growth number N.
 #![tactic(auto)]
 
 #[cfg(test)]

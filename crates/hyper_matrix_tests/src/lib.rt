@@ -1,7 +1,7 @@
 //! Tests of the matrix's public calls: worked rows as tables, and matrices of many blocks beside plain maps.
 //!
 //! The answers of the tables were worked out by hand from GraphBLAS C API 2.0 (`GrB_Matrix_build` and `GrB_eWiseAdd`
-//! with plus, `GrB_reduce`). `rt try --test --fail-alloc 1..` refuses each growth in turn.
+//! with plus, `GrB_reduce`). `rt try --test --fail-alloc N` refuses the growth number N.
 #![tactic(auto)]
 
 #[cfg(test)]
