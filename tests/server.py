@@ -5,7 +5,8 @@
 
 What is wanted was worked out by hand from docs/FORMATS.md. It prints a line for each check that fails and at the end
 `N passed, M failed`; the status is 1 where one fails. With `--long` there are fifty kills during saves, ten thousand
-connections in turn and five hundred at once, and a million puts in one go: a minute or two. A file system that is full
+connections in turn and five hundred at once, a million puts in one go, and a minute of statuses beside all else: some
+minutes. A file system that is full
 is tried where one may be mounted. Linux, and nothing but Python's own library and the client of clients/python.
 """
 import os
@@ -441,6 +442,76 @@ def many_put_at_once():
         server.stop("many at once", 600, sum(sums.values()))
 
 
+def status_waits_for_nobody(seconds):
+    """A status on connections of its own, while puts, exports and saves run: it never goes back, and counts every put that
+    was answered before it was asked, on whatever connection."""
+    snapshot = os.path.join(FOLDER, "watched")
+    words = ["--rows", "1000", "--cols", "1000", "--cuts", "64,4096", "--workers", "6", "--snapshot", snapshot]
+    with Server(words) as server:
+        answered = [0, 0]  # how many batches are known to be accepted, and their total
+        turn = threading.Lock()
+        faults = []
+        longest = [0.0, 0.0]
+        asked = [0, 0]
+        ends = time.monotonic() + seconds
+
+        def until_the_end(call):
+            try:
+                while time.monotonic() < ends:
+                    call()
+            except Exception as fault:  # a thread's fault would be lost
+                faults.append(fault)
+
+        def putter(client, hhm):
+            numbers = iter(range(1 << 40))
+
+            def put():
+                n = next(numbers)
+                kept = hhm.put(n, [((n * 31 + k * 17) % 1000, (k * 7 + client) % 1000, k) for k in range(100)])
+                with turn:
+                    if kept.index + 1 > answered[0]:
+                        answered[:] = kept.index + 1, kept.total_after
+
+            return put
+
+        def watcher(place, hhm):
+            before = [Status(0, 0)]
+
+            def watch():
+                with turn:
+                    least = Status(*answered)
+                start = time.monotonic()
+                now = hhm.status()
+                longest[place] = max(longest[place], time.monotonic() - start)
+                asked[place] += 1
+                if now < least or now.total < least.total:
+                    faults.append(f"{now} after {least} was answered")
+                if now < before[0] or now.total < before[0].total:
+                    faults.append(f"{now} after {before[0]}")
+                before[0] = now
+
+            return watch
+
+        places = [{"tcp": server.tcp}, {"unix": server.path}]
+        clients = [Client(client=n, rows=1000, cols=1000, timeout=WAIT, **places[n % 2]) for n in range(6)]
+        calls = [putter(0, clients[0]), putter(1, clients[1]), clients[2].export, clients[3].save]
+        calls += [watcher(0, clients[4]), watcher(1, clients[5])]
+        threads = [threading.Thread(target=until_the_end, args=(call,)) for call in calls]
+        for thread in threads:
+            thread.start()
+        for thread in threads:
+            thread.join()
+        check("statuses beside puts, exports and saves", faults, [])
+        check("statuses were asked on both", min(asked) > 10, True)
+        check("no status was blocked", max(longest) < 5, True)
+        print(f"the longest of {sum(asked)} statuses took {max(longest) * 1000:.1f} ms")
+        last = clients[4].status()
+        check("all puts are counted at last", (last.batches, last.total), tuple(answered))
+        for hhm in clients:
+            hhm.close()
+        server.stop("watched", *last)
+
+
 def bad_clients_do_no_harm(turns):
     """Garbage, half frames, resets and clients that leave."""
     with Server(SMALL) as server:
@@ -556,6 +627,7 @@ def main():
             for is_freed in [False, True]:
                 saves_need_room(mounted, is_freed)
         many_put_at_once()
+        status_waits_for_nobody(60 if is_long else 4)
         bad_clients_do_no_harm(5000 if is_long else 200)
         connections_come_and_go(*((10_000, 500) if is_long else (300, 200)))
         many_frames_in_one_go(1_000_000 if is_long else 5000)

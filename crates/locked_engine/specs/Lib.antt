@@ -1,3 +1,6 @@
+pub mod Versions
 pub mod Views
 pub mod Opened
 pub mod Moments
+pub mod Histories
+pub mod Told

@@ -1,22 +1,26 @@
 //! Closing: once all seats are given back, the locks are taken away, and the books must agree.
-ghost use Rattle.std.specs.Prelude.{◌≡◌, ◌≢◌, ◌+◌, ◌≤◌, ◌<◌, IfOk, OnOk, [], length, vec_len, vec_capacity};
+ghost use Rattle.std.specs.Prelude.{◌≡◌, ◌≢◌, ◌+◌, ◌≤◌, ◌<◌, IfOk, OnOk, [], List, length, vec_len, vec_capacity};
+ghost use mathlib.Core.List.{IsPrefix};
+ghost use Rattle.batch_store.specs.declared.verdict.Entry.{Entry};
+ghost use Rattle.batch_store.specs.Batches.{entries_of};
 ghost use Rattle.batch_store.specs.Books.{list_total};
 ghost use Rattle.plain_engine.specs.Standing.{HaveSetup, IsWhole, shards_total};
 ghost use Rattle.locked_engine.specs.Opened.{firsts};
+ghost use Rattle.locked_engine.specs.Told.{AreShown};
 
 use crate::engine::Engine;
-use crate::locked_book::LockedBook;
 use crate::locked_shard::LockedShard;
 use crate::names::Named;
 use crate::seat::Seat;
+use crate::version::Version;
 use batch_store::{Book, Shard};
 use plain_engine::{PlainEngine, join_parts};
 use std::alloc::Global;
-use std::sync::Mutex;
 use std::sync::ledger::{Ledger, Share};
+use std::sync::{Mutex, Wait};
 
-/// Why an engine wasn't closed. The faults are judged in this order.
-#[derive(Drop)]
+/// Why an engine wasn't closed. The faults are judged in this order. An engine that is handed back is closed again, or
+/// ended by `Engine::end`: it isn't Drop.
 pub enum CloseFault<N: Named, H: Ledger> {
     /// There aren't as many seats as were made. Nothing was changed.
     SeatsMissing {
@@ -37,16 +41,17 @@ pub enum CloseFault<N: Named, H: Ledger> {
 }
 
 impl<N: Named, H: Ledger> Engine<N, H> {
-    /// The engine of one thread that has accepted what this one has, where all seats are given back. It waits for
-    /// nobody: whoever owns the engine has no thread that uses it. One growth, of a place for each shard; then the
+    /// The engine of one thread that has accepted what this one has, where all seats are given back. It takes out what
+    /// shows readers the status, which waits for those that read; whoever owns the engine and all its seats has no
+    /// thread that does. One growth, of a place for each shard; then the
     /// records are compared with the book, each batch with itself, cell by cell, in each shard that it concerns.
     ///
     /// # Errors
     ///
     /// As `CloseFault` says.
-    pub fn close<R>(
+    pub fn close<R: Wait>(
         self,
-        _rt: &R,
+        rt: &R,
         alloc: Global,
         seats: Vec<Seat<N, H>>,
     ) -> Result<PlainEngine, CloseFault<N, H>>
@@ -63,6 +68,12 @@ impl<N: Named, H: Ledger> Engine<N, H> {
         ensures differ { (shards : _) (book : _) → result ≡ Err (CloseFault.RecordsDiffer shards book) →
             (shards_total shards.items ≡ list_total book.list) × (list_total book.list ≤ N.setup.limit)
             × (firsts seats.items ≡ list_total book.list) }
+
+        // What the seats were shown and the book's entries are beginnings of one version.
+        ensures shown { IfOk result (λ e. (all : List Entry) × AreShown seats.items all
+            × IsPrefix (entries_of e.book.list) all) }
+        ensures shown_apart { (shards : _) (book : _) → result ≡ Err (CloseFault.RecordsDiffer shards book) →
+            (all : List Entry) × AreShown seats.items all × IsPrefix (entries_of book.list) all }
     {
         if seats.len() != self.seats {
             return Err(CloseFault::SeatsMissing {
@@ -83,13 +94,9 @@ impl<N: Named, H: Ledger> Engine<N, H> {
             book,
             shards: locked,
         } = self;
-        let (mut first, mut second) = gather(seats);
+        let (mut first, mut second, seen) = gather(seats);
         unlock_all(locked, &mut shards, &mut second);
-        let LockedBook {
-            book,
-            first: mut first_number,
-            second: mut second_number,
-        } = book.into_inner();
+        let (book, mut first_number, mut second_number, _all) = book.into_inner().end(rt, seen);
         first_number.audit(&mut first);
         second_number.audit(&mut second);
         match join_parts(setup, book, shards) {
@@ -104,26 +111,40 @@ impl<N: Named, H: Ledger> Engine<N, H> {
             }
         }
     }
+
+    /// Takes out what shows readers the status, and drops the rest, the accepted batches too: for an engine that can't
+    /// be closed. It takes no memory. It waits for readers that are reading.
+    pub fn end<R: Wait>(self, rt: &R) {
+        let Engine {
+            setup: _,
+            seats: _,
+            book,
+            shards: _,
+        } = self;
+        book.into_inner().drop_all(rt);
+    }
 }
 
-// The shares of all seats together.
-fn gather<N: Named, H: Ledger>(seats: Vec<Seat<N, H>>) -> (Share<N>, Share<H>)
+// The shares of all seats together, and the most that one of them was shown, which begins with what each was.
+fn gather<N: Named, H: Ledger>(seats: Vec<Seat<N, H>>) -> (Share<N>, Share<H>, Version<N>)
     requires some { 0 < length seats.items }
     ensures parts { (result.0.parts ≡ length seats.items) × (result.1.parts ≡ length seats.items) }
     ensures first { result.0.amount ≡ firsts seats.items }
     ensures balanced { result.1.amount ≡ 0 }
+    ensures shown { AreShown seats.items result.2 }
 {
     let mut seats = seats;
     let Some(seat) = seats.pop() else {
         unreachable!()
     };
-    let (mut first, mut second) = seat.into_shares();
+    let (mut first, mut second, mut seen) = seat.into_parts();
     while let Some(seat) = seats.pop() {
-        let (own, part) = seat.into_shares();
+        let (own, part, shown) = seat.into_parts();
         first.merge(own);
         second.merge(part);
+        seen.learn(&shown);
     }
-    (first, second)
+    (first, second, seen)
 }
 
 // Takes each shard from behind its lock, with its part of the share.

@@ -17,6 +17,7 @@ mod close;
 mod engine;
 mod export;
 mod fault;
+mod history;
 mod locked_book;
 mod locked_shard;
 mod look;
@@ -24,6 +25,7 @@ mod names;
 mod open;
 mod put;
 mod seat;
+mod version;
 
 pub use close::CloseFault;
 pub use engine::Engine;

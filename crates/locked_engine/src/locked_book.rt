@@ -1,32 +1,69 @@
 //! What stands behind the book's lock.
-ghost use Rattle.std.specs.Prelude.{◌≡◌, ◌+◌, ◌≤◌, ◌<◌, [], ◌∷◌, ◌++◌, IfOk, OnOk, OnErr, length};
+ghost use Rattle.std.specs.Prelude.{◌≡◌, ◌+◌, ◌≤◌, ◌<◌, [], ◌∷◌, ◌++◌, IfOk, IfErr, OnOk, OnErr, Ok, Some, length, drop};
+ghost use Rattle.std.specs.Bool.{OnTrue};
+ghost use mathlib.Core.List.{IsPrefix};
 ghost use Rattle.std.specs.Arc.{arc_value};
-ghost use Rattle.batch_store.specs.Batches.{batch_total};
-ghost use Rattle.batch_store.specs.Books.{list_total, verdict_on};
+ghost use Rattle.batch_store.specs.Batches.{batch_total, entry_of as summary_of, entries_of, values};
+ghost use Rattle.batch_store.specs.Books.{AreAccepted, list_total, verdict_on};
 ghost use Rattle.batch_store.specs.Verdicts.{kept};
 ghost use Rattle.batch_store.specs.declared.verdict.Verdict.TheVariants.{Fresh};
+ghost use Rattle.locked_engine.specs.Told.{Answers, IsTold};
+ghost use Rattle.locked_engine.specs.Versions.{IsVersion};
 
 use crate::fault::Unadmitted;
+use crate::history::HistoryWord;
 use crate::names::Named;
+use crate::version::{NextPlace, NextVersion, Version, VersionWriter, entry_of};
 use batch_store::{Batch, Book, Kept, Verdict};
+use crossbeam_utils::rule::Unruled;
+use left_right::Absorb;
 use plain_engine::PutFault;
+use std::alloc::{AllocError, Global};
+use std::marker::Model;
 use std::sync::ledger::{Ledger, Share};
-use std::sync::{Arc, ledger};
+use std::sync::{Arc, Wait, ledger};
 
-/// The book with the numbers of both ledgers, each of which is its total.
-#[derive(Drop)]
-pub struct LockedBook<N: Named, H: Ledger> {
-    pub book: Book,
-    pub first: ledger::Book<N>,
-    pub second: ledger::Book<H>,
-    pub ghost setup_is: { book.setup ≡ N.setup },
-    pub ghost first_is: { first.total ≡ list_total book.list },
-    pub ghost second_is: { second.total ≡ list_total book.list },
+/// The book with the numbers of both ledgers, each of which is its total, beside what shows its entries to readers, who
+/// are shown no others.
+///
+/// Contracts see the book. It isn't Drop, since the writer isn't: `end` takes that out.
+pub struct LockedBook<N: Named, H: Ledger>
+where
+    Version<N>: Absorb<NextVersion<N>, State = ()>,
+{
+    book: Book,
+    first: ledger::Book<N>,
+    second: ledger::Book<H>,
+    word: HistoryWord<N>,
+    version: Version<N>,
+    // Readers are shown the book's entries, and nothing that was offered is kept back. None only while it is lent to a
+    // call.
+    writer: Option<VersionWriter<N>>,
+}
+
+impl<N: Named, H: Ledger> Model for LockedBook<N, H>
+where
+    Version<N>: Absorb<NextVersion<N>, State = ()>,
+{
+    ghost use Rattle.std.specs.Prelude.{◌≡◌, [], drop, IfSome};
+    ghost use Rattle.batch_store.specs.Batches.{entries_of};
+    ghost use Rattle.batch_store.specs.Books.{Register, coded_register, list_total};
+
+    ghost Value = { Register };
+
+    ghost coded = { coded_register };
+
+    ghost view = { λ d. d.book };
+
+    ghost invariant = { λ d. (d.book.setup ≡ N.setup) × (d.first.total ≡ list_total d.book.list)
+        × (d.second.total ≡ list_total d.book.list) × (d.version ≡ entries_of d.book.list)
+        × IfSome d.writer (λ w. (w.desk.shown.value ≡ entries_of d.book.list) × (drop w.behind w.log.items ≡ [])) };
 }
 
 /// Err where the verdict isn't a fresh one.
 pub fn fresh(verdict: Verdict) -> Result<(), Unadmitted>
-    ensures { OnOk result (verdict ≡ Fresh) }
+    ensures fresh { OnOk result (verdict ≡ Fresh) }
+    ensures told { IfErr result (λ u. Answers verdict u.answer) }
 {
     let answer = match verdict {
         Verdict::Fresh => return Ok(()),
@@ -38,39 +75,258 @@ pub fn fresh(verdict: Verdict) -> Result<(), Unadmitted>
     Err(Unadmitted { answer })
 }
 
-impl<N: Named, H: Ledger> LockedBook<N, H> {
+// Puts the writer into its place.
+fn put_back<N: Named, R: Wait>(
+    rt: &R,
+    place: &mut Option<VersionWriter<N>>,
+    writer: VersionWriter<N>,
+)
+where
+    Version<N>: Absorb<NextVersion<N>, State = ()>,
+    ensures { place.new ≡ Some writer }
+{
+    if let Some(other) = place.replace(writer) {
+        other.take(rt);
+    }
+}
+
+// Whether readers are shown this, and nothing that was offered is kept back from them.
+fn is_shown<N: Named>(writer: &VersionWriter<N>, version: &Version<N>) -> bool
+where
+    Version<N>: Absorb<NextVersion<N>, State = ()>,
+    ensures published { OnTrue result (writer.now.desk.shown.value ≡ version.now) }
+    ensures pending { OnTrue result (drop writer.now.behind writer.now.log.items ≡ []) }
+{
+    if writer.has_pending_operations() {
+        return false;
+    }
+    writer.published().is(version)
+}
+
+// Shows readers what was offered, which is this. One turn is enough, since to take in what was offered can't fail.
+fn publish<N: Named, R: Wait>(
+    rt: &R,
+    writer: VersionWriter<N>,
+    version: &Version<N>,
+) -> VersionWriter<N>
+where
+    Version<N>: Absorb<NextVersion<N>, State = ()>,
+    ensures published { result.desk.shown.value ≡ version.now }
+    ensures pending { drop result.behind result.log.items ≡ [] }
+{
+    let (mut writer, _) = writer.publish_as::<Unruled, R>(rt);
+    'turns: for _ in rt.forever() {
+        if is_shown(&writer, version) {
+            break;
+        }
+        let (next, _) = writer.publish_as::<Unruled, R>(rt);
+        writer = next;
+    }
+    writer
+}
+
+impl<N: Named, H: Ledger> LockedBook<N, H>
+where
+    Version<N>: Absorb<NextVersion<N>, State = ()>,
+{
+    /// A book whose entries are published.
+    pub fn make(
+        book: Book,
+        first: ledger::Book<N>,
+        second: ledger::Book<H>,
+        word: HistoryWord<N>,
+        version: Version<N>,
+        writer: VersionWriter<N>,
+    ) -> LockedBook<N, H>
+        requires setup { book.setup ≡ N.setup }
+        requires first { first.total ≡ list_total book.list }
+        requires second { second.total ≡ list_total book.list }
+        requires version { version ≡ entries_of book.list }
+        requires published { writer.desk.shown.value ≡ entries_of book.list }
+        requires pending { drop writer.behind writer.log.items ≡ [] }
+        ensures { result ≡ book }
+    {
+        LockedBook {
+            book,
+            first,
+            second,
+            word,
+            version,
+            writer: Some(writer),
+        }
+    }
+
+    /// Takes the writer out, once no reader has a place any more, and gives what else there is. What another has seen
+    /// and the book's entries both begin the version that is handed out.
+    pub fn end<R: Wait>(
+        self,
+        rt: &R,
+        seen: Version<N>,
+    ) -> (Book, ledger::Book<N>, ledger::Book<H>, Version<N>)
+        ensures book { result.0 ≡ self }
+        ensures setup { result.0.setup ≡ N.setup }
+        ensures first { result.1.total ≡ list_total result.0.list }
+        ensures second { result.2.total ≡ list_total result.0.list }
+        ensures shown { IsPrefix seen result.3 }
+        ensures accepted { IsPrefix (entries_of result.0.list) result.3 }
+    {
+        let LockedBook {
+            book,
+            first,
+            second,
+            word: _,
+            version,
+            writer,
+        } = self;
+        if let Some(writer) = writer {
+            writer.take(rt);
+        }
+        let mut all = seen;
+        all.learn(&version);
+        (book, first, second, all)
+    }
+
+    /// Takes the writer out, and drops the rest.
+    pub fn drop_all<R: Wait>(self, rt: &R) {
+        let seen = self.version.again();
+        let _ = self.end(rt, seen);
+    }
+
+    /// Shows a seat the book's entries. False where the seat was shown more.
+    pub fn show(&self, seen: &mut Version<N>) -> bool
+        ensures later { IsPrefix seen.old seen.new }
+        ensures shown { OnTrue result (seen.new ≡ entries_of self.now.list) }
+        ensures legal { IsVersion N.setup (entries_of self.now.list) }
+    {
+        if seen.status().batches > self.version.status().batches {
+            return false;
+        }
+        seen.learn(&self.version);
+        true
+    }
+
+    /// Shows a seat the book's entries, and judges a batch by them. Err where it isn't fresh.
+    pub fn judge(&self, seen: &mut Version<N>, b: &Batch) -> Result<(), Unadmitted>
+        ensures later { IsPrefix seen.old seen.new }
+        ensures shown { OnOk result (seen.new ≡ entries_of self.now.list) }
+        ensures fresh { OnOk result (verdict_on self.now b.now ≡ Fresh) }
+        ensures told { IfErr result (λ u. IsTold N.setup (summary_of b.now) seen.new u.answer) }
+    {
+        if !self.show(seen) {
+            return Err(Unadmitted::records_differ());
+        }
+        fresh(self.book.look(b))
+    }
+
+    /// The book's batches in order. The seat is shown their entries.
+    ///
+    /// # Errors
+    ///
+    /// A growth was refused, or the seat was shown more.
+    pub fn list(&self, alloc: Global, seen: &mut Version<N>) -> Result<Vec<Arc<Batch>>, AllocError>
+        ensures later { IsPrefix seen.old seen.new }
+        ensures list { IfOk result (λ list. AreAccepted N.setup (values list.items)) }
+        ensures shown { IfOk result (λ list. entries_of (values list.items) ≡ seen.new) }
+    {
+        if !self.show(seen) {
+            return Err(AllocError);
+        }
+        self.book.list(alloc)
+    }
+
     /// Accepts a fresh batch, and deposits its total in both ledgers: in the first for good, in the second until the
-    /// shards have it. The verdict and a free place come first; what comes after them can't fail.
-    pub fn admit(
+    /// shards have it. The verdict and a free place come first, which is a growth only where the book's room is used up;
+    /// what comes after them can't fail. Readers and the seat are shown the entry before the lock is given back.
+    pub fn admit<R: Wait>(
         &mut self,
+        rt: &R,
         first: &mut Share<N>,
         second: &mut Share<H>,
+        seen: &mut Version<N>,
+        place: NextPlace<N>,
         b: Arc<Batch>,
     ) -> Result<Kept, Unadmitted>
         requires rows { (arc_value b).matrix.rows ≡ N.setup.rows }
         requires cols { (arc_value b).matrix.cols ≡ N.setup.cols }
         requires parts { (first.old.parts ≡ 1) × (second.old.parts ≡ 1) }
-        ensures fresh { OnOk result (verdict_on self.old.book (arc_value b) ≡ Fresh) }
-        ensures list { OnOk result (self.new.book.list ≡ self.old.book.list ++ arc_value b ∷ []) }
+        ensures fresh { OnOk result (verdict_on self.old (arc_value b) ≡ Fresh) }
+        ensures list { OnOk result (self.new.list ≡ self.old.list ++ arc_value b ∷ []) }
         ensures kept { IfOk result (λ r. r ≡
-            kept (length self.old.book.list) (list_total self.old.book.list + batch_total (arc_value b))) }
-        ensures refused { OnErr result (self.new.book.list ≡ self.old.book.list) }
+            kept (length self.old.list) (list_total self.old.list + batch_total (arc_value b))) }
+        ensures refused { OnErr result (self.new.list ≡ self.old.list) }
         ensures parts { (first.new.parts ≡ 1) × (second.new.parts ≡ 1) }
         ensures first { OnOk result (first.new.amount ≡ first.old.amount + batch_total (arc_value b)) }
         ensures second { OnOk result (second.new.amount ≡ second.old.amount + batch_total (arc_value b)) }
         ensures first_kept { OnErr result (first.new.amount ≡ first.old.amount) }
         ensures second_kept { OnErr result (second.new.amount ≡ second.old.amount) }
+        ensures later { IsPrefix seen.old seen.new }
+        ensures ok { IfOk result (λ k. IsTold N.setup (summary_of (arc_value b)) seen.new (Ok k)) }
+        ensures err { IfErr result (λ u. IsTold N.setup (summary_of (arc_value b)) seen.new u.answer) }
     {
-        fresh(self.book.look(&b))?;
+        self.judge(seen, &b)?;
+        self.admit_fresh(rt, first, second, seen, place, b)
+    }
+
+    // Accepts a batch that is fresh, where the seat was shown all before it. Should the history be longer than the book,
+    // to which nothing leads, an empty place is published, which shows nothing new.
+    fn admit_fresh<R: Wait>(
+        &mut self,
+        rt: &R,
+        first: &mut Share<N>,
+        second: &mut Share<H>,
+        seen: &mut Version<N>,
+        place: NextPlace<N>,
+        b: Arc<Batch>,
+    ) -> Result<Kept, Unadmitted>
+        requires rows { (arc_value b).matrix.rows ≡ N.setup.rows }
+        requires cols { (arc_value b).matrix.cols ≡ N.setup.cols }
+        requires parts { (first.old.parts ≡ 1) × (second.old.parts ≡ 1) }
+        requires shown { seen.old ≡ entries_of self.old.list }
+        requires fresh { verdict_on self.old (arc_value b) ≡ Fresh }
+        ensures list { OnOk result (self.new.list ≡ self.old.list ++ arc_value b ∷ []) }
+        ensures kept { IfOk result (λ r. r ≡
+            kept (length self.old.list) (list_total self.old.list + batch_total (arc_value b))) }
+        ensures refused { OnErr result (self.new.list ≡ self.old.list) }
+        ensures parts { (first.new.parts ≡ 1) × (second.new.parts ≡ 1) }
+        ensures first { OnOk result (first.new.amount ≡ first.old.amount + batch_total (arc_value b)) }
+        ensures second { OnOk result (second.new.amount ≡ second.old.amount + batch_total (arc_value b)) }
+        ensures first_kept { OnErr result (first.new.amount ≡ first.old.amount) }
+        ensures second_kept { OnErr result (second.new.amount ≡ second.old.amount) }
+        ensures seen { OnOk result (seen.new ≡ entries_of self.new.list) }
+        ensures seen_kept { OnErr result (seen.new ≡ seen.old) }
+        ensures err { IfErr result (λ u. IsTold N.setup (summary_of (arc_value b)) seen.new u.answer) }
+    {
         self.book.reserve(&b)?;
+        let NextPlace { offered, own } = place;
+        let Some(mut writer) = self.writer.take() else {
+            return Err(Unadmitted::memory());
+        };
+        if writer.append(offered).is_err() {
+            put_back(rt, &mut self.writer, writer);
+            return Err(Unadmitted::memory());
+        }
+        let Ok(next) = self.version.again().append(&self.word, entry_of(&b)) else {
+            let writer = publish(rt, writer, &self.version);
+            put_back(rt, &mut self.writer, writer);
+            return Err(Unadmitted::records_differ());
+        };
+        let _ = own.try_set(next.again());
+        *seen = next.again();
         let total = b.total;
         let LockedBook {
             book,
             first: one,
             second: two,
+            word: _,
+            version,
+            writer: held,
         } = self;
         one.add(first, total);
         two.add(second, total);
-        Ok(book.admit(b))
+        *version = next;
+        let kept = book.admit(b);
+        let writer = publish(rt, writer, version);
+        put_back(rt, held, writer);
+        Ok(kept)
     }
 }

@@ -1,13 +1,14 @@
 //! What one shard answers under its lock, and what the book does.
-ghost use Rattle.std.specs.Prelude.{◌≡◌, ◌⊎◌, ◌<◌, ◌≤◌, ◌%◌, None, Some, IfOk, IfSome, List};
+ghost use Rattle.std.specs.Prelude.{◌≡◌, ◌⊎◌, ◌<◌, ◌≤◌, ◌%◌, None, Some, IfOk, IfSome};
 ghost use Rattle.std.specs.Fn.{FnOnceReturnsAt};
 ghost use Rattle.std.specs.FinMap.{get};
 ghost use Rattle.layer_cascade.specs.Cascade.{content};
-ghost use Rattle.batch_store.specs.Batches.{Submission, values};
+ghost use mathlib.Core.List.{IsPrefix};
+ghost use Rattle.batch_store.specs.Batches.{entries_of, values};
 ghost use Rattle.batch_store.specs.Books.{AreAccepted};
 ghost use Rattle.batch_store.specs.Shards.{Holding};
-ghost use Rattle.plain_engine.specs.Object.{status_of};
 ghost use Rattle.locked_engine.specs.Moments.{IsShardOf, no_sum, row_sum_in};
+ghost use Rattle.locked_engine.specs.Versions.{IsVersion, version_status};
 
 use crate::engine::Engine;
 use crate::names::Named;
@@ -17,7 +18,7 @@ use hyper_matrix::RowSum;
 use plain_engine::Status;
 use std::alloc::{AllocError, Global};
 use std::sync::ledger::Ledger;
-use std::sync::{Arc, Wait};
+use std::sync::{Arc, MutexGuard, Wait};
 
 // What a row without entries sums to.
 const NO_SUM: RowSum = RowSum {
@@ -77,32 +78,39 @@ impl<N: Named, H: Ledger> Engine<N, H> {
     }
 
     /// The accepted batches in order, in a list that shares them, as the book has them under its lock: one growth, and
-    /// no copy of a batch.
+    /// no copy of a batch. The seat is shown their entries.
     ///
     /// # Errors
     ///
-    /// The growth was refused.
+    /// The growth was refused, or the seat was shown more than the book has, to which puts alone never lead.
     pub fn batch_list<R: Wait>(
         &self,
         rt: &R,
         alloc: Global,
-        _seat: &mut Seat<N, H>,
+        seat: &mut Seat<N, H>,
     ) -> Result<Vec<Arc<Batch>>, AllocError>
-        ensures seat { _seat.new ≡ _seat.old }
+        ensures number { seat.new.number ≡ seat.old.number }
+        ensures first { seat.new.first ≡ seat.old.first }
+        ensures later { IsPrefix seat.old.seen seat.new.seen }
         ensures list { IfOk result (λ list. AreAccepted N.setup (values list.items)) }
+        ensures shown { IfOk result (λ list. entries_of (values list.items) ≡ seat.new.seen) }
     {
-        self.book.lock(rt).book.list(alloc)
+        let locked = self.book.lock(rt);
+        let list = locked.list(alloc, &mut seat.seen);
+        let _ = MutexGuard::unlock(locked);
+        list
     }
 
-    /// How many batches were accepted, and their total, as the book has it under its lock. Constant time, no memory.
-    pub fn status<R: Wait>(&self, rt: &R, _seat: &mut Seat<N, H>) -> Status
-        ensures seat { _seat.new ≡ _seat.old }
-        ensures status { (list : List Submission) × AreAccepted N.setup list × (result ≡ status_of list) }
+    /// How many batches were accepted, and their total, as they were published last. It waits for nobody, at no lock,
+    /// takes constant time and no memory. The seat is shown the
+    /// version that they are the status of, and what it was shown before begins that.
+    pub fn status(&self, seat: &mut Seat<N, H>) -> Status
+        ensures number { seat.new.number ≡ seat.old.number }
+        ensures first { seat.new.first ≡ seat.old.first }
+        ensures later { IsPrefix seat.old.seen seat.new.seen }
+        ensures status { result ≡ version_status seat.new.seen }
+        ensures legal { IsVersion N.setup seat.new.seen }
     {
-        let guard = self.book.lock(rt);
-        Status {
-            batches: guard.book.len(),
-            total: guard.book.total(),
-        }
+        seat.look()
     }
 }

@@ -1,43 +1,60 @@
 //! What an engine is named by.
-ghost use Rattle.std.specs.Prelude.{◌≡◌, ℕ, ◌+◌, ◌≤◌, ◌<◌, IfOk, ◌↔◌, []};
+ghost use Rattle.std.specs.Prelude.{◌≡◌, ℕ, ◌+◌, ◌≤◌, ◌<◌, IfOk, ◌↔◌, [], List};
 ghost use Rattle.batch_store.specs.Setups.{Setting, setting};
+ghost use Rattle.locked_engine.specs.Versions.{IsVersion, version_status};
 
 use crate::fault::OpenFault;
+use crate::history::NewHistory;
+use crate::version::Version;
 use batch_store::Setup;
-use plain_engine::PlainEngine;
+use plain_engine::{PlainEngine, Status};
 use std::alloc::Global;
 use std::marker::{Brand, Model};
 use std::sync::ledger::{Blank, Ledger};
 
-/// Which engine it is: the first of its two ledgers, its setup and its number of seats. It has no functions: what it
-/// names exists in proofs alone.
+/// Which engine it is: the first of its two ledgers, its setup and its number of seats, the entries with which it was
+/// opened, and the history of those that it accepts from then on. It has no functions: what it names exists in proofs
+/// alone.
 ///
 /// Whoever opens an engine takes `Brand` for it, and for the second ledger, and tells in the call's proof which names
 /// are meant. A function over an engine takes them as type parameters.
 pub trait Named: Ledger {
+    ghost use Rattle.logbook.specs.Pages.{Book};
+    ghost use Rattle.batch_store.specs.declared.verdict.Entry.{Entry};
+
     ghost setup: { Setting };
 
     ghost seats: { ℕ };
+
+    ghost history: { Book };
+
+    ghost opened: { List Entry };
 }
 
 impl Named for Brand {
     ghost setup = { setting 1 1 [] 1 1 1 };
 
     ghost seats = { 1 };
+
+    ghost history = { record { number = 0; log_name = 0; cells_name = 0 } };
+
+    ghost opened = { [] };
 }
 
 /// The most seats.
 const MOST_SEATS: usize = 32;
 
-/// What an engine is named by: its setup, its number of seats, and two ledgers that aren't open yet.
+/// What an engine is named by: its setup, its number of seats, two ledgers that aren't open yet, and a history without
+/// entries.
 ///
-/// Contracts see the setup, the number of seats and the names of both ledgers.
+/// Contracts see the setup, the number of seats, and the names of both ledgers and of the history.
 #[derive(Drop)]
 pub struct Names {
     setup: Setup,
     seats: usize,
     first: Blank,
     second: Blank,
+    history: NewHistory,
 }
 
 impl Model for Names {
@@ -48,7 +65,13 @@ impl Model for Names {
 
     ghost coded = { coded_names };
 
-    ghost view = { λ n. record { setup = n.setup; seats = n.seats; first = n.first.name; second = n.second.name } };
+    ghost view = { λ n. record {
+      setup = n.setup;
+      seats = n.seats;
+      first = n.first.name;
+      second = n.second.name;
+      history = n.history.seen.book;
+    } };
 
     ghost invariant = { λ n. (1 ≤ n.seats) × (n.seats ≤ 32) × (n.first.parts ≡ n.seats)
         × (n.second.parts ≡ n.setup.shards + n.seats) };
@@ -80,6 +103,7 @@ impl Names {
             seats,
             first: Blank::new(seats as u64),
             second: Blank::new(setup.shards() + seats as u64),
+            history: NewHistory::new(),
         })
     }
 
@@ -91,17 +115,29 @@ impl Names {
         self.seats
     }
 
-    // The ledgers, which aren't open yet.
-    pub(crate) fn into_blanks(self) -> (Blank, Blank)
+    // What a seat is shown first: the entries with which the engine is opened.
+    pub(crate) fn version<N: Named>(&self, status: Status) -> Version<N>
+        requires history { self.now.history ≡ N.history }
+        requires status { status ≡ version_status N.opened }
+        requires legal { IsVersion N.setup N.opened }
+        ensures { result ≡ N.opened }
+    {
+        Version::begin(&self.history, status)
+    }
+
+    // The ledgers, which aren't open yet, and the history.
+    pub(crate) fn into_parts(self) -> (Blank, Blank, NewHistory)
         ensures first { (result.0.name ≡ self.first) × (result.0.parts ≡ self.seats) }
         ensures second { (result.1.name ≡ self.second) × (result.1.parts ≡ self.setup.shards + self.seats) }
+        ensures history { result.2.seen.book ≡ self.history }
     {
         let Names {
             setup: _,
             seats: _,
             first,
             second,
+            history,
         } = self;
-        (first, second)
+        (first, second, history)
     }
 }

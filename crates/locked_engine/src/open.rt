@@ -1,14 +1,17 @@
 //! Opening: an engine of one thread becomes one of several, with its seats.
 ghost use Rattle.std.specs.Prelude.{◌≡◌, ◌+◌, ◌≤◌, ◌<◌, IfOk, IfErr, [], vec_len, vec_capacity};
+ghost use Rattle.batch_store.specs.Batches.{entries_of};
 ghost use Rattle.batch_store.specs.Books.{list_total};
 ghost use Rattle.plain_engine.specs.Standing.{HaveSetup, shards_total};
 ghost use Rattle.locked_engine.specs.Opened.{opened_seats, NamesEngine};
 
 use crate::engine::Engine;
+use crate::history::HistoryWord;
 use crate::locked_book::LockedBook;
 use crate::locked_shard::LockedShard;
 use crate::names::{Named, Names};
 use crate::seat::Seat;
+use crate::version::{Version, VersionFactory, VersionWriter};
 use batch_store::Shard;
 use plain_engine::PlainEngine;
 use std::alloc::{AllocError, Global};
@@ -17,10 +20,11 @@ use std::sync::ledger::{Ledger, Share};
 
 impl<N: Named, H: Ledger> Engine<N, H> {
     /// The engine of several threads that has accepted what `plain` has, and its seats, in order of their numbers. The
-    /// first seat's share starts with all that was accepted, the others' with nothing. Two growths, of a place for each
-    /// shard and each seat.
+    /// first seat's share starts with all that was accepted, the others' with nothing. It grows a place for each shard
+    /// and each seat, and what shows readers the status.
     ///
-    /// N and H name `names`, which were made from `plain`: whoever calls with `Brand` for both picks them so.
+    /// N and H name `names`, which were made from `plain`, and N the entries of the batches of `plain`: whoever calls
+    /// with `Brand` for both picks them so. Each seat is shown these entries.
     ///
     /// # Errors
     ///
@@ -30,9 +34,11 @@ impl<N: Named, H: Ledger> Engine<N, H> {
         plain: PlainEngine,
         names: Names,
     ) -> Result<(Engine<N, H>, Vec<Seat<N, H>>), (PlainEngine, Names, AllocError)>
-        requires named { NamesEngine names N.setup N.seats N.name N.parts H.name H.parts }
+        requires named { NamesEngine names N.setup N.seats N.history N.name N.parts H.name H.parts }
         requires made_from { plain.setup ≡ names.setup }
-        ensures seats { IfOk result (λ r. r.1.items ≡ opened_seats (list_total plain.book.list) N.seats) }
+        requires opened { entries_of plain.book.list ≡ N.opened }
+        ensures seats { IfOk result (λ r. r.1.items ≡
+            opened_seats (entries_of plain.book.list) (list_total plain.book.list) N.seats) }
         ensures err { IfErr result (λ r. (r.0 ≡ plain) × (r.1 ≡ names)) }
     {
         let mut seats = Vec::new(alloc);
@@ -42,24 +48,33 @@ impl<N: Named, H: Ledger> Engine<N, H> {
         if seats.reserve(count).is_err() || shards.reserve(k).is_err() {
             return Err((plain, names, AllocError));
         }
+        let version: Version<N> = names.version(plain.status());
+        let Ok(writer) = VersionWriter::new(alloc, version.again(), version.again(), count) else {
+            return Err((plain, names, AllocError));
+        };
         let (setup, book, list) = plain.parts();
-        let (first, second) = names.into_blanks();
+        let (first, second, history) = names.into_parts();
+        let word: HistoryWord<N> = HistoryWord::named(history);
         let (mut first_number, mut first) = first.open::<N>();
         let (mut second_number, mut second) = second.open::<H>();
         let total = book.total();
         first_number.add(&mut first, total);
         second_number.add(&mut second, total);
         lock_all::<N, H>(list, &mut shards, &mut second);
-        make_seats::<N, H>(count, total, &mut seats, &mut first, &mut second);
-        let book = Mutex::new(LockedBook {
-            book,
-            first: first_number,
-            second: second_number,
-        });
+        make_seats::<N, H>(
+            count,
+            total,
+            &mut seats,
+            &mut first,
+            &mut second,
+            &version,
+            writer.factory(),
+        );
+        let locked = LockedBook::make(book, first_number, second_number, word, version, writer);
         let engine = Engine {
             setup,
             seats: count,
-            book,
+            book: Mutex::new(locked),
             shards,
         };
         Ok((engine, seats))
@@ -86,24 +101,28 @@ fn lock_all<N: Named, H: Ledger>(
     }
 }
 
-// Gives a part of both shares to each of the seats, and the first share's amount to the first.
+// Gives a part of both shares to each of the seats, and the first share's amount to the first. Each was shown this, and
+// has a place for a reader, where that is to be had.
 fn make_seats<N: Named, H: Ledger>(
     count: usize,
     total: u64,
     seats: &mut Vec<Seat<N, H>>,
     first: &mut Share<N>,
     second: &mut Share<H>,
+    version: &Version<N>,
+    readers: &VersionFactory<N>,
 )
     requires empty { seats.old.items ≡ [] }
     requires room { count ≤ vec_capacity seats.old }
     requires some { 0 < count }
     requires parts { (first.old.parts ≡ count) × (second.old.parts ≡ count) }
     requires amounts { (first.old.amount ≡ total) × (second.old.amount ≡ 0) }
-    ensures { seats.new.items ≡ opened_seats total count }
+    ensures { seats.new.items ≡ opened_seats version.now total count }
 {
     'seats: for i in 0..count {
         let own = first.split_off(1, if i == 0 { total } else { 0 });
         let part = second.split_off(1, 0);
-        seats.push_reserved(Seat::make(i, own, part));
+        let reader = readers.reader().ok();
+        seats.push_reserved(Seat::make(i, own, part, version.again(), reader));
     }
 }

@@ -1,22 +1,24 @@
 //! Putting a batch.
-ghost use Rattle.std.specs.Prelude.{◌≡◌, ◌⊎◌, ◌+◌, ◌≤◌, ◌<◌, OnOk, OnErr};
+ghost use Rattle.std.specs.Prelude.{◌≡◌, ◌⊎◌, ◌+◌, ◌≤◌, ◌<◌, OnOk, OnErr, IfOk, IfErr, Ok};
+ghost use mathlib.Core.List.{IsPrefix};
 ghost use Rattle.std.specs.Arc.{arc_value};
-ghost use Rattle.batch_store.specs.Batches.{batch_total};
+ghost use Rattle.batch_store.specs.Batches.{batch_total, entry_of};
 ghost use Rattle.batch_store.specs.Cuts.{shares_below};
 ghost use Rattle.batch_store.specs.Parts.{below};
+ghost use Rattle.locked_engine.specs.Told.{IsTold};
 
 use crate::engine::Engine;
 use crate::fault::Unadmitted;
-use crate::locked_book::fresh;
 use crate::locked_shard::Trouble;
 use crate::names::Named;
 use crate::seat::Seat;
+use crate::version::{NextPlace, Version};
 use batch_store::{Batch, Kept};
 use hyper_matrix::Hyper;
 use plain_engine::PutFault;
 use std::alloc::Global;
 use std::sync::ledger::{Ledger, Share};
-use std::sync::{Arc, Wait};
+use std::sync::{Arc, MutexGuard, Wait};
 
 impl<N: Named, H: Ledger> Engine<N, H> {
     /// Puts a batch of the setup's dimensions. It may wait for other threads at each lock.
@@ -29,8 +31,11 @@ impl<N: Named, H: Ledger> Engine<N, H> {
     /// back, one of these shards, another at each put, may be locked once more, to add up or count some of what stands
     /// side by side in its layers (`Shard::gather`).
     ///
-    /// A first acceptance raises the seat's first share by the batch's total. After every other answer the seat is as
+    /// A first acceptance raises the seat's first share by the batch's total. After every other answer that share is as
     /// before, and so are, as far as this call goes, every shard and the book, but for free places.
+    ///
+    /// Each time the book's lock is taken the seat is shown the book's entries. The answer follows from what it was
+    /// shown last, in which an accepted batch's entry stands (specs/Told.antt).
     ///
     /// # Errors
     ///
@@ -50,28 +55,80 @@ impl<N: Named, H: Ledger> Engine<N, H> {
         ensures ok { OnOk result ((seat.new.first ≡ seat.old.first + batch_total (arc_value b))
             ⊎ (seat.new.first ≡ seat.old.first)) }
         ensures err { OnErr result (seat.new.first ≡ seat.old.first) }
+        ensures later { IsPrefix seat.old.seen seat.new.seen }
+        ensures told { IsTold N.setup (entry_of (arc_value b)) seat.new.seen result }
     {
-        match self.put_shares(rt, alloc, &mut seat.first, &mut seat.second, &b) {
+        match self.put_shares(
+            rt,
+            alloc,
+            &mut seat.first,
+            &mut seat.second,
+            &mut seat.seen,
+            &b,
+        ) {
             Ok(kept) => Ok(kept),
             Err(told) => told.answer,
         }
     }
 
-    // What the book says of a batch now. Err where it isn't fresh.
-    fn ask<R: Wait>(&self, rt: &R, b: &Batch) -> Result<(), Unadmitted> {
-        fresh(self.book.lock(rt).book.look(b))
+    // Shows the seat what the book has now, and judges a batch by it. Err where it isn't fresh.
+    fn ask<R: Wait>(&self, rt: &R, seen: &mut Version<N>, b: &Batch) -> Result<(), Unadmitted>
+        ensures later { IsPrefix seen.old seen.new }
+        ensures told { IfErr result (λ u. IsTold N.setup (entry_of b.now) seen.new u.answer) }
+    {
+        let locked = self.book.lock(rt);
+        let answer = locked.judge(seen, b);
+        let _ = MutexGuard::unlock(locked);
+        answer
     }
 
     // What a batch is answered that a shard can't take. Another put may have brought the book to refuse it meanwhile.
-    fn told<R: Wait>(&self, rt: &R, b: &Batch, trouble: Trouble) -> Unadmitted {
+    fn told<R: Wait>(
+        &self,
+        rt: &R,
+        seen: &mut Version<N>,
+        b: &Batch,
+        trouble: Trouble,
+    ) -> Unadmitted
+        ensures later { IsPrefix seen.old seen.new }
+        ensures told { IsTold N.setup (entry_of b.now) seen.new result.answer }
+    {
         match trouble {
             Trouble::Memory => Unadmitted::memory(),
             Trouble::Elsewhere => Unadmitted::records_differ(),
-            Trouble::Refused => match self.ask(rt, b) {
+            Trouble::Refused => match self.ask(rt, seen, b) {
                 Ok(()) => Unadmitted::records_differ(),
                 Err(told) => told,
             },
         }
+    }
+
+    // Has the book accept a batch, under its lock.
+    fn admit<R: Wait>(
+        &self,
+        rt: &R,
+        first: &mut Share<N>,
+        second: &mut Share<H>,
+        seen: &mut Version<N>,
+        place: NextPlace<N>,
+        b: Arc<Batch>,
+    ) -> Result<Kept, Unadmitted>
+        requires rows { (arc_value b).matrix.rows ≡ N.setup.rows }
+        requires cols { (arc_value b).matrix.cols ≡ N.setup.cols }
+        requires parts { (first.old.parts ≡ 1) × (second.old.parts ≡ 1) }
+        ensures parts { (first.new.parts ≡ 1) × (second.new.parts ≡ 1) }
+        ensures first { OnOk result (first.new.amount ≡ first.old.amount + batch_total (arc_value b)) }
+        ensures second { OnOk result (second.new.amount ≡ second.old.amount + batch_total (arc_value b)) }
+        ensures first_kept { OnErr result (first.new.amount ≡ first.old.amount) }
+        ensures second_kept { OnErr result (second.new.amount ≡ second.old.amount) }
+        ensures later { IsPrefix seen.old seen.new }
+        ensures ok { IfOk result (λ k. IsTold N.setup (entry_of (arc_value b)) seen.new (Ok k)) }
+        ensures err { IfErr result (λ u. IsTold N.setup (entry_of (arc_value b)) seen.new u.answer) }
+    {
+        let mut locked = self.book.lock(rt);
+        let answer = locked.admit(rt, first, second, seen, place, b);
+        let _ = MutexGuard::unlock(locked);
+        answer
     }
 
     // Puts a batch from a seat that has these shares. Ok is a first acceptance.
@@ -81,6 +138,7 @@ impl<N: Named, H: Ledger> Engine<N, H> {
         alloc: Global,
         first: &mut Share<N>,
         second: &mut Share<H>,
+        seen: &mut Version<N>,
         b: &Arc<Batch>,
     ) -> Result<Kept, Unadmitted>
         requires rows { (arc_value b.now).matrix.rows ≡ N.setup.rows }
@@ -91,12 +149,16 @@ impl<N: Named, H: Ledger> Engine<N, H> {
         ensures balanced { second.new.amount ≡ 0 }
         ensures first { OnOk result (first.new.amount ≡ first.old.amount + batch_total (arc_value b.now)) }
         ensures first_kept { OnErr result (first.new.amount ≡ first.old.amount) }
+        ensures later { IsPrefix seen.old seen.new }
+        ensures ok { IfOk result (λ k. IsTold N.setup (entry_of (arc_value b.now)) seen.new (Ok k)) }
+        ensures err { IfErr result (λ u. IsTold N.setup (entry_of (arc_value b.now)) seen.new u.answer) }
     {
-        self.ask(rt, b)?;
+        self.ask(rt, seen, b)?;
         let shares = b.shares(alloc, self.setup.shards())?;
+        let place = NextPlace::make(alloc)?;
         // The batch lives on behind this call, so no lock is held while its cells are given back.
         let own = Arc::try_clone(b)?;
-        let kept = self.put_from(rt, alloc, first, second, own, &shares, 0)?;
+        let kept = self.put_from(rt, alloc, first, second, seen, place, own, &shares, 0)?;
         let due = kept.index % self.setup.shards();
         if let Some(Some(_)) = shares.get(due as usize) {
             self.gather(rt, alloc, due);
@@ -124,6 +186,8 @@ impl<N: Named, H: Ledger> Engine<N, H> {
         alloc: Global,
         first: &mut Share<N>,
         second: &mut Share<H>,
+        seen: &mut Version<N>,
+        place: NextPlace<N>,
         b: Arc<Batch>,
         shares: &[Option<Hyper>],
         s: u64,
@@ -139,20 +203,23 @@ impl<N: Named, H: Ledger> Engine<N, H> {
         ensures second { OnOk result (second.new.amount ≡ below s N.setup.shards (arc_value b).matrix.counts) }
         ensures first_kept { OnErr result (first.new.amount ≡ first.old.amount) }
         ensures second_kept { OnErr result (second.new.amount ≡ 0) }
+        ensures later { IsPrefix seen.old seen.new }
+        ensures ok { IfOk result (λ k. IsTold N.setup (entry_of (arc_value b)) seen.new (Ok k)) }
+        ensures err { IfErr result (λ u. IsTold N.setup (entry_of (arc_value b)) seen.new u.answer) }
     {
         if s == self.setup.shards() {
-            return self.book.lock(rt).admit(first, second, b);
+            return self.admit(rt, first, second, seen, place, b);
         }
         let Some(share) = &shares[s as usize] else {
-            return self.put_from(rt, alloc, first, second, b, shares, s + 1);
+            return self.put_from(rt, alloc, first, second, seen, place, b, shares, s + 1);
         };
         let mut guard = self.shards[s as usize].lock(rt);
         let locked = &mut *guard;
         let prepared = match locked.prepare(alloc, s, &b, share) {
             Ok(prepared) => prepared,
-            Err(trouble) => return Err(self.told(rt, &b, trouble)),
+            Err(trouble) => return Err(self.told(rt, seen, &b, trouble)),
         };
-        let kept = self.put_from(rt, alloc, first, second, b, shares, s + 1)?;
+        let kept = self.put_from(rt, alloc, first, second, seen, place, b, shares, s + 1)?;
         locked.deliver(prepared, second);
         Ok(kept)
     }

@@ -1,19 +1,28 @@
 //! The places from which batches are put.
 ghost use Rattle.std.specs.Prelude.{◌≡◌, ◌≤◌};
+ghost use mathlib.Core.List.{IsPrefix};
+ghost use Rattle.locked_engine.specs.Versions.{IsVersion, version_status};
 
 use crate::names::Named;
+use crate::version::{Version, VersionReader};
+use crossbeam_utils::rule::Unruled;
+use plain_engine::Status;
 use std::marker::Model;
 use std::sync::ledger::{Ledger, Share};
 
 /// A place from which one thread at a time puts batches.
 ///
-/// Contracts see its number and its share of the first ledger: the total of the batches that its puts were the first to
-/// have accepted. A seat is always balanced: what it has admitted it has delivered to the shards.
+/// Contracts see its number, its share of the first ledger, which is the total of the batches that its puts were the
+/// first to have accepted, and the version that it was shown last, of entries of accepted batches. A seat is always balanced: what it has admitted it has
+/// delivered to the shards.
 #[derive(Drop)]
 pub struct Seat<N: Named, H: Ledger> {
     number: usize,
     pub(crate) first: Share<N>,
     pub(crate) second: Share<H>,
+    pub(crate) seen: Version<N>,
+    // None where no place for a reader was to be had, and while it reads.
+    reader: Option<VersionReader<N>>,
 }
 
 impl<N: Named, H: Ledger> Model for Seat<N, H> {
@@ -24,7 +33,7 @@ impl<N: Named, H: Ledger> Model for Seat<N, H> {
 
     ghost coded = { coded_seat };
 
-    ghost view = { λ s. seat_view s.number s.first.amount };
+    ghost view = { λ s. seat_view s.number s.first.amount s.seen };
 
     ghost invariant = { λ s. (s.first.parts ≡ 1) × (s.second.parts ≡ 1) × (s.second.amount ≡ 0) };
 }
@@ -37,33 +46,66 @@ impl<N: Named, H: Ledger> Seat<N, H> {
         self.number
     }
 
-    // A balanced seat.
-    pub(crate) fn make(number: usize, first: Share<N>, second: Share<H>) -> Seat<N, H>
+    // A balanced seat that was shown this.
+    pub(crate) fn make(
+        number: usize,
+        first: Share<N>,
+        second: Share<H>,
+        seen: Version<N>,
+        reader: Option<VersionReader<N>>,
+    ) -> Seat<N, H>
         requires one_first { first.parts ≡ 1 }
         requires one_second { second.parts ≡ 1 }
         requires balanced { second.amount ≡ 0 }
         ensures number { result.number ≡ number }
         ensures first { result.first ≡ first.amount }
+        ensures seen { result.seen ≡ seen }
     {
         Seat {
             number,
             first,
             second,
+            seen,
+            reader,
         }
     }
 
-    // Its shares, as each seat has them.
-    pub(crate) fn into_shares(self) -> (Share<N>, Share<H>)
+    // The status of what was shown, after a look at what is published, where the writer is there.
+    pub(crate) fn look(&mut self) -> Status
+        ensures number { self.new.number ≡ self.old.number }
+        ensures first { self.new.first ≡ self.old.first }
+        ensures later { IsPrefix self.old.seen self.new.seen }
+        ensures status { result ≡ version_status self.new.seen }
+        ensures legal { IsVersion N.setup self.new.seen }
+    {
+        if let Some(reader) = self.reader.take() {
+            match reader.enter_as::<Unruled>() {
+                Ok(reading) => {
+                    let now = reading.get().again();
+                    self.reader = Some(reading.leave());
+                    self.seen.learn(&now);
+                }
+                Err(reader) => self.reader = Some(reader),
+            }
+        }
+        self.seen.status()
+    }
+
+    // Its shares, as each seat has them, and what it was shown. Its place for a reader is given back.
+    pub(crate) fn into_parts(self) -> (Share<N>, Share<H>, Version<N>)
         ensures one_first { result.0.parts ≡ 1 }
         ensures one_second { result.1.parts ≡ 1 }
         ensures first { result.0.amount ≡ self.first }
         ensures balanced { result.1.amount ≡ 0 }
+        ensures seen { result.2 ≡ self.seen }
     {
         let Seat {
             number: _,
             first,
             second,
+            seen,
+            reader: _,
         } = self;
-        (first, second)
+        (first, second, seen)
     }
 }

@@ -2,6 +2,7 @@
 //! others look, export and ask for the status. Afterwards a plain model of the accepted list says what each answer,
 //! each record and the sum must be.
 ghost use Rattle.std.specs.Prelude.{◌≡◌, ◌<◌};
+ghost use Rattle.batch_store.specs.Batches.{entries_of};
 ghost use Rattle.locked_engine.specs.Opened.{NamesEngine};
 
 use crate::opened::{Answer, closed, opened, put, unopened};
@@ -198,7 +199,7 @@ fn read_once<N: Named, H: Ledger, R: Wait>(
     let exported = exported_total(rt, alloc, engine)?;
     let s = reader.batches % engine.setup().shards();
     let held = engine.look(rt, s, |shard| (shard.number(), shard.total()));
-    let status = engine.status(rt, &mut reader.seat);
+    let status = engine.status(&mut reader.seat);
     let count = listed_count(rt, alloc, engine, &mut reader.seat)?;
     let grows = reader.total <= exported && reader.batches <= status.batches;
     let fits = match held {
@@ -640,11 +641,18 @@ fn put_at_once<N: Named + Send + Sync, H: Ledger + Send + Sync, R: Threads + Wai
     plain: PlainEngine,
     names: Names,
 ) -> Result<(), Fail>
-    requires named { NamesEngine names N.setup N.seats N.name N.parts H.name H.parts }
+    requires named { NamesEngine names N.setup N.seats N.history N.name N.parts H.name H.parts }
     requires made_from { plain.setup ≡ names.setup }
+    requires opened { entries_of plain.book.list ≡ N.opened }
 {
     let (engine, seats) = opened::<N, H>(alloc, plain, names)?;
-    let (seats, lines) = put_from_all(rt, alloc, &engine, seats)?;
+    let (seats, lines) = match put_from_all(rt, alloc, &engine, seats) {
+        Ok(put) => put,
+        Err(fault) => {
+            engine.end(rt);
+            return Err(fault.into());
+        }
+    };
     let closed = closed(rt, alloc, engine, seats)?;
     agree(rt, alloc, &closed, &lines)
 }

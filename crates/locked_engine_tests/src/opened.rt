@@ -1,11 +1,12 @@
 //! Engines that are opened and closed, and what is put from their seats.
 ghost use Rattle.std.specs.Prelude.{◌≡◌, IfOk};
 ghost use Rattle.std.specs.Arc.{arc_value};
+ghost use Rattle.batch_store.specs.Batches.{entries_of};
 ghost use Rattle.locked_engine.specs.Opened.{NamesEngine};
 
 use crate::batches::{Cells, batch};
 use batch_store::{Batch, Setup};
-use locked_engine::{Engine, Named, Names, OpenFault, PutFault, Seat};
+use locked_engine::{CloseFault, Engine, Named, Names, OpenFault, PutFault, Seat};
 use plain_engine::PlainEngine;
 use std::alloc::{AllocError, Global};
 use std::process::Abort;
@@ -43,8 +44,9 @@ pub fn opened<N: Named, H: Ledger>(
     plain: PlainEngine,
     names: Names,
 ) -> Result<(Engine<N, H>, Vec<Seat<N, H>>), Fail>
-    requires named { NamesEngine names N.setup N.seats N.name N.parts H.name H.parts }
+    requires named { NamesEngine names N.setup N.seats N.history N.name N.parts H.name H.parts }
     requires made_from { plain.setup ≡ names.setup }
+    requires opened { entries_of plain.book.list ≡ N.opened }
 {
     match Engine::<N, H>::open(alloc, plain, names) {
         Ok(opened) => Ok(opened),
@@ -53,7 +55,7 @@ pub fn opened<N: Named, H: Ledger>(
 }
 
 /// The engine of one thread again, with all seats given back.
-pub fn closed<N: Named, H: Ledger, R>(
+pub fn closed<N: Named, H: Ledger, R: Wait>(
     rt: &R,
     alloc: Global,
     engine: Engine<N, H>,
@@ -61,8 +63,18 @@ pub fn closed<N: Named, H: Ledger, R>(
 ) -> Result<PlainEngine, Fail> {
     match engine.close(rt, alloc, seats) {
         Ok(closed) => Ok(closed),
-        Err(_) => Err("close".into()),
+        Err(fault) => Err(not_closed(rt, fault)),
     }
+}
+
+/// Ends what wasn't closed.
+pub fn not_closed<N: Named, H: Ledger, R: Wait>(rt: &R, fault: CloseFault<N, H>) -> Fail {
+    match fault {
+        CloseFault::SeatsMissing { engine, seats: _ } => engine.end(rt),
+        CloseFault::Memory { engine, seats: _ } => engine.end(rt),
+        CloseFault::RecordsDiffer { shards: _, book: _ } => (),
+    }
+    "close".into()
 }
 
 /// The first of these seats.

@@ -1,5 +1,6 @@
 //! Puts from one seat are answered as an engine of one thread answers them.
 ghost use Rattle.std.specs.Prelude.{◌≡◌};
+ghost use Rattle.batch_store.specs.Batches.{entries_of};
 ghost use Rattle.locked_engine.specs.Opened.{NamesEngine};
 
 use crate::expected::{expect_closed, expect_count, expect_status};
@@ -93,11 +94,15 @@ fn put_case<N: Named, H: Ledger, R: Wait + Abort>(
     names: Names,
     case: Case,
 ) -> Result<(), Fail>
-    requires named { NamesEngine names N.setup N.seats N.name N.parts H.name H.parts }
+    requires named { NamesEngine names N.setup N.seats N.history N.name N.parts H.name H.parts }
     requires made_from { plain.setup ≡ names.setup }
+    requires opened { entries_of plain.book.list ≡ N.opened }
 {
     let (engine, mut seats) = opened::<N, H>(alloc, plain, names)?;
-    put_steps(rt, alloc, &engine, &mut seats, &case)?;
+    if let Err(fail) = put_steps(rt, alloc, &engine, &mut seats, &case) {
+        engine.end(rt);
+        return Err(fail);
+    }
     let closed = closed(rt, alloc, engine, seats)?;
     expect_closed(rt, &closed, case.accepted, &case.shards);
     Ok(())

@@ -1,11 +1,12 @@
 //! Growths that are refused. `rt try --test --fail-alloc N` refuses the Nth growth of each test, for some N one of the
 //! calls below: after a refusal all is as it was, and the same call made again succeeds.
 ghost use Rattle.std.specs.Prelude.{◌≡◌};
+ghost use Rattle.batch_store.specs.Batches.{entries_of};
 ghost use Rattle.locked_engine.specs.Opened.{NamesEngine};
 
 use crate::batches::{Cells, small_setup};
 use crate::expected::{expect_closed, expect_counts, expect_status, has_cells};
-use crate::opened::{Answer, closed, first_seat, opened, put, unopened};
+use crate::opened::{Answer, closed, first_seat, not_closed, opened, put, unopened};
 use locked_engine::{CloseFault, Engine, Named, Names, PutFault, Seat};
 use plain_engine::PlainEngine;
 use std::alloc::{AllocError, Global};
@@ -24,7 +25,7 @@ fn is_empty<N: Named, H: Ledger, R: Wait>(
     engine: &Engine<N, H>,
     seat: &mut Seat<N, H>,
 ) -> bool {
-    let status = engine.status(rt, seat);
+    let status = engine.status(seat);
     let sums = (engine.row(rt, 0).entries, engine.row(rt, 1).entries);
     (status.batches, status.total) == (0, 0) && sums == (0, 0)
 }
@@ -78,8 +79,9 @@ fn opened_at_last<N: Named, H: Ledger>(
     plain: PlainEngine,
     names: Names,
 ) -> Result<(Engine<N, H>, Vec<Seat<N, H>>), Fail>
-    requires named { NamesEngine names N.setup N.seats N.name N.parts H.name H.parts }
+    requires named { NamesEngine names N.setup N.seats N.history N.name N.parts H.name H.parts }
     requires made_from { plain.setup ≡ names.setup }
+    requires opened { entries_of plain.book.list ≡ N.opened }
 {
     match Engine::<N, H>::open(alloc, plain, names) {
         Ok(opened) => Ok(opened),
@@ -88,7 +90,7 @@ fn opened_at_last<N: Named, H: Ledger>(
 }
 
 // The engine of one thread; it is closed again where memory was refused, with what was handed back.
-fn closed_at_last<N: Named, H: Ledger, R>(
+fn closed_at_last<N: Named, H: Ledger, R: Wait>(
     rt: &R,
     alloc: Global,
     engine: Engine<N, H>,
@@ -97,7 +99,7 @@ fn closed_at_last<N: Named, H: Ledger, R>(
     match engine.close(rt, alloc, seats) {
         Ok(plain) => Ok(plain),
         Err(CloseFault::Memory { engine, seats }) => closed(rt, alloc, engine, seats),
-        Err(_) => Err("records differ".into()),
+        Err(fault) => Err(not_closed(rt, fault)),
     }
 }
 
@@ -113,11 +115,15 @@ fn refused_and_again<N: Named, H: Ledger, R: Wait + Abort>(
     plain: PlainEngine,
     names: Names,
 ) -> Result<(), Fail>
-    requires named { NamesEngine names N.setup N.seats N.name N.parts H.name H.parts }
+    requires named { NamesEngine names N.setup N.seats N.history N.name N.parts H.name H.parts }
     requires made_from { plain.setup ≡ names.setup }
+    requires opened { entries_of plain.book.list ≡ N.opened }
 {
     let (engine, mut seats) = opened_at_last::<N, H>(alloc, plain, names)?;
-    put_and_read(rt, alloc, &engine, &mut seats)?;
+    if let Err(fail) = put_and_read(rt, alloc, &engine, &mut seats) {
+        engine.end(rt);
+        return Err(fail);
+    }
     let closed = closed_at_last(rt, alloc, engine, seats)?;
     expect_closed(rt, &closed, (1, 9), &[(0, 5, 1), (1, 4, 1)]);
     Ok(())

@@ -1,9 +1,10 @@
 //! Seats: how many there may be, and that all are given back before an engine is closed.
 ghost use Rattle.std.specs.Prelude.{◌≡◌};
+ghost use Rattle.batch_store.specs.Batches.{entries_of};
 ghost use Rattle.locked_engine.specs.Opened.{NamesEngine};
 
 use crate::batches::small_setup;
-use crate::opened::{Answer, closed, opened, put, two_seats, unopened};
+use crate::opened::{Answer, closed, not_closed, opened, put, two_seats, unopened};
 use locked_engine::PutFault::OverTotal;
 use locked_engine::{CloseFault, Engine, Named, Names, OpenFault, Seat};
 use plain_engine::PlainEngine;
@@ -71,13 +72,16 @@ fn put_sixty_twice<
     H: Ledger + Send + Sync,
     R: Threads + Wait + Abort + Sync,
 >(rt: &R, alloc: Global, plain: PlainEngine, names: Names) -> Result<(), Fail>
-    requires named { NamesEngine names N.setup N.seats N.name N.parts H.name H.parts }
+    requires named { NamesEngine names N.setup N.seats N.history N.name N.parts H.name H.parts }
     requires made_from { plain.setup ≡ names.setup }
+    requires opened { entries_of plain.book.list ≡ N.opened }
 {
     let (engine, mut seats) = opened::<N, H>(alloc, plain, names)?;
-    put_from_both(rt, alloc, &engine, &mut seats)?;
-    let second = seats.pop().ok_or("no second seat")?;
-    close_at_last(rt, alloc, engine, seats, second)
+    if let Err(fail) = put_from_both(rt, alloc, &engine, &mut seats) {
+        engine.end(rt);
+        return Err(fail);
+    }
+    close_at_last(rt, alloc, engine, seats)
 }
 
 fn put_from_both<N: Named + Send + Sync, H: Ledger + Send + Sync, R: Threads + Wait + Abort + Sync>(
@@ -116,19 +120,79 @@ fn put_at_once<N: Named + Send + Sync, H: Ledger + Send + Sync, R: Threads + Wai
 }
 
 // Closes an engine without its second seat, and then with it.
-fn close_at_last<N: Named, H: Ledger, R: Abort>(
+fn close_at_last<N: Named, H: Ledger, R: Wait + Abort>(
     rt: &R,
     alloc: Global,
     engine: Engine<N, H>,
     seats: Vec<Seat<N, H>>,
-    second: Seat<N, H>,
 ) -> Result<(), Fail> {
-    let Err(CloseFault::SeatsMissing { engine, mut seats }) = engine.close(rt, alloc, seats) else {
-        return Err("a seat is missing".into());
+    let mut seats = seats;
+    let second = seats.pop();
+    let (engine, mut seats) = match engine.close(rt, alloc, seats) {
+        Err(CloseFault::SeatsMissing { engine, seats }) => (engine, seats),
+        Err(fault) => return Err(not_closed(rt, fault)),
+        Ok(_) => return Err("a seat is missing".into()),
     };
     assert_eq!(rt; seats.len(), 1);
-    seats.push(second)?;
+    if let Some(second) = second {
+        if seats.push(second).is_err() {
+            engine.end(rt);
+            return Err("no memory for a seat".into());
+        }
+    }
     let closed = closed(rt, alloc, engine, seats)?;
     assert_eq!(rt; closed.status().total, 60);
+    Ok(())
+}
+
+#[test]
+fn a_status_shows_what_was_answered(rt: HostRuntime) -> Result<(), Fail> {
+    let (plain, names) = unopened(&rt, rt.alloc(), small_setup()?, 2)?;
+    see_what_was_put::<Brand, Brand, _>(&rt, rt.alloc(), plain, names)
+}
+
+static FIVE: &[(u64, u64, u64)] = &[(0, 0, 5)];
+
+// What one seat has put the other's status shows, once it was answered, also while a shard's lock is held.
+fn see_what_was_put<N: Named, H: Ledger, R: Wait + Abort>(
+    rt: &R,
+    alloc: Global,
+    plain: PlainEngine,
+    names: Names,
+) -> Result<(), Fail>
+    requires named { NamesEngine names N.setup N.seats N.history N.name N.parts H.name H.parts }
+    requires made_from { plain.setup ≡ names.setup }
+    requires opened { entries_of plain.book.list ≡ N.opened }
+{
+    let (engine, mut seats) = opened::<N, H>(alloc, plain, names)?;
+    if let Err(fail) = see_from_both(rt, alloc, &engine, &mut seats) {
+        engine.end(rt);
+        return Err(fail);
+    }
+    let closed = closed(rt, alloc, engine, seats)?;
+    assert_eq!(rt; closed.status().total, 5);
+    Ok(())
+}
+
+fn see_from_both<N: Named, H: Ledger, R: Wait + Abort>(
+    rt: &R,
+    alloc: Global,
+    engine: &Engine<N, H>,
+    seats: &mut [Seat<N, H>],
+) -> Result<(), Fail> {
+    let (first, second) = two_seats(seats)?;
+    let answer = put(rt, alloc, engine, first, (7, 1), FIVE)?;
+    assert_eq!(rt; answer, Ok((0, 5)));
+    let status = engine.status(first);
+    assert_eq!(rt; (status.batches, status.total), (1, 5));
+    let status = engine.status(second);
+    assert_eq!(rt; (status.batches, status.total), (1, 5));
+    let answer = put(rt, alloc, engine, second, (7, 1), FIVE)?;
+    assert_eq!(rt; answer, Ok((0, 5)));
+    let held = engine.look(rt, 0, |_shard| engine.status(second));
+    let Some(status) = held else {
+        return Err("no shard 0".into());
+    };
+    assert_eq!(rt; (status.batches, status.total), (1, 5));
     Ok(())
 }

@@ -1,5 +1,6 @@
 //! Two threads, two seats: what one has put the other reads, and a shard that is held keeps nobody from another.
 ghost use Rattle.std.specs.Prelude.{◌≡◌};
+ghost use Rattle.batch_store.specs.Batches.{entries_of};
 ghost use Rattle.locked_engine.specs.Opened.{NamesEngine};
 
 use crate::batches::{Cells, small_setup};
@@ -55,14 +56,25 @@ fn put_beside_a_look<
     H: Ledger + Send + Sync,
     R: Threads + Wait + Abort + Clock + Sync,
 >(rt: &R, alloc: Global, plain: PlainEngine, names: Names) -> Result<(), Fail>
-    requires named { NamesEngine names N.setup N.seats N.name N.parts H.name H.parts }
+    requires named { NamesEngine names N.setup N.seats N.history N.name N.parts H.name H.parts }
     requires made_from { plain.setup ≡ names.setup }
+    requires opened { entries_of plain.book.list ≡ N.opened }
 {
     let (engine, mut seats) = opened::<N, H>(alloc, plain, names)?;
+    let put = put_and_export(rt, alloc, &engine, &mut seats);
+    engine.end(rt);
+    put
+}
+
+fn put_and_export<
+    N: Named + Send + Sync,
+    H: Ledger + Send + Sync,
+    R: Threads + Wait + Abort + Clock + Sync,
+>(rt: &R, alloc: Global, engine: &Engine<N, H>, seats: &mut [Seat<N, H>]) -> Result<(), Fail> {
     let seat = seats.last_mut().ok_or("no seat")?;
-    let (looked, answer) = look_and_put(rt, alloc, &engine, seat);
+    let (looked, answer) = look_and_put(rt, alloc, engine, seat);
     assert_eq!(rt; (looked, answer), (Some(true), Some(Ok((0, 4)))));
-    expect_export(rt, alloc, &engine, IN_SHARD_1)?;
+    expect_export(rt, alloc, engine, IN_SHARD_1)?;
     Ok(())
 }
 
@@ -135,11 +147,15 @@ fn put_by_both<N: Named + Send + Sync, H: Ledger + Send + Sync, R: Threads + Wai
     plain: PlainEngine,
     names: Names,
 ) -> Result<(), Fail>
-    requires named { NamesEngine names N.setup N.seats N.name N.parts H.name H.parts }
+    requires named { NamesEngine names N.setup N.seats N.history N.name N.parts H.name H.parts }
     requires made_from { plain.setup ≡ names.setup }
+    requires opened { entries_of plain.book.list ≡ N.opened }
 {
     let (engine, mut seats) = opened::<N, H>(alloc, plain, names)?;
-    put_and_read(rt, alloc, &engine, &mut seats)?;
+    if let Err(fail) = put_and_read(rt, alloc, &engine, &mut seats) {
+        engine.end(rt);
+        return Err(fail);
+    }
     let closed = closed(rt, alloc, engine, seats)?;
     expect_listed(rt, alloc, &closed)
 }

@@ -1,11 +1,12 @@
 //! Engines that are opened, serve a list of sessions by a pool, and are closed.
 ghost use Rattle.std.specs.Prelude.{◌≡◌, IfOk};
+ghost use Rattle.batch_store.specs.Batches.{entries_of};
 ghost use Rattle.locked_engine.specs.Opened.{NamesEngine};
 
 use batch_store::Setup;
 use byte_io::{Script, Source};
 use crossbeam_channel::{Receiver, Sender, bounded};
-use locked_engine::{Engine, Named, Names, Seat};
+use locked_engine::{CloseFault, Engine, Named, Names, Seat};
 use plain_engine::PlainEngine;
 use session_pool::{Disk, Gate, PoolFault, PoolReport, Saver, Session, run_pool};
 use std::alloc::Global;
@@ -44,8 +45,9 @@ pub fn opened<N: Named, H: Ledger>(
     plain: PlainEngine,
     names: Names,
 ) -> Result<(Engine<N, H>, Vec<Seat<N, H>>), Fail>
-    requires named { NamesEngine names N.setup N.seats N.name N.parts H.name H.parts }
+    requires named { NamesEngine names N.setup N.seats N.history N.name N.parts H.name H.parts }
     requires made_from { plain.setup ≡ names.setup }
+    requires opened { entries_of plain.book.list ≡ N.opened }
 {
     match Engine::<N, H>::open(alloc, plain, names) {
         Ok(opened) => Ok(opened),
@@ -54,7 +56,7 @@ pub fn opened<N: Named, H: Ledger>(
 }
 
 /// The engine of one thread again, with all seats given back.
-pub fn closed<N: Named, H: Ledger, R>(
+pub fn closed<N: Named, H: Ledger, R: Wait>(
     rt: &R,
     alloc: Global,
     engine: Engine<N, H>,
@@ -62,8 +64,18 @@ pub fn closed<N: Named, H: Ledger, R>(
 ) -> Result<PlainEngine, Fail> {
     match engine.close(rt, alloc, seats) {
         Ok(closed) => Ok(closed),
-        Err(_) => Err("close".into()),
+        Err(fault) => Err(not_closed(rt, fault)),
     }
+}
+
+// Ends what wasn't closed.
+fn not_closed<N: Named, H: Ledger, R: Wait>(rt: &R, fault: CloseFault<N, H>) -> Fail {
+    match fault {
+        CloseFault::SeatsMissing { engine, seats: _ } => engine.end(rt),
+        CloseFault::Memory { engine, seats: _ } => engine.end(rt),
+        CloseFault::RecordsDiffer { shards: _, book: _ } => (),
+    }
+    "close".into()
 }
 
 // Sends a session over a link that hasn't failed.
@@ -154,13 +166,20 @@ fn pooled<
     saver: &Saver,
     sessions: &Receiver<Session<Script>, Global>,
 ) -> Result<Outcome, Fail>
-    requires named { NamesEngine names N.setup N.seats N.name N.parts H.name H.parts }
+    requires named { NamesEngine names N.setup N.seats N.history N.name N.parts H.name H.parts }
     requires made_from { plain.setup ≡ names.setup }
+    requires opened { entries_of plain.book.list ≡ N.opened }
 {
     let (engine, mut seats) = opened::<N, H>(alloc, plain, names)?;
-    let report = served(
+    let report = match served(
         rt, alloc, &engine, &mut seats, workers, gate, saver, sessions,
-    )?;
+    ) {
+        Ok(report) => report,
+        Err(fail) => {
+            engine.end(rt);
+            return Err(fail);
+        }
+    };
     let closed = closed(rt, alloc, engine, seats)?;
     Ok((report, closed))
 }

@@ -1,5 +1,6 @@
 //! A session over the keeper of a seat, each read and each write of which fails in turn, and then one without faults.
 ghost use Rattle.std.specs.Prelude.{◌≡◌, ◌+◌, ◌<◌, ◌^◌};
+ghost use Rattle.batch_store.specs.Batches.{entries_of};
 ghost use Rattle.locked_engine.specs.Opened.{NamesEngine};
 
 use crate::engines::{closed, expect_status, opened, unopened};
@@ -119,7 +120,7 @@ fn serve_again<N: Named, H: Ledger, R: Wait + Disk + Abort>(
 ) -> Result<(), Fail> {
     let seat = seats.first_mut().ok_or("no seat")?;
     serve_case(rt, alloc, engine, seat, case)?;
-    let status = engine.status(rt, seat);
+    let status = engine.status(seat);
     assert_eq!(rt; (status.batches, status.total), case.accepted);
     serve_case(rt, alloc, engine, seat, &WHOLE)?;
     Ok(())
@@ -132,11 +133,15 @@ fn opened_and_closed<N: Named, H: Ledger, R: Wait + Disk + Abort>(
     names: Names,
     case: &Case,
 ) -> Result<(), Fail>
-    requires named { NamesEngine names N.setup N.seats N.name N.parts H.name H.parts }
+    requires named { NamesEngine names N.setup N.seats N.history N.name N.parts H.name H.parts }
     requires made_from { plain.setup ≡ names.setup }
+    requires opened { entries_of plain.book.list ≡ N.opened }
 {
     let (engine, mut seats) = opened::<N, H>(alloc, plain, names)?;
-    serve_again(rt, alloc, &engine, &mut seats, case)?;
+    if let Err(fail) = serve_again(rt, alloc, &engine, &mut seats, case) {
+        engine.end(rt);
+        return Err(fail);
+    }
     let closed = closed(rt, alloc, engine, seats)?;
     expect_status(rt, &closed, WHOLE.accepted);
     Ok(())

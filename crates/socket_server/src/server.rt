@@ -3,6 +3,7 @@ ghost use Rattle.std.specs.Prelude.{◌≡◌, ◌+◌, ◌<◌, ◌≤◌, ◌^
 ghost use Rattle.batch_store.specs.Batches.{Submission};
 ghost use Rattle.batch_store.specs.Books.{AreAccepted};
 ghost use Rattle.plain_engine.specs.Object.{status_of};
+ghost use Rattle.batch_store.specs.Batches.{entries_of};
 ghost use Rattle.locked_engine.specs.Opened.{NamesEngine};
 ghost use Rattle.socket_server.specs.Faults.{IsMet};
 
@@ -111,8 +112,32 @@ fn serve_bound<
         gate: StopGate::new(own, path),
         numbers: SessionNumbers::new(sessions),
     };
-    serve_doors(rt, alloc, &engine, seats.as_mut_slice(), &doors, saver)?;
+    if let Err(fault) = serve_doors(rt, alloc, &engine, seats.as_mut_slice(), &doors, saver) {
+        drop(seats);
+        engine.end(rt);
+        return Err(fault);
+    }
     close_all(rt, alloc, engine, seats, saver)
+}
+
+// A Unix socket that is bound: its path, the line that tells it, and its listener.
+fn bind_path<R: Host>(
+    rt: &R,
+    alloc: Global,
+    path: &str,
+) -> Result<(String, String, UnixListener), ServerFault>
+    ensures met { IfErr result IsMet }
+{
+    let Ok(own) = format!(in alloc; "{path}") else {
+        return Err(ServerFault::Memory);
+    };
+    let Ok(line) = format!(in alloc; "listening unix {path}\n") else {
+        return Err(ServerFault::Memory);
+    };
+    match rt.bind_unix(path) {
+        Ok(listener) => Ok((own, line, listener)),
+        Err(_) => Err(ServerFault::Listen(own)),
+    }
 }
 
 // Binds the Unix socket, serves there too, and removes its path.
@@ -145,14 +170,13 @@ fn serve_unix<
         (list : List Submission) × AreAccepted N.setup list × (s ≡ status_of list)) }
     ensures met { IfErr result IsMet }
 {
-    let Ok(own) = format!(in alloc; "{path}") else {
-        return Err(ServerFault::Memory);
-    };
-    let Ok(line) = format!(in alloc; "listening unix {path}\n") else {
-        return Err(ServerFault::Memory);
-    };
-    let Ok(listener) = rt.bind_unix(path.as_str()) else {
-        return Err(ServerFault::Listen(path));
+    let (own, line, listener) = match bind_path(rt, alloc, path.as_str()) {
+        Ok(bound) => bound,
+        Err(fault) => {
+            drop(seats);
+            engine.end(rt);
+            return Err(fault);
+        }
     };
     let outcome = match tell(out, written, line.as_str()) {
         Ok(()) => serve_bound(
@@ -166,7 +190,11 @@ fn serve_unix<
             sessions,
             saver,
         ),
-        Err(fault) => Err(fault),
+        Err(fault) => {
+            drop(seats);
+            engine.end(rt);
+            Err(fault)
+        }
     };
     rt.remove(path.as_str());
     outcome
@@ -194,8 +222,9 @@ fn serve_named<
     written: &mut u128,
 ) -> Result<Status, ServerFault>
     requires failures { W.failure_count out.old + 1 < 2 ^ 64 }
-    requires named { NamesEngine names N.setup N.seats N.name N.parts H.name H.parts }
+    requires named { NamesEngine names N.setup N.seats N.history N.name N.parts H.name H.parts }
     requires made_from { plain.setup ≡ names.setup }
+    requires opened { entries_of plain.book.list ≡ N.opened }
     ensures failures { OnOk result (W.failure_count out.new ≡ W.failure_count out.old) }
     ensures status { IfOk result (λ s.
         (list : List Submission) × AreAccepted names.setup list × (s ≡ status_of list)) }
@@ -210,7 +239,14 @@ fn serve_named<
         sessions,
         saver,
     } = plan;
-    let listener = bind_tcp(rt, alloc, tcp, out, written)?;
+    let listener = match bind_tcp(rt, alloc, tcp, out, written) {
+        Ok(listener) => listener,
+        Err(fault) => {
+            drop(seats);
+            engine.end(rt);
+            return Err(fault);
+        }
+    };
     match unix {
         Some(path) => serve_unix(
             rt, alloc, engine, seats, listener, path, sessions, &saver, out, written,

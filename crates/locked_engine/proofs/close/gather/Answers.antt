@@ -1,4 +1,9 @@
-use Rattle.std.proofs.Common.{◌≡◌, [], ◌∷◌, ◌++◌, ap, arith}
+use Rattle.std.proofs.Common.{◌≡◌, List, [], ◌∷◌, ◌++◌, ◌∙◌, sym, ap, subst, arith, rules, append_assoc}
+use mathlib.Core.List.{IsPrefix}
+use Rattle.batch_store.specs.declared.verdict.Entry.{Entry}
+use Rattle.locked_engine.specs.Told.{AreShown}
+use Rattle.locked_engine.proofs.PrefixLaws.{prefix_self}
+use Rattle.locked_engine.proofs.ToldLaws.{shown_later}
 use Rattle.std.proofs.lemmas.List.Sums.{sum_by-append}
 use Rattle.locked_engine.specs.Views.{SeatView}
 use Rattle.locked_engine.specs.Opened.{firsts}
@@ -11,7 +16,7 @@ loop-seat-preserved g c =
     let seat = c.in-Some-pop.seat in
     let count = c.in-Some-pop.ensures.len in
     let inv = c.loop-seat.invariant in
-    let told = c.into_shares-own.ensures in
+    let told = c.into_parts-own.ensures in
     let popped : c.loop-seat.seats.items ≡ left ++ seat ∷ [] = c.in-Some-pop.ensures.items in
     record {
       first_parts = omega (arith, c.merge.ensures.parts, inv.first_parts, told.one_first, count);
@@ -25,4 +30,46 @@ loop-seat-preserved g c =
         sum_by-append (λ (s : SeatView). s.first) left (seat ∷ []),
       );
       second_amount = omega (arith, c.merge-in-Some-pop.ensures.amount, inv.second_amount, told.balanced);
+      shown = (
+        seat ∷ inv.shown.0,
+        inv.shown.1 ∙ ap (λ (l : List SeatView). l ++ inv.shown.0) popped ∙ append_assoc left (seat ∷ []) inv.shown.0,
+        (
+          subst (λ (l : List Entry). IsPrefix l c.learn.new.self) told.seen c.learn.ensures.no_less,
+          shown_later inv.shown.0 c.loop-seat.seen c.learn.new.self c.learn.ensures.later inv.shown.2,
+        ),
+      );
+    }
+
+pub returns-clause-shown : goal.returns-clause-shown
+returns-clause-shown g c =
+    let inv = c.loop-seat.invariant in
+    let none : c.loop-seat.seats.items ≡ [] = search rules in
+    let all : inv.shown.0 ≡ c.args.seats.items = sym (inv.shown.1
+    ∙ ap (λ (l : List SeatView). l ++ inv.shown.0) none) in
+    subst (λ (l : List SeatView). AreShown l c.loop-seat.seen) all inv.shown.2
+
+-- the first seat has given its shares
+pub loop-seat-init : goal.loop-seat-init
+loop-seat-init g c =
+    let seat = c.in-Some.seat in
+    let left = c.pop.new.self.items in
+    let popped : c.args.seats.items ≡ left ++ seat ∷ [] = c.in-Some.ensures.items in
+    let count = c.in-Some.ensures.len in
+    let told = c.into_parts-first.ensures in
+    let seen = c.into_parts-first.result.2 in
+    record {
+      first_parts = omega (arith, told.one_first, count);
+      second_parts = omega (arith, told.one_second, count);
+      first_amount = omega (
+        arith,
+        told.first,
+        ap firsts popped,
+        sum_by-append (λ (s : SeatView). s.first) left (seat ∷ []),
+      );
+      second_amount = told.balanced;
+      shown = (
+        seat ∷ [],
+        popped,
+        (subst (λ (l : List Entry). IsPrefix l seen) told.seen (prefix_self seen), tt),
+      );
     }

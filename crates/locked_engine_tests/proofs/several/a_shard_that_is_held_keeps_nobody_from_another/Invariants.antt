@@ -1,4 +1,5 @@
 use Rattle.std.proofs.Common.{◌+◌}
+use Rattle.batch_store.specs.Batches.{entries_of}
 use Rattle.locked_engine_tests.proofs.several.a_shard_that_is_held_keeps_nobody_from_another.Given as goal
 
 -- the engine that these names name
@@ -6,7 +7,12 @@ abbrev pub ghosts-put_beside_a_look-N-Ledger : goal.ghosts-put_beside_a_look-N-L
 ghosts-put_beside_a_look-N-Ledger g a = record { name = a.names.first; parts = a.names.seats }
 
 abbrev pub ghosts-put_beside_a_look-N-Named : goal.ghosts-put_beside_a_look-N-Named
-ghosts-put_beside_a_look-N-Named g a = record { setup = a.names.setup; seats = a.names.seats }
+ghosts-put_beside_a_look-N-Named g a = record {
+  setup = a.names.setup;
+  seats = a.names.seats;
+  history = a.names.history;
+  opened = entries_of a.plain.book.list;
+}
 
 abbrev pub ghosts-put_beside_a_look-H-Ledger : goal.ghosts-put_beside_a_look-H-Ledger
 ghosts-put_beside_a_look-H-Ledger g a = record { name = a.names.second; parts = a.names.setup.shards + a.names.seats }

@@ -1,4 +1,5 @@
 use Rattle.std.proofs.Common.{◌+◌}
+use Rattle.batch_store.specs.Batches.{entries_of}
 use Rattle.session_pool_tests.proofs.engines.pool_over.Given as goal
 
 -- the engine that these names name
@@ -6,7 +7,12 @@ abbrev pub ghosts-pooled-N-Ledger : goal.ghosts-pooled-N-Ledger
 ghosts-pooled-N-Ledger g a = record { name = a.names.first; parts = a.names.seats }
 
 abbrev pub ghosts-pooled-N-Named : goal.ghosts-pooled-N-Named
-ghosts-pooled-N-Named g a = record { setup = a.names.setup; seats = a.names.seats }
+ghosts-pooled-N-Named g a = record {
+  setup = a.names.setup;
+  seats = a.names.seats;
+  history = a.names.history;
+  opened = entries_of a.plain.book.list;
+}
 
 abbrev pub ghosts-pooled-H-Ledger : goal.ghosts-pooled-H-Ledger
 ghosts-pooled-H-Ledger g a = record { name = a.names.second; parts = a.names.setup.shards + a.names.seats }

@@ -1,4 +1,5 @@
 use Rattle.std.proofs.Common.{◌+◌}
+use Rattle.batch_store.specs.Batches.{entries_of}
 use Rattle.socket_server.proofs.server.serve_plan.Given as goal
 
 -- the engine that these names name
@@ -6,7 +7,12 @@ abbrev pub ghosts-serve_named-N-Ledger : goal.ghosts-serve_named-N-Ledger
 ghosts-serve_named-N-Ledger g a = record { name = a.names.first; parts = a.names.seats }
 
 abbrev pub ghosts-serve_named-N-Named : goal.ghosts-serve_named-N-Named
-ghosts-serve_named-N-Named g a = record { setup = a.names.setup; seats = a.names.seats }
+ghosts-serve_named-N-Named g a = record {
+  setup = a.names.setup;
+  seats = a.names.seats;
+  history = a.names.history;
+  opened = entries_of a.plain.book.list;
+}
 
 abbrev pub ghosts-serve_named-H-Ledger : goal.ghosts-serve_named-H-Ledger
 ghosts-serve_named-H-Ledger g a = record { name = a.names.second; parts = a.names.setup.shards + a.names.seats }

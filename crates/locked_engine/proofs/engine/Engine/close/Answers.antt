@@ -1,4 +1,8 @@
-use Rattle.std.proofs.Common.{◌≡◌, ap, arith}
+use Rattle.std.proofs.Common.{◌≡◌, ap, sym, subst, arith}
+use mathlib.Core.List.{IsPrefix}
+use Rattle.batch_store.specs.Batches.{entries_of}
+use Rattle.batch_store.specs.Books.{Register}
+use Rattle.locked_engine.proofs.ToldLaws.{shown_later}
 use Rattle.batch_store.specs.Setups.{Setting}
 use Rattle.batch_store.specs.Books.{list_total}
 use Rattle.plain_engine.specs.Standing.{Standing}
@@ -15,7 +19,7 @@ returns-in-Ok-clause-seats g c =
       arith,
       c.gather-first.ensures.first,
       c.audit.ensures.whole all,
-      c.into_inner-book.result.first_is,
+      c.end-book.ensures.first,
       ap (λ (e : Standing). list_total e.book.list) c.in-Ok.ensures.ok,
     )
 
@@ -32,15 +36,32 @@ returns-clause-differ g c = λ shards book e.
     let same_book : c.in-Err.book ≡ book = cc in
     let back = c.in-Err.ensures.err in
     let kept = rw back.0 at c.total-total.ensures.kept in
-    let inside = c.into_inner-book.result in
     rw (← same_shards, ← same_book, back.0, back.1) (
       omega (
         arith,
         c.unlock_all.ensures.amount,
         c.gather-first.ensures.balanced,
         c.audit-2.ensures.whole both,
-        inside.second_is,
+        c.end-book.ensures.second,
       ),
-      omega (arith, kept.within, ap (λ (v : Setting). v.limit) inside.setup_is),
-      omega (arith, c.gather-first.ensures.first, c.audit.ensures.whole all, inside.first_is),
+      omega (arith, kept.within, ap (λ (v : Setting). v.limit) c.end-book.ensures.setup),
+      omega (arith, c.gather-first.ensures.first, c.audit.ensures.whole all, c.end-book.ensures.first),
+    )
+
+-- what all seats together were shown, and the book's batches, begin one list
+pub returns-in-Ok-clause-shown : goal.returns-in-Ok-clause-shown
+returns-in-Ok-clause-shown g c =
+    let all = c.end-book.result.3 in (
+      all,
+      shown_later c.args.seats.items _ all c.end-book.ensures.shown c.gather-first.ensures.shown,
+      subst (λ (e : Standing). IsPrefix (entries_of e.book.list) all) (sym c.in-Ok.ensures.ok) c.end-book.ensures.accepted,
+    )
+
+pub returns-clause-shown_apart : goal.returns-clause-shown_apart
+returns-clause-shown_apart g c = λ shards book e.
+    let all = c.end-book.result.3 in
+    let same_book : c.end-book.result.0 ≡ book = cc (c.in-Err.ensures.err.0, e) in (
+      all,
+      shown_later c.args.seats.items _ all c.end-book.ensures.shown c.gather-first.ensures.shown,
+      subst (λ (w : Register). IsPrefix (entries_of w.list) all) same_book c.end-book.ensures.accepted,
     )

@@ -1,17 +1,18 @@
-use Rattle.std.proofs.Common.{ap, arith, rules, ◌≡◌, ◌∙◌, List}
 use Rattle.std.specs.Arc.{arc_value}
-use Rattle.batch_store.specs.Batches.{Submission, batch_total}
-use Rattle.batch_store.specs.Books.{list_total}
+use Rattle.locked_engine.proofs.ToldLaws.{admitted_told, admitted_later}
 use Rattle.locked_engine.proofs.locked_book.LockedBook.admit.Goals as goal
 
--- both ledgers rise as the book's total does
-pub invariant_of-self-2 : goal.invariant_of-self-2
-invariant_of-self-2 g c =
-    let self = c.args.self.now in
-    let had = ap (λ (l : List Submission). list_total l) c.in_ok-reserve.ensures.list in
-    let more : c.behind-b.inside.total ≡ batch_total (arc_value c.args.b) = search rules in
-    record {
-      setup_is = c.admit.ensures.setup ∙ c.in_ok-reserve.ensures.setup ∙ self.setup_is;
-      first_is = omega (arith, c.add.ensures.total, self.first_is, c.admit.ensures.total, had, more);
-      second_is = omega (arith, c.add-2.ensures.total, self.second_is, c.admit.ensures.total, had, more);
-    }
+-- an accepted batch stands last in what the seat was shown
+pub returns-clause-ok : goal.returns-clause-ok
+returns-clause-ok g c =
+    let told = c.admit_fresh.ensures in
+    admitted_told g.N.Named.setup c.args.self.now.list c.admit_fresh.new.self.list c.admit_fresh.new.seen
+    (arc_value c.args.b) c.admit_fresh.result told.seen told.list told.kept
+
+-- the book's entries were shown, and the new one behind them
+pub returns-clause-later : goal.returns-clause-later
+returns-clause-later g c =
+    let judged = c.in_ok-judge.ensures in
+    let told = c.admit_fresh.ensures in
+    admitted_later c.admit_fresh.result c.args.seen.now c.judge.new.seen c.admit_fresh.new.seen c.args.self.now.list
+    c.admit_fresh.new.self.list (arc_value c.args.b) judged.later judged.shown told.seen told.list told.seen_kept
