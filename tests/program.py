@@ -372,13 +372,16 @@ def snapshots(program):
             with open(path, "wb") as file:
                 file.write(held)
             yield f"check: {fault}, {len(held)} bytes", run(program, checked("", path, f"snapshot: {fault}", 3))
+        fifo = os.path.join(folder, "fifo")
+        os.mkfifo(fifo)
         for case in [
             checked("check of nothing", os.path.join(folder, "nothing"), "file: NotFound", 4),
             checked("check in no folder", os.path.join(folder, "no", "file"), "file: NotFound", 4),
             checked("check below a file", os.path.join(path, "file"), "file: OpenFailed", 4),
             checked("check of a folder", folder, "snapshot: Read", 4),
-            checked("check of /dev/zero", "/dev/zero", "snapshot: BadMark", 3),
-            checked("check of /dev/null", "/dev/null", "snapshot: Truncated", 3),
+            checked("check of a FIFO", fifo, "file: OpenFailed", 4),
+            checked("check of /dev/zero", "/dev/zero", "file: OpenFailed", 4),
+            checked("check of /dev/null", "/dev/null", "file: OpenFailed", 4),
         ]:
             yield case.name, run(program, case)
         if os.getuid() != 0:

@@ -60,13 +60,13 @@ def refused(code, detail=0):
 class Server:
     """The program with the word serve, on a Unix socket and on a port of its own choice."""
 
-    def __init__(self, words, tcp=True, unix=True):
+    def __init__(self, words, tcp=True, unix=True, **how):
         self.path = os.path.join(FOLDER, "socket") if unix else None
         if unix and os.path.exists(self.path):
             os.remove(self.path)
         addresses = (["--tcp", "127.0.0.1:0"] if tcp else []) + (["--unix", self.path] if unix else [])
         self.process = subprocess.Popen(
-            [PROGRAM, "serve", *addresses, *words], stdout=subprocess.PIPE, stderr=subprocess.PIPE, text=True
+            [PROGRAM, "serve", *addresses, *words], stdout=subprocess.PIPE, stderr=subprocess.PIPE, text=True, **how
         )
         self.tcp = None
         if tcp:
@@ -365,20 +365,21 @@ def saves_need_room(mounted, is_freed):
     if mounted and subprocess.run(mount, capture_output=True).returncode != 0:
         return  # only root may, and not everywhere
     try:
-        with Server(["--rows", "1000000", "--cols", "1000000", "--snapshot", path]) as server:
+        # The signal of a file that is too large stays ignored, as Python has it.
+        with Server(["--rows", "1000000", "--cols", "1000000", "--snapshot", path], restore_signals=False) as server:
             with Client(unix=server.path, client=7, rows=10**6, cols=10**6, timeout=WAIT) as hhm:
                 hhm.put(1, [(0, 0, 5)])
                 check("a save with room", hhm.save(), 1)
                 kept = content(path)
                 if not mounted:
-                    os.symlink("/dev/full", path + ".new")
+                    limit_files(server.process, 1000)
                 hhm.put(2, [(n, n, 1) for n in range(5000)])
                 for _ in range(3):
                     check("a save without room", server.talk([struct.pack(">IB", 0, 6)]), refused(42))
                 check("the file is as it was", content(path), kept)
                 check("the server goes on", hhm.status(), Status(2, 5005))
                 if is_freed:
-                    make_room(folder, path, mounted)
+                    make_room(folder, server.process, mounted)
                     check("a save with room again", hhm.save(), 2)
                 hhm.stop()
             output, error = server.process.communicate(timeout=WAIT)
@@ -396,12 +397,18 @@ def saves_need_room(mounted, is_freed):
             subprocess.run(["umount", folder], capture_output=True)
 
 
-def make_room(folder, path, mounted):
+def limit_files(process, most):
+    """No file that the process writes may have more bytes."""
+    hard = resource.prlimit(process.pid, resource.RLIMIT_FSIZE)[1]
+    resource.prlimit(process.pid, resource.RLIMIT_FSIZE, (most, hard))
+
+
+def make_room(folder, process, mounted):
     """Makes room for a snapshot for which there was none."""
     if mounted:
         subprocess.run(["mount", "-o", "remount,size=8m", folder], check=True)
     else:
-        os.remove(path + ".new")
+        limit_files(process, resource.RLIM_INFINITY)
 
 
 def content(path):

@@ -9,11 +9,15 @@ wanted was worked out by hand from docs/FORMATS.md. It prints a line for each ch
 
 `records differ` has no test: no input brings a server to it.
 """
+import ctypes
+import errno
 import os
+import platform
 import resource
 import shutil
 import signal
 import socket
+import stat
 import struct
 import subprocess
 import sys
@@ -24,8 +28,9 @@ import program
 import server
 from server import SMALL, WAIT, Server, accepted, check, put_frame, refused, text
 
-# A user without processes.
+# A user without processes, and a group that it isn't in.
 OTHER = 54321
+GROUP = 54322
 
 STATUS = struct.pack(">IB", 0, 4)
 SAVE = struct.pack(">IB", 0, 6)
@@ -115,14 +120,15 @@ def addresses_are_bound_in_order():
 def saves_fail(kind, fail):
     """A save that fails is refused, what was saved before stands, and the last save's fault is told at the end."""
     path = in_folder(f"{kind}.snap")
-    with Server([*SMALL, "--snapshot", path], tcp=False) as at:
+    # The signal of a file that is too large stays ignored, as Python has it.
+    with Server([*SMALL, "--snapshot", path], tcp=False, restore_signals=False) as at:
         with at.link() as link:
             check(f"{kind}: put", asked(link, put_frame(7, 1, text(5)), 21), accepted(0, 5))
             check(f"{kind}: saved", asked(link, SAVE, 13), struct.pack(">IBQ", 8, 0x86, 1))
             with open(path, "rb") as file:
                 before = file.read()
             check(f"{kind}: the file", before, program.snapshot([(7, 1, [(0, 0, 5)])], 5))
-            fail(path)
+            fail(path, at.process)
             check(f"{kind}: put more", asked(link, put_frame(8, 1, text(3)), 21), accepted(1, 8))
             check(f"{kind}: not saved", asked(link, SAVE, 15), refused(42))
             check(f"{kind}: goes on", asked(link, STATUS, 21), counts(2, 8))
@@ -136,14 +142,186 @@ def saves_fail(kind, fail):
 
 
 def each_step_of_a_save_fails():
-    def rename(path):
+    def rename(path, _):
         os.remove(path)
         os.makedirs(os.path.join(path, "full"))
 
-    saves_fail("Create", lambda path: os.mkdir(path + ".new"))
-    saves_fail("Write", lambda path: os.symlink("/dev/full", path + ".new"))
-    saves_fail("Sync", lambda path: os.symlink("/dev/null", path + ".new"))
+    saves_fail("Create", lambda path, _: os.mkdir(path + ".new"))
+    saves_fail("Write", lambda _, process: server.limit_files(process, 100))
     saves_fail("Rename", rename)
+    no_sync_is_made()
+
+
+def refuse_calls(*numbers):
+    """From here on the system refuses these calls of this process and of those that it starts, as failures of a device.
+
+    For x86-64; False where it can't be asked for that.
+    """
+    allow, refuse, code = 0x7FFF0000, 0x00050000 + errno.EIO, [(0x20, 0, 0, 0)]
+    for number in numbers:
+        code += [(0x15, 0, 1, number), (0x06, 0, 0, refuse)]
+    code.append((0x06, 0, 0, allow))
+    held = ctypes.create_string_buffer(b"".join(struct.pack("HBBI", *line) for line in code))
+    program_of_it = struct.pack("HxxxxxxQ", len(code), ctypes.addressof(held))
+    system = ctypes.CDLL(None, use_errno=True)
+    return system.prctl(38, 1, 0, 0, 0) == 0 and system.prctl(22, 2, program_of_it) == 0
+
+
+def no_sync_is_made():
+    """A file that can't be synced isn't renamed."""
+    if platform.machine() != "x86_64":
+        return
+    path, before = in_folder("Sync.snap"), program.snapshot([(7, 1, [(0, 0, 5)])], 5)
+    write(path, before)
+    fsync = 74
+    with Server([*SMALL, "--snapshot", path], tcp=False, preexec_fn=lambda: refuse_calls(fsync)) as at:
+        with at.link() as link:
+            check("Sync: put", asked(link, put_frame(8, 1, text(3)), 21), accepted(1, 8))
+            check("Sync: not saved", asked(link, SAVE, 15), refused(42))
+            check("Sync: stop", asked(link, STOP, 5), STOPPING)
+        output, error = at.process.communicate(timeout=WAIT)
+        check("Sync: the end", (output, error, at.process.returncode), ("", "hhm: file: Sync\n", 4))
+    check("Sync: what was saved stands", server.content(path), before)
+
+
+def write(path, held):
+    with open(path, "wb") as file:
+        file.write(held)
+
+
+def saves_beside(name, leave, is_kept):
+    """A save where something else stands under the name of the new file: it is gone, and nothing else is touched."""
+    folder = in_folder(f"beside {name}")
+    os.mkdir(folder)
+    path, other = os.path.join(folder, "snap"), os.path.join(folder, "other")
+    write(other, b"mine")
+    leave(path + ".new", other)
+    with Server([*SMALL, "--snapshot", path], tcp=False) as at:
+        with at.link() as link:
+            check(f"{name}: put", asked(link, put_frame(7, 1, text(5)), 21), accepted(0, 5))
+            check(f"{name}: saved", asked(link, SAVE, 13), struct.pack(">IBQ", 8, 0x86, 1))
+            check(f"{name}: the file", server.content(path), program.snapshot([(7, 1, [(0, 0, 5)])], 5))
+            check(f"{name}: it is a plain one", stat.S_ISREG(os.lstat(path).st_mode), True)
+            check(f"{name}: all files", sorted(os.listdir(folder)), ["other", "snap"] if is_kept else ["snap"])
+            if is_kept:
+                check(f"{name}: the other", server.content(other), b"mine")
+            check(f"{name}: stop", asked(link, STOP, 5), STOPPING)
+        at.ends(name, 1, 5)
+
+
+def what_stands_beside_is_not_written():
+    """A link, a second name of a file, a FIFO and what an earlier save has left."""
+
+    def a_link_to_nothing(new, other):
+        os.remove(other)
+        os.symlink(other, new)
+
+    def a_socket(new, _):
+        with socket.socket(socket.AF_UNIX) as bound:
+            bound.bind(new)
+
+    saves_beside("a link", lambda new, other: os.symlink(other, new), True)
+    saves_beside("a link to nothing", a_link_to_nothing, False)
+    saves_beside("a link to a device", lambda new, _: os.symlink("/dev/full", new), True)
+    saves_beside("a second name", lambda new, other: os.link(other, new), True)
+    saves_beside("a FIFO", lambda new, _: os.mkfifo(new), True)
+    saves_beside("a socket", a_socket, True)
+    saves_beside("what was left", lambda new, _: write(new, b"left" * 1000), True)
+
+
+def no_plain_file_is_told():
+    """A FIFO, a socket or a device as a snapshot: nothing waits, and none is replaced."""
+    fifo, bound, link = in_folder("fifo"), in_folder("bound"), in_folder("link to a fifo")
+    os.mkfifo(fifo)
+    os.symlink(fifo, link)
+    with socket.socket(socket.AF_UNIX) as listener:
+        listener.bind(bound)
+    words = ["--unix", in_folder("unused"), *SMALL, "--snapshot"]
+    for path in [fifo, link, bound, "/dev/null", "/dev/zero"]:
+        check(f"{path} as a snapshot", run([*words, path]), ("", "hhm: file: OpenFailed\n", 4))
+    path = in_folder("later")
+    with Server([*SMALL, "--snapshot", path], tcp=False) as at:
+        os.mkfifo(path)
+        with at.link() as link:
+            check("a FIFO later: not saved", asked(link, SAVE, 15), refused(42))
+            check("a FIFO later: stop", asked(link, STOP, 5), STOPPING)
+        output, error = at.process.communicate(timeout=WAIT)
+        check("a FIFO later: the end", (output, error, at.process.returncode), ("", "hhm: file: Create\n", 4))
+    check("a FIFO later: it is one still", stat.S_ISFIFO(os.lstat(path).st_mode), True)
+
+
+def belongs(path):
+    """The owner, the group and the mode."""
+    held = os.stat(path)
+    return held.st_uid, held.st_gid, oct(held.st_mode & 0o7777)
+
+
+def save_over(name, before, after, user=None, mask=0o022, groups=()):
+    """A save in the place of a snapshot of this owner, group and mode; None where there is none before."""
+    with tempfile.TemporaryDirectory(dir=server.FOLDER) as folder:
+        path = os.path.join(folder, "snap")
+        os.chmod(folder, 0o777)
+        if before is not None:
+            write(path, program.snapshot([], 0))
+            if os.getuid() == 0:
+                os.chown(path, *before[:2])
+            os.chmod(path, before[2])
+
+        def start():
+            os.umask(mask)
+            if user is not None:
+                os.setgroups(groups)
+                os.setgid(user)
+                os.setuid(user)
+
+        words = [os.path.join(server.FOLDER, "program of all"), "serve", "--tcp", "127.0.0.1:0", *SMALL]
+        ended = subprocess.run([*words, "--sessions", "0", "--snapshot", path], capture_output=True, text=True,
+                               timeout=WAIT, preexec_fn=start)
+        check(f"{name}: the end", (ended.stderr, ended.returncode), ("", 0))
+        check(f"{name}: owner, group and mode", belongs(path), (*after[:2], oct(after[2])))
+        check(f"{name}: nothing is left beside", os.listdir(folder), ["snap"])
+
+
+def owner_and_mode_are_kept():
+    """The new file belongs to whom the old one belonged, as far as the process may, and nobody else may read it."""
+    shutil.copy(server.PROGRAM, in_folder("program of all"))
+    os.chmod(in_folder("program of all"), 0o755)
+    os.chmod(server.FOLDER, 0o755)
+    own = (os.getuid(), os.getgid())
+    for mode in [0o600, 0o640, 0o644, 0o660, 0o666, 0o400, 0o444, 0o604]:
+        for mask in [0o000, 0o022, 0o077]:
+            save_over(f"mode {mode:o}, mask {mask:o}", (*own, mode), (*own, mode), mask=mask)
+    save_over("no rights to another user", (*own, 0o4755), (*own, 0o755))
+    for mask in [0o000, 0o022, 0o077]:
+        save_over(f"no file before, mask {mask:o}", None, (*own, 0o666 & ~mask), mask=mask)
+    if own[0] != 0:
+        return
+    for mode in [0o600, 0o640, 0o664]:
+        save_over(f"another's, mode {mode:o}", (OTHER, GROUP, mode), (OTHER, GROUP, mode))
+    # A user who may give the file to a group of its own, and to nobody else.
+    save_over("a group of one's own", (0, GROUP, 0o640), (OTHER, GROUP, 0o640), OTHER, groups=[GROUP])
+    save_over("a strange group", (OTHER, GROUP, 0o664), (OTHER, OTHER, 0o644), OTHER)
+    save_over("a strange owner and group", (0, 0, 0o644), (OTHER, OTHER, 0o644), OTHER)
+    save_over("a group of less than all", (OTHER, GROUP, 0o604), (OTHER, OTHER, 0o604), OTHER)
+
+
+def a_link_as_a_snapshot_is_replaced():
+    """What a link leads to is read and stays, and the save takes the link's place, with the owner and mode of that."""
+    path, held = in_folder("link.snap"), in_folder("led to")
+    before = program.snapshot([(7, 1, [(0, 0, 5)])], 5)
+    write(held, before)
+    os.chmod(held, 0o640)
+    os.symlink(held, path)
+    with Server([*SMALL, "--snapshot", path], tcp=False) as at:
+        with at.link() as link:
+            check("a link: put", asked(link, put_frame(8, 1, text(3)), 21), accepted(1, 8))
+            check("a link: stop", asked(link, STOP, 5), STOPPING)
+        at.ends("a link", 2, 8)
+    check("a link: what it led to", server.content(held), before)
+    check("a link: a plain file now", stat.S_ISREG(os.lstat(path).st_mode), True)
+    check("a link: the mode", belongs(path)[2], oct(0o640))
+    after = program.snapshot([(7, 1, [(0, 0, 5)]), (8, 1, [(0, 0, 3)])], 8)
+    check("a link: the file", server.content(path), after)
 
 
 def no_output_is_taken():
@@ -305,6 +483,10 @@ def main():
         no_snapshots_are_told()
         addresses_are_bound_in_order()
         each_step_of_a_save_fails()
+        what_stands_beside_is_not_written()
+        no_plain_file_is_told()
+        owner_and_mode_are_kept()
+        a_link_as_a_snapshot_is_replaced()
         no_output_is_taken()
         the_last_line_is_not_taken()
         memory_is_refused()

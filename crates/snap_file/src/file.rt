@@ -5,6 +5,7 @@
 ghost use Rattle.batch_store.specs.Batches.{values};
 ghost use Rattle.batch_store.specs.Books.{AreAccepted};
 
+use crate::access::{Access, access_under, make_file};
 use crate::fault::{FileFault, SaveFault};
 use crate::read::read_snapshot;
 use crate::snapshot::Snapshot;
@@ -31,13 +32,14 @@ fn unfinished(alloc: Global, path: &str) -> Result<String, AllocError> {
 // Writes a snapshot to a new file and syncs it.
 fn write_file<R: Files>(
     rt: &R,
-    path: &str,
+    name: &str,
+    access: Option<Access>,
     setup: &Setup,
     batches: &[Arc<Batch>],
 ) -> Result<(), SaveFault>
     requires { AreAccepted setup.now (values batches.now) }
 {
-    let file = match fs::create(rt, path) {
+    let file = match make_file(rt, name, access) {
         Ok(file) => file,
         Err(_) => return Err(SaveFault::Create),
     };
@@ -53,14 +55,20 @@ fn write_file<R: Files>(
 }
 
 /// Saves a snapshot under `path`: writes it to a file whose name has `.new` behind it, syncs that, and renames it to
-/// `path`. Before the rename no call is made on `path`, so where it fails the file there is as it was; what stands
-/// under the other name then is of no use, and the next save writes over it.
+/// `path`. Before the rename `path` is only looked at, so where it fails the file there is as it was; what stands
+/// under the other name then is of no use, and the next save removes it.
+///
+/// The new file is made anew: what stands under its name is removed first, a folder excepted, and of a link the link
+/// alone. It gets the mode of the file under `path` (what owner, group and others may read, write and run), and its
+/// owner and group as far as the process may give them: without the group, the group's members may no more than all
+/// others. Two that save under one path at the same time write over each other.
 ///
 /// The list is one that a book keeps: no client and number twice, the setup's dimensions, and within both limits.
 ///
 /// # Errors
 ///
-/// `Memory` for the name, `Create`, `Write`, `Sync` or `Rename` where that step failed.
+/// `Memory` for the name, `Create`, `Write`, `Sync` or `Rename` where that step failed. What is neither a file nor a
+/// folder isn't replaced: `Create`. A folder is `Rename`.
 pub fn save<R: Files>(
     rt: &R,
     alloc: Global,
@@ -74,7 +82,8 @@ pub fn save<R: Files>(
         Ok(name) => name,
         Err(_) => return Err(SaveFault::Memory),
     };
-    write_file(rt, name.as_str(), setup, batches)?;
+    let access = access_under(rt, path)?;
+    write_file(rt, name.as_str(), access, setup, batches)?;
     match fs::rename(rt, name.as_str(), path) {
         Ok(()) => Ok(()),
         Err(_) => Err(SaveFault::Rename),
@@ -85,14 +94,16 @@ pub fn save<R: Files>(
 ///
 /// # Errors
 ///
-/// `NotFound` where the file system says that there is no such file, `OpenFailed` for any other fault of opening,
-/// `Snap` with the file's first fault or a failed read, and `Memory` where memory was refused.
+/// `NotFound` where the file system says that there is no such file, `OpenFailed` for any other fault of opening and
+/// for what is neither a file nor a folder, `Snap` with the file's first fault or a failed read (so a folder), and
+/// `Memory` where memory was refused.
 pub fn load<R: Files>(
     rt: &R,
     alloc: Global,
     path: &str,
     max_bytes: u64,
 ) -> Result<Snapshot, FileFault> {
+    refuse_device(rt, path)?;
     let file = match fs::open(rt, path) {
         Ok(file) => file,
         Err(error) => return Err(opening_fault(error.kind())),
@@ -100,6 +111,15 @@ pub fn load<R: Files>(
     let mut source = Counted::new(file);
     let snapshot = read_snapshot(alloc, &mut source, max_bytes)?;
     Ok(snapshot)
+}
+
+// Refuses what is neither a file nor a folder before it is opened: the opening of a FIFO would wait for a writer.
+fn refuse_device<R: Files>(rt: &R, path: &str) -> Result<(), FileFault> {
+    match fs::metadata(rt, path) {
+        Ok(found) if found.is_file() || found.is_dir() => Ok(()),
+        Ok(_) => Err(FileFault::OpenFailed),
+        Err(error) => Err(opening_fault(error.kind())),
+    }
 }
 
 // Why a file wasn't opened.

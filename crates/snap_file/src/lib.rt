@@ -1,6 +1,7 @@
 //! Snapshot files: a setup and a list of batches as bytes, and back.
 #![tactic(auto)]
 
+mod access;
 mod batch;
 mod fault;
 mod file;

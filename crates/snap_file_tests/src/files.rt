@@ -2,6 +2,8 @@
 
 use crate::bytes::{MOST_BYTES, ONE, TWO, read};
 use snap_file::{FileFault, SaveFault, SnapFault, Snapshot, load, save};
+use std::fs::Permissions;
+use std::os::unix::fs::{MetadataExt, PermissionsExt, symlink};
 use std::process::Abort;
 use std::test::Fail;
 use std::{fs, io};
@@ -99,12 +101,57 @@ fn a_save_that_fails_leaves_the_file(rt: HostRuntime) -> Result<(), Fail> {
     Ok(())
 }
 
-// What is no snapshot, and why. The last never ends.
+// Saves while a link to the other file stands under the name of the new one.
+fn saved_beside_link(
+    rt: &HostRuntime,
+    path: &str,
+    other: &str,
+    snapshot: &Snapshot,
+) -> io::Result<Result<(), SaveFault>> {
+    fs::write(rt, other, b"as it was".as_slice())?;
+    symlink(rt, other, "/tmp/hhm_snap_file_linked.new")?;
+    Ok(saved(rt, path, snapshot))
+}
+
+#[test]
+fn a_link_beside_is_not_followed(rt: HostRuntime) -> Result<(), Fail> {
+    let snapshot = read(rt.alloc(), ONE, ONE.len(), MOST_BYTES)?;
+    let (path, other) = ("/tmp/hhm_snap_file_linked", "/tmp/hhm_snap_file_other");
+    let answer = saved_beside_link(&rt, path, other, &snapshot)?;
+    assert_eq!(rt; answer, Ok(()));
+    assert!(rt; holds(&rt, path, ONE)? && holds(&rt, other, b"as it was")?);
+    assert!(rt; fs::symlink_metadata(&rt, path)?.is_file());
+    fs::remove_file(&rt, path)?;
+    fs::remove_file(&rt, other)?;
+    Ok(())
+}
+
+// The mode of what is saved over a file of this mode.
+fn mode_after(rt: &HostRuntime, snapshot: &Snapshot, mode: u32) -> io::Result<u32> {
+    let path = "/tmp/hhm_snap_file_mode";
+    fs::write(rt, path, b"as it was".as_slice())?;
+    fs::set_permissions(rt, path, Permissions::from_mode(mode))?;
+    let answer = saved(rt, path, snapshot);
+    let after = fs::metadata(rt, path)?.mode() & 0o7777;
+    fs::remove_file(rt, path)?;
+    Ok(if answer.is_ok() { after } else { 0 })
+}
+
+#[test]
+fn a_mode_is_kept(rt: HostRuntime) -> Result<(), Fail> {
+    let snapshot = read(rt.alloc(), ONE, ONE.len(), MOST_BYTES)?;
+    for mode in [0o600, 0o640, 0o444, 0o666, 0o700] {
+        assert_eq!(rt; mode_after(&rt, &snapshot, mode)?, mode);
+    }
+    Ok(())
+}
+
+// What is no snapshot, and why. Devices aren't opened.
 static NONE: &[(&str, FileFault)] = &[
     ("/tmp/hhm_snap_file_nothing", FileFault::NotFound),
     ("/tmp", FileFault::Snap(SnapFault::Read)),
-    ("/dev/null", FileFault::Snap(SnapFault::Truncated)),
-    ("/dev/zero", FileFault::Snap(SnapFault::BadMark)),
+    ("/dev/null", FileFault::OpenFailed),
+    ("/dev/zero", FileFault::OpenFailed),
 ];
 
 #[test]
