@@ -301,6 +301,25 @@ def lost_replies_count_once():
         server.stop("lost replies", 1, 5)
 
 
+def a_pair_is_for_one_batch():
+    """Another batch under a known pair is refused, or taken for the first one and not counted."""
+    with Server(SMALL) as server:
+        with server.client(7) as hhm:
+            check("a pair: the first", hhm.put(1, [(0, 0, 3), (0, 1, 2)]), (0, 5))
+            check("a pair: other cells, as many, with the same total", hhm.put(1, [(2, 1, 1), (2, 2, 4)]), (0, 5))
+            counted = hhm.cell(2, 1), hhm.cell(2, 2), hhm.status()
+            check("a pair: they aren't counted", counted, (None, None, Status(1, 5)))
+            for name, cells in [("another total", [(0, 0, 3), (0, 1, 3)]), ("another number", [(0, 0, 5)])]:
+                try:
+                    check(f"a pair: {name}", hhm.put(1, cells), "NumberReused")
+                except Refused as fault:
+                    check(f"a pair: {name}", fault.name, "NumberReused")
+            check("a pair: another number of its own", hhm.put(2, [(2, 1, 1), (2, 2, 4)]), (1, 10))
+        with server.client(8) as hhm:
+            check("a pair: another client", hhm.put(1, [(0, 0, 3), (0, 1, 2)]), (2, 15))
+        server.stop("a pair", 3, 15)
+
+
 def snapshots_outlive_a_kill():
     """What was saved is there after a kill, at any moment of a save; what came later is sent again."""
     path = os.path.join(FOLDER, "kept.snap")
@@ -628,6 +647,7 @@ def main():
             client_asks(unix)
         a_log_is_counted()
         lost_replies_count_once()
+        a_pair_is_for_one_batch()
         snapshots_outlive_a_kill()
         saves_are_whole(50 if is_long else 5)
         for mounted in [False, True]:

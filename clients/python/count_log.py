@@ -7,7 +7,8 @@ Each line of the log is `source destination` or `source destination count`, with
 skipped, and counted. The source's number is the row and the destination's the column, so the server is started with
 `--rows 4294967296 --cols 4294967296`. Batch k is lines 10000 k to 10000 k + 9999 of the log. So a run that was
 interrupted, at whatever line, is begun again from the start with the same client number and the same log: what the
-server has accepted counts once.
+server has accepted counts once. Another log, also one that begins anew under the same name, has another client number:
+under the old one its batches are refused or, where cells and total are as many, answered and not counted.
 """
 import argparse
 import ipaddress

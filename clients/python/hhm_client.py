@@ -6,9 +6,26 @@
         print(hhm.cell(0, 0), hhm.row(2), hhm.status())
 
 A batch counts once. It is known by two numbers, the client's and its own: where the reply to a put is lost, `put`
-connects again and sends the same batch with the same numbers, and the server answers what it answered first. So give
-each batch a number that it keeps whatever fails, such as its place in a file or in a queue, and never use one for two
-different batches. Two clients that put at the same time have different client numbers.
+connects again and sends the same batch with the same numbers, and the server answers what it answered first.
+
+The server tells batches apart by these two numbers, the number of cells and the total, and by nothing else. Another
+batch under two numbers that were used is refused (NumberReused) where its number of cells or its total differs; where
+both are the same, it is answered as the first one was, looks accepted, and is not counted. So no two batches may ever
+have the same two numbers, in all runs of all programs, for as long as the server or a snapshot of it lives:
+
+    for n, cells in enumerate(new_batches()):      # wrong: the next run begins at 0 again, and its batches are
+        hhm.put(n, cells)                          # refused or, with as many cells and the same total, not counted
+
+    hhm.put(datetime.now().hour, cells)            # wrong: tomorrow the same hours come again
+
+    for n, cells in numbered_batches(log):         # right: n is the batch's place in a log that is only appended to
+        hhm.put(n, cells)                          # and never begun anew, as count_log.py does it
+
+    hhm.put(int(begin.timestamp()) // 60, cells)   # right: one batch for each minute, numbered by that minute's begin
+
+A batch is sent again with the number that it had; so keep it with its number until a save came after its reply. Two
+programs that put have different client numbers, also one after the other, unless the second goes on with the numbers
+of the first.
 
 The frames are described in docs/FORMATS.md. A refusal of the server is a `Refused` with its name; a fault of the
 connection that outlasts all attempts is an `OSError`. A `Client` is for one thread at a time.
@@ -126,7 +143,8 @@ def put_frame(client: int, number: int, text: Text) -> bytes:
 class Client:
     """A connection to a server, made when it is first needed, and made again where it is lost.
 
-    `tcp` is "host:port" and `unix` a path; give one of them. `client` is the client's number, from 0 to 2^64 - 1;
+    `tcp` is "host:port" and `unix` a path; give one of them. `client` is the client's number, from 0 to 2^64 - 1, which
+    no other program uses: with a batch's own number it tells batches apart, as the text of this module says;
     `rows` and `cols` are the server's dimensions, for `put` of cells. `timeout` is in seconds, for each answer.
     `attempts` is how often a request is sent before a fault of the connection is given up, with `pause` seconds after
     the first fault and twice as many after each further one, at most ten.
@@ -165,7 +183,11 @@ class Client:
     # What a client asks.
 
     def put(self, number: int, cells: Cells) -> Accepted:
-        """Puts a batch of cells (row, column, count), counted from 0; a cell may stand in it several times."""
+        """Puts a batch of cells (row, column, count), counted from 0; a cell may stand in it several times.
+
+        `number` belongs to this batch for ever: another one with as many cells and the same total is answered as this
+        one was, and not counted.
+        """
         if self.rows is None or self.cols is None:
             raise ValueError("a put of cells needs the client's rows and cols")
         return self.put_text(number, text_of(self.rows, self.cols, cells))
