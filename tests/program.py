@@ -196,6 +196,20 @@ SNAPSHOTS = [
     ),
 ]
 
+# The snapshot of which each bit is flipped by itself: 1,584 bits.
+FLIPPED = snapshot([(7, 1, [(0, 0, 5)]), (7, 3, [(0, 1, 0), (2, 2, 4)])], 9)
+
+# How many bits of each of its fields leave a snapshot, of another setup or of other batches. The format has no sum of
+# check, so a number may be any other that its judgement lets pass. Worked out by hand: rows and columns must stay
+# above 2 and at most 2^60, the first cut below 4 and the second above 2, the limit at least 9, the most batches at
+# least 2 and at most 1,000,000; the numbers 1 and 3 are a bit apart, so that one bit of each makes the pair the other;
+# a cell must stay within 3 by 3 and behind the one before.
+UNNOTICED = {
+    "rows": 58, "cols": 58, "cut": 1 + 39, "shards": 5, "limit": 64, "most": 20,
+    "client": 64 + 64, "number": 63 + 63, "row": 2 + 2 + 1, "column": 2 + 1 + 1,
+}  # fmt: skip
+assert sum(UNNOTICED.values()) == 508 and 8 * len(FLIPPED) == 1_584  # as README.md says
+
 # Bytes that are no snapshot, and the fault that is told of them.
 NO_SNAPSHOTS = [
     (b"", "Truncated"),
@@ -396,6 +410,100 @@ def snapshots(program):
             yield case.name, run(program, case, stdout=output, preexec_fn=lambda: os.close(1))
 
 
+class FirstFault(Exception):
+    """The first fault of a snapshot's bytes."""
+
+
+class Snapshot:
+    """What docs/FORMATS.md says of bytes, field after field: the line of `check`, or a `FirstFault`.
+
+    `fields` has the name of each field that was read, and where its bytes are.
+    """
+
+    def __init__(self, held):
+        self.held, self.at, self.fields = held, 0, []
+        self.head()
+        self.batches()
+        if self.sum != self.total:
+            raise FirstFault("TotalDiffers")
+        if self.at < len(held):
+            raise FirstFault("ExtraBytes")
+
+    def take(self, name, size, is_good, fault=None):
+        """The next field, which is judged once all its bytes are there."""
+        held = self.held[self.at : self.at + size]
+        if len(held) < size:
+            raise FirstFault("Truncated")
+        self.fields.append((name, range(self.at, self.at + size)))
+        self.at += size
+        value = int.from_bytes(held, "big")
+        if not is_good(value):
+            raise FirstFault(fault)
+        return value
+
+    def head(self):
+        def setting(name, least, most, size=8):
+            return self.take(name, size, lambda value: least <= value <= most, "BadHead")
+
+        self.take("mark", 8, lambda value: field(value) == b"HHMSNAP\n", "BadMark")
+        self.take("version", 4, lambda value: value == 1, "BadVersion")
+        self.rows, self.cols = setting("rows", 1, SIZE), setting("cols", 1, SIZE)
+        cut = 0
+        for _ in range(setting("cuts", 0, 7, 1)):
+            cut = setting("cut", cut + 1, 2**40)
+        self.shards = setting("shards", 1, 64, 1)
+        limit = setting("limit", 1, MOST)
+        self.count = setting("batches", 0, setting("most", 1, 1_000_000))
+        self.total = setting("total", 0, limit)
+
+    def batches(self):
+        self.sum, self.places, pairs = 0, set(), set()
+        for _ in range(self.count):
+            client = self.take("client", 8, lambda _: True)
+            number = self.take("number", 8, lambda value: (client, value) not in pairs, "RepeatedNumber")
+            pairs.add((client, number))
+            self.cells(self.take("entries", 8, lambda _: True))
+
+    def cells(self, count):
+        before = (-1, -1)
+        for _ in range(count):
+            row = self.take("row", 8, lambda value: value < self.rows, "BadBatch")
+            col = self.take("column", 8, lambda value: value < self.cols, "BadBatch")
+            if (row, col) <= before:
+                raise FirstFault("OutOfOrder")
+            before = row, col
+            self.places.add(before)
+            self.sum += self.take("count", 8, lambda value: self.sum + value <= self.total, "TotalDiffers")
+
+    def line(self):
+        return (
+            f"rows {self.rows} cols {self.cols} shards {self.shards} "
+            f"batches {self.count} total {self.total} entries {len(self.places)}"
+        )
+
+
+def flipped_bits(program):
+    """Each bit of a snapshot flipped by itself: the format's first fault, or what the other snapshot holds."""
+    unnoticed = {}
+    with tempfile.TemporaryDirectory() as folder:
+        path = os.path.join(folder, "file")
+        for name, places in Snapshot(FLIPPED).fields:
+            wrong = []
+            for bit in range(8 * places.start, 8 * places.stop):
+                held = bytearray(FLIPPED)
+                held[bit // 8] ^= 1 << bit % 8
+                with open(path, "wb") as file:
+                    file.write(held)
+                try:
+                    case = Case("", ["check", path], output=Snapshot(held).line() + "\n")
+                    unnoticed[name] = unnoticed.get(name, 0) + 1
+                except FirstFault as fault:
+                    case = checked("", path, f"snapshot: {fault}", 3)
+                wrong += [f"bit {bit}: {what}" for what in run(program, case)]
+            yield f"a flipped bit of {name} at byte {places.start}", wrong
+    yield "the bits that aren't noticed", [] if unnoticed == UNNOTICED else [f"{unnoticed} in place of {UNNOTICED}"]
+
+
 def the_example(program):
     """The example of README.md: the block there is what the program writes."""
     with open(os.path.join(HERE, "..", "README.md"), encoding="utf-8") as readme:
@@ -407,7 +515,8 @@ def the_example(program):
 
 
 DEVICES = [
-    a_folder_as_input, an_output_that_fails, an_input_that_stays_open, a_limit_of_memory, snapshots, the_example,
+    a_folder_as_input, an_output_that_fails, an_input_that_stays_open, a_limit_of_memory, snapshots, flipped_bits,
+    the_example,
 ]  # fmt: skip
 
 

@@ -324,6 +324,38 @@ def a_link_as_a_snapshot_is_replaced():
     check("a link: the file", server.content(path), after)
 
 
+def flipped_bits_are_told_or_not():
+    """A flipped bit of a setup is another setup; one of a client's number isn't noticed, and its batch counts again."""
+    path = in_folder("flipped.snap")
+    held = program.snapshot([(7, 1, [(0, 0, 5)])], 5)
+    for name, place, bit in [("rows", 19, 1 << 4), ("shards", 45, 1 << 0), ("most batches", 61, 1 << 4)]:
+        other = bytearray(held)
+        other[place] ^= bit
+        write(path, other)
+        check(f"another setup: {name}", run(["--unix", in_folder("unused"), *SMALL, "--snapshot", path]),
+              ("", "hhm: settings: SnapshotDiffers\n", 2))
+    other = bytearray(held)
+    other[85] ^= 1
+    check("a flipped client", bytes(other), program.snapshot([(6, 1, [(0, 0, 5)])], 5))
+    write(path, other)
+    with Server([*SMALL, "--snapshot", path], tcp=False) as at:
+        with at.link() as link:
+            check("a flipped client: it counts again", asked(link, put_frame(7, 1, text(5)), 21), accepted(1, 10))
+            check("a flipped client: stop", asked(link, STOP, 5), STOPPING)
+        at.ends("a flipped client", 2, 10)
+
+
+def two_servers_overwrite_each_other():
+    """Of two servers with one path for snapshots each save replaces the other's."""
+    path = in_folder("shared.snap")
+    with Server([*SMALL, "--snapshot", path], unix=False) as first, Server([*SMALL, "--snapshot", path]) as second:
+        for at, client, unix in [(first, 7, False), (second, 8, True)]:
+            with at.link(unix) as link:
+                check("two servers: put", asked(link, put_frame(client, 1, text(5)), 21), accepted(0, 5))
+                check("two servers: save", asked(link, SAVE, 13), struct.pack(">IBQ", 8, 0x86, 1))
+            check("two servers: the file", server.content(path), program.snapshot([(client, 1, [(0, 0, 5)])], 5))
+
+
 def no_output_is_taken():
     """A full device as standard output: told with how much was taken, and the path is removed."""
     unix = in_folder("unheard")
@@ -487,6 +519,8 @@ def main():
         no_plain_file_is_told()
         owner_and_mode_are_kept()
         a_link_as_a_snapshot_is_replaced()
+        flipped_bits_are_told_or_not()
+        two_servers_overwrite_each_other()
         no_output_is_taken()
         the_last_line_is_not_taken()
         memory_is_refused()
