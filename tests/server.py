@@ -20,9 +20,11 @@ import sys
 import tempfile
 import threading
 import time
+import types
 
 HERE = os.path.dirname(os.path.abspath(__file__))
 sys.path.insert(0, os.path.join(HERE, "..", "clients", "python"))
+import hhm_client  # noqa: E402
 from hhm_client import BANNER, Client, Refused, Status, cells_of, put_frame  # noqa: E402
 
 PROGRAM = ""
@@ -263,6 +265,52 @@ def client_asks(unix):
             run = subprocess.run([*tool, *words], input=given, capture_output=True, timeout=WAIT)
             check(f"client {' '.join(words)}", (run.stdout.decode(), run.returncode), (output, status))
         server.ends("client", 7, 9)
+
+
+def bad_addresses_are_told():
+    """A word that isn't HOST:PORT, in the command lines and in the module."""
+    folder = os.path.join(HERE, "..", "clients", "python")
+    for word in ["nowhere", ":7000", "localhost:", "localhost:x", "localhost:0", "localhost:65536", "localhost:-1",
+                 "::1", "::1:7000", "[]:7000", "[::1]", "localhost:\u0661", "localhost: 1", ""]:
+        for tool in [["hhm_client.py", "--tcp", word, "status"], ["count_log.py", "--tcp", word, "--client", "1", "x"]]:
+            run = subprocess.run([sys.executable, *tool], cwd=folder, capture_output=True, text=True, timeout=WAIT)
+            told = run.stderr.endswith(f"error: argument --tcp: {word!r} isn't HOST:PORT\n")
+            check(f"{tool[0]} {word!r}", (run.stdout, told, run.returncode), ("", True, 2))
+        try:
+            Client(tcp=word)
+            check(f"the module: {word!r}", "taken", "refused")
+        except ValueError as fault:
+            check(f"the module: {word!r}", str(fault), f"{word!r} isn't HOST:PORT")
+    for word, wanted in [("127.0.0.1:7000", ("127.0.0.1", 7000)), ("[::1]:65535", ("::1", 65535)), ("a:1", ("a", 1))]:
+        check(f"the address {word}", hhm_client.host_and_port(word), wanted)
+
+
+def attempts_last_a_minute():
+    """By a clock that is told of each pause: a client tries for a minute, and finds a server that starts late."""
+    pauses = []
+    clock, hhm_client.time = hhm_client.time, types.SimpleNamespace(sleep=pauses.append)
+    try:
+        try:
+            Client(unix=os.path.join(FOLDER, "nobody")).status()
+            check("no server", "an answer", "a fault")
+        except OSError:
+            check("no server: a minute", 60 <= sum(pauses) <= 70, True)
+        begun = []
+
+        def sleep(seconds):
+            pauses.append(seconds)
+            if sum(pauses) > 40 and not begun:
+                begun.append(Server(SMALL))
+
+        pauses.clear()
+        hhm_client.time = types.SimpleNamespace(sleep=sleep)
+        with Client(unix=os.path.join(FOLDER, "socket"), client=7, rows=3, cols=3, timeout=WAIT) as hhm:
+            check("a server that starts late", hhm.put(1, [(0, 0, 5)]), (0, 5))
+        check("it did", len(begun), 1)
+        with begun[0] as server:
+            server.stop("a server that starts late", 1, 5)
+    finally:
+        hhm_client.time = clock
 
 
 def a_log_is_counted():
@@ -645,6 +693,8 @@ def main():
         for unix in [True, False]:
             frames_are_answered(unix)
             client_asks(unix)
+        bad_addresses_are_told()
+        attempts_last_a_minute()
         a_log_is_counted()
         lost_replies_count_once()
         a_pair_is_for_one_batch()

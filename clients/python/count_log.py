@@ -18,7 +18,7 @@ import sys
 from collections import Counter
 
 sys.path.insert(0, os.path.dirname(os.path.abspath(__file__)))
-from hhm_client import Client, Refused
+from hhm_client import Client, Refused, address
 
 ADDRESSES = 1 << 32
 LINES = 10_000
@@ -54,7 +54,7 @@ def batches(log, skipped):
 def main():
     words = argparse.ArgumentParser(description="Feeds a log of connections into a server of hhm.")
     where = words.add_mutually_exclusive_group(required=True)
-    where.add_argument("--tcp", metavar="HOST:PORT")
+    where.add_argument("--tcp", type=address, metavar="HOST:PORT")
     where.add_argument("--unix", metavar="PATH")
     words.add_argument("--client", type=int, required=True, help="this log's number, of no other log")
     words.add_argument("log")

@@ -133,6 +133,16 @@ def cells_of(text: bytes) -> Iterator[Tuple[int, int, int]]:
         yield int(row) - 1, int(col) - 1, int(count)
 
 
+def host_and_port(word: str) -> Tuple[str, int]:
+    """The host and the port of a word HOST:PORT; the host of an IPv6 address stands in brackets."""
+    host, _, port = word.rpartition(":")
+    bare = host[1:-1] if host.startswith("[") and host.endswith("]") else host
+    has_port = port.isascii() and port.isdigit() and len(port) <= 5 and 1 <= int(port) <= 65535
+    if not bare or (bare == host and ":" in host) or not has_port:
+        raise ValueError(f"{word!r} isn't HOST:PORT")
+    return bare, int(port)
+
+
 def put_frame(client: int, number: int, text: Text) -> bytes:
     """The frame that puts a batch."""
     if len(text) + 16 > MOST_BODY:
@@ -147,7 +157,8 @@ class Client:
     no other program uses: with a batch's own number it tells batches apart, as the text of this module says;
     `rows` and `cols` are the server's dimensions, for `put` of cells. `timeout` is in seconds, for each answer.
     `attempts` is how often a request is sent before a fault of the connection is given up, with `pause` seconds after
-    the first fault and twice as many after each further one, at most ten.
+    the first fault and twice as many after each further one, at most ten. By the defaults the last attempt comes after
+    62 seconds of pauses, since a server that starts from a million batches answers only after ten or so.
     """
 
     def __init__(
@@ -159,11 +170,13 @@ class Client:
         rows: Optional[int] = None,
         cols: Optional[int] = None,
         timeout: Optional[float] = 60,
-        attempts: int = 8,
+        attempts: int = 14,
         pause: float = 0.05,
     ):
         if (tcp is None) == (unix is None):
             raise ValueError("give tcp or unix, and not both")
+        if tcp is not None:
+            host_and_port(tcp)
         self.tcp, self.unix, self.client, self.rows, self.cols = tcp, unix, client, rows, cols
         self.timeout, self.attempts, self.pause = timeout, attempts, pause
         self._link: Optional[socket.socket] = None
@@ -263,8 +276,7 @@ class Client:
                     link.close()
                     raise
             else:
-                host, port = self.tcp.rsplit(":", 1)
-                link = socket.create_connection((host.strip("[]"), int(port)), self.timeout)
+                link = socket.create_connection(host_and_port(self.tcp), self.timeout)
                 link.setsockopt(socket.IPPROTO_TCP, socket.TCP_NODELAY, 1)
             self._link = link
         return self._link
@@ -346,13 +358,23 @@ def number(word: str) -> int:
     return value
 
 
+def address(word: str) -> str:
+    """An address of the command line, HOST:PORT."""
+    try:
+        host_and_port(word)
+    except ValueError as fault:
+        raise argparse.ArgumentTypeError(str(fault)) from None
+    return word
+
+
 def parser() -> argparse.ArgumentParser:
     words = argparse.ArgumentParser(description="Asks a server of hhm. Rows and columns count from 0.")
     where = words.add_mutually_exclusive_group(required=True)
-    where.add_argument("--tcp", metavar="HOST:PORT")
+    where.add_argument("--tcp", type=address, metavar="HOST:PORT")
     where.add_argument("--unix", metavar="PATH")
     words.add_argument("--timeout", type=float, default=60, metavar="SECONDS", help="for each answer (60)")
-    words.add_argument("--attempts", type=int, default=8, metavar="N", help="how often a request is sent (8)")
+    attempts = "how often a request is sent (14, for a minute where no server is there)"
+    words.add_argument("--attempts", type=int, default=14, metavar="N", help=attempts)
     asked = words.add_subparsers(dest="word", required=True)
     put = asked.add_parser("put", help="puts a Matrix Market text as a batch")
     put.add_argument("client", type=number)
