@@ -2,8 +2,11 @@
 //!
 //! Nothing is known beforehand of a real file's bytes, so what these calls do to one is shown by tests: the contracts
 //! that they rest on are those of `write_snapshot` and `read_snapshot`.
+ghost use Rattle.std.specs.Prelude.{◌≢◌, IfErr};
 ghost use Rattle.batch_store.specs.Batches.{values};
 ghost use Rattle.batch_store.specs.Books.{AreAccepted};
+ghost use Rattle.snap_file.specs.declared.fault.SnapFault.{SnapFault};
+ghost use Rattle.snap_file.specs.declared.fault.FileFault.{FileFault};
 
 use crate::access::{Access, access_under, make_file};
 use crate::fault::{FileFault, SaveFault};
@@ -102,7 +105,10 @@ pub fn load<R: Files>(
     alloc: Global,
     path: &str,
     max_bytes: u64,
-) -> Result<Snapshot, FileFault> {
+) -> Result<Snapshot, FileFault>
+    // Want of memory is told as such.
+    ensures memory { IfErr result (λ f. f ≢ FileFault.Snap SnapFault.Memory) }
+{
     refuse_device(rt, path)?;
     let file = match fs::open(rt, path) {
         Ok(file) => file,
@@ -114,7 +120,9 @@ pub fn load<R: Files>(
 }
 
 // Refuses what is neither a file nor a folder before it is opened: the opening of a FIFO would wait for a writer.
-fn refuse_device<R: Files>(rt: &R, path: &str) -> Result<(), FileFault> {
+fn refuse_device<R: Files>(rt: &R, path: &str) -> Result<(), FileFault>
+    ensures { IfErr result (λ f. f ≢ FileFault.Snap SnapFault.Memory) }
+{
     match fs::metadata(rt, path) {
         Ok(found) if found.is_file() || found.is_dir() => Ok(()),
         Ok(_) => Err(FileFault::OpenFailed),
@@ -123,7 +131,9 @@ fn refuse_device<R: Files>(rt: &R, path: &str) -> Result<(), FileFault> {
 }
 
 // Why a file wasn't opened.
-fn opening_fault(kind: io::ErrorKind) -> FileFault {
+fn opening_fault(kind: io::ErrorKind) -> FileFault
+    ensures { result ≢ FileFault.Snap SnapFault.Memory }
+{
     match kind {
         io::ErrorKind::NotFound => FileFault::NotFound,
         io::ErrorKind::OutOfMemory => FileFault::Memory,
