@@ -153,9 +153,9 @@ def each_step_of_a_save_fails():
 
 
 def refuse_calls(*numbers):
-    """From here on the system refuses these calls of this process and of those that it starts, as failures of a device.
+    """From here on the system refuses these calls of this process, as failures of a device; False where it can't.
 
-    For x86-64; False where it can't be asked for that.
+    The numbers of calls are those of x86-64.
     """
     allow, refuse, code = 0x7FFF0000, 0x00050000 + errno.EIO, [(0x20, 0, 0, 0)]
     for number in numbers:
@@ -168,12 +168,13 @@ def refuse_calls(*numbers):
 
 
 def no_sync_is_made():
-    """A file that can't be synced isn't renamed."""
-    if platform.machine() != "x86_64":
-        return
+    """A file that can't be synced isn't renamed. Tried where calls may be refused."""
     path, before = in_folder("Sync.snap"), program.snapshot([(7, 1, [(0, 0, 5)])], 5)
-    write(path, before)
     fsync = 74
+    tried = subprocess.run(["true"], preexec_fn=lambda: refuse_calls(fsync) or os._exit(1))
+    if platform.machine() != "x86_64" or tried.returncode != 0:
+        return
+    write(path, before)
     with Server([*SMALL, "--snapshot", path], tcp=False, preexec_fn=lambda: refuse_calls(fsync)) as at:
         with at.link() as link:
             check("Sync: put", asked(link, put_frame(8, 1, text(3)), 21), accepted(1, 8))
