@@ -1,11 +1,12 @@
 #!/usr/bin/env python3
 """Starts the built program as a server where something fails, and compares what it tells and how it ends.
 
-    python3 tests/server_faults.py PATH-TO-HHM
+    python3 tests/server_faults.py PATH-TO-HHM [--long]
 
-Devices, descriptors, memory and threads fail here; what a server answers where nothing does is in server.py. What is
-wanted was worked out by hand from docs/FORMATS.md. It prints a line for each check that fails and at the end
-`N passed, M failed`; the status is 1 where one fails. Linux, and nothing but Python's own library.
+Devices, descriptors, memory and threads fail here, and clients that are silent or rude; what a server answers where
+nothing does is in server.py. What is wanted was worked out by hand from docs/FORMATS.md. It prints a line for each
+check that fails and at the end `N passed, M failed`; the status is 1 where one fails. With `--long` a server has no
+descriptors until its acceptor ends, some two minutes more. Linux, and nothing but Python's own library.
 
 `records differ` has no test: no input brings a server to it.
 """
@@ -36,6 +37,10 @@ STATUS = struct.pack(">IB", 0, 4)
 SAVE = struct.pack(">IB", 0, 6)
 STOP = struct.pack(">IB", 0, 7)
 STOPPING = struct.pack(">IB", 0, 0x87)
+BAD_KIND = struct.pack(">IB", 0, 9)
+
+# The most seconds from the end of a server's last session to its own end.
+END_WAIT = 5
 
 
 def counts(batches, total):
@@ -79,7 +84,8 @@ def is_silent(link, seconds):
 
 def numbers_come_first():
     """An option that is no number is told before all that is wrong beside it."""
-    for option in ["--rows", "--cols", "--cuts", "--shards", "--workers", "--limit", "--max-batches", "--sessions"]:
+    for option in ["--rows", "--cols", "--cuts", "--shards", "--workers", "--limit", "--max-batches", "--sessions",
+                   "--idle"]:
         for word in ["", "-1", "+1", "1x", " 1", "18446744073709551616", "0" * 21]:
             rest = {"--rows": "0", "--cols": "0"}
             rest[option] = word
@@ -459,20 +465,260 @@ def accepting_goes_on_after_faults(unix):
         at.ends("no descriptors for a while", 2, 8)
 
 
-def an_acceptor_ends_after_sixteen_faults():
-    """Without descriptors for some six seconds the server takes no further connection, and ends with those it has."""
+def a_long_want_of_descriptors_ends_nothing():
+    """Without descriptors for nine seconds a server takes connections again once it has some."""
     with Server(SMALL, tcp=False) as at:
         with at.link() as first:
             check("the first", asked(first, put_frame(7, 1, text(5)), 21), accepted(0, 5))
             most = resource.prlimit(at.process.pid, resource.RLIMIT_NOFILE)[0]
             limit_descriptors(at.process, descriptors_of(at.process))
-            with at.link(), at.link() as third:
-                third.sendall(STATUS)
-                check("none is accepted", is_silent(third, 9), True)
+            with at.link() as second:
+                second.sendall(STATUS)
+                check("none is accepted", is_silent(second, 9), True)
                 limit_descriptors(at.process, most)
-                check("nor later", is_silent(third, 2), True)
+                check("it is later", received(second, 21), counts(1, 5))
+            check("stop", asked(first, STOP, 5), STOPPING)
+        at.ends("no descriptors for nine seconds", 1, 5)
+
+
+def a_pause_between_faults_holds_no_end():
+    """A Stop while an acceptor waits for some ten seconds, since there are no descriptors."""
+    for unix in [True, False]:
+        path = in_folder("paused.snap")
+        with Server([*SMALL, "--snapshot", path], tcp=not unix, unix=unix) as at:
+            with at.link(unix) as first:
+                check("put", asked(first, put_frame(7, 1, text(5)), 21), accepted(0, 5))
+                limit_descriptors(at.process, descriptors_of(at.process))
+                with at.link(unix) as second:
+                    second.sendall(STATUS)
+                    check("none is accepted", is_silent(second, 11), True)
+                    check("stop", asked(first, STOP, 5), STOPPING)
+                    first.close()
+                    ends_soon(at, "in a pause", path)
+        os.remove(path)
+
+
+def an_acceptor_ends_after_sixteen_faults():
+    """Without descriptors for 131 seconds the server takes no further connection, and ends with those it has."""
+    with Server(SMALL, tcp=False) as at:
+        with at.link() as first:
+            check("the first", asked(first, put_frame(7, 1, text(5)), 21), accepted(0, 5))
+            most = resource.prlimit(at.process.pid, resource.RLIMIT_NOFILE)[0]
+            limit_descriptors(at.process, descriptors_of(at.process))
+            with at.link() as second:
+                second.sendall(STATUS)
+                check("none is accepted", is_silent(second, 134), True)
+                limit_descriptors(at.process, most)
+                check("nor later", is_silent(second, 31), True)
                 check("the session goes on", asked(first, STATUS, 21), counts(1, 5))
-        at.ends("no descriptors for long", 1, 5)
+        at.ends("no descriptors for minutes", 1, 5)
+
+
+def ends_soon(at, name, path):
+    """Whether the server ends well within some seconds, with one batch saved."""
+    begun = time.monotonic()
+    try:
+        output, error = at.process.communicate(timeout=END_WAIT)
+    except subprocess.TimeoutExpired:
+        at.process.kill()
+        output, error = at.process.communicate()
+    took = time.monotonic() - begun
+    check(f"{name}: the end", (output, error, at.process.returncode), ("stopped batches 1 total 5\n", "", 0))
+    check(f"{name}: soon", took < END_WAIT, True)
+    saved = None
+    if os.path.exists(path):
+        with open(path, "rb") as file:
+            saved = file.read()
+    check(f"{name}: the snapshot", saved, program.snapshot([(7, 1, [(0, 0, 5)])], 5))
+
+
+def replace_by_file(path):
+    os.remove(path)
+    with open(path, "w") as file:
+        file.write("another's")
+
+
+def replace_by_socket(path):
+    os.remove(path)
+    other = socket.socket(socket.AF_UNIX)
+    other.bind(path)
+    other.listen(1)
+    return other
+
+
+def what_stands(path):
+    """What stands under a path: another's file, a socket that somebody listens at, or nothing."""
+    if os.path.isfile(path):
+        with open(path) as file:
+            return file.read()
+    if not os.path.lexists(path):
+        return "nothing"
+    with socket.socket(socket.AF_UNIX) as link:
+        link.settimeout(WAIT)
+        link.connect(path)
+    return "a listener"
+
+
+def a_stop_ends_wherever_the_path_is(tcp, is_full):
+    """The Unix socket's path was removed, renamed or replaced: the server ends, and leaves alone what isn't its own."""
+    snapshot = in_folder("gone.snap")
+    for name, change, left in [
+        ("there", lambda path: None, "nothing"),
+        ("removed", os.remove, "nothing"),
+        ("renamed", lambda path: os.rename(path, path + ".old"), "nothing"),
+        ("replaced by a file", replace_by_file, "another's"),
+        ("replaced by a socket", replace_by_socket, "a listener"),
+    ]:
+        name = f"a path that is {name}, tcp {tcp}, full {is_full}"
+        with Server([*SMALL, "--workers", "1", "--snapshot", snapshot], tcp=tcp) as at:
+            with at.link() as first:
+                check(f"{name}: put", asked(first, put_frame(7, 1, text(5)), 21), accepted(0, 5))
+                links = []
+                if is_full:
+                    links = fill_queue(at, True, 400) + (fill_queue(at, False, 400) if tcp else [])
+                other = change(at.path)
+                check(f"{name}: stop", asked(first, STOP, 5), STOPPING)
+            for link in links:
+                link.close()
+            ends_soon(at, name, snapshot)
+            check(f"{name}: afterwards", what_stands(at.path), left)
+            if other:
+                other.close()
+        os.remove(snapshot)
+        for path in [at.path, at.path + ".old"]:
+            if os.path.lexists(path):
+                os.remove(path)
+
+
+def a_stop_needs_no_connection(unix):
+    """A server that can't connect to its own addresses, for want of descriptors, ends after a Stop."""
+    path = in_folder("alone.snap")
+    with Server([*SMALL, "--snapshot", path], unix=unix) as at:
+        with at.link(False) as first:
+            check("put", asked(first, put_frame(7, 1, text(5)), 21), accepted(0, 5))
+            limit_descriptors(at.process, descriptors_of(at.process))
+            check("stop", asked(first, STOP, 5), STOPPING)
+        ends_soon(at, "no descriptor for a connection", path)
+    os.remove(path)
+
+
+def replies_outlive_a_bad_header(unix):
+    """A bad header with bytes behind it: the replies before it and the refusal come, each time, and the end."""
+    rest = bytes(200_000)
+    asks = put_frame(7, 1, text(5)) + STATUS + BAD_KIND + rest
+    wanted = accepted(0, 5) + counts(1, 5) + refused(51)
+    with Server(SMALL, tcp=not unix, unix=unix) as at:
+        lost = 0
+        for _ in range(100):
+            with at.link(unix) as link:
+                try:
+                    link.sendall(asks)
+                    time.sleep(0.005)
+                    lost += received(link, len(wanted) + 1) != wanted
+                except ConnectionError:
+                    lost += 1
+        check(f"replies before a bad header, unix {unix}", lost, 0)
+        # A put that is too long, sent whole before the reply is read.
+        with at.link(unix) as link:
+            try:
+                link.sendall(struct.pack(">IB", 20 << 20, 1) + bytes(20 << 20))
+                answer = received(link, 16)
+            except ConnectionError:
+                answer = None
+        check(f"a put that is too long, unix {unix}", answer, refused(50))
+        with at.link(unix) as link:
+            link.sendall(STOP + rest)
+            check(f"a Stop with bytes behind it, unix {unix}", received(link, 6), STOPPING)
+        at.ends("bytes that nobody wants", 1, 5)
+
+
+def a_rude_client_holds_no_worker(unix):
+    """After a bad header the one worker is free within some seconds, whether the client sends on or is silent."""
+    with Server([*SMALL, "--workers", "1"], tcp=not unix, unix=unix) as at:
+        for sends in [True, False]:
+            with at.link(unix) as rude, at.link(unix) as other:
+                rude.sendall(BAD_KIND)
+                check("the refusal", received(rude, 15), refused(51))
+                other.sendall(STATUS)
+                other.settimeout(0.01)
+                begun, answer = time.monotonic(), b""
+                while not answer and time.monotonic() - begun < WAIT:
+                    try:
+                        answer = other.recv(21)
+                    except TimeoutError:
+                        pass
+                    if sends:
+                        try:
+                            rude.send(bytes(100))
+                        except OSError:
+                            sends = False
+                check("the other is served", answer, counts(0, 0))
+                check("within some seconds", time.monotonic() - begun < END_WAIT, True)
+        with at.link(unix) as link:
+            check("stop", asked(link, STOP, 5), STOPPING)
+        at.ends("a rude client", 0, 0)
+
+
+def silent_clients_are_let_go(unix):
+    """With an idle limit, as many silent clients as there are workers keep nobody out, and what they put stands."""
+    path = in_folder("idle.snap")
+    with Server([*SMALL, "--workers", "4", "--idle", "1", "--snapshot", path], tcp=not unix, unix=unix) as at:
+        begun = time.monotonic()
+        silent = [at.link(unix) for _ in range(4)]
+        check("put", asked(silent[0], put_frame(7, 1, text(5)), 21), accepted(0, 5))
+        silent[1].sendall(put_frame(8, 1, text(3))[:-1])
+        with at.link(unix) as link:
+            check("saved", asked(link, SAVE, 13), struct.pack(">IBQ", 8, 0x86, 1))
+            took = time.monotonic() - begun
+            check("after the limit", 0.9 < took < END_WAIT, True)
+            for _ in range(3):
+                time.sleep(0.5)
+                check("who sends goes on", asked(link, STATUS, 21), counts(1, 5))
+            check("stop", asked(link, STOP, 5), STOPPING)
+        check("the end of silent ones", [received(link, 1) for link in silent], [b""] * 4)
+        for link in silent:
+            link.close()
+        ends_soon(at, "silent clients", path)
+    os.remove(path)
+
+
+def a_client_that_reads_nothing_is_let_go(unix):
+    """With an idle limit, a client that takes no replies doesn't keep the one worker."""
+    with Server([*SMALL, "--workers", "1", "--idle", "1"], tcp=not unix, unix=unix) as at:
+        with at.link(unix) as deaf:
+            check("put", asked(deaf, put_frame(7, 1, text(5)), 21), accepted(0, 5))
+            deaf.setblocking(False)
+            exports = struct.pack(">IB", 0, 5) * 10_000
+            sent, idle_since = 0, time.monotonic()
+            # Until nothing more is taken for a while: both sides of the connection are full.
+            while sent < 1 << 26 and time.monotonic() - idle_since < 0.5:
+                try:
+                    sent += deaf.send(exports)
+                    idle_since = time.monotonic()
+                except BlockingIOError:
+                    time.sleep(0.01)
+                except ConnectionError:
+                    break
+            with at.link(unix) as other:
+                begun = time.monotonic()
+                check("the other is served", asked(other, STATUS, 21), counts(1, 5))
+                check("within some seconds", time.monotonic() - begun < END_WAIT, True)
+                check("stop", asked(other, STOP, 5), STOPPING)
+        at.ends("a client that reads nothing", 1, 5)
+
+
+def without_a_limit_silence_is_kept():
+    """Without an idle limit, and with 0, who is silent for a while is served afterwards, inside a frame too."""
+    for words in [[], ["--idle", "0"], ["--idle", "18446744073709551615"]]:
+        with Server([*SMALL, *words]) as at:
+            with at.link(True) as first, at.link(False) as second:
+                for link in [first, second]:
+                    link.sendall(STATUS[:3])
+                time.sleep(1.5)
+                for link in [first, second]:
+                    check(f"after some silence, {words}", asked(link, STATUS[3:], 21), counts(0, 0))
+                check("stop", asked(first, STOP, 5), STOPPING)
+            at.ends("silence", 0, 0)
 
 
 def fill_queue(at, unix, most):
@@ -529,7 +775,18 @@ def main():
         for unix in [True, False]:
             accepting_goes_on_after_faults(unix)
             a_full_queue_holds_no_end(unix)
-        an_acceptor_ends_after_sixteen_faults()
+            a_stop_needs_no_connection(unix)
+            replies_outlive_a_bad_header(unix)
+            a_rude_client_holds_no_worker(unix)
+            silent_clients_are_let_go(unix)
+            a_client_that_reads_nothing_is_let_go(unix)
+            for is_full in [True, False]:
+                a_stop_ends_wherever_the_path_is(unix, is_full)
+        without_a_limit_silence_is_kept()
+        a_long_want_of_descriptors_ends_nothing()
+        a_pause_between_faults_holds_no_end()
+        if "--long" in sys.argv[2:]:
+            an_acceptor_ends_after_sixteen_faults()
     print(f"{server.passed} passed, {server.failed} failed")
     return 1 if server.failed else 0
 

@@ -11,6 +11,7 @@ use snap_file::{FileFault, SaveFault, SnapFault};
 use socket_server::{ServerFault, Settings};
 use std::alloc::{AllocError, Global};
 use std::fmt;
+use std::num::NonZeroU64;
 
 /// Why a server was not run, or didn't end well, as the program tells it.
 #[derive(Drop)]
@@ -72,6 +73,14 @@ fn number_of(matches: &ArgMatches, name: &str) -> Result<u64, Fault> {
     }
 }
 
+// The number of an option that is left out or 0 where there is to be no limit.
+fn limit_of(matches: &ArgMatches, name: &str) -> Result<Option<NonZeroU64>, Fault> {
+    if matches.get_str(name).is_none() {
+        return Ok(None);
+    }
+    Ok(NonZeroU64::new(number_of(matches, name)?))
+}
+
 // The word of an option, if it is given.
 fn word_of(alloc: Global, matches: &ArgMatches, name: &str) -> Result<Option<String>, AllocError> {
     match matches.get_str(name) {
@@ -90,6 +99,7 @@ pub fn settings_of(alloc: Global, matches: &ArgMatches) -> Result<Settings, Faul
     let limit = number_of(matches, "limit")?;
     let max_batches = number_of(matches, "max-batches")?;
     let sessions = number_of(matches, "sessions")?;
+    let idle = limit_of(matches, "idle")?;
     let setup = Setup::new(rows, cols, &cuts, shards, limit, max_batches)?;
     Ok(Settings {
         tcp: word_of(alloc, matches, "tcp")?,
@@ -98,5 +108,6 @@ pub fn settings_of(alloc: Global, matches: &ArgMatches) -> Result<Settings, Faul
         workers,
         snapshot: word_of(alloc, matches, "snapshot")?,
         sessions,
+        idle,
     })
 }

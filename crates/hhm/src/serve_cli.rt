@@ -14,7 +14,8 @@ was accepted there, when a client asks for it and at the end; what came after
 the last save is lost if the process is killed. A Unix socket's path must not
 exist at the start, and is removed at the end.
 
-A connection keeps its worker until it is closed, whether it sends or not.
+A connection keeps its worker until it is closed, whether it sends or not, or
+until it has sent nothing for the time of --idle.
 
 A fault is one line on standard error:
 
@@ -130,5 +131,11 @@ pub fn serve_command<'a>(alloc: Global) -> Result<Command<'a>, AllocError> {
             "N",
             "1099511627776",
             "End after so many connections",
+        ))?
+        .arg(option(
+            alloc,
+            "idle",
+            "SECONDS",
+            "End a connection that has sent or taken nothing for so long; 0: never, as without it",
         ))
 }

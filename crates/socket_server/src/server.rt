@@ -7,112 +7,50 @@ ghost use Rattle.batch_store.specs.Batches.{entries_of};
 ghost use Rattle.locked_engine.specs.Opened.{NamesEngine};
 ghost use Rattle.socket_server.specs.Faults.{IsMet};
 
+use crate::bind::{Doors, Places, open_doors, tell};
 use crate::fault::ServerFault;
 use crate::host::Host;
-use crate::numbers::SessionNumbers;
-use crate::serving::{Doors, close_all, serve_doors};
-use crate::settings::Settings;
+use crate::serving::{close_all, serve_doors};
+use crate::settings::{Settings, idle_limit};
 use crate::start::starting_engine;
-use crate::stop::StopGate;
-use byte_io::{Sink, WriteFault, write_all};
+use byte_io::Sink;
 use locked_engine::{Engine, Named, Names, Seat, Status};
 use plain_engine::PlainEngine;
 use session_pool::{Disk, Saver};
 use std::alloc::Global;
 use std::marker::Brand;
 use std::net::{Net, TcpListener, TcpStream};
-use std::os::unix::net::UnixListener;
 use std::random::RandomSource;
 use std::sync::Wait;
 use std::sync::ledger::Ledger;
 use std::thread::Threads;
 use std::time::Clock;
 
-// Where a server listens, how many sessions it takes, and where it saves.
+// Where a server listens, and where it saves.
 #[derive(Drop)]
 struct Plan {
-    tcp: Option<String>,
-    unix: Option<String>,
-    sessions: u64,
+    places: Places,
     saver: Saver,
 }
 
-// Writes a line, and counts its bytes.
-fn tell<W: Sink>(out: &mut W, written: &mut u128, line: &str) -> Result<(), ServerFault>
-    requires { W.failure_count out.old + 1 < 2 ^ 64 }
-    ensures failures { OnOk result (W.failure_count out.new ≡ W.failure_count out.old) }
-    ensures met { IfErr result IsMet }
-{
-    match write_all(out, line.as_bytes()) {
-        Ok(()) => {
-            *written = written.saturating_add(line.len() as u128);
-            Ok(())
-        }
-        Err(fault) => Err(ServerFault::Output(WriteFault {
-            written: written.saturating_add(fault.written),
-        })),
-    }
-}
-
-// A listener at the address, if one is given, which is told with the port that it got.
-fn bind_tcp<R: Net<Listener = TcpListener, Stream = TcpStream>, W: Sink>(
-    rt: &R,
-    alloc: Global,
-    address: Option<String>,
-    out: &mut W,
-    written: &mut u128,
-) -> Result<Option<TcpListener>, ServerFault>
-    requires { W.failure_count out.old + 1 < 2 ^ 64 }
-    ensures failures { OnOk result (W.failure_count out.new ≡ W.failure_count out.old) }
-    ensures met { IfErr result IsMet }
-{
-    let Some(address) = address else {
-        return Ok(None);
-    };
-    let Ok(listener) = TcpListener::bind(rt, address.as_str()) else {
-        return Err(ServerFault::Listen(address));
-    };
-    let Ok(own) = listener.local_addr() else {
-        return Err(ServerFault::Listen(address));
-    };
-    let Ok(line) = format!(in alloc; "listening tcp {own}\n") else {
-        return Err(ServerFault::Memory);
-    };
-    tell(out, written, line.as_str())?;
-    Ok(Some(listener))
-}
-
 // Serves at the listeners that are bound, closes the engine and saves.
-fn serve_bound<
+fn serve_open<
     N: Named + Send + Sync,
     H: Ledger + Send + Sync,
-    R: Threads + Wait + Clock + Disk + Net<Listener = TcpListener, Stream = TcpStream> + Sync,
+    R: Threads + Wait + Clock + Disk + Sync,
 >(
     rt: &R,
     alloc: Global,
     engine: Engine<N, H>,
     mut seats: Vec<Seat<N, H>>,
-    tcp: Option<TcpListener>,
-    unix: Option<UnixListener>,
-    path: Option<String>,
-    sessions: u64,
+    doors: &Doors,
     saver: &Saver,
 ) -> Result<Status, ServerFault>
     ensures status { IfOk result (λ s.
         (list : List Submission) × AreAccepted N.setup list × (s ≡ status_of list)) }
     ensures met { IfErr result IsMet }
 {
-    let own = match &tcp {
-        Some(listener) => listener.local_addr().ok(),
-        None => None,
-    };
-    let doors = Doors {
-        tcp,
-        unix,
-        gate: StopGate::new(own, path),
-        numbers: SessionNumbers::new(sessions),
-    };
-    if let Err(fault) = serve_doors(rt, alloc, &engine, seats.as_mut_slice(), &doors, saver) {
+    if let Err(fault) = serve_doors(rt, alloc, &engine, seats.as_mut_slice(), doors, saver) {
         drop(seats);
         engine.end(rt);
         return Err(fault);
@@ -120,83 +58,25 @@ fn serve_bound<
     close_all(rt, alloc, engine, seats, saver)
 }
 
-// A Unix socket that is bound: its path, the line that tells it, and its listener.
-fn bind_path<R: Host>(
-    rt: &R,
-    alloc: Global,
-    path: &str,
-) -> Result<(String, String, UnixListener), ServerFault>
-    ensures met { IfErr result IsMet }
-{
-    let Ok(own) = format!(in alloc; "{path}") else {
-        return Err(ServerFault::Memory);
-    };
-    let Ok(line) = format!(in alloc; "listening unix {path}\n") else {
-        return Err(ServerFault::Memory);
-    };
-    match rt.bind_unix(path) {
-        Ok(listener) => Ok((own, line, listener)),
-        Err(_) => Err(ServerFault::Listen(own)),
-    }
-}
-
-// Binds the Unix socket, serves there too, and removes its path.
-fn serve_unix<
+// Serves so, and removes the Unix socket's path.
+fn serve_bound<
     N: Named + Send + Sync,
     H: Ledger + Send + Sync,
-    R: Threads
-        + Wait
-        + Clock
-        + Disk
-        + Host
-        + Net<Listener = TcpListener, Stream = TcpStream>
-        + Sync,
-    W: Sink,
+    R: Threads + Wait + Clock + Disk + Host + Sync,
 >(
     rt: &R,
     alloc: Global,
     engine: Engine<N, H>,
     seats: Vec<Seat<N, H>>,
-    tcp: Option<TcpListener>,
-    path: String,
-    sessions: u64,
+    doors: Doors,
     saver: &Saver,
-    out: &mut W,
-    written: &mut u128,
 ) -> Result<Status, ServerFault>
-    requires { W.failure_count out.old + 1 < 2 ^ 64 }
-    ensures failures { OnOk result (W.failure_count out.new ≡ W.failure_count out.old) }
     ensures status { IfOk result (λ s.
         (list : List Submission) × AreAccepted N.setup list × (s ≡ status_of list)) }
     ensures met { IfErr result IsMet }
 {
-    let (own, line, listener) = match bind_path(rt, alloc, path.as_str()) {
-        Ok(bound) => bound,
-        Err(fault) => {
-            drop(seats);
-            engine.end(rt);
-            return Err(fault);
-        }
-    };
-    let outcome = match tell(out, written, line.as_str()) {
-        Ok(()) => serve_bound(
-            rt,
-            alloc,
-            engine,
-            seats,
-            tcp,
-            Some(listener),
-            Some(own),
-            sessions,
-            saver,
-        ),
-        Err(fault) => {
-            drop(seats);
-            engine.end(rt);
-            Err(fault)
-        }
-    };
-    rt.remove(path.as_str());
+    let outcome = serve_open(rt, alloc, engine, seats, &doors, saver);
+    doors.remove_path(rt);
     outcome
 }
 
@@ -233,28 +113,16 @@ fn serve_named<
     let Ok((engine, seats)) = Engine::<N, H>::open(alloc, plain, names) else {
         return Err(ServerFault::Memory);
     };
-    let Plan {
-        tcp,
-        unix,
-        sessions,
-        saver,
-    } = plan;
-    let listener = match bind_tcp(rt, alloc, tcp, out, written) {
-        Ok(listener) => listener,
+    let Plan { places, saver } = plan;
+    let doors = match open_doors(rt, alloc, places, out, written) {
+        Ok(doors) => doors,
         Err(fault) => {
             drop(seats);
             engine.end(rt);
             return Err(fault);
         }
     };
-    match unix {
-        Some(path) => serve_unix(
-            rt, alloc, engine, seats, listener, path, sessions, &saver, out, written,
-        ),
-        None => serve_bound(
-            rt, alloc, engine, seats, listener, None, None, sessions, &saver,
-        ),
-    }
+    serve_bound(rt, alloc, engine, seats, doors, &saver)
 }
 
 // Serves by so many workers, from an engine of this setup.
@@ -330,12 +198,16 @@ fn serve_settings<
         workers,
         snapshot,
         sessions,
+        idle,
     } = settings;
     let plain = starting_engine(rt, alloc, setup, &snapshot)?;
     let plan = Plan {
-        tcp,
-        unix,
-        sessions,
+        places: Places {
+            tcp,
+            unix,
+            sessions,
+            idle: idle_limit(idle),
+        },
         saver: Saver::new(snapshot),
     };
     serve_plan(rt, alloc, plain, workers, plan, out)
@@ -346,10 +218,10 @@ fn serve_settings<
 ///
 /// Writes a line for each listener once it is bound, `listening tcp ADDRESS` with the port that it got or
 /// `listening unix PATH`, and at the end `stopped batches B total T`. The Unix socket's path is removed before any
-/// answer.
+/// answer, unless another file stands there by then.
 ///
-/// It may wait for as long as clients keep their connections open: at the end each session that was accepted is served
-/// to its own end.
+/// It may wait for as long as clients keep their connections open, unless the settings have an idle limit: at the end
+/// each session that was accepted is served to its own end.
 ///
 /// # Errors
 ///

@@ -30,5 +30,6 @@ pub fn settings(
         workers: 2,
         snapshot: owned(alloc, snapshot)?,
         sessions: 1 << 40,
+        idle: None,
     })
 }

@@ -1,0 +1,205 @@
+//! Binds the listeners and tells where they are.
+ghost use Rattle.std.specs.Prelude.{◌≡◌, ◌+◌, ◌<◌, ◌^◌, IfErr, OnOk};
+ghost use Rattle.socket_server.specs.Faults.{IsMet};
+
+use crate::door::{Door, Listen};
+use crate::fault::ServerFault;
+use crate::host::{FileId, Host};
+use crate::numbers::SessionNumbers;
+use crate::shared::Shared;
+use crate::stop::StopGate;
+use byte_io::{Sink, WriteFault, write_all};
+use mio::Waker;
+use std::alloc::Global;
+use std::io;
+use std::net::{Net, TcpListener, TcpStream};
+use std::os::unix::net::UnixListener;
+use std::time::Duration;
+
+/// Where a server listens, how many connections it takes, and how long one may be silent.
+#[derive(Drop)]
+pub struct Places {
+    pub tcp: Option<String>,
+    pub unix: Option<String>,
+    pub sessions: u64,
+    pub idle: Option<Duration>,
+}
+
+/// The path at which a Unix socket was bound, and the file that was made there, where that could be told.
+#[derive(Drop)]
+struct OwnPath {
+    path: String,
+    file: Option<FileId>,
+}
+
+impl OwnPath {
+    // Removes the path, unless another file stands there by now. It is to be called while the listener is open: until
+    // then no other file gets the number of its file.
+    fn remove(&self, host: &impl Host) {
+        let path = self.path.as_str();
+        let found = host.file_id(path);
+        if self.file.is_none() || found.is_none() || self.file == found {
+            host.remove(path);
+        }
+    }
+}
+
+/// The listeners that are bound, and what their acceptors share.
+#[derive(Drop)]
+pub struct Doors {
+    pub tcp: Option<Door<TcpListener>>,
+    pub unix: Option<Door<UnixListener>>,
+    pub shared: Shared,
+    own: Option<OwnPath>,
+}
+
+impl Doors {
+    /// Removes the Unix socket's path, unless another file stands there by now.
+    pub fn remove_path(&self, host: &impl Host) {
+        if let Some(own) = &self.own {
+            own.remove(host);
+        }
+    }
+}
+
+/// Writes a line, and counts its bytes.
+pub fn tell<W: Sink>(out: &mut W, written: &mut u128, line: &str) -> Result<(), ServerFault>
+    requires { W.failure_count out.old + 1 < 2 ^ 64 }
+    ensures failures { OnOk result (W.failure_count out.new ≡ W.failure_count out.old) }
+    ensures met { IfErr result IsMet }
+{
+    match write_all(out, line.as_bytes()) {
+        Ok(()) => {
+            *written = written.saturating_add(line.len() as u128);
+            Ok(())
+        }
+        Err(fault) => Err(ServerFault::Output(WriteFault {
+            written: written.saturating_add(fault.written),
+        })),
+    }
+}
+
+// What a fault of a call at this address is told as.
+fn listen_fault(fault: io::Error, address: String) -> ServerFault
+    ensures { IsMet result }
+{
+    if fault.kind() == io::ErrorKind::OutOfMemory {
+        ServerFault::Memory
+    } else {
+        ServerFault::Listen(address)
+    }
+}
+
+// A door at the address, if one is given, which is told with the port that it got, and what wakes its acceptor.
+fn bind_tcp<R: Net<Listener = TcpListener, Stream = TcpStream>, W: Sink>(
+    rt: &R,
+    alloc: Global,
+    address: Option<String>,
+    out: &mut W,
+    written: &mut u128,
+) -> Result<Option<(Door<TcpListener>, Waker)>, ServerFault>
+    requires { W.failure_count out.old + 1 < 2 ^ 64 }
+    ensures failures { OnOk result (W.failure_count out.new ≡ W.failure_count out.old) }
+    ensures met { IfErr result IsMet }
+{
+    let Some(address) = address else {
+        return Ok(None);
+    };
+    let Ok(listener) = TcpListener::bind(rt, address.as_str()) else {
+        return Err(ServerFault::Listen(address));
+    };
+    let Ok(own) = listener.local_addr() else {
+        return Err(ServerFault::Listen(address));
+    };
+    let Ok(line) = format!(in alloc; "listening tcp {own}\n") else {
+        return Err(ServerFault::Memory);
+    };
+    match Door::new(rt, alloc, listener) {
+        Ok(door) => {
+            tell(out, written, line.as_str())?;
+            Ok(Some(door))
+        }
+        Err(fault) => Err(listen_fault(fault, address)),
+    }
+}
+
+// A door at the path, what wakes its acceptor, and what is to be removed. After a fault the path is removed.
+fn bind_path<R: Host + Net, W: Sink>(
+    rt: &R,
+    alloc: Global,
+    path: String,
+    out: &mut W,
+    written: &mut u128,
+) -> Result<(Door<UnixListener>, Waker, OwnPath), ServerFault>
+    requires { W.failure_count out.old + 1 < 2 ^ 64 }
+    ensures failures { OnOk result (W.failure_count out.new ≡ W.failure_count out.old) }
+    ensures met { IfErr result IsMet }
+{
+    let Ok(line) = format!(in alloc; "listening unix {path}\n") else {
+        return Err(ServerFault::Memory);
+    };
+    let Ok(listener) = rt.bind_unix(path.as_str()) else {
+        return Err(ServerFault::Listen(path));
+    };
+    let file = rt.file_id(path.as_str());
+    let own = OwnPath { path, file };
+    let (door, waker) = match Door::new(rt, alloc, listener) {
+        Ok(made) => made,
+        Err(fault) => {
+            own.remove(rt);
+            return Err(listen_fault(fault, own.path));
+        }
+    };
+    if let Err(fault) = tell(out, written, line.as_str()) {
+        own.remove(rt);
+        return Err(fault);
+    }
+    Ok((door, waker, own))
+}
+
+// The door and the waker, apart.
+fn parted<L>(made: Option<(Door<L>, Waker)>) -> (Option<Door<L>>, Option<Waker>) {
+    match made {
+        Some((door, waker)) => (Some(door), Some(waker)),
+        None => (None, None),
+    }
+}
+
+/// Binds the listeners, TCP first, and writes a line for each once it is bound. After a fault the path of the Unix
+/// socket, if it was bound, is removed.
+pub fn open_doors<R: Host + Net<Listener = TcpListener, Stream = TcpStream>, W: Sink>(
+    rt: &R,
+    alloc: Global,
+    places: Places,
+    out: &mut W,
+    written: &mut u128,
+) -> Result<Doors, ServerFault>
+    requires { W.failure_count out.old + 1 < 2 ^ 64 }
+    ensures failures { OnOk result (W.failure_count out.new ≡ W.failure_count out.old) }
+    ensures met { IfErr result IsMet }
+{
+    let Places {
+        tcp,
+        unix,
+        sessions,
+        idle,
+    } = places;
+    let (tcp, tcp_waker) = parted(bind_tcp(rt, alloc, tcp, out, written)?);
+    let (unix, unix_waker, own) = match unix {
+        Some(path) => {
+            let (door, waker, own) = bind_path(rt, alloc, path, out, written)?;
+            (Some(door), Some(waker), Some(own))
+        }
+        None => (None, None, None),
+    };
+    Ok(Doors {
+        tcp,
+        unix,
+        shared: Shared {
+            gate: StopGate::new(tcp_waker, unix_waker),
+            numbers: SessionNumbers::new(sessions),
+            idle,
+        },
+        own,
+    })
+}
