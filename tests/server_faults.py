@@ -707,6 +707,29 @@ def a_client_that_reads_nothing_is_let_go(unix):
         at.ends("a client that reads nothing", 1, 5)
 
 
+def keepalive_timer(port):
+    """The timer of the connection that a server at this port has, and its hundredths of a second."""
+    with open("/proc/net/tcp") as file:
+        lines = [line.split() for line in file.read().splitlines()[1:]]
+    for words in lines:
+        if words[3] == "01" and int(words[1].split(":")[1], 16) == port:
+            kind, _, left = words[5].partition(":")
+            return int(kind, 16), int(left, 16)
+    return None
+
+
+def silent_machines_are_asked():
+    """The system of the server asks a TCP client that is silent for a minute whether it is still there."""
+    with Server(SMALL) as at:
+        with at.link(False) as link:
+            check("status", asked(link, STATUS, 21), counts(0, 0))
+            time.sleep(0.5)
+            kind, left = keepalive_timer(int(at.tcp.rpartition(":")[2]))
+            check("the timer of keepalive", (kind, 5000 < left <= 6000), (2, True))
+            check("stop", asked(link, STOP, 5), STOPPING)
+        at.ends("keepalive", 0, 0)
+
+
 def without_a_limit_silence_is_kept():
     """Without an idle limit, and with 0, who is silent for a while is served afterwards, inside a frame too."""
     for words in [[], ["--idle", "0"], ["--idle", "18446744073709551615"]]:
@@ -783,6 +806,7 @@ def main():
             for is_full in [True, False]:
                 a_stop_ends_wherever_the_path_is(unix, is_full)
         without_a_limit_silence_is_kept()
+        silent_machines_are_asked()
         a_long_want_of_descriptors_ends_nothing()
         a_pause_between_faults_holds_no_end()
         if "--long" in sys.argv[2:]:

@@ -1,5 +1,6 @@
 //! Listeners that are bound, each with what its acceptor waits by.
 
+use crate::keepalive::keep_alive;
 use crate::stream::Socket;
 use crate::watch::Watch;
 use mio::Waker;
@@ -28,6 +29,7 @@ impl Listen for TcpListener {
         let (stream, _) = self.accept()?;
         // Without this a reply may wait for the acknowledgement of the one before. It is of no matter if it fails.
         let _ = stream.set_nodelay(true);
+        keep_alive(&stream);
         Ok(Socket::Tcp(stream))
     }
 }
