@@ -1,4 +1,6 @@
 //! Cells, rows, sums and shards of what was put.
+ghost use Rattle.std.specs.Prelude.{◌≡◌};
+
 use crate::batches::small_setup;
 use crate::expected::{
     expect_counts, expect_no_shard, expect_row, expect_shards, expect_view, exports,
@@ -8,6 +10,7 @@ use batch_store::{Setup, ShardView};
 use plain_engine::PlainEngine;
 use std::alloc::{AllocError, Global};
 use std::process::Abort;
+use std::random::RandomSource;
 use std::test::Fail;
 
 // Rows 0 and 2 are of shard 0, row 1 is of shard 1.
@@ -116,10 +119,15 @@ fn expect_first_view(
     expect_view(rt, alloc, &view, expected)
 }
 
+// The engine that has put the ten batches, in one shard.
+fn engine_of_ten<R: RandomSource + Abort>(rt: &R, alloc: Global) -> Result<PlainEngine, Fail> {
+    let setup = Setup::new(3, 10, &[2, 4], 1, 100, 10)?;
+    engine_of(rt, alloc, setup, TEN)
+}
+
 #[test]
 fn layers_keep_their_cuts(rt: HostRuntime) -> Result<(), Fail> {
-    let setup = Setup::new(3, 10, &[2, 4], 1, 100, 10)?;
-    let engine = engine_of(&rt, rt.alloc(), setup, TEN)?;
+    let engine = engine_of_ten(&rt, rt.alloc())?;
     assert_eq!(rt; layers(&engine), Some([Some(1), Some(3), Some(6), None]));
     expect_first_view(&rt, rt.alloc(), &engine, (10, 10, 10))?;
     Ok(())
@@ -129,13 +137,26 @@ static FIRST: &[Step] = &[(7, 1, &[(0, 0, 5)], Ok((0, 5)))];
 
 static SECOND: &[Step] = &[(8, 1, &[(0, 0, 3)], Ok((1, 8)))];
 
+// Puts the second batch, and compares the view that was taken before.
+fn expect_view_of_first(
+    rt: &impl Abort,
+    alloc: Global,
+    setup: &Setup,
+    engine: &mut PlainEngine,
+) -> Result<(), Fail>
+    requires { engine.old.setup ≡ setup.now }
+{
+    let view = first_view(alloc, engine)?;
+    put_all(rt, alloc, setup, engine, SECOND)?;
+    expect_view(rt, alloc, &view, (1, 1, 5))?;
+    Ok(())
+}
+
 #[test]
 fn a_view_stays_as_it_was(rt: HostRuntime) -> Result<(), Fail> {
     let setup = small_setup()?;
     let mut engine = engine_of(&rt, rt.alloc(), setup, FIRST)?;
-    let view = first_view(rt.alloc(), &engine)?;
-    put_all(&rt, rt.alloc(), &setup, &mut engine, SECOND)?;
-    expect_view(&rt, rt.alloc(), &view, (1, 1, 5))?;
+    expect_view_of_first(&rt, rt.alloc(), &setup, &mut engine)?;
     expect_shards(&rt, &engine, &[(0, 8, 2)]);
     Ok(())
 }

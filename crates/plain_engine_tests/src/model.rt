@@ -300,6 +300,27 @@ fn agree_on_all(
     agree_on_batches(rt, alloc, engine, plain)
 }
 
+// Compares so many generated puts, and the status after each.
+fn agree_on_puts(
+    rt: &impl Abort,
+    alloc: Global,
+    setup: &Setup,
+    engine: &mut PlainEngine,
+    plain: &mut Plain,
+    steps: u64,
+) -> Result<(), Fail>
+    requires { engine.old.setup ≡ setup.now }
+{
+    let mut stream = Stream {
+        state: setup.limit(),
+    };
+    'steps: for _ in 0..steps {
+        agree_on_put(rt, alloc, setup, engine, plain, &mut stream)?;
+        assert_eq!(rt; engine.status(), status_of(plain));
+    }
+    Ok(())
+}
+
 fn agree<R: RandomSource + Abort>(
     rt: &R,
     alloc: Global,
@@ -308,13 +329,7 @@ fn agree<R: RandomSource + Abort>(
 ) -> Result<(), Fail> {
     let mut engine = PlainEngine::new(rt, alloc, setup)?;
     let mut plain = Plain::new(alloc, &setup);
-    let mut stream = Stream {
-        state: setup.limit(),
-    };
-    'steps: for _ in 0..steps {
-        agree_on_put(rt, alloc, &setup, &mut engine, &mut plain, &mut stream)?;
-        assert_eq!(rt; engine.status(), status_of(&plain));
-    }
+    agree_on_puts(rt, alloc, &setup, &mut engine, &mut plain, steps)?;
     agree_on_all(rt, alloc, &engine, &plain)?;
     Ok(())
 }

@@ -7,7 +7,7 @@ use crate::expected::{expect_counts, expect_shards, expect_status, exported_tota
 use batch_store::{Batch, Setup};
 use plain_engine::PutFault::{BookFull, NumberReused, OverTotal};
 use plain_engine::{PlainEngine, PutFault};
-use std::alloc::Global;
+use std::alloc::{AllocError, Global};
 use std::process::Abort;
 use std::random::RandomSource;
 use std::sync::Arc;
@@ -77,6 +77,18 @@ pub fn engine_of<R: RandomSource + Abort>(
     Ok(engine)
 }
 
+// The same of the small setup, but for its limit and the most batches.
+fn small_engine_within<R: RandomSource + Abort>(
+    rt: &R,
+    alloc: Global,
+    limit: u64,
+    most: u64,
+    steps: &[Step],
+) -> Result<PlainEngine, Fail> {
+    let setup = Setup::new(3, 3, &[2, 4], 2, limit, most)?;
+    engine_of(rt, alloc, setup, steps)
+}
+
 /// The same of the small setup.
 pub fn small_engine_of<R: RandomSource + Abort>(
     rt: &R,
@@ -139,13 +151,20 @@ fn first_of(batches: &[Arc<Batch>]) -> Option<(u64, u64, u64)> {
     Some((first.client, first.number, first.total))
 }
 
+// How many batches an engine lists, and the client, number and total of the first.
+fn listed(
+    alloc: Global,
+    engine: &PlainEngine,
+) -> Result<(usize, Option<(u64, u64, u64)>), AllocError> {
+    let batches = engine.batches(alloc)?;
+    Ok((batches.len(), first_of(&batches)))
+}
+
 #[test]
 fn a_full_book_knows_its_batches(rt: HostRuntime) -> Result<(), Fail> {
-    let setup = Setup::new(3, 3, &[2, 4], 2, 100, 1)?;
-    let engine = engine_of(&rt, rt.alloc(), setup, AT_MOST_ONE)?;
-    let batches = engine.batches(rt.alloc())?;
-    assert_eq!(rt; batches.len(), 1);
-    assert_eq!(rt; first_of(&batches), Some((7, 1, 5)));
+    let engine = small_engine_within(&rt, rt.alloc(), 100, 1, AT_MOST_ONE)?;
+    let found = listed(rt.alloc(), &engine)?;
+    assert_eq!(rt; found, (1, Some((7, 1, 5))));
     Ok(())
 }
 
@@ -179,8 +198,7 @@ static GREATEST: &[Step] = &[
 
 #[test]
 fn the_greatest_total_is_taken(rt: HostRuntime) -> Result<(), Fail> {
-    let setup = Setup::new(3, 3, &[2, 4], 2, u64::MAX, 10)?;
-    let engine = engine_of(&rt, rt.alloc(), setup, GREATEST)?;
+    let engine = small_engine_within(&rt, rt.alloc(), u64::MAX, 10, GREATEST)?;
     let total = exported_total(rt.alloc(), &engine)?;
     assert_eq!(rt; total, u64::MAX);
     Ok(())

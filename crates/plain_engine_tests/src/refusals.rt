@@ -44,17 +44,29 @@ fn put_at_last(
     put(alloc, setup, engine, (7, 1), BOTH)
 }
 
+// Puts the batch until it is accepted, and then once more.
+fn expect_puts(
+    rt: &impl Abort,
+    alloc: Global,
+    setup: &Setup,
+    engine: &mut PlainEngine,
+) -> Result<(), Fail>
+    requires { engine.old.setup ≡ setup.now }
+{
+    let answer = put_at_last(rt, alloc, setup, engine)?;
+    assert_eq!(rt; answer, Ok((0, 9)));
+    expect_shards(rt, engine, &[(0, 5, 1), (1, 4, 1)]);
+    // A repeat takes no memory but the batch's own.
+    let again = put(alloc, setup, engine, (7, 1), BOTH)?;
+    assert_eq!(rt; again, Ok((0, 9)));
+    Ok(())
+}
+
 #[test]
 fn a_refused_put_changes_nothing(rt: HostRuntime) -> Result<(), Fail> {
     let setup = small_setup()?;
     let mut engine = PlainEngine::new(&rt, rt.alloc(), setup)?;
-    let answer = put_at_last(&rt, rt.alloc(), &setup, &mut engine)?;
-    assert_eq!(rt; answer, Ok((0, 9)));
-    expect_shards(&rt, &engine, &[(0, 5, 1), (1, 4, 1)]);
-    // A repeat takes no memory but the batch's own.
-    let again = put(rt.alloc(), &setup, &mut engine, (7, 1), BOTH)?;
-    assert_eq!(rt; again, Ok((0, 9)));
-    Ok(())
+    expect_puts(&rt, rt.alloc(), &setup, &mut engine)
 }
 
 // Whether an export has the batch's cells; it is asked for again where memory was refused.
