@@ -1,8 +1,7 @@
 //! Layers whose matrices are added up between additions, beside layers that are left alone.
 //!
 //! `rt try --test --fail-alloc N` refuses the growth number N: what the layers hold is then as before.
-use crate::adding::add;
-use crate::streams::{are_same, have_same_sizes, holds_first, matrix, sum_of};
+use crate::streams::{add_matrix, have_same_sizes, holds_first, sees_first};
 use layer_cascade::Layers;
 use std::alloc::{AllocError, Global};
 use std::process::Abort;
@@ -25,30 +24,61 @@ fn gathered(alloc: Global, layers: &mut Layers, others: &Layers) -> Result<bool,
     Ok(held)
 }
 
-/// Gathers so many times after each addition. The cuts, the entries of each layer and all that is looked up are those
-/// of layers that are left alone.
+/// Gathers so many times. What the layers hold is not to change.
+fn gather_often(
+    rt: &impl Abort,
+    alloc: Global,
+    layers: &mut Layers,
+    others: &Layers,
+    gathers: u64,
+) -> Result<(), AllocError> {
+    for i in 0..gathers {
+        let held = gathered(alloc, layers, others)?;
+        assert!(rt; held, "gathered {i} times before");
+    }
+    Ok(())
+}
+
+/// Adds these matrices of the stream to both, the first of which is the next, and gathers so many times after each. The
+/// cuts, the entries of each layer and all that is looked up are those of the layers that are left alone.
+fn check_additions(
+    rt: &impl Abort,
+    alloc: Global,
+    layers: &mut Layers,
+    others: &mut Layers,
+    matrices: (u64, u64),
+    gathers: u64,
+) -> Result<(), Fail> {
+    for i in matrices.0..matrices.1 {
+        add_matrix(alloc, layers, i)?;
+        add_matrix(alloc, others, i)?;
+        gather_often(rt, alloc, layers, others, gathers)?;
+        let holds = holds_first(alloc, layers, i.wrapping_add(1))?;
+        assert!(rt; holds && have_same_sizes(layers, others), "after {i}");
+    }
+    Ok(())
+}
+
+/// Adds the matrices behind those that a view is to see, and compares the view at the end.
+fn check_behind_view(
+    rt: &impl Abort,
+    alloc: Global,
+    layers: &mut Layers,
+    others: &mut Layers,
+    gathers: u64,
+) -> Result<(), Fail> {
+    let view = layers.view(alloc)?;
+    check_additions(rt, alloc, layers, others, (SEEN, MANY), gathers)?;
+    let sees = sees_first(alloc, &view, SEEN)?;
+    assert!(rt; sees);
+    Ok(())
+}
+
 fn check_gathered(rt: &impl Abort, alloc: Global, cuts: &[u64], gathers: u64) -> Result<(), Fail> {
     let mut layers = Layers::new(alloc, 9, 9, cuts)?;
     let mut others = Layers::new(alloc, 9, 9, cuts)?;
-    let mut view = layers.view(alloc)?;
-    for i in 0..MANY {
-        if i == SEEN {
-            view = layers.view(alloc)?;
-        }
-        add(alloc, &mut layers, &matrix(alloc, i)?)?;
-        add(alloc, &mut others, &matrix(alloc, i)?)?;
-        for _ in 0..gathers {
-            assert!(rt; gathered(alloc, &mut layers, &others)?, "after {i}");
-        }
-        assert!(rt; have_same_sizes(&layers, &others), "after {i}");
-        assert!(rt;
-            holds_first(alloc, &layers, i.wrapping_add(1))?,
-            "after {i}"
-        );
-    }
-    let seen = view.sum(alloc)?;
-    assert!(rt; are_same(alloc, &seen, &sum_of(alloc, 0, SEEN)?)?);
-    Ok(())
+    check_additions(rt, alloc, &mut layers, &mut others, (0, SEEN), gathers)?;
+    check_behind_view(rt, alloc, &mut layers, &mut others, gathers)
 }
 
 /// Cuts with which matrices stand side by side in the first layer, in the second, in both and in the third.

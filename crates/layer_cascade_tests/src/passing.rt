@@ -90,6 +90,14 @@ impl Model {
         Ok(sum)
     }
 
+    fn sizes(&self) -> [u64; 3] {
+        let mut sizes = [0u64; 3];
+        for (size, layer) in sizes.iter_mut().zip(self.layers.iter()) {
+            *size = layer.entries();
+        }
+        sizes
+    }
+
     fn has_sizes(&self, layers: &Layers) -> bool {
         for (i, layer) in self.layers.iter().enumerate() {
             if layers.layer_entries(i.wrapping_add(1)) != Some(layer.entries()) {
@@ -118,8 +126,48 @@ fn hold(alloc: Global, layers: &Layers, m: &Hyper, list: &[Cell]) -> Result<bool
     Ok(are_same(alloc, &sum, m)? && layers.total() == m.total())
 }
 
-/// The entries of each of three layers once so many matrices were added, with so many steps of `gather` after each. All
-/// agree with the model.
+/// Adds the matrix of a list, and gathers so many times.
+fn add_list(alloc: Global, layers: &mut Layers, list: &[Cell], gathers: u64) -> Result<(), Fail> {
+    let m = Hyper::build(alloc, SIDE, SIDE, list)?;
+    add(alloc, layers, &m)?;
+    for _ in 0..gathers {
+        layers.gather(alloc)?;
+    }
+    Ok(())
+}
+
+/// Adds matrix `i` to both, and compares the entries of each layer.
+fn check_addition(
+    rt: &impl Abort,
+    alloc: Global,
+    layers: &mut Layers,
+    model: &mut Model,
+    stream: &Stream,
+    i: u64,
+    gathers: u64,
+) -> Result<(), Fail> {
+    let list = stream.list(alloc, i)?;
+    add_list(alloc, layers, &list, gathers)?;
+    model.add(alloc, &list)?;
+    assert!(rt; model.has_sizes(layers), "sizes after {i}");
+    Ok(())
+}
+
+/// Whether the layers hold what the model holds: at the places of matrix `i`, and as a whole.
+fn hold_all(
+    alloc: Global,
+    layers: &Layers,
+    model: &Model,
+    stream: &Stream,
+    i: u64,
+) -> Result<bool, Fail> {
+    let list = stream.list(alloc, i)?;
+    let sum = model.sum(alloc)?;
+    Ok(hold(alloc, layers, &sum, &list)?)
+}
+
+/// The entries of each of three layers once so many matrices were added, at least one, with so many steps of `gather`
+/// after each. All agree with the model.
 fn check(
     rt: &impl Abort,
     alloc: Global,
@@ -131,23 +179,11 @@ fn check(
     let mut layers = Layers::new(alloc, SIDE, SIDE, cuts)?;
     let mut model = Model::new(alloc, cuts)?;
     for i in 0..matrices {
-        let list = stream.list(alloc, i)?;
-        add(alloc, &mut layers, &Hyper::build(alloc, SIDE, SIDE, &list)?)?;
-        model.add(alloc, &list)?;
-        for _ in 0..gathers {
-            layers.gather(alloc)?;
-        }
-        assert!(rt; model.has_sizes(&layers), "sizes after {i}");
-        if i.wrapping_add(1) == matrices {
-            let sum = model.sum(alloc)?;
-            assert!(rt; hold(alloc, &layers, &sum, &list)?, "after {i}");
-        }
+        check_addition(rt, alloc, &mut layers, &mut model, stream, i, gathers)?;
     }
-    let mut sizes = [0u64; 3];
-    for (size, layer) in sizes.iter_mut().zip(model.layers.iter()) {
-        *size = layer.entries();
-    }
-    Ok(sizes)
+    let holds = hold_all(alloc, &layers, &model, stream, matrices.wrapping_sub(1))?;
+    assert!(rt; holds);
+    Ok(model.sizes())
 }
 
 /// Cuts, the stream's places and cells of a matrix, the matrices, and the entries of each layer at the end. In the

@@ -2,7 +2,7 @@
 use crate::adding::add;
 use cells::Cell;
 use hyper_matrix::{BuildFault, Hyper};
-use layer_cascade::Layers;
+use layer_cascade::{LayerView, Layers};
 use std::alloc::{AllocError, Global};
 use std::process::Abort;
 use std::test::Fail;
@@ -100,16 +100,31 @@ const ALL_CUTS: [&[u64]; 6] = [
     &[4, 5, 10, 11, 20, 40, 60],
 ];
 
-fn check_planned(rt: &impl Abort, alloc: Global, cuts: &[u64]) -> Result<(), Fail> {
-    let mut layers = Layers::new(alloc, 9, 9, cuts)?;
-    for i in 0..20u64 {
-        add(alloc, &mut layers, &matrix(alloc, i)?)?;
-        assert!(rt;
-            holds_first(alloc, &layers, i.wrapping_add(1))?,
-            "after {i}"
-        );
+/// Adds matrix `i` of the stream.
+pub fn add_matrix(alloc: Global, layers: &mut Layers, i: u64) -> Result<(), Fail> {
+    let m = matrix(alloc, i)?;
+    add(alloc, layers, &m)?;
+    Ok(())
+}
+
+/// Adds these matrices of the stream, the first of which is the next, and compares after each.
+fn check_additions(
+    rt: &impl Abort,
+    alloc: Global,
+    layers: &mut Layers,
+    matrices: (u64, u64),
+) -> Result<(), Fail> {
+    for i in matrices.0..matrices.1 {
+        add_matrix(alloc, layers, i)?;
+        let holds = holds_first(alloc, layers, i.wrapping_add(1))?;
+        assert!(rt; holds, "after {i}");
     }
     Ok(())
+}
+
+fn check_planned(rt: &impl Abort, alloc: Global, cuts: &[u64]) -> Result<(), Fail> {
+    let mut layers = Layers::new(alloc, 9, 9, cuts)?;
+    check_additions(rt, alloc, &mut layers, (0, 20))
 }
 
 #[test]
@@ -137,22 +152,26 @@ const MANY: u64 = 70;
 /// How many of these are in the view that is taken on the way.
 const SEEN: u64 = 25;
 
+/// Whether a view sees the first so many matrices of the stream.
+pub fn sees_first(alloc: Global, view: &LayerView, matrices: u64) -> Result<bool, Fail> {
+    let m = sum_of(alloc, 0, matrices)?;
+    let seen = view.sum(alloc)?;
+    Ok(are_same(alloc, &seen, &m)?)
+}
+
+/// Adds the matrices behind those that a view is to see, and compares the view at the end.
+fn check_behind_view(rt: &impl Abort, alloc: Global, layers: &mut Layers) -> Result<(), Fail> {
+    let view = layers.view(alloc)?;
+    check_additions(rt, alloc, layers, (SEEN, MANY))?;
+    let sees = sees_first(alloc, &view, SEEN)?;
+    assert!(rt; sees);
+    Ok(())
+}
+
 fn check_many(rt: &impl Abort, alloc: Global, cuts: &[u64]) -> Result<(), Fail> {
     let mut layers = Layers::new(alloc, 9, 9, cuts)?;
-    let mut view = layers.view(alloc)?;
-    for i in 0..MANY {
-        if i == SEEN {
-            view = layers.view(alloc)?;
-        }
-        add(alloc, &mut layers, &matrix(alloc, i)?)?;
-        assert!(rt;
-            holds_first(alloc, &layers, i.wrapping_add(1))?,
-            "after {i}"
-        );
-    }
-    let seen = view.sum(alloc)?;
-    assert!(rt; are_same(alloc, &seen, &sum_of(alloc, 0, SEEN)?)?);
-    Ok(())
+    check_additions(rt, alloc, &mut layers, (0, SEEN))?;
+    check_behind_view(rt, alloc, &mut layers)
 }
 
 #[test]
@@ -167,7 +186,7 @@ fn matrices_side_by_side_agree_with_one(rt: HostRuntime) -> Result<(), Fail> {
 fn entries_after(alloc: Global, matrices: u64) -> Result<Option<u64>, Fail> {
     let mut layers = Layers::new(alloc, 9, 9, &[])?;
     for i in 0..matrices {
-        add(alloc, &mut layers, &matrix(alloc, i)?)?;
+        add_matrix(alloc, &mut layers, i)?;
     }
     Ok(layers.layer_entries(1))
 }
