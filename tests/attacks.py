@@ -240,7 +240,7 @@ def together(edits):
 
 
 def try_together(edits, folder, crate, tell):
-    """Tries edits in one check, tells each that is judged, and returns how many passed, how many failed, and the rest."""
+    """Tries edits in one check, tells each that is judged, and returns how many passed and failed, and the rest."""
     original = lambda file: (TOP / "crates" / crate / file).read_text(encoding="utf-8")
     texts, applied = {}, []
     for edit in edits:

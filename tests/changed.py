@@ -2,8 +2,8 @@
 """Checks and tests what a change touches, over the work that checks have kept: the way to a commit, and no gate.
 
 Run it anywhere in the repository: tests/changed.py [BASE]. BASE is the commit to compare with, HEAD where it is left
-out. Of each crate whose sources or line of crates.txt differ, and of each crate above one, it runs `rt check` and, where
-there are tests, `rt test`; of those that differ also the layout and all wrong bodies, those of must-fail/ too, as
+out. Of each crate whose sources or line of crates.txt differ, and of each crate above one, it runs `rt check` and,
+where there are tests, `rt test`; of those that differ also the layout and all wrong bodies, those of must-fail/ too, as
 tests/attacks.py tries them. Where the program or what tests it is touched, it builds the program and runs tests/ on it.
 A crate whose library is refused is not tried. The line before the last says how long it took, the last is `N passed,
 M failed`, and the status is 0 exactly where nothing failed. The environment's RT, if set, is run in place of `rt`.
@@ -32,8 +32,9 @@ def git(*words):
 
 
 def changed_since(base, lines):
-    """Returns the crates whose sources differ from the base's, those whose wrong bodies do, and all other files that do."""
-    files = git("diff", "--name-only", base).splitlines() + git("ls-files", "--others", "--exclude-standard").splitlines()
+    """Returns the crates whose sources differ from the base's, those whose wrong bodies do, and all other such files."""
+    files = git("diff", "--name-only", base).splitlines()
+    files += git("ls-files", "--others", "--exclude-standard").splitlines()
     sources, edits, others = set(), set(), set()
     for file in files:
         parts = Path(file).parts
@@ -107,7 +108,8 @@ def main(words):
     begin, lines, tally = time.time(), lines_of_list(), Tally()
     sources, edits, others = changed_since(words[0] if words else "HEAD", lines)
     touched = {it for it in lines if {it, *crates_below(it, lines)} & sources}
-    print(f"changed: {' '.join(sorted(sources)) or 'no crate'}; checked: {' '.join(it for it in lines if it in touched)}")
+    print(f"changed: {' '.join(sorted(sources)) or 'no crate'}")
+    print(f"checked: {' '.join(it for it in lines if it in touched) or 'no crate'}")
     for crate in sorted(sources):
         tally.add(f"{crate}: layout", is_laid_out(crate), ": run rt fmt in its folder")
     proved = prove(touched, lines, tally)
