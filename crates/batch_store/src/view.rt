@@ -1,8 +1,11 @@
 //! A shard as it was at one moment, to be read outside the shard's lock.
-ghost use Rattle.std.specs.Prelude.{◌≡◌, IfOk, length};
+ghost use Rattle.std.specs.Prelude.{◌≡◌, IfOk, OnOk};
+ghost use Rattle.hyper_matrix.specs.Cells.{built_of};
+ghost use Rattle.hyper_matrix.specs.Counts.{ewise_add};
 ghost use Rattle.hyper_matrix.specs.Matrix.{matrix};
 ghost use Rattle.layer_cascade.specs.Cascade.{content};
 
+use cells::Cell;
 use hyper_matrix::Hyper;
 use layer_cascade::LayerView;
 use std::alloc::{AllocError, Global};
@@ -54,5 +57,23 @@ impl ShardView {
     {
         let sum = self.layers.sum(alloc)?;
         Ok(sum)
+    }
+
+    /// How many cells `push_cells` appends, up to 2^64 - 1. No memory; constant time for each matrix.
+    pub fn listed_cells(&self) -> u64 {
+        self.layers.listed_cells()
+    }
+
+    /// Appends the cells of all layers, those of each matrix in order. A place that several matrices have stands in the
+    /// list several times. Room is made at once, 24 bytes for each cell.
+    ///
+    /// # Errors
+    ///
+    /// A growth was refused.
+    pub fn push_cells(&self, out: &mut Vec<Cell>) -> Result<(), AllocError>
+        ensures { OnOk result (built_of out.new.items
+            ≡ ewise_add (built_of out.old.items) (content self.now.layers.layers)) }
+    {
+        self.layers.push_cells(out)
     }
 }

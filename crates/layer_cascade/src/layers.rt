@@ -318,7 +318,7 @@ impl Layers {
     }
 
     // The cells of all matrices of all layers, up to 2^64 - 1: those of a place in several of them count in each.
-    fn listed_cells(&self) -> u64 {
+    pub(crate) fn listed_cells(&self) -> u64 {
         let mut cells = 0u64;
         for layer in &self.layers {
             cells = cells.saturating_add(entries_bound(layer.runs()));

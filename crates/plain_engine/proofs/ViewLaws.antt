@@ -1,5 +1,5 @@
 -- Views of shards, and what they show together.
-use Rattle.std.proofs.Common.{◌≡◌, ℕ, zero, suc, ◌+◌, ◌<◌, ◌≤◌, List, [], ◌∷◌, ◌++◌, length, take, drop, get_or, refl}
+use Rattle.std.proofs.Common.{◌≡◌, ℕ, ◌+◌, ◌<◌, ◌≤◌, List, [], ◌∷◌, ◌++◌, length, take, get_or, refl}
 use Rattle.std.proofs.Common.{sym, ◌∙◌, ap, subst, arith}
 use Rattle.std.proofs.lemmas.List.{take_more}
 use Rattle.hyper_matrix.specs.Counts.{ewise_add}
@@ -45,43 +45,20 @@ show_content [] (x ∷ xs) h = absurd h
 show_content (w ∷ ws) [] h = absurd h
 show_content (w ∷ ws) (x ∷ xs) h = λ i. ewise_add (content ((h.0 i).layers)) (show_content ws xs h.1 i)
 
-pub size_take : (r c n : ℕ) (vs : List Sight) → HaveSize r c vs → HaveSize r c (take n vs)
-size_take r c zero [] h = tt
-size_take r c zero (v ∷ vs) h = tt
-size_take r c (suc n) [] h = tt
-size_take r c (suc n) (v ∷ vs) h = (h.0, h.1, size_take r c n vs h.2)
-
-pub size_drop : (r c n : ℕ) (vs : List Sight) → HaveSize r c vs → HaveSize r c (drop n vs)
-size_drop r c zero [] h = tt
-size_drop r c zero (v ∷ vs) h = h
-size_drop r c (suc n) [] h = tt
-size_drop r c (suc n) (v ∷ vs) h = size_drop r c n vs h.2
-
 sights-append : (vs ws : List Sight) → sights_content (vs ++ ws) ≡ ewise_add (sights_content vs) (sights_content ws)
 sights-append [] ws = sym (empty-ewise_add (sights_content ws))
 sights-append (v ∷ vs) ws =
     ap (ewise_add (content v.layers.layers)) (sights-append vs ws) ∙
     sym (ewise_add_assoc (content v.layers.layers) (sights_content vs) (sights_content ws))
 
--- one view alone
-pub seen_alone : (r c : ℕ) (vs : List Sight) (v : Sight) → HaveSize r c vs → 1 ≤ length vs → length vs < 2 →
-    v ≡ get_or vs 0 v → matrix v.layers.rows v.layers.cols (content v.layers.layers) ≡ matrix r c (sights_content vs)
-seen_alone r c [] v size some few is = absurd (omega arith)
-seen_alone r c (w ∷ x ∷ xs) v size some few is = absurd (omega arith)
-seen_alone r c (w ∷ []) v size some few is =
-    let rows : v.layers.rows ≡ r = ap (λ (s : Sight). s.layers.rows) is ∙ size.0 in
-    let cols : v.layers.cols ≡ c = ap (λ (s : Sight). s.layers.cols) is ∙ size.1 in
-    let seen : content v.layers.layers ≡ ewise_add (content w.layers.layers) (sights_content []) = ap
-    (λ (s : Sight). content s.layers.layers) is ∙ sym (ewise_add-empty (content w.layers.layers)) in
-    λ i. matrix (rows i) (cols i) (seen i)
-
--- two halves together
-pub seen_together : (r c : ℕ) (vs left right : List Sight) (sum rest : Matrix) → vs ≡ left ++ right →
-    sum ≡ matrix r c (sights_content left) → rest ≡ matrix r c (sights_content right)
-    → record sum { counts = ewise_add sum.counts rest.counts } ≡ matrix r c (sights_content vs)
-seen_together r c vs left right sum rest cut is other =
-    (λ i. matrix (is i).rows (is i).cols (ewise_add (is i).counts (other i).counts))
-    ∙ ap (matrix r c) (sym (sights-append left right) ∙ ap sights_content (sym cut))
+-- the first views, and one more
+pub sights_more : (vs : List Sight) (i : ℕ) (v : Sight) → i < length vs → v ≡ get_or vs i v
+    → sights_content (take (i + 1) vs) ≡ ewise_add (sights_content (take i vs)) (content v.layers.layers)
+sights_more vs i v below is =
+    ap sights_content (take_more vs i v below)
+    ∙ sights-append (take i vs) (get_or vs i v ∷ [])
+    ∙ ap (ewise_add (sights_content (take i vs)))
+    (ewise_add-empty (content ((get_or vs i v).layers.layers)) ∙ ap (λ (s : Sight). content s.layers.layers) (sym is))
 
 -- the sum of views of shards is that of what the shards hold
 pub sum_shown : (v w : Setting) (vs ws : List Sight) (xs : List Holding) (sum : Matrix) →

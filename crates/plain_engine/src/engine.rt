@@ -138,8 +138,8 @@ impl PlainEngine {
         self.shard_of(row).row_total(row)
     }
 
-    /// The sum of all accepted batches, in the setup's dimensions: the sum of all shards, added in pairs, so that a
-    /// cell is written about once for each doubling of the number of shards, and not once for each shard.
+    /// The sum of all accepted batches, in the setup's dimensions: the cells of all shards, sorted in one list
+    /// (`sum_of_views`).
     ///
     /// # Errors
     ///
