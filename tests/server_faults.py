@@ -776,6 +776,53 @@ def a_full_queue_holds_no_end(unix):
         check("it ended at once", time.monotonic() - begun < 30, True)
 
 
+EXPORT = struct.pack(">IB", 0, 5)
+LARGE = 1 << 32
+CELLS = 20_000
+BATCHES = 75
+
+
+def put_cells(link, client, cells):
+    """Whether a batch of these cells, each with the count 1, was accepted."""
+    lines = b"".join(b"%d %d 1\n" % cell for cell in cells)
+    text = server.BANNER + b"%d %d %d\n" % (LARGE, LARGE, len(cells)) + lines
+    return asked(link, put_frame(client, 1, text), 21)[4:5] == b"\x81"
+
+
+def far_apart(i):
+    """A cell of a row of its own: a line of some 14 bytes, so that a text of 1,500,000 passes 16 MiB."""
+    return 1 + i * 2000, 1 + i % 7
+
+
+def close_together(i):
+    """A cell of a row that has seven: a line of at most 11 bytes, so that a text of 1,500,000 fits a reply."""
+    return 1 + i // 7, 1 + i % 7
+
+
+def exports_keep_no_memory(place, kind):
+    """Each of 32 workers answers an export of 1,500,000 cells: the server has no more than 1.2 times its memory then."""
+    size = str(LARGE)
+    words = ["--rows", size, "--cols", size, "--limit", str(10**15), "--max-batches", "1000", "--workers", "32"]
+    with Server(words, tcp=False) as at:
+        links = [at.link() for _ in range(32)]
+        name = f"exports answered {kind:x}"
+        batches = [[place(n * CELLS + i) for i in range(CELLS)] for n in range(BATCHES)]
+        taken = [put_cells(links[n % 32], n + 1, batch) for n, batch in enumerate(batches)]
+        check(f"{name}: puts", all(taken), True)
+        before = at.memory()
+        kinds = set()
+        for link in links:
+            head = asked(link, EXPORT, 5)
+            kinds.add(head[4])
+            received(link, struct.unpack(">I", head[:4])[0])
+        check(f"{name}: all answers", kinds, {kind})
+        check(f"{name}: memory", at.memory() <= before * 1.2, True)
+        behind = [put_cells(link, 1000 + n, [(LARGE - 1 - i, n + 1) for i in range(1000)]) for n, link in enumerate(links)]
+        check(f"{name}: puts behind", all(behind), True)
+        for link in links:
+            link.close()
+
+
 def main():
     server.PROGRAM = os.path.abspath(sys.argv[1])
     signal.signal(signal.SIGPIPE, signal.SIG_IGN)
@@ -809,6 +856,8 @@ def main():
         silent_machines_are_asked()
         a_long_want_of_descriptors_ends_nothing()
         a_pause_between_faults_holds_no_end()
+        exports_keep_no_memory(far_apart, 0xFF)
+        exports_keep_no_memory(close_together, 0x85)
         if "--long" in sys.argv[2:]:
             an_acceptor_ends_after_sixteen_faults()
     print(f"{server.passed} passed, {server.failed} failed")

@@ -42,7 +42,6 @@ enum Outcome {
 }
 
 fn main(rt: HostRuntime) -> ExitCode {
-    keep_freed_memory(rt.alloc());
     match run(&rt) {
         Ok(Outcome::Ended(code)) => code,
         Ok(Outcome::Serve(settings)) => {
@@ -106,6 +105,7 @@ fn run_matches(rt: &HostRuntime, matches: &ArgMatches) -> Result<Outcome, Fault>
 /// Sums the text on standard input, and writes the sum to standard output.
 fn run_sum_word(rt: &HostRuntime, list: &str) -> Result<(), Fault> {
     let cuts = read_list(rt.alloc(), list)?;
+    keep_freed_memory(rt.alloc());
     let mut input = Counted::new(rt.stdin());
     let mut output = Counted::new(rt.stdout());
     run_sum(rt.alloc(), &mut input, &mut output, &cuts)?;
