@@ -779,7 +779,6 @@ def a_full_queue_holds_no_end(unix):
 EXPORT = struct.pack(">IB", 0, 5)
 LARGE = 1 << 32
 CELLS = 20_000
-BATCHES = 75
 
 
 def put_cells(link, client, cells):
@@ -794,20 +793,20 @@ def far_apart(i):
     return 1 + i * 2000, 1 + i % 7
 
 
-def close_together(i):
-    """A cell of a row that has seven: a line of at most 11 bytes, so that a text of 1,500,000 fits a reply."""
-    return 1 + i // 7, 1 + i % 7
+def side_by_side(i):
+    """A cell of a row of its own: a line of at most 12 bytes, so that a text of 1,300,000 fits a reply."""
+    return 1 + i, 1 + i % 7
 
 
-def exports_keep_no_memory(place, kind):
-    """Each of 32 workers answers an export of 1,500,000 cells: the server has no more than 1.2 times its memory then."""
+def exports_keep_no_memory(place, batches, kind):
+    """Each of 32 workers answers an export of so many cells: the server has no more than 1.2 times its memory then."""
     size = str(LARGE)
     words = ["--rows", size, "--cols", size, "--limit", str(10**15), "--max-batches", "1000", "--workers", "32"]
     with Server(words, tcp=False) as at:
         links = [at.link() for _ in range(32)]
         name = f"exports answered {kind:x}"
-        batches = [[place(n * CELLS + i) for i in range(CELLS)] for n in range(BATCHES)]
-        taken = [put_cells(links[n % 32], n + 1, batch) for n, batch in enumerate(batches)]
+        cells = [[place(n * CELLS + i) for i in range(CELLS)] for n in range(batches)]
+        taken = [put_cells(links[n % 32], n + 1, batch) for n, batch in enumerate(cells)]
         check(f"{name}: puts", all(taken), True)
         before = at.memory()
         kinds = set()
@@ -856,8 +855,8 @@ def main():
         silent_machines_are_asked()
         a_long_want_of_descriptors_ends_nothing()
         a_pause_between_faults_holds_no_end()
-        exports_keep_no_memory(far_apart, 0xFF)
-        exports_keep_no_memory(close_together, 0x85)
+        exports_keep_no_memory(far_apart, 75, 0xFF)
+        exports_keep_no_memory(side_by_side, 65, 0x85)
         if "--long" in sys.argv[2:]:
             an_acceptor_ends_after_sixteen_faults()
     print(f"{server.passed} passed, {server.failed} failed")
