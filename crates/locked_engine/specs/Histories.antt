@@ -1,6 +1,6 @@
 -- The rule of an engine's history, and what its steps tell. The history is a list of entries.
---     IsKept      the first word is the length of the history; a book has two words, of which this one leaves the second
---                 at 0
+--     IsKept      the first word is the length of the history; a book has two words, of which this one leaves the
+--                 second at 0
 --     head_of     the word of a history
 --     Adds        the entry was added to all that had been seen; or the history was longer
 use Rattle.std.specs.Prelude.{ℕ, ◌≡◌, ◌==◌, true, List, [], ◌∷◌, ◌++◌, length, MatchBool}

@@ -1,8 +1,8 @@
 -- What an answer says of the version that a seat was shown.
 --     Answers     the answer to a verdict that isn't a fresh one
---     IsTold      Ok: the batch's entry, of the same client, number, cells and total, stands in the version at the place
---                 that is told, and the totals up to there add up to the one that is told; NumberReused, OverTotal,
---                 BookFull: the verdict on this version. Memory and RecordsDiffer say nothing
+--     IsTold      Ok: the batch's entry, of the same client, number, cells and total, stands in the version at the
+--                 place that is told, and the totals up to there add up to the one that is told; NumberReused,
+--                 OverTotal, BookFull: the verdict on this version. Memory and RecordsDiffer say nothing
 --     AreShown    each of these seats was shown a beginning of the version
 use Rattle.std.specs.Prelude.{◌≡◌, List, [], ◌∷◌, Result, Ok, Err}
 use mathlib.Core.List.{IsPrefix}

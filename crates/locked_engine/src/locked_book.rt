@@ -1,5 +1,6 @@
 //! What stands behind the book's lock.
-ghost use Rattle.std.specs.Prelude.{◌≡◌, ◌+◌, ◌≤◌, ◌<◌, [], ◌∷◌, ◌++◌, IfOk, IfErr, OnOk, OnErr, Ok, Some, length, drop};
+ghost use Rattle.std.specs.Prelude.{◌≡◌, ◌+◌, ◌≤◌, ◌<◌, [], ◌∷◌, ◌++◌, IfOk, IfErr, OnOk, OnErr, Ok, Some, length};
+ghost use Rattle.std.specs.Prelude.{drop};
 ghost use Rattle.std.specs.Bool.{OnTrue};
 ghost use mathlib.Core.List.{IsPrefix};
 ghost use Rattle.std.specs.Arc.{arc_value};
@@ -235,8 +236,8 @@ where
     }
 
     /// Accepts a fresh batch, and deposits its total in both ledgers: in the first for good, in the second until the
-    /// shards have it. The verdict and a free place come first, which is a growth only where the book's room is used up;
-    /// what comes after them can't fail. Readers and the seat are shown the entry before the lock is given back.
+    /// shards have it. The verdict and a free place come first, which is a growth only where the book's room is used
+    /// up; what comes after them can't fail. Readers and the seat are shown the entry before the lock is given back.
     pub fn admit<R: Wait>(
         &mut self,
         rt: &R,
@@ -267,8 +268,8 @@ where
         self.admit_fresh(rt, first, second, seen, place, b)
     }
 
-    // Accepts a batch that is fresh, where the seat was shown all before it. Should the history be longer than the book,
-    // to which nothing leads, an empty place is published, which shows nothing new.
+    // Accepts a batch that is fresh, where the seat was shown all before it. Should the history be longer than the
+    // book, to which nothing leads, an empty place is published, which shows nothing new.
     fn admit_fresh<R: Wait>(
         &mut self,
         rt: &R,

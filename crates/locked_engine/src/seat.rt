@@ -13,8 +13,8 @@ use std::sync::ledger::{Ledger, Share};
 /// A place from which one thread at a time puts batches.
 ///
 /// Contracts see its number, its share of the first ledger, which is the total of the batches that its puts were the
-/// first to have accepted, and the version that it was shown last, of entries of accepted batches. A seat is always balanced: what it has admitted it has
-/// delivered to the shards.
+/// first to have accepted, and the version that it was shown last, of entries of accepted batches. A seat is always
+/// balanced: what it has admitted it has delivered to the shards.
 #[derive(Drop)]
 pub struct Seat<N: Named, H: Ledger> {
     number: usize,

@@ -54,7 +54,8 @@ returns-in-Ok-clause-shown g c =
     let all = c.end-book.result.3 in (
       all,
       shown_later c.args.seats.items _ all c.end-book.ensures.shown c.gather-first.ensures.shown,
-      subst (λ (e : Standing). IsPrefix (entries_of e.book.list) all) (sym c.in-Ok.ensures.ok) c.end-book.ensures.accepted,
+      subst (λ (e : Standing). IsPrefix (entries_of e.book.list) all) (sym c.in-Ok.ensures.ok)
+          c.end-book.ensures.accepted,
     )
 
 pub returns-clause-shown_apart : goal.returns-clause-shown_apart

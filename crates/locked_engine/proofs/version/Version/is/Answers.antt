@@ -22,5 +22,6 @@ returns g c =
     ) in
     let begins : IsPrefix mine c.learn.new.self = subst (λ (l : List Entry). IsPrefix l c.learn.new.self)
     c.again-longer.ensures c.learn.ensures.later in
-    let taken : c.learn.new.self ≡ other = c.learn.ensures.taken (omega (arith, same, ap length c.again-longer.ensures)) in
+    let taken : c.learn.new.self ≡ other = c.learn.ensures.taken
+    (omega (arith, same, ap length c.again-longer.ensures)) in
     prefix_whole mine other (subst (IsPrefix mine) taken begins) (omega (arith, same))
