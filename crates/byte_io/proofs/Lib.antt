@@ -2,3 +2,4 @@ pub mod StreamLemmas
 pub mod SinkLemmas
 pub mod ScriptLemmas
 pub mod KnownLemmas
+pub mod WrapperLemmas

@@ -1,3 +1,4 @@
 pub mod Streams
 pub mod Writing
 pub mod Scripts
+pub mod Wrappers
