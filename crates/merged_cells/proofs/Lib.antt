@@ -1,0 +1,3 @@
+mod OrderLaws
+mod FrontLaws
+mod MergeLaws
