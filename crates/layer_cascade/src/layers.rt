@@ -16,6 +16,7 @@ ghost use Rattle.cells.specs.Bounds.{IsDimension, AreWithin};
 ghost use Rattle.hyper_matrix.specs.Cells.{built_of};
 ghost use Rattle.hyper_matrix.specs.Counts.{ewise_add, total};
 ghost use Rattle.hyper_matrix.specs.Matrix.{matrix};
+ghost use Rattle.merged_cells.specs.Within.{LieWithin};
 ghost use Rattle.layer_cascade.specs.Cascade.{cascade, content};
 ghost use Rattle.layer_cascade.specs.Cuts.{AreCuts};
 ghost use Rattle.hyper_matrix.specs.RowOf.{row_of};
@@ -26,12 +27,13 @@ use crate::cuts::are_cuts;
 use crate::fault::CascadeFault;
 use crate::filters::bare_run;
 use crate::layer::Layer;
-use crate::lists::{entries_bound, push_cells_of};
+use crate::lists::{add_runs, entries_bound, push_cells_of};
 use crate::lookup::plus;
 use crate::pairs::due_pair;
 use crate::row_entries::columns_with_layer;
 use cells::Cell;
 use hyper_matrix::{Hyper, RowSum};
+use merged_cells::Sources;
 use std::alloc::{AllocError, Global};
 use std::marker::Model;
 use std::sync::{Arc, ArcSlice};
@@ -342,6 +344,18 @@ impl Layers {
         out.reserve_exact(self.listed_cells() as usize)?;
         'layers: for layer in &self.layers {
             push_cells_of(out, layer.runs())?;
+        }
+        Ok(())
+    }
+
+    /// Adds all matrices of all layers to those whose cells are to be merged.
+    pub(crate) fn add_to<'a>(&'a self, sources: &mut Sources<'a>) -> Result<(), AllocError>
+        ensures sum { OnOk result (sources.new ≡ ewise_add sources.old (content self.now.layers)) }
+        ensures within { LieWithin self.now.rows self.now.cols sources.old →
+            OnOk result (LieWithin self.now.rows self.now.cols sources.new) }
+    {
+        'layers: for layer in &self.layers {
+            add_runs(sources, layer.runs())?;
         }
         Ok(())
     }

@@ -3,16 +3,15 @@
 //! Layers are never changed in place, so a view is a list of pointers to them: what is added later leaves it as it is,
 //! and costs no more for its sake than that a layer or a block that the view shares is copied before it is added to.
 ghost use Rattle.std.specs.Prelude.{◌≡◌, IfOk, OnOk};
-ghost use Rattle.cells.specs.Bounds.{AreWithin};
-ghost use Rattle.hyper_matrix.specs.Cells.{built_of};
 ghost use Rattle.hyper_matrix.specs.Counts.{ewise_add};
 ghost use Rattle.hyper_matrix.specs.Matrix.{matrix};
+ghost use Rattle.merged_cells.specs.Within.{LieWithin};
 ghost use Rattle.layer_cascade.specs.Cascade.{content};
 ghost use Rattle.layer_cascade.specs.Layering.{IsLayering};
 
 use crate::layers::Layers;
-use cells::Cell;
 use hyper_matrix::Hyper;
+use merged_cells::Sources;
 use std::alloc::{AllocError, Global};
 use std::marker::Model;
 
@@ -62,22 +61,17 @@ impl LayerView {
         Ok(sum)
     }
 
-    /// How many cells `push_cells` appends, up to 2^64 - 1. No memory; constant time for each matrix.
-    pub fn listed_cells(&self) -> u64 {
-        self.layers.listed_cells()
-    }
-
-    /// Appends the cells of all layers of that moment, as `Layers::push_cells`.
+    /// Adds all matrices of that moment to those whose cells are to be merged: `MergedCells` gives the cells of the
+    /// layers' sum then, without a list or a matrix of it. Some 100 bytes for each matrix.
     ///
     /// # Errors
     ///
-    /// A growth was refused.
-    pub fn push_cells(&self, out: &mut Vec<Cell>) -> Result<(), AllocError>
-        ensures sum { OnOk result (built_of out.new.items
-            ≡ ewise_add (built_of out.old.items) (content self.now.layers)) }
-        ensures within { AreWithin self.now.rows self.now.cols out.old.items →
-            OnOk result (AreWithin self.now.rows self.now.cols out.new.items) }
+    /// A growth was refused, or the totals of all that was added pass 2^64 - 1. Some matrices may have been added.
+    pub fn add_to<'a>(&'a self, sources: &mut Sources<'a>) -> Result<(), AllocError>
+        ensures sum { OnOk result (sources.new ≡ ewise_add sources.old (content self.now.layers)) }
+        ensures within { LieWithin self.now.rows self.now.cols sources.old →
+            OnOk result (LieWithin self.now.rows self.now.cols sources.new) }
     {
-        self.layers.push_cells(out)
+        self.layers.add_to(sources)
     }
 }
