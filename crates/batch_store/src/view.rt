@@ -1,13 +1,13 @@
 //! A shard as it was at one moment, to be read outside the shard's lock.
 ghost use Rattle.std.specs.Prelude.{◌≡◌, IfOk, OnOk};
-ghost use Rattle.hyper_matrix.specs.Cells.{built_of};
 ghost use Rattle.hyper_matrix.specs.Counts.{ewise_add};
 ghost use Rattle.hyper_matrix.specs.Matrix.{matrix};
+ghost use Rattle.merged_cells.specs.Within.{LieWithin};
 ghost use Rattle.layer_cascade.specs.Cascade.{content};
 
-use cells::Cell;
 use hyper_matrix::Hyper;
 use layer_cascade::LayerView;
+use merged_cells::Sources;
 use std::alloc::{AllocError, Global};
 use std::marker::Model;
 
@@ -59,21 +59,16 @@ impl ShardView {
         Ok(sum)
     }
 
-    /// How many cells `push_cells` appends, up to 2^64 - 1. No memory; constant time for each matrix.
-    pub fn listed_cells(&self) -> u64 {
-        self.layers.listed_cells()
-    }
-
-    /// Appends the cells of all layers, those of each matrix in order. A place that several matrices have stands in the
-    /// list several times. Room is made at once, 24 bytes for each cell.
+    /// Adds all matrices of all layers to those whose cells are to be merged, as `LayerView::add_to`.
     ///
     /// # Errors
     ///
-    /// A growth was refused.
-    pub fn push_cells(&self, out: &mut Vec<Cell>) -> Result<(), AllocError>
-        ensures { OnOk result (built_of out.new.items
-            ≡ ewise_add (built_of out.old.items) (content self.now.layers.layers)) }
+    /// A growth was refused, or the totals of all that was added pass 2^64 - 1. Some matrices may have been added.
+    pub fn add_to<'a>(&'a self, sources: &mut Sources<'a>) -> Result<(), AllocError>
+        ensures sum { OnOk result (sources.new ≡ ewise_add sources.old (content self.now.layers.layers)) }
+        ensures within { LieWithin self.now.layers.rows self.now.layers.cols sources.old →
+            OnOk result (LieWithin self.now.layers.rows self.now.layers.cols sources.new) }
     {
-        self.layers.push_cells(out)
+        self.layers.add_to(sources)
     }
 }
