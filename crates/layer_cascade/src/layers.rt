@@ -74,7 +74,7 @@ impl Model for Layers {
 /// it was made from. To drop it is to give the addition up.
 #[derive(Drop)]
 pub struct Plan {
-    after: Layers,
+    pub(crate) after: Layers,
 }
 
 impl Model for Plan {

@@ -27,6 +27,7 @@ mod pairs;
 mod row_entries;
 mod runs;
 mod view;
+mod view_reads;
 mod walk;
 
 pub use cuts::are_cuts;

@@ -20,7 +20,7 @@ use std::marker::Model;
 /// It shares all matrices with them, and keeps them from being freed. Contracts see it as the layers of that moment.
 #[derive(Drop)]
 pub struct LayerView {
-    layers: Layers,
+    pub(crate) layers: Layers,
 }
 
 impl Model for LayerView {
