@@ -129,6 +129,18 @@ module _ (s : Setting) (n free : ℕ) (layers : Layering) (held : Held) (v : Hol
       no_value (lookup (same_key p) held) (stands_is p q.batch.client q.batch.number held client number keeps.keyed
       ∙ ap (λ (w : Holding). stands q.batch.client q.batch.number w.record_list) view ∙ absent)
 
+  -- what the shard will keep once a preparation is put in place
+  pub held_after : (q : Preparation) → IsReady v q → AreHeld v.setup v.number
+      (cascade v.layers v.setup.cuts (part q.batch.matrix.counts v.number v.setup.shards))
+      (v.record_list ++ q.batch ∷ [])
+  held_after q ready =
+      let r = subst (λ (w : Holding). IsReady w q) (sym view) ready in
+      subst (λ (w : Holding). AreHeld w.setup w.number
+      (cascade w.layers w.setup.cuts (part q.batch.matrix.counts w.number w.setup.shards))
+      (w.record_list ++ q.batch ∷ [])) view
+      (held_push s n layers.layers (recorded held) q.batch keeps.told keeps.count r.absent r.rows r.cols
+      (omega (arith, r.fits, r.amount)))
+
   -- the shard after a preparation was put in place
   module _ (q : Preparation) (ready : IsReady v q) (after plan : Layering) (told : plan ≡ q.planned)
       (is : after ≡ plan) where

@@ -22,6 +22,7 @@ mod setup;
 mod shard;
 mod verdict;
 mod view;
+mod view_reads;
 
 pub use batch::Batch;
 pub use book::Book;

@@ -16,7 +16,7 @@ ghost use Rattle.layer_cascade.specs.Layering.{entries_of_layer};
 ghost use Rattle.batch_store.specs.Parts.{part_of};
 ghost use Rattle.batch_store.specs.Books.{same_key};
 ghost use Rattle.batch_store.specs.Shards.{AreHeld, stands, Refuses, IsReady, shard_total, part_in, amount_in};
-ghost use Rattle.batch_store.specs.Shards.{layering_of, HasDims, matrix_in, Stays};
+ghost use Rattle.batch_store.specs.Shards.{layering_of, layering_with, HasDims, matrix_in, Stays};
 
 use crate::batch::Batch;
 use crate::fault::ShardFault;
@@ -356,5 +356,26 @@ impl Shard {
     {
         let layers = self.layers.view(alloc)?;
         Ok(ShardView::new(layers, self.held.len() as u64))
+    }
+
+    /// The layers and the length of the record as `commit` of what was prepared will leave them, so that the growth of
+    /// that view is made before the commit. One growth, of a pointer for each layer.
+    ///
+    /// The shard is to be as `prepare` left it.
+    ///
+    /// # Errors
+    ///
+    /// The growth was refused.
+    pub fn view_after(&self, alloc: Global, p: &Prepared) -> Result<ShardView, AllocError>
+        requires { IsReady self.now p.now }
+        ensures layers { IfOk result (λ v. v.layers ≡ layering_with self.now p.now.batch) }
+        ensures record { IfOk result (λ v. v.record_len ≡ length self.now.record_list + 1) }
+        ensures held { AreHeld self.now.setup self.now.number
+            (cascade self.now.layers self.now.setup.cuts (part_in self.now p.now.batch))
+            (self.now.record_list ++ p.now.batch ∷ []) }
+    {
+        let record_len = self.held.len() as u64 + 1;
+        let layers = p.plan.view(alloc)?;
+        Ok(ShardView::new(layers, record_len))
     }
 }

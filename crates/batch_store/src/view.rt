@@ -17,8 +17,8 @@ use std::marker::Model;
 /// Contracts see both.
 #[derive(Drop)]
 pub struct ShardView {
-    layers: LayerView,
-    record_len: u64,
+    pub(crate) layers: LayerView,
+    pub(crate) record_len: u64,
 }
 
 impl Model for ShardView {
