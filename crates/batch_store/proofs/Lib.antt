@@ -4,5 +4,6 @@ pub mod VerdictLaws
 pub mod BookLaws
 pub mod ShardLaws
 pub mod FileLaws
+pub mod ListLaws
 pub mod VerdictMeaning
 pub mod CutLaws

@@ -1,5 +1,5 @@
 //! A batch: a matrix that a client sends under a number of its own.
-ghost use Rattle.std.specs.Prelude.{◌≡◌, ℕ, ◌<◌, ◌≤◌, ◌^◌, IfOk, IfErr, OnOk};
+ghost use Rattle.std.specs.Prelude.{◌≡◌, ◌≢◌, ℕ, ◌<◌, ◌≤◌, ◌^◌, Err, IfOk, IfErr, OnOk};
 ghost use Rattle.std.specs.Arc.{arc_value};
 ghost use Rattle.hyper_matrix.specs.Counts.{total as total_of};
 ghost use Rattle.hyper_matrix.specs.Cells.{built_of, cell_total};
@@ -7,10 +7,14 @@ ghost use Rattle.hyper_matrix.specs.Matrix.{matrix};
 ghost use Rattle.batch_store.specs.Batches.{submission, batch_total};
 ghost use Rattle.batch_store.specs.Parts.{concerns};
 ghost use Rattle.batch_store.specs.Files.{Fits, RefusesCells, RefusesFile};
+ghost use Rattle.batch_store.specs.Lists.{MakesBatch, RefusesList};
+ghost use Rattle.batch_store.specs.declared.fault.CellsFault.{CellsFault};
 
-use crate::fault::BatchFault;
+use crate::fault::{BatchFault, CellsFault};
+use crate::listed::list_matrix;
 use crate::part::has_part;
 use crate::setup::Setup;
+use cells::Cell;
 use hyper_matrix::{BuildFault, Hyper};
 use mm_text::MmFile;
 use std::alloc::Global;
@@ -94,6 +98,47 @@ impl Batch {
         match Arc::new(alloc, batch) {
             Ok(b) => Ok(b),
             Err(_) => Err(BatchFault::Memory),
+        }
+    }
+
+    /// The batch of a list of cells, of which at most 1,048,576, ready to be shared. Rows and columns count from 0, and
+    /// a place may stand more than once: its counts are added up.
+    ///
+    /// The list is judged in its order and before any growth: first its length, and then at each cell its place and the
+    /// running total. Takes the time and memory of `Hyper::build`: a list in strict order isn't sorted.
+    ///
+    /// # Errors
+    ///
+    /// `TooManyCells`, `IndexOutOfRange` with the cell's place in the list, and `SumTooLarge` stand exactly where that
+    /// is the first fault of the list. `Memory`: the list has none, and a growth was refused.
+    pub fn from_cells(
+        alloc: Global,
+        setup: &Setup,
+        client: u64,
+        number: u64,
+        cells: &[Cell],
+    ) -> Result<Arc<Batch>, CellsFault>
+        ensures ok { IfOk result (λ b. arc_value b ≡
+            submission client number (matrix setup.now.rows setup.now.cols (built_of cells.now))) }
+        ensures fits { OnOk result (MakesBatch setup.now cells.now) }
+        ensures err { IfErr result (λ fault. RefusesList setup.now cells.now fault) }
+        ensures exact { (fault : CellsFault) → fault ≢ CellsFault.Memory → RefusesList setup.now cells.now fault →
+            result ≡ Err fault }
+    {
+        let matrix = match list_matrix(alloc, setup, cells) {
+            Ok(matrix) => matrix,
+            Err(fault) => return Err(fault),
+        };
+        let total = matrix.total();
+        let batch = Batch {
+            client,
+            number,
+            matrix,
+            total,
+        };
+        match Arc::new(alloc, batch) {
+            Ok(b) => Ok(b),
+            Err(_) => Err(CellsFault::Memory),
         }
     }
 

@@ -26,6 +26,20 @@ pub enum BatchFault {
     SumTooLarge,
 }
 
+/// Why `Batch::from_cells` made no batch. `Memory` is the last to be judged.
+#[derive(Clone, Copy, Debug, PartialEq, Eq)]
+pub enum CellsFault {
+    /// A growth was refused. The list itself has no fault.
+    Memory,
+    /// There are more than 1,048,576 cells.
+    TooManyCells,
+    /// The cell at this place of the list, counted from 0, lies outside the setup's dimensions. Those before it bear no
+    /// fault.
+    IndexOutOfRange { at: u64 },
+    /// The counts up to a cell pass 2^64 - 1. It lies within the dimensions, and those before it bear no fault.
+    SumTooLarge,
+}
+
 /// Why `Shard::prepare` can't take a batch. `Memory` is the last to be judged.
 #[derive(Clone, Copy, Debug, PartialEq, Eq)]
 pub enum ShardFault {

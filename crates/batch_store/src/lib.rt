@@ -16,6 +16,7 @@ mod cut;
 mod fault;
 mod laws;
 mod line;
+mod listed;
 mod pair;
 mod part;
 mod setup;
@@ -26,7 +27,7 @@ mod view_reads;
 
 pub use batch::Batch;
 pub use book::Book;
-pub use fault::{BatchFault, SetupFault, ShardFault};
+pub use fault::{BatchFault, CellsFault, SetupFault, ShardFault};
 pub use laws::{
     a_part_is_no_more_than_the_whole, fresh_batches_fit, no_cell_lies_below_shard_zero,
     one_shard_more, records_grow_by_a_part, shards_have_all, unconcerned_batches_add_nothing,
