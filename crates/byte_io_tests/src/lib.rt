@@ -4,9 +4,13 @@
 #[cfg(test)]
 mod counted;
 #[cfg(test)]
+mod endless;
+#[cfg(test)]
 mod scripts;
 mod sinks;
 mod splits;
+#[cfg(test)]
+mod wrappers;
 #[cfg(test)]
 mod writes;
 
