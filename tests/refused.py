@@ -1,0 +1,326 @@
+#!/usr/bin/env python3
+"""Refuses each growth, each read and each write of the built programs in turn, and judges every run.
+
+    python3 tests/refused.py PATH-TO-HHM
+
+A run is repeated with its first growth refused, then with its second, until one makes fewer; so with each read and
+write, which fails, is interrupted, or moves a single byte. A run must end with its whole answer, or with the fault that
+docs/FORMATS.md has for what was refused; never with status 0 and other output, by a signal, or not at all. So does a
+server whose growths are refused: who was told of want of memory, or was let go, asks again and is answered, and what is
+saved are the accepted batches. Refusals come from a library that the clang of the toolchain makes of refuse.c, and that
+is loaded before the program, so that it is the program as it is shipped.
+
+It prints how many runs there were, a line for each that is wrong, and at the end `N passed, M failed`; the status is 1
+where one fails. Linux, Python's own library and the toolchain of Rattle.
+"""
+import os
+import re
+import socket
+import struct
+import subprocess
+import sys
+import tempfile
+from concurrent.futures import ThreadPoolExecutor
+from typing import Callable, NamedTuple
+
+HERE = os.path.dirname(os.path.abspath(__file__))
+sys.path.insert(0, HERE)
+from program import BANNER, snapshot  # noqa: E402
+from server import SMALL, accepted, put_frame, refused, text  # noqa: E402
+
+EIO, EINTR = 5, 4
+SECONDS = 60
+# No run of these comes near so many calls of one kind: a sweep that goes on is a failure.
+MOST_RUNS = 5_000
+
+# How a run's calls are refused: the kind, and the error that they answer.
+REFUSALS = {
+    "a growth is refused": ("growth", 0),
+    "a read or write fails": ("fault", EIO),
+    "a read or write is interrupted": ("fault", EINTR),
+    "a read or write moves one byte": ("short", 0),
+}
+
+
+class Ended(NamedTuple):
+    """What a run wrote, and how it ended."""
+
+    output: bytes
+    error: bytes
+    status: int
+
+
+class Run(NamedTuple):
+    """A run of a program: its words, its input, all that it writes, and its answer to a read that fails."""
+
+    name: str
+    words: list
+    text: bytes
+    output: bytes
+    read_fault: str
+
+
+def memory_or_all(run, ended):
+    """Want of memory, or the whole answer, where what was refused could be done without."""
+    return ended in (Ended(b"", b"hhm: memory\n", 5), Ended(run.output, b"", 0))
+
+
+def fault_or_all(run, ended):
+    """A failed read, before anything is written, or a failed write, behind what was taken."""
+    if ended == Ended(run.output, b"", 0):
+        return False
+    if re.fullmatch(run.read_fault.encode(), ended.error):
+        return ended.output == b"" and ended.status == 4
+    taken = b"hhm: output failed after %d bytes\n" % len(ended.output)
+    return run.output.startswith(ended.output) and ended.error == taken and ended.status == 4
+
+
+def all_of_it(run, ended):
+    """The whole answer: a device may move as few bytes as it likes."""
+    return ended == Ended(run.output, b"", 0)
+
+
+JUDGES: dict[str, Callable] = {"growth": memory_or_all, "fault": fault_or_all, "short": all_of_it}
+
+
+def text_of(rows, cols, cells):
+    """A text of these cells, which count from 0."""
+    lines = [f"{row + 1} {col + 1} {count}\n" for row, col, count in cells]
+    return (BANNER + f"{rows} {cols} {len(cells)}\n" + "".join(lines)).encode()
+
+
+def summed(cells):
+    """Each cell once, with its counts together, by row and then by column."""
+    sums = {}
+    for row, col, count in cells:
+        sums[row, col] = sums.get((row, col), 0) + count
+    return [(row, col, sums[row, col]) for row, col in sorted(sums)]
+
+
+def spread(count, size):
+    """So many cells of a matrix of this many rows and columns, in no order, some of them twice."""
+    return [(7_919 * i % size, 104_729 * i % size, i % 10) for i in range(count)]
+
+
+def runs(folder):
+    """Sums whose layers pass their cuts, and snapshots; of each a small one, and one of more than a buffer."""
+    few, many = spread(40, 11), spread(9_000, 1_000_003)
+    read = r"hhm: text: Read at line [1-9][0-9]*\n"
+    for name, cells, size, cuts in [
+        ("sum of few cells", few, 11, "none"),
+        ("sum of few cells, three cuts", few, 11, "1,4,9"),
+        ("sum of many cells, two cuts", many, 1_000_003, "100,4096"),
+    ]:
+        given, output = text_of(size, size, cells), text_of(size, size, summed(cells))
+        yield Run(name, ["sum", "--cuts", cuts], given, output, read)
+    for name, count, cells in [("check of a batch", 1, few), ("check of many batches", 400, spread(11, 11))]:
+        one = summed(cells)
+        total = sum(count for _, _, count in one)
+        batches = [(7, number, one) for number in range(count)]
+        path = os.path.join(folder, name.replace(" ", "_"))
+        with open(path, "wb") as file:
+            file.write(snapshot(batches, count * total, 11, 11, limit=10**9, most=1_000))
+        line = f"rows 11 cols 11 shards 2 batches {count} total {count * total} entries {len(one)}\n"
+        yield Run(name, ["check", path], b"", line.encode(), r"hhm: snapshot: Read\n")
+
+
+class Refusing:
+    """The environment of a program one of whose calls is refused, and whether there was such a call."""
+
+    library = ""
+
+    def __init__(self, kind, error, at):
+        self.met, self.tell = os.pipe()
+        which = {"LD_PRELOAD": self.library, "REFUSE_KIND": kind, "REFUSE_AT": at, "REFUSE_ERROR": error,
+                 "REFUSE_TELL": self.tell}  # fmt: skip
+        env = {**os.environ, **{name: str(value) for name, value in which.items()}}
+        self.how = {"env": env, "pass_fds": [self.tell]}
+
+    def was_met(self):
+        """Once the program has ended."""
+        os.close(self.tell)
+        with open(self.met, "rb") as told:
+            return told.read() != b""
+
+
+def build_library(folder):
+    """The library that refuses a call."""
+    kit = os.path.dirname(subprocess.check_output(["rt", "doc"], text=True).strip())
+    tools = os.path.join(kit, "toolchain", "bin")
+    Refusing.library = os.path.join(folder, "refuse.so")
+    words = ["-O1", "-fPIC", "-ffreestanding", "-shared", "-nostdlib", f"--ld-path={tools}/ld.lld"]
+    words += ["-o", Refusing.library, os.path.join(HERE, "refuse.c")]
+    subprocess.run([os.path.join(tools, "clang"), *words], check=True)
+
+
+def refused_run(program, run, kind, error, at):
+    """What the program came to with its call number `at` refused, and whether there was such a call."""
+    refusing = Refusing(kind, error, at)
+    try:
+        done = subprocess.run(
+            [program, *run.words], input=run.text, capture_output=True, timeout=SECONDS, **refusing.how
+        )
+        ended = Ended(done.stdout, done.stderr, done.returncode)
+    except subprocess.TimeoutExpired:
+        ended = Ended(b"", b"it didn't end", -1)
+    return ended, refusing.was_met()
+
+
+def judged_run(program, run, kind, error, at):
+    """What was wrong with the run whose call number `at` was refused, and whether there was such a call."""
+    ended, met = refused_run(program, run, kind, error, at)
+    is_right = (JUDGES[kind] if met else all_of_it)(run, ended)
+    return None if is_right else ended, met
+
+
+STATUS, EXPORT, SAVE, STOP = (struct.pack(">IB", 0, kind) for kind in (4, 5, 6, 7))
+ASKS = put_frame(7, 1, text(5)) + put_frame(8, 1, text(3)) + struct.pack(">IBQQ", 16, 2, 0, 0) + STATUS + EXPORT + SAVE
+SUM = text(8)
+REPLIES = [
+    accepted(0, 5),
+    accepted(1, 8),
+    struct.pack(">IBBQ", 9, 0x82, 1, 8),
+    struct.pack(">IBQQ", 16, 0x84, 2, 8),
+    struct.pack(">IB", len(SUM), 0x85) + SUM,
+    struct.pack(">IBQ", 8, 0x86, 2),
+]
+STOPPING = struct.pack(">IB", 0, 0x87)
+SAVED = snapshot([(7, 1, [(0, 0, 5)]), (8, 1, [(0, 0, 3)])], 8)
+# One growth is refused, so the second time is the last at which anything may be.
+TRIES = 3
+
+
+def talk(path, asks):
+    """All that is answered to these frames, until the end."""
+    answer = b""
+    with socket.socket(socket.AF_UNIX) as link:
+        link.settimeout(SECONDS)
+        try:
+            link.connect(path)
+            link.sendall(asks)
+            link.shutdown(socket.SHUT_WR)
+            while more := link.recv(65536):
+                answer += more
+        except (ConnectionError, FileNotFoundError):
+            pass
+    return answer
+
+
+def ask_until_answered(path, asks, replies):
+    """Asks until all is answered: whether it was, and what was wrong with an answer, or None.
+
+    An answer before is that to the first requests, and then want of memory, or nothing where the connection was let go.
+    """
+    for _ in range(TRIES):
+        answer = talk(path, asks)
+        if answer == b"".join(replies):
+            return True, None
+        fronts = [b"".join(replies[:count]) for count in range(len(replies) + 1)]
+        if answer != b"" and answer not in [front + refused(1) for front in fronts]:
+            return True, answer
+    return False, None
+
+
+def judge_end(process, saved, ends, held):
+    """What is wrong with the end of a server, or with what it saved, or None."""
+    output, error = process.communicate(timeout=SECONDS)
+    ended = Ended(output, error, process.returncode)
+    if ended not in ends:
+        return ended
+    found = None
+    if os.path.exists(saved):
+        with open(saved, "rb") as file:
+            found = file.read()
+    return None if found == held else found
+
+
+NO_MEMORY = Ended(b"", b"hhm: memory\n", 5)
+
+
+def talk_to_server(process, path, saved, before):
+    """What is wrong with the answers and the end of a server that listens, or None."""
+    is_served, wrong = ask_until_answered(path, ASKS, REPLIES)
+    if not is_served:
+        # A thread that there was no memory for couldn't be started: it is told, and nothing is saved.
+        return judge_end(process, saved, [NO_MEMORY, Ended(b"", b"hhm: no worker\n", 4)], before)
+    if wrong:
+        return wrong
+    is_served, wrong = ask_until_answered(path, STOP, [STOPPING])
+    if wrong or not is_served:
+        return wrong or "no answer to a Stop"
+    return judge_end(process, saved, [NO_MEMORY, Ended(b"stopped batches 2 total 8\n", b"", 0)], SAVED)
+
+
+def served_run(program, folder, before, at):
+    """What was wrong with a server whose growth number `at` was refused, and whether there was such a growth.
+
+    It starts with this snapshot, or with none.
+    """
+    path, saved = (os.path.join(folder, f"{name}{at}") for name in ("socket", "snap"))
+    if before is not None:
+        with open(saved, "wb") as file:
+            file.write(before)
+    refusing = Refusing("growth", 0, at)
+    words = [program, "serve", "--unix", path, "--workers", "1", "--snapshot", saved, *SMALL]
+    process = subprocess.Popen(words, stdout=subprocess.PIPE, stderr=subprocess.PIPE, **refusing.how)
+    try:
+        line = process.stdout.readline()
+        if line == f"listening unix {path}\n".encode():
+            wrong = talk_to_server(process, path, saved, before)
+        else:
+            wrong = line or judge_end(process, saved, [NO_MEMORY], before)
+    except subprocess.TimeoutExpired:
+        wrong = "it didn't end"
+    finally:
+        process.kill()
+        process.communicate()
+    return wrong, refusing.was_met()
+
+
+def sweep(pool, run_at):
+    """The number of each run with a refusal, and what was wrong with it; the last one meets none."""
+    for first in range(1, MOST_RUNS, 32):
+        places = range(first, first + 32)
+        for at, (wrong, met) in zip(places, pool.map(run_at, places)):
+            yield at, wrong
+            if not met:
+                return
+    yield MOST_RUNS, "the sweep doesn't end"
+
+
+def sweeps(program, folder):
+    """The name of each sweep, and a run of it."""
+    for run in runs(folder):
+        for name, (kind, error) in REFUSALS.items():
+            yield f"{run.name}: {name}", lambda at, run=run, kind=kind, error=error: judged_run(
+                program, run, kind, error, at
+            )
+    for name, before in [("serve", None), ("serve of a snapshot", SAVED)]:
+        within = os.path.join(folder, name.replace(" ", "_"))
+        os.mkdir(within)
+        yield f"{name}: a growth is refused", lambda at, within=within, before=before: served_run(
+            program, within, before, at
+        )
+
+
+def main():
+    if len(sys.argv) != 2:
+        print(__doc__.strip())
+        sys.exit(2)
+    passed = failed = 0
+    with tempfile.TemporaryDirectory() as folder, ThreadPoolExecutor(2 * os.cpu_count()) as pool:
+        build_library(folder)
+        for name, run_at in sweeps(os.path.abspath(sys.argv[1]), folder):
+            before = passed + failed
+            for at, wrong in sweep(pool, run_at):
+                passed, failed = passed + (wrong is None), failed + (wrong is not None)
+                if wrong is not None:
+                    print(f"FAILED {name}, number {at}: {str(wrong)[:300]}")
+            print(f"{name}: {passed + failed - before} runs")
+    print(f"{passed + failed} runs")
+    print(f"{passed} passed, {failed} failed")
+    sys.exit(1 if failed else 0)
+
+
+if __name__ == "__main__":
+    main()
