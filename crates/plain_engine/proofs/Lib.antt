@@ -7,3 +7,4 @@ pub mod SameLaws
 pub mod PutLaws
 pub mod LookLaws
 pub mod LoadLaws
+mod WalkLaws

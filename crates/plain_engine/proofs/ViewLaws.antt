@@ -1,5 +1,5 @@
 -- Views of shards, and what they show together.
-use Rattle.std.proofs.Common.{◌≡◌, ℕ, ◌+◌, ◌<◌, ◌≤◌, List, [], ◌∷◌, ◌++◌, length, take, get_or, refl}
+use Rattle.std.proofs.Common.{◌≡◌, ℕ, zero, suc, ◌+◌, ◌<◌, List, [], ◌∷◌, ◌++◌, length, take, get_or, refl}
 use Rattle.std.proofs.Common.{sym, ◌∙◌, ap, subst, arith}
 use Rattle.std.proofs.lemmas.List.{take_more}
 use Rattle.hyper_matrix.specs.Counts.{ewise_add}
@@ -66,3 +66,11 @@ pub sum_shown : (v w : Setting) (vs ws : List Sight) (xs : List Holding) (sum : 
     sum ≡ matrix v.rows v.cols (shards_content xs)
 sum_shown v w vs ws xs sum is setup views shown = is ∙ (λ i. matrix (setup i).rows (setup i).cols
     (sights_content (views i))) ∙ ap (matrix v.rows v.cols) (show_content vs xs shown)
+
+-- a view among others has their dimensions
+pub size_at : (r c : ℕ) (vs : List Sight) (i : ℕ) (v : Sight) → HaveSize r c vs → i < length vs → v ≡ get_or vs i v →
+    (v.layers.rows ≡ r) × (v.layers.cols ≡ c)
+size_at r c [] i v h below is = absurd (omega arith)
+size_at r c (w ∷ ws) zero v h below is =
+    (ap (λ (s : Sight). s.layers.rows) is ∙ h.0, ap (λ (s : Sight). s.layers.cols) is ∙ h.1)
+size_at r c (w ∷ ws) (suc i) v h below is = size_at r c ws i v h.2 (omega arith) is

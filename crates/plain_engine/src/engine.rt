@@ -9,7 +9,7 @@ ghost use Rattle.plain_engine.specs.Standing.{AreEmpty, Stand, StandsAt, KeepsEn
 ghost use Rattle.plain_engine.specs.Standing.{standing, bare, bare_shard};
 ghost use Rattle.batch_store.specs.Batches.{values};
 
-use crate::export::{sum_of_views, views_of};
+use crate::export::{ViewedSum, views_of};
 use crate::fault::PutFault;
 use crate::put::put_fresh;
 use crate::status::Status;
@@ -138,8 +138,7 @@ impl PlainEngine {
         self.shard_of(row).row_total(row)
     }
 
-    /// The sum of all accepted batches, in the setup's dimensions: the cells of all shards, sorted in one list
-    /// (`sum_of_views`).
+    /// The sum of all accepted batches, in the setup's dimensions.
     ///
     /// # Errors
     ///
@@ -147,9 +146,22 @@ impl PlainEngine {
     pub fn export(&self, alloc: Global) -> Result<Hyper, AllocError>
         ensures { IfOk result (λ m. m ≡ export_of self.now.setup self.now.book.list) }
     {
-        let views = views_of(&self.shards, alloc)?;
-        let sum = sum_of_views(&views, alloc, &self.setup)?;
+        let viewed = self.viewed(alloc)?;
+        let sum = viewed.build(alloc)?;
         Ok(sum)
+    }
+
+    /// The sum of all accepted batches as a view, which takes a pointer for each layer of each shard. What is put later
+    /// leaves it as it is.
+    ///
+    /// # Errors
+    ///
+    /// A growth was refused. The engine is as it was.
+    pub fn viewed(&self, alloc: Global) -> Result<ViewedSum, AllocError>
+        ensures { IfOk result (λ m. m ≡ export_of self.now.setup self.now.book.list) }
+    {
+        let views = views_of(&self.shards, alloc)?;
+        Ok(ViewedSum::new(self.setup, views))
     }
 
     /// The engine's setup, its book and its shards in order, as they are. `join_parts` makes an engine of them again.

@@ -1,28 +1,17 @@
-//! The sum of what shards hold: a view of each, and one list of the cells of all views.
-//!
-//! What is freed of a sum is to go back to the system, also where it was added up by one of many threads: each has a
-//! part of the heap of its own (glibc's malloc, an arena for each thread), from whose end alone memory goes back. So
-//! the list is longer than what the C library keeps once it was freed, whatever stood in it, and the blocks of the sum
-//! are made one behind the other, with nothing between that stays.
+//! The sum of what shards hold, as a view of each: it is never built, but gone through cell by cell.
 ghost use Rattle.std.specs.Prelude.{◌≡◌, IfOk};
-ghost use Rattle.hyper_matrix.specs.Cells.{built_of};
+ghost use Rattle.std.specs.FinMap.{entries};
+ghost use Rattle.cells.specs.Bounds.{IsDimension};
 ghost use Rattle.hyper_matrix.specs.Matrix.{matrix};
+ghost use Rattle.merged_cells.specs.Within.{LieWithin};
 ghost use Rattle.plain_engine.specs.Views.{Show, HaveSize, sights_content};
 
 use batch_store::{Setup, Shard, ShardView};
-use cells::{Cell, checked_total};
+use cells::Cell;
 use hyper_matrix::Hyper;
-use layer_cascade::summed_in_place;
+use merged_cells::{MergedCells, Sources};
 use std::alloc::{AllocError, Global};
-
-/// Cells: a list with room for so many is longer than 32 MiB, of 24 bytes each. glibc gives such a list pages of its
-/// own and returns them when it is freed, and keeps no more of other memory for its sake (mallopt(3),
-/// `M_MMAP_THRESHOLD`). Pages that nothing is written to take no memory.
-const LONG_LIST: u64 = 1_400_000;
-
-/// Cells: a list of no more takes less than 128 KiB, which is never given pages of its own unless the C library was
-/// told to.
-const SHORT_LIST: u64 = 5_000;
+use std::marker::Model;
 
 /// A view of each of these shards, in order.
 pub fn views_of(shards: &[Shard], alloc: Global) -> Result<Vec<ShardView>, AllocError>
@@ -35,46 +24,79 @@ pub fn views_of(shards: &[Shard], alloc: Global) -> Result<Vec<ShardView>, Alloc
     Ok(views)
 }
 
-// For how many cells a list of all that views show is to have room.
-fn room_for(views: &[ShardView]) -> u64 {
-    let mut cells = 0u64;
-    for view in views {
-        cells = cells.saturating_add(view.listed_cells());
-    }
-    if cells <= SHORT_LIST {
-        return cells;
-    }
-    cells.max(LONG_LIST)
+/// The sum of what views of shards show, in the setup's dimensions.
+///
+/// It keeps the matrices that the views share from being freed, and has no cell of its own. Contracts see it as the
+/// matrix that the sum is.
+#[derive(Drop)]
+pub struct ViewedSum {
+    setup: Setup,
+    views: Vec<ShardView>,
 }
 
-// The cells of all views, those of one behind those of the one before.
-fn cells_of_views(views: &[ShardView], alloc: Global) -> Result<Vec<Cell>, AllocError>
-    ensures { IfOk result (λ cells. built_of cells.items ≡ sights_content views.now) }
-{
-    let mut cells = Vec::with_capacity(alloc, room_for(views) as usize)?;
-    'views: for view in views {
-        view.push_cells(&mut cells)?;
-    }
-    Ok(cells)
+impl Model for ViewedSum {
+    ghost use Rattle.hyper_matrix.specs.Matrix.{Matrix, matrix, coded_matrix};
+    ghost use Rattle.plain_engine.specs.Views.{HaveSize, sights_content};
+
+    ghost Value = { Matrix };
+
+    ghost coded = { coded_matrix };
+
+    ghost view = { λ a. matrix a.setup.rows a.setup.cols (sights_content a.views.items) };
+
+    ghost invariant = { λ a. HaveSize a.setup.rows a.setup.cols a.views.items };
 }
 
-/// The sum of what views of shards show, in the setup's dimensions. One list of their cells is made, of 24 bytes for
-/// each cell of each of their matrices, and put in order where it stands; the sum is built of that.
-///
-/// # Errors
-///
-/// A growth was refused, or the views' totals together pass 2^64 - 1.
-pub fn sum_of_views(views: &[ShardView], alloc: Global, setup: &Setup) -> Result<Hyper, AllocError>
-    requires { HaveSize setup.now.rows setup.now.cols views.now }
-    ensures { IfOk result (λ m. m ≡ matrix setup.now.rows setup.now.cols (sights_content views.now)) }
-{
-    let cells = cells_of_views(views, alloc)?;
-    if checked_total(&cells).is_none() {
-        return Err(AllocError);
+impl ViewedSum {
+    /// The sum of what these views show. Constant time, and no memory.
+    pub fn new(setup: Setup, views: Vec<ShardView>) -> ViewedSum
+        requires { HaveSize setup.rows setup.cols views.items }
+        ensures { result ≡ matrix setup.rows setup.cols (sights_content views.items) }
+    {
+        ViewedSum { setup, views }
     }
-    let list = summed_in_place(alloc, cells)?;
-    match Hyper::build(alloc, setup.rows(), setup.cols(), &list) {
-        Ok(sum) => Ok(sum),
-        Err(_) => Err(AllocError),
+
+    /// The numbers of rows and of columns.
+    pub fn dims(&self) -> (u64, u64)
+        ensures value { result ≡ (self.now.rows, self.now.cols) }
+        ensures rows { IsDimension self.now.rows }
+        ensures cols { IsDimension self.now.cols }
+    {
+        (self.setup.rows(), self.setup.cols())
+    }
+
+    /// The way through the cells, by row and then by column, each within the dimensions. It borrows the views, and takes
+    /// all its memory now: some 100 bytes for each of their matrices.
+    ///
+    /// # Errors
+    ///
+    /// A growth was refused, or the views' totals together pass 2^64 - 1.
+    pub fn cells(&self, alloc: Global) -> Result<MergedCells<'_>, AllocError>
+        ensures sum { IfOk result (λ cells. cells ≡ self.now.counts) }
+        ensures within { IfOk result (λ cells. LieWithin self.now.rows self.now.cols cells) }
+    {
+        let mut sources = Sources::new(alloc);
+        'views: for view in &self.views {
+            view.add_to(&mut sources)?;
+        }
+        Ok(sources.merged())
+    }
+
+    /// The matrix itself: a list of its cells is made on the way, of 24 bytes each.
+    ///
+    /// # Errors
+    ///
+    /// A growth was refused, or the views' totals together pass 2^64 - 1.
+    pub fn build(&self, alloc: Global) -> Result<Hyper, AllocError>
+        ensures { IfOk result (λ m. m ≡ self.now) }
+    {
+        let mut list = Vec::new(alloc);
+        'cells: for cell in self.cells(alloc)? {
+            list.push(cell)?;
+        }
+        match Hyper::build(alloc, self.setup.rows(), self.setup.cols(), &list) {
+            Ok(sum) => Ok(sum),
+            Err(_) => Err(AllocError),
+        }
     }
 }

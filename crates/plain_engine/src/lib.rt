@@ -21,7 +21,7 @@ mod status;
 pub mod world;
 
 pub use engine::PlainEngine;
-pub use export::sum_of_views;
+pub use export::ViewedSum;
 pub use fault::{LoadFault, PutFault};
 pub use load::accepted_lists_load;
 pub use parts::join_parts;
