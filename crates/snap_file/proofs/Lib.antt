@@ -18,3 +18,4 @@ pub mod StayLemmas
 pub mod RunLemmas
 pub mod ListLemmas
 pub mod StartLemmas
+pub mod SaveLemmas

@@ -7,3 +7,4 @@ pub mod Tallies
 pub mod Lists
 pub mod Snapshots
 pub mod Files
+pub mod Saving

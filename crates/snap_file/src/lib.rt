@@ -8,8 +8,10 @@ mod file;
 mod head;
 mod laws;
 mod limits;
+mod new_file;
 mod read;
 mod reader;
+mod saving;
 mod snapshot;
 mod tally;
 mod write;
@@ -21,6 +23,8 @@ pub use laws::{
     every_file_is_a_snapshot_or_has_a_fault, no_snapshot_begins_another, one_first_fault,
     one_snapshot_spelled, shown_fault_stays, snapshot_or_faulty,
 };
+pub use file_folder::{Folder, MemoryFolder};
 pub use read::read_snapshot;
+pub use saving::save_in;
 pub use snapshot::Snapshot;
 pub use write::write_snapshot;

@@ -1,0 +1,3 @@
+pub mod FileLemmas
+pub mod RunLemmas
+pub mod MemoryLemmas

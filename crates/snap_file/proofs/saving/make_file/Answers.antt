@@ -1,0 +1,59 @@
+use Rattle.std.proofs.Common.{◌≡◌, ◌∙◌, sym, false, is_err, refl}
+use Rattle.file_folder.proofs.FileLemmas.{told_then, told_map, made_holds, others_then}
+use Rattle.file_folder.proofs.RunLemmas.{taken_holds, stopped_keeps}
+use Rattle.batch_store.specs.Batches.{values}
+use Rattle.snap_file.specs.Spelling.{file}
+use Rattle.snap_file.proofs.SaveLemmas.{on_ok}
+use Rattle.snap_file.proofs.saving.make_file.Goals as goal
+
+pub returns-in-Err-clause-kept : goal.returns-in-Err-clause-kept
+returns-in-Err-clause-kept g c =
+    let fine : is_err c.create.result ≡ false = sym c.is_err.ensures.value ∙ c.if-is_err.false in
+    let made = on_ok c.create.result _ fine c.create.ensures.made in
+    let created = on_ok c.create.result _ fine c.create.ensures.created in
+    let begun = told_map _ _ (made_holds c.args.name.now) (g.F.Folder.files c.args.f.now)
+        (g.F.Folder.files c.create.new.self) made in
+    stopped_keeps g.F.Folder.write_takes g.F.Folder.files g.F.Folder.last_created g.met.F.Folder.write_appends
+    g.F.Folder.failure_count c.args.name.now (file c.args.setup.now (values c.args.batches.now)) c.in-Err.fault.written
+    (g.F.Folder.files c.args.f.now) c.create.new.self c.write_new.new.f c.in-Err.ensures.err created begun
+
+pub sync-requires-clause-created : goal.sync-requires-clause-created
+sync-requires-clause-created g c =
+    let fine : is_err c.create.result ≡ false = sym c.is_err.ensures.value ∙ c.if-is_err.false in
+    let made = on_ok c.create.result _ fine c.create.ensures.made in
+    let created = on_ok c.create.result _ fine c.create.ensures.created in
+    let begun = told_map _ _ (made_holds c.args.name.now) (g.F.Folder.files c.args.f.now)
+        (g.F.Folder.files c.create.new.self) made in
+    let whole = taken_holds g.F.Folder.write_takes g.F.Folder.files g.F.Folder.last_created
+        g.met.F.Folder.write_appends g.F.Folder.failure_count c.args.name.now
+        (file c.args.setup.now (values c.args.batches.now)) (g.F.Folder.files c.args.f.now) c.create.new.self
+        c.write_new.new.f c.in_default.ensures.ok created begun in
+    rw whole.0 refl
+
+pub returns-in-Ok-clause-made : goal.returns-in-Ok-clause-made
+returns-in-Ok-clause-made g c =
+    let fine : is_err c.create.result ≡ false = sym c.is_err.ensures.value ∙ c.if-is_err.false in
+    let made = on_ok c.create.result _ fine c.create.ensures.made in
+    let created = on_ok c.create.result _ fine c.create.ensures.created in
+    let begun = told_map _ _ (made_holds c.args.name.now) (g.F.Folder.files c.args.f.now)
+        (g.F.Folder.files c.create.new.self) made in
+    let whole = taken_holds g.F.Folder.write_takes g.F.Folder.files g.F.Folder.last_created
+        g.met.F.Folder.write_appends g.F.Folder.failure_count c.args.name.now
+        (file c.args.setup.now (values c.args.batches.now)) (g.F.Folder.files c.args.f.now) c.create.new.self
+        c.write_new.new.f c.in_default.ensures.ok created begun in
+    rw c.in-Ok.ensures.same whole.1
+
+pub returns-in-Err-sync-clause-kept : goal.returns-in-Err-sync-clause-kept
+returns-in-Err-sync-clause-kept g c =
+    let fine : is_err c.create.result ≡ false = sym c.is_err.ensures.value ∙ c.if-is_err.false in
+    let made = on_ok c.create.result _ fine c.create.ensures.made in
+    let created = on_ok c.create.result _ fine c.create.ensures.created in
+    let begun = told_map _ _ (made_holds c.args.name.now) (g.F.Folder.files c.args.f.now)
+        (g.F.Folder.files c.create.new.self) made in
+    let whole = taken_holds g.F.Folder.write_takes g.F.Folder.files g.F.Folder.last_created
+        g.met.F.Folder.write_appends g.F.Folder.failure_count c.args.name.now
+        (file c.args.setup.now (values c.args.batches.now)) (g.F.Folder.files c.args.f.now) c.create.new.self
+        c.write_new.new.f c.in_default.ensures.ok created begun in
+    told_then _ _ _ (λ x y z p q. others_then c.args.name.now x y z p.1 q) (g.F.Folder.files c.args.f.now)
+    (g.F.Folder.files c.write_new.new.f) (g.F.Folder.files c.sync.new.self) whole.1
+    (c.in-Err-sync.ensures.others c.args.name.now whole.0)
