@@ -4,7 +4,7 @@ ghost use mathlib.Core.List.{IsPrefix};
 ghost use Rattle.batch_store.specs.declared.verdict.Entry.{Entry};
 ghost use Rattle.batch_store.specs.Batches.{entries_of};
 ghost use Rattle.batch_store.specs.Books.{list_total};
-ghost use Rattle.plain_engine.specs.Standing.{HaveSetup, IsWhole, shards_total};
+ghost use Rattle.plain_engine.specs.Standing.{AreTogether, HaveSetup, IsWhole, shards_total};
 ghost use Rattle.locked_engine.specs.Opened.{firsts};
 ghost use Rattle.locked_engine.specs.Told.{AreShown};
 
@@ -68,6 +68,9 @@ impl<N: Named, H: Ledger> Engine<N, H> {
         ensures differ { (shards : _) (book : _) → result ≡ Err (CloseFault.RecordsDiffer shards book) →
             (shards_total shards.items ≡ list_total book.list) × (list_total book.list ≤ N.setup.limit)
             × (firsts seats.items ≡ list_total book.list) }
+        // Some shard isn't at its place, or its record isn't the book's batches that concern it.
+        ensures apart { (shards : _) (book : _) → result ≡ Err (CloseFault.RecordsDiffer shards book) →
+            ¬ ((length shards.items ≡ N.setup.shards) × AreTogether N.setup.shards book.list 0 shards.items) }
 
         // What the seats were shown and the book's entries are beginnings of one version.
         ensures shown { IfOk result (λ e. (all : List Entry) × AreShown seats.items all
@@ -106,6 +109,7 @@ impl<N: Named, H: Ledger> Engine<N, H> {
                 Ok(plain)
             }
             Err((book, shards)) => {
+                // So does this one, on the book.
                 let _total = book.total();
                 Err(CloseFault::RecordsDiffer { shards, book })
             }

@@ -66,3 +66,14 @@ returns-clause-shown_apart g c = λ shards book e.
       shown_later c.args.seats.items _ all c.end-book.ensures.shown c.gather-first.ensures.shown,
       subst (λ (w : Register). IsPrefix (entries_of w.list) all) same_book c.end-book.ensures.accepted,
     )
+
+-- with records that agree there would be an engine
+pub returns-clause-apart : goal.returns-clause-apart
+returns-clause-apart g c = λ shards book e both.
+    let same_shards : c.in-Err.shards ≡ shards = cc in
+    let same_book : c.in-Err.book ≡ book = cc in
+    let back = c.in-Err.ensures.err in
+    let named = c.self.invariant in
+    let moved = rw (← same_shards, ← same_book, back.0, back.1, ← named.0) at both in
+    let told = c.in-Err.ensures.exactly.1 moved in
+    cc told
