@@ -178,6 +178,7 @@ impl Book {
         ensures setup { self.new.setup ≡ self.old.setup }
         ensures kept { result ≡ kept (length self.old.list) (list_total self.old.list + batch_total (arc_value b)) }
     {
+        // It bounds the total.
         let _limit = self.setup.limit();
         let batch: &Batch = &b;
         let pair = Pair {

@@ -25,6 +25,7 @@ pub fn part_total(m: &Hyper, s: u64, k: u64) -> u64
     requires { 0 < k }
     ensures value { result ≡ part_of s k m.now.counts }
 {
+    // It is below 2^64.
     let _bound = m.total();
     let mut total = 0;
     'add: for cell in m.iter() {
