@@ -86,7 +86,7 @@ class Server:
 
     def client(self, client=0, unix=True, **more):
         where = {"unix": self.path} if unix else {"tcp": self.tcp}
-        return Client(client=client, rows=3, cols=3, timeout=WAIT, **where, **more)
+        return Client(client=client, timeout=WAIT, **where, **more)
 
     def memory(self):
         """The memory that is in use now, in bytes."""
@@ -304,7 +304,7 @@ def attempts_last_a_minute():
 
         pauses.clear()
         hhm_client.time = types.SimpleNamespace(sleep=sleep)
-        with Client(unix=os.path.join(FOLDER, "socket"), client=7, rows=3, cols=3, timeout=WAIT) as hhm:
+        with Client(unix=os.path.join(FOLDER, "socket"), client=7, timeout=WAIT) as hhm:
             check("a server that starts late", hhm.put(1, [(0, 0, 5)]), (0, 5))
         check("it did", len(begun), 1)
         with begun[0] as server:
@@ -403,7 +403,7 @@ def saves_are_whole(kills):
     saved = 0
     for turn in range(kills):
         with Server(size, tcp=False) as server:
-            with Client(unix=server.path, client=turn, rows=10**6, cols=10**6, timeout=WAIT) as hhm:
+            with Client(unix=server.path, client=turn, timeout=WAIT) as hhm:
                 before = hhm.status().batches
                 check("nothing is lost", before >= saved, True)
                 hhm.put(0, [(n, n, 1) for n in range(5000)])
@@ -434,7 +434,7 @@ def saves_need_room(mounted, is_freed):
     try:
         # The signal of a file that is too large stays ignored, as Python has it.
         with Server(["--rows", "1000000", "--cols", "1000000", "--snapshot", path], restore_signals=False) as server:
-            with Client(unix=server.path, client=7, rows=10**6, cols=10**6, timeout=WAIT) as hhm:
+            with Client(unix=server.path, client=7, timeout=WAIT) as hhm:
                 hhm.put(1, [(0, 0, 5)])
                 check("a save with room", hhm.save(), 1)
                 kept = content(path)
@@ -491,7 +491,7 @@ def many_put_at_once():
         def put(client):
             try:
                 where = {"unix": server.path} if client % 2 else {"tcp": server.tcp}
-                with Client(client=client, rows=100, cols=100, timeout=WAIT, **where) as hhm:
+                with Client(client=client, timeout=WAIT, **where) as hhm:
                     batches = [(n, [((n * 7 + k) % 100, client, n + k) for k in range(20)]) for n in range(50)]
                     first = dict(hhm.put_all(batches, depth=8))
                     again = dict(hhm.put_all(batches, depth=8))
@@ -567,7 +567,7 @@ def status_waits_for_nobody(seconds):
             return watch
 
         places = [{"tcp": server.tcp}, {"unix": server.path}]
-        clients = [Client(client=n, rows=1000, cols=1000, timeout=WAIT, **places[n % 2]) for n in range(6)]
+        clients = [Client(client=n, timeout=WAIT, **places[n % 2]) for n in range(6)]
         calls = [putter(0, clients[0]), putter(1, clients[1]), clients[2].export, clients[3].save]
         calls += [watcher(0, clients[4]), watcher(1, clients[5])]
         threads = [threading.Thread(target=until_the_end, args=(call,)) for call in calls]

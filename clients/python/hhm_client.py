@@ -1,9 +1,13 @@
 #!/usr/bin/env python3
 """A client of `hhm serve`, and a command line for it. Python 3.8 or later, its standard library alone.
 
-    with Client(unix="/run/hhm/hhm.sock", client=7, rows=1 << 60, cols=1 << 60) as hhm:
+    with Client(unix="/run/hhm/hhm.sock", client=7) as hhm:
         hhm.put(1, [(0, 0, 5), (2, 1, 7)])     # batch 1 of client 7: cells (row, column, count), counted from 0
+        hhm.put(2, Arrays(rows, cols, counts)) # three arrays of unsigned 64-bit numbers, as numpy's of dtype uint64
         print(hhm.cell(0, 0), hhm.row(2), hhm.status())
+
+Cells go as numbers, 24 bytes each. Those of `Arrays` are never touched one by one in Python. A batch is sent as it
+is, and none is split: one of more than `MOST_CELLS` cells is a ValueError.
 
 A batch counts once. It is known by two numbers, the client's and its own: where the reply to a put is lost, `put`
 connects again and sends the same batch with the same numbers, and the server answers what it answered first.
@@ -31,17 +35,19 @@ The frames are described in docs/FORMATS.md. A refusal of the server is a `Refus
 connection that outlasts all attempts is an `OSError`. A `Client` is for one thread at a time.
 """
 import argparse
+import array
+import itertools
 import socket
 import struct
 import sys
 import time
-from typing import Iterable, Iterator, NamedTuple, Optional, Tuple, Union
+from typing import Any, Iterable, Iterator, List, NamedTuple, Optional, Tuple, Union
 
-MOST_BODY = 16_777_216
-MOST_ENTRIES = 1_048_576
+MOST_BODY = 67_108_864
+MOST_CELLS = 1_048_576
 BANNER = b"%%MatrixMarket matrix coordinate integer general\n"
 
-PUT, CELL, ROW, STATUS, EXPORT, SAVE, STOP = range(1, 8)
+PUT, CELL, ROW, STATUS, EXPORT, SAVE, STOP, PUT_CELLS = range(1, 9)
 ACCEPTED, VALUE, ROW_SUM, COUNTS, TEXT, SAVED, STOPPING = range(0x81, 0x88)
 REFUSED = 0xFF
 
@@ -49,6 +55,8 @@ CODES = {
     1: "Memory",
     20: "DimensionsDiffer",
     21: "SumTooLarge",
+    22: "IndexOutOfRange",
+    23: "TooManyCells",
     30: "NumberReused",
     31: "OverTotal",
     32: "BookFull",
@@ -76,8 +84,23 @@ CODES = {
     116: "TooLong",
 }
 
-Cells = Iterable[Tuple[int, int, int]]
 Text = Union[bytes, bytearray, memoryview]
+
+
+class Arrays(NamedTuple):
+    """The cells of a batch as three arrays of one length, of unsigned 64-bit numbers in this machine's byte order.
+
+    Each is anything that gives its memory to others (the buffer protocol) as one dimension of such numbers: an
+    `array.array("Q")`, an array of numpy with dtype uint64, whole or with steps, a `memoryview` of one. They may change
+    again as soon as the call that was given them has come back, or `put_all` has asked for its next batch.
+    """
+
+    rows: Any
+    cols: Any
+    counts: Any
+
+
+Cells = Union[Arrays, Iterable[Tuple[int, int, int]]]
 
 
 class Accepted(NamedTuple):
@@ -104,16 +127,16 @@ class Status(NamedTuple):
 class Refused(Exception):
     """The server refused a request, and nothing was changed.
 
-    `name` says why, as docs/FORMATS.md has it; `detail` is the line of a text's fault, the accepted total of an
-    OverTotal, and else 0.
+    `name` says why, as docs/FORMATS.md has it; `detail` is the line of a text's fault, the place in a batch of cells,
+    from 0, of the first whose row or column is out of range, the accepted total of an OverTotal, and else 0.
     """
 
     def __init__(self, code: int, detail: int):
         self.code = code
         self.name = CODES.get(code, f"code {code}")
         self.detail = detail
-        where = f" at line {detail}" if code > 100 else f": {detail} accepted" if code == 31 else ""
-        super().__init__(self.name + where)
+        where = {22: f" at cell {detail}", 31: f": {detail} accepted"}
+        super().__init__(self.name + (f" at line {detail}" if code > 100 else where.get(code, "")))
 
 
 class BadReply(OSError):
@@ -144,18 +167,70 @@ def host_and_port(word: str) -> Tuple[str, int]:
 
 
 def put_frame(client: int, number: int, text: Text) -> bytes:
-    """The frame that puts a batch."""
+    """The frame that puts a batch as a text."""
     if len(text) + 16 > MOST_BODY:
         raise ValueError(f"a batch of {len(text)} bytes: at most {MOST_BODY - 16} fit a frame, so send it in several")
     return struct.pack(">IBQQ", len(text) + 16, PUT, client, number) + text
+
+
+def put_cells_frame(client: int, number: int, cells: Cells) -> bytes:
+    """The frame that puts a batch as numbers. A ValueError or a TypeError where they aren't cells of 64-bit numbers."""
+    body = bytes_of_arrays(cells) if isinstance(cells, Arrays) else bytes_of(cells)
+    return b"".join([struct.pack(">IBQQ", len(body) + 16, PUT_CELLS, client, number), body])
+
+
+def bytes_of(cells: Iterable[Tuple[int, int, int]]) -> bytes:
+    """The 24 bytes of each cell."""
+    try:
+        body = b"".join(itertools.starmap(struct.Struct(">QQQ").pack, cells))
+    except struct.error as fault:
+        raise ValueError(f"a cell is a row, a column and a count, each from 0 to 2^64 - 1: {fault}") from None
+    judge_count(len(body) // 24)
+    return body
+
+
+def bytes_of_arrays(cells: Arrays) -> Text:
+    """The 24 bytes of each cell of three arrays, without a loop over them in Python."""
+    views = [numbers_of(name, numbers) for name, numbers in zip(Arrays._fields, cells)]
+    lengths = [len(view) for view in views]
+    if len(set(lengths)) != 1:
+        raise ValueError("rows, cols and counts have one length, and these have %d, %d and %d" % tuple(lengths))
+    judge_count(lengths[0])
+    mixed = array.array("Q", [0]) * (3 * lengths[0])
+    with memoryview(mixed) as places:
+        for first, view in enumerate(views):
+            places[first::3] = view
+    if sys.byteorder == "little":
+        mixed.byteswap()
+    return memoryview(mixed).cast("B") if mixed else b""
+
+
+def numbers_of(name: str, numbers: Any) -> memoryview:
+    """The memory of an array of unsigned 64-bit numbers, in the format that `array` has for them."""
+    view = memoryview(numbers)
+    orders = ("", "@", "=", "<" if sys.byteorder == "little" else ">")
+    if view.ndim != 1 or view.itemsize != 8 or view.format not in [order + kind for order in orders for kind in "QL"]:
+        found = f"{view.ndim} of {view.format!r}"
+        raise TypeError(f"{name}: one dimension of unsigned 64-bit numbers ('Q') is wanted, and these are {found}")
+    if view.format == "Q":
+        return view
+    if view.contiguous and len(view) > 0:
+        return view.cast("B").cast("Q")
+    return memoryview(array.array("Q", view.tobytes()))
+
+
+def judge_count(count: int) -> None:
+    """A ValueError where a batch would have too many cells for the server."""
+    if count > MOST_CELLS:
+        raise ValueError(f"a batch of {count} cells: at most {MOST_CELLS} are taken, so send it in several")
 
 
 class Client:
     """A connection to a server, made when it is first needed, and made again where it is lost.
 
     `tcp` is "host:port" and `unix` a path; give one of them. `client` is the client's number, from 0 to 2^64 - 1, which
-    no other program uses: with a batch's own number it tells batches apart, as the text of this module says;
-    `rows` and `cols` are the server's dimensions, for `put` of cells. `timeout` is in seconds, for each answer.
+    no other program uses: with a batch's own number it tells batches apart, as the text of this module says.
+    `timeout` is in seconds, for each answer.
     `attempts` is how often a request is sent before a fault of the connection is given up, with `pause` seconds after
     the first fault and twice as many after each further one, at most ten. By the defaults the last attempt comes after
     62 seconds of pauses, since a server that starts from a million batches answers only after ten or so.
@@ -167,8 +242,6 @@ class Client:
         tcp: Optional[str] = None,
         unix: Optional[str] = None,
         client: int = 0,
-        rows: Optional[int] = None,
-        cols: Optional[int] = None,
         timeout: Optional[float] = 60,
         attempts: int = 14,
         pause: float = 0.05,
@@ -177,9 +250,10 @@ class Client:
             raise ValueError("give tcp or unix, and not both")
         if tcp is not None:
             host_and_port(tcp)
-        self.tcp, self.unix, self.client, self.rows, self.cols = tcp, unix, client, rows, cols
+        self.tcp, self.unix, self.client = tcp, unix, client
         self.timeout, self.attempts, self.pause = timeout, attempts, pause
         self._link: Optional[socket.socket] = None
+        self._is_ahead = False
 
     def __enter__(self) -> "Client":
         return self
@@ -196,14 +270,13 @@ class Client:
     # What a client asks.
 
     def put(self, number: int, cells: Cells) -> Accepted:
-        """Puts a batch of cells (row, column, count), counted from 0; a cell may stand in it several times.
+        """Puts a batch of cells, tuples (row, column, count) or `Arrays`, counted from 0. A cell may stand in it twice.
 
         `number` belongs to this batch for ever: another one with as many cells and the same total is answered as this
-        one was, and not counted.
+        one was, and not counted. What isn't three numbers of 64 bits, or too many, is a ValueError or a TypeError, and
+        nothing was sent.
         """
-        if self.rows is None or self.cols is None:
-            raise ValueError("a put of cells needs the client's rows and cols")
-        return self.put_text(number, text_of(self.rows, self.cols, cells))
+        return self._accepted(self._ask(put_cells_frame(self.client, number, cells), ACCEPTED, 16))
 
     def put_text(self, number: int, text: Text) -> Accepted:
         """Puts a batch that is a Matrix Market text of the server's dimensions."""
@@ -213,25 +286,30 @@ class Client:
         """Puts batches (number, cells) and gives (number, reply), in order, with up to `depth` of them on the way.
 
         Where the connection is lost, all that had no reply yet are sent again. A refused batch raises its `Refused`
-        when its turn comes; those behind it may have been accepted, and can be put again with their numbers, on a new
-        connection (`close`). Until all replies were given no other call may be made.
+        when its turn comes; those behind it may have been accepted, and can be put again with their numbers. No other
+        call may be made until all replies were given, or what this gave was closed. The frames on the way are kept in
+        memory, 24 bytes a cell.
         """
-        waiting: list = []
+        if self._is_ahead:
+            raise RuntimeError("the replies of another put_all haven't all come")
+        waiting: List[Tuple[int, bytes]] = []
         source = iter(batches)
-        while True:
-            for number, cells in source:
-                if self.rows is None or self.cols is None:
-                    raise ValueError("a put of cells needs the client's rows and cols")
-                frame = put_frame(self.client, number, text_of(self.rows, self.cols, cells))
-                waiting.append((number, frame))
-                self._send_ahead(frame)
-                if len(waiting) >= depth:
-                    break
-            if not waiting:
-                return
-            reply = self._first_reply([frame for _, frame in waiting], ACCEPTED, 16)
-            number, _ = waiting.pop(0)
-            yield number, self._accepted(reply)
+        self._is_ahead = True
+        try:
+            while True:
+                for number, cells in itertools.islice(source, max(1, depth - len(waiting))):
+                    waiting.append((number, put_cells_frame(self.client, number, cells)))
+                    self._send_ahead(waiting[-1][1], connects=len(waiting) == 1)
+                if not waiting:
+                    return
+                reply = self._first_reply([frame for _, frame in waiting], ACCEPTED, 16)
+                number, _ = waiting.pop(0)
+                yield number, self._accepted(reply)
+        finally:
+            # The replies that nobody will read must not be taken for those of later requests.
+            self._is_ahead = False
+            if waiting:
+                self.close()
 
     def cell(self, row: int, col: int) -> Optional[int]:
         """The count of a cell, counted from 0; None where none is stored."""
@@ -319,16 +397,20 @@ class Client:
 
     def _ask(self, frame: bytes, wanted: int, length: Optional[int]) -> bytes:
         """Sends a request and reads its reply."""
+        if self._is_ahead:
+            raise RuntimeError("the replies of a put_all come first")
         self._send_ahead(frame)
         return self._first_reply([frame], wanted, length)
 
-    def _send_ahead(self, frame: bytes) -> None:
-        """Sends a request whose reply is read later; a link that fails is found out then."""
-        if self._link is not None:
-            try:
+    def _send_ahead(self, frame: bytes, connects: bool = False) -> None:
+        """Sends a request whose reply is read later, where there is a link; one that fails is found out then."""
+        try:
+            if connects:
+                self._connect()
+            if self._link is not None:
                 self._link.sendall(frame)
-            except OSError:
-                self.close()
+        except OSError:
+            self.close()
 
     def _first_reply(self, frames: list, wanted: int, length: Optional[int]) -> bytes:
         """The reply to the first of the requests that were sent; all are sent again where the link failed."""

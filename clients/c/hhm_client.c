@@ -1,0 +1,624 @@
+/* The client of hhm_client.h. C11 or C++17, POSIX.1-2008. */
+#ifndef _POSIX_C_SOURCE
+#define _POSIX_C_SOURCE 200809L
+#endif
+
+#include "hhm_client.h"
+
+#include <errno.h>
+#include <inttypes.h>
+#include <netdb.h>
+#include <netinet/in.h>
+#include <netinet/tcp.h>
+#include <stdio.h>
+#include <stdlib.h>
+#include <string.h>
+#include <sys/socket.h>
+#include <sys/time.h>
+#include <sys/un.h>
+#include <time.h>
+#include <unistd.h>
+
+enum { PUT = 0x01, CELL, ROW, STATUS, EXPORT, SAVE, STOP, PUT_CELLS };
+enum { ACCEPTED = 0x81, VALUE, ROW_SUM, COUNTS, TEXT, SAVED, STOPPING, REFUSED = 0xff };
+
+/* The bytes of the longest reply but a text, and the cells that are spelled at once. */
+#define MOST_SHORT 16
+#define PIECE 1024
+
+struct hhm_client {
+    /* Host and port, of which the port is NULL where this is the path of a Unix socket. Each has memory of its own. */
+    char *host;
+    char *port;
+    uint64_t number;
+    unsigned timeout, attempts, pause;
+    /* The connection's descriptor, or -1. */
+    int link;
+    hhm_refusal refusal;
+    char message[160];
+};
+
+/* A request: numbers, and behind them a text or cells, which are the caller's. */
+typedef struct {
+    uint8_t kind;
+    unsigned count;
+    uint64_t numbers[2];
+    const char *text;
+    size_t length;
+    const hhm_cell *cells;
+    size_t cell_count;
+} request;
+
+/* The body of a reply. A text has memory of its own; a short one stands in `bytes`. */
+typedef struct {
+    unsigned char bytes[MOST_SHORT];
+    char *text;
+    size_t length;
+} reply;
+
+/* Spelling. */
+
+static unsigned char *push(unsigned char *place, uint64_t number, unsigned size)
+{
+    for (unsigned i = 0; i < size; i++)
+        place[i] = (unsigned char)(number >> 8 * (size - 1 - i));
+    return place + size;
+}
+
+/* As `push` of eight bytes, in a form that compilers make one instruction of. */
+static unsigned char *push_long(unsigned char *place, uint64_t number)
+{
+    place[0] = (unsigned char)(number >> 56);
+    place[1] = (unsigned char)(number >> 48);
+    place[2] = (unsigned char)(number >> 40);
+    place[3] = (unsigned char)(number >> 32);
+    place[4] = (unsigned char)(number >> 24);
+    place[5] = (unsigned char)(number >> 16);
+    place[6] = (unsigned char)(number >> 8);
+    place[7] = (unsigned char)number;
+    return place + 8;
+}
+
+static uint64_t number_at(const unsigned char *place, unsigned size)
+{
+    uint64_t number = 0;
+    for (unsigned i = 0; i < size; i++)
+        number = number << 8 | place[i];
+    return number;
+}
+
+const char *hhm_code_name(uint16_t code)
+{
+    static const struct {
+        uint16_t code;
+        const char *name;
+    } names[] = {
+        {1, "Memory"},           {20, "DimensionsDiffer"}, {21, "SumTooLarge"},      {22, "IndexOutOfRange"},
+        {23, "TooManyCells"},    {30, "NumberReused"},     {31, "OverTotal"},        {32, "BookFull"},
+        {33, "RecordsDiffer"},   {40, "ReplyTooLarge"},    {41, "OutOfRange"},       {42, "SaveFailed"},
+        {43, "SaveOff"},         {50, "TooLarge"},         {51, "UnknownKind"},      {52, "BadLength"},
+        {103, "BadBanner"},      {104, "Unsupported"},     {105, "LineTooLong"},     {106, "BadSize"},
+        {107, "BadDimension"},   {108, "NotSquare"},       {109, "TooManyEntries"},  {110, "BadEntry"},
+        {111, "Negative"},       {112, "NumberTooLarge"},  {113, "IndexOutOfRange"}, {114, "TooFewEntries"},
+        {115, "ExtraText"},      {116, "TooLong"},
+    };
+    for (size_t i = 0; i < sizeof names / sizeof names[0]; i++)
+        if (names[i].code == code)
+            return names[i].name;
+    return NULL;
+}
+
+/* Faults, with their words. */
+
+static hhm_result failed(hhm_client *hhm)
+{
+    int kept = errno;
+    snprintf(hhm->message, sizeof hhm->message, "failed: %s", strerror(kept));
+    errno = kept;
+    return HHM_FAILED;
+}
+
+static hhm_result told(hhm_client *hhm, hhm_result result, const char *words)
+{
+    snprintf(hhm->message, sizeof hhm->message, "%s", words);
+    return result;
+}
+
+static hhm_result refused(hhm_client *hhm, uint16_t code, uint64_t detail)
+{
+    const char *name = hhm_code_name(code);
+    char other[16];
+    snprintf(other, sizeof other, "code %u", (unsigned)code);
+    hhm->refusal.code = code;
+    hhm->refusal.detail = detail;
+    name = name ? name : other;
+    if (code == 22)
+        snprintf(hhm->message, sizeof hhm->message, "refused: %s at cell %" PRIu64, name, detail);
+    else if (code == 31)
+        snprintf(hhm->message, sizeof hhm->message, "refused: %s: %" PRIu64 " accepted", name, detail);
+    else if (code > 100)
+        snprintf(hhm->message, sizeof hhm->message, "refused: %s at line %" PRIu64, name, detail);
+    else
+        snprintf(hhm->message, sizeof hhm->message, "refused: %s", name);
+    return HHM_REFUSED;
+}
+
+hhm_refusal hhm_refused(const hhm_client *hhm)
+{
+    return hhm->refusal;
+}
+
+const char *hhm_message(const hhm_client *hhm)
+{
+    return hhm->message;
+}
+
+/* Clients. */
+
+static hhm_client *made(const char *host, size_t length, const char *port, uint64_t number)
+{
+    hhm_client *hhm = (hhm_client *)calloc(1, sizeof *hhm);
+    if (!hhm)
+        return NULL;
+    hhm->link = -1;
+    hhm->number = number;
+    hhm->timeout = 60000;
+    hhm->attempts = 14;
+    hhm->pause = 50;
+    hhm->host = strndup(host, length);
+    hhm->port = port ? strdup(port) : NULL;
+    if (!hhm->host || (port && !hhm->port)) {
+        hhm_close(hhm);
+        errno = ENOMEM;
+        return NULL;
+    }
+    return hhm;
+}
+
+static int is_port(const char *word)
+{
+    size_t length = strspn(word, "0123456789");
+    unsigned long value = length > 0 && length <= 5 && !word[length] ? strtoul(word, NULL, 10) : 0;
+    return value >= 1 && value <= 65535;
+}
+
+hhm_client *hhm_open_tcp(const char *address, uint64_t client)
+{
+    const char *colon = strrchr(address, ':');
+    size_t length = colon ? (size_t)(colon - address) : 0;
+    int has_brackets = length > 2 && address[0] == '[' && address[length - 1] == ']';
+    if (length == 0 || !is_port(colon + 1) || (!has_brackets && memchr(address, ':', length))) {
+        errno = EINVAL;
+        return NULL;
+    }
+    return has_brackets ? made(address + 1, length - 2, colon + 1, client) : made(address, length, colon + 1, client);
+}
+
+hhm_client *hhm_open_unix(const char *path, uint64_t client)
+{
+    struct sockaddr_un place;
+    if (strlen(path) >= sizeof place.sun_path) {
+        errno = ENAMETOOLONG;
+        return NULL;
+    }
+    return made(path, strlen(path), NULL, client);
+}
+
+static void let_go(hhm_client *hhm)
+{
+    if (hhm->link >= 0)
+        close(hhm->link);
+    hhm->link = -1;
+}
+
+void hhm_close(hhm_client *hhm)
+{
+    if (!hhm)
+        return;
+    let_go(hhm);
+    free(hhm->host);
+    free(hhm->port);
+    free(hhm);
+}
+
+void hhm_set_timeout(hhm_client *hhm, unsigned milliseconds)
+{
+    hhm->timeout = milliseconds;
+}
+
+void hhm_set_attempts(hhm_client *hhm, unsigned attempts, unsigned pause)
+{
+    hhm->attempts = attempts > 0 ? attempts : 1;
+    hhm->pause = pause;
+}
+
+/* Connections. Each function gives 0, or -1 with errno. */
+
+/* A connection to one address. The timeout holds for connecting too, by way of that of sending. */
+static int connected(const hhm_client *hhm, int family, const struct sockaddr *place, socklen_t length)
+{
+    struct timeval limit = {(time_t)(hhm->timeout / 1000), (suseconds_t)(hhm->timeout % 1000 * 1000)};
+    int yes = 1, link = socket(family, SOCK_STREAM, 0), kept;
+    if (link < 0)
+        return -1;
+    if (!setsockopt(link, SOL_SOCKET, SO_RCVTIMEO, &limit, sizeof limit) &&
+        !setsockopt(link, SOL_SOCKET, SO_SNDTIMEO, &limit, sizeof limit) &&
+        (family == AF_UNIX || !setsockopt(link, IPPROTO_TCP, TCP_NODELAY, &yes, sizeof yes)) &&
+        !connect(link, place, length))
+        return link;
+    kept = errno;
+    close(link);
+    errno = kept;
+    return -1;
+}
+
+static int connect_unix(const hhm_client *hhm)
+{
+    struct sockaddr_un place;
+    memset(&place, 0, sizeof place);
+    place.sun_family = AF_UNIX;
+    memcpy(place.sun_path, hhm->host, strlen(hhm->host) + 1);
+    return connected(hhm, AF_UNIX, (const struct sockaddr *)&place, sizeof place);
+}
+
+/* Tries each address of the host's name. */
+static int connect_tcp(const hhm_client *hhm)
+{
+    struct addrinfo wanted, *found = NULL;
+    int link = -1, kept;
+    memset(&wanted, 0, sizeof wanted);
+    wanted.ai_socktype = SOCK_STREAM;
+    int fault = getaddrinfo(hhm->host, hhm->port, &wanted, &found);
+    if (fault) {
+        errno = fault == EAI_SYSTEM ? errno : EHOSTUNREACH;
+        return -1;
+    }
+    for (const struct addrinfo *it = found; it && link < 0; it = it->ai_next)
+        link = connected(hhm, it->ai_family, it->ai_addr, it->ai_addrlen);
+    kept = errno;
+    freeaddrinfo(found);
+    errno = kept;
+    return link;
+}
+
+static int send_bytes(hhm_client *hhm, const void *bytes, size_t count)
+{
+    const unsigned char *place = (const unsigned char *)bytes;
+    while (count > 0) {
+        ssize_t sent = send(hhm->link, place, count, MSG_NOSIGNAL);
+        if (sent < 0 && errno == EINTR)
+            continue;
+        if (sent < 0)
+            return -1;
+        place += sent;
+        count -= (size_t)sent;
+    }
+    return 0;
+}
+
+static int receive(hhm_client *hhm, void *bytes, size_t count)
+{
+    unsigned char *place = (unsigned char *)bytes;
+    while (count > 0) {
+        ssize_t got = recv(hhm->link, place, count, 0);
+        if (got < 0 && errno == EINTR)
+            continue;
+        if (got == 0)
+            errno = ECONNRESET;
+        if (got <= 0)
+            return -1;
+        place += got;
+        count -= (size_t)got;
+    }
+    return 0;
+}
+
+/* The head, the numbers and the text of a request in one piece where they are short, then its cells in pieces. */
+static int send_request(hhm_client *hhm, const request *it)
+{
+    unsigned char piece[21 + 24 * PIECE], *end = piece;
+    end = push(end, 8 * it->count + it->length + 24 * it->cell_count, 4);
+    end = push(end, it->kind, 1);
+    for (unsigned i = 0; i < it->count; i++)
+        end = push(end, it->numbers[i], 8);
+    size_t room = sizeof piece - (size_t)(end - piece), first = it->length < room ? it->length : room;
+    if (first > 0) {
+        memcpy(end, it->text, first);
+        end += first;
+    }
+    for (size_t i = 0; i < it->cell_count; i++) {
+        if ((size_t)(piece + sizeof piece - end) < 24) {
+            if (send_bytes(hhm, piece, (size_t)(end - piece)))
+                return -1;
+            end = piece;
+        }
+        end = push_long(end, it->cells[i].row);
+        end = push_long(end, it->cells[i].col);
+        end = push_long(end, it->cells[i].count);
+    }
+    if (send_bytes(hhm, piece, (size_t)(end - piece)))
+        return -1;
+    return first < it->length ? send_bytes(hhm, it->text + first, it->length - first) : 0;
+}
+
+/* Requests and replies. */
+
+/* The length that the body of a reply has; the longest for a text. */
+static size_t length_of(uint8_t kind)
+{
+    switch (kind) {
+    case ACCEPTED:
+    case ROW_SUM:
+    case COUNTS:
+        return 16;
+    case VALUE:
+        return 9;
+    case SAVED:
+        return 8;
+    case STOPPING:
+        return 0;
+    default:
+        return HHM_MOST_BODY;
+    }
+}
+
+static hhm_result read_text(hhm_client *hhm, reply *out, size_t length)
+{
+    char *text = (char *)malloc(length + 1);
+    if (!text) {
+        let_go(hhm);
+        return told(hhm, HHM_MEMORY, "no memory for the text of an export");
+    }
+    if (receive(hhm, text, length)) {
+        free(text);
+        return failed(hhm);
+    }
+    text[length] = 0;
+    out->text = text;
+    out->length = length;
+    return HHM_OK;
+}
+
+/* Reads the next reply, which is to be of this kind or a refusal. */
+static hhm_result read_reply(hhm_client *hhm, uint8_t wanted, reply *out)
+{
+    unsigned char head[5];
+    if (receive(hhm, head, sizeof head))
+        return failed(hhm);
+    size_t length = (size_t)number_at(head, 4);
+    uint8_t kind = head[4];
+    int is_refusal = kind == REFUSED && length == 10;
+    if (!is_refusal && (kind != wanted || (kind == TEXT ? length > HHM_MOST_BODY : length != length_of(kind)))) {
+        let_go(hhm);
+        return told(hhm, HHM_BAD_REPLY, "what came is no reply to what was asked");
+    }
+    if (kind == TEXT)
+        return read_text(hhm, out, length);
+    if (receive(hhm, out->bytes, length))
+        return failed(hhm);
+    if (is_refusal) {
+        uint16_t code = (uint16_t)number_at(out->bytes, 2);
+        if (code == 1 || (code >= 50 && code <= 52))
+            let_go(hhm);
+        return refused(hhm, code, number_at(out->bytes + 2, 8));
+    }
+    if (kind == VALUE && out->bytes[0] > 1) {
+        let_go(hhm);
+        return told(hhm, HHM_BAD_REPLY, "what came is no reply to what was asked");
+    }
+    return HHM_OK;
+}
+
+/* One attempt: connects and sends all requests where there is no connection, and reads the reply to the first. */
+static hhm_result try_reply(hhm_client *hhm, const request *requests, size_t count, uint8_t wanted, reply *out)
+{
+    if (hhm->link < 0) {
+        hhm->link = hhm->port ? connect_tcp(hhm) : connect_unix(hhm);
+        if (hhm->link < 0)
+            return failed(hhm);
+        for (size_t i = 0; i < count; i++)
+            if (send_request(hhm, &requests[i]))
+                return failed(hhm);
+    }
+    return read_reply(hhm, wanted, out);
+}
+
+static void sleep_for(unsigned milliseconds)
+{
+    struct timespec rest = {(time_t)(milliseconds / 1000), (long)(milliseconds % 1000) * 1000000};
+    while (nanosleep(&rest, &rest) && errno == EINTR) {
+    }
+}
+
+/* The reply to the first of the requests that were sent; all are sent again where the connection failed. */
+static hhm_result first_reply(hhm_client *hhm, const request *requests, size_t count, uint8_t wanted, reply *out)
+{
+    unsigned pause = hhm->pause;
+    for (unsigned attempt = 1;; attempt++) {
+        hhm_result result = try_reply(hhm, requests, count, wanted, out);
+        if (result != HHM_FAILED)
+            return result;
+        int kept = errno;
+        let_go(hhm);
+        if (attempt >= hhm->attempts) {
+            errno = kept;
+            return result;
+        }
+        sleep_for(pause);
+        pause = pause < 5000 ? 2 * pause : 10000;
+    }
+}
+
+/* Sends a request whose reply is read later, where there is a connection; one that fails is found out then. */
+static void send_ahead(hhm_client *hhm, const request *it)
+{
+    if (hhm->link >= 0 && send_request(hhm, it))
+        let_go(hhm);
+}
+
+static hhm_result ask(hhm_client *hhm, const request *it, uint8_t wanted, reply *out)
+{
+    send_ahead(hhm, it);
+    return first_reply(hhm, it, 1, wanted, out);
+}
+
+static request of_numbers(uint8_t kind, unsigned count, uint64_t first, uint64_t second)
+{
+    request it;
+    memset(&it, 0, sizeof it);
+    it.kind = kind;
+    it.count = count;
+    it.numbers[0] = first;
+    it.numbers[1] = second;
+    return it;
+}
+
+static request of_cells(const hhm_client *hhm, uint64_t number, const hhm_cell *cells, size_t count)
+{
+    request it = of_numbers(PUT_CELLS, 2, hhm->number, number);
+    it.cells = cells;
+    it.cell_count = count;
+    return it;
+}
+
+static hhm_result too_large(hhm_client *hhm)
+{
+    return told(hhm, HHM_TOO_LARGE, "a batch has at most 1048576 cells or 67108848 bytes of text");
+}
+
+static hhm_accepted accepted_of(const reply *it)
+{
+    hhm_accepted accepted = {number_at(it->bytes, 8), number_at(it->bytes + 8, 8)};
+    return accepted;
+}
+
+/* The calls. */
+
+static hhm_result ask_put(hhm_client *hhm, const request *it, hhm_accepted *accepted)
+{
+    reply got;
+    hhm_result result = ask(hhm, it, ACCEPTED, &got);
+    if (result == HHM_OK)
+        *accepted = accepted_of(&got);
+    return result;
+}
+
+hhm_result hhm_put(hhm_client *hhm, uint64_t number, const hhm_cell *cells, size_t count, hhm_accepted *accepted)
+{
+    if (count > HHM_MOST_CELLS)
+        return too_large(hhm);
+    request it = of_cells(hhm, number, cells, count);
+    return ask_put(hhm, &it, accepted);
+}
+
+hhm_result hhm_put_text(hhm_client *hhm, uint64_t number, const char *text, size_t length, hhm_accepted *accepted)
+{
+    if (length > HHM_MOST_BODY - 16)
+        return too_large(hhm);
+    request it = of_numbers(PUT, 2, hhm->number, number);
+    it.text = text;
+    it.length = length;
+    return ask_put(hhm, &it, accepted);
+}
+
+hhm_result hhm_put_all(hhm_client *hhm, const hhm_batch *batches, size_t count, size_t depth, hhm_accepted *accepted,
+                       size_t *answered)
+{
+    size_t most = depth > 0 ? depth : 1, first = 0, next = 0;
+    request *waiting = (request *)calloc(most, sizeof *waiting);
+    hhm_result result = HHM_OK;
+    if (!waiting)
+        result = told(hhm, HHM_MEMORY, "no memory for the list of batches on the way");
+    while (result == HHM_OK && first < count) {
+        for (; next < count && next - first < most && batches[next].count <= HHM_MOST_CELLS; next++) {
+            waiting[next - first] = of_cells(hhm, batches[next].number, batches[next].cells, batches[next].count);
+            send_ahead(hhm, &waiting[next - first]);
+        }
+        if (next == first) {
+            result = too_large(hhm);
+            break;
+        }
+        reply got;
+        result = first_reply(hhm, waiting, next - first, ACCEPTED, &got);
+        if (result == HHM_OK) {
+            accepted[first++] = accepted_of(&got);
+            memmove(waiting, waiting + 1, (next - first) * sizeof *waiting);
+        }
+    }
+    int kept = errno;
+    /* The replies that nobody will read must not be taken for those of later requests. */
+    if (next > first)
+        let_go(hhm);
+    free(waiting);
+    *answered = first;
+    errno = kept;
+    return result;
+}
+
+hhm_result hhm_ask_cell(hhm_client *hhm, uint64_t row, uint64_t col, hhm_value *value)
+{
+    request it = of_numbers(CELL, 2, row, col);
+    reply got;
+    hhm_result result = ask(hhm, &it, VALUE, &got);
+    if (result == HHM_OK) {
+        value->is_stored = got.bytes[0];
+        value->count = number_at(got.bytes + 1, 8);
+    }
+    return result;
+}
+
+hhm_result hhm_ask_row(hhm_client *hhm, uint64_t row, hhm_row_sum *sum)
+{
+    request it = of_numbers(ROW, 1, row, 0);
+    reply got;
+    hhm_result result = ask(hhm, &it, ROW_SUM, &got);
+    if (result == HHM_OK) {
+        sum->entries = number_at(got.bytes, 8);
+        sum->total = number_at(got.bytes + 8, 8);
+    }
+    return result;
+}
+
+hhm_result hhm_ask_status(hhm_client *hhm, hhm_status *status)
+{
+    request it = of_numbers(STATUS, 0, 0, 0);
+    reply got;
+    hhm_result result = ask(hhm, &it, COUNTS, &got);
+    if (result == HHM_OK) {
+        status->batches = number_at(got.bytes, 8);
+        status->total = number_at(got.bytes + 8, 8);
+    }
+    return result;
+}
+
+hhm_result hhm_export(hhm_client *hhm, char **text, size_t *length)
+{
+    request it = of_numbers(EXPORT, 0, 0, 0);
+    reply got;
+    hhm_result result = ask(hhm, &it, TEXT, &got);
+    if (result == HHM_OK) {
+        *text = got.text;
+        *length = got.length;
+    }
+    return result;
+}
+
+hhm_result hhm_save(hhm_client *hhm, uint64_t *batches)
+{
+    request it = of_numbers(SAVE, 0, 0, 0);
+    reply got;
+    hhm_result result = ask(hhm, &it, SAVED, &got);
+    if (result == HHM_OK)
+        *batches = number_at(got.bytes, 8);
+    return result;
+}
+
+hhm_result hhm_stop(hhm_client *hhm)
+{
+    request it = of_numbers(STOP, 0, 0, 0);
+    reply got;
+    hhm_result result = ask(hhm, &it, STOPPING, &got);
+    if (result == HHM_OK)
+        let_go(hhm);
+    return result;
+}

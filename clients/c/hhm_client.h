@@ -1,0 +1,161 @@
+/*
+ * A client of `hhm serve` for C and C++, on POSIX sockets alone. Compile hhm_client.c with your program.
+ *
+ *     hhm_client *hhm = hhm_open_unix("/run/hhm/hhm.sock", 7);
+ *     hhm_cell cells[] = {{0, 0, 5}, {2, 1, 7}};
+ *     hhm_accepted accepted;
+ *     if (hhm_put(hhm, 1, cells, 2, &accepted) != HHM_OK)
+ *         fprintf(stderr, "%s\n", hhm_message(hhm));
+ *     hhm_close(hhm);
+ *
+ * A batch counts once. It is known by two numbers, the client's and its own: where the reply to a put is lost, the
+ * client connects again and sends the same batch with the same numbers, and the server answers what it answered first.
+ * So a pair of numbers belongs to one batch for ever: another batch under a known pair, with as many cells and the same
+ * total, is answered as the first one was, and isn't counted. docs/OPERATING.md tells how to choose numbers, and
+ * docs/FORMATS.md describes the frames. Rows and columns count from 0.
+ *
+ * A client is for one thread at a time. No call raises SIGPIPE, and one that a signal interrupts goes on.
+ */
+#ifndef HHM_CLIENT_H
+#define HHM_CLIENT_H
+
+#include <stddef.h>
+#include <stdint.h>
+
+#ifdef __cplusplus
+extern "C" {
+#endif
+
+/* The bytes of the longest body of a frame, and the most cells of a batch. */
+#define HHM_MOST_BODY 67108864
+#define HHM_MOST_CELLS 1048576
+
+/* A connection to a server, made when it is first needed, and made again where it is lost. */
+typedef struct hhm_client hhm_client;
+
+/* A count at a place; both numbers of the place count from 0. */
+typedef struct {
+    uint64_t row, col, count;
+} hhm_cell;
+
+/* A batch. The cells stay the caller's. */
+typedef struct {
+    uint64_t number;
+    const hhm_cell *cells;
+    size_t count;
+} hhm_batch;
+
+/* The place of a batch in the list of accepted batches, from 0, and the accepted total with it. */
+typedef struct {
+    uint64_t index, total_after;
+} hhm_accepted;
+
+/* A count that is stored, or none: then is_stored is 0, and so is the count. */
+typedef struct {
+    int is_stored;
+    uint64_t count;
+} hhm_value;
+
+/* How many cells a row has, stored zeros included, and the sum of their counts. */
+typedef struct {
+    uint64_t entries, total;
+} hhm_row_sum;
+
+/* How many batches were accepted, and their total. */
+typedef struct {
+    uint64_t batches, total;
+} hhm_status;
+
+/*
+ * Why the server refused a request: the code of docs/FORMATS.md, and its detail: the line of a text's fault (codes
+ * above 100), the place from 0 of the first cell of a batch that is out of range (22), the accepted total (31), else 0.
+ */
+typedef struct {
+    uint16_t code;
+    uint64_t detail;
+} hhm_refusal;
+
+/* What each call gives. What a call answers is written where it gives HHM_OK, and left alone else. */
+typedef enum {
+    HHM_OK = 0,
+    /* The server refused the request, and nothing was changed; hhm_refused tells why. The client goes on. */
+    HHM_REFUSED,
+    /* A fault of the connection outlasted all attempts; errno tells which. Whether a put was accepted isn't known: put
+       the batch again with its number. */
+    HHM_FAILED,
+    /* What came is no reply to what was asked. The connection is closed. */
+    HHM_BAD_REPLY,
+    /* A batch has more cells, or a text more bytes, than a server takes. Nothing was sent. */
+    HHM_TOO_LARGE,
+    /* There is no memory for the text of an export. The connection is closed. */
+    HHM_MEMORY
+} hhm_result;
+
+/*
+ * Make a client of a server at HOST:PORT (the host of an IPv6 address in brackets), or at a Unix socket. No other
+ * program puts under the client's number. Nothing is connected yet. NULL with errno EINVAL for a word that isn't
+ * HOST:PORT, ENAMETOOLONG for a path that no socket can have, ENOMEM for want of memory. Give it to hhm_close.
+ */
+hhm_client *hhm_open_tcp(const char *address, uint64_t client);
+hhm_client *hhm_open_unix(const char *path, uint64_t client);
+
+/* Closes the connection and frees the client; NULL is nothing. What was accepted stays accepted. */
+void hhm_close(hhm_client *hhm);
+
+/* For how many milliseconds a reply, or the sending of a request, may stand still: 60,000 by default; 0 is for ever.
+   A timeout is a fault of the connection like others. Counts from the next connection on. */
+void hhm_set_timeout(hhm_client *hhm, unsigned milliseconds);
+
+/* How often a request is sent before a fault of the connection is given up, at least once, and the pause after the
+   first fault in milliseconds; it doubles, up to ten seconds. The default, 14 and 50, tries for a minute: a server that
+   starts from a large snapshot listens only after some seconds. */
+void hhm_set_attempts(hhm_client *hhm, unsigned attempts, unsigned pause);
+
+/* Puts a batch of cells, of which one may stand in it repeatedly. Its number belongs to it for ever. */
+hhm_result hhm_put(hhm_client *hhm, uint64_t number, const hhm_cell *cells, size_t count, hhm_accepted *accepted);
+
+/* Puts a batch that is a Matrix Market text of the server's dimensions. */
+hhm_result hhm_put_text(hhm_client *hhm, uint64_t number, const char *text, size_t length, hhm_accepted *accepted);
+
+/*
+ * Puts batches with up to `depth` of them on the way, and writes the reply to each to its place of `accepted`. Where
+ * the connection is lost, all that had no reply yet are sent again. `answered` gets how many were accepted, also where
+ * the result isn't HHM_OK, which then is that of the batch behind them. Those after it may have been accepted, and can
+ * be put again with their numbers.
+ */
+hhm_result hhm_put_all(hhm_client *hhm, const hhm_batch *batches, size_t count, size_t depth, hhm_accepted *accepted,
+                       size_t *answered);
+
+/* The count of a cell. */
+hhm_result hhm_ask_cell(hhm_client *hhm, uint64_t row, uint64_t col, hhm_value *value);
+
+/* The sum of a row. */
+hhm_result hhm_ask_row(hhm_client *hhm, uint64_t row, hhm_row_sum *sum);
+
+/* How many batches were accepted, and their total. Counts every put that was answered before. */
+hhm_result hhm_ask_status(hhm_client *hhm, hhm_status *status);
+
+/* The sum of all accepted batches as a Matrix Market text, whose rows and columns count from 1. It ends with a byte 0
+   that `length` doesn't count; free it with free(). */
+hhm_result hhm_export(hhm_client *hhm, char **text, size_t *length);
+
+/* Saves a snapshot where the server was told to, and gives its number of batches. */
+hhm_result hhm_save(hhm_client *hhm, uint64_t *batches);
+
+/* Tells the server to stop. It serves its open sessions to their ends, and saves, after the answer. */
+hhm_result hhm_stop(hhm_client *hhm);
+
+/* The refusal of the last call that gave HHM_REFUSED; zeros where there was none. */
+hhm_refusal hhm_refused(const hhm_client *hhm);
+
+/* The name of a code of refusal, or NULL. It lives for ever. */
+const char *hhm_code_name(uint16_t code);
+
+/* What the last call that didn't give HHM_OK met, in words. They live until the next call with this client. */
+const char *hhm_message(const hhm_client *hhm);
+
+#ifdef __cplusplus
+}
+#endif
+
+#endif
