@@ -73,15 +73,18 @@ class Proxy:
         self.listener.listen(16)
         self.where = {"unix": self.path} if unix else {"tcp": "127.0.0.1:%d" % self.listener.getsockname()[1]}
         self.how_often = 0
-        threading.Thread(target=self.accept, daemon=True).start()
+        self.thread = threading.Thread(target=self.accept, daemon=True)
+        self.thread.start()
 
     def __enter__(self):
         return self
 
     def __exit__(self, *_):
-        self.listener.close()
+        # (to close what a thread waits for wakes no thread, and ends no connection)
+        end(self.listener)
+        self.thread.join()
         for link in self.links:
-            link.close()
+            end(link)
 
     def words(self):
         """The words of a command line."""
@@ -194,6 +197,8 @@ def what_is_no_batch_is_not_sent(unix):
             ("no whole number", lambda: hhm.put(1, [(1, 1, 0.5)]), "ValueError"),
             ("too many tuples", lambda: hhm.put(1, itertools.repeat((0, 0, 0), MOST_CELLS + 1)), "ValueError"),
             ("too many cells", lambda: hhm.put(1, Arrays(*[longs(0) * (MOST_CELLS + 1)] * 3)), "ValueError"),
+            ("a bad number", lambda: hhm.put(1 << 64, [(0, 0, 1)]), "ValueError"),
+            ("a bad place", lambda: hhm.cell(0, -1), "ValueError"),
             ("too long a text", lambda: hhm.put_text(1, bytes((64 << 20) - 15)), "ValueError"),
         ]:
             check(f"not sent: {name}", fault_of(call), wanted)
@@ -319,7 +324,7 @@ class Liar:
         return self
 
     def __exit__(self, *_):
-        self.listener.close()
+        end(self.listener)
 
     def accept(self):
         with contextlib.suppress(OSError):

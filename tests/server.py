@@ -313,31 +313,6 @@ def attempts_last_a_minute():
         hhm_client.time = clock
 
 
-def a_log_is_counted():
-    """The example of the client: a log in numbered batches, twice, of which the second run counts nothing more."""
-    chance = random.Random(11)
-    log = os.path.join(FOLDER, "log")
-    counts = {}
-    with open(log, "w") as file:
-        for _ in range(25000):
-            source, destination = chance.randrange(40), chance.randrange(300)
-            place = (10 << 24) + source, (192 << 24) + (168 << 16) + destination
-            counts[place] = counts.get(place, 0) + 1
-            file.write(f"10.0.0.{source} 192.168.{destination >> 8}.{destination & 255}\n")
-        file.write("no address\n10.0.0.1 192.168.0.1 7\n")
-        counts[(10 << 24) + 1, (192 << 24) + (168 << 16) + 1] += 7
-    with Server(["--rows", str(1 << 32), "--cols", str(1 << 32)], tcp=False) as server:
-        for _ in range(2):
-            words = [sys.executable, os.path.join(HERE, "..", "clients", "python", "count_log.py")]
-            run = subprocess.run([*words, "--unix", server.path, "--client", "3", log],
-                                 capture_output=True, text=True, timeout=WAIT)
-            check("the example", run.stdout, "batches 3 skipped lines 1 accepted total 25007\n")
-        with server.client() as hhm:
-            cells = [(row, col, count) for (row, col), count in sorted(counts.items())]
-            check("the example's sum", list(cells_of(hhm.export())), cells)
-        server.stop("the example", 3, 25007)
-
-
 def lost_replies_count_once():
     """A batch whose reply nobody read is sent again, over another socket too, and counts once."""
     with Server(SMALL) as server:
@@ -695,7 +670,6 @@ def main():
             client_asks(unix)
         bad_addresses_are_told()
         attempts_last_a_minute()
-        a_log_is_counted()
         lost_replies_count_once()
         a_pair_is_for_one_batch()
         snapshots_outlive_a_kill()

@@ -166,17 +166,26 @@ def host_and_port(word: str) -> Tuple[str, int]:
     return bare, int(port)
 
 
+def request(kind: int, *numbers: int, body: Text = b"") -> bytes:
+    """The frame of a request: numbers, and bytes behind them."""
+    try:
+        head = struct.pack(f">IB{len(numbers)}Q", 8 * len(numbers) + len(body), kind, *numbers)
+    except struct.error:
+        raise ValueError(f"{numbers}: each is a number from 0 to 2^64 - 1") from None
+    return b"".join([head, body])
+
+
 def put_frame(client: int, number: int, text: Text) -> bytes:
     """The frame that puts a batch as a text."""
     if len(text) + 16 > MOST_BODY:
         raise ValueError(f"a batch of {len(text)} bytes: at most {MOST_BODY - 16} fit a frame, so send it in several")
-    return struct.pack(">IBQQ", len(text) + 16, PUT, client, number) + text
+    return request(PUT, client, number, body=text)
 
 
 def put_cells_frame(client: int, number: int, cells: Cells) -> bytes:
     """The frame that puts a batch as numbers. A ValueError or a TypeError where they aren't cells of 64-bit numbers."""
     body = bytes_of_arrays(cells) if isinstance(cells, Arrays) else bytes_of(cells)
-    return b"".join([struct.pack(">IBQQ", len(body) + 16, PUT_CELLS, client, number), body])
+    return request(PUT_CELLS, client, number, body=body)
 
 
 def bytes_of(cells: Iterable[Tuple[int, int, int]]) -> bytes:
@@ -313,28 +322,28 @@ class Client:
 
     def cell(self, row: int, col: int) -> Optional[int]:
         """The count of a cell, counted from 0; None where none is stored."""
-        body = self._ask(struct.pack(">IBQQ", 16, CELL, row, col), VALUE, 9)
+        body = self._ask(request(CELL, row, col), VALUE, 9)
         return struct.unpack(">Q", body[1:])[0] if body[0] else None
 
     def row(self, row: int) -> RowSum:
         """The sum of a row, counted from 0."""
-        return RowSum(*struct.unpack(">QQ", self._ask(struct.pack(">IBQ", 8, ROW, row), ROW_SUM, 16)))
+        return RowSum(*struct.unpack(">QQ", self._ask(request(ROW, row), ROW_SUM, 16)))
 
     def status(self) -> Status:
         """How many batches were accepted, and their total."""
-        return Status(*struct.unpack(">QQ", self._ask(struct.pack(">IB", 0, STATUS), COUNTS, 16)))
+        return Status(*struct.unpack(">QQ", self._ask(request(STATUS), COUNTS, 16)))
 
     def export(self) -> bytes:
         """The text of the sum of all accepted batches; `cells_of` reads it."""
-        return self._ask(struct.pack(">IB", 0, EXPORT), TEXT, None)
+        return self._ask(request(EXPORT), TEXT, None)
 
     def save(self) -> int:
         """Saves a snapshot where the server was told to, and gives its number of batches."""
-        return struct.unpack(">Q", self._ask(struct.pack(">IB", 0, SAVE), SAVED, 8))[0]
+        return struct.unpack(">Q", self._ask(request(SAVE), SAVED, 8))[0]
 
     def stop(self) -> None:
         """Tells the server to stop. It serves its open sessions to their ends, and saves, after the answer."""
-        self._ask(struct.pack(">IB", 0, STOP), STOPPING, 0)
+        self._ask(request(STOP), STOPPING, 0)
         self.close()
 
     # How it is asked.
