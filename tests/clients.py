@@ -26,13 +26,15 @@ import threading
 import time
 
 import server
-from server import SMALL, WAIT, Server, check, text
+from server import SMALL, Server, check, text
 
 HERE = os.path.dirname(os.path.abspath(__file__))
 CLIENTS = os.path.join(HERE, "..", "clients")
-import hhm_client  # noqa: E402  (server.py has put its folder on the path)
+import hhm_client  # noqa: E402 (server.py has put its folder on the path)
 from hhm_client import MOST_CELLS, Arrays, BadReply, Client, Refused, Status, cells_of  # noqa: E402
 
+# The seconds that anything may take that is waited for.
+WAIT = 30
 LARGE = ["--rows", str(1 << 32), "--cols", str(1 << 32)]
 EXAMPLE = """put: index 0 total_after 12
 the same again: index 0 total_after 12
@@ -60,8 +62,8 @@ stopping
 
 
 class Proxy:
-    """Stands between clients and a server. Of its connections, each but the last of `lost` goes on until that many
-    replies were given; the next one, which the server has written, is lost, and the connection too."""
+    """Stands between clients and a server. `lost` says of its connections, in order, how many replies each gives before
+    it loses one, which the server has written, and ends. None loses nothing, and neither do those behind the list."""
 
     def __init__(self, at, unix, lost):
         self.at, self.lost, self.links = at, iter(lost), []
@@ -281,21 +283,21 @@ def replies_are_lost(unix):
         os.remove(snapshot)
     with Server(["--rows", "3", "--cols", "3", "--snapshot", snapshot]) as at:
         with Proxy(at, unix, [0, 0, 1, 2, 1, 0, 3]) as proxy:
-            with Client(client=7, timeout=WAIT, pause=0.001, **proxy.where) as hhm:
+            with Client(client=7, timeout=WAIT, attempts=4, pause=0.001, **proxy.where) as hhm:
                 check("lost: a put", hhm.put(1, arrays([(0, 0, 5)])), (0, 5))
                 check("lost: a text", hhm.put_text(2, text(3)), (1, 8))
                 numbers = hhm.put_all(((n, [(1, 2, n)]) for n in range(3, 23)), depth=5)
                 wanted = [(n, (n - 1, 8 + sum(range(3, n + 1)))) for n in range(3, 23)]
                 check("lost: many", list(numbers), wanted)
             check("lost: how often", proxy.how_often, 7)
-        with Proxy(at, unix, [0] * 7) as proxy:
+        with Proxy(at, unix, [0, None] * 7) as proxy:
             for name, ask, wanted in [
                 ("a cell", lambda hhm: hhm.cell(0, 0), 8), ("no cell", lambda hhm: hhm.cell(2, 2), None),
                 ("a row", lambda hhm: hhm.row(1), (1, 250)), ("status", lambda hhm: hhm.status(), (22, 258)),
                 ("export", lambda hhm: list(cells_of(hhm.export())), [(0, 0, 8), (1, 2, 250)]),
                 ("save", lambda hhm: hhm.save(), 22), ("a repeat", lambda hhm: hhm.put(1, [(0, 0, 5)]), (0, 5)),
             ]:
-                with Client(client=7, timeout=WAIT, pause=0.001, **proxy.where) as hhm:
+                with Client(client=7, timeout=WAIT, attempts=4, pause=0.001, **proxy.where) as hhm:
                     check(f"lost: {name}", ask(hhm), wanted)
             check("lost: how often each", proxy.how_often, 7)
         with Proxy(at, unix, [0] * 100) as proxy:
@@ -476,11 +478,21 @@ def count_words(at, client, *more):
 
 
 def until(call, wanted):
-    """Waits for an answer, some seconds at most, and gives the last one."""
-    ends = time.monotonic() + 20
+    """Waits for an answer, and gives the last one."""
+    ends = time.monotonic() + WAIT
     while (answer := call()) != wanted and time.monotonic() < ends:
         time.sleep(0.02)
     return answer
+
+
+def read_of(pid, path):
+    """How many bytes of a file a process has read that has it open; None where it hasn't."""
+    with contextlib.suppress(OSError):
+        for number in os.listdir(f"/proc/{pid}/fd"):
+            if os.readlink(f"/proc/{pid}/fd/{number}") == os.path.realpath(path):
+                with open(f"/proc/{pid}/fdinfo/{number}") as file:
+                    return int(file.readline().split()[1])
+    return None
 
 
 def a_log_is_counted():
@@ -529,6 +541,7 @@ def a_log_is_followed():
                                    (at_line[19_999] + 3, 1), (len(lines), 2)]:
                 file.write(lines[written:place])
                 written = place
+                check("followed: all is read", until(lambda: read_of(counting.pid, log), place), place)
                 if batches == hhm.status().batches:
                     time.sleep(0.5)
                 found = until(hhm.status, Status(batches, 10_000 * batches))
@@ -543,8 +556,7 @@ def a_log_is_followed():
         check("followed: the sum", list(cells_of(hhm.export())) == cells, True)
         for name, begin_anew in [("cut", lambda: os.truncate(log, 0)), ("renamed", lambda: os.rename(log, log + ".1"))]:
             with subprocess.Popen(words, stdout=subprocess.PIPE, stderr=subprocess.PIPE, text=True) as counting:
-                # (it has read what is there once its link is silent for a while)
-                time.sleep(1.5)
+                check("followed: all is read", until(lambda: read_of(counting.pid, log), len(lines)), len(lines))
                 begin_anew()
                 output, error = counting.communicate(timeout=WAIT)
             told = error.startswith(f"{log} was begun anew: ")
