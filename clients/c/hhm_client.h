@@ -142,7 +142,8 @@ hhm_result hhm_export(hhm_client *hhm, char **text, size_t *length);
 /* Saves a snapshot where the server was told to, and gives its number of batches. */
 hhm_result hhm_save(hhm_client *hhm, uint64_t *batches);
 
-/* Tells the server to stop. It serves its open sessions to their ends, and saves, after the answer. */
+/* Tells the server to stop. It serves its open sessions to their ends, and saves, after the answer. Where the answer is
+   lost and the server is gone when it is asked again, that is HHM_FAILED. */
 hhm_result hhm_stop(hhm_client *hhm);
 
 /* The refusal of the last call that gave HHM_REFUSED; zeros where there was none. */

@@ -342,7 +342,10 @@ class Client:
         return struct.unpack(">Q", self._ask(request(SAVE), SAVED, 8))[0]
 
     def stop(self) -> None:
-        """Tells the server to stop. It serves its open sessions to their ends, and saves, after the answer."""
+        """Tells the server to stop. It serves its open sessions to their ends, and saves, after the answer.
+
+        Where the answer is lost and the server is gone when it is asked again, that is an OSError.
+        """
         self._ask(request(STOP), STOPPING, 0)
         self.close()
 

@@ -400,7 +400,8 @@ impl Client {
         Ok(number_at(&body, 0))
     }
 
-    /// Tells the server to stop. It serves its open sessions to their ends, and saves, after the answer.
+    /// Tells the server to stop. It serves its open sessions to their ends, and saves, after the answer. Where the
+    /// answer is lost and the server is gone when it is asked again, that is an `Error::Io`.
     pub fn stop(&mut self) -> Result<(), Error> {
         self.ask(&request(7, &[]), STOPPING)?;
         self.close();
