@@ -485,6 +485,16 @@ def until(call, wanted):
     return answer
 
 
+@contextlib.contextmanager
+def started(words):
+    """A program, which ends here at the latest."""
+    with subprocess.Popen(words, stdout=subprocess.PIPE, stderr=subprocess.PIPE, text=True) as process:
+        try:
+            yield process
+        finally:
+            process.kill()
+
+
 def read_of(pid, path):
     """How many bytes of a file a process has read that has it open; None where it hasn't."""
     with contextlib.suppress(OSError):
@@ -534,7 +544,7 @@ def a_log_is_followed():
     at_line = [0, *itertools.accumulate(len(line) for line in lines.splitlines(keepends=True))]
     with Server(LARGE, tcp=False) as at, at.client() as hhm, open(log, "wb", buffering=0) as file:
         words = count_words(at, 3, "--follow", log)
-        with subprocess.Popen(words, stdout=subprocess.PIPE, stderr=subprocess.PIPE, text=True) as counting:
+        with started(words) as counting:
             written = 0
             # Up to a place inside line 10,000, its LF left out, and then with its LF; the second batch and some more.
             for place, batches in [(at_line[5000], 0), (at_line[10_000] - 1, 0), (at_line[10_000], 1),
@@ -555,7 +565,7 @@ def a_log_is_followed():
         cells = [(*place, count) for place, count in sorted(sums.items())]
         check("followed: the sum", list(cells_of(hhm.export())) == cells, True)
         for name, begin_anew in [("cut", lambda: os.truncate(log, 0)), ("renamed", lambda: os.rename(log, log + ".1"))]:
-            with subprocess.Popen(words, stdout=subprocess.PIPE, stderr=subprocess.PIPE, text=True) as counting:
+            with started(words) as counting:
                 check("followed: all is read", until(lambda: read_of(counting.pid, log), len(lines)), len(lines))
                 begin_anew()
                 output, error = counting.communicate(timeout=WAIT)
