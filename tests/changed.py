@@ -20,7 +20,7 @@ sys.dont_write_bytecode = True
 from attacks import RT, SOURCES, TOP, copy_parts, crates_below, lines_of_list
 
 PROGRAM = "hhm"
-PROGRAM_TESTS = ("program.py", "server.py", "server_faults.py", "clients.py")
+PROGRAM_TESTS = ("program.py", "server.py", "server_faults.py", "server_clients.py", "refused.py", "clients.py")
 LAST_LINE = re.compile(r"(\d+) passed, (\d+) failed")
 
 

@@ -3,8 +3,8 @@
 
     python3 tests/server_faults.py PATH-TO-HHM [--long]
 
-Devices, descriptors, memory and threads fail here, and clients that are silent or rude; what a server answers where
-nothing does is in server.py. What is wanted was worked out by hand from docs/FORMATS.md. It prints a line for each
+Devices, descriptors, memory and threads fail here; clients that are silent or rude are in server_clients.py, and what a
+server answers where nothing fails is in server.py. What is wanted was worked out by hand from docs/FORMATS.md. It prints a line for each
 check that fails and at the end `N passed, M failed`; the status is 1 where one fails. With `--long` a server has no
 descriptors until its acceptor ends, some two minutes more. Linux, and nothing but Python's own library.
 
@@ -37,7 +37,6 @@ STATUS = struct.pack(">IB", 0, 4)
 SAVE = struct.pack(">IB", 0, 6)
 STOP = struct.pack(">IB", 0, 7)
 STOPPING = struct.pack(">IB", 0, 0x87)
-BAD_KIND = struct.pack(">IB", 0, 9)
 
 # The most seconds from the end of a server's last session to its own end.
 END_WAIT = 5
@@ -602,148 +601,6 @@ def a_stop_needs_no_connection(unix):
     os.remove(path)
 
 
-def replies_outlive_a_bad_header(unix):
-    """A bad header with bytes behind it: the replies before it and the refusal come, each time, and the end."""
-    rest = bytes(200_000)
-    asks = put_frame(7, 1, text(5)) + STATUS + BAD_KIND + rest
-    wanted = accepted(0, 5) + counts(1, 5) + refused(51)
-    with Server(SMALL, tcp=not unix, unix=unix) as at:
-        lost = 0
-        for _ in range(100):
-            with at.link(unix) as link:
-                try:
-                    link.sendall(asks)
-                    time.sleep(0.005)
-                    lost += received(link, len(wanted) + 1) != wanted
-                except ConnectionError:
-                    lost += 1
-        check(f"replies before a bad header, unix {unix}", lost, 0)
-        # A put that is too long, sent whole before the reply is read.
-        with at.link(unix) as link:
-            try:
-                link.sendall(struct.pack(">IB", 20 << 20, 1) + bytes(20 << 20))
-                answer = received(link, 16)
-            except ConnectionError:
-                answer = None
-        check(f"a put that is too long, unix {unix}", answer, refused(50))
-        with at.link(unix) as link:
-            link.sendall(STOP + rest)
-            check(f"a Stop with bytes behind it, unix {unix}", received(link, 6), STOPPING)
-        at.ends("bytes that nobody wants", 1, 5)
-
-
-def a_rude_client_holds_no_worker(unix):
-    """After a bad header the one worker is free within some seconds, whether the client sends on or is silent."""
-    with Server([*SMALL, "--workers", "1"], tcp=not unix, unix=unix) as at:
-        for sends in [True, False]:
-            with at.link(unix) as rude, at.link(unix) as other:
-                rude.sendall(BAD_KIND)
-                check("the refusal", received(rude, 15), refused(51))
-                other.sendall(STATUS)
-                other.settimeout(0.01)
-                begun, answer = time.monotonic(), b""
-                while not answer and time.monotonic() - begun < WAIT:
-                    try:
-                        answer = other.recv(21)
-                    except TimeoutError:
-                        pass
-                    if sends:
-                        try:
-                            rude.send(bytes(100))
-                        except OSError:
-                            sends = False
-                check("the other is served", answer, counts(0, 0))
-                check("within some seconds", time.monotonic() - begun < END_WAIT, True)
-        with at.link(unix) as link:
-            check("stop", asked(link, STOP, 5), STOPPING)
-        at.ends("a rude client", 0, 0)
-
-
-def silent_clients_are_let_go(unix):
-    """With an idle limit, as many silent clients as there are workers keep nobody out, and what they put stands."""
-    path = in_folder("idle.snap")
-    with Server([*SMALL, "--workers", "4", "--idle", "1", "--snapshot", path], tcp=not unix, unix=unix) as at:
-        begun = time.monotonic()
-        silent = [at.link(unix) for _ in range(4)]
-        check("put", asked(silent[0], put_frame(7, 1, text(5)), 21), accepted(0, 5))
-        silent[1].sendall(put_frame(8, 1, text(3))[:-1])
-        with at.link(unix) as link:
-            check("saved", asked(link, SAVE, 13), struct.pack(">IBQ", 8, 0x86, 1))
-            took = time.monotonic() - begun
-            check("after the limit", 0.9 < took < END_WAIT, True)
-            for _ in range(3):
-                time.sleep(0.5)
-                check("who sends goes on", asked(link, STATUS, 21), counts(1, 5))
-            check("stop", asked(link, STOP, 5), STOPPING)
-        check("the end of silent ones", [received(link, 1) for link in silent], [b""] * 4)
-        for link in silent:
-            link.close()
-        ends_soon(at, "silent clients", path)
-    os.remove(path)
-
-
-def a_client_that_reads_nothing_is_let_go(unix):
-    """With an idle limit, a client that takes no replies doesn't keep the one worker."""
-    with Server([*SMALL, "--workers", "1", "--idle", "1"], tcp=not unix, unix=unix) as at:
-        with at.link(unix) as deaf:
-            check("put", asked(deaf, put_frame(7, 1, text(5)), 21), accepted(0, 5))
-            deaf.setblocking(False)
-            exports = struct.pack(">IB", 0, 5) * 10_000
-            sent, idle_since = 0, time.monotonic()
-            # Until nothing more is taken for a while: both sides of the connection are full.
-            while sent < 1 << 26 and time.monotonic() - idle_since < 0.5:
-                try:
-                    sent += deaf.send(exports)
-                    idle_since = time.monotonic()
-                except BlockingIOError:
-                    time.sleep(0.01)
-                except ConnectionError:
-                    break
-            with at.link(unix) as other:
-                begun = time.monotonic()
-                check("the other is served", asked(other, STATUS, 21), counts(1, 5))
-                check("within some seconds", time.monotonic() - begun < END_WAIT, True)
-                check("stop", asked(other, STOP, 5), STOPPING)
-        at.ends("a client that reads nothing", 1, 5)
-
-
-def keepalive_timer(port):
-    """The timer of the connection that a server at this port has, and its hundredths of a second."""
-    with open("/proc/net/tcp") as file:
-        lines = [line.split() for line in file.read().splitlines()[1:]]
-    for words in lines:
-        if words[3] == "01" and int(words[1].split(":")[1], 16) == port:
-            kind, _, left = words[5].partition(":")
-            return int(kind, 16), int(left, 16)
-    return None
-
-
-def silent_machines_are_asked():
-    """The system of the server asks a TCP client that is silent for a minute whether it is still there."""
-    with Server(SMALL) as at:
-        with at.link(False) as link:
-            check("status", asked(link, STATUS, 21), counts(0, 0))
-            time.sleep(0.5)
-            kind, left = keepalive_timer(int(at.tcp.rpartition(":")[2]))
-            check("the timer of keepalive", (kind, 5000 < left <= 6000), (2, True))
-            check("stop", asked(link, STOP, 5), STOPPING)
-        at.ends("keepalive", 0, 0)
-
-
-def without_a_limit_silence_is_kept():
-    """Without an idle limit, and with 0, who is silent for a while is served afterwards, inside a frame too."""
-    for words in [[], ["--idle", "0"], ["--idle", "18446744073709551615"]]:
-        with Server([*SMALL, *words]) as at:
-            with at.link(True) as first, at.link(False) as second:
-                for link in [first, second]:
-                    link.sendall(STATUS[:3])
-                time.sleep(1.5)
-                for link in [first, second]:
-                    check(f"after some silence, {words}", asked(link, STATUS[3:], 21), counts(0, 0))
-                check("stop", asked(first, STOP, 5), STOPPING)
-            at.ends("silence", 0, 0)
-
-
 def fill_queue(at, unix, most):
     """Connections that nobody serves yet, as many as the queue takes."""
     links = []
@@ -776,52 +633,6 @@ def a_full_queue_holds_no_end(unix):
         check("it ended at once", time.monotonic() - begun < 30, True)
 
 
-EXPORT = struct.pack(">IB", 0, 5)
-LARGE = 1 << 32
-CELLS = 20_000
-
-
-def put_cells(link, client, cells):
-    """Whether a batch of these cells, each with the count 1, was accepted."""
-    lines = b"".join(b"%d %d 1\n" % cell for cell in cells)
-    text = server.BANNER + b"%d %d %d\n" % (LARGE, LARGE, len(cells)) + lines
-    return asked(link, put_frame(client, 1, text), 21)[4:5] == b"\x81"
-
-
-def far_apart(i):
-    """A cell of a row of its own: a line of some 14 bytes, so that a text of 1,500,000 passes 16 MiB."""
-    return 1 + i * 2000, 1 + i % 7
-
-
-def side_by_side(i):
-    """A cell of a row of its own: a line of at most 12 bytes, so that a text of 1,300,000 fits a reply."""
-    return 1 + i, 1 + i % 7
-
-
-def exports_keep_no_memory(place, batches, kind):
-    """Each of 32 workers answers an export of so many cells: the server has no more than 1.2 times its memory then."""
-    size = str(LARGE)
-    words = ["--rows", size, "--cols", size, "--limit", str(10**15), "--max-batches", "1000", "--workers", "32"]
-    with Server(words, tcp=False) as at:
-        links = [at.link() for _ in range(32)]
-        name = f"exports answered {kind:x}"
-        cells = [[place(n * CELLS + i) for i in range(CELLS)] for n in range(batches)]
-        taken = [put_cells(links[n % 32], n + 1, batch) for n, batch in enumerate(cells)]
-        check(f"{name}: puts", all(taken), True)
-        before = at.memory()
-        kinds = set()
-        for link in links:
-            head = asked(link, EXPORT, 5)
-            kinds.add(head[4])
-            received(link, struct.unpack(">I", head[:4])[0])
-        check(f"{name}: all answers", kinds, {kind})
-        check(f"{name}: memory", at.memory() <= before * 1.2, True)
-        behind = [put_cells(link, 1000 + n, [(LARGE - 1 - i, n + 1) for i in range(1000)]) for n, link in enumerate(links)]
-        check(f"{name}: puts behind", all(behind), True)
-        for link in links:
-            link.close()
-
-
 def main():
     server.PROGRAM = os.path.abspath(sys.argv[1])
     signal.signal(signal.SIGPIPE, signal.SIG_IGN)
@@ -845,18 +656,10 @@ def main():
             accepting_goes_on_after_faults(unix)
             a_full_queue_holds_no_end(unix)
             a_stop_needs_no_connection(unix)
-            replies_outlive_a_bad_header(unix)
-            a_rude_client_holds_no_worker(unix)
-            silent_clients_are_let_go(unix)
-            a_client_that_reads_nothing_is_let_go(unix)
             for is_full in [True, False]:
                 a_stop_ends_wherever_the_path_is(unix, is_full)
-        without_a_limit_silence_is_kept()
-        silent_machines_are_asked()
         a_long_want_of_descriptors_ends_nothing()
         a_pause_between_faults_holds_no_end()
-        exports_keep_no_memory(far_apart, 75, 0xFF)
-        exports_keep_no_memory(side_by_side, 65, 0x85)
         if "--long" in sys.argv[2:]:
             an_acceptor_ends_after_sixteen_faults()
     print(f"{server.passed} passed, {server.failed} failed")

@@ -1,0 +1,453 @@
+#!/usr/bin/env python3
+"""Starts the built program as a server for clients that are silent, rude, many or killed, and compares what comes back.
+
+    python3 tests/server_clients.py PATH-TO-HHM [--long]
+
+What is wanted was worked out by hand from docs/FORMATS.md. It prints a line for each check that fails and at the end
+`N passed, M failed`; the status is 1 where one fails. With `--long` a server is killed a hundred times in place of
+five. Linux, and nothing but Python's own library.
+"""
+import os
+import random
+import signal
+import struct
+import subprocess
+import sys
+import tempfile
+import threading
+import time
+
+import program
+import server
+from server import SMALL, WAIT, Server, accepted, check, put_frame, refused, text
+from server_faults import END_WAIT, SAVE, STATUS, STOP, STOPPING, asked, counts, ends_soon, in_folder, is_silent
+from server_faults import received
+
+BAD_KIND = struct.pack(">IB", 0, 9)
+EXPORT = struct.pack(">IB", 0, 5)
+LARGE = 1 << 32
+CELLS = 20_000
+
+
+def put_cells(link, client, cells):
+    """Whether a batch of these cells, each with the count 1, was accepted."""
+    lines = b"".join(b"%d %d 1\n" % cell for cell in cells)
+    text = server.BANNER + b"%d %d %d\n" % (LARGE, LARGE, len(cells)) + lines
+    return asked(link, put_frame(client, 1, text), 21)[4:5] == b"\x81"
+
+
+def far_apart(i):
+    """A cell of a row of its own: a line of some 14 bytes, so that a text of 1,500,000 passes 16 MiB."""
+    return 1 + i * 2000, 1 + i % 7
+
+
+def side_by_side(i):
+    """A cell of a row of its own: a line of at most 12 bytes, so that a text of 1,300,000 fits a reply."""
+    return 1 + i, 1 + i % 7
+
+
+def exports_keep_no_memory(place, batches, kind):
+    """Each of 32 workers answers an export of so many cells: the server has no more than 1.2 times its memory then."""
+    size = str(LARGE)
+    words = ["--rows", size, "--cols", size, "--limit", str(10**15), "--max-batches", "1000", "--workers", "32"]
+    with Server(words, tcp=False) as at:
+        links = [at.link() for _ in range(32)]
+        name = f"exports answered {kind:x}"
+        cells = [[place(n * CELLS + i) for i in range(CELLS)] for n in range(batches)]
+        taken = [put_cells(links[n % 32], n + 1, batch) for n, batch in enumerate(cells)]
+        check(f"{name}: puts", all(taken), True)
+        before = at.memory()
+        kinds = set()
+        for link in links:
+            head = asked(link, EXPORT, 5)
+            kinds.add(head[4])
+            received(link, struct.unpack(">I", head[:4])[0])
+        check(f"{name}: all answers", kinds, {kind})
+        check(f"{name}: memory", at.memory() <= before * 1.2, True)
+        behind = [put_cells(link, 1000 + n, [(LARGE - 1 - i, n + 1) for i in range(1000)]) for n, link in enumerate(links)]
+        check(f"{name}: puts behind", all(behind), True)
+        for link in links:
+            link.close()
+
+
+def replies_outlive_a_bad_header(unix):
+    """A bad header with bytes behind it: the replies before it and the refusal come, each time, and the end."""
+    rest = bytes(200_000)
+    asks = put_frame(7, 1, text(5)) + STATUS + BAD_KIND + rest
+    wanted = accepted(0, 5) + counts(1, 5) + refused(51)
+    with Server(SMALL, tcp=not unix, unix=unix) as at:
+        lost = 0
+        for _ in range(100):
+            with at.link(unix) as link:
+                try:
+                    link.sendall(asks)
+                    time.sleep(0.005)
+                    lost += received(link, len(wanted) + 1) != wanted
+                except ConnectionError:
+                    lost += 1
+        check(f"replies before a bad header, unix {unix}", lost, 0)
+        # A put that is too long, sent whole before the reply is read.
+        with at.link(unix) as link:
+            try:
+                link.sendall(struct.pack(">IB", 20 << 20, 1) + bytes(20 << 20))
+                answer = received(link, 16)
+            except ConnectionError:
+                answer = None
+        check(f"a put that is too long, unix {unix}", answer, refused(50))
+        with at.link(unix) as link:
+            link.sendall(STOP + rest)
+            check(f"a Stop with bytes behind it, unix {unix}", received(link, 6), STOPPING)
+        at.ends("bytes that nobody wants", 1, 5)
+
+
+def a_rude_client_holds_no_worker(unix):
+    """After a bad header the one worker is free within some seconds, whether the client sends on or is silent."""
+    with Server([*SMALL, "--workers", "1"], tcp=not unix, unix=unix) as at:
+        for sends in [True, False]:
+            with at.link(unix) as rude, at.link(unix) as other:
+                rude.sendall(BAD_KIND)
+                check("the refusal", received(rude, 15), refused(51))
+                other.sendall(STATUS)
+                other.settimeout(0.01)
+                begun, answer = time.monotonic(), b""
+                while not answer and time.monotonic() - begun < WAIT:
+                    try:
+                        answer = other.recv(21)
+                    except TimeoutError:
+                        pass
+                    if sends:
+                        try:
+                            rude.send(bytes(100))
+                        except OSError:
+                            sends = False
+                check("the other is served", answer, counts(0, 0))
+                check("within some seconds", time.monotonic() - begun < END_WAIT, True)
+        with at.link(unix) as link:
+            check("stop", asked(link, STOP, 5), STOPPING)
+        at.ends("a rude client", 0, 0)
+
+
+def silent_clients_are_let_go(unix):
+    """With an idle limit, as many silent clients as there are workers keep nobody out, and what they put stands."""
+    path = in_folder("idle.snap")
+    with Server([*SMALL, "--workers", "4", "--idle", "1", "--snapshot", path], tcp=not unix, unix=unix) as at:
+        begun = time.monotonic()
+        silent = [at.link(unix) for _ in range(4)]
+        check("put", asked(silent[0], put_frame(7, 1, text(5)), 21), accepted(0, 5))
+        silent[1].sendall(put_frame(8, 1, text(3))[:-1])
+        with at.link(unix) as link:
+            check("saved", asked(link, SAVE, 13), struct.pack(">IBQ", 8, 0x86, 1))
+            took = time.monotonic() - begun
+            check("after the limit", 0.9 < took < END_WAIT, True)
+            for _ in range(3):
+                time.sleep(0.5)
+                check("who sends goes on", asked(link, STATUS, 21), counts(1, 5))
+            check("stop", asked(link, STOP, 5), STOPPING)
+        check("the end of silent ones", [received(link, 1) for link in silent], [b""] * 4)
+        for link in silent:
+            link.close()
+        ends_soon(at, "silent clients", path)
+    os.remove(path)
+
+
+def a_client_that_reads_nothing_is_let_go(unix):
+    """With an idle limit, a client that takes no replies doesn't keep the one worker."""
+    with Server([*SMALL, "--workers", "1", "--idle", "1"], tcp=not unix, unix=unix) as at:
+        with at.link(unix) as deaf:
+            check("put", asked(deaf, put_frame(7, 1, text(5)), 21), accepted(0, 5))
+            deaf.setblocking(False)
+            exports = struct.pack(">IB", 0, 5) * 10_000
+            sent, idle_since = 0, time.monotonic()
+            # Until nothing more is taken for a while: both sides of the connection are full.
+            while sent < 1 << 26 and time.monotonic() - idle_since < 0.5:
+                try:
+                    sent += deaf.send(exports)
+                    idle_since = time.monotonic()
+                except BlockingIOError:
+                    time.sleep(0.01)
+                except ConnectionError:
+                    break
+            with at.link(unix) as other:
+                begun = time.monotonic()
+                check("the other is served", asked(other, STATUS, 21), counts(1, 5))
+                check("within some seconds", time.monotonic() - begun < END_WAIT, True)
+                check("stop", asked(other, STOP, 5), STOPPING)
+        at.ends("a client that reads nothing", 1, 5)
+
+
+def keepalive_timer(port):
+    """The timer of the connection that a server at this port has, and its hundredths of a second."""
+    with open("/proc/net/tcp") as file:
+        lines = [line.split() for line in file.read().splitlines()[1:]]
+    for words in lines:
+        if words[3] == "01" and int(words[1].split(":")[1], 16) == port:
+            kind, _, left = words[5].partition(":")
+            return int(kind, 16), int(left, 16)
+    return None
+
+
+def silent_machines_are_asked():
+    """The system of the server asks a TCP client that is silent for a minute whether it is still there."""
+    with Server(SMALL) as at:
+        with at.link(False) as link:
+            check("status", asked(link, STATUS, 21), counts(0, 0))
+            time.sleep(0.5)
+            kind, left = keepalive_timer(int(at.tcp.rpartition(":")[2]))
+            check("the timer of keepalive", (kind, 5000 < left <= 6000), (2, True))
+            check("stop", asked(link, STOP, 5), STOPPING)
+        at.ends("keepalive", 0, 0)
+
+
+def without_a_limit_silence_is_kept():
+    """Without an idle limit, and with 0, who is silent for a while is served afterwards, inside a frame too."""
+    for words in [[], ["--idle", "0"], ["--idle", "18446744073709551615"]]:
+        with Server([*SMALL, *words]) as at:
+            with at.link(True) as first, at.link(False) as second:
+                for link in [first, second]:
+                    link.sendall(STATUS[:3])
+                time.sleep(1.5)
+                for link in [first, second]:
+                    check(f"after some silence, {words}", asked(link, STATUS[3:], 21), counts(0, 0))
+                check("stop", asked(first, STOP, 5), STOPPING)
+            at.ends("silence", 0, 0)
+
+
+WORKERS = 4
+
+
+def fill_with_exports(link):
+    """Sends exports until nothing more is taken for a while: both sides of the connection are full."""
+    link.setblocking(False)
+    exports = EXPORT * 10_000
+    sent, idle_since = 0, time.monotonic()
+    while sent < 1 << 26 and time.monotonic() - idle_since < 0.5:
+        try:
+            sent += link.send(exports)
+            idle_since = time.monotonic()
+        except BlockingIOError:
+            time.sleep(0.01)
+        except ConnectionError:
+            break
+
+
+def deaf_clients_on_all_workers(unix, idle):
+    """Every worker has a client that asks for exports and reads none: memory stays, and the next client is served.
+
+    It is once they are gone, or once the idle limit has let them go.
+    """
+    words = [*SMALL, "--workers", str(WORKERS), *(["--idle", "1"] if idle else [])]
+    name = f"deaf clients, unix {unix}, idle {idle}"
+    with Server(words, tcp=not unix, unix=unix) as at:
+        deaf = [at.link(unix) for _ in range(WORKERS)]
+        for number, link in enumerate(deaf):
+            check(f"{name}: put", asked(link, put_frame(7, number, text(5)), 21), accepted(number, 5 * number + 5))
+        before = at.memory()
+        fillers = [threading.Thread(target=fill_with_exports, args=[link]) for link in deaf]
+        for filler in fillers:
+            filler.start()
+        for filler in fillers:
+            filler.join()
+        check(f"{name}: memory", at.memory() - before < 8 << 20, True)
+        with at.link(unix) as other:
+            if not idle:
+                other.sendall(STATUS)
+                check(f"{name}: the next one waits", is_silent(other, 0.5), True)
+                deaf.pop().close()
+                check(f"{name}: the next one is served", received(other, 21), counts(4, 20))
+            else:
+                check(f"{name}: the next one is served", asked(other, STATUS, 21), counts(4, 20))
+            check(f"{name}: stop", asked(other, STOP, 5), STOPPING)
+        for link in deaf:
+            link.close()
+        at.ends(name, 4, 20)
+
+
+def taken_memory(at):
+    """The memory that a server has taken, whether it uses it or not, in bytes."""
+    with open(f"/proc/{at.process.pid}/statm") as file:
+        return int(file.read().split()[0]) * os.sysconf("SC_PAGE_SIZE")
+
+
+def headers_take_no_memory(unix):
+    """32 clients send the header of the longest Put and no more, then a part of it: memory is that of what came."""
+    name = f"headers of the longest put, unix {unix}"
+    with Server([*SMALL, "--workers", "32"], tcp=not unix, unix=unix) as at:
+        links = [at.link(unix) for _ in range(32)]
+        for link in links:
+            check(f"{name}: before", asked(link, STATUS, 21), counts(0, 0))
+        before = taken_memory(at)
+        for link in links:
+            link.sendall(struct.pack(">IB", 1 << 24, 1))
+        check(f"{name}: nothing is answered", is_silent(links[0], 0.5), True)
+        check(f"{name}: no memory", taken_memory(at) - before < 8 << 20, True)
+        for link in links:
+            link.sendall(bytes(1 << 20))
+        time.sleep(0.5)
+        # A list that grows has at most twice its bytes, and the one that it grew from.
+        check(f"{name}: memory of what came", taken_memory(at) - before < 32 * (4 << 20), True)
+        for link in links:
+            link.close()
+        with at.link(unix) as link:
+            check(f"{name}: stop", asked(link, STATUS + STOP, 26), counts(0, 0) + STOPPING)
+        at.ends(name, 0, 0)
+
+
+def half_closed_connections_are_answered(unix):
+    """Who sends no more gets every reply, however long it reads none."""
+    name = f"half-closed, unix {unix}"
+    cells = [(row, row) for row in range(1, 10_001)]
+    size = str(LARGE)
+    words = ["--rows", size, "--cols", size, "--workers", "1"]
+    with Server(words, tcp=not unix, unix=unix) as at:
+        with at.link(unix) as link:
+            check(f"{name}: put", put_cells(link, 1, cells), True)
+            link.sendall(EXPORT * 30 + STATUS)
+            link.shutdown(1)
+            time.sleep(0.5)
+            held = program.BANNER + f"{size} {size} 10000\n" + "".join(f"{row} {col} 1\n" for row, col in cells)
+            export = struct.pack(">IB", len(held), 0x85) + held.encode()
+            wanted = export * 30 + counts(1, 10_000)
+            check(f"{name}: all replies", received(link, len(wanted) + 1) == wanted, True)
+        with at.link(unix) as link:
+            check(f"{name}: stop", asked(link, STOP, 5), STOPPING)
+        at.ends(name, 1, 10_000)
+
+
+def at_once(links, frames):
+    """The replies to these frames, one over each link, which are sent as nearly at once as threads do."""
+    start = threading.Barrier(len(links))
+    replies = [b""] * len(links)
+
+    def ask(place):
+        start.wait()
+        replies[place] = asked(links[place], frames[place], 5)
+        replies[place] += received(links[place], struct.unpack(">I", replies[place][:4])[0])
+
+    threads = [threading.Thread(target=ask, args=[place]) for place in range(len(links))]
+    for thread in threads:
+        thread.start()
+    for thread in threads:
+        thread.join()
+    return replies
+
+
+def one_number_from_many_clients(rounds):
+    """Many send one client's number at once: one batch is accepted, and all replies say the same of it."""
+    words = ["--rows", "3", "--cols", "3", "--shards", "2", "--workers", "32", "--max-batches", "1000"]
+    total = 0
+    with Server(words, tcp=False) as at:
+        links = [at.link() for _ in range(32)]
+        for number in range(rounds):
+            name = f"one number at once, {number}"
+            differ = number % 2 == 1
+            texts = [text(1 + place) if differ else text(4) for place in range(32)]
+            replies = at_once(links, [put_frame(9, number, held) for held in texts])
+            kept = [place for place, reply in enumerate(replies) if reply != refused(30)]
+            added = 1 + kept[0] if differ and kept else 4
+            check(f"{name}: how many", len(kept), 1 if differ else 32)
+            total += added
+            check(f"{name}: replies", {replies[place] for place in kept}, {accepted(number, total)})
+            again = at_once(links, [put_frame(9, number, held) for held in texts])
+            check(f"{name}: the same again", again, replies)
+        check("one number at once: status", asked(links[0], STATUS, 21), counts(rounds, total))
+        check("one number at once: stop", asked(links[0], STOP, 5), STOPPING)
+        for link in links:
+            link.close()
+        at.ends("one number at once", rounds, total)
+
+
+class Book:
+    """A plain model of what a server accepts of one client: the batches in order, and how many are surely saved."""
+
+    def __init__(self):
+        self.counts = []
+        self.saved = 0
+
+    def total(self, length=None):
+        return sum(self.counts[:length])
+
+    def frame(self, number):
+        return put_frame(7, number, text(self.counts[number]))
+
+    def file(self, length):
+        """The snapshot of the first batches."""
+        batches = [(7, number, [(0, 0, self.counts[number])]) for number in range(length)]
+        return program.snapshot(batches, self.total(length), limit=10**6, most=10**4)
+
+
+def put_until_killed(at, book, seed):
+    """Puts batches and saves now and then; returns once the server was killed."""
+    chance = random.Random(seed)
+    killer = threading.Timer(chance.uniform(0.0, 0.06), at.process.kill)
+    killer.start()
+    try:
+        with at.link() as link:
+            for number in range(len(book.counts), len(book.counts) + 1000):
+                book.counts.append(chance.randrange(10))
+                reply = asked(link, book.frame(number), 21)
+                if len(reply) < 21:
+                    break
+                check(f"kill {seed}: put {number}", reply, accepted(number, book.total()))
+                if chance.randrange(4) == 0:
+                    reply = asked(link, SAVE, 13)
+                    if len(reply) < 13:
+                        break
+                    check(f"kill {seed}: save", reply, struct.pack(">IBQ", 8, 0x86, number + 1))
+                    book.saved = number + 1
+    except OSError:
+        pass
+    killer.join()
+    at.process.wait(WAIT)
+
+
+def kills_lose_what_was_not_saved_alone(kills):
+    """Kills at any moment between puts and saves: what was saved is there, and all else is sent again."""
+    path, book = in_folder("killed.snap"), Book()
+    words = ["--rows", "3", "--cols", "3", "--cuts", "2,4", "--shards", "2", "--limit", "1000000",
+             "--max-batches", "10000", "--snapshot", path]
+    for seed in range(kills):
+        with Server(words, tcp=False) as at:
+            with at.link() as link:
+                for number in range(len(book.counts)):
+                    reply = asked(link, book.frame(number), 21)
+                    if reply != accepted(number, book.total(number + 1)):
+                        check(f"kill {seed}: {number} sent again", reply, accepted(number, book.total(number + 1)))
+                check(f"kill {seed}: the book", asked(link, STATUS, 21), counts(len(book.counts), book.total()))
+            put_until_killed(at, book, seed)
+        held = server.content(path) if os.path.exists(path) else None
+        whole = [length for length in range(book.saved, len(book.counts) + 1) if held == book.file(length)]
+        is_whole = len(whole) == 1 or (held is None and book.saved == 0)
+        check(f"kill {seed}: a snapshot of a front, with all that was saved", is_whole, True)
+        book.saved = whole[0] if whole else 0
+        told = subprocess.run([server.PROGRAM, "check", path], capture_output=True, text=True, timeout=WAIT)
+        if held is not None:
+            line = f"rows 3 cols 3 shards 2 batches {book.saved} total {book.total(book.saved)} "
+            check(f"kill {seed}: check", told.stdout.startswith(line), True)
+
+
+def main():
+    server.PROGRAM = os.path.abspath(sys.argv[1])
+    is_long = "--long" in sys.argv[2:]
+    signal.signal(signal.SIGPIPE, signal.SIG_IGN)
+    with tempfile.TemporaryDirectory() as server.FOLDER:
+        for unix in [True, False]:
+            replies_outlive_a_bad_header(unix)
+            a_rude_client_holds_no_worker(unix)
+            silent_clients_are_let_go(unix)
+            a_client_that_reads_nothing_is_let_go(unix)
+            for idle in [True, False]:
+                deaf_clients_on_all_workers(unix, idle)
+            headers_take_no_memory(unix)
+            half_closed_connections_are_answered(unix)
+        without_a_limit_silence_is_kept()
+        silent_machines_are_asked()
+        one_number_from_many_clients(20)
+        kills_lose_what_was_not_saved_alone(100 if is_long else 5)
+        exports_keep_no_memory(far_apart, 75, 0xFF)
+        exports_keep_no_memory(side_by_side, 65, 0x85)
+    print(f"{server.passed} passed, {server.failed} failed")
+    return 1 if server.failed else 0
+
+
+if __name__ == "__main__":
+    sys.exit(main())
