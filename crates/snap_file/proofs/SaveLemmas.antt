@@ -1,7 +1,7 @@
 -- Saves: what a writer did to the file that was lent to it, and the name of that file.
-use Rattle.std.proofs.Common.{◌≡◌, ℕ, ◌+◌, List, ◌++◌, length, Result, Ok, Err, OnOk, IfErr, is_err, refl, ap, false, arith}
+use Rattle.std.proofs.Common.{◌≡◌, ℕ, List, length, Result, Ok, Err, OnOk, IfErr, is_err, refl, ap, false, arith}
 use Rattle.std.proofs.Common.{length-append, codes, ◌∙◌}
-use Rattle.byte_io.specs.Streams.{Answer, Calls}
+use Rattle.byte_io.specs.Streams.{Answer}
 use Rattle.byte_io.specs.Writing.{AnyOffer, HasTaken, HasStopped}
 use Rattle.byte_io.specs.declared.fault.WriteFault.{WriteFault}
 use Rattle.file_folder.proofs.RunLemmas.{taken_mapped, stopped_mapped, calls_keep}

@@ -1,5 +1,5 @@
 -- What a save does to a folder.
-use Rattle.std.specs.Prelude.{◌≡◌, ℕ, ◌+◌, List, ◌++◌, codes}
+use Rattle.std.specs.Prelude.{◌≡◌, ℕ, ◌+◌, List, ◌++◌, codes, Bool, true, false, Option, Some, None}
 use Rattle.byte_io.specs.Streams.{Answer}
 use Rattle.byte_io.specs.Writing.{HasStopped}
 use Rattle.snap_file.specs.declared.fault.SaveFault.{SaveFault}
@@ -18,3 +18,8 @@ SaysWhy {S} takes failures s t text (Write fault) =
     (made : S) × (failures made ≡ failures s) × HasStopped takes failures made t text fault.written
 SaysWhy takes failures s t text Sync = failures t ≡ failures s + 1
 SaysWhy takes failures s t text Rename = failures t ≡ failures s + 1
+
+-- the name last created in a folder that makes the one file beside this path
+abbrev pub beside : Bool → List ℕ → Option (List ℕ)
+beside true path = Some (unfinished path)
+beside false path = None

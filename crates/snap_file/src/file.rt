@@ -1,61 +1,24 @@
 //! Snapshots as files.
 //!
 //! Nothing is known beforehand of a real file's bytes, so what these calls do to one is shown by tests: the contracts
-//! that they rest on are those of `write_snapshot` and `read_snapshot`.
+//! that they rest on are those of `save_in` and `read_snapshot`.
 ghost use Rattle.std.specs.Prelude.{◌≢◌, IfErr};
 ghost use Rattle.batch_store.specs.Batches.{values};
 ghost use Rattle.batch_store.specs.Books.{AreAccepted};
 ghost use Rattle.snap_file.specs.declared.fault.SnapFault.{SnapFault};
 ghost use Rattle.snap_file.specs.declared.fault.FileFault.{FileFault};
 
-use crate::access::{Access, access_under, make_file};
+use crate::beside::Beside;
 use crate::fault::{FileFault, SaveFault};
 use crate::read::read_snapshot;
+use crate::saving::save_in;
 use crate::snapshot::Snapshot;
-use crate::write::write_snapshot;
 use batch_store::{Batch, Setup};
 use byte_io::Counted;
-use std::alloc::{AllocError, Global};
-use std::fs::{self, OpenFile};
-use std::io;
+use std::alloc::Global;
 use std::rt::Files;
 use std::sync::Arc;
-
-/// What is written stands under the path with this behind it, until it is whole.
-const UNFINISHED: &str = ".new";
-
-// The path with `UNFINISHED` behind it.
-fn unfinished(alloc: Global, path: &str) -> Result<String, AllocError> {
-    let mut name = String::new(alloc);
-    name.push_str(path)?;
-    name.push_str(UNFINISHED)?;
-    Ok(name)
-}
-
-// Writes a snapshot to a new file and syncs it.
-fn write_file<R: Files>(
-    rt: &R,
-    name: &str,
-    access: Option<Access>,
-    setup: &Setup,
-    batches: &[Arc<Batch>],
-) -> Result<(), SaveFault>
-    requires { AreAccepted setup.now (values batches.now) }
-{
-    let file = match make_file(rt, name, access) {
-        Ok(file) => file,
-        Err(_) => return Err(SaveFault::Create),
-    };
-    let mut sink = Counted::new(file);
-    match write_snapshot(&mut sink, setup, batches) {
-        Ok(()) => {}
-        Err(fault) => return Err(SaveFault::Write(fault)),
-    }
-    match sink.into_inner().sync_all() {
-        Ok(()) => Ok(()),
-        Err(_) => Err(SaveFault::Sync),
-    }
-}
+use std::{fs, io};
 
 /// Saves a snapshot under `path`: writes it to a file whose name has `.new` behind it, syncs that, and renames it to
 /// `path`. Before the rename `path` is only looked at, so where it fails the file there is as it was; what stands
@@ -81,16 +44,8 @@ pub fn save<R: Files>(
 ) -> Result<(), SaveFault>
     requires { AreAccepted setup.now (values batches.now) }
 {
-    let name = match unfinished(alloc, path) {
-        Ok(name) => name,
-        Err(_) => return Err(SaveFault::Memory),
-    };
-    let access = access_under(rt, path)?;
-    write_file(rt, name.as_str(), access, setup, batches)?;
-    match fs::rename(rt, name.as_str(), path) {
-        Ok(()) => Ok(()),
-        Err(_) => Err(SaveFault::Rename),
-    }
+    let mut folder = Beside::new(rt, path);
+    save_in(alloc, &mut folder, path, setup, batches)
 }
 
 /// Loads the snapshot under `path`, of at most `max_bytes` bytes, as `read_snapshot` reads it.

@@ -3,6 +3,7 @@
 
 mod access;
 mod batch;
+mod beside;
 mod fault;
 mod file;
 mod head;
@@ -19,11 +20,11 @@ mod writer;
 
 pub use fault::{FileFault, SaveFault, SnapFault};
 pub use file::{load, save};
+pub use file_folder::{Folder, MemoryFolder};
 pub use laws::{
     every_file_is_a_snapshot_or_has_a_fault, no_snapshot_begins_another, one_first_fault,
     one_snapshot_spelled, shown_fault_stays, snapshot_or_faulty,
 };
-pub use file_folder::{Folder, MemoryFolder};
 pub use read::read_snapshot;
 pub use saving::save_in;
 pub use snapshot::Snapshot;

@@ -48,11 +48,7 @@ fn write_to<F: Folder>(
 }
 
 // Writes a snapshot to the file that a folder last created, which is empty.
-fn write_new<F: Folder>(
-    f: &mut F,
-    setup: &Setup,
-    batches: &[Arc<Batch>],
-) -> Result<(), WriteFault>
+fn write_new<F: Folder>(f: &mut F, setup: &Setup, batches: &[Arc<Batch>]) -> Result<(), WriteFault>
     requires failures { F.failure_count f.old + 1 < 2 ^ 64 }
     requires created { IsSome (F.last_created f.old) }
     requires accepted { AreAccepted setup.now (values batches.now) }

@@ -12,7 +12,7 @@ returns-in-Err-clause-kept g c =
     let made = on_ok c.create.result _ fine c.create.ensures.made in
     let created = on_ok c.create.result _ fine c.create.ensures.created in
     let begun = told_map _ _ (made_holds c.args.name.now) (g.F.Folder.files c.args.f.now)
-        (g.F.Folder.files c.create.new.self) made in
+    (g.F.Folder.files c.create.new.self) made in
     stopped_keeps g.F.Folder.write_takes g.F.Folder.files g.F.Folder.last_created g.met.F.Folder.write_appends
     g.F.Folder.failure_count c.args.name.now (file c.args.setup.now (values c.args.batches.now)) c.in-Err.fault.written
     (g.F.Folder.files c.args.f.now) c.create.new.self c.write_new.new.f c.in-Err.ensures.err created begun
@@ -23,11 +23,11 @@ sync-requires-clause-created g c =
     let made = on_ok c.create.result _ fine c.create.ensures.made in
     let created = on_ok c.create.result _ fine c.create.ensures.created in
     let begun = told_map _ _ (made_holds c.args.name.now) (g.F.Folder.files c.args.f.now)
-        (g.F.Folder.files c.create.new.self) made in
+    (g.F.Folder.files c.create.new.self) made in
     let whole = taken_holds g.F.Folder.write_takes g.F.Folder.files g.F.Folder.last_created
-        g.met.F.Folder.write_appends g.F.Folder.failure_count c.args.name.now
-        (file c.args.setup.now (values c.args.batches.now)) (g.F.Folder.files c.args.f.now) c.create.new.self
-        c.write_new.new.f c.in_default.ensures.ok created begun in
+    g.met.F.Folder.write_appends g.F.Folder.failure_count c.args.name.now
+    (file c.args.setup.now (values c.args.batches.now)) (g.F.Folder.files c.args.f.now) c.create.new.self
+    c.write_new.new.f c.in_default.ensures.ok created begun in
     rw whole.0 refl
 
 pub returns-in-Ok-clause-made : goal.returns-in-Ok-clause-made
@@ -36,11 +36,11 @@ returns-in-Ok-clause-made g c =
     let made = on_ok c.create.result _ fine c.create.ensures.made in
     let created = on_ok c.create.result _ fine c.create.ensures.created in
     let begun = told_map _ _ (made_holds c.args.name.now) (g.F.Folder.files c.args.f.now)
-        (g.F.Folder.files c.create.new.self) made in
+    (g.F.Folder.files c.create.new.self) made in
     let whole = taken_holds g.F.Folder.write_takes g.F.Folder.files g.F.Folder.last_created
-        g.met.F.Folder.write_appends g.F.Folder.failure_count c.args.name.now
-        (file c.args.setup.now (values c.args.batches.now)) (g.F.Folder.files c.args.f.now) c.create.new.self
-        c.write_new.new.f c.in_default.ensures.ok created begun in
+    g.met.F.Folder.write_appends g.F.Folder.failure_count c.args.name.now
+    (file c.args.setup.now (values c.args.batches.now)) (g.F.Folder.files c.args.f.now) c.create.new.self
+    c.write_new.new.f c.in_default.ensures.ok created begun in
     rw c.in-Ok.ensures.same whole.1
 
 pub returns-in-Err-sync-clause-kept : goal.returns-in-Err-sync-clause-kept
@@ -49,11 +49,11 @@ returns-in-Err-sync-clause-kept g c =
     let made = on_ok c.create.result _ fine c.create.ensures.made in
     let created = on_ok c.create.result _ fine c.create.ensures.created in
     let begun = told_map _ _ (made_holds c.args.name.now) (g.F.Folder.files c.args.f.now)
-        (g.F.Folder.files c.create.new.self) made in
+    (g.F.Folder.files c.create.new.self) made in
     let whole = taken_holds g.F.Folder.write_takes g.F.Folder.files g.F.Folder.last_created
-        g.met.F.Folder.write_appends g.F.Folder.failure_count c.args.name.now
-        (file c.args.setup.now (values c.args.batches.now)) (g.F.Folder.files c.args.f.now) c.create.new.self
-        c.write_new.new.f c.in_default.ensures.ok created begun in
+    g.met.F.Folder.write_appends g.F.Folder.failure_count c.args.name.now
+    (file c.args.setup.now (values c.args.batches.now)) (g.F.Folder.files c.args.f.now) c.create.new.self
+    c.write_new.new.f c.in_default.ensures.ok created begun in
     told_then _ _ _ (λ x y z p q. others_then c.args.name.now x y z p.1 q) (g.F.Folder.files c.args.f.now)
     (g.F.Folder.files c.write_new.new.f) (g.F.Folder.files c.sync.new.self) whole.1
     (c.in-Err-sync.ensures.others c.args.name.now whole.0)
