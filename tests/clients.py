@@ -205,10 +205,12 @@ def what_is_no_batch_is_not_sent(unix):
         ]:
             check(f"not sent: {name}", fault_of(call), wanted)
         check("not sent", hhm.status(), Status(0, 0))
-        check("as many as may be", hhm.put(1, Arrays(*[longs(0) * MOST_CELLS] * 3)), (0, 0))
+        longest = hhm_client.BANNER + b"%" * ((64 << 20) - 16 - len(hhm_client.BANNER) - 7) + b"\n3 3 0\n"
+        check("as long a text as may be", hhm.put_text(2, longest), (0, 0))
+        check("as many as may be", hhm.put(1, Arrays(*[longs(0) * MOST_CELLS] * 3)), (1, 0))
         check("they are one", hhm.row(0), (1, 0))
         hhm.close()
-        at.stop("not sent", 1, 0)
+        at.stop("not sent", 2, 0)
 
 
 def cells_are_put(unix):
@@ -531,7 +533,7 @@ def a_log_is_counted():
             hhm.put(77, [(0, 0, 1000)])
         wanted = "sent batches 3 total 24997 skipped lines 9 left lines 0\n"
         check("what was sent, not the server's total", run(count_words(at, 3, "--ended", log)), (wanted, "", 0))
-        nothing = "sent batches 0 total 0 skipped lines 0 left lines 0\n"
+        nothing = "sent batches 0 total 0\n"
         output, error, status = run(count_words(at, 3, os.path.join(server.FOLDER, "no log")))
         check("no log", (output, error.startswith("failed: "), status), (nothing, True, 4))
         at.stop("a log", 4, 25_997)
@@ -594,13 +596,22 @@ def another_log_is_refused():
         for name, lines in [("other cells", others), ("one other cell", pairs[:-1] + others[-1:])]:
             write(log, "".join(lines).encode())
             fault = "another log was fed under client number 3: its batch 0 had other cells\n"
-            check(f"another log: {name}", run(count_words(at, 3, log)), (wanted, fault, 1))
+            told = "sent batches 1 total 10000\n", fault, 1
+            check(f"another log: {name}", run(count_words(at, 3, log)), told)
         write(log, "".join(pairs[1:] + pairs[1:2]).encode())
-        nothing = "sent batches 0 total 0 skipped lines 0 left lines 0\n"
-        fault = "batch 0: NumberReused (another log was fed under client number 3)\n"
-        check("another log: other numbers", run(count_words(at, 3, log)), (nothing, fault, 1))
+        why = "another log was fed, or this one with --ended before its end"
+        for client in [3, 5]:
+            fault = f"batch 0: NumberReused: under client number {client} {why}\n"
+            if client == 5:
+                write(log, b"10.0.0.1 10.0.0.2 7\n")
+                short = "sent batches 1 total 7 skipped lines 0 left lines 0\n"
+                check("ended too early", run(count_words(at, 5, "--ended", log)), (short, "", 0))
+                write(log, b"10.0.0.1 10.0.0.2 7\n" * 10_000)
+            refused = "sent batches 0 total 0\n", fault, 1
+            check(f"another log: other numbers, {client}", run(count_words(at, client, log)), refused)
+        write(log, "".join(others).encode())
         check("another number", run(count_words(at, 4, log)), (wanted, "", 0))
-        at.stop("another log", 2, 20_000)
+        at.stop("another log", 3, 20_007)
 
 
 def main():

@@ -10,7 +10,8 @@ skipped, and counted. The source's number is the row and the destination's the c
 Batch k is lines 10000 k to 10000 k + 9999 of the log, and is sent once they are all there: a batch that was sent
 shorter would be another one when more lines have come. So a run sends the full batches of a log and leaves the lines
 behind them; with `--follow` it waits for more, until it gets SIGINT or SIGTERM; with `--ended`, which says that nothing
-is added any more, it sends the last, shorter batch too. At the end it tells what this run sent.
+is added any more, it sends the last, shorter batch too. At the end it tells what this run sent. The status is 0; 1
+where the server refused a batch, or this is another log; 4 where the server can't be reached or the log read.
 
 A run that was interrupted, at whatever line, or whose server began again from an older snapshot, is begun again from
 the start with the same client number and the same log: what the server has accepted counts once. Another log, also
@@ -150,6 +151,15 @@ class Feed:
         for _ in hhm.put_all(batches, depth=1 if self.is_followed else 16):
             self.answered()
 
+    def told(self, refused, client):
+        """What is told of a refusal."""
+        if isinstance(refused, AnotherLog):
+            return str(refused)
+        why = ""
+        if refused.name == "NumberReused":
+            why = f": under client number {client} another log was fed, or this one with --ended before its end"
+        return f"batch {self.batches}: {refused}{why}"
+
 
 def main():
     words = argparse.ArgumentParser(description="Feeds a log of connections into a server of hhm.")
@@ -171,13 +181,13 @@ def main():
         with Client(tcp=given.tcp, unix=given.unix, client=given.client) as hhm, open(given.log, "rb") as log:
             feed.put(hhm, log)
     except (AnotherLog, Refused) as refused:
-        why = f" (another log was fed under client number {given.client})" if str(refused) == "NumberReused" else ""
-        print(f"batch {feed.batches}: {refused}{why}" if isinstance(refused, Refused) else refused, file=sys.stderr)
+        print(feed.told(refused, given.client), file=sys.stderr)
         status = 1
     except (OSError, ValueError) as fault:
         print(f"failed: {fault}", file=sys.stderr)
         status = 4
-    print(f"sent batches {feed.batches} total {feed.total} skipped lines {feed.skipped} left lines {feed.left}")
+    sent = f"sent batches {feed.batches} total {feed.total}"
+    print(f"{sent} skipped lines {feed.skipped} left lines {feed.left}" if status == 0 else sent)
     return status
 
 

@@ -239,7 +239,7 @@ class Client:
 
     `tcp` is "host:port" and `unix` a path; give one of them. `client` is the client's number, from 0 to 2^64 - 1, which
     no other program uses: with a batch's own number it tells batches apart, as the text of this module says.
-    `timeout` is in seconds, for each answer.
+    `timeout` is in seconds, for the sending of a request and for each piece of its answer.
     `attempts` is how often a request is sent before a fault of the connection is given up, with `pause` seconds after
     the first fault and twice as many after each further one, at most ten. By the defaults the last attempt comes after
     62 seconds of pauses, since a server that starts from a million batches answers only after ten or so.
