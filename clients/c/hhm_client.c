@@ -234,6 +234,13 @@ void hhm_set_attempts(hhm_client *hhm, unsigned attempts, unsigned pause)
 
 /* Connections. Each function gives 0, or -1 with errno. */
 
+/* A call that its timeout ended says EAGAIN, or EINPROGRESS where it connects. */
+static void name_timeout(void)
+{
+    if (errno == EAGAIN || errno == EWOULDBLOCK || errno == EINPROGRESS)
+        errno = ETIMEDOUT;
+}
+
 /* A connection to one address. The timeout holds for connecting too, by way of that of sending. */
 static int connected(const hhm_client *hhm, int family, const struct sockaddr *place, socklen_t length)
 {
@@ -246,6 +253,7 @@ static int connected(const hhm_client *hhm, int family, const struct sockaddr *p
         (family == AF_UNIX || !setsockopt(link, IPPROTO_TCP, TCP_NODELAY, &yes, sizeof yes)) &&
         !connect(link, place, length))
         return link;
+    name_timeout();
     kept = errno;
     close(link);
     errno = kept;
@@ -288,8 +296,10 @@ static int send_bytes(hhm_client *hhm, const void *bytes, size_t count)
         ssize_t sent = send(hhm->link, place, count, MSG_NOSIGNAL);
         if (sent < 0 && errno == EINTR)
             continue;
-        if (sent < 0)
+        if (sent < 0) {
+            name_timeout();
             return -1;
+        }
         place += sent;
         count -= (size_t)sent;
     }
@@ -305,8 +315,10 @@ static int receive(hhm_client *hhm, void *bytes, size_t count)
             continue;
         if (got == 0)
             errno = ECONNRESET;
-        if (got <= 0)
+        if (got <= 0) {
+            name_timeout();
             return -1;
+        }
         place += got;
         count -= (size_t)got;
     }

@@ -436,8 +436,11 @@ impl Client {
         let mut attempt = 1;
         loop {
             match self.try_reply(frames.clone(), wanted) {
-                Err(Error::Io(fault)) => {
+                Err(Error::Io(mut fault)) => {
                     self.close();
+                    if fault.kind() == io::ErrorKind::WouldBlock {
+                        fault = io::ErrorKind::TimedOut.into();
+                    }
                     // An address that isn't one won't become one.
                     if attempt == self.attempts || fault.kind() == io::ErrorKind::InvalidInput {
                         return Err(Error::Io(fault));
