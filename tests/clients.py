@@ -60,6 +60,40 @@ saved: 7
 stopping
 """
 
+# Programs that put once, twice at most, and wait for 300 ms each time; they write what became of it.
+IMPATIENT = {
+    "Rust": """
+#[path = "%s/rust/hhm_client.rs"]
+mod hhm_client;
+use hhm_client::{Cell, Client};
+use std::time::Duration;
+fn main() {
+    let path = std::env::args().nth(1).unwrap();
+    let mut hhm = Client::unix(path, 7)
+        .with_timeout(Some(Duration::from_millis(300)))
+        .with_attempts(2, Duration::from_millis(1));
+    println!("{}", hhm.put(1, &[Cell { row: 0, col: 0, count: 5 }]).unwrap_err());
+}
+""",
+    "C": """
+#include "%s/c/hhm_client.h"
+#include <errno.h>
+#include <stdio.h>
+int main(int count, char **words)
+{
+    hhm_client *hhm = count == 2 ? hhm_open_unix(words[1], 7) : NULL;
+    hhm_cell cell = {0, 0, 5};
+    hhm_accepted accepted;
+    hhm_set_timeout(hhm, 300);
+    hhm_set_attempts(hhm, 2, 1);
+    if (hhm_put(hhm, 1, &cell, 1, &accepted) == HHM_FAILED && errno == ETIMEDOUT)
+        printf("timed out\\n");
+    hhm_close(hhm);
+    return 0;
+}
+""",
+}
+
 
 class Proxy:
     """Stands between clients and a server. `lost` says of its connections, in order, how many replies each gives before
@@ -312,7 +346,7 @@ def replies_are_lost(unix):
 
 
 class Liar:
-    """Answers each request on each connection with the same bytes, and counts the connections."""
+    """Answers the first request on each connection with the same bytes, or not at all, and counts the connections."""
 
     def __init__(self, answer):
         self.answer, self.count = answer, 0
@@ -336,7 +370,8 @@ class Liar:
                 with self.listener.accept()[0] as link:
                     self.count += 1
                     frame_of(link)
-                    link.sendall(self.answer)
+                    if self.answer is not None:
+                        link.sendall(self.answer)
                     link.recv(1)
 
 
@@ -349,6 +384,19 @@ LIES = [
     struct.pack(">IBQQ", 16, 0x01, 0, 5),
     struct.pack(">IBQ", 8, 0xFF, 0),
 ]
+
+
+def silence_is_told(impatient):
+    """A server that never answers: each attempt ends by its timeout."""
+    with Liar(None) as liar:
+        with Client(unix=liar.path, client=7, timeout=0.3, attempts=2, pause=0.001) as hhm:
+            check("silence", fault_of(lambda: hhm.put(1, [(0, 0, 5)])), "TimeoutError")
+        check("silence, twice", liar.count, 2)
+    for name, program in impatient.items():
+        with Liar(None) as liar:
+            begin = time.monotonic()
+            check(f"silence to {name}", run([program, liar.path]), ("timed out\n", "", 0))
+            check(f"silence to {name}, twice", (liar.count, time.monotonic() - begin >= 0.6), (2, True))
 
 
 def lies_are_told(examples):
@@ -379,20 +427,25 @@ def built(name, *words):
 
 
 def build(language, source):
-    """Builds an example; None where it can't be."""
+    """Builds a program of this file; None where it can't be."""
+    name = f"{language} {os.path.basename(source)}"
     if language == "Rust":
-        source = os.path.join(CLIENTS, "rust", f"{source}.rs")
-        return built(f"{os.path.basename(source)}.run", "rustc", "-O", "--edition", "2021", "-D", "warnings", source)
-    sources = [os.path.join(CLIENTS, "c", name) for name in (f"{source}.c", "hhm_client.c")]
-    return built(f"{source}.c.run", "cc", "-O2", "-Wall", "-Wextra", "-Werror", *sources)
+        return built(name, "rustc", "-O", "--edition", "2021", "-D", "warnings", f"{source}.rs")
+    client = os.path.join(CLIENTS, "c", "hhm_client.c")
+    return built(name, "cc", "-O2", "-Wall", "-Wextra", "-Werror", f"{source}.c", client)
 
 
 def build_all():
     """The programs by language, and how many languages there is no compiler for."""
-    examples, feeds, missing = {}, {}, 0
+    made, missing = ({}, {}, {}), 0
     for language, compiler in [("Rust", "rustc"), ("C", "cc")]:
         if shutil.which(compiler):
-            examples[language], feeds[language] = build(language, "example"), build(language, "feed_flows")
+            folder, impatient = os.path.join(CLIENTS, language.lower()), os.path.join(server.FOLDER, "impatient")
+            with open(impatient + {"Rust": ".rs", "C": ".c"}[language], "w") as file:
+                file.write(IMPATIENT[language] % os.path.abspath(CLIENTS))
+            sources = [os.path.join(folder, "example"), os.path.join(folder, "feed_flows"), impatient]
+            for programs, source in zip(made, sources):
+                programs[language] = build(language, source)
         else:
             print(f"NOT RUN: the client for {language}: {compiler} isn't installed")
             missing += 1
@@ -402,7 +455,7 @@ def build_all():
     else:
         print("NOT RUN: the client for C as C++: c++ isn't installed")
         missing += 1
-    return ({name: path for name, path in made.items() if path} for made in (examples, feeds)), missing
+    return ({name: path for name, path in programs.items() if path} for programs in made), missing
 
 
 def examples_ask_all(unix, examples):
@@ -618,7 +671,7 @@ def main():
     server.PROGRAM = os.path.abspath(sys.argv[1])
     resource.setrlimit(resource.RLIMIT_NOFILE, (4096, resource.getrlimit(resource.RLIMIT_NOFILE)[1]))
     with tempfile.TemporaryDirectory() as server.FOLDER:
-        (examples, feeds), missing = build_all()
+        (examples, feeds, impatient), missing = build_all()
         commands = {name: [path] for name, path in feeds.items()}
         commands["Python"] = [sys.executable, os.path.join(CLIENTS, "python", "feed_flows.py")]
         frames_are_spelled()
@@ -630,6 +683,7 @@ def main():
             examples_ask_all(unix, examples)
             flows_are_fed(unix, commands)
         lies_are_told(examples)
+        silence_is_told(impatient)
         wrong_words_are_told(examples, commands)
         a_log_is_counted()
         a_log_is_followed()
