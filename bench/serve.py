@@ -13,9 +13,11 @@ of single puts, and of questions under load. The best of the R rounds counts. Ti
 its reply, as this program sees them.
 
 The plain server (`counting_server.rs`) has hash tables and keeps no batch. As `null` it doesn't look at the texts: so
-much do sockets and this program take by themselves.
+much do sockets and this program take by themselves. `hhm` gets the same batches as texts and as cells of 24 bytes each
+(`hhm, cells`); the plain server reads texts alone.
 
-With `--check` nothing is timed: two connections put a short stream of each kind, some batches twice, and all replies,
+With `--check` nothing is timed: two connections put a short stream of each kind, some batches twice (to `hhm` also as
+cells, and the second time as the other of both), and all replies,
 the cells and the export are compared with what a dictionary of Python holds. The last line is `N passed, M failed`.
 
 The status is 1 where an answer is wrong. Linux, and nothing but Python's own library and the client of clients/python.
@@ -225,6 +227,21 @@ def cut(lines, batch, size=SIZE):
     return frames
 
 
+def cells_frame(number, cells):
+    """The frame of a put of these cells, 24 bytes each."""
+    body = struct.pack(">QQ", 1, number) + b"".join(struct.pack(">QQQ", *cell) for cell in cells)
+    return struct.pack(">IB", len(body), 8) + body
+
+
+def cut_cells(lines, batch):
+    """The same batches as `cut` makes of a stream's lines, as cells."""
+    cells = []
+    for line in lines:
+        row, col, count = line.split()
+        cells.append((int(row) - 1, int(col) - 1, int(count)))
+    return [cells_frame(number, cells[place : place + batch]) for number, place in enumerate(range(0, len(cells), batch))]
+
+
 def best(rounds):
     """The least of each measured number."""
     return {name: min(measured[name] for measured in rounds) for name in rounds[0]}
@@ -258,16 +275,18 @@ def print_ratios(hhm, plain):
 def run_stream(kind, batch, lines, rows, null, arguments):
     """Measures one stream in batches of one size, and prints its table."""
     frames = cut(lines, batch)
+    runs = [(name, command, frames) for name, command in rows]
+    runs.append(("hhm, cells", rows[-1][1], cut_cells(lines, batch)))
     cells = [tuple(int(word) - 1 for word in line.split()[:2]) for line in lines[:: max(1, len(lines) // 10_000)]]
-    rounds = {name: [] for name, _ in rows}
+    rounds = {name: [] for name, _, _ in runs}
     nulls = []
     for _ in range(arguments.repeat):
         with Server(null) as server:
             seconds, _, _ = put_side_by_side(server, shared_out(frames, arguments.connections), arguments.depth)
             nulls.append({"seconds": seconds})
-        for name, command in rows:
-            measured = put_fast(command, frames, cells, arguments)
-            rounds[name].append(measured | put_and_ask(command, frames, arguments))
+        for name, command, sent in runs:
+            measured = put_fast(command, sent, cells, arguments)
+            rounds[name].append(measured | put_and_ask(command, sent, arguments))
     found = {name: best(measured) for name, measured in rounds.items()}
     print(f"\n{kind}, {len(lines):,} cells in batches of {batch:,} over {arguments.connections} connections, "
           f"{arguments.depth} on the way; microseconds at p50 / p99\n")
@@ -277,6 +296,8 @@ def run_stream(kind, batch, lines, rows, null, arguments):
     for name, measured in [("null", best(nulls)), *found.items()]:
         print(f"| {' | '.join(table_row(name, measured, plain['seconds'], len(lines)))} |")
     print_ratios(found["hhm"], plain)
+    share = found["hhm, cells"]["processor"] / found["hhm"]["processor"]
+    print(f"Puts of cells take {share:.2f} times the processor time of puts of texts.", flush=True)
 
 
 def measure_all(arguments, folder):
@@ -319,15 +340,19 @@ def value_of(count):
     return (0x82, bytes(9)) if count is None else (0x82, b"\1" + struct.pack(">Q", count))
 
 
-def check_stream(kind, name, command):
-    """Puts a short stream, and gives for each thing that is looked at whether it is right."""
+def text_frame(number, cells):
+    return put_frame(1, number, text_of(SIZE, SIZE, cells))
+
+
+def check_stream(kind, name, command, forms):
+    """Puts a short stream, each connection in its form, and gives for each thing that is looked at whether it is right."""
     cells, sums = short_stream(kind, CHECKED_CELLS), {}
     for row, col, count in cells:
         sums[row, col] = sums.get((row, col), 0) + count
     parts = [cells[place : place + CHECKED_BATCH] for place in range(0, len(cells), CHECKED_BATCH)]
     # Each fifth batch comes twice, the second time over the other connection.
     order = [[n for n in range(len(parts)) if n % 2 == side or n % 5 == 0] for side in range(2)]
-    shares = [[put_frame(1, n, text_of(SIZE, SIZE, parts[n])) for n in side] for side in order]
+    shares = [[form(n, parts[n]) for n in side] for form, side in zip(forms, order)]
     with Server(command) as server:
         _, replies, _ = put_side_by_side(server, shares, 4)
         totals = [sum(count for _, _, count in part) for part in parts]
@@ -345,10 +370,10 @@ def check_stream(kind, name, command):
                 yield "export", client.export() == wanted
 
 
-def check_server(kind, name, command):
+def check_server(kind, name, command, forms):
     """As `check_stream`; a server that goes away is one thing that is wrong."""
     try:
-        yield from check_stream(kind, name, command)
+        yield from check_stream(kind, name, command, forms)
     except (OSError, EOFError) as fault:
         yield f"the connection: {fault}", False
 
@@ -360,8 +385,10 @@ def check(arguments, folder):
         print("rustc is not installed: the server in Rust is left out")
     passed = failed = 0
     for kind in (arguments.streams or STREAMS).split():
-        for name, command in commands(arguments.hhm, baseline, 2):
-            for what, is_right in check_server(kind, name, command):
+        servers = [(name, command, (text_frame, text_frame)) for name, command in commands(arguments.hhm, baseline, 2)]
+        servers += [("hhm", servers[-1][1], (cells_frame, form)) for form in (text_frame, cells_frame)]
+        for name, command, forms in servers:
+            for what, is_right in check_server(kind, name, command, forms):
                 passed, failed = passed + is_right, failed + (not is_right)
                 if not is_right:
                     print(f"FAILED {kind}: {name}: {what}")

@@ -39,10 +39,10 @@ pub export_answered : {S : Type 0} (gives : S → Event → S → Type 0) (setup
     gives s (export (Ok m)) t → reply ≡ text_reply (matrix_text m) → Answers gives setup Export reply s t
 export_answered gives setup s t m reply h e = asked (export (Ok m)) (Ok m, refl) h (ap (λ x. Some x) (sym e))
 
-pub text_carried : (bytes : List ℕ) → length bytes ≤ 16777216 → text bytes ≡ text_reply bytes
+pub text_carried : (bytes : List ℕ) → length bytes ≤ 67108864 → text bytes ≡ text_reply bytes
 unfolding text_reply
-text_carried bytes short = rw (le-ltb 16777216 (length bytes) short) refl
+text_carried bytes short = rw (le-ltb 67108864 (length bytes) short) refl
 
-pub text_refused : (bytes reply : List ℕ) → 16777216 < length bytes → reply ≡ refused 40 0 → reply ≡ text_reply bytes
+pub text_refused : (bytes reply : List ℕ) → 67108864 < length bytes → reply ≡ refused 40 0 → reply ≡ text_reply bytes
 unfolding text_reply
-text_refused bytes reply long e = rw (lt-ltb 16777216 (length bytes) long) e
+text_refused bytes reply long e = rw (lt-ltb 67108864 (length bytes) long) e

@@ -131,7 +131,7 @@ decoded_text bytes r h k = text_alone r (sym (frame_kind bytes r h.spelled) ∙ 
     ap text (sym (frame_body bytes r h.spelled))
 
 pub text_short : (bytes : List ℕ) (r : Said) → IsReplyFrame bytes r → head_kind bytes ≡ 133 →
-    length (drop 5 bytes) ≤ 16777216
+    length (drop 5 bytes) ≤ 67108864
 text_short bytes r h k = subst FitsReply (decoded_text bytes r h k) h.fits
 
 head_of : (bytes body : List ℕ) → bytes ≡ frames.text body → take 5 bytes ≡ head_bytes 133 (length body)
@@ -142,7 +142,7 @@ pub text_head_is : (bytes : List ℕ) (r : Said) → IsReplyFrame bytes r → he
     take 5 bytes ≡ head_bytes 133 (length (drop 5 bytes))
 text_head_is bytes r h k = head_of bytes (drop 5 bytes) (h.spelled ∙ ap reply_frame (decoded_text bytes r h k))
 
-pub text_frame : (bytes : List ℕ) → 5 ≤ length bytes → length (drop 5 bytes) ≤ 16777216 →
+pub text_frame : (bytes : List ℕ) → 5 ≤ length bytes → length (drop 5 bytes) ≤ 67108864 →
     take 5 bytes ≡ head_bytes 133 (length (drop 5 bytes)) → IsReplyFrame bytes (text (drop 5 bytes))
 unfolding frame
 text_frame bytes long short e = record {

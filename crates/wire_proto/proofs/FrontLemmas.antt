@@ -44,7 +44,7 @@ fault_of_kind_none (Some true) e = refl
 
 pub fits_true : (k l : ℕ) → head_fault k l ≡ None → length_fits k l ≡ Some true
 unfolding head_fault
-fits_true k l e = fault_of_kind_none (length_fits k l) (elim (nat_lt 16777216 l) as
+fits_true k l e = fault_of_kind_none (length_fits k l) (elim (nat_lt 67108864 l) as
     (λ v. cond v (Some TooLarge) (fault_of_kind (length_fits k l)) ≡ None →
     fault_of_kind (length_fits k l) ≡ None) [ true ↦ λ h. cc | false ↦ λ h. h ] e)
 
@@ -56,7 +56,7 @@ fault_of_kind_bad (Some true) e = cc
 
 never_memory : (k l : ℕ) → head_fault k l ≡ Some Memory → ⊥
 unfolding head_fault
-never_memory k l e = elim (nat_lt 16777216 l) as (λ v. cond v (Some TooLarge) (fault_of_kind (length_fits k l)) ≡
+never_memory k l e = elim (nat_lt 67108864 l) as (λ v. cond v (Some TooLarge) (fault_of_kind (length_fits k l)) ≡
     Some Memory → ⊥) [ true ↦ λ h. cc | false ↦ λ h. fault_of_kind_bad (length_fits k l) h ] e
 
 pub bad_gives : (b : List ℕ) (f : FrameFault) → 5 ≤ length b → head_fault (head_kind b) (head_len b) ≡ Some f →

@@ -7,6 +7,7 @@ pub mod SessionLemmas
 pub mod PutLemmas
 pub mod StreamLemmas
 pub mod RoundLemmas
+pub mod CellLemmas
 pub mod PlainLemmas
 pub mod DecodeLemmas
 pub mod OneAnswer

@@ -1,5 +1,5 @@
 -- Over the engine of one thread each message has one answer, and leaves one list.
-use Rattle.std.proofs.Common.{◌≡◌, ◌⊎◌, inl, inr, ℕ, ◌+◌, ◌<◌, ◌^◌, List, [], ◌∷◌, ◌++◌, length, refl, sym, ◌∙◌, ap}
+use Rattle.std.proofs.Common.{◌≡◌, ◌≢◌, ◌⊎◌, inl, inr, ℕ, ◌+◌, ◌<◌, ◌^◌, List, [], ◌∷◌, ◌++◌, length, refl, sym, ◌∙◌, ap}
 use Rattle.std.proofs.Common.{subst, arith, Some, Result, Ok, Err}
 use Rattle.cells.specs.declared.cell.Cell.{Cell}
 use Rattle.std.proofs.lemmas.Bool.{cases_lt}
@@ -16,6 +16,10 @@ use Rattle.batch_store.specs.Setups.{Setting}
 use Rattle.batch_store.specs.Batches.{Submission, submission, batch_total}
 use Rattle.batch_store.specs.Books.{list_total}
 use Rattle.batch_store.specs.Verdicts.{kept}
+use Rattle.batch_store.specs.Lists.{RefusesList}
+use Rattle.batch_store.specs.declared.fault.CellsFault.{CellsFault}
+use Rattle.batch_store.specs.declared.fault.CellsFault.TheVariants as cells_fault
+use Rattle.batch_store.proofs.ListLaws.{never_refused, one_fault, makes_or_refused}
 use Rattle.batch_store.specs.declared.verdict.Verdict.{Verdict}
 use Rattle.batch_store.specs.declared.verdict.Verdict.TheVariants as verdict
 use Rattle.batch_store.specs.declared.verdict.Kept.{Kept}
@@ -27,11 +31,13 @@ use Rattle.wire_proto.specs.Frames.{Message}
 use Rattle.wire_proto.specs.Keeping.{Event, put, cell, row, status, export, save}
 use Rattle.wire_proto.specs.Replies.{put_reply, reply_of, refused}
 use Rattle.wire_proto.specs.Answering.{put_limits, kind_number, PutsBatch, RefusesText, faulty, differs, too_large}
-use Rattle.wire_proto.specs.Answering.{Answers, asked, unasked}
+use Rattle.wire_proto.specs.Answering.{Answers, asked, unasked, PutsCells, RefusesCells, too_many, outside, sum_passes}
+use Rattle.wire_proto.specs.CellBytes.{cells_of}
 use Rattle.wire_proto.specs.Plain.{PlainGives, IsAnswered}
 use Rattle.wire_proto.specs.declared.keeper.SaveRefusal.TheVariants.{SaveOff}
 use Rattle.wire_proto.specs.declared.request.Request.{Request}
 use Rattle.wire_proto.specs.declared.request.Request.TheVariants.{Put, Cell as CellAt, Row, Status, Export, Save, Stop}
+use Rattle.wire_proto.specs.declared.request.Request.TheVariants.{PutCells}
 
 -- a text spells one file at most: its cells
 same_cells : (setup : Setting) (bytes : List ℕ) (cells cells' : List Cell) →
@@ -83,6 +89,53 @@ one_refusal setup bytes c d c' d' (too_large cells s n i j) (differs rows' cols'
     absurd (n' (one.0, one.1))
 one_refusal setup bytes c d c' d' (too_large cells s n i j) (too_large cells' s' n' i' j') = (i ∙ sym i', j ∙ sym j')
 
+-- ---- cells
+pub one_cells_batch : (setup : Setting) (client n : ℕ) (bytes : List ℕ) (b b' : Submission) →
+    PutsCells setup client n bytes b → PutsCells setup client n bytes b' → b ≡ b'
+one_cells_batch setup client n bytes b b' p q = p.batch_is ∙ sym q.batch_is
+
+code_of_cells : CellsFault → ℕ
+code_of_cells cells_fault.Memory = 1
+code_of_cells cells_fault.TooManyCells = 23
+code_of_cells (cells_fault.IndexOutOfRange at) = 22
+code_of_cells cells_fault.SumTooLarge = 21
+
+detail_of_cells : CellsFault → ℕ
+detail_of_cells cells_fault.Memory = 0
+detail_of_cells cells_fault.TooManyCells = 0
+detail_of_cells (cells_fault.IndexOutOfRange at) = at
+detail_of_cells cells_fault.SumTooLarge = 0
+
+refuses_cells : (setup : Setting) (bytes : List ℕ) (f : CellsFault) → (f ≢ cells_fault.Memory) →
+    RefusesList setup (cells_of bytes) f → RefusesCells setup bytes (code_of_cells f) (detail_of_cells f)
+unfolding code_of_cells detail_of_cells
+refuses_cells setup bytes cells_fault.Memory n h = absurd (n refl)
+refuses_cells setup bytes cells_fault.TooManyCells n h = too_many h refl refl
+refuses_cells setup bytes (cells_fault.IndexOutOfRange at) n h = outside at h refl refl
+refuses_cells setup bytes cells_fault.SumTooLarge n h = sum_passes h refl refl
+
+-- which fault of the list a refusal tells
+fault_told : (setup : Setting) (bytes : List ℕ) (code detail : ℕ) → RefusesCells setup bytes code detail →
+    (f : CellsFault) × (f ≢ cells_fault.Memory) × RefusesList setup (cells_of bytes) f × (code ≡ code_of_cells f)
+    × (detail ≡ detail_of_cells f)
+unfolding code_of_cells detail_of_cells
+fault_told setup bytes code detail (too_many h i j) = (cells_fault.TooManyCells, (λ e. cc), h, i, j)
+fault_told setup bytes code detail (outside at h i j) = (cells_fault.IndexOutOfRange at, (λ e. cc), h, i, j)
+fault_told setup bytes code detail (sum_passes h i j) = (cells_fault.SumTooLarge, (λ e. cc), h, i, j)
+
+pub never_both_cells : (setup : Setting) (client n : ℕ) (bytes : List ℕ) (b : Submission) (code detail : ℕ) →
+    PutsCells setup client n bytes b → RefusesCells setup bytes code detail → ⊥
+never_both_cells setup client n bytes b code detail p r =
+    let f = fault_told setup bytes code detail r in never_refused setup (cells_of bytes) f.0 p.makes f.1 f.2
+
+one_cells_refusal : (setup : Setting) (bytes : List ℕ) (code detail code' detail' : ℕ) →
+    RefusesCells setup bytes code detail → RefusesCells setup bytes code' detail' →
+    (code ≡ code') × (detail ≡ detail')
+one_cells_refusal setup bytes code detail code' detail' r r' =
+    let f = fault_told setup bytes code detail r in let g = fault_told setup bytes code' detail' r' in
+    let one = one_fault setup (cells_of bytes) f.0 g.0 f.2 g.1 g.2 in
+    (f.3 ∙ ap code_of_cells one ∙ sym g.3, f.4 ∙ ap detail_of_cells one ∙ sym g.4)
+
 -- a put that is replied to is the object's
 pub put_is : (v : Setting) (list : List Submission) (b : Submission) (answer : Result Kept PutFault)
     (t : List Submission) (w : List ℕ) →
@@ -109,18 +162,23 @@ export_is : (v : Setting) (list : List Submission) (a : Result Matrix AllocError
 export_is v list (Ok m) t w h e = (ap (λ x. Ok x) h.0, h.1)
 export_is v list (Err x) t w h e = absurd (cc)
 
+-- of puts of one batch, one reply
+one_put : (v : Setting) (list : List Submission) (e e' : Event) (b b' : Submission) (a a' : Result Kept PutFault)
+    (w w' : List ℕ) (t t' : List Submission) → b ≡ b' → e ≡ put b a → e' ≡ put b' a' → PlainGives v list e t →
+    PlainGives v list e' t' → reply_of e ≡ Some w → reply_of e' ≡ Some w' → Same w w' t t'
+one_put v list e e' b b' a a' w w' t t' same ev ev' h h' i i' =
+    let one = put_is v list b a t w (subst (λ x. PlainGives v list x t) ev h)
+    (subst (λ x. reply_of x ≡ Some w) ev i) in
+    let two = put_is v list b' a' t' w' (subst (λ x. PlainGives v list x t') ev' h')
+    (subst (λ x. reply_of x ≡ Some w') ev' i') in
+    let answers = one.0 ∙ ap (answer_of v list) same ∙ sym two.0 in
+    event_once v list e e' w w' t t' (ev ∙ ap (λ x. put x a) same ∙ ap (λ x. put b' x) answers ∙ sym ev')
+    (one.1 ∙ ap (list_after v list) same ∙ sym two.1) i i'
+
 pub one_answer : (v : Setting) (list : List Submission) (r : Request) (w w' : List ℕ) (t t' : List Submission) →
     Answers (PlainGives v) v r w list t → Answers (PlainGives v) v r w' list t' → Same w w' t t'
 one_answer v list (Put c n bytes) w w' t t' (asked e a h i) (asked e' a' h' i') =
-    let ev : e ≡ put a.0 a.1 = a.3 in let ev' : e' ≡ put a'.0 a'.1 = a'.3 in
-    let same = one_batch v c n bytes a.0 a'.0 a.2 a'.2 in
-    let one = put_is v list a.0 a.1 t w (subst (λ x. PlainGives v list x t) ev h)
-    (subst (λ x. reply_of x ≡ Some w) ev i) in
-    let two = put_is v list a'.0 a'.1 t' w' (subst (λ x. PlainGives v list x t') ev' h')
-    (subst (λ x. reply_of x ≡ Some w') ev' i') in
-    let answers = one.0 ∙ ap (answer_of v list) same ∙ sym two.0 in
-    event_once v list e e' w w' t t' (ev ∙ ap (λ b. put b a.1) same ∙ ap (λ x. put a'.0 x) answers ∙ sym ev')
-    (one.1 ∙ ap (list_after v list) same ∙ sym two.1) i i'
+    one_put v list e e' a.0 a'.0 a.1 a'.1 w w' t t' (one_batch v c n bytes a.0 a'.0 a.2 a'.2) a.3 a'.3 h h' i i'
 one_answer v list (Put c n bytes) w w' t t' (asked e a h i) (unasked a' i') = absurd
     (never_both v c n bytes a.0 a'.0 a'.1 a.2 a'.2)
 one_answer v list (Put c n bytes) w w' t t' (unasked a i) (asked e' a' h' i') = absurd
@@ -160,6 +218,15 @@ one_answer v list Save w w' t t' (asked e a h i) (unasked a' i') = absurd a'
 one_answer v list Save w w' t t' (unasked a i) other = absurd a
 one_answer v list Stop w w' t t' (asked e a h i) other = absurd a
 one_answer v list Stop w w' t t' (unasked a i) other = absurd a
+one_answer v list (PutCells c n bytes) w w' t t' (asked e a h i) (asked e' a' h' i') =
+    one_put v list e e' a.0 a'.0 a.1 a'.1 w w' t t' (one_cells_batch v c n bytes a.0 a'.0 a.2 a'.2) a.3 a'.3 h h' i i'
+one_answer v list (PutCells c n bytes) w w' t t' (asked e a h i) (unasked a' i') = absurd
+    (never_both_cells v c n bytes a.0 a'.0 a'.1 a.2 a'.2)
+one_answer v list (PutCells c n bytes) w w' t t' (unasked a i) (asked e' a' h' i') = absurd
+    (never_both_cells v c n bytes a'.0 a.0 a.1 a'.2 a.2)
+one_answer v list (PutCells c n bytes) w w' t t' (unasked a i) (unasked a' i') =
+    let one = one_cells_refusal v bytes a.0 a.1 a'.0 a'.1 a.2 a'.2 in
+    (a.3 ∙ ap (λ x. refused x a.1) one.0 ∙ ap (λ x. refused a'.0 x) one.1 ∙ sym a'.3, i ∙ sym i')
 
 -- messages one after another
 then_one : (v : Setting) (list : List Submission) (r : Request) (ms : List Message) (w w' : List ℕ)
@@ -192,6 +259,8 @@ answered_once v list (Ok Status ∷ ms) w w' t t' a b = then_one v list Status m
 answered_once v list (Ok Export ∷ ms) w w' t t' a b = then_one v list Export ms w w' t t'
     (λ m p q c d. answered_once v m ms p q t t' c d) a b
 answered_once v list (Ok Save ∷ ms) w w' t t' a b = then_one v list Save ms w w' t t'
+    (λ m p q c d. answered_once v m ms p q t t' c d) a b
+answered_once v list (Ok (PutCells x y z) ∷ ms) w w' t t' a b = then_one v list (PutCells x y z) ms w w' t t'
     (λ m p q c d. answered_once v m ms p q t t' c d) a b
 
 -- ---- and there is one
@@ -282,6 +351,21 @@ has_put v list c n bytes = elim (spells_or_faulty bytes put_limits) [
   | inr h ↦ refuses v list c n bytes (100 + kind_number h.0) h.1 (faulty h.0 h.1 h.2 refl refl)
 ]
 
+-- the same of a list of cells
+has_cells : (v : Setting) (list : List Submission) (c n : ℕ) (bytes : List ℕ) → HasAnswer v list (PutCells c n bytes)
+has_cells v list c n bytes = elim (makes_or_refused v (cells_of bytes)) [
+  | inl m ↦
+      let b = submission c n (matrix v.rows v.cols (built_of (cells_of bytes))) in
+      let p : PutsCells v c n bytes b = record { makes = m; batch_is = refl } in
+      let h = by_verdict v list b (verdict_in v list b) refl in
+      (h.0, h.1, asked (put b h.2) (b, h.2, p, refl) h.3 h.4)
+  | inr r ↦ (
+    refused (code_of_cells r.0) (detail_of_cells r.0),
+    list,
+    unasked (code_of_cells r.0, detail_of_cells r.0, refuses_cells v bytes r.0 r.1 r.2, refl) refl,
+  )
+]
+
 has_cell : (v : Setting) (list : List Submission) (r c : ℕ) → HasAnswer v list (CellAt r c)
 has_cell v list r c = elim (cases_lt r v.rows) [
   | inl a ↦ elim (cases_lt c v.cols) [
@@ -323,3 +407,5 @@ has_answers v list (Ok Export ∷ ms) = let h = then_some v list Export ms
 has_answers v list (Ok Save ∷ ms) = let h = then_some v list Save ms
     (_, list, asked (save (Err SaveOff)) (_, refl) (refl, refl) refl) (λ m. has_answers v m ms) in
     (h.0, h.1, (h.2, h.3, h.4, h.5, h.6, h.7))
+has_answers v list (Ok (PutCells x y z) ∷ ms) = let h = then_some v list (PutCells x y z) ms (has_cells v list x y z)
+    (λ m. has_answers v m ms) in (h.0, h.1, (h.2, h.3, h.4, h.5, h.6, h.7))

@@ -16,6 +16,7 @@ use Rattle.wire_proto.specs.Plain.{PlainGives, AnswersMessages, IsAnswered, Betw
 use Rattle.wire_proto.specs.Plain.{EndsPlain}
 use Rattle.wire_proto.specs.declared.request.Request.{Request}
 use Rattle.wire_proto.specs.declared.request.Request.TheVariants.{Put, Cell, Row, Status, Export, Save, Stop}
+use Rattle.wire_proto.specs.declared.request.Request.TheVariants.{PutCells}
 use Rattle.wire_proto.specs.declared.ended.Ended.{Ended}
 use Rattle.wire_proto.specs.declared.ended.Ended.TheVariants.{Closed, ReadFault, WriteFault, BadFrame, Memory, Stopped}
 use Rattle.wire_proto.specs.declared.ended.Ended.TheVariants.{TooManyTurns}
@@ -34,6 +35,7 @@ module _ {S : Type 0} (gives : S → Event → S → Type 0) (setup : Setting) w
   one_more s m t Status reply more ms bytes n a e b = (m, reply, more, a, e, b)
   one_more s m t Export reply more ms bytes n a e b = (m, reply, more, a, e, b)
   one_more s m t Save reply more ms bytes n a e b = (m, reply, more, a, e, b)
+  one_more s m t (PutCells x y z) reply more ms bytes n a e b = (m, reply, more, a, e, b)
   one_more s m t Stop reply more ms bytes n a e b = absurd (n refl)
 
   -- requests, and then other messages

@@ -19,16 +19,16 @@ use Rattle.std.specs.declared.alloc.AllocError.{AllocError}
 use Rattle.plain_engine.specs.Object.{Puts, answer_to, list_by, verdict_in}
 use Rattle.plain_engine.specs.declared.fault.PutFault.{PutFault}
 use Rattle.plain_engine.specs.declared.fault.PutFault.TheVariants as fault
-use Rattle.wire_proto.specs.Keeping.{Event, export}
+use Rattle.wire_proto.specs.Keeping.{Event, put, export}
 use Rattle.wire_proto.specs.Replies.{accepted, refused, put_reply, reply_of}
-use Rattle.wire_proto.specs.Answering.{PutsBatch, Answers, asked, unasked}
+use Rattle.wire_proto.specs.Answering.{PutsBatch, PutsCells, Answers, asked, unasked}
 use Rattle.wire_proto.specs.Sessions.{AnswersAll}
-use Rattle.wire_proto.specs.Plain.{PlainGives, FreshPuts, PutsFresh}
+use Rattle.wire_proto.specs.Plain.{PlainGives, FreshPuts, PutsFresh, IsPut}
 use Rattle.wire_proto.proofs.DecodeLemmas.{frame_kind}
 use Rattle.wire_proto.specs.Decoding.{accepted as says_accepted, refused as says_refused}
-use Rattle.wire_proto.proofs.OneAnswer.{one_batch, never_both, put_is}
+use Rattle.wire_proto.proofs.OneAnswer.{one_batch, never_both, put_is, one_cells_batch, never_both_cells}
 use Rattle.wire_proto.specs.declared.request.Request.{Request}
-use Rattle.wire_proto.specs.declared.request.Request.TheVariants.{Put, Cell, Row, Status, Export, Save, Stop}
+use Rattle.wire_proto.specs.declared.request.Request.TheVariants.{Put, PutCells, Cell, Row, Status, Export, Save, Stop}
 
 -- ---- the first place of a pair
 abbrev pair_test : ℕ → ℕ → Entry → Bool
@@ -211,38 +211,52 @@ by_answer v list t b (Err (fault.OverTotal total)) w k h i e = absurd
 by_answer v list t b (Err fault.BookFull) w k h i e = absurd (never_refused w k 32 0 e (sym (some_reply _ _ i)))
 by_answer v list t b (Err fault.RecordsDiffer) w k h i e = absurd (never_refused w k 33 0 e (sym (some_reply _ _ i)))
 
-put_stored : (v : Setting) (list t : List Submission) (c n : ℕ) (text w : List ℕ) (k : Kept) →
-    Answers (PlainGives v) v (Put c n text) w list t → w ≡ accepted k →
+-- a put of a batch, from whatever request
+batch_stored : (v : Setting) (list t : List Submission) (c n : ℕ) (e : Event) (b : Submission)
+    (answer : Result Kept PutFault) (w : List ℕ) (k : Kept) → e ≡ put b answer → b.client ≡ c → b.number ≡ n →
+    PlainGives v list e t → reply_of e ≡ Some w → w ≡ accepted k →
     (k' : Kept) × (w ≡ accepted k') × Stored t c n k'
-put_stored v list t c n text w k (asked ev a h i) e =
-    let found = by_answer v list t a.0 a.1 w k (subst (λ x. PlainGives v list x t) a.3 h)
-    (subst (λ x. reply_of x ≡ Some w) a.3 i) e in
-    let client = ap (λ (b : Submission). b.client) a.2.batch_is in
-    let number = ap (λ (b : Submission). b.number) a.2.batch_is in (
+batch_stored v list t c n e b answer w k is client number h i told =
+    let found = by_answer v list t b answer w k (subst (λ x. PlainGives v list x t) is h)
+    (subst (λ x. reply_of x ≡ Some w) is i) told in (
       found.0,
       found.1,
-      subst (λ m. Stored t c m found.0) number
-          (subst (λ m. Stored t m a.0.number found.0) client found.2),
+      subst (λ m. Stored t c m found.0) number (subst (λ m. Stored t m b.number found.0) client found.2),
     )
-put_stored v list t c n text w k (unasked a i) e = absurd (never_refused w k a.0 a.1 e a.3)
+
+put_stored : (v : Setting) (list t : List Submission) (c n : ℕ) (r : Request) (w : List ℕ) (k : Kept) → IsPut c n r →
+    Answers (PlainGives v) v r w list t → w ≡ accepted k → (k' : Kept) × (w ≡ accepted k') × Stored t c n k'
+put_stored v list t c n (Put x y text) w k p (asked ev a h i) e =
+    batch_stored v list t c n ev a.0 a.1 w k a.3 (ap (λ (b : Submission). b.client) a.2.batch_is ∙ p.0)
+    (ap (λ (b : Submission). b.number) a.2.batch_is ∙ p.1) h i e
+put_stored v list t c n (Put x y text) w k p (unasked a i) e = absurd (never_refused w k a.0 a.1 e a.3)
+put_stored v list t c n (PutCells x y cells) w k p (asked ev a h i) e =
+    batch_stored v list t c n ev a.0 a.1 w k a.3 (ap (λ (b : Submission). b.client) a.2.batch_is ∙ p.0)
+    (ap (λ (b : Submission). b.number) a.2.batch_is ∙ p.1) h i e
+put_stored v list t c n (PutCells x y cells) w k p (unasked a i) e = absurd (never_refused w k a.0 a.1 e a.3)
+put_stored v list t c n (Cell x y) w k p a e = absurd p
+put_stored v list t c n (Row x) w k p a e = absurd p
+put_stored v list t c n Status w k p a e = absurd p
+put_stored v list t c n Export w k p a e = absurd p
+put_stored v list t c n Save w k p a e = absurd p
+put_stored v list t c n Stop w k p a e = absurd p
 
 -- ---- what a session adds to the list
-by_fresh : (v : Setting) (list t : List Submission) (c n : ℕ) (text : List ℕ) (b : Submission) (vd : Verdict) →
-    verdict_in v list b ≡ vd → PutsBatch v c n text b → t ≡ list_by list b vd →
-    ((((x : Submission) → PutsFresh v list (Put c n text) x → ⊥) × (t ≡ list)) ⊎
-    ((x : Submission) × PutsFresh v list (Put c n text) x × (t ≡ list ++ x ∷ [])))
-by_fresh v list t c n text b verdict.Fresh is p h = inr (b, (p, is), h)
-by_fresh v list t c n text b (verdict.Known k) is p h = inl
-    ((λ x f. let same = ap (verdict_in v list) (one_batch v c n text b x p f.0) ∙ f.1 in cc), h)
-by_fresh v list t c n text b verdict.NumberReused is p h = inl
-    ((λ x f. let same = ap (verdict_in v list) (one_batch v c n text b x p f.0) ∙ f.1 in cc), h)
-by_fresh v list t c n text b (verdict.OverTotal total) is p h = inl
-    ((λ x f. let same = ap (verdict_in v list) (one_batch v c n text b x p f.0) ∙ f.1 in cc), h)
-by_fresh v list t c n text b verdict.BookFull is p h = inl (
-  (λ x f. let same = ap (verdict_in v list)
-      (one_batch v c n text b x p f.0) ∙ f.1 in cc),
-  h,
-)
+-- P: it is the one batch of a put
+by_fresh : (P : Submission → Type 0) → ((x y : Submission) → P x → P y → x ≡ y) →
+    (v : Setting) (list t : List Submission) (b : Submission) (vd : Verdict) → verdict_in v list b ≡ vd → P b →
+    t ≡ list_by list b vd →
+    ((((x : Submission) → P x × (verdict_in v list x ≡ verdict.Fresh) → ⊥) × (t ≡ list)) ⊎
+    ((x : Submission) × (P x × (verdict_in v list x ≡ verdict.Fresh)) × (t ≡ list ++ x ∷ [])))
+by_fresh P one v list t b verdict.Fresh is p h = inr (b, (p, is), h)
+by_fresh P one v list t b (verdict.Known k) is p h = inl
+    ((λ x f. let same = ap (verdict_in v list) (one x b f.0 p) in let fresh = f.1 in cc), h)
+by_fresh P one v list t b verdict.NumberReused is p h = inl
+    ((λ x f. let same = ap (verdict_in v list) (one x b f.0 p) in let fresh = f.1 in cc), h)
+by_fresh P one v list t b (verdict.OverTotal total) is p h = inl
+    ((λ x f. let same = ap (verdict_in v list) (one x b f.0 p) in let fresh = f.1 in cc), h)
+by_fresh P one v list t b verdict.BookFull is p h = inl
+    ((λ x f. let same = ap (verdict_in v list) (one x b f.0 p) in let fresh = f.1 in cc), h)
 
 abbrev Adds : Setting → List Submission → Request → List Submission → Type 0
 Adds v list r t = (((x : Submission) → PutsFresh v list r x → ⊥) × (t ≡ list)) ⊎
@@ -258,8 +272,14 @@ adds : (v : Setting) (list t : List Submission) (r : Request) (w : List ℕ) →
 adds v list t (Put c n text) w (asked ev a h i) =
     let one = put_is v list a.0 a.1 t w (subst (λ x. PlainGives v list x t) a.3 h)
     (subst (λ x. reply_of x ≡ Some w) a.3 i) in
-    by_fresh v list t c n text a.0 (verdict_in v list a.0) refl a.2 one.1
+    by_fresh (PutsBatch v c n text) (one_batch v c n text) v list t a.0 (verdict_in v list a.0) refl a.2 one.1
 adds v list t (Put c n text) w (unasked a i) = inl ((λ x f. never_both v c n text x a.0 a.1 f.0 a.2), i)
+adds v list t (PutCells c n cells) w (asked ev a h i) =
+    let one = put_is v list a.0 a.1 t w (subst (λ x. PlainGives v list x t) a.3 h)
+    (subst (λ x. reply_of x ≡ Some w) a.3 i) in
+    by_fresh (PutsCells v c n cells) (one_cells_batch v c n cells) v list t a.0 (verdict_in v list a.0) refl a.2 one.1
+adds v list t (PutCells c n cells) w (unasked a i) = inl
+    ((λ x f. never_both_cells v c n cells x a.0 a.1 f.0 a.2), i)
 adds v list t (Cell r c) w (asked ev a h i) = inl ((λ x f. f), (subst (λ x. PlainGives v list x t) a.3 h).1)
 adds v list t (Cell r c) w (unasked a i) = inl ((λ x f. f), i)
 adds v list t (Row r) w (asked ev a h i) = inl ((λ x f. f), (subst (λ x. PlainGives v list x t) a.2 h).1)
@@ -286,15 +306,15 @@ all_adds v list t (r ∷ rs) w a = elim (adds v list a.0 r a.1 a.3) [
       (one.0 ∷ more.0, more.1 ∙ append_assoc list (one.0 ∷ []) more.0, inr (one.0, more.0, one.1, refl, more.2))
 ]
 
-pub repeat_replied : (v : Setting) (list a b t : List Submission) (c n : ℕ) (text text' w w' between : List ℕ)
-    (rs : List Request) (k k' : Kept) →
-    Answers (PlainGives v) v (Put c n text) w list a → w ≡ accepted k → AnswersAll (PlainGives v) v a rs between b →
-    Answers (PlainGives v) v (Put c n text') w' b t → w' ≡ accepted k' → w ≡ w'
-repeat_replied v list a b t c n text text' w w' between rs k k' one e all two e' =
-    let first = put_stored v list a c n text w k one e in
-    let second = put_stored v b t c n text' w' k' two e' in
+pub repeat_replied : (v : Setting) (list a b t : List Submission) (c n : ℕ) (r r' : Request) (w w' between : List ℕ)
+    (rs : List Request) (k k' : Kept) → IsPut c n r → IsPut c n r' →
+    Answers (PlainGives v) v r w list a → w ≡ accepted k → AnswersAll (PlainGives v) v a rs between b →
+    Answers (PlainGives v) v r' w' b t → w' ≡ accepted k' → w ≡ w'
+repeat_replied v list a b t c n r r' w w' between rs k k' p p' one e all two e' =
+    let first = put_stored v list a c n r w k p one e in
+    let second = put_stored v b t c n r' w' k' p' two e' in
     let grown = all_adds v a b rs between all in
-    let last = all_adds v b t (Put c n text' ∷ []) w' (t, w', [], two, sym (append-nil w'), (refl, refl)) in
+    let last = all_adds v b t (r' ∷ []) w' (t, w', [], two, sym (append-nil w'), (refl, refl)) in
     let s = stored_more b last.0 c n first.0 (subst (λ l. Stored l c n first.0) (sym grown.1)
     (stored_more a grown.0 c n first.0 first.2)) in
     let same = stored_once t c n first.0 second.0 (subst (λ l. Stored l c n first.0) (sym last.1) s) second.2 in

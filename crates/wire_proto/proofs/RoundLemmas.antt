@@ -1,6 +1,6 @@
 -- What is spelled as a frame is read again, whatever follows.
 use Rattle.std.proofs.Common.{◌≡◌, ℕ, ◌+◌, ◌<◌, ◌≤◌, ◌^◌, true, List, [], ◌++◌, length, take, drop, refl, sym, ◌∙◌, ap}
-use Rattle.std.proofs.Common.{arith, length-append, Some, None, Ok}
+use Rattle.std.proofs.Common.{arith, length-append, Some, None, Ok, eq-eqb, ◌-◌, ◌%◌}
 use Rattle.std.proofs.lemmas.List.{take_at, drop_at, drop-drop}
 use Rattle.std.proofs.lemmas.Bool.{le-ltb, le-leb}
 use Rattle.std.proofs.lemmas.Nat.{from_be_bytes-to_be_bytes_4, from_be_bytes-to_be_bytes_8}
@@ -8,6 +8,7 @@ use Rattle.wire_proto.specs.Frames.{front, frame, head_bytes, number, head_len, 
 use Rattle.wire_proto.specs.Frames.{length_fits, request_of, number_at, request_frame, HasFrame}
 use Rattle.wire_proto.specs.declared.request.Request.{Request}
 use Rattle.wire_proto.specs.declared.request.Request.TheVariants.{Put, Cell, Row, Status, Export, Save, Stop}
+use Rattle.wire_proto.specs.declared.request.Request.TheVariants.{PutCells}
 use Rattle.wire_proto.proofs.FrontLemmas.{front_whole}
 
 pub kind_read : (k : ℕ) (body more : List ℕ) → head_kind (frame k body ++ more) ≡ k
@@ -26,11 +27,11 @@ pub frame_len : (k : ℕ) (body more : List ℕ) → length (frame k body ++ mor
 unfolding frame head_bytes
 frame_len k body more = let e = length-append body more in omega arith
 
-faultless_head : (k n : ℕ) → n ≤ 16777216 → length_fits k n ≡ Some true → head_fault k n ≡ None
+faultless_head : (k n : ℕ) → n ≤ 67108864 → length_fits k n ≡ Some true → head_fault k n ≡ None
 unfolding head_fault
-faultless_head k n h e = rw (le-ltb 16777216 n h) (ap fault_of_kind e)
+faultless_head k n h e = rw (le-ltb 67108864 n h) (ap fault_of_kind e)
 
-pub front_of_frame : (k : ℕ) (body more : List ℕ) → length body ≤ 16777216 → length_fits k (length body) ≡ Some true →
+pub front_of_frame : (k : ℕ) (body more : List ℕ) → length body ≤ 67108864 → length_fits k (length body) ≡ Some true →
     front (frame k body ++ more) ≡ Some (Ok (request_of k body), more)
 front_of_frame k body more short fits =
     let b = frame k body ++ more in
@@ -66,6 +67,12 @@ put_fits : (n : ℕ) → 16 ≤ n → length_fits 1 n ≡ Some true
 unfolding length_fits
 put_fits n h = ap (λ b. Some b) (le-leb 16 n h)
 
+cells_fit : (n k : ℕ) → n ≡ 16 + k → k % 24 ≡ 0 → length_fits 8 n ≡ Some true
+unfolding length_fits
+cells_fit n k is whole =
+    let rest : (n - 16) % 24 ≡ 0 = ap (λ m. m % 24) {x = n - 16} {y = k} (omega (arith, is)) ∙ whole in
+    rw (le-leb 16 n (omega (arith, is))) (ap (λ b. Some b) (eq-eqb ((n - 16) % 24) 0 rest))
+
 length_number : (n : ℕ) → length (number n) ≡ 8
 unfolding number
 length_number n = refl
@@ -90,6 +97,12 @@ put_read : (client n : ℕ) (text : List ℕ) → client < 2 ^ 64 → n < 2 ^ 64
     request_of 1 (number client ++ number n ++ text) ≡ Put client n text
 unfolding request_of
 put_read client n text h k = rw (put_first client n text h, number_second client n text k, put_tail client n text) refl
+
+cells_read : (client n : ℕ) (cells : List ℕ) → client < 2 ^ 64 → n < 2 ^ 64 →
+    request_of 8 (number client ++ number n ++ cells) ≡ PutCells client n cells
+unfolding request_of
+cells_read client n cells h k =
+    rw (put_first client n cells h, number_second client n cells k, put_tail client n cells) refl
 
 cell_read : (row col : ℕ) → row < 2 ^ 64 → col < 2 ^ 64 → request_of 2 (number row ++ number col) ≡ Cell row col
 unfolding request_of
@@ -120,3 +133,13 @@ front_again Status more h = front_of_frame 4 [] more h.short refl
 front_again Export more h = front_of_frame 5 [] more h.short refl
 front_again Save more h = front_of_frame 6 [] more h.short refl
 front_again Stop more h = front_of_frame 7 [] more h.short refl
+front_again (PutCells client n cells) more h =
+    let size : length (number client ++ number n ++ cells) ≡ 16 + length cells = omega (
+      arith,
+      length-append (number client ++ number n) cells,
+      length-append (number client) (number n),
+      length_number client,
+      length_number n,
+    ) in
+    front_of_frame 8 (number client ++ number n ++ cells) more h.short (cells_fit _ _ size h.whole)
+    ∙ ap (λ x. Some (Ok x, more)) (cells_read client n cells h.numbers.0 h.numbers.1)

@@ -67,7 +67,7 @@ module _ {L S : Type 0} (writes : L → List ℕ → Answer → L → Type 0) (f
 
   -- a reply that was sent whole, or in part
   pub sends_answered : (r : Request) (l l' : L) (s s' : S) (reply : List ℕ) (written : ℕ) (result : Result ℕ Ended) →
-      Answers gives setup r reply s s' → length reply ≤ 33554432 → Sends writes failures l l' reply written result →
+      Answers gives setup r reply s s' → length reply ≤ 134217728 → Sends writes failures l l' reply written result →
       IfOk result (λ w. OneAnswered writes failures gives setup r l l' s s' written w)
   sends_answered r l l' s s' reply written (Ok w) a short h = record {
     reply = reply;

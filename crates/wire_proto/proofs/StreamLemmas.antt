@@ -9,6 +9,7 @@ use Rattle.wire_proto.specs.Sessions.{AnswersAll}
 use Rattle.wire_proto.specs.Plain.{GoOn}
 use Rattle.wire_proto.specs.declared.request.Request.{Request}
 use Rattle.wire_proto.specs.declared.request.Request.TheVariants.{Put, Cell, Row, Status, Export, Save, Stop}
+use Rattle.wire_proto.specs.declared.request.Request.TheVariants.{PutCells}
 use Rattle.wire_proto.specs.declared.request.FrameFault.{FrameFault}
 use Rattle.batch_store.specs.Setups.{Setting}
 use Rattle.wire_proto.proofs.FrontLemmas.{front_short, front_shorter}
@@ -78,6 +79,7 @@ goes_on gives setup (Row x) reply s t h is = cc
 goes_on gives setup Status reply s t h is = cc
 goes_on gives setup Export reply s t h is = cc
 goes_on gives setup Save reply s t h is = cc
+goes_on gives setup (PutCells x y z) reply s t h is = cc
 
 pub none_stops : {S : Type 0} (gives : S → Event → S → Type 0) (setup : Setting) (s t : S) (rs : List Request)
     (bytes : List ℕ) → AnswersAll gives setup s rs bytes t → GoOn rs
@@ -94,6 +96,7 @@ up_more (Row x) ms h = refl
 up_more Status ms h = refl
 up_more Export ms h = refl
 up_more Save ms h = refl
+up_more (PutCells x y z) ms h = refl
 up_more Stop ms h = absurd (h refl)
 
 up_all : (rs : List Request) (ms : List Message) → GoOn rs →

@@ -1,11 +1,13 @@
 -- How one request is answered.
 --     PutsBatch       the text of a Put spells a matrix of the setup's dimensions, and this is the batch of its cells
 --     RefusesText     the text is refused, with this code and detail, before the keeper is asked
+--     PutsCells       the cells of a PutCells make a matrix of the setup's dimensions, and this is their batch
+--     RefusesCells    the cells are refused, with this code and detail, before the keeper is asked
 --     Asks            the calls of a keeper that a request leads to
 --     Refuses         the replies that a request gets without a call
 --     Answers         a request gets this reply, and leads the keeper from one state to another
 --     RunsOut         memory ran out for this request, before the call that it leads to or in it
-use Rattle.std.specs.Prelude.{◌≡◌, ℕ, ◌+◌, ◌<◌, ◌≤◌, ◌^◌, List, Option, Some, None, Result}
+use Rattle.std.specs.Prelude.{◌≡◌, ℕ, ◌+◌, ◌<◌, ◌≤◌, ◌^◌, List, length, Option, Some, None, Result}
 use Rattle.std.specs.declared.alloc.AllocError.{AllocError}
 use Rattle.cells.specs.declared.cell.Cell.{Cell}
 use Rattle.mm_text.specs.Texts.{Spells, FirstFault}
@@ -17,18 +19,21 @@ use Rattle.hyper_matrix.specs.Matrix.{Matrix, matrix}
 use Rattle.hyper_matrix.specs.Cells.{built_of, cell_total}
 use Rattle.batch_store.specs.Setups.{Setting}
 use Rattle.batch_store.specs.Batches.{Submission, submission}
+use Rattle.batch_store.specs.Lists.{MakesBatch, LeavesAt, PassesSum}
 use Rattle.batch_store.specs.declared.verdict.Kept.{Kept}
 use Rattle.plain_engine.specs.declared.status.Status.{Status as Counted}
 use Rattle.plain_engine.specs.declared.fault.PutFault.{PutFault}
+use Rattle.wire_proto.specs.CellBytes.{cells_of}
 use Rattle.wire_proto.specs.Keeping.{Event, put, cell, row, status, export, save}
 use Rattle.wire_proto.specs.Replies.{reply_of, refused}
 use Rattle.wire_proto.specs.declared.request.Request.{Request}
 use Rattle.wire_proto.specs.declared.request.Request.TheVariants.{Put, Cell as CellAt, Row, Status, Export, Save, Stop}
+use Rattle.wire_proto.specs.declared.request.Request.TheVariants.{PutCells}
 use Rattle.wire_proto.specs.declared.keeper.SaveRefusal.{SaveRefusal}
 
 -- the limits of a Put's text
 abbrev pub put_limits : TextLimits
-put_limits = record { max_bytes = 16777216; max_entries = 1048576 }
+put_limits = record { max_bytes = 67108864; max_entries = 1048576 }
 
 -- the kinds of faults of a text are numbered
 abbrev pub kind_number : MmKind → ℕ
@@ -64,6 +69,17 @@ pub data RefusesText (setup : Setting) (bytes : List ℕ) (code detail : ℕ) : 
   too_large : (cells : List Cell) → Spells bytes put_limits setup.rows setup.cols cells →
       2 ^ 64 ≤ cell_total cells → code ≡ 21 → detail ≡ 0 → RefusesText setup bytes code detail
 
+pub record PutsCells (setup : Setting) (client n : ℕ) (bytes : List ℕ) (batch : Submission) : Type 0 where
+  pub makes : MakesBatch setup (cells_of bytes)
+  pub batch_is : batch ≡ submission client n (matrix setup.rows setup.cols (built_of (cells_of bytes)))
+
+-- There are too many cells; or the first with a fault lies outside the dimensions, or its count no longer fits.
+pub data RefusesCells (setup : Setting) (bytes : List ℕ) (code detail : ℕ) : Type 0 where
+  too_many : 1048576 < length (cells_of bytes) → code ≡ 23 → detail ≡ 0 → RefusesCells setup bytes code detail
+  outside : (at : ℕ) → LeavesAt setup (cells_of bytes) at → code ≡ 22 → detail ≡ at →
+      RefusesCells setup bytes code detail
+  sum_passes : PassesSum setup (cells_of bytes) → code ≡ 21 → detail ≡ 0 → RefusesCells setup bytes code detail
+
 abbrev pub Asks : Setting → Request → Event → Type 0
 Asks setup (Put client n bytes) e =
     (batch : Submission) × (answer : Result Kept PutFault) × PutsBatch setup client n bytes batch ×
@@ -74,6 +90,9 @@ Asks setup Status e = (s : Counted) × (e ≡ status s)
 Asks setup Export e = (answer : Result Matrix AllocError) × (e ≡ export answer)
 Asks setup Save e = (answer : Result ℕ SaveRefusal) × (e ≡ save answer)
 Asks setup Stop e = ⊥
+Asks setup (PutCells client n bytes) e =
+    (batch : Submission) × (answer : Result Kept PutFault) × PutsCells setup client n bytes batch ×
+    (e ≡ put batch answer)
 
 abbrev pub Refuses : Setting → Request → List ℕ → Type 0
 Refuses setup (Put client n bytes) reply =
@@ -84,6 +103,8 @@ Refuses setup Status reply = ⊥
 Refuses setup Export reply = ⊥
 Refuses setup Save reply = ⊥
 Refuses setup Stop reply = ⊥
+Refuses setup (PutCells client n bytes) reply =
+    (code : ℕ) × (detail : ℕ) × RefusesCells setup bytes code detail × (reply ≡ refused code detail)
 
 -- `gives s e t`: the keeper may answer this call in state s, and then stands in state t.
 pub data Answers {S : Type 0} (gives : S → Event → S → Type 0) (setup : Setting) (r : Request) (reply : List ℕ)

@@ -1,10 +1,11 @@
 -- Frames: how requests are spelled, and what stands at the front of the bytes of a link.
-use Rattle.std.specs.Prelude.{◌≡◌, ℕ, zero, suc, ◌+◌, ◌<◌, ◌≤◌, ◌^◌, ◌==◌, ◌&&◌, Bool, true, false, List, [], ◌∷◌, ◌++◌}
+use Rattle.std.specs.Prelude.{◌≡◌, ℕ, zero, suc, ◌+◌, ◌-◌, ◌%◌, ◌<◌, ◌≤◌, ◌^◌, ◌==◌, ◌&&◌, Bool, true, false, List, [], ◌∷◌, ◌++◌}
 use Rattle.std.specs.Prelude.{length, take, drop, slice_index, nat_lt, nat_le, if◌then◌else◌, Option, Some, None}
 use Rattle.std.specs.Prelude.{Result, Ok, Err}
 use Rattle.std.specs.Int.{w32, w64, to_be_bytes, from_be_bytes}
 use Rattle.wire_proto.specs.declared.request.Request.{Request}
 use Rattle.wire_proto.specs.declared.request.Request.TheVariants.{Put, Cell, Row, Status, Export, Save, Stop}
+use Rattle.wire_proto.specs.declared.request.Request.TheVariants.{PutCells}
 use Rattle.wire_proto.specs.declared.request.FrameFault.{FrameFault}
 use Rattle.wire_proto.specs.declared.request.FrameFault.TheVariants.{Memory, TooLarge, UnknownKind, BadLength}
 
@@ -28,6 +29,7 @@ kind_of Status = 4
 kind_of Export = 5
 kind_of Save = 6
 kind_of Stop = 7
+kind_of (PutCells client n cells) = 8
 
 abbrev pub body_of : Request → List ℕ
 body_of (Put client n text) = number client ++ number n ++ text
@@ -37,6 +39,7 @@ body_of Status = []
 body_of Export = []
 body_of Save = []
 body_of Stop = []
+body_of (PutCells client n cells) = number client ++ number n ++ cells
 
 abbrev pub request_frame : Request → List ℕ
 request_frame r = frame (kind_of r) (body_of r)
@@ -50,10 +53,20 @@ AreNumbers Status = Unit {0}
 AreNumbers Export = Unit {0}
 AreNumbers Save = Unit {0}
 AreNumbers Stop = Unit {0}
+AreNumbers (PutCells client n cells) = (client < 2 ^ 64) × (n < 2 ^ 64)
+
+-- a whole number of cells, of 24 bytes each
+abbrev pub IsWhole : List ℕ → Type 0
+IsWhole bytes = length bytes % 24 ≡ 0
+
+abbrev pub HasWholeCells : Request → Type 0
+HasWholeCells (PutCells client n cells) = IsWhole cells
+HasWholeCells r = Unit {0}
 
 pub record HasFrame (r : Request) : Type 0 where
   pub numbers : AreNumbers r
-  pub short : length (body_of r) ≤ 16777216
+  pub whole : HasWholeCells r
+  pub short : length (body_of r) ≤ 67108864
 
 -- Whether a body of this length fits the kind; None where there is no such kind.
 unfoldable pub length_fits : ℕ → ℕ → Option Bool
@@ -62,6 +75,7 @@ length_fits kind len =
     else if kind == 2 then Some (len == 16)
     else if kind == 3 then Some (len == 8)
     else if nat_le 4 kind && nat_le kind 7 then Some (len == 0)
+    else if kind == 8 then Some (nat_le 16 len && ((len - 16) % 24 == 0))
     else None
 
 abbrev pub fault_of_kind : Option Bool → Option FrameFault
@@ -71,7 +85,7 @@ fault_of_kind (Some true) = None
 
 -- A header is judged once its five bytes are there: its length, its kind, and whether they fit.
 unfoldable pub head_fault : ℕ → ℕ → Option FrameFault
-head_fault kind len = if nat_lt 16777216 len then Some TooLarge else fault_of_kind (length_fits kind len)
+head_fault kind len = if nat_lt 67108864 len then Some TooLarge else fault_of_kind (length_fits kind len)
 
 -- the number that eight bytes from this place on spell
 unfoldable pub number_at : ℕ → List ℕ → ℕ
@@ -86,7 +100,8 @@ request_of kind body =
     else if kind == 4 then Status
     else if kind == 5 then Export
     else if kind == 6 then Save
-    else Stop
+    else if kind == 7 then Stop
+    else PutCells (number_at 0 body) (number_at 8 body) (drop 16 body)
 
 unfoldable pub head_len : List ℕ → ℕ
 head_len bytes = from_be_bytes w32 (take 4 bytes)

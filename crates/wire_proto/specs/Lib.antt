@@ -1,4 +1,5 @@
 pub mod Frames
+pub mod CellBytes
 pub mod Looks
 pub mod Keeping
 pub mod MatrixText

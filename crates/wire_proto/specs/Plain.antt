@@ -16,10 +16,10 @@ use Rattle.batch_store.specs.declared.verdict.Verdict.TheVariants.{Fresh}
 use Rattle.wire_proto.specs.Frames.{Message, front, Gives, messages}
 use Rattle.wire_proto.specs.Keeping.{Event, put, cell, row, status, export, save}
 use Rattle.wire_proto.specs.Replies.{stopping, refused, fault_code}
-use Rattle.wire_proto.specs.Answering.{Answers, PutsBatch}
+use Rattle.wire_proto.specs.Answering.{Answers, PutsBatch, PutsCells}
 use Rattle.wire_proto.specs.Sessions.{Talks}
 use Rattle.wire_proto.specs.declared.request.Request.{Request}
-use Rattle.wire_proto.specs.declared.request.Request.TheVariants.{Put, Stop}
+use Rattle.wire_proto.specs.declared.request.Request.TheVariants.{Put, PutCells, Stop}
 use Rattle.wire_proto.specs.declared.request.FrameFault.{FrameFault}
 use Rattle.wire_proto.specs.declared.keeper.SaveRefusal.TheVariants.{SaveOff}
 use Rattle.wire_proto.specs.declared.ended.Ended.{Ended}
@@ -49,6 +49,7 @@ IsAnswered v list ms bytes after = AnswersMessages (PlainGives v) v list ms byte
 -- the request puts this batch, which is fresh
 abbrev pub PutsFresh : Setting → List Submission → Request → Submission → Type 0
 PutsFresh v list (Put client n bytes) batch = PutsBatch v client n bytes batch × (verdict_in v list batch ≡ Fresh)
+PutsFresh v list (PutCells client n bytes) batch = PutsCells v client n bytes batch × (verdict_in v list batch ≡ Fresh)
 PutsFresh v list r batch = ⊥
 
 -- These requests, one after another, add just these batches to the list: each puts one that is fresh, or none.
@@ -58,6 +59,12 @@ FreshPuts v list (r ∷ rs) more =
     (((batch : Submission) → PutsFresh v list r batch → ⊥) × FreshPuts v list rs more)
     ⊎ ((batch : Submission) × (rest : List Submission) × PutsFresh v list r batch × (more ≡ batch ∷ rest) ×
     FreshPuts v (list ++ batch ∷ []) rs rest)
+
+-- a put under this client and this number, of a text or of cells
+abbrev pub IsPut : ℕ → ℕ → Request → Type 0
+IsPut client number (Put c n bytes) = (c ≡ client) × (n ≡ number)
+IsPut client number (PutCells c n bytes) = (c ≡ client) × (n ≡ number)
+IsPut client number r = ⊥
 
 -- these are requests, none of them a Stop
 abbrev pub GoOn : List Request → Type 0

@@ -61,7 +61,7 @@ put_reply (Err RecordsDiffer) = Some (refused 33 0)
 
 -- a text of more bytes than a body may have is refused
 unfoldable pub text_reply : List ℕ → List ℕ
-text_reply bytes = if nat_lt 16777216 (length bytes) then refused 40 0 else text bytes
+text_reply bytes = if nat_lt 67108864 (length bytes) then refused 40 0 else text bytes
 
 abbrev pub export_reply : Result Matrix AllocError → Option (List ℕ)
 export_reply (Ok m) = Some (text_reply (matrix_text m))

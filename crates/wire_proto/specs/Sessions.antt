@@ -109,7 +109,7 @@ module _ {L S : Type 0} (writes : L → List ℕ → Answer → L → Type 0) (f
     pub answers : Answers gives setup r reply s t
     pub taken : HasTaken writes failures l l' reply
     pub count : w ≡ written + length reply
-    pub short : length reply ≤ 33554432
+    pub short : length reply ≤ 134217728
 
 -- A link's calls, with what they may answer, and how many of them have failed; and a keeper's.
 module _ {L S : Type 0} (reads : L → Answer → L → Type 0) (writes : L → List ℕ → Answer → L → Type 0) (failures : L → ℕ)

@@ -12,4 +12,4 @@ spelled (Text m len) = text (matrix_text m)
 -- a text is told with its length, which a body can carry
 abbrev pub fits_reply : Spelled → Type 0
 fits_reply (Short short) = Unit {0}
-fits_reply (Text m len) = (len ≡ length (matrix_text m)) × (len ≤ 16777216)
+fits_reply (Text m len) = (len ≡ length (matrix_text m)) × (len ≤ 67108864)

@@ -26,7 +26,7 @@ pub fn answer<L: Sink, K: Keeper>(
 ) -> Result<u128, Ended>
     requires ready { L.failure_count link.old + 1 < 2 ^ 64 }
     requires fact { K.fact keeper.old }
-    requires room { written + 2 ^ 25 < 2 ^ 128 }
+    requires room { written + 2 ^ 27 < 2 ^ 128 }
     ensures ok { IfOk result (λ w. OneAnswered L.write_takes L.failure_count K.gives
         (K.setup_of keeper.old) request link.old link.new keeper.old keeper.new written w) }
     ensures err { IfErr result (λ e. (kept rest : List ℕ) → front kept ≡ Some (Ok request, rest) →
@@ -69,7 +69,7 @@ fn end_of(fault: FrameFault) -> Ended
 /// Refuses a bad header, or says that memory ran out.
 pub fn refuse<L: Sink>(link: &mut L, fault: FrameFault, written: u128) -> Ended
     requires ready { L.failure_count link.old + 1 < 2 ^ 64 }
-    requires room { written + 2 ^ 25 < 2 ^ 128 }
+    requires room { written + 2 ^ 27 < 2 ^ 128 }
     ensures { Closes L.write_takes L.failure_count link.old link.new (refused_reply (fault_code fault) 0) written
         (ended_of fault) result }
 {
@@ -86,11 +86,11 @@ pub fn answer_all<L: Link, K: Keeper>(
 ) -> Result<u128, Ended>
     requires ready { L.Sink.failure_count link.old + 1 < 2 ^ 64 }
     requires fact { K.fact keeper.old }
-    requires room { before + 2 ^ 25 * length frames.old < 2 ^ 127 }
+    requires room { before + 2 ^ 27 * length frames.old < 2 ^ 127 }
     ensures ok { IfOk result (λ w. Carries L.Source.read_gives L.Sink.write_takes L.Sink.failure_count K.gives
         (K.setup_of keeper.old) link.old link.new keeper.old keeper.new frames.old frames.new before w 0) }
     ensures none { OnOk result (front frames.new ≡ None) }
-    ensures room { IfOk result (λ w. w + 2 ^ 25 * length frames.new ≤ before + 2 ^ 25 * length frames.old) }
+    ensures room { IfOk result (λ w. w + 2 ^ 27 * length frames.new ≤ before + 2 ^ 27 * length frames.old) }
     ensures failures { OnOk result (L.Sink.failure_count link.new ≡ L.Sink.failure_count link.old) }
     ensures err { IfErr result (λ e. CarriesToEnd L.Source.read_gives L.Sink.write_takes L.Sink.failure_count K.gives
         (K.setup_of keeper.old) link.old link.new keeper.old keeper.new frames.old before e) }

@@ -5,6 +5,7 @@ ghost use Rattle.wire_proto.specs.Replies.{put_reply, text_reply};
 ghost use Rattle.wire_proto.specs.Answering.{Answers, RunsOut};
 ghost use Rattle.wire_proto.specs.Spelled.{spelled, fits_reply};
 
+use crate::cell_bodies::batch_of_cells;
 use crate::exporting::text_length;
 use crate::keeper::{Keeper, SaveRefusal};
 use crate::replies::{Short, accepted, counts, refused, row_sum, saved, value};
@@ -140,6 +141,32 @@ pub fn ask_put<K: Keeper>(
     }
 }
 
+pub fn ask_put_cells<K: Keeper>(
+    alloc: Global,
+    keeper: &mut K,
+    client: u64,
+    number: u64,
+    cells: Bytes,
+) -> Result<Short, AllocError>
+    requires { K.fact keeper.old }
+    ensures reply { IfOk result (λ short. Answers K.gives (K.setup_of keeper.old)
+        (Request.PutCells client number cells) short.items keeper.old keeper.new) }
+    ensures none { OnErr result (RunsOut K.gives (K.setup_of keeper.old)
+        (Request.PutCells client number cells) keeper.old keeper.new) }
+    ensures fact { K.fact keeper.new }
+    ensures setup { K.setup_of keeper.new ≡ K.setup_of keeper.old }
+{
+    let setup = keeper.setup();
+    match batch_of_cells(alloc, &setup, client, number, cells) {
+        Err(PutRefusal::Memory) => Err(AllocError),
+        Err(PutRefusal::Refused { code, detail }) => Ok(refused(code, detail)),
+        Ok(batch) => {
+            let answer = keeper.put(alloc, batch);
+            reply_to_put(answer)
+        }
+    }
+}
+
 /// Asks what a request asks, but for a Stop.
 pub fn ask<K: Keeper>(
     alloc: Global,
@@ -167,5 +194,10 @@ pub fn ask<K: Keeper>(
         Request::Export => ask_export(alloc, keeper),
         Request::Save => Ok(Spelled::Short(ask_save(alloc, keeper)?)),
         Request::Stop => unreachable!(),
+        Request::PutCells {
+            client,
+            number,
+            cells,
+        } => Ok(Spelled::Short(ask_put_cells(alloc, keeper, client, number, cells)?)),
     }
 }

@@ -34,8 +34,8 @@ fn line_length(first: u64, second: u64, third: u64) -> u64
 
 /// The length of a matrix's canonical text, where a body can carry it.
 pub fn text_length(m: &Hyper) -> Option<u32>
-    ensures { MatchOption result (16777216 < length (matrix_text m.now))
-        (λ n. (n ≡ length (matrix_text m.now)) × (n ≤ 16777216)) }
+    ensures { MatchOption result (67108864 < length (matrix_text m.now))
+        (λ n. (n ≡ length (matrix_text m.now)) × (n ≤ 67108864)) }
 {
     let (rows, cols) = m.dims();
     let mut sum = BANNER + line_length(rows, cols, m.entries());

@@ -11,9 +11,9 @@ use std::marker::Model;
 
 /// The bytes that a link gave and that aren't handed out yet. Contracts see them as a list of bytes.
 ///
-/// A Put's text is a view of the buffer: no byte of it is copied. The buffer grows by doubling, so a frame that comes
-/// in many pieces takes time in proportion to its bytes, and what a header declares takes no memory. Once a long frame
-/// was handed out, what is left is moved to a new buffer, so that its memory goes with the last view of it.
+/// A Put's text and the cells of a PutCells are a view of the buffer: no byte of it is copied. The buffer grows by doubling, so a frame that comes
+/// in many pieces takes time in proportion to its bytes, and what a header declares takes no memory. As a long frame is
+/// handed out, what is left is moved to a new buffer, so that its memory goes with the last view of it.
 #[derive(Drop)]
 pub struct Frames {
     bytes: BytesMut,
@@ -56,7 +56,16 @@ fn open(kind: u8, mut body: Bytes) -> Request
         4 => Request::Status,
         5 => Request::Export,
         6 => Request::Save,
-        _ => Request::Stop,
+        7 => Request::Stop,
+        _ => {
+            let client = body.get_u64();
+            let number = body.get_u64();
+            Request::PutCells {
+                client,
+                number,
+                cells: body,
+            }
+        }
     }
 }
 
@@ -124,13 +133,13 @@ impl Frames {
         ensures { NextGives self.old result self.new }
     {
         match look_at(self.bytes.as_slice()) {
-            Look::Part => {
-                give_back(alloc, &mut self.bytes, &mut self.most);
-                Ok(None)
-            }
+            Look::Part => Ok(None),
             Look::Bad(fault) => Err(fault),
             Look::Whole { kind, len } => match cut(&mut self.bytes, kind, len) {
-                Ok(request) => Ok(Some(request)),
+                Ok(request) => {
+                    give_back(alloc, &mut self.bytes, &mut self.most);
+                    Ok(Some(request))
+                }
                 Err(_) => Err(FrameFault::Memory),
             },
         }

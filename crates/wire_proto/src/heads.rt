@@ -3,7 +3,7 @@ ghost use Rattle.std.specs.Prelude.{◌≡◌, ◌<◌, ◌≤◌, length, Match
 ghost use Rattle.wire_proto.specs.Frames.{length_fits, head_fault, head_len, head_kind};
 ghost use Rattle.wire_proto.specs.Looks.{Looks};
 
-use crate::limits::{HEAD, MOST_BODY};
+use crate::limits::{CELL, HEAD, MOST_BODY};
 use crate::request::FrameFault;
 use bytes::Buf;
 
@@ -51,6 +51,7 @@ fn fits(head: Head) -> Option<bool>
         2 => Some(head.len == 16),
         3 => Some(head.len == 8),
         4..=7 => Some(head.len == 0),
+        8 => Some(head.len >= 16 && (head.len - 16) % CELL as u32 == 0),
         _ => None,
     }
 }

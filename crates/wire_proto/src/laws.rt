@@ -1,7 +1,9 @@
 //! Laws of the definitions.
-ghost use Rattle.std.specs.Prelude.{◌≡◌, ◌≢◌, ℕ, List, [], ◌∷◌, ◌++◌, map, Option, Some, None, Ok, Err};
+ghost use Rattle.std.specs.Prelude.{◌≡◌, ◌≢◌, ℕ, All, List, [], ◌∷◌, ◌++◌, map, Option, Some, None, Ok, Err};
 ghost use Rattle.wire_proto.specs.Frames.{Message, HasFrame, request_frame, front, Gives, frames, messages};
-ghost use Rattle.wire_proto.specs.Plain.{IsAnswered, PlainGives, FreshPuts};
+ghost use Rattle.wire_proto.specs.CellBytes.{cells_of, spelled_cells, FitsBytes};
+ghost use Rattle.cells.specs.declared.cell.Cell.{Cell};
+ghost use Rattle.wire_proto.specs.Plain.{IsAnswered, PlainGives, FreshPuts, IsPut};
 ghost use Rattle.wire_proto.specs.Answering.{Answers};
 ghost use Rattle.wire_proto.specs.Replies.{accepted};
 ghost use Rattle.batch_store.specs.declared.verdict.Kept.{Kept};
@@ -16,6 +18,11 @@ use crate::keeper::Keeper;
 /// A request's frame is read as that request, whatever follows it.
 pub fn frames_are_read_again()
     ensures { (r : Request) (more : List ℕ) → HasFrame r → front (request_frame r ++ more) ≡ Some (Ok r, more) }
+{}
+
+/// The bytes of a list of cells spell that list.
+pub fn cells_are_read_again()
+    ensures { (cells : List Cell) → All FitsBytes cells → cells_of (spelled_cells cells) ≡ cells }
 {}
 
 /// However a stream is cut: the requests that `next` gave, and then the frames of what is kept, are the frames of all
@@ -73,14 +80,15 @@ pub fn sessions_accept_fresh_batches()
         (more : List Submission) × (after ≡ list ++ more) × FreshPuts setup list requests more }
 {}
 
-/// Two puts with one client and one number that are both answered Accepted, in one session or in two, get the same
-/// bytes.
+/// Two puts with one client and one number, of texts or of cells, that are both answered Accepted, in one session or in
+/// two, get the same bytes.
 pub fn repeats_get_their_reply()
     ensures { (setup : Setting) (list mid later after : List Submission) (client number : ℕ)
-        (text other first second between : List ℕ) (requests : List Request) (kept kept' : Kept) →
-        Answers (PlainGives setup) setup (Request.Put client number text) first list mid → first ≡ accepted kept →
+        (put again : Request) (first second between : List ℕ) (requests : List Request) (kept kept' : Kept) →
+        IsPut client number put → IsPut client number again →
+        Answers (PlainGives setup) setup put first list mid → first ≡ accepted kept →
         AnswersAll (PlainGives setup) setup mid requests between later →
-        Answers (PlainGives setup) setup (Request.Put client number other) second later after →
+        Answers (PlainGives setup) setup again second later after →
         second ≡ accepted kept' →
         first ≡ second }
 {}

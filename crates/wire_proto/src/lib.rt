@@ -9,6 +9,7 @@
 
 mod answering;
 mod asking;
+mod cell_bodies;
 mod decoding;
 mod ended;
 mod exporting;
@@ -29,8 +30,9 @@ pub use ended::Ended;
 pub use frames::Frames;
 pub use keeper::{Keeper, SaveRefusal};
 pub use laws::{
-    bad_headers_stay, frames_are_read_again, frames_come_in_any_pieces, messages_have_one_answer,
-    repeats_get_their_reply, sessions_accept_fresh_batches, sessions_answer_messages,
+    bad_headers_stay, cells_are_read_again, frames_are_read_again, frames_come_in_any_pieces,
+    messages_have_one_answer, repeats_get_their_reply, sessions_accept_fresh_batches,
+    sessions_answer_messages,
 };
 pub use plain::{PlainKeeper, serve_engine};
 pub use request::{EncodeFault, FrameFault, Request, encode_request};

@@ -1,12 +1,14 @@
 //! Requests, and the frames that carry them.
 ghost use Rattle.std.specs.Prelude.{◌≡◌, ◌<◌, ◌≤◌, ◌↔◌, ◌++◌, length, IfOk, OnOk, Err};
-ghost use Rattle.wire_proto.specs.Frames.{number, head_bytes, kind_of, body_of, request_frame};
+ghost use Rattle.wire_proto.specs.Frames.{number, head_bytes, kind_of, body_of, request_frame, HasWholeCells};
 
 use crate::limits::MOST_BODY;
 use bytes::Bytes;
 use std::alloc::{AllocError, Global};
 
 /// What a client asks. Rows and columns count from 0.
+///
+/// The cells of a `PutCells` are 24 bytes each: row, column and count, of eight bytes, the high one first.
 #[derive(Drop)]
 pub enum Request {
     Put {
@@ -25,6 +27,11 @@ pub enum Request {
     Export,
     Save,
     Stop,
+    PutCells {
+        client: u64,
+        number: u64,
+        cells: Bytes,
+    },
 }
 
 /// What is wrong with the bytes of a link, or that memory ran out.
@@ -82,6 +89,7 @@ fn kind(request: &Request) -> u8
         Request::Export => 5,
         Request::Save => 6,
         Request::Stop => 7,
+        Request::PutCells { .. } => 8,
     }
 }
 
@@ -92,6 +100,7 @@ fn body_len(request: &Request) -> usize
 {
     match request {
         Request::Put { text, .. } => 16 + text.len(),
+        Request::PutCells { cells, .. } => 16 + cells.len(),
         Request::Cell { .. } => 16,
         Request::Row { .. } => 8,
         Request::Status | Request::Export | Request::Save | Request::Stop => 0,
@@ -113,6 +122,16 @@ fn push_body(out: &mut Vec<u8>, request: &Request) -> Result<(), AllocError>
             out.extend_from_slice(text.as_slice())?;
             Ok(())
         }
+        Request::PutCells {
+            client,
+            number,
+            cells,
+        } => {
+            push_number(out, *client)?;
+            push_number(out, *number)?;
+            out.extend_from_slice(cells.as_slice())?;
+            Ok(())
+        }
         Request::Cell { row, col } => {
             push_number(out, *row)?;
             push_number(out, *col)?;
@@ -123,11 +142,12 @@ fn push_body(out: &mut Vec<u8>, request: &Request) -> Result<(), AllocError>
     }
 }
 
-/// The bytes of a request's frame. TooLarge exactly where its body is too long.
+/// The bytes of a request's frame. TooLarge exactly where its body has more than 67,108,864 bytes.
 #[tactic(auto, unfolding(crate::specs::Frames::frame))]
 pub fn encode_request(alloc: Global, request: &Request) -> Result<Vec<u8>, EncodeFault>
+    requires { HasWholeCells request.now }
     ensures ok { IfOk result (λ v. v.items ≡ request_frame request.now) }
-    ensures too_large { (result ≡ Err EncodeFault.TooLarge) ↔ (16777216 < length (body_of request.now)) }
+    ensures too_large { (result ≡ Err EncodeFault.TooLarge) ↔ (67108864 < length (body_of request.now)) }
 {
     let len = body_len(request);
     if len > MOST_BODY as usize {

@@ -50,8 +50,8 @@ fn send_matrix<L: Sink>(
 fn send_text<L: Sink>(link: &mut L, matrix: &Hyper, len: u32, written: u128) -> Result<u128, Ended>
     requires ready { L.failure_count link.old + 1 < 2 ^ 64 }
     requires len { len ≡ length (matrix_text matrix.now) }
-    requires short { len ≤ 16777216 }
-    requires room { written + 2 ^ 25 < 2 ^ 128 }
+    requires short { len ≤ 67108864 }
+    requires room { written + 2 ^ 27 < 2 ^ 128 }
     ensures { Sends L.write_takes L.failure_count link.old link.new (text_of (matrix_text matrix.now)) written result }
 {
     let head = text_head(len);
@@ -65,9 +65,9 @@ fn send_text<L: Sink>(link: &mut L, matrix: &Hyper, len: u32, written: u128) -> 
 pub fn send_reply<L: Sink>(link: &mut L, reply: &Spelled, written: u128) -> Result<u128, Ended>
     requires ready { L.failure_count link.old + 1 < 2 ^ 64 }
     requires fits { fits_reply reply.now }
-    requires room { written + 2 ^ 25 < 2 ^ 128 }
+    requires room { written + 2 ^ 27 < 2 ^ 128 }
     ensures sends { Sends L.write_takes L.failure_count link.old link.new (spelled reply.now) written result }
-    ensures short { length (spelled reply.now) ≤ 2 ^ 25 }
+    ensures short { length (spelled reply.now) ≤ 2 ^ 27 }
 {
     match reply {
         Spelled::Short(short) => send(link, short.as_slice(), written),
@@ -78,7 +78,7 @@ pub fn send_reply<L: Sink>(link: &mut L, reply: &Spelled, written: u128) -> Resu
 /// Sends the last reply of a session, and gives how it ended.
 pub fn close<L: Sink>(link: &mut L, reply: &Short, written: u128, ended: Ended) -> Ended
     requires ready { L.failure_count link.old + 1 < 2 ^ 64 }
-    requires room { written + 2 ^ 25 < 2 ^ 128 }
+    requires room { written + 2 ^ 27 < 2 ^ 128 }
     ensures { Closes L.write_takes L.failure_count link.old link.new reply.now.items written ended result }
 {
     match send(link, reply.as_slice(), written) {

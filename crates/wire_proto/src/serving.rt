@@ -32,12 +32,12 @@ fn take_piece<L: Link, K: Keeper>(
 ) -> Result<u128, Ended>
     requires ready { L.Sink.failure_count link.old + 1 < 2 ^ 64 }
     requires fact { K.fact keeper.old }
-    requires room { written + 2 ^ 25 * (length frames.old + length piece.now) < 2 ^ 127 }
+    requires room { written + 2 ^ 27 * (length frames.old + length piece.now) < 2 ^ 127 }
     ensures ok { IfOk result (λ w. Carries L.Source.read_gives L.Sink.write_takes L.Sink.failure_count K.gives
         (K.setup_of keeper.old) link.old link.new keeper.old keeper.new
         (frames.old ++ piece.now) frames.new written w 0) }
     ensures none { OnOk result (front frames.new ≡ None) }
-    ensures room { IfOk result (λ w. w + 2 ^ 25 * length frames.new ≤ written + 2 ^ 25 *
+    ensures room { IfOk result (λ w. w + 2 ^ 27 * length frames.new ≤ written + 2 ^ 27 *
         (length frames.old + length piece.now)) }
     ensures failures { OnOk result (L.Sink.failure_count link.new ≡ L.Sink.failure_count link.old) }
     ensures err { IfErr result (λ e. CarriesToEnd L.Source.read_gives L.Sink.write_takes L.Sink.failure_count K.gives
@@ -64,12 +64,12 @@ fn take_turn<L: Link, K: Keeper>(
     requires fact { K.fact keeper.old }
     requires piece { length piece.old.items ≡ 65536 }
     requires none { front frames.old ≡ None }
-    requires room { written + 2 ^ 25 * (length frames.old + 65536) < 2 ^ 127 }
+    requires room { written + 2 ^ 27 * (length frames.old + 65536) < 2 ^ 127 }
     ensures piece { length piece.new.items ≡ 65536 }
     ensures ok { IfOk result (λ w. Carries L.Source.read_gives L.Sink.write_takes L.Sink.failure_count K.gives
         (K.setup_of keeper.old) link.old link.new keeper.old keeper.new frames.old frames.new written w 1) }
     ensures none { OnOk result (front frames.new ≡ None) }
-    ensures room { IfOk result (λ w. w + 2 ^ 25 * length frames.new ≤ written + 2 ^ 25 * (length frames.old + 65536)) }
+    ensures room { IfOk result (λ w. w + 2 ^ 27 * length frames.new ≤ written + 2 ^ 27 * (length frames.old + 65536)) }
     ensures failures { OnOk result (L.Sink.failure_count link.new ≡ L.Sink.failure_count link.old) }
     ensures err { IfErr result (λ e. TurnEnds L.Source.read_gives L.Sink.write_takes L.Sink.failure_count K.gives
         (K.setup_of keeper.old) L.Source.at_end link.old link.new keeper.old keeper.new frames.old written e) }

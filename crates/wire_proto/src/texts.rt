@@ -16,7 +16,7 @@ const LIMITS: TextLimits = TextLimits {
     max_entries: MOST_ENTRIES,
 };
 
-/// Why a Put is refused before the keeper is asked.
+/// Why a put is refused before the keeper is asked.
 #[derive(Clone, Copy)]
 pub enum PutRefusal {
     Memory,

@@ -7,7 +7,7 @@ invariant-requests g l = record {
   failures : g.L.Sink.failure_count l.link ≡ g.L.Sink.failure_count l.initial.link;
   fact : g.K.Keeper.fact l.keeper;
   setup : g.K.Keeper.setup_of l.keeper ≡ g.K.Keeper.setup_of l.initial.keeper;
-  room : l.written + 33554432 * length l.frames ≤ l.initial.written + 33554432 * length l.initial.frames;
+  room : l.written + 134217728 * length l.frames ≤ l.initial.written + 134217728 * length l.initial.frames;
   carries : Carries g.L.Source.read_gives g.L.Sink.write_takes g.L.Sink.failure_count g.K.Keeper.gives
       (g.K.Keeper.setup_of l.initial.keeper) l.initial.link l.link l.initial.keeper l.keeper l.initial.frames l.frames
       l.initial.written l.written 0;

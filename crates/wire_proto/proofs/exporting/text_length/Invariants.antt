@@ -13,6 +13,6 @@ invariant-loop-cell l = record {
   rows : IsDimension l.m.rows;
   cols : IsDimension l.m.cols;
   within : AllByRecursion (LiesWithin l.m.rows l.m.cols) l.cell-iterator;
-  bound : l.sum ≤ 16777279;
+  bound : l.sum ≤ 67108927;
   counted : l.sum + length (entry_lines (map cell_of l.cell-iterator)) ≡ length (matrix_text l.m);
 }

@@ -10,7 +10,7 @@ invariant-loop-turn g l = record {
   setup : g.K.Keeper.setup_of l.keeper ≡ g.K.Keeper.setup_of l.initial.keeper;
   piece : length l.piece.items ≡ 65536;
   none : front l.frames ≡ None;
-  room : l.written + 33554432 * length l.frames ≤ 2199023255552 * l.turn;
+  room : l.written + 134217728 * length l.frames ≤ 8796093022208 * l.turn;
   stands : Stands g.L.Source.read_gives g.L.Sink.write_takes g.L.Sink.failure_count g.K.Keeper.gives
       (g.K.Keeper.setup_of l.initial.keeper) l.initial.link l.link l.initial.keeper l.keeper l.frames l.written l.turn;
 }
