@@ -26,7 +26,7 @@ use Rattle.wire_proto.proofs.StreamLemmas.{messages_request, goes_on, none_stops
 -- ---- answers to requests, and what stands behind them
 module _ {S : Type 0} (gives : S → Event → S → Type 0) (setup : Setting) where
   -- one message more in front, which isn't a Stop
-  one_more : (s m t : S) (r : Request) (reply more : List ℕ) (ms : List Message) (bytes : List ℕ) → (r ≡ Stop → ⊥) →
+  pub one_more : (s m t : S) (r : Request) (reply more : List ℕ) (ms : List Message) (bytes : List ℕ) → (r ≡ Stop → ⊥) →
       Answers gives setup r reply s m → bytes ≡ reply ++ more → AnswersMessages gives setup m ms more t →
       AnswersMessages gives setup s (Ok r ∷ ms) bytes t
   one_more s m t (Put x y z) reply more ms bytes n a e b = (m, reply, more, a, e, b)
@@ -259,8 +259,21 @@ module _ {L S N : Type 0} (reads : L → Answer → L → Type 0) (writes : L �
       EndsPlain reads writes failures v at_end l l' (list s) (list t) most turns ended × Is name setup_of list v s t
   ends_seen at_end l l' s t most turns (Closed n) e a = let b = rests_between l l' s t a.0 turns e a.3 in
       ((a.0, a.1, a.2, b.0), b.2)
-  ends_seen at_end l l' s t most turns ReadFault e a = let b = rests_between l l' s t a.0 turns e a.2 in
-      ((a.0, a.1, b.0), b.2)
+  ends_seen at_end l l' s t most turns ReadFault e a =
+      let b = rests_between l a.at s t a.kept a.before e a.rests in (
+        record {
+          kept = a.kept;
+          at = a.at;
+          before = a.before;
+          between = b.0;
+          unfailed = a.unfailed;
+          fault = a.fault;
+          failed = a.failed;
+          count = a.count;
+          turns_are = a.turns_are;
+        },
+        b.2,
+      )
   ends_seen at_end l l' s t most turns TooManyTurns e a =
       let b = rests_between l l' s t a.0 turns e a.2 in (
         (a.0, a.1, b.0, subst (λ x. most ≤ length x) (sym b.1) a.3),

@@ -1,7 +1,7 @@
 -- What a session accepts, and that a repeat gets the reply that was given first.
 use Rattle.std.proofs.Common.{◌≡◌, ◌⊎◌, inl, inr, ℕ, suc, ◌+◌, ◌<◌, ◌≤◌, Bool, true, false, cond, not, ◌==◌, ◌&&◌}
 use Rattle.std.proofs.Common.{nat_lt, List, [], ◌∷◌, ◌++◌, length, take, position, if◌then◌else◌, refl, sym, ◌∙◌, ap}
-use Rattle.std.proofs.Common.{subst, arith, append_assoc, length-append, Option, Some, None, Result, Ok, Err}
+use Rattle.std.proofs.Common.{subst, arith, append_assoc, length-append, map, Option, Some, None, Result, Ok, Err}
 use Rattle.std.specs.List.{position_or_len}
 use Rattle.std.proofs.lemmas.List.{append-nil, take-append-le, take_at, length-map, map-append}
 use Rattle.std.proofs.lemmas.Bool.Decides.{nat_tests}
@@ -22,11 +22,12 @@ use Rattle.plain_engine.specs.declared.fault.PutFault.TheVariants as fault
 use Rattle.wire_proto.specs.Keeping.{Event, put, export}
 use Rattle.wire_proto.specs.Replies.{accepted, refused, put_reply, reply_of}
 use Rattle.wire_proto.specs.Answering.{PutsBatch, PutsCells, Answers, asked, unasked}
-use Rattle.wire_proto.specs.Sessions.{AnswersAll}
-use Rattle.wire_proto.specs.Plain.{PlainGives, FreshPuts, PutsFresh, IsPut}
+use Rattle.wire_proto.specs.Frames.{Message}
+use Rattle.wire_proto.specs.Plain.{PlainGives, IsAnswered, AreAnswered, FreshPuts, PutsFresh, GoOn, IsPut}
 use Rattle.wire_proto.proofs.DecodeLemmas.{frame_kind}
 use Rattle.wire_proto.specs.Decoding.{accepted as says_accepted, refused as says_refused}
 use Rattle.wire_proto.proofs.OneAnswer.{one_batch, never_both, put_is, one_cells_batch, never_both_cells}
+use Rattle.wire_proto.proofs.PlainLemmas.{one_more}
 use Rattle.wire_proto.specs.declared.request.Request.{Request}
 use Rattle.wire_proto.specs.declared.request.Request.TheVariants.{Put, PutCells, Cell, Row, Status, Export, Save, Stop}
 
@@ -293,28 +294,121 @@ adds v list t Save w (unasked a i) = inl ((λ x f. f), i)
 adds v list t Stop w (asked ev a h i) = absurd a
 adds v list t Stop w (unasked a i) = absurd a
 
-pub all_adds : (v : Setting) (list t : List Submission) (rs : List Request) (w : List ℕ) →
-    AnswersAll (PlainGives v) v list rs w t → (more : List Submission) × (t ≡ list ++ more) × FreshPuts v list rs more
-all_adds v list t [] w a = ([], sym a.0 ∙ sym (append-nil list), refl)
-all_adds v list t (r ∷ rs) w a = elim (adds v list a.0 r a.1 a.3) [
-  | inl same ↦
-      let more = all_adds v list t rs a.2 (subst (λ l. AnswersAll (PlainGives v) v l rs a.2 t) same.1 a.5) in
-      (more.0, more.1, inl (same.0, more.2))
-  | inr one ↦
-      let more = all_adds v (list ++ one.0 ∷ []) t rs a.2 (subst
-      (λ l. AnswersAll (PlainGives v) v l rs a.2 t) one.2 a.5) in
-      (one.0 ∷ more.0, more.1 ∙ append_assoc list (one.0 ∷ []) more.0, inr (one.0, more.0, one.1, refl, more.2))
+-- a request that is answered, and then other messages
+abbrev OneFirst : Setting → List Submission → Request → List Message → List Submission → Type 0
+OneFirst v list r ms more =
+    (((x : Submission) → PutsFresh v list r x → ⊥) × FreshPuts v list ms more)
+    ⊎ ((x : Submission) × (rest : List Submission) × PutsFresh v list r x × (more ≡ x ∷ rest) ×
+    FreshPuts v (list ++ x ∷ []) ms rest)
+
+then_adds : (v : Setting) (list m t : List Submission) (r : Request) (ms : List Message) (w : List ℕ) →
+    Answers (PlainGives v) v r w list m → (more : List Submission) × (t ≡ m ++ more) × FreshPuts v m ms more →
+    (more : List Submission) × (t ≡ list ++ more) × OneFirst v list r ms more
+then_adds v list m t r ms w h a = elim (adds v list m r w h) [
+  | inl same ↦ (
+    a.0,
+    a.1 ∙ ap (λ l. l ++ a.0) same.1,
+    inl (same.0, subst (λ l. FreshPuts v l ms a.0) same.1 a.2),
+  )
+  | inr one ↦ (
+    one.0 ∷ a.0,
+    a.1 ∙ ap (λ l. l ++ a.0) one.2 ∙ append_assoc list (one.0 ∷ []) a.0,
+    inr (one.0, a.0, one.1, refl, subst (λ l. FreshPuts v l ms a.0) one.2 a.2),
+  )
 ]
 
-pub repeat_replied : (v : Setting) (list a b t : List Submission) (c n : ℕ) (r r' : Request) (w w' between : List ℕ)
-    (rs : List Request) (k k' : Kept) → IsPut c n r → IsPut c n r' →
-    Answers (PlainGives v) v r w list a → w ≡ accepted k → AnswersAll (PlainGives v) v a rs between b →
-    Answers (PlainGives v) v r' w' b t → w' ≡ accepted k' → w ≡ w'
-repeat_replied v list a b t c n r r' w w' between rs k k' p p' one e all two e' =
-    let first = put_stored v list a c n r w k p one e in
-    let second = put_stored v b t c n r' w' k' p' two e' in
-    let grown = all_adds v a b rs between all in
-    let last = all_adds v b t (r' ∷ []) w' (t, w', [], two, sym (append-nil w'), (refl, refl)) in
+-- nothing more
+ends_here : (list t : List Submission) → t ≡ list → (more : List Submission) × (t ≡ list ++ more) × (more ≡ [])
+ends_here list t e = ([], e ∙ sym (append-nil list), refl)
+
+pub all_adds : (v : Setting) (list t : List Submission) (ms : List Message) (w : List ℕ) →
+    IsAnswered v list ms w t → (more : List Submission) × (t ≡ list ++ more) × FreshPuts v list ms more
+all_adds v list t [] w a = ends_here list t a.1
+all_adds v list t (Ok (Put c n x) ∷ ms) w a =
+    then_adds v list a.0 t (Put c n x) ms a.1 a.3 (all_adds v a.0 t ms a.2 a.5)
+all_adds v list t (Ok (PutCells c n x) ∷ ms) w a =
+    then_adds v list a.0 t (PutCells c n x) ms a.1 a.3 (all_adds v a.0 t ms a.2 a.5)
+all_adds v list t (Ok (Cell x y) ∷ ms) w a = then_adds v list a.0 t (Cell x y) ms a.1 a.3 (all_adds v a.0 t ms a.2 a.5)
+all_adds v list t (Ok (Row x) ∷ ms) w a = then_adds v list a.0 t (Row x) ms a.1 a.3 (all_adds v a.0 t ms a.2 a.5)
+all_adds v list t (Ok Status ∷ ms) w a = then_adds v list a.0 t Status ms a.1 a.3 (all_adds v a.0 t ms a.2 a.5)
+all_adds v list t (Ok Export ∷ ms) w a = then_adds v list a.0 t Export ms a.1 a.3 (all_adds v a.0 t ms a.2 a.5)
+all_adds v list t (Ok Save ∷ ms) w a = then_adds v list a.0 t Save ms a.1 a.3 (all_adds v a.0 t ms a.2 a.5)
+all_adds v list t (Ok Stop ∷ ms) w a = ends_here list t a.1
+all_adds v list t (Err f ∷ ms) w a = ends_here list t a.1
+
+-- sessions add to the list, and take nothing away
+all_grow : (v : Setting) (list t : List Submission) (sessions : List (List Message)) → AreAnswered v list sessions t →
+    (more : List Submission) × (t ≡ list ++ more)
+all_grow v list t [] e = ([], e ∙ sym (append-nil list))
+all_grow v list t (ms ∷ sessions) a =
+    let one = all_adds v list a.1 ms a.0 a.2 in
+    let rest = all_grow v a.1 t sessions a.3 in
+    (one.0 ++ rest.0, rest.1 ∙ ap (λ l. l ++ rest.0) one.1 ∙ append_assoc list one.0 rest.0)
+
+-- ---- messages that are answered in parts
+-- the first of them, which isn't a Stop
+first_answered : (v : Setting) (list t : List Submission) (r : Request) (ms : List Message) (w : List ℕ) →
+    (r ≡ Stop → ⊥) → IsAnswered v list (Ok r ∷ ms) w t →
+    (m : List Submission) × (reply : List ℕ) × (more : List ℕ) × Answers (PlainGives v) v r reply list m ×
+    (w ≡ reply ++ more) × IsAnswered v m ms more t
+first_answered v list t (Put x y z) ms w n a = a
+first_answered v list t (PutCells x y z) ms w n a = a
+first_answered v list t (Cell x y) ms w n a = a
+first_answered v list t (Row x) ms w n a = a
+first_answered v list t Status ms w n a = a
+first_answered v list t Export ms w n a = a
+first_answered v list t Save ms w n a = a
+first_answered v list t Stop ms w n a = absurd (n refl)
+
+-- requests, none of them a Stop, and then other messages
+pub parts_answered : (v : Setting) (list t : List Submission) (rs : List Request) (ms : List Message) (w : List ℕ) →
+    GoOn rs → IsAnswered v list (map (λ r. Ok r) rs ++ ms) w t →
+    (first : List ℕ) × (more : List ℕ) × (mid : List Submission) × (w ≡ first ++ more) ×
+    IsAnswered v list (map (λ r. Ok r) rs) first mid × IsAnswered v mid ms more t
+parts_answered v list t [] ms w go a = ([], w, list, refl, (refl, refl), a)
+parts_answered v list t (r ∷ rs) ms w go a =
+    let one = first_answered v list t r (map (λ r. Ok r) rs ++ ms) w go.0 a in
+    let rest = parts_answered v one.0 t rs ms one.2 go.1 one.5 in (
+      one.1 ++ rest.0,
+      rest.1,
+      rest.2,
+      one.4 ∙ ap (λ l. one.1 ++ l) rest.3 ∙ sym (append_assoc one.1 rest.0 rest.1),
+      one_more (PlainGives v) v list one.0 rest.2 r one.1 rest.0 (map (λ r. Ok r) rs) (one.1 ++ rest.0) go.0 one.3 refl
+          rest.4,
+      rest.5,
+    )
+
+-- ---- a repeat
+-- a put that is answered alone
+alone_from : (v : Setting) (list t : List Submission) (c n : ℕ) (r : Request) (w : List ℕ) (k : Kept) → IsPut c n r →
+    (m : List Submission) × (reply : List ℕ) × (more : List ℕ) × Answers (PlainGives v) v r reply list m ×
+    (w ≡ reply ++ more) × IsAnswered v m [] more t → w ≡ accepted k →
+    (k' : Kept) × (w ≡ accepted k') × Stored t c n k'
+alone_from v list t c n r w k p a e =
+    let whole : w ≡ a.1 = a.4 ∙ ap (λ l. a.1 ++ l) a.5.0 ∙ append-nil a.1 in
+    let one = put_stored v list a.0 c n r a.1 k p a.3 (sym whole ∙ e) in
+    (one.0, whole ∙ one.1, subst (λ l. Stored l c n one.0) (sym a.5.1) one.2)
+
+alone_stored : (v : Setting) (list t : List Submission) (c n : ℕ) (r : Request) (w : List ℕ) (k : Kept) → IsPut c n r →
+    IsAnswered v list (Ok r ∷ []) w t → w ≡ accepted k → (k' : Kept) × (w ≡ accepted k') × Stored t c n k'
+alone_stored v list t c n (Put x y z) w k p a e = alone_from v list t c n (Put x y z) w k p a e
+alone_stored v list t c n (PutCells x y z) w k p a e = alone_from v list t c n (PutCells x y z) w k p a e
+alone_stored v list t c n (Cell x y) w k p a e = absurd p
+alone_stored v list t c n (Row x) w k p a e = absurd p
+alone_stored v list t c n Status w k p a e = absurd p
+alone_stored v list t c n Export w k p a e = absurd p
+alone_stored v list t c n Save w k p a e = absurd p
+alone_stored v list t c n Stop w k p a e = absurd p
+
+pub repeat_replied : (v : Setting) (list a b t : List Submission) (c n : ℕ) (r r' : Request) (w w' : List ℕ)
+    (between : List (List Message)) (k k' : Kept) → IsPut c n r → IsPut c n r' →
+    IsAnswered v list (Ok r ∷ []) w a → w ≡ accepted k → AreAnswered v a between b →
+    IsAnswered v b (Ok r' ∷ []) w' t → w' ≡ accepted k' → w ≡ w'
+repeat_replied v list a b t c n r r' w w' between k k' p p' one e all two e' =
+    let first = alone_stored v list a c n r w k p one e in
+    let second = alone_stored v b t c n r' w' k' p' two e' in
+    let grown = all_grow v a b between all in
+    let last = all_adds v b t (Ok r' ∷ []) w' two in
     let s = stored_more b last.0 c n first.0 (subst (λ l. Stored l c n first.0) (sym grown.1)
     (stored_more a grown.0 c n first.0 first.2)) in
     let same = stored_once t c n first.0 second.0 (subst (λ l. Stored l c n first.0) (sym last.1) s) second.2 in

@@ -3,6 +3,7 @@ use Rattle.std.proofs.Common.{◌≡◌, ℕ, ◌+◌, ◌<◌, ◌≤◌, List,
 use Rattle.std.proofs.Common.{append_assoc, length-append, Some, None, Result, Ok, Err, IfOk, IfErr}
 use Rattle.std.proofs.lemmas.List.{append-nil}
 use Rattle.byte_io.specs.Streams.{Answer}
+use Rattle.byte_io.specs.declared.fault.DeviceFault.{DeviceFault}
 use Rattle.batch_store.specs.Setups.{Setting}
 use Rattle.wire_proto.specs.Frames.{front, Gives, NextGives}
 use Rattle.wire_proto.specs.declared.request.Request.{Request}
@@ -15,7 +16,7 @@ use Rattle.wire_proto.specs.Replies.{refused, fault_code}
 use Rattle.wire_proto.specs.Answering.{Answers}
 use Rattle.wire_proto.specs.Sessions.{gave, bytes_given, Talks, AnswersAll, Stands, unasked, NextReply}
 use Rattle.wire_proto.specs.Sessions.{answer as answered, bad, out, LastReply, Carries, CarriesToEnd, TurnEnds, Says}
-use Rattle.wire_proto.specs.Sessions.{Rests, Stops, Ends, OneEnds, says, breaks, OneAnswered}
+use Rattle.wire_proto.specs.Sessions.{Rests, FailsToRead, Stops, Ends, OneEnds, says, breaks, OneAnswered}
 use Rattle.wire_proto.specs.declared.ended.Ended.{Ended}
 use Rattle.wire_proto.specs.declared.ended.Ended.TheVariants.{Closed, ReadFault, WriteFault, BadFrame, Memory, Stopped}
 use Rattle.wire_proto.specs.declared.ended.Ended.TheVariants.{TooManyTurns}
@@ -245,6 +246,23 @@ module _ {L S : Type 0} (reads : L → Answer → L → Type 0) (writes : L → 
     },
     a.each_gave,
   )
+
+  -- a read that failed
+  pub fails_to_read : (l0 l l' : L) (s0 s : S) (kept : List ℕ) (written turns : ℕ) (fault : DeviceFault) →
+      reads l (Err fault) l' → failures l' ≡ failures l + 1 → front kept ≡ None →
+      Stands reads writes failures gives setup l0 l s0 s kept written turns →
+      FailsToRead reads writes failures gives setup l0 l' s0 s (turns + 1)
+  fails_to_read l0 l l' s0 s kept written turns fault h failed none a = record {
+    kept = kept;
+    at = l;
+    before = turns;
+    rests = (stands_rests l0 l s0 s kept written turns none a).0;
+    unfailed = a.none_failed;
+    fault = fault;
+    failed = h;
+    count = failed ∙ ap (λ n. n + 1) a.none_failed;
+    turns_are = refl;
+  }
 
   pub stops_ends : (at_end : L → Type 0) (l l' : L) (s s' : S) (most turns : ℕ) (e : Ended) →
       Stops reads writes failures gives setup l l' s s' turns e →

@@ -4,10 +4,12 @@
 --                         a bad header as the last
 --     IsAnswered          the same over the engine of one thread: of the list before and the messages, the bytes and
 --                         the list after are a function
---     FreshPuts           the batches that requests add to the list: each that was fresh, in order, once
+--     AreAnswered         so do the messages of one session after another, whatever the bytes
+--     FreshPuts           the batches that messages add to the list: each that was fresh, in order, once
 --     EndsPlain           how a session over it ends, by cases
 use Rattle.std.specs.Prelude.{◌≡◌, ◌⊎◌, ℕ, ◌+◌, ◌<◌, ◌≤◌, List, [], ◌∷◌, ◌++◌, length, take, map, None, Ok, Err}
 use Rattle.byte_io.specs.Streams.{Answer}
+use Rattle.byte_io.specs.declared.fault.DeviceFault.{DeviceFault}
 use Rattle.byte_io.specs.Writing.{HasStopped}
 use Rattle.batch_store.specs.Setups.{Setting}
 use Rattle.batch_store.specs.Batches.{Submission}
@@ -46,19 +48,28 @@ AnswersMessages gives setup s (Err fault ∷ ms) bytes t = (bytes ≡ refused (f
 abbrev pub IsAnswered : Setting → List Submission → List Message → List ℕ → List Submission → Type 0
 IsAnswered v list ms bytes after = AnswersMessages (PlainGives v) v list ms bytes after
 
+-- the messages of sessions, one after another, are answered, and lead from a list to a list
+abbrev pub AreAnswered : Setting → List Submission → List (List Message) → List Submission → Type 0
+AreAnswered v list [] after = after ≡ list
+AreAnswered v list (ms ∷ sessions) after =
+    (bytes : List ℕ) × (mid : List Submission) × IsAnswered v list ms bytes mid × AreAnswered v mid sessions after
+
 -- the request puts this batch, which is fresh
 abbrev pub PutsFresh : Setting → List Submission → Request → Submission → Type 0
 PutsFresh v list (Put client n bytes) batch = PutsBatch v client n bytes batch × (verdict_in v list batch ≡ Fresh)
 PutsFresh v list (PutCells client n bytes) batch = PutsCells v client n bytes batch × (verdict_in v list batch ≡ Fresh)
 PutsFresh v list r batch = ⊥
 
--- These requests, one after another, add just these batches to the list: each puts one that is fresh, or none.
-abbrev pub FreshPuts : Setting → List Submission → List Request → List Submission → Type 0
+-- These messages, one after another, add just these batches to the list: each puts one that is fresh, or none. A Stop
+-- and a bad header are the last.
+abbrev pub FreshPuts : Setting → List Submission → List Message → List Submission → Type 0
 FreshPuts v list [] more = more ≡ []
-FreshPuts v list (r ∷ rs) more =
-    (((batch : Submission) → PutsFresh v list r batch → ⊥) × FreshPuts v list rs more)
+FreshPuts v list (Ok Stop ∷ ms) more = more ≡ []
+FreshPuts v list (Ok r ∷ ms) more =
+    (((batch : Submission) → PutsFresh v list r batch → ⊥) × FreshPuts v list ms more)
     ⊎ ((batch : Submission) × (rest : List Submission) × PutsFresh v list r batch × (more ≡ batch ∷ rest) ×
-    FreshPuts v (list ++ batch ∷ []) rs rest)
+    FreshPuts v (list ++ batch ∷ []) ms rest)
+FreshPuts v list (Err fault ∷ ms) more = more ≡ []
 
 -- a put under this client and this number, of a text or of cells
 abbrev pub IsPut : ℕ → ℕ → Request → Type 0
@@ -88,6 +99,18 @@ module _ {L : Type 0} (reads : L → Answer → L → Type 0) (writes : L → Li
     pub cut : Gives exchange.given requests kept
     pub none : front kept ≡ None
     pub go_on : GoOn requests
+
+  -- The same, of a session that stood so with no call failed, and whose last call was a read that failed.
+  pub record FailsToRead (l l' : L) (list after : List Submission) (turns : ℕ) : Type 0 where
+    pub kept : List ℕ
+    pub at : L
+    pub before : ℕ
+    pub between : Between l at list after kept before
+    pub unfailed : failures at ≡ failures l
+    pub fault : DeviceFault
+    pub failed : reads at (Err fault) l'
+    pub count : failures l' ≡ failures l + 1
+    pub turns_are : turns ≡ before + 1
 
   -- The same, of a session whose last message is this one.
   pub record WithLast (l l' : L) (list after : List Submission) (turns : ℕ) (last : Message) : Type 0 where
@@ -132,8 +155,7 @@ module _ {L : Type 0} (reads : L → Answer → L → Type 0) (writes : L → Li
   abbrev pub EndsPlain : (L → Type 0) → L → L → List Submission → List Submission → ℕ → ℕ → Ended → Type 0
   EndsPlain at_end l l' list after most turns (Closed rest) =
       (kept : List ℕ) × (length kept ≡ rest) × at_end l' × Between l l' list after kept turns
-  EndsPlain at_end l l' list after most turns ReadFault =
-      (kept : List ℕ) × (failures l' ≡ failures l + 1) × Between l l' list after kept turns
+  EndsPlain at_end l l' list after most turns ReadFault = FailsToRead l l' list after turns
   EndsPlain at_end l l' list after most turns TooManyTurns =
       (kept : List ℕ) × (turns ≡ most) × (b : Between l l' list after kept turns) × (most ≤ length b.exchange.given)
   EndsPlain at_end l l' list after most turns Stopped = WithLast l l' list after turns (Ok Stop)

@@ -4,12 +4,14 @@
 --     Stands          a session under way, between two replies
 --     NextReply       a reply that may come next; LastReply: with which a session ends so
 --     Rests           a session that ended between two replies
+--     FailsToRead     a session that stood between two replies, and whose last call was a read that failed
 --     Says            a session whose last reply was taken whole
 --     Breaks          a session that ended in the middle of a reply, since the link refused to take more
 --     Ends            how a session ends, by cases
 -- A reader of `serve`'s contract reads Ends first.
 use Rattle.std.specs.Prelude.{◌≡◌, ℕ, ◌+◌, ◌<◌, ◌≤◌, List, [], ◌∷◌, ◌++◌, length, take, Some, None, Ok, Err}
 use Rattle.byte_io.specs.Streams.{Answer}
+use Rattle.byte_io.specs.declared.fault.DeviceFault.{DeviceFault}
 use Rattle.byte_io.specs.Writing.{HasTaken, HasStopped}
 use Rattle.batch_store.specs.Setups.{Setting}
 use Rattle.wire_proto.specs.Frames.{front, Gives}
@@ -169,6 +171,18 @@ module _ {L S : Type 0} (reads : L → Answer → L → Type 0) (writes : L → 
     pub none : front kept ≡ None
     pub answered : AnswersAll gives setup s requests replies s'
 
+  -- The session stood between two replies with no call failed, and then a read failed, which was the last call.
+  pub record FailsToRead (l l' : L) (s s' : S) (turns : ℕ) : Type 0 where
+    pub kept : List ℕ
+    pub at : L
+    pub before : ℕ
+    pub rests : Rests l at s s' kept before
+    pub unfailed : failures at ≡ failures l
+    pub fault : DeviceFault
+    pub failed : reads at (Err fault) l'
+    pub count : failures l' ≡ failures l + 1
+    pub turns_are : turns ≡ before + 1
+
   -- how a session ends that says something last
   abbrev pub Stops : L → L → S → S → ℕ → Ended → Type 0
   Stops l l' s s' turns (WriteFault n) = Breaks l l' s s' turns n
@@ -178,8 +192,7 @@ module _ {L S : Type 0} (reads : L → Answer → L → Type 0) (writes : L → 
   abbrev pub Ends : (L → Type 0) → L → L → S → S → ℕ → ℕ → Ended → Type 0
   Ends at_end l l' s s' most turns (Closed rest) = (kept : List ℕ) × (length kept ≡ rest) × at_end l' ×
       Rests l l' s s' kept turns
-  Ends at_end l l' s s' most turns ReadFault = (kept : List ℕ) × (failures l' ≡ failures l + 1) ×
-      Rests l l' s s' kept turns
+  Ends at_end l l' s s' most turns ReadFault = FailsToRead l l' s s' turns
   Ends at_end l l' s s' most turns TooManyTurns = (kept : List ℕ) × (turns ≡ most) × (r : Rests l l' s s' kept turns) ×
       (most ≤ length r.given)
   Ends at_end l l' s s' most turns ended = Stops l l' s s' turns ended

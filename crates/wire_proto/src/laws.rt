@@ -3,8 +3,7 @@ ghost use Rattle.std.specs.Prelude.{◌≡◌, ◌≢◌, ℕ, All, List, [], �
 ghost use Rattle.wire_proto.specs.Frames.{Message, HasFrame, request_frame, front, Gives, frames, messages};
 ghost use Rattle.wire_proto.specs.CellBytes.{cells_of, spelled_cells, FitsBytes};
 ghost use Rattle.cells.specs.declared.cell.Cell.{Cell};
-ghost use Rattle.wire_proto.specs.Plain.{IsAnswered, PlainGives, FreshPuts, IsPut};
-ghost use Rattle.wire_proto.specs.Answering.{Answers};
+ghost use Rattle.wire_proto.specs.Plain.{IsAnswered, AreAnswered, FreshPuts, GoOn, IsPut};
 ghost use Rattle.wire_proto.specs.Replies.{accepted};
 ghost use Rattle.batch_store.specs.declared.verdict.Kept.{Kept};
 ghost use Rattle.batch_store.specs.Batches.{Submission};
@@ -75,20 +74,28 @@ pub fn messages_have_one_answer()
 
 /// What a session adds to the accepted list: the batches of its puts that were fresh, in order, each once.
 pub fn sessions_accept_fresh_batches()
-    ensures { (setup : Setting) (list after : List Submission) (requests : List Request) (replies : List ℕ) →
-        AnswersAll (PlainGives setup) setup list requests replies after →
-        (more : List Submission) × (after ≡ list ++ more) × FreshPuts setup list requests more }
+    ensures { (setup : Setting) (list after : List Submission) (ms : List Message) (bytes : List ℕ) →
+        IsAnswered setup list ms bytes after →
+        (more : List Submission) × (after ≡ list ++ more) × FreshPuts setup list ms more }
 {}
 
-/// Two puts with one client and one number, of texts or of cells, that are both answered Accepted, in one session or in
-/// two, get the same bytes.
+/// The answers to some requests and then to other messages are those to the requests, and behind them those to the
+/// others over the list that the requests left. So each message of a session has its own reply.
+pub fn messages_are_answered_in_parts()
+    ensures { (setup : Setting) (list after : List Submission) (requests : List Request) (ms : List Message)
+        (bytes : List ℕ) → GoOn requests → IsAnswered setup list (map (λ r. Ok r) requests ++ ms) bytes after →
+        (first : List ℕ) × (more : List ℕ) × (mid : List Submission) × (bytes ≡ first ++ more)
+        × IsAnswered setup list (map (λ r. Ok r) requests) first mid × IsAnswered setup mid ms more after }
+{}
+
+/// Two puts with one client and one number, of texts or of cells, that are both answered Accepted get the same bytes,
+/// whatever messages were answered between them, in one session or in several.
 pub fn repeats_get_their_reply()
     ensures { (setup : Setting) (list mid later after : List Submission) (client number : ℕ)
-        (put again : Request) (first second between : List ℕ) (requests : List Request) (kept kept' : Kept) →
+        (put again : Request) (first second : List ℕ) (between : List (List Message)) (kept kept' : Kept) →
         IsPut client number put → IsPut client number again →
-        Answers (PlainGives setup) setup put first list mid → first ≡ accepted kept →
-        AnswersAll (PlainGives setup) setup mid requests between later →
-        Answers (PlainGives setup) setup again second later after →
-        second ≡ accepted kept' →
+        IsAnswered setup list (Ok put ∷ []) first mid → first ≡ accepted kept →
+        AreAnswered setup mid between later →
+        IsAnswered setup later (Ok again ∷ []) second after → second ≡ accepted kept' →
         first ≡ second }
 {}

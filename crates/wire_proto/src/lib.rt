@@ -5,6 +5,12 @@
 //! loop of one session: it reads, answers every whole request in order, and ends when the link does, at a bad header,
 //! at a `Stop`, or where memory or the link refuses. It works over any `Keeper`, a store that answers calls, and over
 //! any link; what it does is a run of the keeper (specs/Sessions.antt), and whatever the keeper keeps is kept.
+//!
+//! A session has one buffer and one piece of 64 KiB for its reads. A frame's bytes are copied into the buffer once, and
+//! a put's text is read where it lies; replies but texts are made on the stack, and a text is written by a walk over
+//! the matrix's cells, behind another for its length. A client that got no reply sends its put again under the same
+//! two numbers, as calls are repeated in remote procedure calls (Birrell and Nelson, 1984, "Implementing Remote
+//! Procedure Calls").
 #![tactic(auto)]
 
 mod answering;
@@ -31,8 +37,8 @@ pub use frames::Frames;
 pub use keeper::{Keeper, SaveRefusal};
 pub use laws::{
     bad_headers_stay, cells_are_read_again, frames_are_read_again, frames_come_in_any_pieces,
-    messages_have_one_answer, repeats_get_their_reply, sessions_accept_fresh_batches,
-    sessions_answer_messages,
+    messages_are_answered_in_parts, messages_have_one_answer, repeats_get_their_reply,
+    sessions_accept_fresh_batches, sessions_answer_messages,
 };
 pub use plain::{PlainKeeper, serve_engine};
 pub use request::{EncodeFault, FrameFault, Request, encode_request};

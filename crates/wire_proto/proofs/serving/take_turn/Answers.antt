@@ -3,15 +3,12 @@ use Rattle.std.proofs.Common.{IfErr, subst}
 use Rattle.wire_proto.specs.Sessions.{Carries, CarriesToEnd}
 use Rattle.std.proofs.lemmas.List.{length-take-le}
 use Rattle.wire_proto.proofs.LinkLemmas.{none_given}
-use Rattle.wire_proto.proofs.SessionLemmas.{rests_read, carries_turn, ends_turn}
+use Rattle.wire_proto.proofs.SessionLemmas.{fails_to_read, rests_read, carries_turn, ends_turn}
 use Rattle.wire_proto.proofs.serving.take_turn.Goals as goal
 
 pub returns-in-Err-clause-err : goal.returns-in-Err-clause-err
-returns-in-Err-clause-err g c = λ l0 s0 turns most st. (
-  c.args.frames.now,
-  c.in-Err.ensures.err ∙ ap (λ n. n + 1) st.none_failed,
-  rests_read _ _ _ _ _ _ _ _ _ _ _ _ _ (Err _) refl c.in-Err.ensures.gives c.requires.none st,
-)
+returns-in-Err-clause-err g c = λ l0 s0 turns most st.
+    fails_to_read _ _ _ _ _ _ _ _ _ _ _ _ _ _ c.in-Err.ensures.gives c.in-Err.ensures.err c.requires.none st
 
 pub returns-in-Ok-eq0-clause-err : goal.returns-in-Ok-eq0-clause-err
 returns-in-Ok-eq0-clause-err g c = λ l0 s0 turns most st. (
