@@ -1,6 +1,6 @@
 -- A call of a keeper and the reply that it leads to.
-use Rattle.std.proofs.Common.{◌≡◌, ℕ, ◌<◌, ◌≤◌, List, length, refl, sym, ap, Option, Some, Result, Ok}
-use Rattle.std.proofs.lemmas.Bool.{lt-ltb, le-ltb}
+use Rattle.std.proofs.Common.{◌≡◌, ℕ, ◌<◌, ◌≤◌, List, length, refl, sym, ap, Option, Some, Result, Ok, inl, inr, lit≤, arith}
+use Rattle.std.proofs.lemmas.Bool.{lt-ltb, le-ltb, cases_lt}
 use Rattle.hyper_rows.specs.declared.search.RowSum.{RowSum}
 use Rattle.wire_proto.specs.Keeping.{Event, cell, row, status, export, save}
 use Rattle.wire_proto.specs.Replies.{value, row_sum, counts, save_reply, text, text_reply, refused}
@@ -9,6 +9,7 @@ use Rattle.wire_proto.specs.Answering.{Answers, asked}
 use Rattle.hyper_matrix.specs.Matrix.{Matrix}
 use Rattle.wire_proto.specs.declared.request.Request.TheVariants.{Cell as CellAt, Row, Status, Export, Save}
 use Rattle.batch_store.specs.Setups.{Setting}
+use Rattle.wire_proto.proofs.SendLemmas.{length_text}
 use Rattle.plain_engine.specs.declared.status.Status.{Status as Counted}
 use Rattle.wire_proto.specs.declared.keeper.SaveRefusal.{SaveRefusal}
 
@@ -46,3 +47,10 @@ text_carried bytes short = rw (le-ltb 67108864 (length bytes) short) refl
 pub text_refused : (bytes reply : List ℕ) → 67108864 < length bytes → reply ≡ refused 40 0 → reply ≡ text_reply bytes
 unfolding text_reply
 text_refused bytes reply long e = rw (lt-ltb 67108864 (length bytes) long) e
+
+pub text_reply_short : (bytes : List ℕ) → length (text_reply bytes) ≤ 134217728
+unfolding text_reply
+text_reply_short bytes = elim (cases_lt 67108864 (length bytes)) [
+  | inl long ↦ rw (lt-ltb 67108864 (length bytes) long) (lit≤ tt)
+  | inr short ↦ rw (le-ltb 67108864 (length bytes) short) (omega (arith, length_text bytes))
+]

@@ -53,3 +53,12 @@ length_begins m rows cols count first left dims counted is e =
     let head = length-append (codes "%%MatrixMarket matrix coordinate integer general" ++ 10 ∷ [])
     (numbers_line rows cols count) in
     omega (arith, whole, parts, head, banner, e)
+
+-- the line of one cell more is counted
+pub length_more : (sum all n : ℕ) (left rest : List (Place × ℕ)) (cell : Cell) → left ≡ entry_of cell ∷ rest →
+    sum + length (entry_lines (map cell_of left)) ≡ all → n ≡ length (entry_line cell) →
+    (sum + n) + length (entry_lines (map cell_of rest)) ≡ all
+length_more sum all n left rest cell is told e =
+    let lines = ap (λ (es : List (Place × ℕ)). length (entry_lines (map cell_of es))) is in
+    let parts = length-append (entry_line cell) (entry_lines (map cell_of rest)) in
+    omega (arith, lines, parts, told, e)

@@ -6,7 +6,6 @@ pub mod MatrixText
 pub mod Replies
 pub mod Answering
 pub mod PutTexts
-pub mod Spelled
 pub mod Closing
 pub mod Sessions
 pub mod Plain

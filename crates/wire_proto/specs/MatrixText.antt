@@ -1,6 +1,6 @@
 -- The canonical text of a matrix: its cells by row and then by column.
-use Rattle.std.specs.Prelude.{ℕ, List, map}
-use Rattle.std.specs.FinMap.{entries}
+use Rattle.std.specs.Prelude.{◌≡◌, ℕ, ◌≤◌, List, length, map}
+use Rattle.std.specs.FinMap.{entries, len}
 use Rattle.cells.specs.declared.cell.Cell.{Cell}
 use Rattle.mm_text.specs.Canonical.{canonical}
 use Rattle.hyper_matrix.specs.Counts.{Place, Counts}
@@ -15,3 +15,7 @@ cells_in_order counts = map cell_of (entries counts)
 
 unfoldable pub matrix_text : Matrix → List ℕ
 matrix_text m = canonical m.rows m.cols (cells_in_order m.counts)
+
+-- the bytes of a text that a body can carry, and the cells of the matrix
+abbrev pub IsSizeOf : Matrix → ℕ → ℕ → Type 0
+IsSizeOf m bytes cells = (bytes ≡ length (matrix_text m)) × (bytes ≤ 67108864) × (cells ≡ len m.counts)

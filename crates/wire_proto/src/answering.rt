@@ -12,9 +12,36 @@ use crate::frames::Frames;
 use crate::keeper::Keeper;
 use crate::replies::{refused, stopping};
 use crate::request::{FrameFault, Request};
-use crate::sending::{close, send_reply};
+use crate::sending::{close, send_reply, send_sum};
 use byte_io::{Link, Sink};
 use std::alloc::Global;
+
+/// Answers an Export: its text, its refusal as too large, or that memory ran out.
+fn answer_export<L: Sink, K: Keeper>(
+    alloc: Global,
+    link: &mut L,
+    keeper: &mut K,
+    written: u128,
+) -> Result<u128, Ended>
+    requires ready { L.failure_count link.old + 1 < 2 ^ 64 }
+    requires fact { K.fact keeper.old }
+    requires room { written + 2 ^ 27 < 2 ^ 128 }
+    ensures ok { IfOk result (λ w. OneAnswered L.write_takes L.failure_count K.gives
+        (K.setup_of keeper.old) Request.Export link.old link.new keeper.old keeper.new written w) }
+    ensures err { IfErr result (λ e. (kept rest : List ℕ) → front kept ≡ Some (Ok Request.Export, rest) →
+        OneEnds L.write_takes L.failure_count K.gives
+        (K.setup_of keeper.old) kept link.old link.new keeper.old keeper.new written e) }
+    ensures fact { K.fact keeper.new }
+    ensures setup { K.setup_of keeper.new ≡ K.setup_of keeper.old }
+{
+    let Ok(sum) = keeper.export(alloc) else {
+        return Err(close(link, &refused(1, 0), written, Ended::Memory));
+    };
+    match send_sum(alloc, link, &sum, written) {
+        Ok(sent) => sent,
+        Err(_) => Err(close(link, &refused(1, 0), written, Ended::Memory)),
+    }
+}
 
 /// Answers one request, and gives how many bytes are written then.
 pub fn answer<L: Sink, K: Keeper>(
@@ -37,6 +64,9 @@ pub fn answer<L: Sink, K: Keeper>(
 {
     if let Request::Stop = &request {
         return Err(close(link, &stopping(), written, Ended::Stopped));
+    }
+    if let Request::Export = &request {
+        return answer_export(alloc, link, keeper, written);
     }
     match ask(alloc, keeper, request) {
         Ok(reply) => send_reply(link, &reply, written),

@@ -1,28 +1,17 @@
 //! Asks the keeper what a request asks, and spells the reply.
 ghost use Rattle.std.specs.Prelude.{◌≡◌, ◌≢◌, ℕ, ◌+◌, ◌<◌, ◌≤◌, Some, None, IfOk, OnErr};
-ghost use Rattle.wire_proto.specs.MatrixText.{matrix_text};
-ghost use Rattle.wire_proto.specs.Replies.{put_reply, text_reply};
+ghost use Rattle.wire_proto.specs.Replies.{put_reply};
 ghost use Rattle.wire_proto.specs.Answering.{Answers, RunsOut};
-ghost use Rattle.wire_proto.specs.Spelled.{spelled, fits_reply};
 
 use crate::cell_bodies::batch_of_cells;
-use crate::exporting::text_length;
 use crate::keeper::{Keeper, SaveRefusal};
 use crate::replies::{Short, accepted, counts, refused, row_sum, saved, value};
 use crate::request::Request;
 use crate::texts::{PutRefusal, batch_of};
 use batch_store::Kept;
 use bytes::Bytes;
-use hyper_matrix::Hyper;
 use plain_engine::PutFault;
 use std::alloc::{AllocError, Global};
-
-/// What is sent: a short reply, or the text of a matrix with its length.
-#[derive(Drop)]
-pub enum Spelled {
-    Short(Short),
-    Text { matrix: Hyper, len: u32 },
-}
 
 pub fn ask_cell<K: Keeper>(keeper: &mut K, row: u64, col: u64) -> Short
     requires { K.fact keeper.old }
@@ -74,32 +63,6 @@ pub fn ask_save<K: Keeper>(alloc: Global, keeper: &mut K) -> Result<Short, Alloc
     }
 }
 
-/// The reply that carries the text of a matrix, or refuses it as too large.
-fn reply_to_export(matrix: Hyper) -> Spelled
-    ensures reply { spelled result ≡ text_reply (matrix_text matrix) }
-    ensures short { fits_reply result }
-{
-    match text_length(&matrix) {
-        Some(len) => Spelled::Text { matrix, len },
-        None => Spelled::Short(refused(40, 0)),
-    }
-}
-
-pub fn ask_export<K: Keeper>(alloc: Global, keeper: &mut K) -> Result<Spelled, AllocError>
-    requires { K.fact keeper.old }
-    ensures reply { IfOk result (λ s. Answers K.gives (K.setup_of keeper.old) Request.Export
-        (spelled s) keeper.old keeper.new) }
-    ensures short { IfOk result (λ s. fits_reply s) }
-    ensures none { OnErr result (RunsOut K.gives (K.setup_of keeper.old) Request.Export keeper.old keeper.new) }
-    ensures fact { K.fact keeper.new }
-    ensures setup { K.setup_of keeper.new ≡ K.setup_of keeper.old }
-{
-    match keeper.export(alloc) {
-        Ok(matrix) => Ok(reply_to_export(matrix)),
-        Err(error) => Err(error),
-    }
-}
-
 /// The reply to a put that the keeper answered; an Err where memory ran out.
 fn reply_to_put(answer: Result<Kept, PutFault>) -> Result<Short, AllocError>
     ensures reply { IfOk result (λ short. put_reply answer ≡ Some short.items) }
@@ -141,43 +104,13 @@ pub fn ask_put<K: Keeper>(
     }
 }
 
-pub fn ask_put_cells<K: Keeper>(
-    alloc: Global,
-    keeper: &mut K,
-    client: u64,
-    number: u64,
-    cells: Bytes,
-) -> Result<Short, AllocError>
-    requires { K.fact keeper.old }
-    ensures reply { IfOk result (λ short. Answers K.gives (K.setup_of keeper.old)
-        (Request.PutCells client number cells) short.items keeper.old keeper.new) }
-    ensures none { OnErr result (RunsOut K.gives (K.setup_of keeper.old)
-        (Request.PutCells client number cells) keeper.old keeper.new) }
-    ensures fact { K.fact keeper.new }
-    ensures setup { K.setup_of keeper.new ≡ K.setup_of keeper.old }
-{
-    let setup = keeper.setup();
-    match batch_of_cells(alloc, &setup, client, number, cells) {
-        Err(PutRefusal::Memory) => Err(AllocError),
-        Err(PutRefusal::Refused { code, detail }) => Ok(refused(code, detail)),
-        Ok(batch) => {
-            let answer = keeper.put(alloc, batch);
-            reply_to_put(answer)
-        }
-    }
-}
-
-/// Asks what a request asks, but for a Stop.
-pub fn ask<K: Keeper>(
-    alloc: Global,
-    keeper: &mut K,
-    request: Request,
-) -> Result<Spelled, AllocError>
+/// Asks what a request asks that is answered in a few bytes: all but an Export and a Stop.
+pub fn ask<K: Keeper>(alloc: Global, keeper: &mut K, request: Request) -> Result<Short, AllocError>
     requires fact { K.fact keeper.old }
+    requires short { request ≢ Request.Export }
     requires goes_on { request ≢ Request.Stop }
-    ensures reply { IfOk result (λ s. Answers K.gives (K.setup_of keeper.old) request
-        (spelled s) keeper.old keeper.new) }
-    ensures short { IfOk result (λ s. fits_reply s) }
+    ensures reply { IfOk result (λ short. Answers K.gives (K.setup_of keeper.old) request
+        short.items keeper.old keeper.new) }
     ensures none { OnErr result (RunsOut K.gives (K.setup_of keeper.old) request keeper.old keeper.new) }
     ensures fact { K.fact keeper.new }
     ensures setup { K.setup_of keeper.new ≡ K.setup_of keeper.old }
@@ -187,17 +120,16 @@ pub fn ask<K: Keeper>(
             client,
             number,
             text,
-        } => Ok(Spelled::Short(ask_put(alloc, keeper, client, number, text)?)),
-        Request::Cell { row, col } => Ok(Spelled::Short(ask_cell(keeper, row, col))),
-        Request::Row { row } => Ok(Spelled::Short(ask_row(keeper, row))),
-        Request::Status => Ok(Spelled::Short(ask_status(keeper))),
-        Request::Export => ask_export(alloc, keeper),
-        Request::Save => Ok(Spelled::Short(ask_save(alloc, keeper)?)),
-        Request::Stop => unreachable!(),
+        } => ask_put(alloc, keeper, client, number, text),
         Request::PutCells {
             client,
             number,
             cells,
-        } => Ok(Spelled::Short(ask_put_cells(alloc, keeper, client, number, cells)?)),
+        } => ask_put_cells(alloc, keeper, client, number, cells),
+        Request::Cell { row, col } => Ok(ask_cell(keeper, row, col)),
+        Request::Row { row } => Ok(ask_row(keeper, row)),
+        Request::Status => Ok(ask_status(keeper)),
+        Request::Save => ask_save(alloc, keeper),
+        Request::Export | Request::Stop => unreachable!(),
     }
 }

@@ -1,13 +1,16 @@
 //! What a session asks of the store behind it.
 ghost use Rattle.std.specs.Prelude.{◌≡◌, ◌<◌};
+ghost use Rattle.std.specs.Prelude.{Ok, Err};
 ghost use Rattle.std.specs.Arc.{arc_value};
+ghost use Rattle.std.specs.declared.alloc.AllocError.{AllocError};
+ghost use Rattle.hyper_matrix.specs.Matrix.{Matrix};
 ghost use Rattle.batch_store.specs.Setups.{Setting};
 ghost use Rattle.wire_proto.specs.Keeping.{Event, put as putting, cell as looking, row as summing, status as counting};
 ghost use Rattle.wire_proto.specs.Keeping.{export as exporting, save as saving};
 
 use batch_store::{Batch, Kept, Setup};
-use hyper_matrix::{Hyper, RowSum};
-use plain_engine::{PutFault, Status};
+use hyper_matrix::RowSum;
+use plain_engine::{PutFault, Status, ViewedSum};
 use std::alloc::{AllocError, Global};
 use std::sync::Arc;
 
@@ -74,12 +77,12 @@ pub trait Keeper {
         ensures fact { fact self.new }
         ensures setup { setup_of self.new ≡ setup_of self.old };
 
-    /// The sum of all batches.
+    /// The sum of all batches, as a view of it, whose cells aren't added up before a session goes through them.
     ///
     /// # Errors
     ///
     /// A growth was refused.
-    fn export(&mut self, alloc: Global) -> Result<Hyper, AllocError>
+    fn export(&mut self, alloc: Global) -> Result<ViewedSum, AllocError>
         requires fact { fact self.old }
         ensures gives { gives self.old (exporting result) self.new }
         ensures fact { fact self.new }
@@ -91,4 +94,8 @@ pub trait Keeper {
         ensures gives { gives self.old (saving result) self.new }
         ensures fact { fact self.new }
         ensures setup { setup_of self.new ≡ setup_of self.old };
+
+    // To go through an exported sum takes memory too. Where that is refused it is as if the export had been.
+    ghost may_lack: { (s t : Self) (m : Matrix) (e : AllocError) → gives s (exporting (Ok m)) t →
+        gives s (exporting (Err e)) t };
 }

@@ -7,8 +7,8 @@ use crate::keeper::{Keeper, SaveRefusal};
 use crate::serving::serve;
 use batch_store::{Batch, Kept, Setup};
 use byte_io::Link;
-use hyper_matrix::{Hyper, RowSum};
-use plain_engine::{PlainEngine, PutFault, Status};
+use hyper_matrix::RowSum;
+use plain_engine::{PlainEngine, PutFault, Status, ViewedSum};
 use std::alloc::{AllocError, Global};
 use std::sync::Arc;
 
@@ -40,6 +40,8 @@ impl<'a> Keeper for PlainKeeper<'a> {
 
     ghost setup_of = { λ s. s.engine.now.setup };
 
+    ghost may_lack = { λ s t m e h. (h.0, h.1, h.2.1) };
+
     fn setup(&self) -> Setup {
         self.engine.setup()
     }
@@ -60,8 +62,8 @@ impl<'a> Keeper for PlainKeeper<'a> {
         self.engine.status()
     }
 
-    fn export(&mut self, alloc: Global) -> Result<Hyper, AllocError> {
-        self.engine.export(alloc)
+    fn export(&mut self, alloc: Global) -> Result<ViewedSum, AllocError> {
+        self.engine.viewed(alloc)
     }
 
     fn save(&mut self, _alloc: Global) -> Result<u64, SaveRefusal> {

@@ -1,16 +1,17 @@
 //! Sends replies.
-ghost use Rattle.std.specs.Prelude.{◌≡◌, ◌+◌, ◌<◌, ◌≤◌, ◌^◌, length};
-ghost use Rattle.wire_proto.specs.Spelled.{spelled, fits_reply};
+ghost use Rattle.std.specs.Prelude.{◌≡◌, ◌+◌, ◌<◌, ◌≤◌, ◌^◌, length, IfOk, OnErr};
+ghost use Rattle.merged_cells.specs.Within.{LieWithin};
 ghost use Rattle.wire_proto.specs.Closing.{Closes, Sends};
-ghost use Rattle.wire_proto.specs.MatrixText.{matrix_text};
-ghost use Rattle.wire_proto.specs.Replies.{text as text_of};
+ghost use Rattle.wire_proto.specs.MatrixText.{matrix_text, IsSizeOf};
+ghost use Rattle.wire_proto.specs.Replies.{text as text_of, text_reply};
 
-use crate::asking::Spelled;
 use crate::ended::Ended;
-use crate::exporting::write_text;
-use crate::replies::{Short, text_head};
+use crate::exporting::{TextSize, text_size, write_text};
+use crate::replies::{Short, refused, text_head};
 use byte_io::{Sink, write_all};
-use hyper_matrix::Hyper;
+use merged_cells::MergedCells;
+use plain_engine::ViewedSum;
+use std::alloc::{AllocError, Global};
 
 /// Writes bytes, and gives how many the session has written with them.
 fn send<L: Sink>(link: &mut L, bytes: &[u8], written: u128) -> Result<u128, Ended>
@@ -26,52 +27,84 @@ fn send<L: Sink>(link: &mut L, bytes: &[u8], written: u128) -> Result<u128, Ende
     }
 }
 
-/// Writes the text of a matrix, and gives how many bytes the session has written with it.
-fn send_matrix<L: Sink>(
+/// Sends a short reply.
+pub fn send_reply<L: Sink>(link: &mut L, reply: &Short, written: u128) -> Result<u128, Ended>
+    requires ready { L.failure_count link.old + 1 < 2 ^ 64 }
+    requires room { written + 2 ^ 27 < 2 ^ 128 }
+    ensures sends { Sends L.write_takes L.failure_count link.old link.new reply.now.items written result }
+    ensures short { length reply.now.items ≤ 2 ^ 27 }
+{
+    send(link, reply.as_slice(), written)
+}
+
+/// Writes the text of a sum, and gives how many bytes the session has written with it.
+fn send_cells<L: Sink>(
     link: &mut L,
-    matrix: &Hyper,
-    len: u32,
+    sum: &ViewedSum,
+    cells: MergedCells<'_>,
+    size: TextSize,
     written: u128,
 ) -> Result<u128, Ended>
     requires ready { L.failure_count link.old + 1 < 2 ^ 64 }
-    requires len { len ≡ length (matrix_text matrix.now) }
-    requires room { written + len < 2 ^ 128 }
-    ensures { Sends L.write_takes L.failure_count link.old link.new (matrix_text matrix.now) written result }
+    requires of_sum { cells ≡ sum.now.counts }
+    requires within { LieWithin sum.now.rows sum.now.cols cells }
+    requires size { IsSizeOf sum.now size.len size.cells }
+    requires room { written + size.len < 2 ^ 128 }
+    ensures { Sends L.write_takes L.failure_count link.old link.new (matrix_text sum.now) written result }
 {
-    match write_text(link, matrix) {
-        Ok(()) => Ok(written + len as u128),
+    match write_text(link, sum, cells, size.cells) {
+        Ok(()) => Ok(written + size.len as u128),
         Err(fault) => Err(Ended::WriteFault {
             written: written + fault.written,
         }),
     }
 }
 
-/// Sends the text of a matrix with its head.
-fn send_text<L: Sink>(link: &mut L, matrix: &Hyper, len: u32, written: u128) -> Result<u128, Ended>
+/// Sends the text of a sum with its head.
+fn send_text<L: Sink>(
+    link: &mut L,
+    sum: &ViewedSum,
+    cells: MergedCells<'_>,
+    size: TextSize,
+    written: u128,
+) -> Result<u128, Ended>
     requires ready { L.failure_count link.old + 1 < 2 ^ 64 }
-    requires len { len ≡ length (matrix_text matrix.now) }
-    requires short { len ≤ 67108864 }
+    requires of_sum { cells ≡ sum.now.counts }
+    requires within { LieWithin sum.now.rows sum.now.cols cells }
+    requires size { IsSizeOf sum.now size.len size.cells }
     requires room { written + 2 ^ 27 < 2 ^ 128 }
-    ensures { Sends L.write_takes L.failure_count link.old link.new (text_of (matrix_text matrix.now)) written result }
+    ensures { Sends L.write_takes L.failure_count link.old link.new (text_of (matrix_text sum.now)) written result }
 {
-    let head = text_head(len);
+    let head = text_head(size.len);
     match send(link, head.as_slice(), written) {
-        Ok(sent) => send_matrix(link, matrix, len, sent),
+        Ok(sent) => send_cells(link, sum, cells, size, sent),
         Err(fault) => Err(fault),
     }
 }
 
-/// Sends a reply.
-pub fn send_reply<L: Sink>(link: &mut L, reply: &Spelled, written: u128) -> Result<u128, Ended>
+/// Sends the text of a sum, or refuses it as too large. Its cells are gone through twice, side by side in the matrices
+/// that it is of: all memory for both walks is taken before the first byte is sent.
+///
+/// # Errors
+///
+/// That memory was refused. Nothing was sent then.
+pub fn send_sum<L: Sink>(
+    alloc: Global,
+    link: &mut L,
+    sum: &ViewedSum,
+    written: u128,
+) -> Result<Result<u128, Ended>, AllocError>
     requires ready { L.failure_count link.old + 1 < 2 ^ 64 }
-    requires fits { fits_reply reply.now }
     requires room { written + 2 ^ 27 < 2 ^ 128 }
-    ensures sends { Sends L.write_takes L.failure_count link.old link.new (spelled reply.now) written result }
-    ensures short { length (spelled reply.now) ≤ 2 ^ 27 }
+    ensures sends { IfOk result (λ sent. Sends L.write_takes L.failure_count link.old link.new
+        (text_reply (matrix_text sum.now)) written sent) }
+    ensures none { OnErr result (link.new ≡ link.old) }
 {
-    match reply {
-        Spelled::Short(short) => send(link, short.as_slice(), written),
-        Spelled::Text { matrix, len } => send_text(link, matrix, *len, written),
+    let first = sum.cells(alloc)?;
+    let second = sum.cells(alloc)?;
+    match text_size(sum, first) {
+        Some(size) => Ok(send_text(link, sum, second, size, written)),
+        None => Ok(send_reply(link, &refused(40, 0), written)),
     }
 }
 

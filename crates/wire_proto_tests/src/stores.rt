@@ -5,9 +5,9 @@ use crate::asks::{Ask, frame, small_setup};
 use crate::hex::bytes_of;
 use batch_store::{Batch, Kept, Setup};
 use byte_io_tests::pieces;
-use hyper_matrix::{Hyper, RowSum};
+use hyper_matrix::RowSum;
 use mm_text::Script;
-use plain_engine::{PutFault, Status};
+use plain_engine::{PutFault, Status, ViewedSum};
 use std::alloc::{AllocError, Global};
 use std::process::Abort;
 use std::sync::Arc;
@@ -28,6 +28,8 @@ impl Keeper for Told {
     ghost fact = { λ s. ⊤ };
 
     ghost setup_of = { λ s. s.setup };
+
+    ghost may_lack = { λ s t m e h. h };
 
     fn setup(&self) -> Setup {
         self.setup
@@ -55,7 +57,7 @@ impl Keeper for Told {
         }
     }
 
-    fn export(&mut self, _alloc: Global) -> Result<Hyper, AllocError> {
+    fn export(&mut self, _alloc: Global) -> Result<ViewedSum, AllocError> {
         Err(AllocError)
     }
 

@@ -1,5 +1,6 @@
 use Rattle.std.proofs.Common.{◌∙◌, subst, refl, List, ℕ, ◌++◌, map, length, ap, arith}
 use Rattle.std.specs.List.{AllByRecursion}
+use Rattle.std.specs.FinMap.{entries}
 use Rattle.std.proofs.lemmas.Result.{err_from_is_err_and}
 use Rattle.mm_text.specs.Canonical.{canonical_head, entry_line, entry_lines}
 use Rattle.byte_io.specs.Writing.{HasStopped}
@@ -13,24 +14,24 @@ use Rattle.wire_proto.proofs.exporting.write_text.Goals as goal
 pub loop-cell-init : goal.loop-cell-init
 loop-cell-init g c =
     let same = c.into_iter-cell-iterator.ensures.into_iter_gives in
-    let order = same ∙ c.iter-cell-items.ensures.order in
-    let head = canonical_head c.dims-rows.result.0 c.dims-rows.result.1 c.entries.result in
+    let order = ap entries (same ∙ c.requires.of_sum) in
+    let head = canonical_head c.dims-rows.result.0 c.dims-rows.result.1 c.args.entries in
     record {
       can = tt;
       finite = tt;
       failures = refl;
-      declared = lines_counted c.args.m.now c.entries.result _ _ c.entries.ensures c.new-writer.ensures.left order;
+      declared = lines_counted c.args.sum.now c.args.entries _ _ c.requires.entries c.new-writer.ensures.left order;
       dims = (
         c.new-writer.ensures.dims.0 ∙ ap (λ d. d.0) c.dims-rows.ensures.value,
         c.new-writer.ensures.dims.1
             ∙ ap (λ d. d.1) c.dims-rows.ensures.value,
       );
-      within = rw same c.iter-cell-items.ensures.within;
+      within = rw same c.requires.within;
       written = (
         head,
         written_nothing _ _ c.args.w.now head c.new-writer.result c.new-writer.ensures.taken
             c.new-writer.ensures.pending,
-        text_begins c.args.m.now _ _ c.entries.result _ c.dims-rows.ensures.value c.entries.ensures order,
+        text_begins c.args.sum.now _ _ c.args.entries _ c.dims-rows.ensures.value c.requires.entries order,
       );
     }
 
@@ -38,7 +39,7 @@ pub loop-cell-preserved : goal.loop-cell-preserved
 loop-cell-preserved g c =
     let step = c.in-Some.ensures.steps in
     let old = c.loop-cell.invariant in
-    let within = subst (AllByRecursion (LiesWithin c.args.m.now.rows c.args.m.now.cols)) step old.within in
+    let within = subst (AllByRecursion (LiesWithin c.args.sum.now.rows c.args.sum.now.cols)) step old.within in
     record {
       can = tt;
       finite = tt;
@@ -49,7 +50,7 @@ loop-cell-preserved g c =
       written = (
         old.written.0 ++ entry_line c.in-Some.cell,
         c.in_ok-write_cell.ensures.ok c.args.w.now old.written.0 old.written.1,
-        line_next old.written.0 _ c.loop-cell.cell-iterator c.next.new.self c.in-Some.cell step old.written.2,
+        line_next old.written.0 _ (entries c.loop-cell.cell-iterator) (entries c.next.new.self) c.in-Some.cell step old.written.2,
       );
     }
 
@@ -60,7 +61,7 @@ returns-in_err-write_cell-clause-err g c =
     rw (p.1, p.2)
     (subst (λ (text : List ℕ). HasStopped g.W.Sink.write_takes g.W.Sink.failure_count c.args.w.now c.write_cell.new.w
     text c.in_err-write_cell.field-0.0.written)
-    (line_next old.0 _ c.loop-cell.cell-iterator c.next.new.self c.in-Some.cell c.in-Some.ensures.steps old.2)
+    (line_next old.0 _ (entries c.loop-cell.cell-iterator) (entries c.next.new.self) c.in-Some.cell c.in-Some.ensures.steps old.2)
     (has_stopped_longer _ _ c.args.w.now c.write_cell.new.w (old.0 ++ entry_line c.in-Some.cell)
-    (entry_lines (map cell_of c.next.new.self)) _
+    (entry_lines (map cell_of (entries c.next.new.self))) _
     (c.in_err-write_cell.ensures.err c.args.w.now old.0 old.1)))

@@ -1,8 +1,8 @@
 use Rattle.std.proofs.Common.{◌≡◌, ℕ, List, ◌++◌, length, map}
-use Rattle.std.specs.List.{AllByRecursion}
+use Rattle.std.specs.FinMap.{entries}
 use Rattle.mm_text.specs.Canonical.{entry_lines}
 use Rattle.mm_text.specs.Writing.{HasWritten}
-use Rattle.hyper_matrix.specs.Shared.{LiesWithin}
+use Rattle.merged_cells.specs.Within.{LieWithin}
 use Rattle.wire_proto.specs.MatrixText.{cell_of, matrix_text}
 use Rattle.wire_proto.proofs.exporting.write_text.Given as goal
 
@@ -11,9 +11,9 @@ invariant-loop-cell g l = record {
   can : (goal.iterator-loop-cell g).can_next l.cell-iterator;
   finite : (goal.iterator-loop-cell g).is_finite l.cell-iterator;
   failures : g.W.Sink.failure_count l.w ≡ g.W.Sink.failure_count l.initial.w;
-  declared : l.writer.left ≡ length l.cell-iterator;
-  dims : (l.writer.rows ≡ l.m.rows) × (l.writer.cols ≡ l.m.cols);
-  within : AllByRecursion (LiesWithin l.m.rows l.m.cols) l.cell-iterator;
+  declared : l.writer.left ≡ length (entries l.cell-iterator);
+  dims : (l.writer.rows ≡ l.sum.rows) × (l.writer.cols ≡ l.sum.cols);
+  within : LieWithin l.sum.rows l.sum.cols l.cell-iterator;
   written : (text : List ℕ) × HasWritten g.W.Sink.write_takes g.W.Sink.failure_count l.initial.w l.w text l.writer
-      × (text ++ entry_lines (map cell_of l.cell-iterator) ≡ matrix_text l.m);
+      × (text ++ entry_lines (map cell_of (entries l.cell-iterator)) ≡ matrix_text l.sum);
 }

@@ -1,0 +1,81 @@
+//! Lists of a few cells, whose sum was worked out by hand.
+use crate::matrices::{Entry, cells_of, listed, matrices};
+use std::alloc::Global;
+use std::process::Abort;
+use std::test::Fail;
+
+const MAX: u64 = u64::MAX;
+
+// The last row and column that there may be.
+const LAST: u64 = (1 << 60) - 1;
+
+/// The entries of each matrix, and those of their sum.
+type Case = (&'static [&'static [Entry]], &'static [Entry]);
+
+static CASES: &[Case] = &[
+    // No matrix, and matrices without a cell.
+    (&[], &[]),
+    (&[&[], &[]], &[]),
+    (&[&[], &[(2, 3, 5)], &[]], &[(2, 3, 5)]),
+    // One matrix, of several rows.
+    (
+        &[&[(0, 9, 1), (3, 0, 2), (3, 1, 3)]],
+        &[(0, 9, 1), (3, 0, 2), (3, 1, 3)],
+    ),
+    // Cells in turns, and one matrix behind another.
+    (
+        &[&[(0, 0, 1), (0, 2, 3)], &[(0, 1, 2), (0, 3, 4)]],
+        &[(0, 0, 1), (0, 1, 2), (0, 2, 3), (0, 3, 4)],
+    ),
+    (
+        &[&[(5, 0, 1), (6, 0, 1)], &[(1, 9, 7), (4, 9, 7)]],
+        &[(1, 9, 7), (4, 9, 7), (5, 0, 1), (6, 0, 1)],
+    ),
+    // A place in three of four matrices, between others.
+    (
+        &[
+            &[(1, 1, 1), (2, 2, 10)],
+            &[(2, 2, 20)],
+            &[(2, 1, 5), (2, 2, 30), (2, 3, 6)],
+            &[(9, 9, 9)],
+        ],
+        &[(1, 1, 1), (2, 1, 5), (2, 2, 60), (2, 3, 6), (9, 9, 9)],
+    ),
+    // The same matrix three times.
+    (
+        &[
+            &[(0, 0, 1), (7, 7, 2)],
+            &[(0, 0, 1), (7, 7, 2)],
+            &[(0, 0, 1), (7, 7, 2)],
+        ],
+        &[(0, 0, 3), (7, 7, 6)],
+    ),
+    // Rows come before columns: a low column in a high row is later.
+    (&[&[(1, 0, 1)], &[(0, LAST, 2)]], &[(0, LAST, 2), (1, 0, 1)]),
+    // Stored zeros stay, alone and together.
+    (
+        &[&[(1, 1, 0), (2, 2, 0)], &[(1, 1, 0)], &[(3, 3, 0)]],
+        &[(1, 1, 0), (2, 2, 0), (3, 3, 0)],
+    ),
+    // The last place, and the largest total.
+    (
+        &[&[(LAST, LAST, 1)], &[(LAST, LAST, MAX - 3)], &[(0, 0, 2)]],
+        &[(0, 0, 2), (LAST, LAST, MAX - 2)],
+    ),
+];
+
+fn check(rt: &impl Abort, alloc: Global, case: &Case) -> Result<(), Fail> {
+    let all = matrices(alloc, case.0)?;
+    let list = listed(alloc, &all)?;
+    let want = cells_of(alloc, case.1)?;
+    assert!(rt; list.as_slice() == want.as_slice(), "{list:?}");
+    Ok(())
+}
+
+#[test]
+fn sums_are_gone_through_in_order(rt: HostRuntime) -> Result<(), Fail> {
+    for case in CASES {
+        check(&rt, rt.alloc(), case)?;
+    }
+    Ok(())
+}
