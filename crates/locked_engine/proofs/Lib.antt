@@ -3,3 +3,4 @@ pub mod ShareLaws
 pub mod PrefixLaws
 pub mod AddLaws
 pub mod ToldLaws
+pub mod ShownLaws

@@ -4,3 +4,4 @@ pub mod Opened
 pub mod Moments
 pub mod Histories
 pub mod Told
+pub mod Shown

@@ -96,6 +96,7 @@ impl<N: Named, H: Ledger> Engine<N, H> {
             seats: _,
             book,
             shards: locked,
+            shown: _,
         } = self;
         let (mut first, mut second, seen) = gather(seats);
         unlock_all(locked, &mut shards, &mut second);
@@ -124,6 +125,7 @@ impl<N: Named, H: Ledger> Engine<N, H> {
             seats: _,
             book,
             shards: _,
+            shown: _,
         } = self;
         book.into_inner().drop_all(rt);
     }

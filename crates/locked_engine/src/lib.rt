@@ -6,6 +6,9 @@
 //! All that can be refused comes before the admission, and nothing after it can fail. So a batch is accepted in the
 //! book and in all its shards, or nowhere, and batches with rows in different shards are put side by side.
 //!
+//! Readers wait for none of that: `Engine::cell`, `row` and `export` read what a shard shows, its layers after its last
+//! commit. Whoever commits exchanges it before the shard's lock is given back, so a put that was answered is found.
+//!
 //! What no lock can know, that the shards together hold exactly what the book accepted, is counted by two ledgers
 //! (`std::sync::ledger`), which take no bytes and no time: the book's total is the number of both. Of the first each
 //! seat holds a share, what its puts were the first to have accepted. Of the second each shard holds a share, which is
@@ -25,6 +28,8 @@ mod names;
 mod open;
 mod put;
 mod seat;
+mod shard_version;
+mod shown;
 mod version;
 
 pub use close::CloseFault;

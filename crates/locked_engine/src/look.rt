@@ -45,9 +45,10 @@ impl<N: Named, H: Ledger> Engine<N, H> {
         }
     }
 
-    /// The count at a place, as its row's shard has it under its lock; None where that has no entry there, as outside
-    /// the dimensions, for which no lock is taken. A stored zero is Some. Bisections in the layers of one shard, and no
-    /// memory.
+    /// The count at a place, as its row's shard had it under its lock when it was shown last (`put`); None where that
+    /// has no entry there, as outside the dimensions. A stored zero is Some. It waits for no put, no sum and no `look`,
+    /// at most for the exchange of a pointer, but where the pointer can't be copied, since too many copies are in use:
+    /// then it is answered by `look`. Bisections in the layers of one shard, and no memory.
     pub fn cell<R: Wait>(&self, rt: &R, row: u64, col: u64) -> Option<u64>
         ensures some { IfSome result (λ n. (x : Holding) × IsShardOf N.setup (row % N.setup.shards) x
             × (get (content x.layers) (row, col) ≡ Some n)) }
@@ -57,11 +58,15 @@ impl<N: Named, H: Ledger> Engine<N, H> {
             return None;
         }
         let s = row % self.setup.shards();
-        self.look(rt, s, |shard| shard.get(row, col)).flatten()
+        match self.version(rt, s) {
+            Some(version) => version.cell(row, col),
+            None => self.look(rt, s, |shard| shard.get(row, col)).flatten(),
+        }
     }
 
-    /// How many entries a row has, stored zeros included, and the sum of their counts, as the row's shard has it under
-    /// its lock. Both are 0 where it has none, as outside the dimensions, for which no lock is taken. No memory.
+    /// How many entries a row has, stored zeros included, and the sum of their counts, as the row's shard had it under
+    /// its lock when it was shown last (`put`). Both are 0 where it has none, as outside the dimensions. It waits as
+    /// `cell` does, and puts don't wait for it. No memory.
     pub fn row<R: Wait>(&self, rt: &R, row: u64) -> RowSum
         ensures sum { (result ≡ no_sum) ⊎ ((x : Holding) × IsShardOf N.setup (row % N.setup.shards) x
             × (result ≡ row_sum_in x row)) }
@@ -71,9 +76,11 @@ impl<N: Named, H: Ledger> Engine<N, H> {
             return NO_SUM;
         }
         let s = row % self.setup.shards();
-        match self.look(rt, s, |shard| shard.row_total(row)) {
-            Some(sum) => sum,
-            None => NO_SUM,
+        match self.version(rt, s) {
+            Some(version) => version.row(row),
+            None => self
+                .look(rt, s, |shard| shard.row_total(row))
+                .unwrap_or(NO_SUM),
         }
     }
 

@@ -11,6 +11,7 @@ use crate::locked_book::LockedBook;
 use crate::locked_shard::LockedShard;
 use crate::names::{Named, Names};
 use crate::seat::Seat;
+use crate::shown::first_versions;
 use crate::version::{Version, VersionFactory, VersionWriter};
 use batch_store::Shard;
 use plain_engine::PlainEngine;
@@ -20,8 +21,8 @@ use std::sync::ledger::{Ledger, Share};
 
 impl<N: Named, H: Ledger> Engine<N, H> {
     /// The engine of several threads that has accepted what `plain` has, and its seats, in order of their numbers. The
-    /// first seat's share starts with all that was accepted, the others' with nothing. It grows a place for each shard
-    /// and each seat, and what shows readers the status.
+    /// first seat's share starts with all that was accepted, the others' with nothing. It grows two places and a
+    /// version for each shard, a place for each seat, and what shows readers the status.
     ///
     /// N and H name `names`, which were made from `plain`, and N the entries of the batches of `plain`: whoever calls
     /// with `Brand` for both picks them so. Each seat is shown these entries.
@@ -48,6 +49,9 @@ impl<N: Named, H: Ledger> Engine<N, H> {
         if seats.reserve(count).is_err() || shards.reserve(k).is_err() {
             return Err((plain, names, AllocError));
         }
+        let Ok(shown) = first_versions::<N>(alloc, &plain) else {
+            return Err((plain, names, AllocError));
+        };
         let version: Version<N> = names.version(plain.status());
         let Ok(writer) = VersionWriter::new(alloc, version.again(), version.again(), count) else {
             return Err((plain, names, AllocError));
@@ -76,6 +80,7 @@ impl<N: Named, H: Ledger> Engine<N, H> {
             seats: count,
             book: Mutex::new(locked),
             shards,
+            shown,
         };
         Ok((engine, seats))
     }

@@ -1,5 +1,5 @@
 //! Putting a batch.
-ghost use Rattle.std.specs.Prelude.{◌≡◌, ◌⊎◌, ◌+◌, ◌≤◌, ◌<◌, OnOk, OnErr, IfOk, IfErr, Ok};
+ghost use Rattle.std.specs.Prelude.{◌≡◌, ◌⊎◌, ◌+◌, ◌≤◌, ◌<◌, OnOk, OnErr, IfOk, IfErr, Ok, vec_len, vec_capacity};
 ghost use mathlib.Core.List.{IsPrefix};
 ghost use Rattle.std.specs.Arc.{arc_value};
 ghost use Rattle.batch_store.specs.Batches.{batch_total, entry_of};
@@ -12,6 +12,7 @@ use crate::fault::Unadmitted;
 use crate::locked_shard::Trouble;
 use crate::names::Named;
 use crate::seat::Seat;
+use crate::shard_version::ShardVersion;
 use crate::version::{NextPlace, Version};
 use batch_store::{Batch, Kept};
 use hyper_matrix::Hyper;
@@ -27,9 +28,11 @@ impl<N: Named, H: Ledger> Engine<N, H> {
     /// refuses is refused, both without memory. A fresh batch is cut into its parts, outside all locks. Then each shard
     /// that it concerns is locked, in rising order, and prepares; the book is locked, asked again, and admits it; and
     /// on the way back each shard takes its part in and gives its lock back. No cell is read or copied under the book's
-    /// lock, and under a shard's lock only those of the part and of the layers that it meets. Once all locks are given
-    /// back, one of these shards, another at each put, may be locked once more, to add up or count some of what stands
-    /// side by side in its layers (`Shard::gather`).
+    /// lock, and under a shard's lock only those of the part and of the layers that it meets. Before a shard's lock is
+    /// given back readers are shown the shard with the part, by a version that was made when the shard was prepared; so
+    /// look-ups find the batch once the put was answered. What they were shown before is freed once all locks are given
+    /// back. Then one of these shards, another at each put, may be locked once more, to add up or count some of what
+    /// stands side by side in its layers (`Shard::gather`).
     ///
     /// A first acceptance raises the seat's first share by the batch's total. After every other answer that share is as
     /// before, and so are, as far as this call goes, every shard and the book, but for free places.
@@ -158,7 +161,11 @@ impl<N: Named, H: Ledger> Engine<N, H> {
         let place = NextPlace::make(alloc)?;
         // The batch lives on behind this call, so no lock is held while its cells are given back.
         let own = Arc::try_clone(b)?;
-        let kept = self.put_from(rt, alloc, first, second, seen, place, own, &shares, 0)?;
+        let mut past = Vec::with_capacity(alloc, self.setup.shards() as usize)?;
+        let kept = self.put_from(
+            rt, alloc, first, second, seen, place, own, &shares, &mut past, 0,
+        )?;
+        drop(past);
         let due = kept.index % self.setup.shards();
         if let Some(Some(_)) = shares.get(due as usize) {
             self.gather(rt, alloc, due);
@@ -168,18 +175,25 @@ impl<N: Named, H: Ledger> Engine<N, H> {
 
     // Adds up parts that stand side by side in a shard, or counts their places, while no other lock is held. Each
     // accepted batch takes one such step in at most one of the shards that it concerns, another in turn: so a put finds
-    // few to add up or count in its shards. What the shard holds stays, and where memory is refused the parts stay as
-    // they are.
+    // few to add up or count in its shards. Readers are shown the shard with these sums, so that what they replace is
+    // freed, once the lock is given back. What the shard holds stays, and where memory is refused the parts, or what is
+    // shown, stay as they are.
     fn gather<R: Wait>(&self, rt: &R, alloc: Global, s: u64)
         requires { s < N.setup.shards }
     {
         let mut guard = self.shards[s as usize].lock(rt);
         let locked = &mut *guard;
-        let _ = locked.shard.gather(alloc);
+        let Some(version) = locked.gather(alloc, s) else {
+            return;
+        };
+        let replaced = self.show(rt, s, version);
+        let _ = MutexGuard::unlock(guard);
+        drop(replaced);
     }
 
-    // The shards from s on: each that the batch concerns is locked and made ready, then the book accepts, and each gets
-    // its part on the way back.
+    // The shards from s on: each that the batch concerns is locked and made ready, then the book accepts, and on the
+    // way back each gets its part and is shown to readers with it. What was shown before is put into a list, to be
+    // freed when no lock is held.
     fn put_from<R: Wait>(
         &self,
         rt: &R,
@@ -187,15 +201,17 @@ impl<N: Named, H: Ledger> Engine<N, H> {
         first: &mut Share<N>,
         second: &mut Share<H>,
         seen: &mut Version<N>,
-        place: NextPlace<N>,
+        next: NextPlace<N>,
         b: Arc<Batch>,
         shares: &[Option<Hyper>],
+        past: &mut Vec<Arc<ShardVersion<N>>>,
         s: u64,
     ) -> Result<Kept, Unadmitted>
         requires rows { (arc_value b).matrix.rows ≡ N.setup.rows }
         requires cols { (arc_value b).matrix.cols ≡ N.setup.cols }
         requires shares { shares.now ≡ shares_below N.setup.shards N.setup.shards (arc_value b) }
         requires place { s ≤ N.setup.shards }
+        requires room { vec_len past.old + N.setup.shards ≤ vec_capacity past.old + s }
         requires parts { (first.old.parts ≡ 1) × (second.old.parts ≡ 1) }
         requires balanced { second.old.amount ≡ 0 }
         ensures parts { (first.new.parts ≡ 1) × (second.new.parts ≡ 1) }
@@ -203,24 +219,27 @@ impl<N: Named, H: Ledger> Engine<N, H> {
         ensures second { OnOk result (second.new.amount ≡ below s N.setup.shards (arc_value b).matrix.counts) }
         ensures first_kept { OnErr result (first.new.amount ≡ first.old.amount) }
         ensures second_kept { OnErr result (second.new.amount ≡ 0) }
+        ensures pushed { vec_len past.new + s ≤ vec_len past.old + N.setup.shards }
+        ensures capacity { vec_capacity past.new ≡ vec_capacity past.old }
         ensures later { IsPrefix seen.old seen.new }
         ensures ok { IfOk result (λ k. IsTold N.setup (entry_of (arc_value b)) seen.new (Ok k)) }
         ensures err { IfErr result (λ u. IsTold N.setup (entry_of (arc_value b)) seen.new u.answer) }
     {
         if s == self.setup.shards() {
-            return self.admit(rt, first, second, seen, place, b);
+            return self.admit(rt, first, second, seen, next, b);
         }
         let Some(share) = &shares[s as usize] else {
-            return self.put_from(rt, alloc, first, second, seen, place, b, shares, s + 1);
+            return self.put_from(rt, alloc, first, second, seen, next, b, shares, past, s + 1);
         };
         let mut guard = self.shards[s as usize].lock(rt);
         let locked = &mut *guard;
-        let prepared = match locked.prepare(alloc, s, &b, share) {
-            Ok(prepared) => prepared,
+        let ready = match locked.prepare(alloc, s, &b, share) {
+            Ok(ready) => ready,
             Err(trouble) => return Err(self.told(rt, seen, &b, trouble)),
         };
-        let kept = self.put_from(rt, alloc, first, second, seen, place, b, shares, s + 1)?;
-        locked.deliver(prepared, second);
+        let kept = self.put_from(rt, alloc, first, second, seen, next, b, shares, past, s + 1)?;
+        let version = locked.deliver(ready, second);
+        past.push_reserved(self.show(rt, s, version));
         Ok(kept)
     }
 }
