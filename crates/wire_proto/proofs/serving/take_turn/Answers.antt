@@ -1,5 +1,4 @@
-use Rattle.std.proofs.Common.{◌≡◌, ◌<◌, ◌≤◌, ◌+◌, ◌++◌, ℕ, List, length, take, refl, sym, ◌∙◌, ap, arith, Ok, Err, IfOk}
-use Rattle.std.proofs.Common.{IfErr, subst}
+use Rattle.std.proofs.Common.{◌≡◌, ◌<◌, ◌≤◌, ◌+◌, ◌++◌, ℕ, List, length, take, sym, ap, arith, Ok, IfOk, IfErr, subst}
 use Rattle.wire_proto.specs.Sessions.{Carries, CarriesToEnd}
 use Rattle.std.proofs.lemmas.List.{length-take-le}
 use Rattle.wire_proto.proofs.LinkLemmas.{none_given}
