@@ -413,8 +413,11 @@ def lies_are_told(examples):
 
 
 def run(words, **how):
-    """What a program writes to both outputs, and its status."""
-    ended = subprocess.run(words, capture_output=True, text=True, timeout=WAIT, **how)
+    """What a program writes to both outputs, and its status; no status where it doesn't end."""
+    try:
+        ended = subprocess.run(words, capture_output=True, text=True, timeout=WAIT, **how)
+    except subprocess.TimeoutExpired:
+        return "", f"it hasn't ended after {WAIT} seconds", None
     return ended.stdout, ended.stderr, ended.returncode
 
 
