@@ -13,6 +13,8 @@ mod blocks;
 #[cfg(test)]
 mod cases;
 #[cfg(test)]
+mod endless;
+#[cfg(test)]
 mod entries;
 #[cfg(test)]
 mod failing_reads;
