@@ -7,8 +7,9 @@
  *   REFUSE_ERROR the error number of a fault
  *   REFUSE_TELL  a descriptor that takes a byte where the call was made and refused
  *
- * Calls of descriptor 2 are never counted: what goes there tells of the refusal. No header is read, so that any C
- * compiler does.
+ * Calls of descriptor 2 are never counted: what goes there tells of the refusal. Nor are those of descriptors that are
+ * no file, pipe or socket, as the events by which threads wake each other: no system fails them so. No header is read,
+ * so that any C compiler does.
  */
 typedef unsigned long size_t;
 typedef long ssize_t;
@@ -20,7 +21,7 @@ extern long atol(const char *);
 extern long syscall(long, ...);
 extern int *__errno_location(void);
 
-enum { READ = 0, WRITE = 1, FSYNC = 74, FDATASYNC = 75, NO_MEMORY = 12 };
+enum { READ = 0, WRITE = 1, FSTAT = 5, FSYNC = 74, FDATASYNC = 75, NO_MEMORY = 12 };
 
 static char kind;
 static long at, error, tell;
@@ -51,6 +52,15 @@ static ssize_t fails(long with) {
     return -1;
 }
 
+/* A file, a pipe or a socket but standard error: the kind stands in the mode, four bytes at byte 24 of a `stat`. */
+static int counts(int descriptor) {
+    union {
+        unsigned words[64];
+        char bytes[256];
+    } held = {{0}};
+    return descriptor != 2 && syscall(FSTAT, (long)descriptor, held.bytes) == 0 && (held.words[6] & 0170000) != 0;
+}
+
 void *malloc(size_t size) {
     if (!refused('g')) return __libc_malloc(size);
     fails(NO_MEMORY);
@@ -64,15 +74,18 @@ void *realloc(void *old, size_t size) {
 }
 
 ssize_t read(int from, void *bytes, size_t size) {
-    if (refused('f')) return fails(error);
-    if (size > 1 && refused('s')) size = 1;
+    if (counts(from)) {
+        if (refused('f')) return fails(error);
+        if (size > 1 && refused('s')) size = 1;
+    }
     return syscall(READ, (long)from, bytes, size);
 }
 
 ssize_t write(int to, const void *bytes, size_t size) {
-    if (to == 2) return syscall(WRITE, 2L, bytes, size);
-    if (refused('f')) return fails(error);
-    if (size > 1 && refused('s')) size = 1;
+    if (counts(to)) {
+        if (refused('f')) return fails(error);
+        if (size > 1 && refused('s')) size = 1;
+    }
     return syscall(WRITE, (long)to, bytes, size);
 }
 

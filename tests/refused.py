@@ -6,9 +6,9 @@
 A run is repeated with its first growth refused, then with its second, until one makes fewer; so with each read and
 write, which fails, is interrupted, or moves a single byte. A run must end with its whole answer, or with the fault that
 docs/FORMATS.md has for what was refused; never with status 0 and other output, by a signal, or not at all. So does a
-server whose growths are refused: who was told of want of memory, or was let go, asks again and is answered, and what is
-saved are the accepted batches. Refusals come from a library that the clang of the toolchain makes of refuse.c, and that
-is loaded before the program, so that it is the program as it is shipped.
+server: who was told of want of memory, or was let go, asks again and is answered; a save that fails is refused; what
+is saved are the accepted batches. Refusals come from a library that the clang of the toolchain makes of refuse.c, and
+that is loaded before the program, so that it is the program as it is shipped.
 
 It prints how many runs there were, a line for each that is wrong, and at the end `N passed, M failed`; the status is 1
 where one fails. Linux, Python's own library and the toolchain of Rattle.
@@ -174,12 +174,14 @@ def judged_run(program, run, kind, error, at):
 
 
 STATUS, EXPORT, SAVE, STOP = (struct.pack(">IB", 0, kind) for kind in (4, 5, 6, 7))
-ASKS = put_frame(7, 1, text(5)) + put_frame(8, 1, text(3)) + struct.pack(">IBQQ", 16, 2, 0, 0) + STATUS + EXPORT + SAVE
+ASKS = put_frame(7, 1, text(5)) + put_frame(8, 1, text(3)) + struct.pack(">IBQQ", 16, 2, 0, 0)
+ASKS += struct.pack(">IBQ", 8, 3, 0) + STATUS + EXPORT + SAVE
 SUM = text(8)
 REPLIES = [
     accepted(0, 5),
     accepted(1, 8),
     struct.pack(">IBBQ", 9, 0x82, 1, 8),
+    struct.pack(">IBQQ", 16, 0x83, 1, 8),
     struct.pack(">IBQQ", 16, 0x84, 2, 8),
     struct.pack(">IB", len(SUM), 0x85) + SUM,
     struct.pack(">IBQ", 8, 0x86, 2),
@@ -235,6 +237,7 @@ def judge_end(process, saved, ends, held):
 
 
 NO_MEMORY = Ended(b"", b"hhm: memory\n", 5)
+STOPPED = Ended(b"stopped batches 2 total 8\n", b"", 0)
 
 
 def talk_to_server(process, path, saved, before):
@@ -248,11 +251,47 @@ def talk_to_server(process, path, saved, before):
     is_served, wrong = ask_until_answered(path, STOP, [STOPPING])
     if wrong or not is_served:
         return wrong or "no answer to a Stop"
-    return judge_end(process, saved, [NO_MEMORY, Ended(b"stopped batches 2 total 8\n", b"", 0)], SAVED)
+    return judge_end(process, saved, [NO_MEMORY, STOPPED], SAVED)
 
 
-def served_run(program, folder, before, at):
-    """What was wrong with a server whose growth number `at` was refused, and whether there was such a growth.
+def talk_to_faulty_server(process, path, saved, line):
+    """The same of a server whose files or output fail once: a save that fails is refused, and the session goes on."""
+    answer = talk(path, ASKS)
+    is_refused = answer == b"".join(REPLIES[:-1]) + refused(42)
+    if answer != b"".join(REPLIES) and not is_refused:
+        return answer
+    answer = talk(path, STOP)
+    if answer != STOPPING:
+        return answer
+    ends = [STOPPED]
+    if not is_refused:
+        faults = [b"file: Write", b"file: Sync", b"output failed after %d bytes" % len(line)]
+        ends += [Ended(b"", b"hhm: %s\n" % fault, 4) for fault in faults]
+    return judge_end(process, saved, ends, SAVED)
+
+
+def talk_to_slow_server(process, path, saved):
+    """The same of a server one of whose reads or writes moves a single byte."""
+    answer = talk(path, ASKS) + talk(path, STOP)
+    return judge_end(process, saved, [STOPPED], SAVED) if answer == b"".join(REPLIES) + STOPPING else answer
+
+
+def judge_server(kind, process, path, saved, before):
+    """What is wrong with a server of whose calls one is refused, or None."""
+    line = process.stdout.readline()
+    if line != f"listening unix {path}\n".encode():
+        early = [Ended(b"", b"hhm: snapshot: Read\n", 4), Ended(b"", b"hhm: output failed after 0 bytes\n", 4)]
+        ends = {"growth": [NO_MEMORY], "fault": early, "short": []}
+        return line or judge_end(process, saved, ends[kind], before)
+    if kind == "growth":
+        return talk_to_server(process, path, saved, before)
+    if kind == "fault":
+        return talk_to_faulty_server(process, path, saved, line)
+    return talk_to_slow_server(process, path, saved)
+
+
+def served_run(program, folder, before, kind, error, at):
+    """What was wrong with a server whose call number `at` was refused, and whether there was such a call.
 
     It starts with this snapshot, or with none.
     """
@@ -260,15 +299,11 @@ def served_run(program, folder, before, at):
     if before is not None:
         with open(saved, "wb") as file:
             file.write(before)
-    refusing = Refusing("growth", 0, at)
+    refusing = Refusing(kind, error, at)
     words = [program, "serve", "--unix", path, "--workers", "1", "--snapshot", saved, *SMALL]
     process = subprocess.Popen(words, stdout=subprocess.PIPE, stderr=subprocess.PIPE, **refusing.how)
     try:
-        line = process.stdout.readline()
-        if line == f"listening unix {path}\n".encode():
-            wrong = talk_to_server(process, path, saved, before)
-        else:
-            wrong = line or judge_end(process, saved, [NO_MEMORY], before)
+        wrong = judge_server(kind, process, path, saved, before)
     except subprocess.TimeoutExpired:
         wrong = "it didn't end"
     finally:
@@ -296,11 +331,11 @@ def sweeps(program, folder):
                 program, run, kind, error, at
             )
     for name, before in [("serve", None), ("serve of a snapshot", SAVED)]:
-        within = os.path.join(folder, name.replace(" ", "_"))
-        os.mkdir(within)
-        yield f"{name}: a growth is refused", lambda at, within=within, before=before: served_run(
-            program, within, before, at
-        )
+        for what, (kind, error) in REFUSALS.items():
+            within = tempfile.mkdtemp(dir=folder)
+            yield f"{name}: {what}", lambda at, within=within, before=before, kind=kind, error=error: served_run(
+                program, within, before, kind, error, at
+            )
 
 
 def main():
