@@ -199,11 +199,18 @@ def frames_are_answered(unix):
         check(f"{name}: byte by byte", server.talk([puts[i : i + 1] for i in range(len(puts))], unix), first)
         check(f"{name}: without the last byte", server.talk([puts[:-1]], unix), first[:42])
         for frame, reply in [
-            (bytes.fromhex("01000001 04"), refused(50)),
+            (bytes.fromhex("04000001 04"), refused(50)),
+            (bytes.fromhex("01000001 04"), refused(52)),
             (bytes.fromhex("00000000 09"), refused(51)),
             (bytes.fromhex("00000000 00"), refused(51)),
             (bytes.fromhex("00000001 04 00"), refused(52)),
             (bytes.fromhex("0000000f 01") + bytes(15), refused(52)),
+            (bytes.fromhex("0000000f 08") + bytes(15), refused(52)),
+            (bytes.fromhex("00000011 08") + bytes(17), refused(52)),
+            (struct.pack(">IBQQQQQ", 40, 8, 9, 2, 3, 0, 5), refused(22, 0)),
+            (struct.pack(">IBQQ6Q", 64, 8, 9, 2, 0, 0, 5, 0, 3, 5), refused(22, 1)),
+            (struct.pack(">IBQQ6Q", 64, 8, 9, 2, 0, 0, 1 << 63, 0, 0, 1 << 63), refused(21)),
+            (struct.pack(">IBQQQQQ", 40, 8, 7, 1, 0, 0, 5), accepted(0, 5)),
             (struct.pack(">IBQQ", 16, 2, 3, 0), refused(41)),
             (struct.pack(">IBQQ", 16, 2, 0, 3), refused(41)),
             (struct.pack(">IBQ", 8, 3, 3), refused(41)),
