@@ -9,6 +9,7 @@ five. Linux, and nothing but Python's own library.
 """
 import os
 import random
+import resource
 import signal
 import struct
 import subprocess
@@ -25,35 +26,48 @@ from server_faults import received
 
 BAD_KIND = struct.pack(">IB", 0, 9)
 EXPORT = struct.pack(">IB", 0, 5)
-LARGE = 1 << 32
+LARGE = 1 << 60
 CELLS = 20_000
 
 
 def put_cells(link, client, cells):
-    """Whether a batch of these cells, each with the count 1, was accepted."""
-    lines = b"".join(b"%d %d 1\n" % cell for cell in cells)
+    """Whether a batch of these cells (row, column, count) was accepted."""
+    lines = b"".join(b"%d %d %d\n" % cell for cell in cells)
     text = server.BANNER + b"%d %d %d\n" % (LARGE, LARGE, len(cells)) + lines
     return asked(link, put_frame(client, 1, text), 21)[4:5] == b"\x81"
 
 
 def far_apart(i):
-    """A cell of a row of its own: a line of some 14 bytes, so that a text of 1,500,000 passes 16 MiB."""
-    return 1 + i * 2000, 1 + i % 7
+    """A cell of a row of its own: a line of some 50 bytes, so that a text of 1,500,000 passes 64 MiB."""
+    return 10**18 + i * 10**11, LARGE - i % 7, 10**9 + i
 
 
 def side_by_side(i):
-    """A cell of a row of its own: a line of at most 12 bytes, so that a text of 1,300,000 fits a reply."""
-    return 1 + i, 1 + i % 7
+    """A cell of a row of its own: a line of at most 12 bytes, so that a text of 1,500,000 fits a reply."""
+    return 1 + i, 1 + i % 7, 1
 
 
-def exports_keep_no_memory(place, batches, kind):
-    """Each of 32 workers answers an export of so many cells: the server has no more than 1.2 times its memory then."""
-    size = str(LARGE)
-    words = ["--rows", size, "--cols", size, "--limit", str(10**15), "--max-batches", "1000", "--workers", "32"]
-    with Server(words, tcp=False) as at:
+def in_rows_of_seven(i):
+    """A cell of a row that has seven: a line of at most 11 bytes, so that a text of 1,500,000 fits a reply."""
+    return 1 + i // 7, 1 + i % 7, 1
+
+
+def in_a_small_space():
+    """An address space of 1.5 GiB: 32 workers share one arena of the C library there, which reserves 64 MiB for each."""
+    most = 3 << 29
+    return {
+        "preexec_fn": lambda: resource.setrlimit(resource.RLIMIT_AS, (most, most)),
+        "env": {**os.environ, "MALLOC_ARENA_MAX": "1"},
+    }
+
+
+def exports_keep_no_memory(place, kind, **how):
+    """Each of 32 workers answers an export of 1,500,000 cells: the server has no more than 1.2 times its memory then."""
+    words = ["--rows", str(LARGE), "--cols", str(LARGE), "--max-batches", "1000", "--workers", "32"]
+    with Server(words, tcp=False, **how) as at:
         links = [at.link() for _ in range(32)]
-        name = f"exports answered {kind:x}"
-        cells = [[place(n * CELLS + i) for i in range(CELLS)] for n in range(batches)]
+        name = f"exports of {place.__name__} answered {kind:x}{' in a small space' if how else ''}"
+        cells = [[place(n * CELLS + i) for i in range(CELLS)] for n in range(75)]
         taken = [put_cells(links[n % 32], n + 1, batch) for n, batch in enumerate(cells)]
         check(f"{name}: puts", all(taken), True)
         before = at.memory()
@@ -64,7 +78,7 @@ def exports_keep_no_memory(place, batches, kind):
             received(link, struct.unpack(">I", head[:4])[0])
         check(f"{name}: all answers", kinds, {kind})
         check(f"{name}: memory", at.memory() <= before * 1.2, True)
-        behind = [put_cells(link, 1000 + n, [(LARGE - 1 - i, n + 1) for i in range(1000)]) for n, link in enumerate(links)]
+        behind = [put_cells(link, 1000 + n, [(LARGE - 1 - i, n + 1, 1) for i in range(1000)]) for n, link in enumerate(links)]
         check(f"{name}: puts behind", all(behind), True)
         for link in links:
             link.close()
@@ -443,8 +457,10 @@ def main():
         silent_machines_are_asked()
         one_number_from_many_clients(20)
         kills_lose_what_was_not_saved_alone(100 if is_long else 5)
-        exports_keep_no_memory(far_apart, 75, 0xFF)
-        exports_keep_no_memory(side_by_side, 65, 0x85)
+        for how in [{}, in_a_small_space()]:
+            exports_keep_no_memory(far_apart, 0xFF, **how)
+            exports_keep_no_memory(in_rows_of_seven, 0x85, **how)
+        exports_keep_no_memory(side_by_side, 0x85)
     print(f"{server.passed} passed, {server.failed} failed")
     return 1 if server.failed else 0
 

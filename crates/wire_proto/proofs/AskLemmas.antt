@@ -2,6 +2,7 @@
 use Rattle.std.proofs.Common.{◌≡◌, ℕ, ◌<◌, ◌≤◌, List, length, refl, sym, ap, Option, Some, Result, Ok, inl, inr, lit≤, arith}
 use Rattle.std.proofs.lemmas.Bool.{lt-ltb, le-ltb, cases_lt}
 use Rattle.hyper_rows.specs.declared.search.RowSum.{RowSum}
+use Rattle.wire_proto.specs.Frames.{frame, head_bytes, number}
 use Rattle.wire_proto.specs.Keeping.{Event, cell, row, status, export, save}
 use Rattle.wire_proto.specs.Replies.{value, row_sum, counts, save_reply, text, text_reply, refused}
 use Rattle.wire_proto.specs.MatrixText.{matrix_text}
@@ -49,7 +50,7 @@ unfolding text_reply
 text_refused bytes reply long e = rw (lt-ltb 67108864 (length bytes) long) e
 
 pub text_reply_short : (bytes : List ℕ) → length (text_reply bytes) ≤ 134217728
-unfolding text_reply
+unfolding text_reply frame head_bytes number
 text_reply_short bytes = elim (cases_lt 67108864 (length bytes)) [
   | inl long ↦ rw (lt-ltb 67108864 (length bytes) long) (lit≤ tt)
   | inr short ↦ rw (le-ltb 67108864 (length bytes) short) (omega (arith, length_text bytes))

@@ -62,3 +62,16 @@ length_more sum all n left rest cell is told e =
     let lines = ap (λ (es : List (Place × ℕ)). length (entry_lines (map cell_of es))) is in
     let parts = length-append (entry_line cell) (entry_lines (map cell_of rest)) in
     omega (arith, lines, parts, told, e)
+
+-- all lines of cells are counted, and then the line of the sizes
+pub length_ends : (m : Matrix) (rows cols count first sum : ℕ) (left : List (Place × ℕ)) →
+    ◌≡◌ {A = ℕ × ℕ} (rows, cols) (m.rows, m.cols) → first ≡ length (numbers_line rows cols count) → left ≡ [] →
+    count + length left ≡ len m.counts →
+    sum + length (entry_lines (map cell_of left)) ≡ 49 + length (entry_lines (map cell_of (entries m.counts))) →
+    (sum + first ≡ length (matrix_text m)) × (count ≡ len m.counts)
+length_ends m rows cols count first sum left dims e none told counted =
+    let number : count ≡ len m.counts = omega (arith, told, ap length none) in
+    let whole = length_begins m rows cols count first (entries m.counts) dims number refl e in
+    let rest : length (entry_lines (map cell_of left)) ≡ 0 =
+    ap (λ (es : List (Place × ℕ)). length (entry_lines (map cell_of es))) none in
+    (omega (arith, whole, rest, counted), number)

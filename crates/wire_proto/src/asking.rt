@@ -104,6 +104,32 @@ pub fn ask_put<K: Keeper>(
     }
 }
 
+pub fn ask_put_cells<K: Keeper>(
+    alloc: Global,
+    keeper: &mut K,
+    client: u64,
+    number: u64,
+    cells: Bytes,
+) -> Result<Short, AllocError>
+    requires { K.fact keeper.old }
+    ensures reply { IfOk result (λ short. Answers K.gives (K.setup_of keeper.old)
+        (Request.PutCells client number cells) short.items keeper.old keeper.new) }
+    ensures none { OnErr result (RunsOut K.gives (K.setup_of keeper.old)
+        (Request.PutCells client number cells) keeper.old keeper.new) }
+    ensures fact { K.fact keeper.new }
+    ensures setup { K.setup_of keeper.new ≡ K.setup_of keeper.old }
+{
+    let setup = keeper.setup();
+    match batch_of_cells(alloc, &setup, client, number, cells) {
+        Err(PutRefusal::Memory) => Err(AllocError),
+        Err(PutRefusal::Refused { code, detail }) => Ok(refused(code, detail)),
+        Ok(batch) => {
+            let answer = keeper.put(alloc, batch);
+            reply_to_put(answer)
+        }
+    }
+}
+
 /// Asks what a request asks that is answered in a few bytes: all but an Export and a Stop.
 pub fn ask<K: Keeper>(alloc: Global, keeper: &mut K, request: Request) -> Result<Short, AllocError>
     requires fact { K.fact keeper.old }

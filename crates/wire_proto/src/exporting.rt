@@ -60,7 +60,8 @@ pub fn text_size(sum: &ViewedSum, cells: MergedCells<'_>) -> Option<TextSize>
         len += line_length(cell.row + 1, cell.col + 1, cell.count);
         count += 1;
     }
-    len += line_length(rows, cols, count);
+    let size_line = line_length(rows, cols, count);
+    len += size_line;
     if len > MOST_BODY as u64 {
         return None;
     }

@@ -28,3 +28,11 @@ returns-in-Err g c = record {
   fact = c.ask.ensures.fact;
   setup = c.ask.ensures.setup;
 }
+
+pub returns-in-Export : goal.returns-in-Export
+returns-in-Export g c = record {
+  ok = rw c.in-Export.is c.answer_export.ensures.ok;
+  err = rw c.in-Export.is c.answer_export.ensures.err;
+  fact = c.answer_export.ensures.fact;
+  setup = c.answer_export.ensures.setup;
+}

@@ -1,4 +1,4 @@
-use Rattle.std.proofs.Common.{◌≡◌, ◌+◌, refl, sym, ◌∙◌, ap, subst, length, arith}
+use Rattle.std.proofs.Common.{◌≡◌, ◌+◌, refl, sym, ◌∙◌, ap, subst, length, map, arith}
 use Rattle.std.specs.FinMap.{entries, len, len-entries}
 use Rattle.hyper_matrix.specs.Counts.{Counts}
 use Rattle.std.specs.List.{AllByRecursion}
@@ -6,7 +6,7 @@ use Rattle.hyper_matrix.specs.Shared.{LiesWithin}
 use Rattle.merged_cells.specs.Within.{LieWithin}
 use Rattle.mm_text.specs.Canonical.{entry_lines, numbers_line}
 use Rattle.wire_proto.specs.MatrixText.{cell_of}
-use Rattle.wire_proto.proofs.TextLemmas.{length_begins, length_more}
+use Rattle.wire_proto.proofs.TextLemmas.{length_begins, length_more, length_ends}
 use Rattle.wire_proto.proofs.exporting.text_size.Goals as goal
 
 pub loop-cell-init : goal.loop-cell-init
@@ -48,3 +48,19 @@ returns-then-len c =
     let whole = length_begins m m.rows m.cols (len m.counts) (length (numbers_line m.rows m.cols (len m.counts)))
     (entries m.counts) refl refl refl refl in
     omega (arith, whole, c.loop-cell.invariant.counted)
+
+pub returns-then-len-2 : goal.returns-then-len-2
+returns-then-len-2 c =
+    let old = c.loop-cell.invariant in
+    let ends = length_ends c.args.sum.now _ _ c.loop-cell.count c.line_length-size_line.result c.loop-cell.len
+    (entries c.loop-cell.cell-iterator) c.dims-rows.ensures.value c.line_length-size_line.ensures.value
+    c.in-None.ensures.steps.0 old.told old.counted in
+    omega (arith, ends.0)
+
+pub returns : goal.returns
+returns c =
+    let old = c.loop-cell.invariant in
+    let ends = length_ends c.args.sum.now _ _ c.loop-cell.count c.line_length-size_line.result c.loop-cell.len
+    (entries c.loop-cell.cell-iterator) c.dims-rows.ensures.value c.line_length-size_line.ensures.value
+    c.in-None.ensures.steps.0 old.told old.counted in
+    (omega (arith, ends.0), omega (arith, ends.0), ends.1)
