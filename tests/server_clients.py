@@ -314,7 +314,7 @@ def half_closed_connections_are_answered(unix):
     words = ["--rows", size, "--cols", size, "--workers", "1"]
     with Server(words, tcp=not unix, unix=unix) as at:
         with at.link(unix) as link:
-            check(f"{name}: put", put_cells(link, 1, cells), True)
+            check(f"{name}: put", put_cells(link, 1, [(row, col, 1) for row, col in cells]), True)
             link.sendall(EXPORT * 30 + STATUS)
             link.shutdown(1)
             time.sleep(0.5)
