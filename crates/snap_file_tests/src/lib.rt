@@ -7,6 +7,8 @@
 #[cfg(test)]
 mod bytes;
 #[cfg(test)]
+mod endless;
+#[cfg(test)]
 mod examples;
 #[cfg(test)]
 mod failing;
@@ -14,6 +16,8 @@ mod failing;
 mod fields;
 #[cfg(test)]
 mod files;
+#[cfg(test)]
+mod folders;
 #[cfg(test)]
 mod prefixes;
 #[cfg(test)]

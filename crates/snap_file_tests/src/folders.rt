@@ -1,0 +1,125 @@
+//! Saves in a folder in memory, each of whose calls fails in turn.
+ghost use Rattle.std.specs.Prelude.{◌≡◌, ◌+◌, ◌<◌, ◌^◌, IfOk};
+
+use crate::bytes::{MOST_BYTES, ONE, read};
+use byte_io::{DeviceFault, WriteFault};
+use snap_file::{Folder, MemoryFolder, SaveFault, Snapshot, save_in};
+use std::alloc::{AllocError, Global};
+use std::process::Abort;
+use std::test::Fail;
+
+// A folder of files, of which call number `fail_at` fails.
+fn folder(
+    alloc: Global,
+    files: &[(&str, &[u8])],
+    fail_at: Option<u64>,
+) -> Result<MemoryFolder, AllocError>
+    ensures { IfOk result (λ folder. folder.failures ≡ 0) }
+{
+    let mut list = Vec::new(alloc);
+    for (name, bytes) in files {
+        let file = (
+            String::from_str(alloc, *name)?,
+            Vec::from_slice(alloc, *bytes)?,
+        );
+        list.push(file)?;
+    }
+    Ok(MemoryFolder::new(alloc, list, fail_at))
+}
+
+fn saved(alloc: Global, folder: &mut MemoryFolder, snapshot: &Snapshot) -> Result<(), SaveFault>
+    requires { folder.old.failures + 1 < 2 ^ 64 }
+{
+    // Any use of it tells what it keeps.
+    let batches = &snapshot.batches;
+    save_in(alloc, folder, "a", &snapshot.setup, batches)
+}
+
+// Whether a file has these bytes.
+fn holds(f: &MemoryFolder, name: &str, bytes: &[u8]) -> bool {
+    match f.file(name) {
+        Some(held) => held == bytes,
+        None => false,
+    }
+}
+
+// What a save is answered in a folder whose call number `fail_at` fails, and what stands under `a` and `b` then.
+fn expect_save(
+    rt: &impl Abort,
+    alloc: Global,
+    snapshot: &Snapshot,
+    fail_at: Option<u64>,
+    expected: Result<(), SaveFault>,
+    held: &[u8],
+) -> Result<(), Fail> {
+    let mut f = folder(alloc, &[("a", b"old"), ("b", b"other")], fail_at)?;
+    let answer = saved(alloc, &mut f, snapshot);
+    assert_eq!(rt; answer, expected, "{fail_at:?}");
+    assert!(rt; holds(&f, "a", held));
+    assert!(rt; holds(&f, "b", b"other"));
+    let failures = if expected.is_ok() { 0 } else { 1 };
+    assert_eq!(rt; f.failures(), failures);
+    Ok(())
+}
+
+// The faults of the calls of a save, in order: a file of up to 16 KiB is one write.
+const FAULTS: [SaveFault; 4] = [
+    SaveFault::Create,
+    SaveFault::Write(WriteFault { written: 0 }),
+    SaveFault::Sync,
+    SaveFault::Rename,
+];
+
+#[test]
+fn each_call_fails_in_turn(rt: HostRuntime) -> Result<(), Fail> {
+    let snapshot = read(rt.alloc(), ONE, ONE.len(), MOST_BYTES)?;
+    let mut call = 0;
+    for fault in FAULTS {
+        expect_save(&rt, rt.alloc(), &snapshot, Some(call), Err(fault), b"old")?;
+        call += 1;
+    }
+    expect_save(&rt, rt.alloc(), &snapshot, Some(4), Ok(()), ONE)?;
+    expect_save(&rt, rt.alloc(), &snapshot, None, Ok(()), ONE)?;
+    Ok(())
+}
+
+#[test]
+fn what_was_left_over_is_written_over(rt: HostRuntime) -> Result<(), Fail> {
+    let snapshot = read(rt.alloc(), ONE, ONE.len(), MOST_BYTES)?;
+    let mut f = folder(rt.alloc(), &[("a.new", b"left over"), ("a", b"old")], None)?;
+    assert_eq!(rt; saved(rt.alloc(), &mut f, &snapshot), Ok(()));
+    assert!(rt; holds(&f, "a", ONE));
+    assert!(rt; f.file("a.new").is_none());
+    Ok(())
+}
+
+// A file is made in the place of one that has its name.
+#[test]
+fn a_created_file_is_empty(rt: HostRuntime) -> Result<(), Fail> {
+    let mut f = folder(rt.alloc(), &[("new", b"was there")], None)?;
+    assert_eq!(rt; f.create("new"), Ok(()));
+    assert!(rt; holds(&f, "new", b""));
+    Ok(())
+}
+
+// The first of two files of one name is told.
+#[test]
+fn the_first_of_a_name_counts(rt: HostRuntime) -> Result<(), Fail> {
+    let f = folder(rt.alloc(), &[("name", b"first"), ("name", b"second")], None)?;
+    assert!(rt; holds(&f, "name", b"first"));
+    assert!(rt; f.file("other").is_none());
+    assert_eq!(rt; f.failures(), 0);
+    Ok(())
+}
+
+// Call number 1 fails, and no other; it leaves the file.
+#[test]
+fn one_call_fails(rt: HostRuntime) -> Result<(), Fail> {
+    let mut f = folder(rt.alloc(), &[("name", b"old")], Some(1))?;
+    f.create("new")?;
+    assert_eq!(rt; f.create("name"), Err(DeviceFault));
+    assert!(rt; holds(&f, "name", b"old"));
+    assert_eq!(rt; f.create("name"), Ok(()));
+    assert_eq!(rt; f.failures(), 1);
+    Ok(())
+}
