@@ -78,7 +78,8 @@ def exports_keep_no_memory(place, kind, **how):
             received(link, struct.unpack(">I", head[:4])[0])
         check(f"{name}: all answers", kinds, {kind})
         check(f"{name}: memory", at.memory() <= before * 1.2, True)
-        behind = [put_cells(link, 1000 + n, [(LARGE - 1 - i, n + 1, 1) for i in range(1000)]) for n, link in enumerate(links)]
+        others = [[(LARGE - 1 - i, n + 1, 1) for i in range(1000)] for n in range(len(links))]
+        behind = [put_cells(link, 1000 + n, others[n]) for n, link in enumerate(links)]
         check(f"{name}: puts behind", all(behind), True)
         for link in links:
             link.close()
