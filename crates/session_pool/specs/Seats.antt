@@ -1,35 +1,49 @@
 -- What an engine of several threads answers by a seat, while others use it.
---     SeatGives v n e m   the engine of this setup may answer this call; the seat's share of the first ledger is n
---                         before and m after
+--     LooksOn s t         the same seat, whose version t has grown out of that of s
+--     SeatGives v saved s e t
+--                         the engine of this setup may answer this call; the seat is s before and t after; saved says
+--                         of a list that a disk has answered that it was saved
 use Rattle.std.specs.Prelude.{◌≡◌, ◌⊎◌, ℕ, ◌+◌, ◌%◌, List, length, Some, None, Ok, Err}
 use Rattle.std.specs.FinMap.{get}
+use mathlib.Core.List.{IsPrefix}
 use Rattle.hyper_matrix.specs.Matrix.{matrix}
 use Rattle.layer_cascade.specs.Cascade.{content}
-use Rattle.batch_store.specs.declared.verdict.Entry.{Entry}
 use Rattle.batch_store.specs.Setups.{Setting}
-use Rattle.batch_store.specs.Batches.{Submission, batch_total}
+use Rattle.batch_store.specs.Batches.{Submission, batch_total, entry_of, entries_of}
 use Rattle.batch_store.specs.Books.{AreAccepted}
 use Rattle.batch_store.specs.Shards.{Holding}
 use Rattle.plain_engine.specs.Standing.{shards_content}
 use Rattle.locked_engine.specs.Moments.{IsShardOf, AreShards, no_sum, row_sum_in}
+use Rattle.locked_engine.specs.Told.{IsTold}
 use Rattle.locked_engine.specs.Versions.{IsVersion, version_status}
+use Rattle.locked_engine.specs.Views.{SeatView}
 use Rattle.wire_proto.specs.Keeping.{Event, put, cell, row, status, export, save}
 
--- A batch was accepted first by this put, or it was known. A cell, a row and the parts of an export are what a shard of
--- the row's number showed, a saved list what the book showed, each under its lock at a moment of the call, and a status
--- that of a published version.
-abbrev pub SeatGives : Setting → ℕ → Event → ℕ → Type 0
-SeatGives v n (put batch (Ok kept)) m = (m ≡ n + batch_total batch) ⊎ (m ≡ n)
-SeatGives v n (put batch (Err fault)) m = m ≡ n
-SeatGives v n (cell r c (Some count)) m = (m ≡ n) × (x : Holding) × IsShardOf v (r % v.shards) x ×
+abbrev pub LooksOn : SeatView → SeatView → Type 0
+LooksOn s t = (t.number ≡ s.number) × IsPrefix s.seen t.seen
+
+-- A put, a status and a save show the seat a version, of which the answer is true: a put's is that version's word on
+-- the batch, whose total is added to the seat's share where the put was the first; a saved list has just its entries.
+-- A cell, a row and the parts of an export are what a shard of the row's number showed under its lock at a moment of
+-- the call; they leave the seat as it is.
+abbrev pub SeatGives : Setting → (List Submission → Type 0) → SeatView → Event → SeatView → Type 0
+SeatGives v saved s (put batch (Ok kept)) t =
+    LooksOn s t × ((t.first ≡ s.first + batch_total batch) ⊎ (t.first ≡ s.first)) ×
+    IsTold v (entry_of batch) t.seen (Ok kept)
+SeatGives v saved s (put batch (Err fault)) t =
+    LooksOn s t × (t.first ≡ s.first) × IsTold v (entry_of batch) t.seen (Err fault)
+SeatGives v saved s (cell r c (Some count)) t = (t ≡ s) × (x : Holding) × IsShardOf v (r % v.shards) x ×
     (get (content x.layers) (r, c) ≡ Some count)
-SeatGives v n (cell r c None) m = m ≡ n
-SeatGives v n (row r sum) m = (m ≡ n) × ((sum ≡ no_sum) ⊎ ((x : Holding) × IsShardOf v (r % v.shards) x ×
+SeatGives v saved s (cell r c None) t = t ≡ s
+SeatGives v saved s (row r sum) t = (t ≡ s) × ((sum ≡ no_sum) ⊎ ((x : Holding) × IsShardOf v (r % v.shards) x ×
     (sum ≡ row_sum_in x r)))
-SeatGives v n (status s) m = (m ≡ n) × (es : List Entry) × IsVersion v es × (s ≡ version_status es)
-SeatGives v n (export (Ok sum)) m =
-    (m ≡ n) × (xs : List Holding) × AreShards v 0 xs × (length xs ≡ v.shards) ×
+SeatGives v saved s (status a) t =
+    LooksOn s t × (t.first ≡ s.first) × IsVersion v t.seen × (a ≡ version_status t.seen)
+SeatGives v saved s (export (Ok sum)) t =
+    (t ≡ s) × (xs : List Holding) × AreShards v 0 xs × (length xs ≡ v.shards) ×
     (sum ≡ matrix v.rows v.cols (shards_content xs))
-SeatGives v n (export (Err e)) m = m ≡ n
-SeatGives v n (save (Ok count)) m = (m ≡ n) × (list : List Submission) × AreAccepted v list × (count ≡ length list)
-SeatGives v n (save (Err refusal)) m = m ≡ n
+SeatGives v saved s (export (Err e)) t = t ≡ s
+SeatGives v saved s (save (Ok count)) t =
+    LooksOn s t × (t.first ≡ s.first) × (list : List Submission) × AreAccepted v list ×
+    (entries_of list ≡ t.seen) × (count ≡ length list) × saved list
+SeatGives v saved s (save (Err refusal)) t = LooksOn s t × (t.first ≡ s.first)
