@@ -86,6 +86,25 @@ fn each_write_fails_in_turn(rt: HostRuntime) -> Result<(), Fail> {
     Ok(())
 }
 
+// There is room for all replies, and for no byte more.
+#[test]
+fn the_last_write_does_not_fail(rt: HostRuntime) -> Result<(), Fail> {
+    let alloc = rt.alloc();
+    let sent = frames(alloc, ASKS)?;
+    let expected = bytes_of(alloc, REPLIES)?;
+    let list = pieces(alloc, sent.as_slice(), 1_000)?;
+    let ended = Ended::Closed { rest: 0 };
+    fail(
+        &rt,
+        alloc,
+        list,
+        (None, Some(56)),
+        ended,
+        expected.as_slice(),
+        2,
+    )
+}
+
 // How many bytes are written, and how many batches accepted, once so many bytes were read.
 fn answered_after(reads: u64) -> (usize, u64) {
     match reads {

@@ -30,3 +30,5 @@ mod replies;
 mod sessions;
 #[cfg(test)]
 mod stores;
+#[cfg(test)]
+mod wrapped;
