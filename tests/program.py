@@ -244,6 +244,9 @@ NO_COMMANDS = [
     ["check"],
     ["check", "a", "b"],
     ["check", "--cuts", "1", "a"],
+    ["export"],
+    ["export", "a", "b"],
+    ["export", "--cuts", "1", "a"],
 ]
 
 
@@ -273,7 +276,7 @@ def table():
     for words in NO_COMMANDS:
         yield Case(f"hhm {' '.join(words)}", words, error=SOME, status=2)
     yield Case("an argument that isn't UTF-8", ["sum", b"--cuts=\xff"], error=SOME, status=2)
-    for words in [["--help"], ["sum", "--help"], ["check", "--help"]]:
+    for words in [["--help"], ["sum", "--help"], ["check", "--help"], ["export", "--help"]]:
         yield Case(f"hhm {' '.join(words)}", words, output=SOME)
     yield Case("hhm --version", ["--version"], output="hhm 0.1.0\n")
 
@@ -318,6 +321,12 @@ def a_folder_as_input(program):
         os.close(folder)
 
 
+def leave_room(room):
+    """In a new process: lets files grow to so many bytes."""
+    signal.signal(signal.SIGXFSZ, signal.SIG_IGN)
+    resource.setrlimit(resource.RLIMIT_FSIZE, (room, room))
+
+
 def an_output_that_fails(program):
     """Closed, and with room for so many bytes."""
     none = Case("a closed standard output", ["sum"], SMALL, error="hhm: output failed after 0 bytes\n", status=4)
@@ -334,12 +343,8 @@ def an_output_that_fails(program):
         error = f"hhm: output failed after {room} bytes\n"
         case = Case(f"room for {room} of {len(output)} bytes", ["sum"], text, output[:room], error, 4)
 
-        def with_room(room=room):
-            signal.signal(signal.SIGXFSZ, signal.SIG_IGN)
-            resource.setrlimit(resource.RLIMIT_FSIZE, (room, room))
-
         with tempfile.TemporaryFile() as file:
-            yield case.name, run(program, case, stdout=file, preexec_fn=with_room)
+            yield case.name, run(program, case, stdout=file, preexec_fn=lambda room=room: leave_room(room))
 
 
 def an_input_that_stays_open(program):
@@ -369,9 +374,14 @@ def a_limit_of_memory(program):
         yield case.name, run(program, case, preexec_fn=with_little_memory)
 
 
-def checked(name, path, fault, status):
-    """A check that writes nothing but the line of its fault."""
-    return Case(name, ["check", path], error=f"hhm: {fault}\n", status=status)
+def checked(name, path, fault, status, word="check"):
+    """A check, or an export, that writes nothing but the line of its fault."""
+    return Case(name, [word, path], error=f"hhm: {fault}\n", status=status)
+
+
+def exported(program, path, held):
+    """What is wrong with the export of a snapshot."""
+    return run(program, Case("", ["export", path], output=Snapshot(held).text()))
 
 
 def snapshots(program):
@@ -382,10 +392,13 @@ def snapshots(program):
             with open(path, "wb") as file:
                 file.write(held)
             yield f"check: {line}", run(program, Case("", ["check", path], output=line + "\n"))
+            yield f"export: {line}", exported(program, path, held)
         for held, fault in NO_SNAPSHOTS:
             with open(path, "wb") as file:
                 file.write(held)
             yield f"check: {fault}, {len(held)} bytes", run(program, checked("", path, f"snapshot: {fault}", 3))
+            case = checked("", path, f"snapshot: {fault}", 3, "export")
+            yield f"export: {fault}, {len(held)} bytes", run(program, case)
         fifo = os.path.join(folder, "fifo")
         os.mkfifo(fifo)
         for case in [
@@ -398,6 +411,8 @@ def snapshots(program):
             checked("check of /dev/null", "/dev/null", "file: OpenFailed", 4),
         ]:
             yield case.name, run(program, case)
+            case = case._replace(name=case.name.replace("check", "export"), words=["export", *case.words[1:]])
+            yield case.name, run(program, case)
         if os.getuid() != 0:
             os.chmod(path, 0)
             case = checked("check without permission", path, "file: OpenFailed", 4)
@@ -408,6 +423,25 @@ def snapshots(program):
         case = Case("check on a closed output", ["check", path], error="hhm: output failed after 0 bytes\n", status=4)
         with tempfile.TemporaryFile() as output:
             yield case.name, run(program, case, stdout=output, preexec_fn=lambda: os.close(1))
+
+
+def exports(program):
+    """The text of the sum of a snapshot's batches, and outputs that don't take it."""
+    with tempfile.TemporaryDirectory() as folder:
+        path = os.path.join(folder, "file")
+        with open(path, "wb") as file:
+            file.write(snapshot([(7, 1, [(0, 0, 5), (2, 1, 1)]), (8, 1, [(0, 0, 3), (1, 2, 0)])], 9))
+        text = BANNER + "3 3 3\n1 1 8\n2 3 0\n3 2 1\n"
+        yield "export of two batches", run(program, Case("", ["export", path], output=text))
+        # What comes out is the sum of itself.
+        yield "the sum of an export", run(program, Case("", ["sum"], text, text))
+        case = Case("", ["export", path], error="hhm: output failed after 0 bytes\n", status=4)
+        with tempfile.TemporaryFile() as output:
+            yield "export on a closed output", run(program, case, stdout=output, preexec_fn=lambda: os.close(1))
+        error = "hhm: output failed after 50 bytes\n"
+        case = Case("", ["export", path], output=text[:50], error=error, status=4)
+        with tempfile.TemporaryFile() as file:
+            yield "export with room for 50 bytes", run(program, case, stdout=file, preexec_fn=lambda: leave_room(50))
 
 
 class FirstFault(Exception):
@@ -457,7 +491,7 @@ class Snapshot:
         self.total = setting("total", 0, limit)
 
     def batches(self):
-        self.sum, self.places, pairs = 0, set(), set()
+        self.sum, self.places, pairs = 0, {}, set()
         for _ in range(self.count):
             client = self.take("client", 8, lambda _: True)
             number = self.take("number", 8, lambda value: (client, value) not in pairs, "RepeatedNumber")
@@ -472,8 +506,14 @@ class Snapshot:
             if (row, col) <= before:
                 raise FirstFault("OutOfOrder")
             before = row, col
-            self.places.add(before)
-            self.sum += self.take("count", 8, lambda value: self.sum + value <= self.total, "TotalDiffers")
+            count = self.take("count", 8, lambda value: self.sum + value <= self.total, "TotalDiffers")
+            self.places[before] = self.places.get(before, 0) + count
+            self.sum += count
+
+    def text(self):
+        """The canonical text of the sum of the batches."""
+        lines = [f"{row + 1} {col + 1} {count}\n" for (row, col), count in sorted(self.places.items())]
+        return f"{BANNER}{self.rows} {self.cols} {len(lines)}\n{''.join(lines)}"
 
     def line(self):
         return (
@@ -515,7 +555,8 @@ def the_example(program):
 
 
 DEVICES = [
-    a_folder_as_input, an_output_that_fails, an_input_that_stays_open, a_limit_of_memory, snapshots, flipped_bits,
+    a_folder_as_input, an_output_that_fails, an_input_that_stays_open, a_limit_of_memory, snapshots, exports,
+    flipped_bits,
     the_example,
 ]  # fmt: skip
 

@@ -8,6 +8,7 @@ use Rattle.mm_text.specs.Canonical.{canonical}
 use Rattle.hyper_rows.proofs.PlaceOrderLaws.{sorted_rising}
 use Rattle.hyper_rows.proofs.SortedListLaws.{built-in_order, entries-in_order, len-in_order}
 use Rattle.hyper_matrix.specs.Cells.{built_of, entry_of}
+use Rattle.hyper_matrix.specs.Counts.{Counts}
 use Rattle.hyper_matrix.specs.Matrix.{matrix}
 use Rattle.wire_proto.specs.MatrixText.{cell_of, cells_in_order, matrix_text}
 use Rattle.hhm.specs.Running.{ListsSum}
@@ -42,3 +43,10 @@ text_listed rows cols cells sum lists =
     ∙ ap (λ n. canonical rows n sum.cells.items) lists.cols_are
     ∙ ap (canonical rows cols) (sym (cells_built sum.cells.items lists.rises))
     ∙ ap (λ m. matrix_text (matrix rows cols m)) lists.same
+
+-- so it is that of whatever matrix it builds
+pub text_of_list : (rows cols : ℕ) (cells : List Cell) (counts : Counts) → Rise cells → built_of cells ≡ counts →
+    canonical rows cols cells ≡ matrix_text (matrix rows cols counts)
+unfolding matrix_text
+text_of_list rows cols cells counts rises same =
+    ap (canonical rows cols) (sym (cells_built cells rises)) ∙ ap (λ m. matrix_text (matrix rows cols m)) same

@@ -1,12 +1,14 @@
--- What `check` says of a snapshot.
+-- What `check` says of a snapshot, and what `export` writes of it.
 use Rattle.std.specs.Prelude.{ℕ, List, [], ◌∷◌, ◌++◌, length, map, codes, decimal}
 use Rattle.std.specs.FinMap.{len}
 use Rattle.hyper_matrix.specs.Counts.{Counts}
+use Rattle.hyper_matrix.specs.Matrix.{matrix}
 use Rattle.layer_cascade.specs.Cascade.{content}
 use Rattle.batch_store.specs.Setups.{Setting}
 use Rattle.batch_store.specs.Batches.{Submission}
 use Rattle.batch_store.specs.Books.{list_total}
 use Rattle.snap_file.specs.declared.fault.FileFault.{FileFault}
+use Rattle.wire_proto.specs.MatrixText.{matrix_text}
 use Rattle.hhm.specs.declared.fault.CheckFault.{CheckFault}
 
 -- want of memory is told as such, wherever it came up
@@ -17,6 +19,10 @@ fault_of_file fault = CheckFault.File fault
 -- the sum of all batches
 abbrev pub sum_of_batches : List Submission → Counts
 sum_of_batches list = content (map (λ (b : Submission). b.matrix.counts) list)
+
+-- the canonical text of the sum of all batches
+abbrev pub batches_text : Setting → List Submission → List ℕ
+batches_text s list = matrix_text (matrix s.rows s.cols (sum_of_batches list))
 
 -- the line of these numbers
 abbrev pub line_of : ℕ → ℕ → ℕ → ℕ → ℕ → ℕ → List ℕ

@@ -5,6 +5,9 @@ ghost use Rattle.std.specs.FinMap.{len};
 ghost use Rattle.arrayvec.specs.ArrayString.{array_string_len};
 ghost use Rattle.byte_io.specs.Writing.{HasTaken, HasStopped};
 ghost use Rattle.byte_io.specs.declared.fault.WriteFault.{WriteFault};
+ghost use Rattle.cells.specs.Bounds.{AreWithin};
+ghost use Rattle.cells.specs.Order.{Rise};
+ghost use Rattle.hyper_matrix.specs.Cells.{built_of};
 ghost use Rattle.hyper_matrix.specs.Counts.{total, ewise_add};
 ghost use Rattle.batch_store.specs.Setups.{Setting};
 ghost use Rattle.batch_store.specs.Batches.{Submission, values};
@@ -17,6 +20,7 @@ use crate::running_sum::empty_layers;
 use arrayvec::ArrayString;
 use batch_store::{Batch, Setup};
 use byte_io::{Sink, write_all};
+use cells::Cell;
 use pending_layers::PendingLayers;
 use snap_file::load;
 use std::alloc::{AllocError, Global};
@@ -43,16 +47,27 @@ fn with_batch(
     Ok(after)
 }
 
-// The number of entries of the sum of all batches.
-fn entries_of(alloc: Global, setup: &Setup, batches: &[Arc<Batch>]) -> Result<u64, AllocError>
+/// The cells of the sum of all batches, by row and then by column, each place once.
+pub fn sum_of(alloc: Global, setup: &Setup, batches: &[Arc<Batch>]) -> Result<Vec<Cell>, AllocError>
     requires { AreAccepted setup.now (values batches.now) }
-    ensures { IfOk result (λ entries. entries ≡ len (sum_of_batches (values batches.now))) }
+    ensures rises { IfOk result (λ list. Rise list.items) }
+    ensures within { IfOk result (λ list. AreWithin setup.now.rows setup.now.cols list.items) }
+    ensures sum { IfOk result (λ list. built_of list.items ≡ sum_of_batches (values batches.now)) }
 {
     let mut layers = empty_layers(alloc, setup.rows(), setup.cols(), &CHECK_CUTS, 0)?;
     for batch in batches {
         layers = with_batch(alloc, layers, batch)?;
     }
     let cells = layers.into_cells(alloc)?;
+    Ok(cells)
+}
+
+// The number of entries of the sum of all batches.
+fn entries_of(alloc: Global, setup: &Setup, batches: &[Arc<Batch>]) -> Result<u64, AllocError>
+    requires { AreAccepted setup.now (values batches.now) }
+    ensures { IfOk result (λ entries. entries ≡ len (sum_of_batches (values batches.now))) }
+{
+    let cells = sum_of(alloc, setup, batches)?;
     Ok(cells.len() as u64)
 }
 

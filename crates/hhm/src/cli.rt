@@ -40,6 +40,19 @@ A fault is one line on standard error:
   hhm: output failed after N bytes status 4
   hhm: memory                      status 5";
 
+const EXPORT_HELP: &str = "\
+Reads the snapshot in the file PATH to its end, and writes the sum of all its
+batches to standard output: a Matrix Market text (matrix coordinate integer
+general) with the cells by row and then by column.
+
+Nothing is written unless the whole snapshot was read without a fault. A fault is
+one line on standard error:
+
+  hhm: file: NotFound, OpenFailed  status 4
+  hhm: snapshot: KIND              status 3 (KIND Read: 4)
+  hhm: output failed after N bytes status 4
+  hhm: memory                      status 5";
+
 const CUTS_HELP: &str =
     "The cuts of the layers, rising, each 1 to 1099511627776, at most 7, with commas between; or none";
 
@@ -66,10 +79,22 @@ fn check_command<'a>(alloc: Global) -> Result<Command<'a>, AllocError> {
         .arg(path)
 }
 
+fn export_command<'a>(alloc: Global) -> Result<Command<'a>, AllocError> {
+    let path = Arg::new(alloc, "path")
+        .value_name("PATH")
+        .required(true)
+        .help("The snapshot's file");
+    Command::new(alloc, "export")
+        .about("Read a snapshot, and write the canonical text of the sum of its batches")
+        .after_help(EXPORT_HELP)
+        .arg(path)
+}
+
 /// The command line of the program.
 pub fn command<'a>(alloc: Global) -> Result<Command<'a>, AllocError> {
     let sum = sum_command(alloc)?;
     let check = check_command(alloc)?;
+    let export = export_command(alloc)?;
     let serve = serve_command(alloc)?;
     Command::new(alloc, "hhm")
         .bin_name("hhm")?
@@ -79,5 +104,6 @@ pub fn command<'a>(alloc: Global) -> Result<Command<'a>, AllocError> {
         .arg_required_else_help(true)
         .subcommand(sum)?
         .subcommand(check)?
+        .subcommand(export)?
         .subcommand(serve)
 }

@@ -1,4 +1,4 @@
-//! Why `sum` doesn't write a sum, and `check` no line.
+//! Why `sum` doesn't write a sum, `check` no line, and `export` no text.
 ghost use Rattle.std.specs.Prelude.{◌≡◌};
 ghost use Rattle.hhm.specs.declared.fault.SumFault.TheVariants.{Memory, Text};
 
@@ -39,7 +39,7 @@ impl From<AllocError> for SumFault {
     }
 }
 
-/// Why the line of a snapshot was not written.
+/// Why the line of a snapshot, or the text of its sum, was not written.
 #[derive(Clone, Copy, Debug, PartialEq, Eq)]
 pub enum CheckFault {
     /// The file could not be opened or read, or is no snapshot. The fault is never want of memory.

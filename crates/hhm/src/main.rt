@@ -6,6 +6,7 @@
 
 mod check;
 mod cli;
+mod export;
 mod fault;
 mod limits;
 mod memory;
@@ -19,6 +20,7 @@ mod sum;
 mod sum_tests;
 
 use crate::check::run_check;
+use crate::export::run_export;
 use crate::memory::keep_freed_memory;
 use crate::numbers::read_list;
 use crate::report::Fault;
@@ -98,6 +100,10 @@ fn run_matches(rt: &HostRuntime, matches: &ArgMatches) -> Result<Outcome, Fault>
     if let Some(check) = matches.subcommand_matches("check") {
         let path = check.get_str("path").unwrap_or("");
         run_check(rt, rt.alloc(), path, &mut Counted::new(rt.stdout()))?;
+    }
+    if let Some(export) = matches.subcommand_matches("export") {
+        let path = export.get_str("path").unwrap_or("");
+        run_export(rt, rt.alloc(), path, &mut Counted::new(rt.stdout()))?;
     }
     Ok(Outcome::Ended(ExitCode::SUCCESS))
 }

@@ -23,7 +23,7 @@ pub enum Fault {
     Setup(SetupFault),
     /// `sum` wrote no sum, or not all of it.
     Sum(SumFault),
-    /// `check` wrote no line, or not all of it.
+    /// `check` wrote no line, or `export` no text, or not all of it.
     Check(CheckFault),
 }
 

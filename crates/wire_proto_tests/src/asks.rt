@@ -1,4 +1,6 @@
 //! What a client sends, and the session that answers it.
+ghost use Rattle.std.specs.Prelude.{IfOk, IfSome};
+ghost use Rattle.wire_proto.specs.Frames.{HasWholeCells};
 
 use crate::hex::bytes_of;
 use crate::replies::{is_reply, split_frame};
@@ -22,6 +24,8 @@ pub enum Ask {
     Put(u64, u64, &'static str),
     /// Client, number, and the whole text.
     Text(u64, u64, &'static str),
+    /// Client, number, and the cells.
+    Cells(u64, u64, &'static [(u64, u64, u64)]),
     Cell(u64, u64),
     Row(u64),
     Status,
@@ -41,7 +45,9 @@ pub fn small_setup() -> Result<Setup, SetupFault> {
 }
 
 /// The request of a put of this text.
-pub fn put_request(alloc: Global, pair: (u64, u64), text: &[u8]) -> Result<Request, AllocError> {
+pub fn put_request(alloc: Global, pair: (u64, u64), text: &[u8]) -> Result<Request, AllocError>
+    ensures { IfOk result (λ request. HasWholeCells request) }
+{
     Ok(Request::Put {
         client: pair.0,
         number: pair.1,
@@ -62,8 +68,39 @@ fn text_frame(alloc: Global, pair: (u64, u64), text: &str) -> Result<Vec<u8>, En
     encode_request(alloc, &request)
 }
 
+// The bytes of cells: row, column and count of each, the high byte first.
+fn bytes_of_cells(alloc: Global, cells: &[(u64, u64, u64)]) -> Result<Bytes, AllocError> {
+    let mut bytes = Vec::new(alloc);
+    for (row, col, count) in cells {
+        bytes.extend_from_slice(&row.to_be_bytes())?;
+        bytes.extend_from_slice(&col.to_be_bytes())?;
+        bytes.extend_from_slice(&count.to_be_bytes())?;
+    }
+    Bytes::copy_from_slice(alloc, bytes.as_slice())
+}
+
+/// The frame of a put of these cells.
+pub fn cells_frame(
+    alloc: Global,
+    pair: (u64, u64),
+    list: &[(u64, u64, u64)],
+) -> Result<Vec<u8>, EncodeFault> {
+    let cells = bytes_of_cells(alloc, list)?;
+    if cells.len() % 24 != 0 {
+        return Err(EncodeFault::Memory);
+    }
+    let request = Request::PutCells {
+        client: pair.0,
+        number: pair.1,
+        cells,
+    };
+    encode_request(alloc, &request)
+}
+
 // The request of a frame that has no text.
-fn short_request(ask: Ask) -> Option<Request> {
+fn short_request(ask: Ask) -> Option<Request>
+    ensures { IfSome result (λ request. HasWholeCells request) }
+{
     match ask {
         Ask::Cell(row, col) => Some(Request::Cell { row, col }),
         Ask::Row(row) => Some(Request::Row { row }),
@@ -71,7 +108,7 @@ fn short_request(ask: Ask) -> Option<Request> {
         Ask::Export => Some(Request::Export),
         Ask::Save => Some(Request::Save),
         Ask::Stop => Some(Request::Stop),
-        Ask::Put(..) | Ask::Text(..) | Ask::Raw(_) => None,
+        Ask::Put(..) | Ask::Text(..) | Ask::Cells(..) | Ask::Raw(_) => None,
     }
 }
 
@@ -87,6 +124,7 @@ pub fn frame(alloc: Global, ask: Ask) -> Result<Vec<u8>, EncodeFault> {
     match ask {
         Ask::Put(client, number, tail) => put_frame(alloc, (client, number), tail.as_bytes()),
         Ask::Text(client, number, text) => text_frame(alloc, (client, number), text),
+        Ask::Cells(client, number, cells) => cells_frame(alloc, (client, number), cells),
         Ask::Raw(digits) => Ok(bytes_of(alloc, digits)?),
         short => short_frame(alloc, short),
     }

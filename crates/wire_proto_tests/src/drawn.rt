@@ -1,7 +1,7 @@
 //! Frames that are drawn: all requests, mostly puts, with repeats and faults, and bad headers.
 ghost use Rattle.std.specs.Prelude.{◌<◌};
 
-use crate::asks::{Ask, frame, put_frame};
+use crate::asks::{Ask, cells_frame, frame, put_frame};
 use crate::plain::{Counts, add};
 use std::alloc::{AllocError, Global};
 use std::collections::BTreeMap;
@@ -63,7 +63,7 @@ impl Bad {
 
     fn header(self) -> [u8; 5] {
         match self {
-            Bad::Large => [1, 0, 0, 1, 4],
+            Bad::Large => [4, 0, 0, 1, 4],
             Bad::Kind => [0, 0, 0, 0, 9],
             Bad::Length => [0, 0, 0, 1, 4],
         }
@@ -77,6 +77,11 @@ pub enum Drawn {
         pair: (u64, u64),
         cells: Vec<(u64, u64, u64)>,
         twist: Twist,
+    },
+    /// Cells as numbers; the last may lie outside.
+    Cells {
+        pair: (u64, u64),
+        cells: Vec<(u64, u64, u64)>,
     },
     Cell(u64, u64),
     Row(u64),
@@ -145,6 +150,19 @@ fn draw_put(alloc: Global, stream: &mut Stream) -> Result<Drawn, AllocError> {
     Ok(Drawn::Put { pair, cells, twist })
 }
 
+// Mostly the cells of the texts of the same pair; now and then a cell outside behind them.
+fn draw_cells(alloc: Global, stream: &mut Stream) -> Result<Drawn, AllocError> {
+    let pair = (stream.below(3), stream.below(7));
+    let seed = seed_of(pair, stream.below(5) == 0);
+    let mut cells = cells_for(alloc, seed)?;
+    match stream.below(10) {
+        0 => cells.push((ROWS, 0, 1))?,
+        1 => cells.push((0, COLS, 1))?,
+        _ => {}
+    }
+    Ok(Drawn::Cells { pair, cells })
+}
+
 fn draw_bad(stream: &mut Stream) -> Bad {
     match stream.below(3) {
         0 => Bad::Large,
@@ -163,6 +181,7 @@ pub fn draw(alloc: Global, stream: &mut Stream) -> Result<Drawn, AllocError> {
         4..=5 => Ok(Drawn::Status),
         6..=7 => Ok(Drawn::Row(stream.below(6))),
         8..=12 => Ok(Drawn::Cell(stream.below(6), stream.below(5))),
+        13..=19 => draw_cells(alloc, stream),
         _ => draw_put(alloc, stream),
     }
 }
@@ -212,7 +231,7 @@ fn ask_of(drawn: &Drawn) -> Option<Ask> {
         Drawn::Export => Some(Ask::Export),
         Drawn::Save => Some(Ask::Save),
         Drawn::Stop => Some(Ask::Stop),
-        Drawn::Put { .. } | Drawn::Bad(_) => None,
+        Drawn::Put { .. } | Drawn::Cells { .. } | Drawn::Bad(_) => None,
     }
 }
 
@@ -229,6 +248,7 @@ pub fn frame_of(alloc: Global, drawn: &Drawn) -> Result<Vec<u8>, EncodeFault> {
         Drawn::Put { pair, cells, twist } => {
             frame_of_put(alloc, *pair, cells.as_slice(), *twist)
         }
+        Drawn::Cells { pair, cells } => cells_frame(alloc, *pair, cells.as_slice()),
         Drawn::Bad(bad) => Ok(Vec::from_slice(alloc, &bad.header())?),
         short => short_frame_of(alloc, short),
     }

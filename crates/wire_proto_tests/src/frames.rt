@@ -13,9 +13,12 @@ static HEADERS: &[(&str, Result<Option<u8>, FrameFault>)] = &[
     ("", Ok(None)),
     ("010000 01", Ok(None)),
     ("01000000 01", Ok(None)),
-    ("01000001 01", Err(FrameFault::TooLarge)),
+    ("01000001 01", Ok(None)),
+    ("01000001 04", Err(FrameFault::BadLength)),
+    ("04000000 01", Ok(None)),
+    ("04000001 01", Err(FrameFault::TooLarge)),
     ("ffffffff 09", Err(FrameFault::TooLarge)),
-    ("01000001 04", Err(FrameFault::TooLarge)),
+    ("04000001 04", Err(FrameFault::TooLarge)),
     ("00000010 01", Ok(None)),
     ("0000000f 01", Err(FrameFault::BadLength)),
     ("00000010 02", Ok(None)),
@@ -33,7 +36,17 @@ static HEADERS: &[(&str, Result<Option<u8>, FrameFault>)] = &[
     ("00000000 07", Ok(Some(7))),
     ("00000001 07", Err(FrameFault::BadLength)),
     ("00000000 00", Err(FrameFault::UnknownKind)),
-    ("00000000 08", Err(FrameFault::UnknownKind)),
+    ("00000000 08", Err(FrameFault::BadLength)),
+    ("0000000f 08", Err(FrameFault::BadLength)),
+    ("00000010 08", Ok(None)),
+    ("00000011 08", Err(FrameFault::BadLength)),
+    ("00000018 08", Err(FrameFault::BadLength)),
+    ("00000027 08", Err(FrameFault::BadLength)),
+    ("00000028 08", Ok(None)),
+    ("00000029 08", Err(FrameFault::BadLength)),
+    ("03fffff8 08", Err(FrameFault::BadLength)),
+    ("04000000 08", Ok(None)),
+    ("04000018 08", Err(FrameFault::TooLarge)),
     ("00000000 09", Err(FrameFault::UnknownKind)),
     ("01000000 81", Err(FrameFault::UnknownKind)),
     ("00000010 81", Err(FrameFault::UnknownKind)),
@@ -49,6 +62,7 @@ fn kind(request: &Request) -> u8 {
         Request::Export => 5,
         Request::Save => 6,
         Request::Stop => 7,
+        Request::PutCells { .. } => 8,
     }
 }
 
@@ -144,7 +158,7 @@ fn expect_put(
 
 #[test]
 fn a_longest_put_comes_whole_in_pieces(rt: HostRuntime) -> Result<(), Fail> {
-    let text = vec![in rt.alloc(); 37u8; 16_777_200]?;
+    let text = vec![in rt.alloc(); 37u8; 67_108_848]?;
     let mut frames = Frames::new(rt.alloc());
     expect_put(&rt, rt.alloc(), &mut frames, text.as_slice())?;
     assert_eq!(rt; next_kind(rt.alloc(), &mut frames), Ok(None));
@@ -153,7 +167,7 @@ fn a_longest_put_comes_whole_in_pieces(rt: HostRuntime) -> Result<(), Fail> {
 
 #[test]
 fn a_put_that_is_one_byte_longer_has_no_frame(rt: HostRuntime) -> Result<(), Fail> {
-    let text = vec![in rt.alloc(); 37u8; 16_777_201]?;
+    let text = vec![in rt.alloc(); 37u8; 67_108_849]?;
     let request = put_request(rt.alloc(), (7, 1), text.as_slice())?;
     let fault = encode_request(rt.alloc(), &request).err();
     assert_eq!(rt; fault, Some(EncodeFault::TooLarge));
@@ -176,6 +190,16 @@ static SPELLED: &[(Ask, &str)] = &[
     (Ask::Export, "00000000 05"),
     (Ask::Save, "00000000 06"),
     (Ask::Stop, "00000000 07"),
+    (
+        Ask::Cells(9, 1, &[(0, 1, 5), (2, 0, u64::MAX)]),
+        "00000040 08 0000000000000009 0000000000000001
+         0000000000000000 0000000000000001 0000000000000005
+         0000000000000002 0000000000000000 ffffffffffffffff",
+    ),
+    (
+        Ask::Cells(9, 2, &[]),
+        "00000010 08 0000000000000009 0000000000000002",
+    ),
 ];
 
 #[test]

@@ -1,7 +1,7 @@
 //! The longest text that a reply carries, and one that is a byte longer. With the checks of `rt try --test` it takes
 //! minutes (`--seconds 600`).
 
-use crate::asks::{Ask, Ran, exchange, frame, put_frame, run};
+use crate::asks::{Ask, Ran, cells_frame, exchange, frame, put_frame, run};
 use crate::drawn::push_line;
 use crate::hex::bytes_of;
 use crate::replies::text_len;
@@ -18,45 +18,69 @@ const MOST: u64 = 1_152_921_504_606_846_976;
 
 const FIRST: u64 = 1_000_000_000_000_000_000;
 
-// A banner line of 49 bytes, a size line of 47, a line of 42 for each cell with a count of one digit, and ten further
-// digits in the last one make 16,777,216 bytes.
-const CELLS: u64 = 399_455;
+// A banner line of 49 bytes, a size line of 48, a line of 42 for each cell with a count of one digit, and eleven further
+// digits in each of the last three make 67,108,864 bytes.
+const CELLS: u64 = 1_597_827;
 
-// The text behind its banner line of all cells but the last, each of them 1.
-fn ones(alloc: Global) -> Result<Vec<u8>, AllocError> {
-    let mut text = Vec::new(alloc);
-    push_line(alloc, &mut text, (MOST, MOST, CELLS - 1))?;
-    for i in 0..CELLS - 1 {
-        push_line(alloc, &mut text, (MOST, FIRST.saturating_add(i), 1))?;
+// How many of them are in each of two puts: all but the last three.
+const HALF: u64 = 798_912;
+
+// Twelve digits.
+const LONG: u64 = 100_000_000_000;
+
+// Half of the cells, each of them 1, counted from 0.
+fn ones(alloc: Global, first: u64) -> Result<Vec<(u64, u64, u64)>, AllocError> {
+    let mut cells = Vec::with_capacity(alloc, HALF as usize)?;
+    for i in 0..HALF {
+        let col = (FIRST - 1).saturating_add(first).saturating_add(i);
+        cells.push((MOST - 1, col, 1u64))?;
     }
-    Ok(text)
+    Ok(cells)
 }
 
-// A put of the last cell, and an export.
-fn last_and_export(alloc: Global, number: u64, count: u64) -> Result<Vec<u8>, EncodeFault> {
+// The frame of a put of half of the cells.
+fn half(alloc: Global, number: u64, first: u64) -> Result<Vec<u8>, EncodeFault> {
+    let cells = ones(alloc, first)?;
+    cells_frame(alloc, (7, number), cells.as_slice())
+}
+
+// A put of the last three cells as a text, and an export.
+fn last_and_export(alloc: Global) -> Result<Vec<u8>, EncodeFault> {
     let mut text = Vec::new(alloc);
-    push_line(alloc, &mut text, (MOST, MOST, 1))?;
-    push_line(alloc, &mut text, (MOST, FIRST + CELLS - 1, count))?;
-    let mut sent = put_frame(alloc, (7, number), text.as_slice())?;
+    push_line(alloc, &mut text, (MOST, MOST, 3))?;
+    for i in CELLS - 3..CELLS {
+        push_line(alloc, &mut text, (MOST, FIRST.saturating_add(i), LONG))?;
+    }
+    let mut sent = put_frame(alloc, (7, 3), text.as_slice())?;
     let export = frame(alloc, Ask::Export)?;
     sent.extend_from_slice(export.as_slice())?;
     Ok(sent)
 }
 
-// A put of all cells, and an export.
+// A put of one count that takes a digit more, and an export.
+fn longer_and_export(alloc: Global) -> Result<Vec<u8>, EncodeFault> {
+    let cell = (MOST - 1, FIRST + CELLS - 2, 9 * LONG);
+    let mut sent = cells_frame(alloc, (7, 4), &[cell])?;
+    let export = frame(alloc, Ask::Export)?;
+    sent.extend_from_slice(export.as_slice())?;
+    Ok(sent)
+}
+
+// Puts of all cells, and an export.
 fn all_and_export(alloc: Global) -> Result<Vec<u8>, EncodeFault> {
-    let text = ones(alloc)?;
-    let mut sent = put_frame(alloc, (7, 1), text.as_slice())?;
-    let rest = last_and_export(alloc, 2, 10_000_000_000)?;
+    let mut sent = half(alloc, 1, 0)?;
+    let second = half(alloc, 2, HALF)?;
+    sent.extend_from_slice(second.as_slice())?;
+    let rest = last_and_export(alloc)?;
     sent.extend_from_slice(rest.as_slice())?;
     Ok(sent)
 }
 
-// Compares how long the text is, behind two replies of 21 bytes.
+// Compares how long the text is, behind three replies of 21 bytes.
 fn expect_longest(rt: &impl Abort, ran: &Ran) {
     assert_eq!(rt; ran.ended, Ended::Closed { rest: 0 });
-    let reply = ran.link.written().get(42..).unwrap_or(&[]);
-    assert_eq!(rt; text_len(reply), Some(16_777_216));
+    let reply = ran.link.written().get(63..).unwrap_or(&[]);
+    assert_eq!(rt; text_len(reply), Some(67_108_864));
 }
 
 // Sends all cells.
@@ -78,10 +102,10 @@ fn export_longer(
     alloc: Global,
     engine: &mut PlainEngine,
 ) -> Result<(), EncodeFault> {
-    let sent = last_and_export(alloc, 3, 90_000_000_000)?;
+    let sent = longer_and_export(alloc)?;
     let expected = bytes_of(
         alloc,
-        "00000010 81 0000000000000002 00000017487d005e
+        "00000010 81 0000000000000003 0000011765ab4180
          0000000a ff 0028 0000000000000000",
     )?;
     let ended = Ended::Closed { rest: 0 };

@@ -7,6 +7,8 @@
 #[cfg(test)]
 mod asks;
 #[cfg(test)]
+mod cell_puts;
+#[cfg(test)]
 mod cuts;
 #[cfg(test)]
 mod drawn;

@@ -63,7 +63,7 @@ fn spell_refusal(alloc: Global, code: u16, detail: u64) -> Result<Vec<u8>, Alloc
 }
 
 fn spell_text(alloc: Global, text: &[u8]) -> Result<Vec<u8>, AllocError> {
-    let len = text.len().min(16_777_216) as u32;
+    let len = text.len().min(67_108_864) as u32;
     let mut bytes = head(alloc, 0x85, len)?;
     bytes.extend_from_slice(text)?;
     Ok(bytes)
@@ -187,6 +187,22 @@ impl Plain {
         }
     }
 
+    // The answer to a put of cells: the first that lies outside is told.
+    fn put_cells(
+        &mut self,
+        alloc: Global,
+        pair: (u64, u64),
+        cells: &[(u64, u64, u64)],
+    ) -> Result<Said, AllocError> {
+        for (i, (row, col, _)) in cells.iter().enumerate() {
+            if *row >= ROWS || *col >= COLS {
+                return Ok(Said::Refused(22, i as u64));
+            }
+        }
+        let batch = summed(alloc, cells)?;
+        self.put(pair, &batch)
+    }
+
     fn cell(&self, row: u64, col: u64) -> Said {
         if row >= ROWS || col >= COLS {
             return Said::Refused(41, 0);
@@ -228,6 +244,7 @@ impl Plain {
             Drawn::Put { pair, cells, twist } => {
                 self.put_text(alloc, *pair, cells.as_slice(), *twist)
             }
+            Drawn::Cells { pair, cells } => self.put_cells(alloc, *pair, cells.as_slice()),
             Drawn::Cell(row, col) => Ok(self.cell(*row, *col)),
             Drawn::Row(row) => Ok(self.row(*row)),
             Drawn::Status => Ok(Said::Pair(0x84, self.batches(), self.total())),

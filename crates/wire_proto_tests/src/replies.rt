@@ -216,9 +216,9 @@ fn with_head(alloc: Global, head: &[u8], len: usize) -> Result<Vec<u8>, AllocErr
 
 #[test]
 fn a_text_is_read_up_to_the_longest_body(rt: HostRuntime) -> Result<(), Fail> {
-    let longest = with_head(rt.alloc(), &[1, 0, 0, 0, 0x85], 16_777_216)?;
-    assert_eq!(rt; text_len(longest.as_slice()), Some(16_777_216));
-    let longer = with_head(rt.alloc(), &[1, 0, 0, 1, 0x85], 16_777_217)?;
+    let longest = with_head(rt.alloc(), &[4, 0, 0, 0, 0x85], 67_108_864)?;
+    assert_eq!(rt; text_len(longest.as_slice()), Some(67_108_864));
+    let longer = with_head(rt.alloc(), &[4, 0, 0, 1, 0x85], 67_108_865)?;
     assert!(rt; !is_reply(longer.as_slice()));
     Ok(())
 }

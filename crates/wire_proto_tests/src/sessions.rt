@@ -113,13 +113,13 @@ static SESSIONS: &[Session] = &[
     ),
     // Bad headers, judged by their length first, then by their kind; what stands before them is answered.
     (
-        &[Ask::Status, Ask::Raw("01000001 04"), Ask::Status],
+        &[Ask::Status, Ask::Raw("04000001 04"), Ask::Status],
         "00000010 84 0000000000000000 0000000000000000 0000000a ff 0032 0000000000000000",
         Ended::BadFrame,
         (0, 0),
     ),
     (
-        &[Ask::Raw("01000001 09")],
+        &[Ask::Raw("04000001 09")],
         "0000000a ff 0032 0000000000000000",
         Ended::BadFrame,
         (0, 0),
@@ -127,6 +127,12 @@ static SESSIONS: &[Session] = &[
     (
         &[Ask::Raw("00000000 09"), Ask::Status],
         "0000000a ff 0033 0000000000000000",
+        Ended::BadFrame,
+        (0, 0),
+    ),
+    (
+        &[Ask::Raw("01000001 04")],
+        "0000000a ff 0034 0000000000000000",
         Ended::BadFrame,
         (0, 0),
     ),

@@ -1,12 +1,10 @@
 use Rattle.std.proofs.Common.{ap, sym, ◌∙◌, arith}
 use Rattle.std.proofs.lemmas.List.{take_all}
-use Rattle.std.specs.FinMap.{len}
 use Rattle.hyper_matrix.specs.Matrix.{Matrix}
 use Rattle.batch_store.specs.Batches.{values}
 use Rattle.hhm.specs.Checks.{sum_of_batches}
 use Rattle.hhm.proofs.CheckLemmas.{dims_at, sum_fits, sum_more}
-use Rattle.hhm.proofs.ListLemmas.{cells_counted}
-use Rattle.hhm.proofs.check.entries_of.Goals as goal
+use Rattle.hhm.proofs.check.sum_of.Goals as goal
 
 pub loop-batch-init : goal.loop-batch-init
 loop-batch-init c = record {
@@ -43,12 +41,12 @@ loop-batch-preserved c = record {
       c.loop-batch.layers.counts c.in_ok-layers-2.layers.counts c.loop-batch.invariant.sum c.in_ok-layers-2.ensures.sum;
 }
 
-pub returns : goal.returns
-returns c = omega (
-  arith,
-  c.len.ensures,
-  cells_counted c.in_ok-cells.cells.items c.in_ok-cells.ensures.rises,
-  ap len (c.in_ok-cells.ensures.sum ∙ c.loop-batch.invariant.sum
-      ∙ ap (λ bs. sum_of_batches (values bs))
-      (take_all c.loop-batch.batch-index c.args.batches.now (omega (arith, c.loop-batch-test.false)))),
-)
+pub returns-clause-within : goal.returns-clause-within
+returns-clause-within c =
+    rw (← c.loop-batch.invariant.rows, ← c.loop-batch.invariant.cols) c.in_ok-cells.ensures.within
+
+pub returns-clause-sum : goal.returns-clause-sum
+returns-clause-sum c =
+    c.in_ok-cells.ensures.sum ∙ c.loop-batch.invariant.sum
+    ∙ ap (λ bs. sum_of_batches (values bs))
+    (take_all c.loop-batch.batch-index c.args.batches.now (omega (arith, c.loop-batch-test.false)))

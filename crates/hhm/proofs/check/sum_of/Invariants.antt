@@ -1,7 +1,7 @@
 use Rattle.std.proofs.Common.{◌≡◌, take}
 use Rattle.batch_store.specs.Batches.{values}
 use Rattle.hhm.specs.Checks.{sum_of_batches}
-use Rattle.hhm.proofs.check.entries_of.Given as goal
+use Rattle.hhm.proofs.check.sum_of.Given as goal
 
 abbrev pub invariant-loop-batch : goal.invariant-loop-batch
 invariant-loop-batch l = record {

@@ -1,0 +1,142 @@
+//! Batches made of lists of cells.
+
+use crate::setups::small_setup;
+use batch_store::{Batch, CellsFault, Setup};
+use cells::Cell;
+use std::alloc::{AllocError, Global};
+use std::process::Abort;
+use std::sync::Arc;
+use std::test::Fail;
+
+const fn cell(row: u64, col: u64, count: u64) -> Cell {
+    Cell { row, col, count }
+}
+
+// Lists for a setup of three rows and three columns, and their first fault.
+static FAULTS: &[(&[(u64, u64, u64)], Option<CellsFault>)] = &[
+    (&[], None),
+    (&[(2, 2, u64::MAX)], None),
+    (&[(3, 0, 1)], Some(CellsFault::IndexOutOfRange { at: 0 })),
+    (&[(0, 3, 1)], Some(CellsFault::IndexOutOfRange { at: 0 })),
+    // The first of two cells outside, behind two that lie within, in no order.
+    (
+        &[(2, 2, 1), (0, 0, 1), (u64::MAX, 0, 1), (0, 3, 1)],
+        Some(CellsFault::IndexOutOfRange { at: 2 }),
+    ),
+    // The last cell.
+    (
+        &[(0, 0, 1), (0, 1, 1), (1, 7, 1)],
+        Some(CellsFault::IndexOutOfRange { at: 2 }),
+    ),
+    // Two counts of 2^63, and one less.
+    (
+        &[(0, 0, 1 << 63), (0, 1, 1 << 63)],
+        Some(CellsFault::SumTooLarge),
+    ),
+    (&[(0, 0, 1 << 63), (0, 1, (1 << 63) - 1)], None),
+    // At one place too.
+    (
+        &[(1, 1, u64::MAX), (1, 1, 1)],
+        Some(CellsFault::SumTooLarge),
+    ),
+    // What stands first is told: the sum before an index behind it, and an index before the sum that passes with it.
+    (
+        &[(0, 0, u64::MAX), (1, 1, 1), (3, 3, 1)],
+        Some(CellsFault::SumTooLarge),
+    ),
+    (
+        &[(0, 0, u64::MAX), (3, 3, 1), (1, 1, 1)],
+        Some(CellsFault::IndexOutOfRange { at: 1 }),
+    ),
+    (
+        &[(0, 0, u64::MAX), (1, 3, u64::MAX)],
+        Some(CellsFault::IndexOutOfRange { at: 1 }),
+    ),
+];
+
+fn cells_of(alloc: Global, list: &[(u64, u64, u64)]) -> Result<Vec<Cell>, AllocError> {
+    let mut cells = Vec::new(alloc);
+    for (row, col, count) in list {
+        cells.push(cell(*row, *col, *count))?;
+    }
+    Ok(cells)
+}
+
+// The batch of a list, made again where a growth was refused.
+fn made(
+    alloc: Global,
+    setup: &Setup,
+    number: u64,
+    cells: &[Cell],
+) -> Result<Arc<Batch>, CellsFault> {
+    match Batch::from_cells(alloc, setup, 7, number, cells) {
+        Err(CellsFault::Memory) => Batch::from_cells(alloc, setup, 7, number, cells),
+        answer => answer,
+    }
+}
+
+#[test]
+fn lists_are_judged(rt: HostRuntime) -> Result<(), Fail> {
+    let setup = small_setup()?;
+    for (list, expected) in FAULTS {
+        let cells = cells_of(rt.alloc(), *list)?;
+        let found = made(rt.alloc(), &setup, 1, cells.as_slice()).err();
+        assert_eq!(rt; found, *expected);
+    }
+    Ok(())
+}
+
+// Whether a list makes a batch of these two cells.
+fn makes_two(alloc: Global, setup: &Setup, list: &[(u64, u64, u64)]) -> Result<bool, Fail> {
+    let cells = cells_of(alloc, list)?;
+    match made(alloc, setup, 3, cells.as_slice()) {
+        Ok(b) => Ok(
+            (b.client, b.number, b.total) == (7, 3, 9)
+                && (b.matrix.dims(), b.matrix.entries()) == ((3, 3), 2)
+                && (b.matrix.get(1, 0), b.matrix.get(1, 2)) == (Some(9), Some(0)),
+        ),
+        Err(_) => Ok(false),
+    }
+}
+
+// One batch, as lists in strict order and in other orders.
+static SAME: &[&[(u64, u64, u64)]] = &[
+    &[(1, 0, 9), (1, 2, 0)],
+    &[(1, 2, 0), (1, 0, 9)],
+    &[(1, 0, 4), (1, 2, 0), (1, 0, 5)],
+    &[(1, 0, 4), (1, 0, 5), (1, 2, 0)],
+    &[(1, 2, 0), (1, 0, 0), (1, 2, 0), (1, 0, 9)],
+];
+
+#[test]
+fn a_batch_of_a_list_has_each_place_once(rt: HostRuntime) -> Result<(), Fail> {
+    let setup = small_setup()?;
+    for list in SAME {
+        assert!(rt; makes_two(rt.alloc(), &setup, *list)?);
+    }
+    Ok(())
+}
+
+#[test]
+fn a_batch_of_no_cells_has_no_total(rt: HostRuntime) -> Result<(), Fail> {
+    let setup = small_setup()?;
+    let b = match made(rt.alloc(), &setup, 1, &[]) {
+        Ok(b) => b,
+        Err(_) => return Err("no batch".into()),
+    };
+    assert_eq!(rt; (b.matrix.entries(), b.total), (0, 0));
+    Ok(())
+}
+
+#[test]
+fn a_list_has_at_most_1048576_cells(rt: HostRuntime) -> Result<(), Fail> {
+    let setup = small_setup()?;
+    let mut cells = vec![in rt.alloc(); cell(2, 1, 3); 1_048_576]?;
+    let most = made(rt.alloc(), &setup, 1, cells.as_slice());
+    assert!(rt; matches!(&most, Ok(b) if (b.matrix.entries(), b.total) == (1, 3_145_728)));
+    // One more, which lies outside: that there are too many is told first.
+    cells.push(cell(3, 0, 1))?;
+    let more = made(rt.alloc(), &setup, 1, cells.as_slice()).err();
+    assert_eq!(rt; more, Some(CellsFault::TooManyCells));
+    Ok(())
+}
