@@ -104,7 +104,8 @@ def replies_outlive_a_bad_header(unix):
         # A put that is too long, sent whole before the reply is read.
         with at.link(unix) as link:
             try:
-                link.sendall(struct.pack(">IB", 20 << 20, 1) + bytes(20 << 20))
+                length = (64 << 20) + 1
+                link.sendall(struct.pack(">IB", length, 1) + bytes(length))
                 answer = received(link, 16)
             except ConnectionError:
                 answer = None
