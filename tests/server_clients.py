@@ -293,7 +293,7 @@ def headers_take_no_memory(unix):
             check(f"{name}: before", asked(link, STATUS, 21), counts(0, 0))
         before = taken_memory(at)
         for link in links:
-            link.sendall(struct.pack(">IB", 1 << 24, 1))
+            link.sendall(struct.pack(">IB", 64 << 20, 1))
         check(f"{name}: nothing is answered", is_silent(links[0], 0.5), True)
         check(f"{name}: no memory", taken_memory(at) - before < 8 << 20, True)
         for link in links:
