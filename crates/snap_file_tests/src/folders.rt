@@ -62,21 +62,19 @@ fn expect_save(
     Ok(())
 }
 
-// The faults of the calls of a save, in order: a file of up to 16 KiB is one write.
-const FAULTS: [SaveFault; 4] = [
-    SaveFault::Create,
-    SaveFault::Write(WriteFault { written: 0 }),
-    SaveFault::Sync,
-    SaveFault::Rename,
+// The calls of a save, from 0, each with its fault: a file of up to 16 KiB is one write.
+const FAULTS: [(u64, SaveFault); 4] = [
+    (0, SaveFault::Create),
+    (1, SaveFault::Write(WriteFault { written: 0 })),
+    (2, SaveFault::Sync),
+    (3, SaveFault::Rename),
 ];
 
 #[test]
 fn each_call_fails_in_turn(rt: HostRuntime) -> Result<(), Fail> {
     let snapshot = read(rt.alloc(), ONE, ONE.len(), MOST_BYTES)?;
-    let mut call = 0;
-    for fault in FAULTS {
+    for (call, fault) in FAULTS {
         expect_save(&rt, rt.alloc(), &snapshot, Some(call), Err(fault), b"old")?;
-        call += 1;
     }
     expect_save(&rt, rt.alloc(), &snapshot, Some(4), Ok(()), ONE)?;
     expect_save(&rt, rt.alloc(), &snapshot, None, Ok(()), ONE)?;
