@@ -24,7 +24,7 @@ use crate::export::run_export;
 use crate::memory::keep_freed_memory;
 use crate::numbers::read_list;
 use crate::report::Fault;
-use crate::serve::{ServeFault, settings_of};
+use crate::serve::{settings_of, status_of};
 use crate::sum::run_sum;
 use byte_io::{Counted, write_all};
 use clap::error::ErrorKind;
@@ -62,9 +62,8 @@ fn main(rt: HostRuntime) -> ExitCode {
 
 /// Says a server's fault in one line on standard error.
 fn tell_server_fault(rt: &HostRuntime, fault: ServerFault) -> ExitCode {
-    let fault = ServeFault { fault };
     let _ = eprintln!(rt; "hhm: {fault}");
-    ExitCode::from(fault.status())
+    ExitCode::from(status_of(&fault))
 }
 
 /// Reads the command line, and does what it asks for, but for a server.

@@ -12,6 +12,7 @@ ghost use Rattle.hhm.specs.Options.{is_numeral, option_number, option_list, writ
 
 use crate::limits::MAX_DIGITS;
 use std::alloc::{AllocError, Global};
+use thiserror::Error;
 
 fn are_digits(word: &[u8]) -> bool
     ensures { result ≡ list_all is_ascii_digit word.now }
@@ -54,11 +55,13 @@ pub fn read_number(word: &[u8]) -> Option<u64>
 }
 
 /// Why an option's list is not read.
-#[derive(Clone, Copy, Debug, PartialEq, Eq)]
+#[derive(Clone, Copy, Debug, PartialEq, Eq, Error)]
 pub enum ListFault {
     /// The word does not have the form of a list.
+    #[error("settings: BadNumber")]
     BadNumber,
     /// There is no memory for the list.
+    #[error("memory")]
     Memory,
 }
 

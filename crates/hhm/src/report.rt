@@ -11,19 +11,23 @@ use byte_io::WriteFault;
 use mm_text::{MmFault, MmKind};
 use snap_file::{FileFault, SnapFault};
 use std::alloc::AllocError;
-use std::fmt;
 use std::process::ExitCode;
+use thiserror::Error;
 
-/// Why the program ends without success.
-#[derive(Clone, Copy, Debug, PartialEq, Eq)]
+/// Why the program ends without success. Its text is what stands behind `hhm: ` on standard error.
+#[derive(Clone, Copy, Debug, PartialEq, Eq, Error)]
 pub enum Fault {
     /// A number or a list of an option doesn't have its form.
+    #[error("settings: BadNumber")]
     BadNumber,
     /// A server's dimensions, cuts, shards or limits are out of range.
+    #[error("settings: {0}")]
     Setup(SetupFault),
     /// `sum` wrote no sum, or not all of it.
+    #[error(transparent)]
     Sum(SumFault),
     /// `check` wrote no line, or `export` no text, or not all of it.
+    #[error(transparent)]
     Check(CheckFault),
 }
 
@@ -75,33 +79,6 @@ impl From<WriteFault> for Fault {
 
     fn from(fault: WriteFault) -> Fault {
         Fault::Sum(SumFault::Output(fault))
-    }
-}
-
-/// The line that stands behind `hhm: ` on standard error.
-impl fmt::Display for Fault {
-    fn fmt<W: fmt::Write>(&self, f: &mut fmt::Formatter<W>) -> fmt::Result {
-        match *self {
-            Fault::BadNumber => write!(f, "settings: BadNumber"),
-            Fault::Setup(kind) => write!(f, "settings: {kind:?}"),
-            Fault::Sum(SumFault::BadCuts) => write!(f, "settings: BadCuts"),
-            Fault::Sum(SumFault::Text(MmFault { kind, line })) => {
-                write!(f, "text: {kind:?} at line {line}")
-            }
-            Fault::Sum(SumFault::SumTooLarge) => write!(f, "sum: SumTooLarge"),
-            Fault::Sum(SumFault::Memory) => write!(f, "memory"),
-            Fault::Sum(SumFault::Output(WriteFault { written })) => {
-                write!(f, "output failed after {written} bytes")
-            }
-            Fault::Check(CheckFault::File(FileFault::Snap(kind))) => {
-                write!(f, "snapshot: {kind:?}")
-            }
-            Fault::Check(CheckFault::File(kind)) => write!(f, "file: {kind:?}"),
-            Fault::Check(CheckFault::Memory) => write!(f, "memory"),
-            Fault::Check(CheckFault::Output(WriteFault { written })) => {
-                write!(f, "output failed after {written} bytes")
-            }
-        }
     }
 }
 

@@ -1,66 +1,34 @@
-//! `serve`: its options, and what the program says of a server's faults.
+//! `serve`: its options, and the status that a server's fault ends the program with.
 ghost use Rattle.std.specs.Prelude.{◌≡◌};
 ghost use Rattle.hhm.specs.Serving.{server_status};
 
 use crate::numbers::{read_list, read_number};
 use crate::report::Fault;
 use batch_store::Setup;
-use byte_io::WriteFault;
 use clap::ArgMatches;
-use snap_file::{FileFault, SaveFault, SnapFault};
+use snap_file::{FileFault, SnapFault};
 use socket_server::{ServerFault, Settings};
 use std::alloc::{AllocError, Global};
-use std::fmt;
 use std::num::NonZeroU64;
 
-/// Why a server was not run, or didn't end well, as the program tells it.
-#[derive(Drop)]
-pub struct ServeFault {
-    pub fault: ServerFault,
-}
-
-/// The line that stands behind `hhm: ` on standard error.
-impl fmt::Display for ServeFault {
-    fn fmt<W: fmt::Write>(&self, f: &mut fmt::Formatter<W>) -> fmt::Result {
-        match &self.fault {
-            ServerFault::Memory => write!(f, "memory"),
-            ServerFault::BadWorkers => write!(f, "settings: BadWorkers"),
-            ServerFault::NoAddress => write!(f, "settings: NoAddress"),
-            ServerFault::SnapshotDiffers => write!(f, "settings: SnapshotDiffers"),
-            ServerFault::File(FileFault::Snap(kind)) => write!(f, "snapshot: {kind:?}"),
-            ServerFault::File(kind) => write!(f, "file: {kind:?}"),
-            ServerFault::Listen(address) => write!(f, "listen failed: {address}"),
-            ServerFault::NoWorker => write!(f, "no worker"),
-            ServerFault::RecordsDiffer => write!(f, "records differ"),
-            ServerFault::Save(SaveFault::Write(_)) => write!(f, "file: Write"),
-            ServerFault::Save(kind) => write!(f, "file: {kind:?}"),
-            ServerFault::Output(WriteFault { written }) => {
-                write!(f, "output failed after {written} bytes")
-            }
-        }
-    }
-}
-
-impl ServeFault {
-    /// The status: 2 for settings, 3 for what a snapshot says, 4 for a device, an address or a thread, 5 for memory, 6
-    /// for records that differ.
-    pub fn status(&self) -> u8
-        ensures { result ≡ server_status self.now.fault }
-    {
-        match &self.fault {
-            ServerFault::BadWorkers => 2,
-            ServerFault::NoAddress => 2,
-            ServerFault::SnapshotDiffers => 2,
-            ServerFault::File(FileFault::Snap(SnapFault::Read)) => 4,
-            ServerFault::File(FileFault::Snap(_)) => 3,
-            ServerFault::File(_) => 4,
-            ServerFault::Listen(_) => 4,
-            ServerFault::NoWorker => 4,
-            ServerFault::Save(_) => 4,
-            ServerFault::Output(_) => 4,
-            ServerFault::Memory => 5,
-            ServerFault::RecordsDiffer => 6,
-        }
+/// The status that a server's fault ends the program with: 2 for settings, 3 for what a snapshot says, 4 for a device, an
+/// address or a thread, 5 for memory, 6 for records that differ.
+pub fn status_of(fault: &ServerFault) -> u8
+    ensures { result ≡ server_status fault.now }
+{
+    match fault {
+        ServerFault::BadWorkers => 2,
+        ServerFault::NoAddress => 2,
+        ServerFault::SnapshotDiffers => 2,
+        ServerFault::File(FileFault::Snap(SnapFault::Read)) => 4,
+        ServerFault::File(FileFault::Snap(_)) => 3,
+        ServerFault::File(_) => 4,
+        ServerFault::Listen(_) => 4,
+        ServerFault::NoWorker => 4,
+        ServerFault::Save(_) => 4,
+        ServerFault::Output(_) => 4,
+        ServerFault::Memory => 5,
+        ServerFault::RecordsDiffer => 6,
     }
 }
 

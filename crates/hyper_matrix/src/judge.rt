@@ -3,15 +3,19 @@ ghost use Rattle.std.specs.Prelude.{◌≡◌, ℕ, ◌<◌, ◌^◌};
 ghost use Rattle.hyper_matrix.specs.Refusals.{first_fault};
 
 use cells::Cell;
+use thiserror::Error;
 
 /// Why a list of cells makes no matrix.
-#[derive(Clone, Copy, Debug, PartialEq, Eq)]
+#[derive(Clone, Copy, Debug, PartialEq, Eq, Error)]
 pub enum BuildFault {
     /// Memory was refused. The list itself has no fault.
+    #[error("no memory for a matrix")]
     Memory,
     /// A cell's row or column is not within the dimensions.
+    #[error("a cell lies outside the dimensions")]
     IndexOutOfRange,
     /// The counts up to a cell come to 2^64 or more.
+    #[error("the counts pass 2^64 - 1")]
     SumTooLarge,
 }
 

@@ -13,15 +13,19 @@ use hyper_matrix::RowSum;
 use plain_engine::{PutFault, Status, ViewedSum};
 use std::alloc::{AllocError, Global};
 use std::sync::Arc;
+use thiserror::Error;
 
 /// Why nothing was saved.
-#[derive(Clone, Copy, Debug, PartialEq, Eq)]
+#[derive(Clone, Copy, Debug, PartialEq, Eq, Error)]
 pub enum SaveRefusal {
     /// A growth was refused.
+    #[error("no memory for a save")]
     Memory,
     /// There is no place to save to.
+    #[error("there is no place to save to")]
     SaveOff,
     /// The place refused it. What was saved before stands as it was.
+    #[error("the save failed")]
     SaveFailed,
 }
 

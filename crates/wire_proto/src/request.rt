@@ -5,6 +5,7 @@ ghost use Rattle.wire_proto.specs.Frames.{number, head_bytes, kind_of, body_of, 
 use crate::limits::MOST_BODY;
 use bytes::Bytes;
 use std::alloc::{AllocError, Global};
+use thiserror::Error;
 
 /// What a client asks. Rows and columns count from 0.
 ///
@@ -35,18 +36,24 @@ pub enum Request {
 }
 
 /// What is wrong with the bytes of a link, or that memory ran out.
-#[derive(Clone, Copy, Debug, PartialEq, Eq)]
+#[derive(Clone, Copy, Debug, PartialEq, Eq, Error)]
 pub enum FrameFault {
+    #[error("no memory for a frame")]
     Memory,
+    #[error("a frame is longer than it may be")]
     TooLarge,
+    #[error("a frame has an unknown kind")]
     UnknownKind,
+    #[error("a frame's length isn't one of its kind")]
     BadLength,
 }
 
 /// Why a request has no frame, or that memory ran out.
-#[derive(Clone, Copy, Debug, PartialEq, Eq)]
+#[derive(Clone, Copy, Debug, PartialEq, Eq, Error)]
 pub enum EncodeFault {
+    #[error("no memory for a frame")]
     Memory,
+    #[error("the frame would be longer than it may be")]
     TooLarge,
 }
 
