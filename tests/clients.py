@@ -31,7 +31,7 @@ from server import SMALL, Server, check, text
 HERE = os.path.dirname(os.path.abspath(__file__))
 CLIENTS = os.path.join(HERE, "..", "clients")
 import hhm_client  # noqa: E402 (server.py has put its folder on the path)
-from hhm_client import MOST_CELLS, Arrays, BadReply, Client, Refused, Status, cells_of  # noqa: E402
+from hhm_client import MAX_CELLS, Arrays, BadReply, Client, Refused, Status, cells_of  # noqa: E402
 
 # The seconds that anything may take that is waited for.
 WAIT = 30
@@ -231,8 +231,8 @@ def what_is_no_batch_is_not_sent(unix):
             ("a number below 0", lambda: hhm.put(1, [(1, 1, -1)]), "ValueError"),
             ("a number of 65 bits", lambda: hhm.put(1, [(1, 1, 1 << 64)]), "ValueError"),
             ("no whole number", lambda: hhm.put(1, [(1, 1, 0.5)]), "ValueError"),
-            ("too many tuples", lambda: hhm.put(1, itertools.repeat((0, 0, 0), MOST_CELLS + 1)), "ValueError"),
-            ("too many cells", lambda: hhm.put(1, Arrays(*[longs(0) * (MOST_CELLS + 1)] * 3)), "ValueError"),
+            ("too many tuples", lambda: hhm.put(1, itertools.repeat((0, 0, 0), MAX_CELLS + 1)), "ValueError"),
+            ("too many cells", lambda: hhm.put(1, Arrays(*[longs(0) * (MAX_CELLS + 1)] * 3)), "ValueError"),
             ("a bad number", lambda: hhm.put(1 << 64, [(0, 0, 1)]), "ValueError"),
             ("a bad place", lambda: hhm.cell(0, -1), "ValueError"),
             ("too long a text", lambda: hhm.put_text(1, bytes((64 << 20) - 15)), "ValueError"),
@@ -241,7 +241,7 @@ def what_is_no_batch_is_not_sent(unix):
         check("not sent", hhm.status(), Status(0, 0))
         longest = hhm_client.BANNER + b"%" * ((64 << 20) - 16 - len(hhm_client.BANNER) - 7) + b"\n3 3 0\n"
         check("as long a text as may be", hhm.put_text(2, longest), (0, 0))
-        check("as many as may be", hhm.put(1, Arrays(*[longs(0) * MOST_CELLS] * 3)), (1, 0))
+        check("as many as may be", hhm.put(1, Arrays(*[longs(0) * MAX_CELLS] * 3)), (1, 0))
         check("they are one", hhm.row(0), (1, 0))
         hhm.close()
         at.stop("not sent", 2, 0)

@@ -31,7 +31,7 @@ from server import SMALL, accepted, put_frame, refused, text  # noqa: E402
 EIO, EINTR = 5, 4
 SECONDS = 60
 # No run of these comes near so many calls of one kind: a sweep that goes on is a failure.
-MOST_RUNS = 5_000
+MAX_RUNS = 5_000
 
 # How a run's calls are refused: the kind, and the error that they answer.
 REFUSALS = {
@@ -314,13 +314,13 @@ def served_run(program, folder, before, kind, error, at):
 
 def sweep(pool, run_at):
     """The number of each run with a refusal, and what was wrong with it; the last one meets none."""
-    for first in range(1, MOST_RUNS, 32):
+    for first in range(1, MAX_RUNS, 32):
         places = range(first, first + 32)
         for at, (wrong, met) in zip(places, pool.map(run_at, places)):
             yield at, wrong
             if not met:
                 return
-    yield MOST_RUNS, "the sweep doesn't end"
+    yield MAX_RUNS, "the sweep doesn't end"
 
 
 def sweeps(program, folder):

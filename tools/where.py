@@ -9,7 +9,7 @@ import sys
 from pathlib import Path
 
 CRATES = Path(__file__).resolve().parent.parent / "crates"
-MOST_ROWS = 15
+MAX_ROWS = 15
 
 
 def lines_of(pattern):
@@ -52,10 +52,10 @@ def find_proofs(name, crate):
 def show(label, rows):
     if rows:
         print(f"{label}:")
-    for row in rows[:MOST_ROWS]:
+    for row in rows[:MAX_ROWS]:
         print(f"  {row[:120]}")
-    if len(rows) > MOST_ROWS:
-        print(f"  and {len(rows) - MOST_ROWS} more")
+    if len(rows) > MAX_ROWS:
+        print(f"  and {len(rows) - MAX_ROWS} more")
 
 
 def main(words):

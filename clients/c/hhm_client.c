@@ -23,7 +23,7 @@ enum { PUT = 0x01, CELL, ROW, STATUS, EXPORT, SAVE, STOP, PUT_CELLS };
 enum { ACCEPTED = 0x81, VALUE, ROW_SUM, COUNTS, TEXT, SAVED, STOPPING, REFUSED = 0xff };
 
 /* The bytes of the longest reply but a text, and the cells that are spelled at once. */
-#define MOST_SHORT 16
+#define MAX_SHORT 16
 #define PIECE 1024
 
 struct hhm_client {
@@ -51,7 +51,7 @@ typedef struct {
 
 /* The body of a reply. A text has memory of its own; a short one stands in `bytes`. */
 typedef struct {
-    unsigned char bytes[MOST_SHORT];
+    unsigned char bytes[MAX_SHORT];
     char *text;
     size_t length;
 } reply;

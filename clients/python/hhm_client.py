@@ -7,7 +7,7 @@
         print(hhm.cell(0, 0), hhm.row(2), hhm.status())
 
 Cells go as numbers, 24 bytes each. Those of `Arrays` are never touched one by one in Python. A batch is sent as it
-is, and none is split: one of more than `MOST_CELLS` cells is a ValueError.
+is, and none is split: one of more than `MAX_CELLS` cells is a ValueError.
 
 A batch counts once. It is known by two numbers, the client's and its own: where the reply to a put is lost, `put`
 connects again and sends the same batch with the same numbers, and the server answers what it answered first.
@@ -43,8 +43,8 @@ import sys
 import time
 from typing import Any, Iterable, Iterator, List, NamedTuple, Optional, Tuple, Union
 
-MOST_BODY = 67_108_864
-MOST_CELLS = 1_048_576
+MAX_BODY = 67_108_864
+MAX_CELLS = 1_048_576
 BANNER = b"%%MatrixMarket matrix coordinate integer general\n"
 
 PUT, CELL, ROW, STATUS, EXPORT, SAVE, STOP, PUT_CELLS = range(1, 9)
@@ -177,8 +177,8 @@ def request(kind: int, *numbers: int, body: Text = b"") -> bytes:
 
 def put_frame(client: int, number: int, text: Text) -> bytes:
     """The frame that puts a batch as a text."""
-    if len(text) + 16 > MOST_BODY:
-        raise ValueError(f"a batch of {len(text)} bytes: at most {MOST_BODY - 16} fit a frame, so send it in several")
+    if len(text) + 16 > MAX_BODY:
+        raise ValueError(f"a batch of {len(text)} bytes: at most {MAX_BODY - 16} fit a frame, so send it in several")
     return request(PUT, client, number, body=text)
 
 
@@ -230,8 +230,8 @@ def numbers_of(name: str, numbers: Any) -> memoryview:
 
 def judge_count(count: int) -> None:
     """A ValueError where a batch would have too many cells for the server."""
-    if count > MOST_CELLS:
-        raise ValueError(f"a batch of {count} cells: at most {MOST_CELLS} are taken, so send it in several")
+    if count > MAX_CELLS:
+        raise ValueError(f"a batch of {count} cells: at most {MAX_CELLS} are taken, so send it in several")
 
 
 class Client:
@@ -383,7 +383,7 @@ class Client:
 
     def _reply(self) -> Tuple[int, bytes]:
         length, kind = struct.unpack(">IB", self._receive(5))
-        if length > MOST_BODY:
+        if length > MAX_BODY:
             self.close()
             raise BadReply(f"a reply of {length} bytes")
         return kind, bytes(self._receive(length))

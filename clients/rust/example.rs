@@ -6,7 +6,7 @@
 
 mod hhm_client;
 
-use hhm_client::{Accepted, Cell, Client, Error, MOST_CELLS};
+use hhm_client::{Accepted, Cell, Client, Error, MAX_CELLS};
 
 const TEXT: &[u8] = b"%%MatrixMarket matrix coordinate integer general\n3 3 1\n1 1 3\n";
 
@@ -83,7 +83,7 @@ fn ask_all(hhm: &mut Client) -> Result<(), Error> {
     ];
     show_refusal("out of range", hhm.put(9, &outside))?;
     show_refusal("other cells", hhm.put(1, &cells[..1]))?;
-    let many = vec![outside[0]; MOST_CELLS + 1];
+    let many = vec![outside[0]; MAX_CELLS + 1];
     if let Err(fault @ Error::TooLarge) = hhm.put(9, &many) {
         println!("too many: {fault}");
     }

@@ -31,9 +31,9 @@ use std::thread;
 use std::time::Duration;
 
 /// The bytes of the longest body of a frame.
-pub const MOST_BODY: usize = 67_108_864;
+pub const MAX_BODY: usize = 67_108_864;
 /// The most cells of a batch.
-pub const MOST_CELLS: usize = 1_048_576;
+pub const MAX_CELLS: usize = 1_048_576;
 
 /// A count at a place; both numbers of the place count from 0.
 #[derive(Clone, Copy, Debug, PartialEq, Eq)]
@@ -153,8 +153,8 @@ impl fmt::Display for Error {
             Error::Refused(refusal) => write!(out, "refused: {refusal}"),
             Error::TooLarge => write!(
                 out,
-                "a batch has at most {MOST_CELLS} cells or {} bytes of text",
-                MOST_BODY - 16
+                "a batch has at most {MAX_CELLS} cells or {} bytes of text",
+                MAX_BODY - 16
             ),
             Error::BadReply => out.write_str("what came is no reply to what was asked"),
             Error::Io(fault) => fault.fmt(out),
@@ -307,7 +307,7 @@ impl Client {
 
     /// Puts a batch that is a Matrix Market text of the server's dimensions.
     pub fn put_text(&mut self, number: u64, text: &[u8]) -> Result<Accepted, Error> {
-        if text.len() > MOST_BODY - 16 {
+        if text.len() > MAX_BODY - 16 {
             return Err(Error::TooLarge);
         }
         let mut frame = put_head(1, 16 + text.len(), self.number, number);
@@ -524,7 +524,7 @@ fn reply_of(link: &mut Link, wanted: Wanted) -> Result<Vec<u8>, Error> {
     let [a, b, c, d, kind] = head;
     let len = u32::from_be_bytes([a, b, c, d]) as usize;
     let is_refusal = kind == 0xff && len == 10;
-    let fits = kind == wanted.kind && wanted.len.map_or(len <= MOST_BODY, |it| it == len);
+    let fits = kind == wanted.kind && wanted.len.map_or(len <= MAX_BODY, |it| it == len);
     if !is_refusal && !fits {
         return Err(Error::BadReply);
     }
@@ -579,7 +579,7 @@ fn put_head(kind: u8, len: usize, client: u64, number: u64) -> Vec<u8> {
 }
 
 fn put_cells_frame(client: u64, number: u64, cells: &[Cell]) -> Result<Vec<u8>, Error> {
-    if cells.len() > MOST_CELLS {
+    if cells.len() > MAX_CELLS {
         return Err(Error::TooLarge);
     }
     let mut frame = put_head(8, 16 + 24 * cells.len(), client, number);

@@ -15,6 +15,7 @@ mod book;
 mod cut;
 mod fault;
 mod laws;
+mod limits;
 mod line;
 mod listed;
 mod pair;
@@ -33,6 +34,7 @@ pub use laws::{
     one_shard_more, records_grow_by_a_part, shards_have_all, unconcerned_batches_add_nothing,
     unconcerned_shards_have_nothing, verdicts_are_exact,
 };
+pub use limits::{MAX_BATCHES, MAX_CELLS, MAX_SHARDS};
 pub use setup::Setup;
 pub use shard::{Prepared, Shard};
 pub use verdict::{Entry, Kept, Verdict};

@@ -6,13 +6,11 @@ ghost use Rattle.hyper_matrix.specs.Refusals.{LeavesDimensions};
 ghost use Rattle.batch_store.specs.Lists.{MakesBatch, RefusesList};
 
 use crate::fault::CellsFault;
+use crate::limits::MAX_CELLS;
 use crate::setup::Setup;
 use cells::Cell;
 use hyper_matrix::{BuildFault, Hyper};
 use std::alloc::Global;
-
-/// The most cells of a list that a batch is made of.
-pub const MOST_CELLS: usize = 1_048_576;
 
 // How many cells stand before the first that lies outside. A pass over these, once a list is refused.
 fn cells_before_outside(rows: u64, cols: u64, cells: &[Cell]) -> usize
@@ -35,7 +33,7 @@ pub fn list_matrix(alloc: Global, setup: &Setup, cells: &[Cell]) -> Result<Hyper
     ensures fits { OnOk result (MakesBatch setup.now cells.now) }
     ensures err { IfErr result (λ fault. RefusesList setup.now cells.now fault) }
 {
-    if cells.len() > MOST_CELLS {
+    if cells.len() > MAX_CELLS {
         return Err(CellsFault::TooManyCells);
     }
     let rows = setup.rows();

@@ -5,21 +5,11 @@ ghost use Rattle.layer_cascade.specs.Cuts.{AreCuts};
 ghost use Rattle.batch_store.specs.Setups.{Setting, setting, IsSetting, FirstFails, padded};
 
 use crate::fault::SetupFault;
-use layer_cascade::are_cuts;
+use crate::limits::{MAX_BATCHES, MAX_SHARDS};
+use cells::MAX_DIMENSION;
+use layer_cascade::{MAX_CUTS, are_cuts};
 use std::alloc::AllocError;
 use std::marker::Model;
-
-// The most cuts.
-const MOST_CUTS: usize = 7;
-
-// The most rows, and the most columns.
-const MOST_ROWS: u64 = 1 << 60;
-
-// The most shards.
-const MOST_SHARDS: u64 = 64;
-
-// The most batches that a limit on them may allow.
-const MOST_BATCHES: u64 = 1_000_000;
 
 /// The dimensions, cuts, shards and limits of a store: 112 bytes, copied freely.
 ///
@@ -28,7 +18,7 @@ pub struct Setup {
     rows: u64,
     cols: u64,
     // The cuts, and zeros behind them.
-    cuts: [u64; MOST_CUTS],
+    cuts: [u64; MAX_CUTS],
     cut_count: usize,
     shards: u64,
     limit: u64,
@@ -79,11 +69,11 @@ impl Clone for Setup {
 impl Copy for Setup {}
 
 // These cuts, with zeros behind them.
-fn padded_cuts(cuts: &[u64]) -> [u64; MOST_CUTS]
+fn padded_cuts(cuts: &[u64]) -> [u64; MAX_CUTS]
     requires { length cuts.now ≤ 7 }
     ensures { result ≡ padded cuts.now }
 {
-    let mut places = [0; MOST_CUTS];
+    let mut places = [0; MAX_CUTS];
     'fill: for i in 0..cuts.len() {
         places[i] = cuts[i];
     }
@@ -114,19 +104,19 @@ impl Setup {
         ensures ok { IfOk result (λ s. (s ≡ setting rows cols cuts.now shards limit max_batches) × IsSetting s) }
         ensures err { IfErr result (FirstFails (setting rows cols cuts.now shards limit max_batches)) }
     {
-        if rows < 1 || rows > MOST_ROWS || cols < 1 || cols > MOST_ROWS {
+        if rows < 1 || rows > MAX_DIMENSION || cols < 1 || cols > MAX_DIMENSION {
             return Err(SetupFault::BadDimension);
         }
         if !are_cuts(cuts) {
             return Err(SetupFault::BadCuts);
         }
-        if shards < 1 || shards > MOST_SHARDS {
+        if shards < 1 || shards > MAX_SHARDS {
             return Err(SetupFault::BadShards);
         }
         if limit < 1 {
             return Err(SetupFault::BadLimit);
         }
-        if max_batches < 1 || max_batches > MOST_BATCHES {
+        if max_batches < 1 || max_batches > MAX_BATCHES {
             return Err(SetupFault::BadBatches);
         }
         Ok(Setup {

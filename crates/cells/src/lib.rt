@@ -18,6 +18,7 @@ mod total;
 
 pub use add_up::{added_up, summed};
 pub use cell::Cell;
+pub use limits::MAX_DIMENSION;
 pub use order::{is_in_order, rises};
 pub use sort::sorted;
 pub use total::{checked_total, total_of};

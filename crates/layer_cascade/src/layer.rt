@@ -18,7 +18,7 @@ ghost use Rattle.layer_cascade.specs.Shared.{values, all_counts, HaveDims};
 ghost use Rattle.layer_cascade.specs.Steps.{joined, Takes};
 
 use crate::filters::{bare_run, filtered_to, with_filter_at};
-use crate::limits::{GATHERED_RUNS, KEPT_RUNS, MAX_RUNS, MOST_COUNTED, MOST_LISTED};
+use crate::limits::{GATHERED_RUNS, KEPT_RUNS, MAX_COUNTED, MAX_LISTED, MAX_RUNS};
 use crate::lists::entries_bound;
 use crate::pairs::{due_pair, kept_in_front, with_pair_added, with_rest_added};
 use crate::runs::{
@@ -236,7 +236,7 @@ impl Layer {
     fn settled(self, alloc: Global) -> Result<Layer, AllocError>
         ensures { IfOk result (λ layer. layer ≡ self) }
     {
-        let stays = self.runs.len() <= KEPT_RUNS && self.most > MOST_LISTED;
+        let stays = self.runs.len() <= KEPT_RUNS && self.most > MAX_LISTED;
         let kept = kept_in_front(&self.runs);
         if stays || self.runs.len() <= kept + 1 {
             return Ok(self);
@@ -264,7 +264,7 @@ impl Layer {
 
     /// Takes in what is carried to this layer, if both together have at most the cut of entries. That is judged
     /// exactly: by a bound of the entries, and where that is more than the cut, or there are more than `MAX_RUNS` runs,
-    /// by a count of the places. At most `KEPT_RUNS` runs of more than `MOST_LISTED` entries are counted as they are,
+    /// by a count of the places. At most `KEPT_RUNS` runs of more than `MAX_LISTED` entries are counted as they are,
     /// from where the last count ended; else all runs but a large first one are added up before.
     pub fn taking(&self, alloc: Global, m: Layer, cut: u64) -> Result<Step, AllocError>
         requires rows { m.rows ≡ self.now.rows }
@@ -285,9 +285,9 @@ impl Layer {
     }
 
     /// Whether places are to be counted before this layer passes its cut: not all runs are counted, and the bound is
-    /// more than three quarters of the cut, and at most `MOST_COUNTED`. Constant time.
+    /// more than three quarters of the cut, and at most `MAX_COUNTED`. Constant time.
     pub fn is_to_count(&self, cut: u64) -> bool {
-        self.counted < self.runs.len() && self.most > cut - cut / 4 && self.most <= MOST_COUNTED
+        self.counted < self.runs.len() && self.most > cut - cut / 4 && self.most <= MAX_COUNTED
     }
 
     /// The same layer with its runs added up, where they are `GATHERED_RUNS` or more.

@@ -237,17 +237,17 @@ impl Layers {
 
     /// Adds up matrices that stand side by side, so that the addition that needs their sum doesn't have all of them to
     /// add up: in layer 1 all, where they are `GATHERED_RUNS` or more, and two neighbours in the first deeper layer
-    /// that has two of like size (`PAIR_RATIO`, `MOST_PAIRED`). Each sum of `FEWEST_FILTERED` entries or more gets a
+    /// that has two of like size (`PAIR_RATIO`, `MAX_PAIRED`). Each sum of `FEWEST_FILTERED` entries or more gets a
     /// filter of its places, for look-ups. Where no deeper layer has two to add up, one matrix of so many entries that
     /// has no filter gets it, in the first deeper layer that has such a matrix. Where none has, it counts the places of
     /// one matrix more in the first deeper layer that may have more than three quarters of its cut, and at most
-    /// `MOST_COUNTED` entries, so that the addition that passes the cut has few to count. What the layers hold stays,
+    /// `MAX_COUNTED` entries, so that the addition that passes the cut has few to count. What the layers hold stays,
     /// also on an error.
     ///
     /// Takes the time and memory of these sums: of at most the first cut of entries where there is one, and of at most
-    /// `MOST_PAIRED`. A filter takes 1 to 2 bytes and some nanoseconds for each entry of its matrix, which may be the
+    /// `MAX_PAIRED`. A filter takes 1 to 2 bytes and some nanoseconds for each entry of its matrix, which may be the
     /// largest. To count a matrix takes a list of its cells, of 24 bytes for each, and a walk through that list
-    /// and each matrix before it, each of at most `MOST_COUNTED` entries; where it is small beside those, each of its
+    /// and each matrix before it, each of at most `MAX_COUNTED` entries; where it is small beside those, each of its
     /// cells is looked up in each of them instead, without a list.
     ///
     /// # Errors

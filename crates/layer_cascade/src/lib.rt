@@ -34,5 +34,6 @@ pub use cuts::are_cuts;
 pub use fault::CascadeFault;
 pub use laws::{cascades_add, cascades_add_all, cascades_end_once, cascades_keep_cuts};
 pub use layers::{Layers, Plan};
+pub use limits::{MAX_CUT, MAX_CUTS};
 pub use lists::{into_summed, merged};
 pub use view::LayerView;

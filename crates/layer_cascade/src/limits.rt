@@ -10,7 +10,7 @@ pub const MAX_CUT: u64 = 1 << 40;
 /// moves each of their cells five times at most.
 pub const MAX_RUNS: usize = 32;
 
-/// The most matrices that go on as they are where a layer passes its cut with more than `MOST_LISTED` entries. Their
+/// The most matrices that go on as they are where a layer passes its cut with more than `MAX_LISTED` entries. Their
 /// places are counted by walks through all of them.
 pub const KEPT_RUNS: usize = 16;
 
@@ -18,11 +18,11 @@ pub const KEPT_RUNS: usize = 16;
 pub const GATHERED_RUNS: usize = 8;
 
 /// The most entries of two matrices together that `Layers::gather` adds up in a deeper layer: about a millisecond.
-pub const MOST_PAIRED: u64 = 28_000;
+pub const MAX_PAIRED: u64 = 28_000;
 
 /// The most entries of a deeper layer, as its bound tells them, whose places `Layers::gather` counts before the layer
 /// passes its cut.
-pub const MOST_COUNTED: u64 = 1 << 17;
+pub const MAX_COUNTED: u64 = 1 << 17;
 
 /// The fewest entries of a matrix that gets a filter of its places. A bisection in fewer is short, and so small a
 /// matrix is soon added up with others. Only time rests on it.
@@ -43,7 +43,7 @@ pub const PAIR_RATIO: u64 = 3;
 pub const WALKED_RATIO: u64 = 16;
 
 /// The most cells of more than two matrices that are added up by a list of all. So many are sorted in a few passes.
-pub const MOST_LISTED: u64 = 16_384;
+pub const MAX_LISTED: u64 = 16_384;
 
 /// Entries of all matrices of a layer together: with no more, what may pass its cut becomes one matrix. With more, a
 /// large first matrix stays beside the sum of the others.

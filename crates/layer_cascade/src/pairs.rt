@@ -9,7 +9,7 @@ ghost use Rattle.layer_cascade.specs.Cascade.{content};
 ghost use Rattle.layer_cascade.specs.Shared.{values, all_counts, HaveDims};
 
 use crate::filters::filtered_to;
-use crate::limits::{FEWEST_KEPT, MOST_PAIRED, PAIR_RATIO};
+use crate::limits::{FEWEST_KEPT, MAX_PAIRED, PAIR_RATIO};
 use crate::lists::entries_bound;
 use crate::runs::{added_to_runs, push_runs, sum_of_runs};
 use filtered_matrix::FilteredMatrix;
@@ -18,7 +18,7 @@ use std::alloc::{AllocError, Global};
 use std::sync::Arc;
 
 /// The place of the first run that is to be added up with the next one: it has fewer than `PAIR_RATIO` times as many
-/// entries, and together they have at most `MOST_PAIRED`. Only time rests on which it is.
+/// entries, and together they have at most `MAX_PAIRED`. Only time rests on which it is.
 pub fn due_pair(runs: &[Arc<FilteredMatrix>]) -> Option<usize>
     ensures { IfSome result (λ place. place + 1 < length runs.now) }
 {
@@ -29,7 +29,7 @@ pub fn due_pair(runs: &[Arc<FilteredMatrix>]) -> Option<usize>
             runs[next].matrix().entries(),
         );
         let is_alike = earlier < later.saturating_mul(PAIR_RATIO);
-        if is_alike && earlier.saturating_add(later) <= MOST_PAIRED {
+        if is_alike && earlier.saturating_add(later) <= MAX_PAIRED {
             return Some(place);
         }
     }

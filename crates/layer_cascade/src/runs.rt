@@ -11,7 +11,7 @@ ghost use Rattle.layer_cascade.specs.Cascade.{content};
 ghost use Rattle.layer_cascade.specs.Runs.{count_new, CountsPlaces};
 ghost use Rattle.layer_cascade.specs.Shared.{values, all_counts, HaveDims};
 
-use crate::limits::{LONGEST_LIST, MOST_LISTED, WALKED_RATIO};
+use crate::limits::{LONGEST_LIST, MAX_LISTED, WALKED_RATIO};
 use crate::lists::{entries_bound, sum_by_list};
 use crate::lookup::plus;
 use crate::walk::{keep_new, new_beside};
@@ -56,7 +56,7 @@ pub fn sum_of_runs(
             Ok(only)
         }
         // A list of so few cells is sorted in a few passes. Two runs are merged in less time.
-        _ if runs.len() > 2 && entries_bound(runs) <= MOST_LISTED => {
+        _ if runs.len() > 2 && entries_bound(runs) <= MAX_LISTED => {
             let none = Hyper::new(alloc, rows, cols);
             let listed = sum_by_list(alloc, none, runs)?;
             Ok(listed)
@@ -91,7 +91,7 @@ pub fn added_to_runs(
         .entries()
         .saturating_add(front.entries().saturating_add(behind));
     // Many are merged in one list. Where the first run has more than those behind it, the sum may share its blocks.
-    if MOST_LISTED < all && all <= LONGEST_LIST && front.entries() <= behind {
+    if MAX_LISTED < all && all <= LONGEST_LIST && front.entries() <= behind {
         let merged = sum_by_list(alloc, m, runs)?;
         return Ok(merged);
     }

@@ -42,7 +42,7 @@ impl Named for Brand {
 }
 
 /// The most seats.
-const MOST_SEATS: usize = 32;
+const MAX_SEATS: usize = 32;
 
 /// What an engine is named by: its setup, its number of seats, two ledgers that aren't open yet, and a history without
 /// entries.
@@ -94,7 +94,7 @@ impl Names {
         ensures setup { IfOk result (λ n. n.setup ≡ plain.now.setup) }
         ensures seats { IfOk result (λ n. n.seats ≡ seats) }
     {
-        if seats < 1 || seats > MOST_SEATS {
+        if seats < 1 || seats > MAX_SEATS {
             return Err(OpenFault::BadSeats);
         }
         let setup = plain.setup();

@@ -21,11 +21,11 @@ use std::thread::Threads;
 use std::time::{Clock, Duration};
 
 // The most turns that a thread waits, each a sleep of one millisecond.
-const MOST_TURNS: u64 = 10_000;
+const MAX_TURNS: u64 = 10_000;
 
 // Waits until a flag has a value, and tells whether it came to have it.
 fn comes_to(clock: &impl Clock, flag: &AtomicU64, wanted: u64) -> bool {
-    for _ in 0..MOST_TURNS {
+    for _ in 0..MAX_TURNS {
         if flag.load(Ordering::SeqCst) == wanted {
             return true;
         }

@@ -7,10 +7,9 @@ ghost use Rattle.mm_text.specs.Judging.{mark, object, format, field, symmetry, b
 ghost use Rattle.mm_text.specs.Judging.{is_dimension};
 
 use crate::fault::MmKind;
-use crate::limits::MAX_DIMENSION;
 use crate::size::Size;
 use crate::words::{five_words, is_blank_byte, is_negative_number, three_words, word_number};
-use cells::Cell;
+use cells::{Cell, MAX_DIMENSION};
 
 fn is_word(word: &[u8], keyword: &[u8]) -> bool
     ensures { result ≡ str_eq_ignore_ascii_case word.now keyword.now }

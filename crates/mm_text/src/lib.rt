@@ -26,7 +26,7 @@ pub use cells::Cell;
 pub use fault::{MmFault, MmKind};
 pub use file::MmFile;
 pub use laws::{one_file_spelled, one_first_fault, spelled_or_faulty, spelled_within};
-pub use limits::{MOST_BYTES, TextLimits};
+pub use limits::{MAX_BYTES, TextLimits};
 pub use size::Size;
 pub use text_reader::TextReader;
 pub use whole_text::read_matrix;

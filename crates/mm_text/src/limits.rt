@@ -10,10 +10,7 @@ pub struct TextLimits {
 }
 
 /// The most bytes that `max_bytes` may be, so that lines can be counted in 64 bits.
-pub const MOST_BYTES: u64 = 1 << 63;
-
-/// The most rows, and the most columns.
-pub const MAX_DIMENSION: u64 = 1 << 60;
+pub const MAX_BYTES: u64 = 1 << 63;
 
 /// The most bytes that a line may have before its LF or CR LF, comments excepted.
 pub const MAX_LINE: usize = 1024;

@@ -17,7 +17,7 @@ ghost use Rattle.byte_io.specs.declared.fault.DeviceFault.{DeviceFault};
 ghost use Rattle.byte_io.specs.Streams.{Answer};
 
 use crate::fault::{MmFault, MmKind};
-use crate::limits::{MOST_BYTES, PIECE, TextLimits};
+use crate::limits::{MAX_BYTES, PIECE, TextLimits};
 use crate::line_reader::LineReader;
 use crate::size::Size;
 use crate::stages::Stage;
@@ -105,11 +105,11 @@ impl TextReader {
     ghost use Rattle.mm_text.specs.Readings.{size_of, HasRead, AreSized, ReadsBlock, Stops, pending, TakesPending};
     ghost use Rattle.mm_text.specs.Readings.{Fills, Finishes, AddsFirst, ShowsRead};
 
-    /// A reader that has read nothing. The limit is at most `MOST_BYTES`.
+    /// A reader that has read nothing. The limit is at most `MAX_BYTES`.
     ///
     /// It takes the memory for both buffers; this is the only growth but that of the blocks.
     pub fn new(alloc: Global, limits: TextLimits) -> Result<TextReader, AllocError>
-        requires { limits.max_bytes ≤ MOST_BYTES }
+        requires { limits.max_bytes ≤ MAX_BYTES }
         ensures { IfOk result (λ reader. HasRead limits [] [] reader) }
     {
         let piece = empty_piece(alloc, PIECE)?;

@@ -6,7 +6,7 @@ ghost use Rattle.mm_text.specs.Faults.{Explains, IsUnread};
 
 use crate::fault::{MmFault, MmKind};
 use crate::file::MmFile;
-use crate::limits::{MOST_BYTES, TextLimits};
+use crate::limits::{MAX_BYTES, TextLimits};
 use crate::text_reader::TextReader;
 use byte_io::Source;
 use std::alloc::Global;
@@ -27,7 +27,7 @@ pub fn read_matrix<R: Source>(
     limits: TextLimits,
 ) -> Result<MmFile, MmFault>
     requires failures { R.failure_count r.old + 1 < 2 ^ 64 }
-    requires limit { limits.max_bytes ≤ MOST_BYTES }
+    requires limit { limits.max_bytes ≤ MAX_BYTES }
     ensures ok { IfOk result (λ m. (answers : List Answer) × Calls R.read_gives r.old answers r.new
         × (length answers ≤ limits.max_bytes + 2) × R.at_end r.new
         × Spells (bytes_of_calls answers) limits m.rows m.cols m.cells.items) }

@@ -6,7 +6,7 @@ pub const LEAST_PENDING: u64 = 1 << 17;
 
 /// Cells: the most that `PendingLayers` lets wait, however high the last cut is, but for those of one addition that is
 /// larger by itself. With the memory of the sort some 100 MB.
-pub const MOST_PENDING: u64 = 1 << 21;
+pub const MAX_PENDING: u64 = 1 << 21;
 
 /// Cells: so many wait at least before the list is added up. The first time tells whether places come again.
 pub const FIRST_DUE: usize = 1 << 16;

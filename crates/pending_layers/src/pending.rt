@@ -18,7 +18,7 @@ ghost use Rattle.hyper_matrix.specs.Matrix.{matrix};
 ghost use Rattle.layer_cascade.specs.Cascade.{content};
 ghost use Rattle.layer_cascade.specs.Cuts.{AreCuts};
 
-use crate::limits::{FIRST_DUE, LEAST_PENDING, MOST_PENDING, SPARED_SHARE};
+use crate::limits::{FIRST_DUE, LEAST_PENDING, MAX_PENDING, SPARED_SHARE};
 use cells::{Cell, rises, total_of};
 use hyper_matrix::Hyper;
 use layer_cascade::{CascadeFault, Layers, into_summed, merged};
@@ -55,11 +55,11 @@ impl Model for PendingLayers {
 }
 
 // How many cells may wait before layers with these cuts: twice the last cut, so that their matrix is in the last layer
-// at once, from `LEAST_PENDING` to `MOST_PENDING`, and as many as this where there is no cut.
+// at once, from `LEAST_PENDING` to `MAX_PENDING`, and as many as this where there is no cut.
 fn most_pending(cuts: &[u64]) -> usize {
     match cuts.last() {
-        Some(cut) => cut.saturating_mul(2).max(LEAST_PENDING).min(MOST_PENDING) as usize,
-        None => MOST_PENDING as usize,
+        Some(cut) => cut.saturating_mul(2).max(LEAST_PENDING).min(MAX_PENDING) as usize,
+        None => MAX_PENDING as usize,
     }
 }
 

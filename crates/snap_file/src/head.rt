@@ -7,12 +7,12 @@ ghost use Rattle.snap_file.specs.Table.{Reading, head, cuts_behind};
 ghost use Rattle.snap_file.specs.Outcomes.{HasRead, Stops};
 
 use crate::fault::SnapFault;
-use crate::limits::{
-    MARK, MOST_BATCHES, MOST_CUT, MOST_CUTS, MOST_DIMENSION, MOST_SHARDS, VERSION,
-};
+use crate::limits::{MARK, VERSION};
 use crate::reader::ByteReader;
-use batch_store::Setup;
+use batch_store::{MAX_BATCHES, MAX_SHARDS, Setup};
 use byte_io::Source;
+use cells::MAX_DIMENSION;
+use layer_cascade::{MAX_CUT, MAX_CUTS};
 
 /// What the head of a file says: the setup, how many batches follow, and the sum of all their counts.
 #[derive(Drop)]
@@ -26,7 +26,7 @@ pub struct Head {
 fn setup_of(
     rows: u64,
     cols: u64,
-    cuts: [u64; 7],
+    cuts: [u64; MAX_CUTS],
     cut_count: usize,
     shards: u64,
     limit: u64,
@@ -52,7 +52,7 @@ fn read_cuts<R: Source>(
     reader: &mut ByteReader,
     r: &mut R,
     count: u8,
-) -> Result<[u64; 7], SnapFault>
+) -> Result<[u64; MAX_CUTS], SnapFault>
     requires failures { R.failure_count r.old + 1 < 2 ^ 64 }
     requires few { count ≤ 7 }
     ensures cuts { IfOk result (λ cuts. AreCuts (take count cuts)) }
@@ -64,10 +64,10 @@ fn read_cuts<R: Source>(
         Stops R.read_gives R.failure_count (R.at_end r.new) max_bytes s r.new f) }
     ensures no_failure { OnOk result (R.failure_count r.new ≡ R.failure_count r.old) }
 {
-    let mut cuts = [0u64; 7];
+    let mut cuts = [0u64; MAX_CUTS];
     let mut least = 1u64;
     for i in 0..count as usize {
-        let cut = reader.next_u64_in(r, least, MOST_CUT, SnapFault::BadHead)?;
+        let cut = reader.next_u64_in(r, least, MAX_CUT, SnapFault::BadHead)?;
         cuts[i] = cut;
         least = cut + 1;
     }
@@ -87,13 +87,13 @@ pub fn read_head<R: Source>(reader: &mut ByteReader, r: &mut R) -> Result<Head, 
 {
     let _mark = reader.next_u64_in(r, MARK, MARK, SnapFault::BadMark)?;
     let _version = reader.next_u32_in(r, VERSION, VERSION, SnapFault::BadVersion)?;
-    let rows = reader.next_u64_in(r, 1, MOST_DIMENSION, SnapFault::BadHead)?;
-    let cols = reader.next_u64_in(r, 1, MOST_DIMENSION, SnapFault::BadHead)?;
-    let cut_count = reader.next_u8_in(r, 0, MOST_CUTS, SnapFault::BadHead)?;
+    let rows = reader.next_u64_in(r, 1, MAX_DIMENSION, SnapFault::BadHead)?;
+    let cols = reader.next_u64_in(r, 1, MAX_DIMENSION, SnapFault::BadHead)?;
+    let cut_count = reader.next_u8_in(r, 0, MAX_CUTS as u8, SnapFault::BadHead)?;
     let cuts = read_cuts(reader, r, cut_count)?;
-    let shards = reader.next_u8_in(r, 1, MOST_SHARDS, SnapFault::BadHead)?;
+    let shards = reader.next_u8_in(r, 1, MAX_SHARDS as u8, SnapFault::BadHead)?;
     let limit = reader.next_u64_in(r, 1, u64::MAX, SnapFault::BadHead)?;
-    let max_batches = reader.next_u64_in(r, 1, MOST_BATCHES, SnapFault::BadHead)?;
+    let max_batches = reader.next_u64_in(r, 1, MAX_BATCHES, SnapFault::BadHead)?;
     let batches = reader.next_u64_in(r, 0, max_batches, SnapFault::BadHead)?;
     let total = reader.next_u64_in(r, 0, limit, SnapFault::BadHead)?;
     let setup = setup_of(

@@ -30,7 +30,7 @@ pub static TWO: &[u8] = b"HHMSNAP\n\0\0\0\x01\
 \0\0\0\0\0\0\0\0\0\0\0\0\0\0\0\0\0\0\0\0\0\0\0\x03";
 
 /// Limit of the bytes that the tests read.
-pub const MOST_BYTES: u64 = 1 << 40;
+pub const MAX_BYTES: u64 = 1 << 40;
 
 /// A script that gives these bytes in pieces of `size`, and whose reads fail from `fail_read` on.
 pub fn source(
@@ -65,8 +65,8 @@ pub fn fault_within(alloc: Global, bytes: &[u8], size: usize, max_bytes: u64) ->
 
 /// The fault of these bytes, in one piece and byte by byte, where the two are the same.
 pub fn fault(alloc: Global, bytes: &[u8]) -> Option<SnapFault> {
-    let whole = fault_within(alloc, bytes, bytes.len(), MOST_BYTES);
-    let parts = fault_within(alloc, bytes, 1, MOST_BYTES);
+    let whole = fault_within(alloc, bytes, bytes.len(), MAX_BYTES);
+    let parts = fault_within(alloc, bytes, 1, MAX_BYTES);
     if whole != parts {
         return Some(SnapFault::Read);
     }

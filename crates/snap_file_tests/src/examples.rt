@@ -1,6 +1,6 @@
 //! The worked example: read, written again, and each way in which it can be damaged.
 
-use crate::bytes::{MOST_BYTES, ONE, TWO, fault, fault_within, read};
+use crate::bytes::{MAX_BYTES, ONE, TWO, fault, fault_within, read};
 use batch_store::{Batch, Setup};
 use byte_io::Script;
 use snap_file::{SnapFault, Snapshot, write_snapshot};
@@ -51,7 +51,7 @@ fn expect_setup(rt: &impl Abort, setup: &Setup) {
 #[test]
 fn an_example_is_read(rt: HostRuntime) -> Result<(), Fail> {
     assert_eq!(rt; ONE.len(), 126);
-    let snapshot = read(rt.alloc(), ONE, ONE.len(), MOST_BYTES)?;
+    let snapshot = read(rt.alloc(), ONE, ONE.len(), MAX_BYTES)?;
     expect_setup(&rt, &snapshot.setup);
     assert_eq!(rt; snapshot.batches.len(), 1);
     expect_batch(&rt, &snapshot.batches[0], (7, 1, 5), &[(0, 0, 5)]);
@@ -60,7 +60,7 @@ fn an_example_is_read(rt: HostRuntime) -> Result<(), Fail> {
 
 #[test]
 fn two_batches_are_read(rt: HostRuntime) -> Result<(), Fail> {
-    let snapshot = read(rt.alloc(), TWO, 1, MOST_BYTES)?;
+    let snapshot = read(rt.alloc(), TWO, 1, MAX_BYTES)?;
     assert_eq!(rt; snapshot.batches.len(), 2);
     expect_batch(
         &rt,
@@ -75,7 +75,7 @@ fn two_batches_are_read(rt: HostRuntime) -> Result<(), Fail> {
 #[test]
 fn what_is_read_is_written_again(rt: HostRuntime) -> Result<(), Fail> {
     for bytes in [ONE, TWO] {
-        let snapshot = read(rt.alloc(), bytes, 7, MOST_BYTES)?;
+        let snapshot = read(rt.alloc(), bytes, 7, MAX_BYTES)?;
         let script = written(rt.alloc(), &snapshot)?;
         assert!(rt; script.written() == bytes);
     }
@@ -202,7 +202,7 @@ fn a_fault_before_the_limit_is_told(rt: HostRuntime) -> Result<(), Fail> {
 fn declared_numbers_take_no_memory(rt: HostRuntime) -> Result<(), Fail> {
     // 2^63 entries are declared, and one follows.
     let bytes = changed(rt.alloc(), ONE, 94, b"\x80\0\0\0\0\0\0\0")?;
-    let found = fault_within(rt.alloc(), &bytes, 126, MOST_BYTES);
+    let found = fault_within(rt.alloc(), &bytes, 126, MAX_BYTES);
     assert_eq!(rt; found, Some(SnapFault::Truncated));
     Ok(())
 }

@@ -1,6 +1,6 @@
 //! Reads and writes that fail in mid-stream.
 
-use crate::bytes::{MOST_BYTES, ONE, TWO, read, source};
+use crate::bytes::{MAX_BYTES, ONE, TWO, read, source};
 use byte_io::{Script, Source, WriteFault};
 use snap_file::{SnapFault, Snapshot, read_snapshot, write_snapshot};
 use std::alloc::{AllocError, Global};
@@ -14,7 +14,7 @@ fn fault_failing(
     failing: u64,
 ) -> Result<(Option<SnapFault>, u64), AllocError> {
     let mut script = source(alloc, bytes, 1, Some(failing))?;
-    let fault = read_snapshot(alloc, &mut script, MOST_BYTES).err();
+    let fault = read_snapshot(alloc, &mut script, MAX_BYTES).err();
     Ok((fault, script.failures()))
 }
 
@@ -54,7 +54,7 @@ fn stops_at(alloc: Global, snapshot: &Snapshot, bytes: &[u8], room: usize) -> bo
 #[test]
 fn each_write_fails_in_turn(rt: HostRuntime) -> Result<(), Fail> {
     for bytes in [ONE, TWO] {
-        let snapshot = read(rt.alloc(), bytes, bytes.len(), MOST_BYTES)?;
+        let snapshot = read(rt.alloc(), bytes, bytes.len(), MAX_BYTES)?;
         for room in 0..bytes.len() {
             assert!(rt; stops_at(rt.alloc(), &snapshot, bytes, room), "{room}");
         }

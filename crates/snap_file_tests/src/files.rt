@@ -1,6 +1,6 @@
 //! Real files, in a folder of their own below the system's one for temporary files.
 
-use crate::bytes::{MOST_BYTES, ONE, TWO, read};
+use crate::bytes::{MAX_BYTES, ONE, TWO, read};
 use snap_file::{FileFault, SaveFault, SnapFault, Snapshot, load, save};
 use std::fs::Permissions;
 use std::os::unix::fs::{MetadataExt, PermissionsExt, symlink};
@@ -16,7 +16,7 @@ fn saved(rt: &HostRuntime, path: &str, snapshot: &Snapshot) -> Result<(), SaveFa
 
 // How many batches a file has.
 fn loaded_batches(rt: &HostRuntime, path: &str) -> Result<usize, FileFault> {
-    let snapshot = load(rt, rt.alloc(), path, MOST_BYTES)?;
+    let snapshot = load(rt, rt.alloc(), path, MAX_BYTES)?;
     Ok(snapshot.batches.len())
 }
 
@@ -37,7 +37,7 @@ fn is_whole(rt: &HostRuntime, path: &str, bytes: &[u8], batches: usize) -> io::R
 }
 
 fn save_read(rt: &HostRuntime, path: &str, bytes: &[u8]) -> Result<(), Fail> {
-    let snapshot = read(rt.alloc(), bytes, bytes.len(), MOST_BYTES)?;
+    let snapshot = read(rt.alloc(), bytes, bytes.len(), MAX_BYTES)?;
     saved(rt, path, &snapshot)?;
     Ok(())
 }
@@ -55,7 +55,7 @@ fn what_is_saved_is_loaded(rt: HostRuntime) -> Result<(), Fail> {
 
 #[test]
 fn a_save_without_its_folder_fails(rt: HostRuntime) -> Result<(), Fail> {
-    let snapshot = read(rt.alloc(), ONE, ONE.len(), MOST_BYTES)?;
+    let snapshot = read(rt.alloc(), ONE, ONE.len(), MAX_BYTES)?;
     let absent = "/tmp/hhm_snap_file_no_folder/file";
     assert_eq!(rt; saved(&rt, absent, &snapshot), Err(SaveFault::Create));
     Ok(())
@@ -71,7 +71,7 @@ fn saved_as_folder(rt: &HostRuntime, snapshot: &Snapshot) -> io::Result<Result<(
 
 #[test]
 fn a_folder_is_not_replaced(rt: HostRuntime) -> Result<(), Fail> {
-    let snapshot = read(rt.alloc(), ONE, ONE.len(), MOST_BYTES)?;
+    let snapshot = read(rt.alloc(), ONE, ONE.len(), MAX_BYTES)?;
     let answer = saved_as_folder(&rt, &snapshot)?;
     assert_eq!(rt; answer, Err(SaveFault::Rename));
     Ok(())
@@ -91,7 +91,7 @@ fn saved_beside_folder(
 
 #[test]
 fn a_save_that_fails_leaves_the_file(rt: HostRuntime) -> Result<(), Fail> {
-    let snapshot = read(rt.alloc(), ONE, ONE.len(), MOST_BYTES)?;
+    let snapshot = read(rt.alloc(), ONE, ONE.len(), MAX_BYTES)?;
     let path = "/tmp/hhm_snap_file_kept";
     fs::write(&rt, path, b"as it was".as_slice())?;
     let answer = saved_beside_folder(&rt, path, &snapshot)?;
@@ -115,7 +115,7 @@ fn saved_beside_link(
 
 #[test]
 fn a_link_beside_is_not_followed(rt: HostRuntime) -> Result<(), Fail> {
-    let snapshot = read(rt.alloc(), ONE, ONE.len(), MOST_BYTES)?;
+    let snapshot = read(rt.alloc(), ONE, ONE.len(), MAX_BYTES)?;
     let (path, other) = ("/tmp/hhm_snap_file_linked", "/tmp/hhm_snap_file_other");
     let answer = saved_beside_link(&rt, path, other, &snapshot)?;
     assert_eq!(rt; answer, Ok(()));
@@ -139,7 +139,7 @@ fn mode_after(rt: &HostRuntime, snapshot: &Snapshot, mode: u32) -> io::Result<u3
 
 #[test]
 fn a_mode_is_kept(rt: HostRuntime) -> Result<(), Fail> {
-    let snapshot = read(rt.alloc(), ONE, ONE.len(), MOST_BYTES)?;
+    let snapshot = read(rt.alloc(), ONE, ONE.len(), MAX_BYTES)?;
     for mode in [0o600, 0o640, 0o444, 0o666, 0o700] {
         assert_eq!(rt; mode_after(&rt, &snapshot, mode)?, mode);
     }

@@ -1,7 +1,7 @@
 //! Saves in a folder in memory, each of whose calls fails in turn.
 ghost use Rattle.std.specs.Prelude.{◌≡◌, ◌+◌, ◌<◌, ◌^◌, IfOk};
 
-use crate::bytes::{MOST_BYTES, ONE, read};
+use crate::bytes::{MAX_BYTES, ONE, read};
 use byte_io::{DeviceFault, WriteFault};
 use snap_file::{Folder, MemoryFolder, SaveFault, Snapshot, save_in};
 use std::alloc::{AllocError, Global};
@@ -72,7 +72,7 @@ const FAULTS: [(u64, SaveFault); 4] = [
 
 #[test]
 fn each_call_fails_in_turn(rt: HostRuntime) -> Result<(), Fail> {
-    let snapshot = read(rt.alloc(), ONE, ONE.len(), MOST_BYTES)?;
+    let snapshot = read(rt.alloc(), ONE, ONE.len(), MAX_BYTES)?;
     for (call, fault) in FAULTS {
         expect_save(&rt, rt.alloc(), &snapshot, Some(call), Err(fault), b"old")?;
     }
@@ -83,7 +83,7 @@ fn each_call_fails_in_turn(rt: HostRuntime) -> Result<(), Fail> {
 
 #[test]
 fn what_was_left_over_is_written_over(rt: HostRuntime) -> Result<(), Fail> {
-    let snapshot = read(rt.alloc(), ONE, ONE.len(), MOST_BYTES)?;
+    let snapshot = read(rt.alloc(), ONE, ONE.len(), MAX_BYTES)?;
     let mut f = folder(rt.alloc(), &[("a.new", b"left over"), ("a", b"old")], None)?;
     assert_eq!(rt; saved(rt.alloc(), &mut f, &snapshot), Ok(()));
     assert!(rt; holds(&f, "a", ONE));

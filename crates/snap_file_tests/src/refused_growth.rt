@@ -3,7 +3,7 @@
 //! `rt try --test --fail-alloc N` refuses the growth number N, and the test passes whichever it is. With ample memory
 //! each call succeeds at once.
 
-use crate::bytes::{MOST_BYTES, TWO, read};
+use crate::bytes::{MAX_BYTES, TWO, read};
 use snap_file::{FileFault, SaveFault, SnapFault, Snapshot, load, save};
 use std::alloc::Global;
 use std::fs;
@@ -14,8 +14,8 @@ const PATH: &str = "/tmp/hhm_snap_file_refused";
 
 // What the example is read as, again where memory was refused: no other fault is answered, and none the second time.
 fn read_twice(alloc: Global) -> Result<Snapshot, SnapFault> {
-    match read(alloc, TWO, 50, MOST_BYTES) {
-        Err(SnapFault::Memory) => read(alloc, TWO, 50, MOST_BYTES),
+    match read(alloc, TWO, 50, MAX_BYTES) {
+        Err(SnapFault::Memory) => read(alloc, TWO, 50, MAX_BYTES),
         answer => answer,
     }
 }
@@ -31,7 +31,7 @@ fn save_twice(rt: &HostRuntime, snapshot: &Snapshot) -> Result<(), SaveFault> {
 
 // How many batches are loaded.
 fn loaded(rt: &HostRuntime) -> Result<usize, FileFault> {
-    let snapshot = load(rt, rt.alloc(), PATH, MOST_BYTES)?;
+    let snapshot = load(rt, rt.alloc(), PATH, MAX_BYTES)?;
     Ok(snapshot.batches.len())
 }
 

@@ -12,7 +12,7 @@ const ASKS_AFTER: i32 = 60;
 const ASKS_EVERY: i32 = 10;
 
 /// How many questions without an answer end the connection.
-const MOST_QUESTIONS: i32 = 6;
+const MAX_QUESTIONS: i32 = 6;
 
 // Sets an option. It is of no matter if that fails.
 fn set_option(socket: RawFd, level: i32, option: i32, number: i32)
@@ -30,5 +30,5 @@ pub fn keep_alive(stream: &TcpStream) {
     set_option(socket, net::SOL_SOCKET, net::SO_KEEPALIVE, 1);
     set_option(socket, net::IPPROTO_TCP, net::TCP_KEEPIDLE, ASKS_AFTER);
     set_option(socket, net::IPPROTO_TCP, net::TCP_KEEPINTVL, ASKS_EVERY);
-    set_option(socket, net::IPPROTO_TCP, net::TCP_KEEPCNT, MOST_QUESTIONS);
+    set_option(socket, net::IPPROTO_TCP, net::TCP_KEEPCNT, MAX_QUESTIONS);
 }

@@ -4,9 +4,9 @@ ghost use Rattle.wire_proto.specs.CellBytes.{cell_at, cells_of};
 ghost use Rattle.wire_proto.specs.Frames.{number_at};
 ghost use Rattle.wire_proto.specs.PutTexts.{CellsLead};
 
-use crate::limits::{CELL, MOST_CELLS};
+use crate::limits::CELL;
 use crate::texts::PutRefusal;
-use batch_store::{Batch, CellsFault, Setup};
+use batch_store::{Batch, CellsFault, MAX_CELLS, Setup};
 use bytes::Bytes;
 use cells::Cell;
 use std::alloc::{AllocError, Global};
@@ -59,7 +59,7 @@ pub fn batch_of_cells(
 ) -> Result<Arc<Batch>, PutRefusal>
     ensures { CellsLead setup.now client number body result }
 {
-    if body.len() / CELL > MOST_CELLS {
+    if body.len() / CELL > MAX_CELLS {
         return Err(PutRefusal::Refused {
             code: 23,
             detail: 0,

@@ -8,7 +8,7 @@ ghost use Rattle.wire_proto.specs.Frames.{number_at, head_kind};
 ghost use Rattle.wire_proto.specs.Decoding.{Said, said, reply_frame, FitsReply, IsReplyFrame, short_fits, body_says};
 ghost use Rattle.wire_proto.specs.Decoding.{value_at, code_at};
 
-use crate::limits::{HEAD, MOST_BODY};
+use crate::limits::{HEAD, MAX_BODY};
 use crate::replies::{
     Short, accepted, counts, refused, row_sum, saved, stopping, text_head, value,
 };
@@ -151,7 +151,7 @@ fn text_in(bytes: &[u8]) -> Option<Reply<'_>>
     ensures only { (r : Said) → IsReplyFrame bytes.now r → option_map said result ≡ Some r }
 {
     let (head, body) = bytes.split_at(HEAD);
-    if body.len() > MOST_BODY as usize {
+    if body.len() > MAX_BODY as usize {
         return None;
     }
     if head == text_head(body.len() as u32).as_slice() {

@@ -9,7 +9,7 @@ ghost use Rattle.merged_cells.specs.Within.{LieWithin};
 ghost use Rattle.wire_proto.specs.MatrixText.{matrix_text, IsSizeOf};
 ghost use Rattle.mm_text.specs.Canonical.{numbers_line};
 
-use crate::limits::MOST_BODY;
+use crate::limits::MAX_BODY;
 use byte_io::{Sink, WriteFault};
 use merged_cells::MergedCells;
 use mm_text::TextWriter;
@@ -54,7 +54,7 @@ pub fn text_size(sum: &ViewedSum, cells: MergedCells<'_>) -> Option<TextSize>
     let mut len = BANNER;
     let mut count = 0;
     for cell in cells {
-        if len > MOST_BODY as u64 {
+        if len > MAX_BODY as u64 {
             return None;
         }
         len += line_length(cell.row + 1, cell.col + 1, cell.count);
@@ -62,7 +62,7 @@ pub fn text_size(sum: &ViewedSum, cells: MergedCells<'_>) -> Option<TextSize>
     }
     let size_line = line_length(rows, cols, count);
     len += size_line;
-    if len > MOST_BODY as u64 {
+    if len > MAX_BODY as u64 {
         return None;
     }
     Some(TextSize {

@@ -3,7 +3,7 @@ ghost use Rattle.std.specs.Prelude.{◌≡◌, ◌<◌, ◌≤◌, length, Match
 ghost use Rattle.wire_proto.specs.Frames.{length_fits, head_fault, head_len, head_kind};
 ghost use Rattle.wire_proto.specs.Looks.{Looks};
 
-use crate::limits::{CELL, HEAD, MOST_BODY};
+use crate::limits::{CELL, HEAD, MAX_BODY};
 use crate::request::FrameFault;
 use bytes::Buf;
 
@@ -61,7 +61,7 @@ fn fits(head: Head) -> Option<bool>
 fn fault_in(head: Head) -> Option<FrameFault>
     ensures { result ≡ head_fault head.kind head.len }
 {
-    if head.len > MOST_BODY {
+    if head.len > MAX_BODY {
         return Some(FrameFault::TooLarge);
     }
     match fits(head) {

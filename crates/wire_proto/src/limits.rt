@@ -1,7 +1,7 @@
 //! Every limit of frames and sessions, with its unit.
 
 /// The bytes of the longest body of a frame.
-pub const MOST_BODY: u32 = 67_108_864;
+pub const MAX_BODY: u32 = 67_108_864;
 
 /// The bytes of a header: the length of the body, and its kind.
 pub const HEAD: usize = 5;
@@ -13,10 +13,7 @@ pub const SHORT: usize = 21;
 pub const PIECE: usize = 65_536;
 
 /// The most entry lines that the text of a Put may declare.
-pub const MOST_ENTRIES: u64 = 1_048_576;
-
-/// The most cells of a PutCells: as many as a batch is made of.
-pub const MOST_CELLS: usize = 1_048_576;
+pub const MAX_ENTRIES: u64 = 1_048_576;
 
 /// The bytes of a cell: its row, its column and its count.
 pub const CELL: usize = 24;

@@ -2,7 +2,7 @@
 ghost use Rattle.std.specs.Prelude.{◌≡◌, ◌<◌, ◌≤◌, ◌↔◌, ◌++◌, length, IfOk, OnOk, Err};
 ghost use Rattle.wire_proto.specs.Frames.{number, head_bytes, kind_of, body_of, request_frame, HasWholeCells};
 
-use crate::limits::MOST_BODY;
+use crate::limits::MAX_BODY;
 use bytes::Bytes;
 use std::alloc::{AllocError, Global};
 use thiserror::Error;
@@ -157,7 +157,7 @@ pub fn encode_request(alloc: Global, request: &Request) -> Result<Vec<u8>, Encod
     ensures too_large { (result ≡ Err EncodeFault.TooLarge) ↔ (67108864 < length (body_of request.now)) }
 {
     let len = body_len(request);
-    if len > MOST_BODY as usize {
+    if len > MAX_BODY as usize {
         return Err(EncodeFault::TooLarge);
     }
     let mut out = Vec::new(alloc);

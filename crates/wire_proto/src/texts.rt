@@ -4,7 +4,7 @@ ghost use Rattle.mm_text.specs.Texts.{Spells, FirstFault};
 ghost use Rattle.wire_proto.specs.Answering.{put_limits, kind_number};
 ghost use Rattle.wire_proto.specs.PutTexts.{HandsOut, Leads};
 
-use crate::limits::{MOST_BODY, MOST_ENTRIES};
+use crate::limits::{MAX_BODY, MAX_ENTRIES};
 use batch_store::{Batch, BatchFault, Setup};
 use byte_io::{DeviceFault, Source};
 use mm_text::{MmFault, MmFile, MmKind, TextLimits, read_matrix};
@@ -12,8 +12,8 @@ use std::alloc::Global;
 use std::sync::Arc;
 
 const LIMITS: TextLimits = TextLimits {
-    max_bytes: MOST_BODY as u64,
-    max_entries: MOST_ENTRIES,
+    max_bytes: MAX_BODY as u64,
+    max_entries: MAX_ENTRIES,
 };
 
 /// Why a put is refused before the keeper is asked.

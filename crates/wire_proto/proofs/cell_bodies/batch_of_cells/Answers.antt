@@ -3,9 +3,9 @@ use Rattle.wire_proto.specs.CellBytes.{cells_of}
 use Rattle.wire_proto.proofs.CellLemmas.{too_many_cells, cell_outside}
 use Rattle.wire_proto.proofs.cell_bodies.batch_of_cells.Goals as goal
 
-pub returns-then-len-gt-MOST_CELLS : goal.returns-then-len-gt-MOST_CELLS
-returns-then-len-gt-MOST_CELLS c = too_many_cells c.args.setup.now c.args.body _ c.len.ensures.value
-    c.if-len-gt-MOST_CELLS.true
+pub returns-then-len-gt-MAX_CELLS : goal.returns-then-len-gt-MAX_CELLS
+returns-then-len-gt-MAX_CELLS c = too_many_cells c.args.setup.now c.args.body _ c.len.ensures.value
+    c.if-len-gt-MAX_CELLS.true
 
 pub returns-in-Err-IndexOutOfRange : goal.returns-in-Err-IndexOutOfRange
 returns-in-Err-IndexOutOfRange c =
