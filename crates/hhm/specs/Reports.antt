@@ -3,14 +3,14 @@
 use Rattle.std.specs.Prelude.{ℕ}
 use Rattle.mm_text.specs.declared.fault.MmKind.{MmKind}
 use Rattle.mm_text.specs.declared.fault.MmKind.TheVariants as kind
-use Rattle.hhm.specs.declared.fault.SumFault.{SumFault}
-use Rattle.hhm.specs.declared.fault.SumFault.TheVariants.{BadCuts, Text, SumTooLarge, Memory, Output}
+use Rattle.mm_sum.specs.declared.fault.SumFault.{SumFault}
+use Rattle.mm_sum.specs.declared.fault.SumFault.TheVariants.{BadCuts, Text, SumTooLarge, Memory, Output}
 use Rattle.hhm.specs.declared.numbers.ListFault.{ListFault}
 use Rattle.hhm.specs.declared.numbers.ListFault.TheVariants as list
 use Rattle.hhm.specs.declared.report.Fault.{Fault}
 use Rattle.hhm.specs.declared.report.Fault.TheVariants.{BadNumber, Setup, Sum, Check}
-use Rattle.hhm.specs.declared.fault.CheckFault.{CheckFault}
-use Rattle.hhm.specs.declared.fault.CheckFault.TheVariants as check
+use Rattle.snap_report.specs.declared.fault.CheckFault.{CheckFault}
+use Rattle.snap_report.specs.declared.fault.CheckFault.TheVariants as check
 use Rattle.snap_file.specs.declared.fault.FileFault.{FileFault}
 use Rattle.snap_file.specs.declared.fault.FileFault.TheVariants as file
 use Rattle.snap_file.specs.declared.fault.SnapFault.{SnapFault}

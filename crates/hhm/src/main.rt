@@ -1,34 +1,26 @@
 //! `hhm`: sums counted cells (row, column, count) into hypersparse matrices, exactly.
 //!
 //! The program reads the words of its command line, runs what they ask for over standard input and output, and says a
-//! fault in one line on standard error. What a sum is, and that it is what is written, stands in `sum`.
+//! fault in one line on standard error: `mm_sum` writes sums, `snap_report` tells of snapshots, `socket_server` serves.
 #![tactic(auto)]
 
-mod check;
 mod cli;
-mod export;
-mod fault;
 mod limits;
 mod memory;
 mod numbers;
 mod report;
-mod running_sum;
 mod serve;
 mod serve_cli;
-mod sum;
-#[cfg(test)]
-mod sum_tests;
 
-use crate::check::run_check;
-use crate::export::run_export;
 use crate::memory::keep_freed_memory;
 use crate::numbers::read_list;
 use crate::report::Fault;
 use crate::serve::{settings_of, status_of};
-use crate::sum::run_sum;
 use byte_io::{Counted, write_all};
 use clap::error::ErrorKind;
 use clap::{ArgMatches, Error};
+use mm_sum::run_sum;
+use snap_report::{run_check, run_export};
 use socket_server::{ServerFault, Settings, run_server};
 use std::alloc::AllocError;
 use std::process::ExitCode;

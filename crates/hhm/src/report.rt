@@ -1,15 +1,16 @@
 //! What the program says of a fault, and the status that it ends with.
 ghost use Rattle.std.specs.Prelude.{◌≡◌};
 ghost use Rattle.hhm.specs.Reports.{fault_of_list, fault_status};
-ghost use Rattle.hhm.specs.declared.fault.SumFault.TheVariants.{Memory, Output};
+ghost use Rattle.mm_sum.specs.declared.fault.SumFault.TheVariants.{Memory, Output};
 ghost use Rattle.hhm.specs.declared.report.Fault.TheVariants.{Setup, Sum, Check};
 
-use crate::fault::{CheckFault, SumFault};
 use crate::numbers::ListFault;
 use batch_store::SetupFault;
 use byte_io::WriteFault;
+use mm_sum::SumFault;
 use mm_text::{MmFault, MmKind};
 use snap_file::{FileFault, SnapFault};
+use snap_report::CheckFault;
 use std::alloc::AllocError;
 use std::process::ExitCode;
 use thiserror::Error;

@@ -12,3 +12,4 @@ pub mod GrammarBanner
 pub mod GrammarTexts
 pub mod SameCells
 pub mod FaultLaws
+pub mod CellsBuilt

@@ -5,7 +5,7 @@ use Rattle.hyper_rows.specs.declared.search.RowSum.{RowSum}
 use Rattle.wire_proto.specs.Frames.{frame, head_bytes, number}
 use Rattle.wire_proto.specs.Keeping.{Event, cell, row, status, export, save}
 use Rattle.wire_proto.specs.Replies.{value, row_sum, counts, save_reply, text, text_reply, refused}
-use Rattle.wire_proto.specs.MatrixText.{matrix_text}
+use Rattle.mm_laws.specs.MatrixText.{matrix_text}
 use Rattle.wire_proto.specs.Answering.{Answers, asked}
 use Rattle.hyper_matrix.specs.Matrix.{Matrix}
 use Rattle.wire_proto.specs.declared.request.Request.TheVariants.{Cell as CellAt, Row, Status, Export, Save}

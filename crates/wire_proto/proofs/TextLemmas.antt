@@ -9,7 +9,7 @@ use Rattle.mm_text.specs.Canonical.{canonical_head, numbers_line, entry_line, en
 use Rattle.hyper_matrix.specs.Counts.{Place}
 use Rattle.hyper_matrix.specs.Cells.{entry_of}
 use Rattle.hyper_matrix.specs.Matrix.{Matrix}
-use Rattle.wire_proto.specs.MatrixText.{cell_of, cells_in_order, matrix_text}
+use Rattle.mm_laws.specs.MatrixText.{cell_of, cells_in_order, matrix_text}
 
 -- the head of a matrix's text, and behind it the lines of its cells
 pub text_begins : (m : Matrix) (rows cols count : ℕ) (left : List (Place × ℕ)) →

@@ -2,7 +2,7 @@ pub mod Frames
 pub mod CellBytes
 pub mod Looks
 pub mod Keeping
-pub mod MatrixText
+pub mod TextSizes
 pub mod Replies
 pub mod Answering
 pub mod PutTexts

@@ -6,7 +6,8 @@ ghost use Rattle.std.specs.Prelude.{◌≡◌, ℕ, ◌+◌, ◌<◌, ◌≤◌,
 ghost use Rattle.std.specs.FinMap.{len};
 ghost use Rattle.byte_io.specs.Writing.{HasTaken, HasStopped};
 ghost use Rattle.merged_cells.specs.Within.{LieWithin};
-ghost use Rattle.wire_proto.specs.MatrixText.{matrix_text, IsSizeOf};
+ghost use Rattle.mm_laws.specs.MatrixText.{matrix_text};
+ghost use Rattle.wire_proto.specs.TextSizes.{IsSizeOf};
 ghost use Rattle.mm_text.specs.Canonical.{numbers_line};
 
 use crate::limits::MAX_BODY;

@@ -2,7 +2,8 @@
 ghost use Rattle.std.specs.Prelude.{◌≡◌, ◌+◌, ◌<◌, ◌≤◌, ◌^◌, length, IfOk, OnErr};
 ghost use Rattle.merged_cells.specs.Within.{LieWithin};
 ghost use Rattle.wire_proto.specs.Closing.{Closes, Sends};
-ghost use Rattle.wire_proto.specs.MatrixText.{matrix_text, IsSizeOf};
+ghost use Rattle.mm_laws.specs.MatrixText.{matrix_text};
+ghost use Rattle.wire_proto.specs.TextSizes.{IsSizeOf};
 ghost use Rattle.wire_proto.specs.Replies.{text as text_of, text_reply};
 
 use crate::ended::Ended;

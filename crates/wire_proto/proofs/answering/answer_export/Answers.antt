@@ -1,7 +1,7 @@
 use Rattle.std.proofs.Common.{refl, subst, Err}
 use Rattle.wire_proto.specs.Answering.{RunsOut, in_call}
 use Rattle.wire_proto.specs.Keeping.{export}
-use Rattle.wire_proto.specs.MatrixText.{matrix_text}
+use Rattle.mm_laws.specs.MatrixText.{matrix_text}
 use Rattle.wire_proto.specs.Replies.{text_reply}
 use Rattle.wire_proto.specs.Sessions.{OneEnds, out, asked}
 use Rattle.wire_proto.specs.declared.request.Request.TheVariants.{Export}

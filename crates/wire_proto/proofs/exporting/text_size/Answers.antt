@@ -5,7 +5,7 @@ use Rattle.std.specs.List.{AllByRecursion}
 use Rattle.hyper_matrix.specs.Shared.{LiesWithin}
 use Rattle.merged_cells.specs.Within.{LieWithin}
 use Rattle.mm_text.specs.Canonical.{entry_lines, numbers_line}
-use Rattle.wire_proto.specs.MatrixText.{cell_of}
+use Rattle.mm_laws.specs.MatrixText.{cell_of}
 use Rattle.wire_proto.proofs.TextLemmas.{length_begins, length_more, length_ends}
 use Rattle.wire_proto.proofs.exporting.text_size.Goals as goal
 

@@ -3,7 +3,7 @@ use Rattle.std.specs.FinMap.{entries, len}
 use Rattle.mm_text.specs.Canonical.{entry_lines}
 use Rattle.cells.specs.Bounds.{IsDimension}
 use Rattle.merged_cells.specs.Within.{LieWithin}
-use Rattle.wire_proto.specs.MatrixText.{cell_of}
+use Rattle.mm_laws.specs.MatrixText.{cell_of}
 use Rattle.wire_proto.proofs.exporting.text_size.Given as goal
 
 abbrev pub invariant-loop-cell : goal.invariant-loop-cell

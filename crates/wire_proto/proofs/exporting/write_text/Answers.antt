@@ -7,7 +7,7 @@ use Rattle.byte_io.specs.Writing.{HasStopped}
 use Rattle.mm_text.proofs.WriterLemmas.{written_nothing}
 use Rattle.byte_io.proofs.SinkLemmas.{has_stopped_longer}
 use Rattle.hyper_matrix.specs.Shared.{LiesWithin}
-use Rattle.wire_proto.specs.MatrixText.{cell_of}
+use Rattle.mm_laws.specs.MatrixText.{cell_of}
 use Rattle.wire_proto.proofs.TextLemmas.{text_begins, lines_counted, line_next}
 use Rattle.wire_proto.proofs.exporting.write_text.Goals as goal
 

@@ -3,7 +3,7 @@ use Rattle.std.specs.FinMap.{entries}
 use Rattle.mm_text.specs.Canonical.{entry_lines}
 use Rattle.mm_text.specs.Writing.{HasWritten}
 use Rattle.merged_cells.specs.Within.{LieWithin}
-use Rattle.wire_proto.specs.MatrixText.{cell_of, matrix_text}
+use Rattle.mm_laws.specs.MatrixText.{cell_of, matrix_text}
 use Rattle.wire_proto.proofs.exporting.write_text.Given as goal
 
 abbrev pub invariant-loop-cell : goal.invariant-loop-cell

@@ -1,6 +1,6 @@
 use Rattle.std.proofs.Common.{List, ℕ, subst, sym, ◌∙◌, arith}
 use Rattle.wire_proto.specs.Closing.{Sends}
-use Rattle.wire_proto.specs.MatrixText.{matrix_text}
+use Rattle.mm_laws.specs.MatrixText.{matrix_text}
 use Rattle.wire_proto.proofs.AskLemmas.{text_carried, text_refused}
 use Rattle.wire_proto.proofs.sending.send_sum.Goals as goal
 

@@ -1,6 +1,0 @@
-use Rattle.std.proofs.Common.{refl}
-use Rattle.hhm.proofs.SumLemmas.{block_added}
-use Rattle.hhm.proofs.running_sum.with_block.Goals as goal
-
-pub returns : goal.returns
-returns c = block_added c.args.layers c.in_ok-after.after c.args.block.now c.args.block.now refl c.in_ok-after.ensures

@@ -1,0 +1,4 @@
+pub mod SumLemmas
+pub mod ReadLemmas
+pub mod CountLemmas
+pub mod ListLemmas

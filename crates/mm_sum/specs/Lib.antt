@@ -1,0 +1,4 @@
+pub mod Sum
+pub mod Running
+pub mod Faults
+pub mod Reading

@@ -1,0 +1,45 @@
+//! Why no sum is written.
+ghost use Rattle.std.specs.Prelude.{◌≡◌};
+ghost use Rattle.mm_sum.specs.declared.fault.SumFault.TheVariants.{Memory, Text};
+
+use byte_io::WriteFault;
+use mm_text::MmFault;
+use std::alloc::AllocError;
+use thiserror::Error;
+
+/// Why a sum was not written.
+#[derive(Clone, Copy, Debug, PartialEq, Eq, Error)]
+pub enum SumFault {
+    /// The cuts are more than seven, don't rise strictly, or one isn't 1 to 2^40. Nothing was read.
+    #[error("settings: BadCuts")]
+    BadCuts,
+    /// The text has this fault, or reading it failed. Its kind is never Memory.
+    #[error("text: {0}")]
+    Text(MmFault),
+    /// The counts of the text's list add up to more than 2^64 - 1.
+    #[error("sum: SumTooLarge")]
+    SumTooLarge,
+    /// There was no memory: for the reader, its block, the layers or the sum. No fault of the text stands before, and
+    /// the counts of what was read up to there fit 64 bits.
+    #[error("memory")]
+    Memory,
+    /// The sink failed, or took nothing of what it was offered. What it took before is the front of the sum's text.
+    #[error(transparent)]
+    Output(WriteFault),
+}
+
+impl From<MmFault> for SumFault {
+    ghost from_gives = { λ fault e. e ≡ Text fault };
+
+    fn from(fault: MmFault) -> SumFault {
+        SumFault::Text(fault)
+    }
+}
+
+impl From<AllocError> for SumFault {
+    ghost from_gives = { λ _ e. e ≡ Memory };
+
+    fn from(_: AllocError) -> SumFault {
+        SumFault::Memory
+    }
+}

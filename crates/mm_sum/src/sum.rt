@@ -1,0 +1,156 @@
+//! `sum`: reads a text, adds its cells into layers block by block, and writes the canonical text of the sum.
+//!
+//! Memory goes to the layers, to one block, and to the latest cells, at most 2^21, which wait in a list before they go
+//! into the layers; and at the end to one list of the cells of all layers and of those that wait, and to as much again
+//! while it is sorted. A place whose cells are in several layers has several in that list. The time is that of one pass
+//! over the text, of the additions that the cuts ask for, of the sort, and of one pass over the sum.
+ghost use Rattle.std.specs.Prelude.{◌≡◌, ℕ, ◌+◌, ◌<◌, ◌≤◌, ◌^◌, ◌⊎◌, ◌↔◌, List, vec_capacity};
+ghost use Rattle.std.specs.Prelude.{Some, Err, OnOk, OnErr, IfOk, IfErr};
+ghost use Rattle.mm_text.specs.declared.size.Size.{Size};
+ghost use Rattle.byte_io.specs.Writing.{HasTaken, HasStopped};
+ghost use Rattle.cells.specs.declared.cell.Cell.{Cell};
+ghost use Rattle.mm_text.specs.declared.fault.MmFault.{MmFault};
+ghost use Rattle.byte_io.specs.declared.fault.WriteFault.{WriteFault};
+ghost use Rattle.layer_cascade.specs.Cuts.{AreCuts};
+ghost use Rattle.mm_sum.specs.Faults.{IsOutput};
+ghost use Rattle.mm_sum.specs.Reading.{IsSized, IsSumming, HasSummed, Excuses};
+ghost use Rattle.mm_sum.specs.Running.{IsSumOf};
+ghost use Rattle.mm_text.specs.Readings.{size_of};
+ghost use Rattle.mm_sum.specs.Sum.{sum_text, StopsText, SumsText, SumPasses, IsUnsummed};
+ghost use Rattle.hyper_matrix.specs.Cells.{cell_total};
+
+use crate::fault::SumFault;
+use crate::limits::{BLOCK_CELLS, TEXT_LIMITS};
+use crate::running_sum::RunningSum;
+use byte_io::{Sink, Source};
+use cells::Cell;
+use layer_cascade::are_cuts;
+use mm_text::{TextReader, write_matrix};
+use std::alloc::{AllocError, Global};
+
+// The sum of the cells of a text's first block, in the dimensions of the size line that was read.
+fn first_sum(
+    alloc: Global,
+    reader: &TextReader,
+    cuts: &[u64],
+    block: &[Cell],
+) -> Result<RunningSum, AllocError>
+    requires sized { IsSized reader.now block.now }
+    requires cuts { AreCuts cuts.now }
+    ensures ok { IfOk result (λ sum. (size : Size) → size_of reader.now ≡ Some size →
+        IsSumOf size.rows size.cols block.now sum) }
+    ensures memory { OnErr result (cell_total block.now < 2 ^ 64) }
+{
+    let Some(size) = reader.size() else {
+        unreachable!()
+    };
+    RunningSum::new(alloc, size, cuts, block)
+}
+
+// Reads the blocks behind the first, and adds each to the sum of those before it, to the text's end.
+fn sum_blocks<R: Source>(
+    alloc: Global,
+    r: &mut R,
+    reader: &mut TextReader,
+    block: &mut Vec<Cell>,
+    first: RunningSum,
+) -> Result<RunningSum, SumFault>
+    requires failures { R.failure_count r.old + 1 < 2 ^ 64 }
+    requires reserved { BLOCK_CELLS ≤ vec_capacity block.old }
+    requires summing { (s : R) × (size : Size) ×
+        IsSumming R.read_gives R.at_end R.failure_count s r.old reader.old size first }
+    ensures ok { IfOk result (λ sum. (s : R) (size : Size) →
+        IsSumming R.read_gives R.at_end R.failure_count s r.old reader.old size first →
+        HasSummed R.read_gives R.at_end R.failure_count s r.new size sum) }
+    ensures err { IfErr result (λ fault. (s : R) (size : Size) →
+        IsSumming R.read_gives R.at_end R.failure_count s r.old reader.old size first →
+        Excuses R.read_gives R.at_end R.failure_count s r.new fault) }
+{
+    let mut sum = first;
+    'text: for _blocks in 0..u64::MAX {
+        block.clear();
+        let more = reader.read_block(r, block, BLOCK_CELLS)?;
+        sum = sum.add(alloc, block)?;
+        if !more {
+            return Ok(sum);
+        }
+    }
+    // Each block has a cell, and a text at most 2^41 of them.
+    unreachable!()
+}
+
+// Reads a text to its end, and gives the sum of its cells.
+fn read_running<R: Source>(alloc: Global, r: &mut R, cuts: &[u64]) -> Result<RunningSum, SumFault>
+    requires failures { R.failure_count r.old + 1 < 2 ^ 64 }
+    requires cuts { AreCuts cuts.now }
+    ensures ok { IfOk result (λ sum. (size : Size) ×
+        HasSummed R.read_gives R.at_end R.failure_count r.old r.new size sum) }
+    ensures err { IfErr result (λ fault. Excuses R.read_gives R.at_end R.failure_count r.old r.new fault) }
+{
+    let mut reader = TextReader::new(alloc, TEXT_LIMITS)?;
+    let mut block = Vec::with_capacity(alloc, BLOCK_CELLS)?;
+    let more = reader.read_block(r, &mut block, BLOCK_CELLS)?;
+    let sum = first_sum(alloc, &reader, cuts, &block)?;
+    if !more {
+        return Ok(sum);
+    }
+    sum_blocks(alloc, r, &mut reader, &mut block, sum)
+}
+
+/// Sums the cells of a Matrix Market text, and writes the canonical text of the sum.
+///
+/// The cells of the text's list go into layers with these cuts (none to seven, rising, each 1 to 2^40 entries), in
+/// blocks of at most 4,096, which wait in a list until it has twice as many cells as the last cut says, at least
+/// 131,072 and at most 2^21, and 2^21 where there is no cut. Where places come again the list is added up earlier. Then
+/// all is put into one list and written, its cells by row and then by column. The cuts decide time and memory, and
+/// never what is written.
+///
+/// # Errors
+///
+/// In this order: `BadCuts` before anything is read; at its place in the text, `Text`; `Memory` where memory ran out,
+/// at a place up to which the text bears no fault and its counts fit 64 bits; `SumTooLarge` once the text was read to
+/// its end without a fault; `Output` where the sink failed or took nothing. Only `Output` leaves anything written: the
+/// first bytes of the canonical text, as many as it says. What was read has been read.
+///
+/// A text may have at most 2^40 bytes and declare at most 2^40 entries. `r` and `w` must have failed less than
+/// 2^64 - 1 times before. `w` is not flushed.
+pub fn run_sum<R: Source, W: Sink>(
+    alloc: Global,
+    r: &mut R,
+    w: &mut W,
+    cuts: &[u64],
+) -> Result<(), SumFault>
+    requires reads { R.failure_count r.old + 1 < 2 ^ 64 }
+    requires writes { W.failure_count w.old + 1 < 2 ^ 64 }
+
+    // The text was read to its end and spells a list that fits; what was written is the canonical text of its sum.
+    ensures ok { OnOk result ((rows cols : ℕ) × (cells : List Cell)
+        × SumsText R.read_gives R.at_end R.failure_count r.old r.new rows cols cells
+        × HasTaken W.write_takes W.failure_count w.old w.new (sum_text rows cols cells)) }
+
+    ensures cuts { (result ≡ Err SumFault.BadCuts) ↔ (AreCuts cuts.now → ⊥) }
+    ensures unread { result ≡ Err SumFault.BadCuts → r.new ≡ r.old }
+    ensures text { (fault : MmFault) → result ≡ Err (SumFault.Text fault) →
+        StopsText R.read_gives R.at_end R.failure_count r.old r.new fault.kind fault.line }
+    ensures too_large { result ≡ Err SumFault.SumTooLarge →
+        SumPasses R.read_gives R.at_end R.failure_count r.old r.new }
+    ensures output { (fault : WriteFault) → result ≡ Err (SumFault.Output fault) →
+        (rows cols : ℕ) × (cells : List Cell)
+        × SumsText R.read_gives R.at_end R.failure_count r.old r.new rows cols cells
+        × HasStopped W.write_takes W.failure_count w.old w.new (sum_text rows cols cells) fault.written }
+    ensures memory { result ≡ Err SumFault.Memory →
+        IsUnsummed R.read_gives R.at_end R.failure_count r.old r.new }
+    ensures unwritten { IfErr result (λ fault. IsOutput fault ⊎ (w.new ≡ w.old)) }
+{
+    if !are_cuts(cuts) {
+        return Err(SumFault::BadCuts);
+    }
+    let sum = read_running(alloc, r, cuts)?;
+    match sum.into_cells(alloc) {
+        Ok(sum) => match write_matrix(w, sum.rows, sum.cols, &sum.cells) {
+            Ok(()) => Ok(()),
+            Err(fault) => Err(SumFault::Output(fault)),
+        },
+        Err(fault) => Err(fault),
+    }
+}

@@ -1,0 +1,187 @@
+//! `check`: reads a snapshot, and writes one line that says what it holds.
+ghost use Rattle.std.specs.Prelude.{◌≡◌, ℕ, ◌+◌, ◌<◌, ◌≤◌, ◌^◌, ◌⊎◌, ◌++◌, List, Err, decimal, length, OnOk, IfOk};
+ghost use Rattle.std.specs.Prelude.{IfErr};
+ghost use Rattle.std.specs.FinMap.{len, empty};
+ghost use Rattle.arrayvec.specs.ArrayString.{array_string_len};
+ghost use Rattle.byte_io.specs.Writing.{HasTaken, HasStopped};
+ghost use Rattle.byte_io.specs.declared.fault.WriteFault.{WriteFault};
+ghost use Rattle.cells.specs.Bounds.{AreWithin};
+ghost use Rattle.cells.specs.Order.{Rise};
+ghost use Rattle.hyper_matrix.specs.Cells.{built_of};
+ghost use Rattle.hyper_matrix.specs.Counts.{total, ewise_add};
+ghost use Rattle.hyper_matrix.specs.Matrix.{matrix};
+ghost use Rattle.batch_store.specs.Setups.{Setting};
+ghost use Rattle.batch_store.specs.Batches.{Submission, values};
+ghost use Rattle.batch_store.specs.Books.{list_total, AreAccepted};
+ghost use Rattle.snap_report.specs.Checks.{sum_of_batches, line_of, check_line, LeavesOutput};
+
+use crate::fault::CheckFault;
+use crate::limits::{CHECK_CUTS, SNAPSHOT_BYTES};
+use arrayvec::ArrayString;
+use batch_store::{Batch, Setup};
+use byte_io::{Sink, write_all};
+use cells::Cell;
+use layer_cascade::CascadeFault;
+use pending_layers::PendingLayers;
+use snap_file::load;
+use std::alloc::{AllocError, Global};
+use std::rt::Files;
+use std::sync::Arc;
+
+// More than the bytes of the longest line: six numbers of at most 20 digits, and 44 more.
+const LINE_CAPACITY: usize = 256;
+
+// Empty layers in the dimensions of a setup.
+fn empty_layers(alloc: Global, setup: &Setup) -> Result<PendingLayers, AllocError>
+    ensures { IfOk result (λ layers. layers ≡ matrix setup.now.rows setup.now.cols empty) }
+{
+    match PendingLayers::new(alloc, setup.rows(), setup.cols(), &CHECK_CUTS, 0) {
+        Ok(layers) => Ok(layers),
+        Err(CascadeFault::Memory) => Err(AllocError),
+        Err(CascadeFault::BadCuts) => unreachable!(),
+    }
+}
+
+// Layers with a batch added, whose cells wait in their list.
+fn with_batch(
+    alloc: Global,
+    layers: PendingLayers,
+    batch: &Batch,
+) -> Result<PendingLayers, AllocError>
+    requires rows { batch.now.matrix.rows ≡ layers.rows }
+    requires cols { batch.now.matrix.cols ≡ layers.cols }
+    requires fits { total layers.counts + total batch.now.matrix.counts < 2 ^ 64 }
+    ensures dims { IfOk result (λ after. (after.rows ≡ layers.rows) × (after.cols ≡ layers.cols)) }
+    ensures sum { IfOk result (λ after. after.counts ≡ ewise_add layers.counts batch.now.matrix.counts) }
+{
+    let matrix = &batch.matrix;
+    let after = layers.add(alloc, matrix)?;
+    Ok(after)
+}
+
+/// The cells of the sum of all batches, by row and then by column, each place once.
+pub fn sum_of(alloc: Global, setup: &Setup, batches: &[Arc<Batch>]) -> Result<Vec<Cell>, AllocError>
+    requires { AreAccepted setup.now (values batches.now) }
+    ensures rises { IfOk result (λ list. Rise list.items) }
+    ensures within { IfOk result (λ list. AreWithin setup.now.rows setup.now.cols list.items) }
+    ensures sum { IfOk result (λ list. built_of list.items ≡ sum_of_batches (values batches.now)) }
+{
+    let mut layers = empty_layers(alloc, setup)?;
+    for batch in batches {
+        layers = with_batch(alloc, layers, batch)?;
+    }
+    let cells = layers.into_cells(alloc)?;
+    Ok(cells)
+}
+
+// The number of entries of the sum of all batches.
+fn entries_of(alloc: Global, setup: &Setup, batches: &[Arc<Batch>]) -> Result<u64, AllocError>
+    requires { AreAccepted setup.now (values batches.now) }
+    ensures { IfOk result (λ entries. entries ≡ len (sum_of_batches (values batches.now))) }
+{
+    let cells = sum_of(alloc, setup, batches)?;
+    Ok(cells.len() as u64)
+}
+
+// The total that a batch keeps.
+fn total_of_one(batch: &Batch) -> u64
+    ensures { result ≡ total batch.now.matrix.counts }
+{
+    batch.total
+}
+
+// The counts of all batches together.
+fn total_of(batches: &[Arc<Batch>]) -> u64
+    requires { list_total (values batches.now) < 2 ^ 64 }
+    ensures { result ≡ list_total (values batches.now) }
+{
+    let mut sum = 0;
+    for batch in batches {
+        sum += total_of_one(batch);
+    }
+    sum
+}
+
+// Appends a word and a number.
+fn push_number(line: &mut ArrayString<LINE_CAPACITY>, word: &str, n: u64)
+    requires room { array_string_len line.old + length word.now + 20 ≤ 256 }
+    ensures bytes { line.new.bytes ≡ line.old.bytes ++ (word.now ++ decimal n) }
+    ensures short { array_string_len line.new ≤ array_string_len line.old + length word.now + 20 }
+{
+    let mut digits = itoa::Buffer::new();
+    line.push_str(word);
+    line.push_str(digits.format(n));
+}
+
+// The line of a snapshot of these numbers.
+fn line_of(setup: &Setup, batches: u64, total: u64, entries: u64) -> ArrayString<LINE_CAPACITY>
+    ensures { result.bytes ≡ line_of setup.now.rows setup.now.cols setup.now.shards batches total entries }
+{
+    let mut line = ArrayString::new();
+    push_number(&mut line, "rows ", setup.rows());
+    push_number(&mut line, " cols ", setup.cols());
+    push_number(&mut line, " shards ", setup.shards());
+    push_number(&mut line, " batches ", batches);
+    push_number(&mut line, " total ", total);
+    push_number(&mut line, " entries ", entries);
+    line.push_str("\n");
+    line
+}
+
+// Writes the line of a setup and a list of batches.
+fn write_check<W: Sink>(
+    alloc: Global,
+    w: &mut W,
+    setup: &Setup,
+    batches: &[Arc<Batch>],
+) -> Result<(), CheckFault>
+    requires failures { W.failure_count w.old + 1 < 2 ^ 64 }
+    requires accepted { AreAccepted setup.now (values batches.now) }
+    ensures ok { OnOk result (HasTaken W.write_takes W.failure_count w.old w.new
+        (check_line setup.now (values batches.now))) }
+    ensures output { (fault : WriteFault) → result ≡ Err (CheckFault.Output fault) →
+        HasStopped W.write_takes W.failure_count w.old w.new (check_line setup.now (values batches.now)) fault.written }
+    ensures unwritten { IfErr result (λ fault. LeavesOutput fault ⊎ (w.new ≡ w.old)) }
+{
+    // The limit bounds the total.
+    let _limit = setup.limit();
+    let entries = match entries_of(alloc, setup, batches) {
+        Ok(entries) => entries,
+        Err(_) => return Err(CheckFault::Memory),
+    };
+    let line = line_of(setup, batches.len() as u64, total_of(batches), entries);
+    match write_all(w, line.as_str().as_bytes()) {
+        Ok(()) => Ok(()),
+        Err(fault) => Err(CheckFault::Output(fault)),
+    }
+}
+
+/// Reads the snapshot under `path`, and writes the line `rows R cols C shards K batches B total T entries E`, where E
+/// is the number of cells of the sum of all batches.
+///
+/// Takes the memory of the batches, of layers with the cuts 4,096, 65,536 and 1,048,576, and of a list of at most 2^21
+/// cells that wait before them, or of one batch that has more; and at the end of one list of all cells in these layers
+/// and that list: 24 bytes each, and as much again while it is sorted.
+///
+/// # Errors
+///
+/// `File` where there is no such file, where it can't be opened or read, or where it is no snapshot; `Memory`; and
+/// `Output` where the line could not be written. Only `Output` leaves anything written.
+pub fn run_check<R: Files, W: Sink>(
+    rt: &R,
+    alloc: Global,
+    path: &str,
+    w: &mut W,
+) -> Result<(), CheckFault>
+    requires { W.failure_count w.old + 1 < 2 ^ 64 }
+    // What was written is the line of some setup and list of batches as a book accepts them.
+    ensures ok { OnOk result ((setup : Setting) × (list : List Submission) × AreAccepted setup list
+        × HasTaken W.write_takes W.failure_count w.old w.new (check_line setup list)) }
+    ensures output { (fault : WriteFault) → result ≡ Err (CheckFault.Output fault) →
+        (setup : Setting) × (list : List Submission) × AreAccepted setup list
+        × HasStopped W.write_takes W.failure_count w.old w.new (check_line setup list) fault.written }
+    ensures unwritten { IfErr result (λ fault. LeavesOutput fault ⊎ (w.new ≡ w.old)) }
+{
+    let snapshot = load(rt, alloc, path, SNAPSHOT_BYTES)?;
+    write_check(alloc, w, &snapshot.setup, &snapshot.batches)
+}
