@@ -2,13 +2,13 @@
 use Rattle.std.proofs.Common.{◌≡◌, ℕ, ◌<◌, ◌≤◌, List, length, refl, sym, ap, Option, Some, Result, Ok, inl, inr, lit≤, arith}
 use Rattle.std.proofs.lemmas.Bool.{lt-ltb, le-ltb, cases_lt}
 use Rattle.hyper_rows.specs.declared.search.RowSum.{RowSum}
-use Rattle.wire_proto.specs.Frames.{frame, head_bytes, number}
+use Rattle.wire_frames.specs.Frames.{frame, head_bytes, number}
 use Rattle.wire_proto.specs.Keeping.{Event, cell, row, status, export, save}
 use Rattle.wire_proto.specs.Replies.{value, row_sum, counts, save_reply, text, text_reply, refused}
 use Rattle.mm_laws.specs.MatrixText.{matrix_text}
 use Rattle.wire_proto.specs.Answering.{Answers, asked}
 use Rattle.hyper_matrix.specs.Matrix.{Matrix}
-use Rattle.wire_proto.specs.declared.request.Request.TheVariants.{Cell as CellAt, Row, Status, Export, Save}
+use Rattle.wire_frames.specs.declared.request.Request.TheVariants.{Cell as CellAt, Row, Status, Export, Save}
 use Rattle.batch_store.specs.Setups.{Setting}
 use Rattle.wire_proto.proofs.SendLemmas.{length_text}
 use Rattle.plain_engine.specs.declared.status.Status.{Status as Counted}

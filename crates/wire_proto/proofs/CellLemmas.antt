@@ -16,11 +16,11 @@ use Rattle.batch_store.specs.declared.fault.CellsFault.TheVariants.{IndexOutOfRa
 use Rattle.batch_store.specs.declared.verdict.Kept.{Kept}
 use Rattle.plain_engine.specs.declared.fault.PutFault.{PutFault}
 use Rattle.wire_proto.specs.CellBytes.{cell_at, cells_of, cell_bytes, spelled_cells, FitsBytes}
-use Rattle.wire_proto.specs.Frames.{number, number_at}
+use Rattle.wire_frames.specs.Frames.{number, number_at}
 use Rattle.wire_proto.specs.Keeping.{Event, put}
 use Rattle.wire_proto.specs.Replies.{put_reply, refused}
 use Rattle.wire_proto.specs.Answering.{PutsCells, RefusesCells, too_many, outside, Answers, asked, unasked, RunsOut, in_call}
-use Rattle.wire_proto.specs.declared.request.Request.TheVariants.{PutCells}
+use Rattle.wire_frames.specs.declared.request.Request.TheVariants.{PutCells}
 use Rattle.std.proofs.lemmas.Nat.{from_be_bytes-to_be_bytes_8}
 
 -- the cells of the first 24 * n bytes

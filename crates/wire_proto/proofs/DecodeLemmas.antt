@@ -4,11 +4,11 @@ use Rattle.std.proofs.Common.{subst, arith, Some, None}
 use Rattle.std.specs.Int.{w16, to_be_bytes}
 use Rattle.std.proofs.lemmas.Nat.{from_be_bytes-to_be_bytes_2, from_be_bytes-to_be_bytes_8}
 use Rattle.std.proofs.lemmas.List.{append-nil, take-append-drop}
-use Rattle.wire_proto.specs.Frames.{frame, head_bytes, number, number_at, head_kind}
+use Rattle.wire_frames.specs.Frames.{frame, head_bytes, number, number_at, head_kind}
 use Rattle.wire_proto.specs.Replies as frames
 use Rattle.wire_proto.specs.Decoding.{Said, accepted, value, row_sum, counts, text, saved, stopping, refused, FitsReply}
 use Rattle.wire_proto.specs.Decoding.{reply_frame, IsReplyFrame, short_fits, body_says, code_at}
-use Rattle.wire_proto.proofs.RoundLemmas.{kind_read, tail_read, frame_len, number_first, pair_second, lone}
+use Rattle.wire_frames.proofs.RoundLemmas.{kind_read, tail_read, frame_len, number_first, pair_second, lone}
 
 -- a reply's kind and body
 abbrev pub said_kind : Said → ℕ

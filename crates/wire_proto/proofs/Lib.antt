@@ -1,4 +1,3 @@
-pub mod FrontLemmas
 pub mod AskLemmas
 pub mod TextLemmas
 pub mod SendLemmas
@@ -6,7 +5,6 @@ pub mod LinkLemmas
 pub mod SessionLemmas
 pub mod PutLemmas
 pub mod StreamLemmas
-pub mod RoundLemmas
 pub mod CellLemmas
 pub mod PlainLemmas
 pub mod DecodeLemmas

@@ -27,7 +27,7 @@ use Rattle.plain_engine.specs.Object.{Puts, answer_of, list_after, verdict_in, a
 use Rattle.plain_engine.specs.Object.{export_of, status_of}
 use Rattle.plain_engine.specs.declared.fault.PutFault.{PutFault}
 use Rattle.plain_engine.specs.declared.fault.PutFault.TheVariants as fault
-use Rattle.wire_proto.specs.Frames.{Message}
+use Rattle.wire_frames.specs.Frames.{Message}
 use Rattle.wire_proto.specs.Keeping.{Event, put, cell, row, status, export, save}
 use Rattle.wire_proto.specs.Replies.{put_reply, reply_of, refused}
 use Rattle.wire_proto.specs.Answering.{put_limits, kind_number, PutsBatch, RefusesText, faulty, differs, too_large}
@@ -35,9 +35,9 @@ use Rattle.wire_proto.specs.Answering.{Answers, asked, unasked, PutsCells, Refus
 use Rattle.wire_proto.specs.CellBytes.{cells_of}
 use Rattle.wire_proto.specs.Plain.{PlainGives, IsAnswered}
 use Rattle.wire_proto.specs.declared.keeper.SaveRefusal.TheVariants.{SaveOff}
-use Rattle.wire_proto.specs.declared.request.Request.{Request}
-use Rattle.wire_proto.specs.declared.request.Request.TheVariants.{Put, Cell as CellAt, Row, Status, Export, Save, Stop}
-use Rattle.wire_proto.specs.declared.request.Request.TheVariants.{PutCells}
+use Rattle.wire_frames.specs.declared.request.Request.{Request}
+use Rattle.wire_frames.specs.declared.request.Request.TheVariants.{Put, Cell as CellAt, Row, Status, Export, Save, Stop}
+use Rattle.wire_frames.specs.declared.request.Request.TheVariants.{PutCells}
 
 -- a text spells one file at most: its cells
 same_cells : (setup : Setting) (bytes : List ℕ) (cells cells' : List Cell) →

@@ -5,7 +5,7 @@ use Rattle.std.proofs.lemmas.List.{append-nil}
 use Rattle.byte_io.specs.Streams.{Answer}
 use Rattle.batch_store.specs.Setups.{Setting}
 use Rattle.batch_store.specs.Batches.{Submission}
-use Rattle.wire_proto.specs.Frames.{Message, Gives, messages}
+use Rattle.wire_frames.specs.Frames.{Message, Gives, messages}
 use Rattle.wire_proto.specs.Keeping.{Event, put, cell, row, status, export, save}
 use Rattle.plain_engine.specs.declared.fault.PutFault.TheVariants as fault
 use Rattle.wire_proto.specs.Replies.{refused, reply_of}
@@ -14,14 +14,14 @@ use Rattle.wire_proto.specs.Sessions.{Talks, AnswersAll, LacksMemory, NextReply,
 use Rattle.wire_proto.specs.Sessions.{unasked as no_call, asked as a_call, answer as answered, stop, bad, out}
 use Rattle.wire_proto.specs.Plain.{PlainGives, AnswersMessages, IsAnswered, Between, WithLast, Partly, Broken}
 use Rattle.wire_proto.specs.Plain.{EndsPlain}
-use Rattle.wire_proto.specs.declared.request.Request.{Request}
-use Rattle.wire_proto.specs.declared.request.Request.TheVariants.{Put, Cell, Row, Status, Export, Save, Stop}
-use Rattle.wire_proto.specs.declared.request.Request.TheVariants.{PutCells}
+use Rattle.wire_frames.specs.declared.request.Request.{Request}
+use Rattle.wire_frames.specs.declared.request.Request.TheVariants.{Put, Cell, Row, Status, Export, Save, Stop}
+use Rattle.wire_frames.specs.declared.request.Request.TheVariants.{PutCells}
 use Rattle.wire_proto.specs.declared.ended.Ended.{Ended}
 use Rattle.wire_proto.specs.declared.ended.Ended.TheVariants.{Closed, ReadFault, WriteFault, BadFrame, Memory, Stopped}
 use Rattle.wire_proto.specs.declared.ended.Ended.TheVariants.{TooManyTurns}
-use Rattle.wire_proto.proofs.StreamLemmas.{answered_messages, messages_none, messages_stop, messages_bad}
-use Rattle.wire_proto.proofs.StreamLemmas.{messages_request, goes_on, none_stops}
+use Rattle.wire_frames.proofs.StreamLemmas.{messages_none, messages_stop, messages_bad, messages_request}
+use Rattle.wire_proto.proofs.StreamLemmas.{answered_messages, goes_on, none_stops}
 
 -- ---- answers to requests, and what stands behind them
 module _ {S : Type 0} (gives : S → Event → S → Type 0) (setup : Setting) where

@@ -23,7 +23,7 @@ use Rattle.wire_proto.specs.PutTexts.{HandsOut}
 use Rattle.wire_proto.specs.Replies.{put_reply, refused}
 use Rattle.wire_proto.specs.Answering.{put_limits, PutsBatch, RefusesText, differs, too_large, Answers, asked, unasked}
 use Rattle.wire_proto.specs.Answering.{RunsOut, in_call}
-use Rattle.wire_proto.specs.declared.request.Request.TheVariants.{Put}
+use Rattle.wire_frames.specs.declared.request.Request.TheVariants.{Put}
 
 -- what a source in memory has handed out, and what is left
 pub handed_out : {S : Type 0} (left : S → List ℕ) (s t : S) (answers : List Answer) →

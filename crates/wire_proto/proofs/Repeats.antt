@@ -22,14 +22,14 @@ use Rattle.plain_engine.specs.declared.fault.PutFault.TheVariants as fault
 use Rattle.wire_proto.specs.Keeping.{Event, put, export}
 use Rattle.wire_proto.specs.Replies.{accepted, refused, put_reply, reply_of}
 use Rattle.wire_proto.specs.Answering.{PutsBatch, PutsCells, Answers, asked, unasked}
-use Rattle.wire_proto.specs.Frames.{Message}
+use Rattle.wire_frames.specs.Frames.{Message}
 use Rattle.wire_proto.specs.Plain.{PlainGives, IsAnswered, AreAnswered, FreshPuts, PutsFresh, GoOn, IsPut}
 use Rattle.wire_proto.proofs.DecodeLemmas.{frame_kind}
 use Rattle.wire_proto.specs.Decoding.{accepted as says_accepted, refused as says_refused}
 use Rattle.wire_proto.proofs.OneAnswer.{one_batch, never_both, put_is, one_cells_batch, never_both_cells}
 use Rattle.wire_proto.proofs.PlainLemmas.{one_more}
-use Rattle.wire_proto.specs.declared.request.Request.{Request}
-use Rattle.wire_proto.specs.declared.request.Request.TheVariants.{Put, PutCells, Cell, Row, Status, Export, Save, Stop}
+use Rattle.wire_frames.specs.declared.request.Request.{Request}
+use Rattle.wire_frames.specs.declared.request.Request.TheVariants.{Put, PutCells, Cell, Row, Status, Export, Save, Stop}
 
 -- ---- the first place of a pair
 abbrev pair_test : ℕ → ℕ → Entry → Bool

@@ -4,7 +4,7 @@ use Rattle.byte_io.specs.Writing.{HasTaken}
 use Rattle.byte_io.specs.Streams.{Answer}
 use Rattle.byte_io.proofs.SinkLemmas.{has_taken_append, stopped_behind, has_stopped_longer}
 use Rattle.std.specs.Int.{w32, to_be_bytes}
-use Rattle.wire_proto.specs.Frames.{frame, head_bytes}
+use Rattle.wire_frames.specs.Frames.{frame, head_bytes}
 use Rattle.wire_proto.specs.Replies.{text}
 use Rattle.wire_proto.specs.Closing.{Sends}
 use Rattle.wire_proto.specs.declared.ended.Ended.{Ended}

@@ -5,11 +5,11 @@ use Rattle.std.proofs.lemmas.List.{append-nil}
 use Rattle.byte_io.specs.Streams.{Answer}
 use Rattle.byte_io.specs.declared.fault.DeviceFault.{DeviceFault}
 use Rattle.batch_store.specs.Setups.{Setting}
-use Rattle.wire_proto.specs.Frames.{front, Gives, NextGives}
-use Rattle.wire_proto.specs.declared.request.Request.{Request}
-use Rattle.wire_proto.specs.declared.request.FrameFault.{FrameFault}
-use Rattle.wire_proto.specs.declared.request.FrameFault.TheVariants.{Memory as NoMemory, TooLarge, UnknownKind}
-use Rattle.wire_proto.specs.declared.request.FrameFault.TheVariants.{BadLength}
+use Rattle.wire_frames.specs.Frames.{front, Gives, NextGives}
+use Rattle.wire_frames.specs.declared.request.Request.{Request}
+use Rattle.wire_frames.specs.declared.request.FrameFault.{FrameFault}
+use Rattle.wire_frames.specs.declared.request.FrameFault.TheVariants.{Memory as NoMemory, TooLarge, UnknownKind}
+use Rattle.wire_frames.specs.declared.request.FrameFault.TheVariants.{BadLength}
 use Rattle.wire_proto.specs.Closing.{Closes, whole, part, Sends, ended_of}
 use Rattle.wire_proto.specs.Keeping.{Event}
 use Rattle.wire_proto.specs.Replies.{refused, fault_code}
@@ -20,20 +20,10 @@ use Rattle.wire_proto.specs.Sessions.{Rests, FailsToRead, Stops, Ends, OneEnds, 
 use Rattle.wire_proto.specs.declared.ended.Ended.{Ended}
 use Rattle.wire_proto.specs.declared.ended.Ended.TheVariants.{Closed, ReadFault, WriteFault, BadFrame, Memory, Stopped}
 use Rattle.wire_proto.specs.declared.ended.Ended.TheVariants.{TooManyTurns}
-use Rattle.wire_proto.proofs.FrontLemmas.{front_more}
+use Rattle.wire_frames.proofs.StreamLemmas.{gives_more, gives_snoc}
 use Rattle.wire_proto.proofs.LinkLemmas.{talks_taken, talks_stopped, talks_read}
 
 -- ---- requests, one more
-pub gives_snoc : (bytes : List ℕ) (rs : List Request) (kept : List ℕ) (r : Request) (rest : List ℕ) →
-    Gives bytes rs kept → front kept ≡ Some (Ok r, rest) → Gives bytes (rs ++ r ∷ []) rest
-gives_snoc bytes [] kept r rest e h = (rest, ap front e ∙ h, refl)
-gives_snoc bytes (x ∷ rs) kept r rest a h = (a.0, a.1, gives_snoc a.0 rs kept r rest a.2 h)
-
-pub gives_more : (bytes more : List ℕ) (rs : List Request) (kept : List ℕ) → Gives bytes rs kept →
-    Gives (bytes ++ more) rs (kept ++ more)
-gives_more bytes more [] kept e = ap (λ l. l ++ more) e
-gives_more bytes more (r ∷ rs) kept a = (a.0 ++ more, front_more bytes more r a.0 a.1, gives_more a.0 more rs kept a.2)
-
 pub answers_snoc : {S : Type 0} (gives : S → Event → S → Type 0) (setup : Setting) (s m t : S) (rs : List Request)
     (bytes reply : List ℕ) (r : Request) →
     AnswersAll gives setup s rs bytes m → Answers gives setup r reply m t →

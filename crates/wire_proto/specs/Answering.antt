@@ -26,9 +26,9 @@ use Rattle.plain_engine.specs.declared.fault.PutFault.{PutFault}
 use Rattle.wire_proto.specs.CellBytes.{cells_of}
 use Rattle.wire_proto.specs.Keeping.{Event, put, cell, row, status, export, save}
 use Rattle.wire_proto.specs.Replies.{reply_of, refused}
-use Rattle.wire_proto.specs.declared.request.Request.{Request}
-use Rattle.wire_proto.specs.declared.request.Request.TheVariants.{Put, Cell as CellAt, Row, Status, Export, Save, Stop}
-use Rattle.wire_proto.specs.declared.request.Request.TheVariants.{PutCells}
+use Rattle.wire_frames.specs.declared.request.Request.{Request}
+use Rattle.wire_frames.specs.declared.request.Request.TheVariants.{Put, Cell as CellAt, Row, Status, Export, Save, Stop}
+use Rattle.wire_frames.specs.declared.request.Request.TheVariants.{PutCells}
 use Rattle.wire_proto.specs.declared.keeper.SaveRefusal.{SaveRefusal}
 
 -- the limits of a Put's text

@@ -4,7 +4,7 @@
 use Rattle.std.specs.Prelude.{◌≡◌, ℕ, ◌+◌, ◌*◌, ◌/◌, ◌<◌, ◌^◌, List, ◌++◌, length, map, flat_map}
 use Rattle.std.specs.List.{range_with_len}
 use Rattle.cells.specs.declared.cell.Cell.{Cell}
-use Rattle.wire_proto.specs.Frames.{number, number_at}
+use Rattle.wire_frames.specs.Frames.{number, number_at}
 
 -- the cell that 24 bytes from this place on spell
 abbrev pub cell_at : ℕ → List ℕ → Cell

@@ -2,9 +2,9 @@
 use Rattle.std.specs.Prelude.{◌≡◌, ℕ, ◌+◌, List, length, Result, Ok, Err}
 use Rattle.byte_io.specs.Streams.{Answer}
 use Rattle.byte_io.specs.Writing.{HasTaken, HasStopped}
-use Rattle.wire_proto.specs.declared.request.FrameFault.{FrameFault}
-use Rattle.wire_proto.specs.declared.request.FrameFault.TheVariants.{Memory as NoMemory, TooLarge, UnknownKind}
-use Rattle.wire_proto.specs.declared.request.FrameFault.TheVariants.{BadLength}
+use Rattle.wire_frames.specs.declared.request.FrameFault.{FrameFault}
+use Rattle.wire_frames.specs.declared.request.FrameFault.TheVariants.{Memory as NoMemory, TooLarge, UnknownKind}
+use Rattle.wire_frames.specs.declared.request.FrameFault.TheVariants.{BadLength}
 use Rattle.wire_proto.specs.declared.ended.Ended.{Ended}
 use Rattle.wire_proto.specs.declared.ended.Ended.TheVariants.{WriteFault, BadFrame, Memory}
 

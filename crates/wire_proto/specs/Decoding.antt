@@ -7,7 +7,7 @@ use Rattle.std.specs.Int.{w16, from_be_bytes}
 use Rattle.hyper_rows.specs.declared.search.RowSum.{RowSum}
 use Rattle.batch_store.specs.declared.verdict.Kept.{Kept}
 use Rattle.plain_engine.specs.declared.status.Status.{Status}
-use Rattle.wire_proto.specs.Frames.{number_at}
+use Rattle.wire_frames.specs.Frames.{number_at}
 use Rattle.wire_proto.specs.Replies as frames
 use Rattle.wire_proto.specs.declared.decoding.Reply.{Reply}
 use Rattle.wire_proto.specs.declared.decoding.Reply.TheVariants as reply

@@ -1,6 +1,4 @@
-pub mod Frames
 pub mod CellBytes
-pub mod Looks
 pub mod Keeping
 pub mod TextSizes
 pub mod Replies

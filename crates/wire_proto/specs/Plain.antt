@@ -15,14 +15,14 @@ use Rattle.batch_store.specs.Setups.{Setting}
 use Rattle.batch_store.specs.Batches.{Submission}
 use Rattle.plain_engine.specs.Object.{Puts, verdict_in, cell_of, row_sum_of, export_of, status_of}
 use Rattle.batch_store.specs.declared.verdict.Verdict.TheVariants.{Fresh}
-use Rattle.wire_proto.specs.Frames.{Message, front, Gives, messages}
+use Rattle.wire_frames.specs.Frames.{Message, front, Gives, messages}
 use Rattle.wire_proto.specs.Keeping.{Event, put, cell, row, status, export, save}
 use Rattle.wire_proto.specs.Replies.{stopping, refused, fault_code}
 use Rattle.wire_proto.specs.Answering.{Answers, PutsBatch, PutsCells}
 use Rattle.wire_proto.specs.Sessions.{Talks}
-use Rattle.wire_proto.specs.declared.request.Request.{Request}
-use Rattle.wire_proto.specs.declared.request.Request.TheVariants.{Put, PutCells, Stop}
-use Rattle.wire_proto.specs.declared.request.FrameFault.{FrameFault}
+use Rattle.wire_frames.specs.declared.request.Request.{Request}
+use Rattle.wire_frames.specs.declared.request.Request.TheVariants.{Put, PutCells, Stop}
+use Rattle.wire_frames.specs.declared.request.FrameFault.{FrameFault}
 use Rattle.wire_proto.specs.declared.keeper.SaveRefusal.TheVariants.{SaveOff}
 use Rattle.wire_proto.specs.declared.ended.Ended.{Ended}
 use Rattle.wire_proto.specs.declared.ended.Ended.TheVariants.{Closed, ReadFault, WriteFault, BadFrame, Memory, Stopped}

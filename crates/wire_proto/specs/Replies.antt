@@ -10,12 +10,12 @@ use Rattle.plain_engine.specs.declared.status.Status.{Status}
 use Rattle.plain_engine.specs.declared.fault.PutFault.{PutFault}
 use Rattle.plain_engine.specs.declared.fault.PutFault.TheVariants.{Memory, NumberReused, OverTotal, BookFull}
 use Rattle.plain_engine.specs.declared.fault.PutFault.TheVariants.{RecordsDiffer}
-use Rattle.wire_proto.specs.Frames.{frame, number}
+use Rattle.wire_frames.specs.Frames.{frame, number}
 use Rattle.mm_laws.specs.MatrixText.{matrix_text}
 use Rattle.wire_proto.specs.Keeping.{Event, put, cell, row, status, export, save}
-use Rattle.wire_proto.specs.declared.request.FrameFault.{FrameFault}
-use Rattle.wire_proto.specs.declared.request.FrameFault.TheVariants.{Memory as NoMemory, TooLarge, UnknownKind}
-use Rattle.wire_proto.specs.declared.request.FrameFault.TheVariants.{BadLength}
+use Rattle.wire_frames.specs.declared.request.FrameFault.{FrameFault}
+use Rattle.wire_frames.specs.declared.request.FrameFault.TheVariants.{Memory as NoMemory, TooLarge, UnknownKind}
+use Rattle.wire_frames.specs.declared.request.FrameFault.TheVariants.{BadLength}
 use Rattle.wire_proto.specs.declared.keeper.SaveRefusal.{SaveRefusal}
 use Rattle.wire_proto.specs.declared.keeper.SaveRefusal.TheVariants.{Memory as SaveMemory, SaveOff, SaveFailed}
 

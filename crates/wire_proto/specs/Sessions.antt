@@ -14,13 +14,13 @@ use Rattle.byte_io.specs.Streams.{Answer}
 use Rattle.byte_io.specs.declared.fault.DeviceFault.{DeviceFault}
 use Rattle.byte_io.specs.Writing.{HasTaken, HasStopped}
 use Rattle.batch_store.specs.Setups.{Setting}
-use Rattle.wire_proto.specs.Frames.{front, Gives}
+use Rattle.wire_frames.specs.Frames.{front, Gives}
 use Rattle.wire_proto.specs.Keeping.{Event}
 use Rattle.wire_proto.specs.Replies.{stopping, refused, fault_code}
 use Rattle.wire_proto.specs.Answering.{Answers, RunsOut}
-use Rattle.wire_proto.specs.declared.request.Request.{Request}
-use Rattle.wire_proto.specs.declared.request.Request.TheVariants.{Stop}
-use Rattle.wire_proto.specs.declared.request.FrameFault.{FrameFault}
+use Rattle.wire_frames.specs.declared.request.Request.{Request}
+use Rattle.wire_frames.specs.declared.request.Request.TheVariants.{Stop}
+use Rattle.wire_frames.specs.declared.request.FrameFault.{FrameFault}
 use Rattle.wire_proto.specs.declared.ended.Ended.{Ended}
 use Rattle.wire_proto.specs.declared.ended.Ended.TheVariants.{Closed, ReadFault, WriteFault, BadFrame, Memory, Stopped}
 use Rattle.wire_proto.specs.declared.ended.Ended.TheVariants.{TooManyTurns}

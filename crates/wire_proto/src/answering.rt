@@ -1,20 +1,19 @@
 //! Answers the requests that have come.
 ghost use Rattle.std.specs.Prelude.{◌≡◌, ℕ, ◌+◌, ◌*◌, ◌<◌, ◌≤◌, ◌^◌, List, length, Some, None, Ok, Err, IfOk, IfErr};
 ghost use Rattle.std.specs.Prelude.{OnOk};
-ghost use Rattle.wire_proto.specs.Frames.{front};
+ghost use Rattle.wire_frames.specs.Frames.{front};
 ghost use Rattle.wire_proto.specs.Closing.{Closes, ended_of};
 ghost use Rattle.wire_proto.specs.Replies.{refused as refused_reply, fault_code};
 ghost use Rattle.wire_proto.specs.Sessions.{OneAnswered, OneEnds, Carries, CarriesToEnd};
 
 use crate::asking::ask;
 use crate::ended::Ended;
-use crate::frames::Frames;
 use crate::keeper::Keeper;
 use crate::replies::{refused, stopping};
-use crate::request::{FrameFault, Request};
 use crate::sending::{close, send_reply, send_sum};
 use byte_io::{Link, Sink};
 use std::alloc::Global;
+use wire_frames::{FrameFault, Frames, Request};
 
 /// Answers an Export: its text, its refusal as too large, or that memory ran out.
 fn answer_export<L: Sink, K: Keeper>(

@@ -6,12 +6,12 @@ ghost use Rattle.wire_proto.specs.Answering.{Answers, RunsOut};
 use crate::cell_bodies::batch_of_cells;
 use crate::keeper::{Keeper, SaveRefusal};
 use crate::replies::{Short, accepted, counts, refused, row_sum, saved, value};
-use crate::request::Request;
 use crate::texts::{PutRefusal, batch_of};
 use batch_store::Kept;
 use bytes::Bytes;
 use plain_engine::PutFault;
 use std::alloc::{AllocError, Global};
+use wire_frames::Request;
 
 pub fn ask_cell<K: Keeper>(keeper: &mut K, row: u64, col: u64) -> Short
     requires { K.fact keeper.old }

@@ -1,19 +1,19 @@
 //! Reads the cells of a PutCells.
 ghost use Rattle.std.specs.Prelude.{◌≡◌, ℕ, ◌+◌, ◌≤◌, length, IfOk};
 ghost use Rattle.wire_proto.specs.CellBytes.{cell_at, cells_of};
-ghost use Rattle.wire_proto.specs.Frames.{number_at};
+ghost use Rattle.wire_frames.specs.Frames.{number_at};
 ghost use Rattle.wire_proto.specs.PutTexts.{CellsLead};
 
-use crate::limits::CELL;
 use crate::texts::PutRefusal;
 use batch_store::{Batch, CellsFault, MAX_CELLS, Setup};
 use bytes::Bytes;
 use cells::Cell;
 use std::alloc::{AllocError, Global};
 use std::sync::Arc;
+use wire_frames::CELL;
 
 /// The number at a place.
-#[tactic(auto, unfolding(crate::specs::Frames::number_at))]
+#[tactic(auto, unfolding(wire_frames::specs::Frames::number_at))]
 fn number_in(bytes: &[u8], place: usize) -> u64
     requires { place + 8 ≤ length bytes.now }
     ensures { result ≡ number_at place bytes.now }

@@ -4,11 +4,10 @@
 //! gives the same bytes is it a reply.
 ghost use Rattle.std.specs.Prelude.{◌≡◌, ◌≤◌, length, true, Some, IfSome};
 ghost use Rattle.std.specs.Option.{option_map};
-ghost use Rattle.wire_proto.specs.Frames.{number_at, head_kind};
+ghost use Rattle.wire_frames.specs.Frames.{number_at, head_kind};
 ghost use Rattle.wire_proto.specs.Decoding.{Said, said, reply_frame, FitsReply, IsReplyFrame, short_fits, body_says};
 ghost use Rattle.wire_proto.specs.Decoding.{value_at, code_at};
 
-use crate::limits::{HEAD, MAX_BODY};
 use crate::replies::{
     Short, accepted, counts, refused, row_sum, saved, stopping, text_head, value,
 };
@@ -16,6 +15,7 @@ use batch_store::Kept;
 use bytes::Buf;
 use hyper_matrix::RowSum;
 use plain_engine::Status;
+use wire_frames::{HEAD, MAX_BODY};
 
 /// What a server answers.
 #[derive(Clone, Copy, Debug, PartialEq, Eq)]
@@ -54,7 +54,7 @@ fn fits(kind: u8, len: usize) -> bool
 }
 
 /// The two numbers of a body.
-#[tactic(auto, unfolding(crate::specs::Frames::number_at))]
+#[tactic(auto, unfolding(wire_frames::specs::Frames::number_at))]
 fn pair_in(body: &[u8]) -> (u64, u64)
     requires { length body.now ≡ 16 }
     ensures first { result.0 ≡ number_at 0 body.now }
@@ -67,7 +67,7 @@ fn pair_in(body: &[u8]) -> (u64, u64)
 }
 
 /// The number of a body of one number.
-#[tactic(auto, unfolding(crate::specs::Frames::number_at))]
+#[tactic(auto, unfolding(wire_frames::specs::Frames::number_at))]
 fn number_in(body: &[u8]) -> u64
     requires { length body.now ≡ 8 }
     ensures { result ≡ number_at 0 body.now }
@@ -77,7 +77,7 @@ fn number_in(body: &[u8]) -> u64
 }
 
 /// The count of a body that tells one, or that there is none.
-#[tactic(auto, unfolding(crate::specs::Frames::number_at))]
+#[tactic(auto, unfolding(wire_frames::specs::Frames::number_at))]
 fn value_in(body: &[u8]) -> Option<u64>
     requires { length body.now ≡ 9 }
     ensures { result ≡ value_at body.now }
@@ -91,7 +91,7 @@ fn value_in(body: &[u8]) -> Option<u64>
 }
 
 /// The code and the detail of a body.
-#[tactic(auto, unfolding(crate::specs::Frames::number_at))]
+#[tactic(auto, unfolding(wire_frames::specs::Frames::number_at))]
 fn refusal_in(body: &[u8]) -> (u16, u64)
     requires { length body.now ≡ 10 }
     ensures code { result.0 ≡ code_at body.now }

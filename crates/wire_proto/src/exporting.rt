@@ -10,11 +10,11 @@ ghost use Rattle.mm_laws.specs.MatrixText.{matrix_text};
 ghost use Rattle.wire_proto.specs.TextSizes.{IsSizeOf};
 ghost use Rattle.mm_text.specs.Canonical.{numbers_line};
 
-use crate::limits::MAX_BODY;
 use byte_io::{Sink, WriteFault};
 use merged_cells::MergedCells;
 use mm_text::TextWriter;
 use plain_engine::ViewedSum;
+use wire_frames::MAX_BODY;
 
 /// The bytes of a banner line.
 const BANNER: u64 = 49;

@@ -1,6 +1,6 @@
 //! Laws of the definitions.
-ghost use Rattle.std.specs.Prelude.{◌≡◌, ◌≢◌, ℕ, All, List, [], ◌∷◌, ◌++◌, map, Option, Some, None, Ok, Err};
-ghost use Rattle.wire_proto.specs.Frames.{Message, HasFrame, request_frame, front, Gives, frames, messages};
+ghost use Rattle.std.specs.Prelude.{◌≡◌, ◌≢◌, ℕ, All, List, [], ◌∷◌, ◌++◌, map, Some, None, Ok, Err};
+ghost use Rattle.wire_frames.specs.Frames.{Message, front, Gives, messages};
 ghost use Rattle.wire_proto.specs.CellBytes.{cells_of, spelled_cells, FitsBytes};
 ghost use Rattle.cells.specs.declared.cell.Cell.{Cell};
 ghost use Rattle.wire_proto.specs.Plain.{IsAnswered, AreAnswered, FreshPuts, GoOn, IsPut};
@@ -8,36 +8,15 @@ ghost use Rattle.wire_proto.specs.Replies.{accepted};
 ghost use Rattle.batch_store.specs.declared.verdict.Kept.{Kept};
 ghost use Rattle.batch_store.specs.Batches.{Submission};
 ghost use Rattle.wire_proto.specs.Sessions.{AnswersAll};
-ghost use Rattle.wire_proto.specs.declared.request.Request.{Request};
-ghost use Rattle.wire_proto.specs.declared.request.FrameFault.{FrameFault};
+ghost use Rattle.wire_frames.specs.declared.request.Request.{Request};
+ghost use Rattle.wire_frames.specs.declared.request.FrameFault.{FrameFault};
 ghost use Rattle.batch_store.specs.Setups.{Setting};
 
 use crate::keeper::Keeper;
 
-/// A request's frame is read as that request, whatever follows it.
-pub fn frames_are_read_again()
-    ensures { (r : Request) (more : List ℕ) → HasFrame r → front (request_frame r ++ more) ≡ Some (Ok r, more) }
-{}
-
 /// The bytes of a list of cells spell that list.
 pub fn cells_are_read_again()
     ensures { (cells : List Cell) → All FitsBytes cells → cells_of (spelled_cells cells) ≡ cells }
-{}
-
-/// However a stream is cut: the requests that `next` gave, and then the frames of what is kept, are the frames of all
-/// bytes that were fed.
-pub fn frames_come_in_any_pieces()
-    ensures start { Gives [] [] [] }
-    ensures fed { (fed piece kept : List ℕ) (given : List Request) → Gives fed given kept →
-        Gives (fed ++ piece) given (kept ++ piece) }
-    ensures given { (fed kept rest : List ℕ) (given : List Request) (r : Request) → Gives fed given kept →
-        front kept ≡ Some (Ok r, rest) →
-        Gives fed (given ++ r ∷ []) rest }
-    ensures whole { (fed kept : List ℕ) (given : List Request) → Gives fed given kept →
-        frames fed ≡ map (λ r. Ok r) given ++ frames kept }
-    ensures none { (kept : List ℕ) → front kept ≡ None → frames kept ≡ [] }
-    ensures bad { (kept rest : List ℕ) (fault : FrameFault) → front kept ≡ Some (Err fault, rest) →
-        frames kept ≡ Err fault ∷ [] }
 {}
 
 /// What a session has answered are the messages of what its link gave, up to those of what it keeps.
@@ -52,14 +31,6 @@ pub fn sessions_answer_messages<K: Keeper>()
         messages kept ≡ Err fault ∷ [] }
     ensures request { (kept rest : List ℕ) (r : Request) → front kept ≡ Some (Ok r, rest) → r ≢ Request.Stop →
         messages kept ≡ Ok r ∷ messages rest }
-{}
-
-/// A bad header is the same fault, whatever follows it: what stands in front stays the same, and so do the frames.
-pub fn bad_headers_stay()
-    ensures front { (kept rest more : List ℕ) (fault : FrameFault) → front kept ≡ Some (Err fault, rest) →
-        front (kept ++ more) ≡ Some (Err fault, kept ++ more) }
-    ensures frames { (kept rest more : List ℕ) (fault : FrameFault) → front kept ≡ Some (Err fault, rest) →
-        frames (kept ++ more) ≡ Err fault ∷ [] }
 {}
 
 /// Over the engine of one thread the messages are answered in one way alone: of the accepted list before and the

@@ -1,7 +1,7 @@
-//! Frames over a link, and the session that answers them.
+//! The session that answers the frames of a link.
 //!
-//! A client sends frames, each a header of five bytes and a body, and gets a frame for each. `Frames` cuts a stream
-//! into requests, however its bytes come; `encode_request` and `decode_reply` are the client's side. `serve` is the
+//! A client sends frames, each a header of five bytes and a body, and gets a frame for each. `wire_frames` cuts a stream
+//! into requests and encodes them, `decode_reply` reads what comes back. `serve` is the
 //! loop of one session: it reads, answers every whole request in order, and ends when the link does, at a bad header,
 //! at a `Stop`, or where memory or the link refuses. It works over any `Keeper`, a store that answers calls, and over
 //! any link; what it does is a run of the keeper (specs/Sessions.antt), and whatever the keeper keeps is kept.
@@ -19,27 +19,25 @@ mod cell_bodies;
 mod decoding;
 mod ended;
 mod exporting;
-mod frames;
-mod heads;
 mod keeper;
 mod laws;
 mod limits;
 mod plain;
 mod replies;
-mod request;
 mod sending;
 mod serving;
 mod texts;
 
 pub use decoding::{Reply, decode_reply};
 pub use ended::Ended;
-pub use frames::Frames;
 pub use keeper::{Keeper, SaveRefusal};
 pub use laws::{
-    bad_headers_stay, cells_are_read_again, frames_are_read_again, frames_come_in_any_pieces,
-    messages_are_answered_in_parts, messages_have_one_answer, repeats_get_their_reply,
-    sessions_accept_fresh_batches, sessions_answer_messages,
+    cells_are_read_again, messages_are_answered_in_parts, messages_have_one_answer,
+    repeats_get_their_reply, sessions_accept_fresh_batches, sessions_answer_messages,
 };
 pub use plain::{PlainKeeper, serve_engine};
-pub use request::{EncodeFault, FrameFault, Request, encode_request};
 pub use serving::serve;
+pub use wire_frames::{
+    EncodeFault, FrameFault, Frames, Request, bad_headers_stay, encode_request,
+    frames_are_read_again, frames_come_in_any_pieces,
+};

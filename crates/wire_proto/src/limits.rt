@@ -1,10 +1,4 @@
-//! Every limit of frames and sessions, with its unit.
-
-/// The bytes of the longest body of a frame.
-pub const MAX_BODY: u32 = 67_108_864;
-
-/// The bytes of a header: the length of the body, and its kind.
-pub const HEAD: usize = 5;
+//! Every limit of sessions, with its unit.
 
 /// The bytes of the longest reply but a text.
 pub const SHORT: usize = 21;
@@ -14,9 +8,3 @@ pub const PIECE: usize = 65_536;
 
 /// The most entry lines that the text of a Put may declare.
 pub const MAX_ENTRIES: u64 = 1_048_576;
-
-/// The bytes of a cell: its row, its column and its count.
-pub const CELL: usize = 24;
-
-/// How many bytes a buffer may have held and still be kept for the next frames.
-pub const ROOMY: usize = 262_144;

@@ -2,7 +2,7 @@
 ghost use Rattle.std.specs.Prelude.{◌≡◌, ℕ, ◌+◌, ◌<◌, ◌≤◌, ◌++◌, ◌∷◌, [], length};
 ghost use Rattle.std.specs.Int.{w16, to_be_bytes};
 ghost use Rattle.arrayvec.specs.ArrayVec.{array_vec_len};
-ghost use Rattle.wire_proto.specs.Frames.{number, head_bytes, frame};
+ghost use Rattle.wire_frames.specs.Frames.{number, head_bytes, frame};
 ghost use Rattle.wire_proto.specs.Replies.{accepted as accepted_reply, value as value_reply, row_sum as row_reply};
 ghost use Rattle.wire_proto.specs.Replies.{counts as counts_reply, saved as saved_reply, stopping as stopping_reply};
 ghost use Rattle.wire_proto.specs.Replies.{refused as refused_reply};
@@ -28,7 +28,7 @@ fn push(out: &mut Short, bytes: &[u8])
     }
 }
 
-#[tactic(auto, unfolding(crate::specs::Frames::head_bytes))]
+#[tactic(auto, unfolding(wire_frames::specs::Frames::head_bytes))]
 fn start(kind: u8, len: u32) -> Short
     ensures items { result.items ≡ head_bytes kind len }
     ensures len { array_vec_len result ≡ 5 }
@@ -39,7 +39,7 @@ fn start(kind: u8, len: u32) -> Short
     out
 }
 
-#[tactic(auto, unfolding(crate::specs::Frames::number))]
+#[tactic(auto, unfolding(wire_frames::specs::Frames::number))]
 fn push_number(out: &mut Short, n: u64)
     requires { array_vec_len out.old + 8 ≤ 21 }
     ensures items { out.new.items ≡ out.old.items ++ number n }
@@ -49,7 +49,7 @@ fn push_number(out: &mut Short, n: u64)
 }
 
 /// A reply of two numbers.
-#[tactic(auto, unfolding(crate::specs::Frames::frame, crate::specs::Frames::number))]
+#[tactic(auto, unfolding(wire_frames::specs::Frames::frame, wire_frames::specs::Frames::number))]
 fn pair(kind: u8, first: u64, second: u64) -> Short
     ensures { result.items ≡ frame kind (number first ++ number second) }
 {
@@ -65,7 +65,7 @@ pub fn accepted(kept: Kept) -> Short
     pair(0x81, kept.index, kept.total_after)
 }
 
-#[tactic(auto, unfolding(crate::specs::Frames::frame, crate::specs::Frames::number))]
+#[tactic(auto, unfolding(wire_frames::specs::Frames::frame, wire_frames::specs::Frames::number))]
 pub fn value(count: Option<u64>) -> Short
     ensures { result.items ≡ value_reply count }
 {
@@ -95,7 +95,7 @@ pub fn counts(status: Status) -> Short
     pair(0x84, status.batches, status.total)
 }
 
-#[tactic(auto, unfolding(crate::specs::Frames::frame, crate::specs::Frames::number))]
+#[tactic(auto, unfolding(wire_frames::specs::Frames::frame, wire_frames::specs::Frames::number))]
 pub fn saved(batches: u64) -> Short
     ensures { result.items ≡ saved_reply batches }
 {
@@ -104,14 +104,14 @@ pub fn saved(batches: u64) -> Short
     out
 }
 
-#[tactic(auto, unfolding(crate::specs::Frames::frame))]
+#[tactic(auto, unfolding(wire_frames::specs::Frames::frame))]
 pub fn stopping() -> Short
     ensures { result.items ≡ stopping_reply }
 {
     start(0x87, 0)
 }
 
-#[tactic(auto, unfolding(crate::specs::Frames::frame, crate::specs::Frames::number))]
+#[tactic(auto, unfolding(wire_frames::specs::Frames::frame, wire_frames::specs::Frames::number))]
 pub fn refused(code: u16, detail: u64) -> Short
     ensures { result.items ≡ refused_reply code detail }
 {
@@ -122,7 +122,7 @@ pub fn refused(code: u16, detail: u64) -> Short
 }
 
 /// The head of a reply that carries a text.
-#[tactic(auto, unfolding(crate::specs::Frames::frame))]
+#[tactic(auto, unfolding(wire_frames::specs::Frames::frame))]
 pub fn text_head(len: u32) -> Short
     ensures { result.items ≡ head_bytes 133 len }
 {

@@ -2,17 +2,16 @@
 ghost use Rattle.std.specs.Prelude.{◌≡◌, ℕ, ◌+◌, ◌*◌, ◌<◌, ◌≤◌, ◌^◌, List, length, ◌++◌, None, IfOk, IfErr, OnOk};
 ghost use Rattle.std.specs.Prelude.{OnErr};
 ghost use Rattle.byte_io.specs.Streams.{answer_of};
-ghost use Rattle.wire_proto.specs.Frames.{front};
+ghost use Rattle.wire_frames.specs.Frames.{front};
 ghost use Rattle.wire_proto.specs.Sessions.{Ends, Carries, CarriesToEnd, TurnEnds};
 
 use crate::answering::{answer_all, refuse};
 use crate::ended::Ended;
-use crate::frames::Frames;
 use crate::keeper::Keeper;
 use crate::limits::PIECE;
-use crate::request::FrameFault;
 use byte_io::{DeviceFault, Link, Source};
 use std::alloc::{AllocError, Global};
+use wire_frames::{FrameFault, Frames};
 
 /// A buffer for one read.
 fn empty_piece(alloc: Global) -> Result<Vec<u8>, AllocError>

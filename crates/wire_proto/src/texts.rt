@@ -4,12 +4,13 @@ ghost use Rattle.mm_text.specs.Texts.{Spells, FirstFault};
 ghost use Rattle.wire_proto.specs.Answering.{put_limits, kind_number};
 ghost use Rattle.wire_proto.specs.PutTexts.{HandsOut, Leads};
 
-use crate::limits::{MAX_BODY, MAX_ENTRIES};
+use crate::limits::MAX_ENTRIES;
 use batch_store::{Batch, BatchFault, Setup};
 use byte_io::{DeviceFault, Source};
 use mm_text::{MmFault, MmFile, MmKind, TextLimits, read_matrix};
 use std::alloc::Global;
 use std::sync::Arc;
+use wire_frames::MAX_BODY;
 
 const LIMITS: TextLimits = TextLimits {
     max_bytes: MAX_BODY as u64,

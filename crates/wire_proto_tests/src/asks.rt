@@ -1,6 +1,6 @@
 //! What a client sends, and the session that answers it.
 ghost use Rattle.std.specs.Prelude.{IfOk, IfSome};
-ghost use Rattle.wire_proto.specs.Frames.{HasWholeCells};
+ghost use Rattle.wire_frames.specs.Frames.{HasWholeCells};
 
 use crate::hex::bytes_of;
 use crate::replies::{is_reply, split_frame};

@@ -1,5 +1,5 @@
 use Rattle.std.proofs.Common.{◌∙◌, arith}
-use Rattle.wire_proto.proofs.FrontLemmas.{front_shorter}
+use Rattle.wire_frames.proofs.FrontLemmas.{front_shorter}
 use Rattle.wire_proto.proofs.SessionLemmas.{carries_answered, carries_ended, closes_fault}
 use Rattle.wire_proto.proofs.answering.answer_all.Goals as goal
 

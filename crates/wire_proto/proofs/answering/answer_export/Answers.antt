@@ -4,7 +4,7 @@ use Rattle.wire_proto.specs.Keeping.{export}
 use Rattle.mm_laws.specs.MatrixText.{matrix_text}
 use Rattle.wire_proto.specs.Replies.{text_reply}
 use Rattle.wire_proto.specs.Sessions.{OneEnds, out, asked}
-use Rattle.wire_proto.specs.declared.request.Request.TheVariants.{Export}
+use Rattle.wire_frames.specs.declared.request.Request.TheVariants.{Export}
 use Rattle.wire_proto.proofs.AskLemmas.{export_answered, text_reply_short}
 use Rattle.wire_proto.proofs.SessionLemmas.{closes_ends, sends_answered, sends_ended}
 use Rattle.wire_proto.proofs.answering.answer_export.Goals as goal

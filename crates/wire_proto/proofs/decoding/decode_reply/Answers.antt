@@ -1,6 +1,6 @@
 use Rattle.std.proofs.Common.{length, sym, ◌∙◌, ap, arith, Some}
 use Rattle.std.proofs.lemmas.Slice.Eq.{bytes_eq-Decides}
-use Rattle.wire_proto.specs.Frames.{head_kind}
+use Rattle.wire_frames.specs.Frames.{head_kind}
 use Rattle.wire_proto.specs.Decoding.{reply_frame, short_fits, body_says}
 use Rattle.wire_proto.proofs.DecodeLemmas.{frame_long, decoded_fits, decoded_says}
 use Rattle.wire_proto.proofs.decoding.decode_reply.Goals as goal

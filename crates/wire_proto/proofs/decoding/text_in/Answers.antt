@@ -1,6 +1,6 @@
 use Rattle.std.proofs.Common.{length, sym, ◌∙◌, ap, subst, arith, Some}
 use Rattle.std.proofs.lemmas.Slice.Eq.{bytes_eq-Decides}
-use Rattle.wire_proto.specs.Frames.{head_bytes}
+use Rattle.wire_frames.specs.Frames.{head_bytes}
 use Rattle.wire_proto.specs.Decoding.{IsReplyFrame, text}
 use Rattle.wire_proto.proofs.DecodeLemmas.{decoded_text, text_short, text_head_is, text_frame}
 use Rattle.wire_proto.proofs.decoding.text_in.Goals as goal

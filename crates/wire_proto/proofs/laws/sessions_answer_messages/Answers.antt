@@ -1,5 +1,5 @@
-use Rattle.wire_proto.proofs.StreamLemmas.{answered_messages, messages_none, messages_stop, messages_bad}
-use Rattle.wire_proto.proofs.StreamLemmas.{messages_request}
+use Rattle.wire_frames.proofs.StreamLemmas.{messages_none, messages_stop, messages_bad, messages_request}
+use Rattle.wire_proto.proofs.StreamLemmas.{answered_messages}
 use Rattle.wire_proto.proofs.laws.sessions_answer_messages.Goals as goal
 
 pub returns : goal.returns

@@ -1,6 +1,6 @@
 use Rattle.std.proofs.Common.{ap, subst, ◌++◌, ◌∙◌, Err}
 use Rattle.wire_proto.proofs.SendLemmas.{sends_behind, sends_less}
-use Rattle.wire_proto.specs.Frames.{frame, head_bytes}
+use Rattle.wire_frames.specs.Frames.{frame, head_bytes}
 use Rattle.wire_proto.specs.Closing.{Sends}
 use Rattle.mm_laws.specs.MatrixText.{matrix_text}
 use Rattle.wire_proto.proofs.sending.send_text.Goals as goal

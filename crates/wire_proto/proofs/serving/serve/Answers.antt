@@ -1,6 +1,6 @@
 use Rattle.std.proofs.Common.{◌+◌, [], refl, sym, arith, subst}
 use Rattle.wire_proto.specs.Sessions.{Ends, Stands}
-use Rattle.wire_proto.proofs.FrontLemmas.{front_short}
+use Rattle.wire_frames.proofs.FrontLemmas.{front_short}
 use Rattle.wire_proto.proofs.SessionLemmas.{out_of_memory, stops_ends, stands_first, stands_rests}
 use Rattle.wire_proto.proofs.serving.serve.Goals as goal
 

@@ -1,5 +1,5 @@
 use Rattle.std.proofs.Common.{◌≡◌, ◌+◌, ◌*◌, ◌≤◌, length, None}
-use Rattle.wire_proto.specs.Frames.{front}
+use Rattle.wire_frames.specs.Frames.{front}
 use Rattle.wire_proto.specs.Sessions.{Stands}
 use Rattle.wire_proto.proofs.serving.serve.Given as goal
 

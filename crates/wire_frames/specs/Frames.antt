@@ -3,11 +3,11 @@ use Rattle.std.specs.Prelude.{◌≡◌, ℕ, zero, suc, ◌+◌, ◌-◌, ◌%�
 use Rattle.std.specs.Prelude.{length, take, drop, slice_index, nat_lt, nat_le, if◌then◌else◌, Option, Some, None}
 use Rattle.std.specs.Prelude.{Result, Ok, Err}
 use Rattle.std.specs.Int.{w32, w64, to_be_bytes, from_be_bytes}
-use Rattle.wire_proto.specs.declared.request.Request.{Request}
-use Rattle.wire_proto.specs.declared.request.Request.TheVariants.{Put, Cell, Row, Status, Export, Save, Stop}
-use Rattle.wire_proto.specs.declared.request.Request.TheVariants.{PutCells}
-use Rattle.wire_proto.specs.declared.request.FrameFault.{FrameFault}
-use Rattle.wire_proto.specs.declared.request.FrameFault.TheVariants.{Memory, TooLarge, UnknownKind, BadLength}
+use Rattle.wire_frames.specs.declared.request.Request.{Request}
+use Rattle.wire_frames.specs.declared.request.Request.TheVariants.{Put, Cell, Row, Status, Export, Save, Stop}
+use Rattle.wire_frames.specs.declared.request.Request.TheVariants.{PutCells}
+use Rattle.wire_frames.specs.declared.request.FrameFault.{FrameFault}
+use Rattle.wire_frames.specs.declared.request.FrameFault.TheVariants.{Memory, TooLarge, UnknownKind, BadLength}
 
 -- A frame is the length of its body (4 bytes, the high one first), its kind (1 byte), and its body.
 unfoldable pub head_bytes : ℕ → ℕ → List ℕ

@@ -1,7 +1,7 @@
 use Rattle.std.proofs.Common.{refl}
-use Rattle.wire_proto.proofs.SessionLemmas.{gives_snoc, gives_more}
-use Rattle.wire_proto.proofs.StreamLemmas.{gives_frames, frames_none, frames_bad}
-use Rattle.wire_proto.proofs.laws.frames_come_in_any_pieces.Goals as goal
+use Rattle.wire_frames.proofs.StreamLemmas.{gives_snoc, gives_more}
+use Rattle.wire_frames.proofs.StreamLemmas.{gives_frames, frames_none, frames_bad}
+use Rattle.wire_frames.proofs.laws.frames_come_in_any_pieces.Goals as goal
 
 pub returns : goal.returns
 returns c = record {

@@ -1,7 +1,7 @@
 //! The header of a frame.
 ghost use Rattle.std.specs.Prelude.{◌≡◌, ◌<◌, ◌≤◌, length, MatchOption};
-ghost use Rattle.wire_proto.specs.Frames.{length_fits, head_fault, head_len, head_kind};
-ghost use Rattle.wire_proto.specs.Looks.{Looks};
+ghost use Rattle.wire_frames.specs.Frames.{length_fits, head_fault, head_len, head_kind};
+ghost use Rattle.wire_frames.specs.Looks.{Looks};
 
 use crate::limits::{CELL, HEAD, MAX_BODY};
 use crate::request::FrameFault;

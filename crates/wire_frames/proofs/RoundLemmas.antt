@@ -4,12 +4,12 @@ use Rattle.std.proofs.Common.{arith, length-append, Some, None, Ok, eq-eqb, ◌-
 use Rattle.std.proofs.lemmas.List.{take_at, drop_at, drop-drop}
 use Rattle.std.proofs.lemmas.Bool.{le-ltb, le-leb}
 use Rattle.std.proofs.lemmas.Nat.{from_be_bytes-to_be_bytes_4, from_be_bytes-to_be_bytes_8}
-use Rattle.wire_proto.specs.Frames.{front, frame, head_bytes, number, head_len, head_kind, head_fault, fault_of_kind}
-use Rattle.wire_proto.specs.Frames.{length_fits, request_of, number_at, request_frame, HasFrame}
-use Rattle.wire_proto.specs.declared.request.Request.{Request}
-use Rattle.wire_proto.specs.declared.request.Request.TheVariants.{Put, Cell, Row, Status, Export, Save, Stop}
-use Rattle.wire_proto.specs.declared.request.Request.TheVariants.{PutCells}
-use Rattle.wire_proto.proofs.FrontLemmas.{front_whole}
+use Rattle.wire_frames.specs.Frames.{front, frame, head_bytes, number, head_len, head_kind, head_fault, fault_of_kind}
+use Rattle.wire_frames.specs.Frames.{length_fits, request_of, number_at, request_frame, HasFrame}
+use Rattle.wire_frames.specs.declared.request.Request.{Request}
+use Rattle.wire_frames.specs.declared.request.Request.TheVariants.{Put, Cell, Row, Status, Export, Save, Stop}
+use Rattle.wire_frames.specs.declared.request.Request.TheVariants.{PutCells}
+use Rattle.wire_frames.proofs.FrontLemmas.{front_whole}
 
 pub kind_read : (k : ℕ) (body more : List ℕ) → head_kind (frame k body ++ more) ≡ k
 unfolding head_kind frame head_bytes

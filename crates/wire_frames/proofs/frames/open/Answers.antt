@@ -1,7 +1,7 @@
 use Rattle.std.proofs.Common.{refl}
 use Rattle.std.proofs.lemmas.List.{drop-drop}
-use Rattle.wire_proto.specs.Frames.{request_of, number_at}
-use Rattle.wire_proto.proofs.frames.open.Goals as goal
+use Rattle.wire_frames.specs.Frames.{request_of, number_at}
+use Rattle.wire_frames.proofs.frames.open.Goals as goal
 
 pub returns-in-1 : goal.returns-in-1
 unfolding request_of number_at

@@ -1,6 +1,6 @@
 use Rattle.std.proofs.Common.{sym}
-use Rattle.wire_proto.proofs.FrontLemmas.{front_short, front_part, bad_gives, looks_whole}
-use Rattle.wire_proto.proofs.heads.look_at.Goals as goal
+use Rattle.wire_frames.proofs.FrontLemmas.{front_short, front_part, bad_gives, looks_whole}
+use Rattle.wire_frames.proofs.heads.look_at.Goals as goal
 
 pub returns-in_default : goal.returns-in_default
 returns-in_default c = front_short c.args.bytes.now c.in_default.ensures

@@ -1,5 +1,5 @@
-use Rattle.wire_proto.proofs.FrontLemmas.{some_front}
-use Rattle.wire_proto.proofs.frames.Frames.next.Goals as goal
+use Rattle.wire_frames.proofs.FrontLemmas.{some_front}
+use Rattle.wire_frames.proofs.frames.Frames.next.Goals as goal
 
 pub returns-in-Err : goal.returns-in-Err
 returns-in-Err c = (

@@ -5,12 +5,12 @@ use Rattle.std.proofs.Common.{Err}
 use Rattle.std.proofs.lemmas.List.{take-append-le, drop-append-le, get_or_append_left}
 use Rattle.std.proofs.lemmas.Bool.{lt-ltb, le-ltb, ltb-true, ltb-false}
 use Rattle.std.proofs.lemmas.Option.{same_Some}
-use Rattle.wire_proto.specs.Frames.{front, behind_head, head_fault, fault_of_kind, length_fits, head_len, head_kind}
-use Rattle.wire_proto.specs.Frames.{request_of, NextGives}
-use Rattle.wire_proto.specs.Looks.{LooksWhole}
-use Rattle.wire_proto.specs.declared.request.Request.{Request}
-use Rattle.wire_proto.specs.declared.request.FrameFault.{FrameFault}
-use Rattle.wire_proto.specs.declared.request.FrameFault.TheVariants.{Memory, TooLarge, UnknownKind, BadLength}
+use Rattle.wire_frames.specs.Frames.{front, behind_head, head_fault, fault_of_kind, length_fits, head_len, head_kind}
+use Rattle.wire_frames.specs.Frames.{request_of, NextGives}
+use Rattle.wire_frames.specs.Looks.{LooksWhole}
+use Rattle.wire_frames.specs.declared.request.Request.{Request}
+use Rattle.wire_frames.specs.declared.request.FrameFault.{FrameFault}
+use Rattle.wire_frames.specs.declared.request.FrameFault.TheVariants.{Memory, TooLarge, UnknownKind, BadLength}
 
 pub front_short : (b : List ℕ) → length b < 5 → front b ≡ None
 unfolding front

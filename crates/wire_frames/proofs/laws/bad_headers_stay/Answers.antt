@@ -1,7 +1,7 @@
-use Rattle.wire_proto.proofs.FrontLemmas.{front_bad_more}
+use Rattle.wire_frames.proofs.FrontLemmas.{front_bad_more}
 use Rattle.std.proofs.Common.{◌++◌}
-use Rattle.wire_proto.proofs.StreamLemmas.{frames_bad}
-use Rattle.wire_proto.proofs.laws.bad_headers_stay.Goals as goal
+use Rattle.wire_frames.proofs.StreamLemmas.{frames_bad}
+use Rattle.wire_frames.proofs.laws.bad_headers_stay.Goals as goal
 
 pub returns : goal.returns
 returns c = record {

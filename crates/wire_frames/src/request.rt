@@ -1,6 +1,6 @@
 //! Requests, and the frames that carry them.
 ghost use Rattle.std.specs.Prelude.{◌≡◌, ◌<◌, ◌≤◌, ◌↔◌, ◌++◌, length, IfOk, OnOk, Err};
-ghost use Rattle.wire_proto.specs.Frames.{number, head_bytes, kind_of, body_of, request_frame, HasWholeCells};
+ghost use Rattle.wire_frames.specs.Frames.{number, head_bytes, kind_of, body_of, request_frame, HasWholeCells};
 
 use crate::limits::MAX_BODY;
 use bytes::Bytes;
@@ -58,7 +58,7 @@ pub enum EncodeFault {
 }
 
 impl From<AllocError> for EncodeFault {
-    ghost use Rattle.wire_proto.specs.declared.request.EncodeFault.TheVariants.{Memory};
+    ghost use Rattle.wire_frames.specs.declared.request.EncodeFault.TheVariants.{Memory};
 
     ghost from_gives = { λ _ e. e ≡ Memory };
 

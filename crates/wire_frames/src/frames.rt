@@ -1,6 +1,6 @@
 //! Cuts the bytes of a link into requests.
 ghost use Rattle.std.specs.Prelude.{◌≡◌, ◌++◌, [], ◌+◌, ◌≤◌, length, take, drop, true, Some, IfOk, OnOk, OnErr};
-ghost use Rattle.wire_proto.specs.Frames.{NextGives, request_of, length_fits};
+ghost use Rattle.wire_frames.specs.Frames.{NextGives, request_of, length_fits};
 
 use crate::heads::{Look, look_at};
 use crate::limits::{HEAD, ROOMY};

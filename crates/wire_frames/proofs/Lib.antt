@@ -1,0 +1,3 @@
+pub mod FrontLemmas
+pub mod RoundLemmas
+pub mod StreamLemmas
