@@ -15,10 +15,10 @@ use Rattle.batch_store.specs.Books.{Register, AreAccepted, list_total, verdict_o
 use Rattle.batch_store.proofs.BookLaws.{length-entries_of}
 use Rattle.batch_store.proofs.VerdictMeaning.{verdict_means}
 use Rattle.plain_engine.specs.declared.fault.PutFault.{PutFault}
-use Rattle.locked_engine.specs.declared.fault.Unadmitted.{Unadmitted}
+use Rattle.locked_engine.specs.declared.fault.NotAdmitted.{NotAdmitted}
 use Rattle.locked_engine.specs.Versions.{IsVersion, entry_verdict}
 use Rattle.locked_engine.specs.Views.{SeatView}
-use Rattle.locked_engine.specs.Told.{Answers, IsTold, AreShown}
+use Rattle.locked_engine.specs.Told.{Answers, IsTold, AreShown, answer_of}
 use Rattle.locked_engine.proofs.PrefixLaws.{prefix_trans, prefix_push}
 
 -- the entries of accepted batches are a version
@@ -48,16 +48,16 @@ told_by v es e BookFull u is legal h = subst (λ (w : Result Kept PutFault). IsT
 
 -- the same for a version that is the book's
 pub judged : {T : Type 0} (v : Setting) (w : Register) (b : Submission) (r : Verdict) (es : List Entry)
-    (res : Result T Unadmitted) → w.setup ≡ v → es ≡ entries_of w.list → IsVersion v (entries_of w.list) →
-    r ≡ verdict_on w b → IfErr res (λ (u : Unadmitted). Answers r u.answer) →
-    IfErr res (λ (u : Unadmitted). IsTold v (entry_of b) es u.answer)
+    (res : Result T NotAdmitted) → w.setup ≡ v → es ≡ entries_of w.list → IsVersion v (entries_of w.list) →
+    r ≡ verdict_on w b → IfErr res (λ (u : NotAdmitted). Answers r (answer_of u)) →
+    IfErr res (λ (u : NotAdmitted). IsTold v (entry_of b) es (answer_of u))
 judged v w b r es (Ok x) setup same legal is h = tt
 judged v w b r es (Err u) setup same legal is h =
     let all = entries_of w.list in
     let here : r ≡ entry_verdict v all (entry_of b) = is
     ∙ ap (λ (s : Setting). entry_verdict s all (entry_of b)) setup in
-    subst (λ (l : List Entry). IsTold v (entry_of b) l u.answer) (sym same)
-    (told_by v all (entry_of b) r u.answer here legal h)
+    subst (λ (l : List Entry). IsTold v (entry_of b) l (answer_of u)) (sym same)
+    (told_by v all (entry_of b) r (answer_of u) here legal h)
 
 -- an entry that was added last stands there
 last_entry : (es : List Entry) (e : Entry) → slice_get (es ++ e ∷ []) (length es) ≡ Some e
@@ -78,7 +78,7 @@ added_told v es e = (
 )
 
 pub admitted_told : (v : Setting) (list now : List Submission) (seen : List Entry) (b : Submission)
-    (res : Result Kept Unadmitted) → OnOk res (seen ≡ entries_of now) → OnOk res (now ≡ list ++ b ∷ [])
+    (res : Result Kept NotAdmitted) → OnOk res (seen ≡ entries_of now) → OnOk res (now ≡ list ++ b ∷ [])
     → IfOk res (λ (k : Kept). k ≡ kept (length list) (list_total list + batch_total b))
     → IfOk res (λ (k : Kept). IsTold v (entry_of b) seen (Ok k))
 admitted_told v list now seen b (Err u) same more is = tt
@@ -92,7 +92,7 @@ admitted_told v list now seen b (Ok k) same more is =
     (subst (λ (n : Kept). IsTold v e (es ++ e ∷ []) (Ok n)) (sym reply) (added_told v es e))
 
 -- what was shown before an admission begins what is shown after it
-pub admitted_later : (res : Result Kept Unadmitted) (before seen after : List Entry) (list now : List Submission)
+pub admitted_later : (res : Result Kept NotAdmitted) (before seen after : List Entry) (list now : List Submission)
     (b : Submission) → IsPrefix before seen → seen ≡ entries_of list → OnOk res (after ≡ entries_of now)
     → OnOk res (now ≡ list ++ b ∷ []) → OnErr res (after ≡ seen) → IsPrefix before after
 admitted_later (Err u) before seen after list now b begins shown same more kept =

@@ -8,10 +8,10 @@ ghost use Rattle.batch_store.specs.Batches.{batch_total, entry_of as summary_of,
 ghost use Rattle.batch_store.specs.Books.{AreAccepted, list_total, verdict_on};
 ghost use Rattle.batch_store.specs.Verdicts.{kept};
 ghost use Rattle.batch_store.specs.declared.verdict.Verdict.TheVariants.{Fresh};
-ghost use Rattle.locked_engine.specs.Told.{Answers, IsTold};
+ghost use Rattle.locked_engine.specs.Told.{Answers, IsTold, answer_of};
 ghost use Rattle.locked_engine.specs.Versions.{IsVersion};
 
-use crate::fault::Unadmitted;
+use crate::fault::NotAdmitted;
 use crate::history::HistoryWord;
 use crate::names::Named;
 use crate::version::{NextPlace, NextVersion, Version, VersionWriter, entry_of};
@@ -62,18 +62,18 @@ where
 }
 
 /// Err where the verdict isn't a fresh one.
-pub fn fresh(verdict: Verdict) -> Result<(), Unadmitted>
+pub fn fresh(verdict: Verdict) -> Result<(), NotAdmitted>
     ensures fresh { OnOk result (verdict ≡ Fresh) }
-    ensures told { IfErr result (λ u. Answers verdict u.answer) }
+    ensures told { IfErr result (λ u. Answers verdict (answer_of u)) }
 {
-    let answer = match verdict {
+    let fault = match verdict {
         Verdict::Fresh => return Ok(()),
-        Verdict::Known(kept) => Ok(kept),
-        Verdict::NumberReused => Err(PutFault::NumberReused),
-        Verdict::OverTotal { accepted } => Err(PutFault::OverTotal { accepted }),
-        Verdict::BookFull => Err(PutFault::BookFull),
+        Verdict::Known(kept) => return Err(NotAdmitted::Repeated(kept)),
+        Verdict::NumberReused => PutFault::NumberReused,
+        Verdict::OverTotal { accepted } => PutFault::OverTotal { accepted },
+        Verdict::BookFull => PutFault::BookFull,
     };
-    Err(Unadmitted { answer })
+    Err(NotAdmitted::Refused(fault))
 }
 
 // Puts the writer into its place.
@@ -207,14 +207,14 @@ where
     }
 
     /// Shows a seat the book's entries, and judges a batch by them. Err where it isn't fresh.
-    pub fn judge(&self, seen: &mut Version<N>, b: &Batch) -> Result<(), Unadmitted>
+    pub fn judge(&self, seen: &mut Version<N>, b: &Batch) -> Result<(), NotAdmitted>
         ensures later { IsPrefix seen.old seen.new }
         ensures shown { OnOk result (seen.new ≡ entries_of self.now.list) }
         ensures fresh { OnOk result (verdict_on self.now b.now ≡ Fresh) }
-        ensures told { IfErr result (λ u. IsTold N.setup (summary_of b.now) seen.new u.answer) }
+        ensures told { IfErr result (λ u. IsTold N.setup (summary_of b.now) seen.new (answer_of u)) }
     {
         if !self.show(seen) {
-            return Err(Unadmitted::records_differ());
+            return Err(NotAdmitted::Refused(PutFault::RecordsDiffer));
         }
         fresh(self.book.look(b))
     }
@@ -246,7 +246,7 @@ where
         seen: &mut Version<N>,
         place: NextPlace<N>,
         b: Arc<Batch>,
-    ) -> Result<Kept, Unadmitted>
+    ) -> Result<Kept, NotAdmitted>
         requires rows { (arc_value b).matrix.rows ≡ N.setup.rows }
         requires cols { (arc_value b).matrix.cols ≡ N.setup.cols }
         requires parts { (first.old.parts ≡ 1) × (second.old.parts ≡ 1) }
@@ -262,7 +262,7 @@ where
         ensures second_kept { OnErr result (second.new.amount ≡ second.old.amount) }
         ensures later { IsPrefix seen.old seen.new }
         ensures ok { IfOk result (λ k. IsTold N.setup (summary_of (arc_value b)) seen.new (Ok k)) }
-        ensures err { IfErr result (λ u. IsTold N.setup (summary_of (arc_value b)) seen.new u.answer) }
+        ensures err { IfErr result (λ u. IsTold N.setup (summary_of (arc_value b)) seen.new (answer_of u)) }
     {
         self.judge(seen, &b)?;
         self.admit_fresh(rt, first, second, seen, place, b)
@@ -278,7 +278,7 @@ where
         seen: &mut Version<N>,
         place: NextPlace<N>,
         b: Arc<Batch>,
-    ) -> Result<Kept, Unadmitted>
+    ) -> Result<Kept, NotAdmitted>
         requires rows { (arc_value b).matrix.rows ≡ N.setup.rows }
         requires cols { (arc_value b).matrix.cols ≡ N.setup.cols }
         requires parts { (first.old.parts ≡ 1) × (second.old.parts ≡ 1) }
@@ -295,21 +295,21 @@ where
         ensures second_kept { OnErr result (second.new.amount ≡ second.old.amount) }
         ensures seen { OnOk result (seen.new ≡ entries_of self.new.list) }
         ensures seen_kept { OnErr result (seen.new ≡ seen.old) }
-        ensures err { IfErr result (λ u. IsTold N.setup (summary_of (arc_value b)) seen.new u.answer) }
+        ensures err { IfErr result (λ u. IsTold N.setup (summary_of (arc_value b)) seen.new (answer_of u)) }
     {
         self.book.reserve(&b)?;
         let NextPlace { offered, own } = place;
         let Some(mut writer) = self.writer.take() else {
-            return Err(Unadmitted::memory());
+            return Err(NotAdmitted::Refused(PutFault::Memory));
         };
         if writer.append(offered).is_err() {
             put_back(rt, &mut self.writer, writer);
-            return Err(Unadmitted::memory());
+            return Err(NotAdmitted::Refused(PutFault::Memory));
         }
         let Ok(next) = self.version.again().append(&self.word, entry_of(&b)) else {
             let writer = publish(rt, writer, &self.version);
             put_back(rt, &mut self.writer, writer);
-            return Err(Unadmitted::records_differ());
+            return Err(NotAdmitted::Refused(PutFault::RecordsDiffer));
         };
         let _ = own.try_set(next.again());
         *seen = next.again();

@@ -5,11 +5,11 @@ ghost use Rattle.std.specs.Arc.{arc_value};
 ghost use Rattle.batch_store.specs.Batches.{batch_total, entry_of};
 ghost use Rattle.batch_store.specs.Cuts.{shares_below};
 ghost use Rattle.batch_store.specs.Parts.{below};
-ghost use Rattle.locked_engine.specs.Told.{IsTold};
+ghost use Rattle.locked_engine.specs.Told.{IsTold, answer_of};
 
 use crate::engine::Engine;
-use crate::fault::Unadmitted;
-use crate::locked_shard::Trouble;
+use crate::fault::NotAdmitted;
+use crate::locked_shard::ShardRefusal;
 use crate::names::Named;
 use crate::seat::Seat;
 use crate::shard_version::ShardVersion;
@@ -70,14 +70,14 @@ impl<N: Named, H: Ledger> Engine<N, H> {
             &b,
         ) {
             Ok(kept) => Ok(kept),
-            Err(told) => told.answer,
+            Err(other) => other.answer(),
         }
     }
 
     // Shows the seat what the book has now, and judges a batch by it. Err where it isn't fresh.
-    fn ask<R: Wait>(&self, rt: &R, seen: &mut Version<N>, b: &Batch) -> Result<(), Unadmitted>
+    fn ask<R: Wait>(&self, rt: &R, seen: &mut Version<N>, b: &Batch) -> Result<(), NotAdmitted>
         ensures later { IsPrefix seen.old seen.new }
-        ensures told { IfErr result (λ u. IsTold N.setup (entry_of b.now) seen.new u.answer) }
+        ensures told { IfErr result (λ u. IsTold N.setup (entry_of b.now) seen.new (answer_of u)) }
     {
         let locked = self.book.lock(rt);
         let answer = locked.judge(seen, b);
@@ -86,22 +86,22 @@ impl<N: Named, H: Ledger> Engine<N, H> {
     }
 
     // What a batch is answered that a shard can't take. Another put may have brought the book to refuse it meanwhile.
-    fn told<R: Wait>(
+    fn answer_for<R: Wait>(
         &self,
         rt: &R,
         seen: &mut Version<N>,
         b: &Batch,
-        trouble: Trouble,
-    ) -> Unadmitted
+        refusal: ShardRefusal,
+    ) -> NotAdmitted
         ensures later { IsPrefix seen.old seen.new }
-        ensures told { IsTold N.setup (entry_of b.now) seen.new result.answer }
+        ensures told { IsTold N.setup (entry_of b.now) seen.new (answer_of result) }
     {
-        match trouble {
-            Trouble::Memory => Unadmitted::memory(),
-            Trouble::Elsewhere => Unadmitted::records_differ(),
-            Trouble::Refused => match self.ask(rt, seen, b) {
-                Ok(()) => Unadmitted::records_differ(),
-                Err(told) => told,
+        match refusal {
+            ShardRefusal::Memory => NotAdmitted::Refused(PutFault::Memory),
+            ShardRefusal::OtherNumber => NotAdmitted::Refused(PutFault::RecordsDiffer),
+            ShardRefusal::Refused => match self.ask(rt, seen, b) {
+                Ok(()) => NotAdmitted::Refused(PutFault::RecordsDiffer),
+                Err(other) => other,
             },
         }
     }
@@ -115,7 +115,7 @@ impl<N: Named, H: Ledger> Engine<N, H> {
         seen: &mut Version<N>,
         place: NextPlace<N>,
         b: Arc<Batch>,
-    ) -> Result<Kept, Unadmitted>
+    ) -> Result<Kept, NotAdmitted>
         requires rows { (arc_value b).matrix.rows ≡ N.setup.rows }
         requires cols { (arc_value b).matrix.cols ≡ N.setup.cols }
         requires parts { (first.old.parts ≡ 1) × (second.old.parts ≡ 1) }
@@ -126,7 +126,7 @@ impl<N: Named, H: Ledger> Engine<N, H> {
         ensures second_kept { OnErr result (second.new.amount ≡ second.old.amount) }
         ensures later { IsPrefix seen.old seen.new }
         ensures ok { IfOk result (λ k. IsTold N.setup (entry_of (arc_value b)) seen.new (Ok k)) }
-        ensures err { IfErr result (λ u. IsTold N.setup (entry_of (arc_value b)) seen.new u.answer) }
+        ensures err { IfErr result (λ u. IsTold N.setup (entry_of (arc_value b)) seen.new (answer_of u)) }
     {
         let mut locked = self.book.lock(rt);
         let answer = locked.admit(rt, first, second, seen, place, b);
@@ -143,7 +143,7 @@ impl<N: Named, H: Ledger> Engine<N, H> {
         second: &mut Share<H>,
         seen: &mut Version<N>,
         b: &Arc<Batch>,
-    ) -> Result<Kept, Unadmitted>
+    ) -> Result<Kept, NotAdmitted>
         requires rows { (arc_value b.now).matrix.rows ≡ N.setup.rows }
         requires cols { (arc_value b.now).matrix.cols ≡ N.setup.cols }
         requires parts { (first.old.parts ≡ 1) × (second.old.parts ≡ 1) }
@@ -154,7 +154,7 @@ impl<N: Named, H: Ledger> Engine<N, H> {
         ensures first_kept { OnErr result (first.new.amount ≡ first.old.amount) }
         ensures later { IsPrefix seen.old seen.new }
         ensures ok { IfOk result (λ k. IsTold N.setup (entry_of (arc_value b.now)) seen.new (Ok k)) }
-        ensures err { IfErr result (λ u. IsTold N.setup (entry_of (arc_value b.now)) seen.new u.answer) }
+        ensures err { IfErr result (λ u. IsTold N.setup (entry_of (arc_value b.now)) seen.new (answer_of u)) }
     {
         self.ask(rt, seen, b)?;
         let shares = b.shares(alloc, self.setup.shards())?;
@@ -206,7 +206,7 @@ impl<N: Named, H: Ledger> Engine<N, H> {
         shares: &[Option<Hyper>],
         past: &mut Vec<Arc<ShardVersion<N>>>,
         s: u64,
-    ) -> Result<Kept, Unadmitted>
+    ) -> Result<Kept, NotAdmitted>
         requires rows { (arc_value b).matrix.rows ≡ N.setup.rows }
         requires cols { (arc_value b).matrix.cols ≡ N.setup.cols }
         requires shares { shares.now ≡ shares_below N.setup.shards N.setup.shards (arc_value b) }
@@ -223,7 +223,7 @@ impl<N: Named, H: Ledger> Engine<N, H> {
         ensures capacity { vec_capacity past.new ≡ vec_capacity past.old }
         ensures later { IsPrefix seen.old seen.new }
         ensures ok { IfOk result (λ k. IsTold N.setup (entry_of (arc_value b)) seen.new (Ok k)) }
-        ensures err { IfErr result (λ u. IsTold N.setup (entry_of (arc_value b)) seen.new u.answer) }
+        ensures err { IfErr result (λ u. IsTold N.setup (entry_of (arc_value b)) seen.new (answer_of u)) }
     {
         if s == self.setup.shards() {
             return self.admit(rt, first, second, seen, next, b);
@@ -235,7 +235,7 @@ impl<N: Named, H: Ledger> Engine<N, H> {
         let locked = &mut *guard;
         let ready = match locked.prepare(alloc, s, &b, share) {
             Ok(ready) => ready,
-            Err(trouble) => return Err(self.told(rt, seen, &b, trouble)),
+            Err(refusal) => return Err(self.answer_for(rt, seen, &b, refusal)),
         };
         let kept = self.put_from(rt, alloc, first, second, seen, next, b, shares, past, s + 1)?;
         let version = locked.deliver(ready, second);
