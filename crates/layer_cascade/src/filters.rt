@@ -25,7 +25,7 @@ pub fn filtered_to(alloc: Global, m: Hyper, most: u64) -> Result<FilteredMatrix,
 }
 
 /// The place of the first run without a filter that has `FEWEST_FILTERED` entries or more.
-pub fn bare_run(runs: &[Arc<FilteredMatrix>]) -> Option<usize>
+pub fn first_unfiltered(runs: &[Arc<FilteredMatrix>]) -> Option<usize>
     ensures { IfSome result (λ place. place < length runs.now) }
 {
     for place in 0..runs.len() {

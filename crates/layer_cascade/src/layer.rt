@@ -17,7 +17,7 @@ ghost use Rattle.layer_cascade.specs.Runs.{CountsPlaces};
 ghost use Rattle.layer_cascade.specs.Shared.{values, all_counts, HaveDims};
 ghost use Rattle.layer_cascade.specs.Steps.{joined, Takes};
 
-use crate::filters::{bare_run, filtered_to, with_filter_at};
+use crate::filters::{first_unfiltered, filtered_to, with_filter_at};
 use crate::limits::{GATHERED_RUNS, KEPT_RUNS, MAX_COUNTED, MAX_LISTED, MAX_RUNS};
 use crate::lists::entries_bound;
 use crate::pairs::{due_pair, kept_in_front, with_pair_added, with_rest_added};
@@ -316,11 +316,11 @@ impl Layer {
         Ok(Some(self.with_runs(runs, self.counted, self.places)))
     }
 
-    /// The same layer with a filter beside a run that has none and is to have one (`bare_run`). The others are shared.
+    /// The same layer with a filter beside a run that has none and is to have one (`first_unfiltered`). The others are shared.
     pub fn filtered(&self, alloc: Global) -> Result<Option<Layer>, AllocError>
         ensures { IfOk result (λ filtered. IfSome filtered (λ layer. layer ≡ self.now)) }
     {
-        let Some(place) = bare_run(&self.runs) else {
+        let Some(place) = first_unfiltered(&self.runs) else {
             return Ok(None);
         };
         let runs = with_filter_at(&self.runs, place, alloc)?;

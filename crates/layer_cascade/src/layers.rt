@@ -25,7 +25,7 @@ ghost use Rattle.layer_cascade.specs.Layering.{IsLayering, no_layers, entries_of
 use crate::addition::{cascade_end, layers_after, push_copies, push_layers};
 use crate::cuts::are_cuts;
 use crate::fault::CascadeFault;
-use crate::filters::bare_run;
+use crate::filters::first_unfiltered;
 use crate::layer::Layer;
 use crate::lists::{add_runs, entries_bound, push_cells_of};
 use crate::lookup::plus;
@@ -124,7 +124,7 @@ fn bare_layer(layers: &[Arc<Layer>]) -> Option<usize>
     ensures { IfSome result (λ place. place < length layers.now) }
 {
     for place in 1..layers.len() {
-        if bare_run(layers[place].runs()).is_some() {
+        if first_unfiltered(layers[place].runs()).is_some() {
             return Some(place);
         }
     }

@@ -1,6 +1,6 @@
 //! Reads replies, as a client does.
 //!
-//! A reply has one spelling. So a frame is read by its kind, what it would say is spelled again, and only where that
+//! A reply has one encoding. So a frame is read by its kind, what it would say is encoded again, and only where that
 //! gives the same bytes is it a reply.
 ghost use Rattle.std.specs.Prelude.{◌≡◌, ◌≤◌, length, true, Some, IfSome};
 ghost use Rattle.std.specs.Option.{option_map};
@@ -103,12 +103,12 @@ fn refusal_in(body: &[u8]) -> (u16, u64)
     (code, detail)
 }
 
-/// What a body of this kind would say, and how that is spelled.
+/// What a body of this kind would say, and its encoding.
 #[tactic(auto, unfolding(crate::specs::Decoding::short_fits, crate::specs::Decoding::body_says))]
 fn open(kind: u8, body: &[u8]) -> (Reply<'static>, Short)
     requires { short_fits kind (length body.now) ≡ true }
     ensures says { said result.0 ≡ body_says kind body.now }
-    ensures spelled { result.1.items ≡ reply_frame (said result.0) }
+    ensures encoded { result.1.items ≡ reply_frame (said result.0) }
     ensures fits { FitsReply (said result.0) }
 {
     match kind {
@@ -178,8 +178,8 @@ pub fn decode_reply(bytes: &[u8]) -> Option<Reply<'_>>
     if !fits(kind, body.len()) {
         return None;
     }
-    let (reply, spelled) = open(kind, body);
-    if spelled.as_slice() == bytes {
+    let (reply, encoded) = open(kind, body);
+    if encoded.as_slice() == bytes {
         Some(reply)
     } else {
         None

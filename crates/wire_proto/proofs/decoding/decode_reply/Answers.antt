@@ -23,14 +23,14 @@ returns-then-not-fits-clause-only c = λ r h.
 pub returns-then-eq-clause-only : goal.returns-then-eq-clause-only
 unfolding head_kind
 returns-then-eq-clause-only c = λ r h.
-    ap (λ v. Some v) (c.open-spelled.ensures.says ∙ ap (body_says _) c.split_at.ensures.back ∙
+    ap (λ v. Some v) (c.open-encoded.ensures.says ∙ ap (body_says _) c.split_at.ensures.back ∙
     decoded_says c.args.bytes.now r h c.if-kind.false)
 
 pub returns-else-eq-clause-only : goal.returns-else-eq-clause-only
 unfolding head_kind
 returns-else-eq-clause-only c = λ r h.
-    let says = c.open-spelled.ensures.says ∙ ap (body_says _) c.split_at.ensures.back ∙
+    let says = c.open-encoded.ensures.says ∙ ap (body_says _) c.split_at.ensures.back ∙
     decoded_says c.args.bytes.now r h c.if-kind.false in
-    let same = c.as_slice.ensures.value ∙ c.open-spelled.ensures.spelled ∙ ap reply_frame says ∙ sym h.spelled in
+    let same = c.as_slice.ensures.value ∙ c.open-encoded.ensures.encoded ∙ ap reply_frame says ∙ sym h.spelled in
     let yes = c.eq.ensures ∙ (bytes_eq-Decides _ _).1 same in
     let no = c.if-eq.false in absurd (cc)
