@@ -8,7 +8,7 @@ use Rattle.layer_cascade.specs.Cuts.{AreCuts}
 use Rattle.std.specs.Int.{w64}
 use Rattle.byte_io.specs.declared.fault.DeviceFault.{DeviceFault}
 use Rattle.snap_file.specs.Table.{Reading, field_in, cuts_behind}
-use Rattle.snap_file.specs.Outcomes.{ReaderState, HasRead}
+use Rattle.snap_file.specs.Outcomes.{ReaderState, HasJudged}
 use Rattle.snap_file.specs.declared.fault.SnapFault.TheVariants.{BadHead}
 
 step_is : (n least : ℕ) (done : List ℕ) (k : List ℕ → Reading) →
@@ -23,21 +23,21 @@ done_is least done k = refl
 
 pub cuts_step : {S : Type 0} (gives : S → Result (List ℕ) DeviceFault → S → Type 0) (failures : S → ℕ) (m : ℕ) (s t : S)
     (reader : ReaderState) (n n' least : ℕ) (done : List ℕ) (k : List ℕ → Reading) →
-    HasRead gives failures m s t reader (cuts_behind n least done k) → n ≡ suc n' →
-    HasRead gives failures m s t reader (field_in w64 least (2 ^ 40) BadHead
+    HasJudged gives failures m s t reader (cuts_behind n least done k) → n ≡ suc n' →
+    HasJudged gives failures m s t reader (field_in w64 least (2 ^ 40) BadHead
     (λ cut. cuts_behind n' (cut + 1) (done ++ cut ∷ []) k))
 cuts_step gives failures m s t reader n n' least done k a e =
-    subst (λ (r : Reading). HasRead gives failures m s t reader r) (step_is n' least done k)
-    (subst (λ (i : ℕ). HasRead gives failures m s t reader (cuts_behind i least done k)) e a)
+    subst (λ (r : Reading). HasJudged gives failures m s t reader r) (step_is n' least done k)
+    (subst (λ (i : ℕ). HasJudged gives failures m s t reader (cuts_behind i least done k)) e a)
 
 pub cuts_done : {S : Type 0} (gives : S → Result (List ℕ) DeviceFault → S → Type 0) (failures : S → ℕ) (m : ℕ) (s t : S)
     (reader : ReaderState) (n least : ℕ) (done all : List ℕ) (k : List ℕ → Reading) →
-    HasRead gives failures m s t reader (cuts_behind n least done k) → n ≡ 0 → done ≡ all →
-    HasRead gives failures m s t reader (k all)
+    HasJudged gives failures m s t reader (cuts_behind n least done k) → n ≡ 0 → done ≡ all →
+    HasJudged gives failures m s t reader (k all)
 cuts_done gives failures m s t reader n least done all k a e d =
-    subst (λ (l : List ℕ). HasRead gives failures m s t reader (k l)) d
-    (subst (λ (r : Reading). HasRead gives failures m s t reader r) (done_is least done k)
-    (subst (λ (i : ℕ). HasRead gives failures m s t reader (cuts_behind i least done k)) e a))
+    subst (λ (l : List ℕ). HasJudged gives failures m s t reader (k l)) d
+    (subst (λ (r : Reading). HasJudged gives failures m s t reader r) (done_is least done k)
+    (subst (λ (i : ℕ). HasJudged gives failures m s t reader (cuts_behind i least done k)) e a))
 
 -- ---- which lists of cuts are read
 

@@ -17,5 +17,7 @@ pub mod EndLemmas
 pub mod StayLemmas
 pub mod RunLemmas
 pub mod ListLemmas
+pub mod BehindLemmas
+pub mod MemoryLaws
 pub mod StartLemmas
 pub mod SaveLemmas

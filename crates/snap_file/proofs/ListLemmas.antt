@@ -20,7 +20,7 @@ use Rattle.batch_store.specs.Batches.{Submission, submission}
 use Rattle.snap_file.specs.Spelling.{stands_in}
 use Rattle.snap_file.specs.Table.{Reading, Tally, Progress, number, refuse_if, cells_behind, is_below, with_batch}
 use Rattle.snap_file.specs.Table.{batch, batches_behind, end, contents_of}
-use Rattle.snap_file.specs.Outcomes.{ReaderState, HasRead}
+use Rattle.snap_file.specs.Outcomes.{ReaderState, HasJudged}
 use Rattle.snap_file.specs.Lists.{pair_cmp, HasPairs}
 use Rattle.snap_file.specs.declared.head.Head.{Head}
 use Rattle.snap_file.specs.declared.fault.SnapFault.TheVariants.{BadBatch, OutOfOrder, TotalDiffers}
@@ -92,24 +92,24 @@ module _ {S : Type 0} (gives : S → Result (List ℕ) DeviceFault → S → Typ
     (reader : ReaderState) (h : Head) (k : Tally → Reading) where
   -- the next run of cells
   pub run_next : (left run rest : ℕ) (tally : Tally) → left ≡ run + rest →
-      HasRead gives failures m s t reader (cells_behind h left tally k)
-      → HasRead gives failures m s t reader (cells_behind h run tally (λ u. cells_behind h rest u k))
+      HasJudged gives failures m s t reader (cells_behind h left tally k)
+      → HasJudged gives failures m s t reader (cells_behind h run tally (λ u. cells_behind h rest u k))
   run_next left run rest tally e a =
-      subst (λ (r : Reading). HasRead gives failures m s t reader r)
+      subst (λ (r : Reading). HasJudged gives failures m s t reader r)
       (ap (λ (i : ℕ). cells_behind h i tally k) e ∙ cells_parted h run rest tally k) a
 
-  pub run_last : (left : ℕ) (tally : Tally) → left ≡ 0 → HasRead gives failures m s t reader
-      (cells_behind h left tally k) → HasRead gives failures m s t reader (k tally)
-  run_last left tally e a = subst (λ (r : Reading). HasRead gives failures m s t reader r)
+  pub run_last : (left : ℕ) (tally : Tally) → left ≡ 0 → HasJudged gives failures m s t reader
+      (cells_behind h left tally k) → HasJudged gives failures m s t reader (k tally)
+  run_last left tally e a = subst (λ (r : Reading). HasJudged gives failures m s t reader r)
       (ap (λ (i : ℕ). cells_behind h i tally k) e ∙ none_is h tally k) a
 
   -- the same where the run is kept apart from the cells before it, and nothing of it was read
   pub run_begun : (left run rest : ℕ) (done items : List Cell) (row col counted : ℕ) → left ≡ run + rest → items ≡ [] →
-      HasRead gives failures m s t reader (cells_behind h left (tally_at done row col counted) k)
-      → HasRead gives failures m s t reader (cells_behind h run (tally_at (done ++ items) row col counted)
+      HasJudged gives failures m s t reader (cells_behind h left (tally_at done row col counted) k)
+      → HasJudged gives failures m s t reader (cells_behind h run (tally_at (done ++ items) row col counted)
       (λ u. cells_behind h rest u k))
   run_begun left run rest done items row col counted e none a =
-      subst (λ (l : List Cell). HasRead gives failures m s t reader
+      subst (λ (l : List Cell). HasJudged gives failures m s t reader
       (cells_behind h run (tally_at l row col counted) (λ u. cells_behind h rest u k)))
       (sym (ap (λ (l : List Cell). done ++ l) none ∙ append-nil done))
       (run_next left run rest (tally_at done row col counted) e a)
@@ -157,14 +157,14 @@ batch_none h p k = refl
 module _ {S : Type 0} (gives : S → Result (List ℕ) DeviceFault → S → Type 0) (failures : S → ℕ) (m : ℕ) (s t : S)
     (reader : ReaderState) (h : Head) (k : Progress → Reading) where
   pub batch_next : (left rest : ℕ) (p : Progress) → left ≡ suc rest →
-      HasRead gives failures m s t reader (batches_behind h left p k) →
-      HasRead gives failures m s t reader (batch h p (λ q. batches_behind h rest q k))
-  batch_next left rest p e a = subst (λ (r : Reading). HasRead gives failures m s t reader r)
+      HasJudged gives failures m s t reader (batches_behind h left p k) →
+      HasJudged gives failures m s t reader (batch h p (λ q. batches_behind h rest q k))
+  batch_next left rest p e a = subst (λ (r : Reading). HasJudged gives failures m s t reader r)
       (ap (λ (i : ℕ). batches_behind h i p k) e ∙ batch_step h rest p k) a
 
-  pub batch_last : (left : ℕ) (p : Progress) → left ≡ 0 → HasRead gives failures m s t reader
-      (batches_behind h left p k) → HasRead gives failures m s t reader (k p)
-  batch_last left p e a = subst (λ (r : Reading). HasRead gives failures m s t reader r)
+  pub batch_last : (left : ℕ) (p : Progress) → left ≡ 0 → HasJudged gives failures m s t reader
+      (batches_behind h left p k) → HasJudged gives failures m s t reader (k p)
+  batch_last left p e a = subst (λ (r : Reading). HasJudged gives failures m s t reader r)
       (ap (λ (i : ℕ). batches_behind h i p k) e ∙ batch_none h p k) a
 
 pub pairs_none : (pairs : BTreeSet (ℕ × ℕ)) (list : List Submission) → pairs.keys ≡ [] → list ≡ [] → HasPairs pairs list

@@ -12,7 +12,7 @@ use Rattle.byte_io.proofs.SinkLemmas.{each_takes-append, take_further}
 use Rattle.byte_io.proofs.KnownLemmas.{calls_at_most_bytes}
 use Rattle.snap_file.specs.Spelling.{IsBytes}
 use Rattle.snap_file.specs.Table.{Reading}
-use Rattle.snap_file.specs.Outcomes.{ReaderState, HasRead, HasEnded}
+use Rattle.snap_file.specs.Outcomes.{ReaderState, HasRead, HasJudged, HasAsked, HasEnded, piece_bytes}
 use Rattle.snap_file.specs.Fills.{Fills}
 use Rattle.snap_file.proofs.Fields.{bytes_before, bytes_behind}
 
@@ -40,34 +40,45 @@ are_bytes-append xs ys a b i = elim (cases_lt i (length xs)) [
   | inr le ↦ rw (get_or-append_right xs ys (length xs) i 0 refl le) (b (i - length xs))
 ]
 
+-- bytes came for a field of which some were missing
 pub read_more : {S : Type 0} (gives : S → Result (List ℕ) DeviceFault → S → Type 0) (failures : S → ℕ) (max_bytes : ℕ)
-    (s m t : S) (old new : ReaderState) (left : Reading) (n : ℕ) →
+    (s m t : S) (old new : ReaderState) (left : Reading) (n want : ℕ) →
     HasRead gives failures max_bytes s m old left → Fills gives m t old.pending new.pending n → 0 < n →
+    n ≤ piece_bytes → length old.pending < want →
     old.taken + length old.pending ≤ old.max_bytes →
     new.taken ≡ old.taken → new.max_bytes ≡ old.max_bytes → failures t ≡ failures m →
-    HasRead gives failures max_bytes s t new left
-read_more gives failures max_bytes s m t old new left n a f some small taken limit same =
+    HasAsked gives failures max_bytes s t new left want
+read_more gives failures max_bytes s m t old new left n want a f some most short small taken limit same =
     let one : List (Result (List ℕ) DeviceFault) = Ok f.bytes ∷ [] in
     let joined : bytes_of_calls (a.answers ++ one) ≡ bytes_of_calls a.answers ++
     f.bytes = bytes_of_calls-append a.answers one ∙ ap (λ (l : List ℕ). bytes_of_calls a.answers ++ l)
     (append-nil f.bytes) in
     record {
-      answers = a.answers ++ one;
-      calls = calls-append gives a.answers one s m t a.calls (calls_one gives m t (Ok f.bytes) f.gave);
-      each = each_takes-append a.answers one a.each (subst (λ (k : ℕ). 0 < k) (sym f.count) some, tt);
-      front = a.front;
-      bytes_are = joined ∙ ap (λ (l : List ℕ). l ++ f.bytes) a.bytes_are ∙ append_assoc a.front old.pending f.bytes ∙
-          ap (λ (l : List ℕ). a.front ++ l) (sym f.pending_is);
-      are_bytes = subst IsBytes (sym joined) (are_bytes-append
-          (bytes_of_calls a.answers) f.bytes a.are_bytes f.are_bytes);
-      taken_is = taken ∙ a.taken_is;
-      limit_is = limit ∙ a.limit_is;
-      within = a.within;
-      few = bounded a.answers one a.front old.pending max_bytes (calls_at_most_bytes a.answers a.each)
-          (ap length a.bytes_are) refl
-          (counted a.front old.pending max_bytes old.taken old.max_bytes a.taken_is a.limit_is small);
-      none_failed = same ∙ a.none_failed;
-      resumes = a.resumes;
+      has_read = record {
+        answers = a.answers ++ one;
+        calls = calls-append gives a.answers one s m t a.calls (calls_one gives m t (Ok f.bytes) f.gave);
+        each = each_takes-append a.answers one a.each (subst (λ (k : ℕ). 0 < k) (sym f.count) some, tt);
+        front = a.front;
+        bytes_are = joined ∙ ap (λ (l : List ℕ). l ++ f.bytes) a.bytes_are ∙ append_assoc a.front old.pending f.bytes ∙
+            ap (λ (l : List ℕ). a.front ++ l) (sym f.pending_is);
+        are_bytes = subst IsBytes (sym joined) (are_bytes-append
+            (bytes_of_calls a.answers) f.bytes a.are_bytes f.are_bytes);
+        taken_is = taken ∙ a.taken_is;
+        limit_is = limit ∙ a.limit_is;
+        within = a.within;
+        few = bounded a.answers one a.front old.pending max_bytes (calls_at_most_bytes a.answers a.each)
+            (ap length a.bytes_are) refl
+            (counted a.front old.pending max_bytes old.taken old.max_bytes a.taken_is a.limit_is small);
+        none_failed = same ∙ a.none_failed;
+        resumes = a.resumes;
+      };
+      reaches = inr (record {
+        before = a.answers;
+        last = f.bytes;
+        answers_are = refl;
+        most = let c = f.count in omega arith;
+        behind = let e = ap length a.bytes_are ∙ length-append a.front old.pending in omega arith;
+      });
     }
   where
     counted : (front pending : List ℕ) (max_bytes taken limit : ℕ) → taken ≡ length front → limit ≡ max_bytes →
@@ -79,6 +90,24 @@ read_more gives failures max_bytes s m t old new left n a f some small taken lim
         length one ≡ 1 → length front + length pending ≤ max_bytes → length (answers ++ one) ≤ max_bytes + 1
     bounded answers one front pending max_bytes a b o h = let e = length-append answers one in
         let f = length-append front pending in omega arith
+
+-- nothing was asked for yet
+pub asked_none : {S : Type 0} (gives : S → Result (List ℕ) DeviceFault → S → Type 0) (failures : S → ℕ) (max_bytes : ℕ)
+    (s t : S) (reader : ReaderState) (left : Reading) (want : ℕ) →
+    HasJudged gives failures max_bytes s t reader left → HasAsked gives failures max_bytes s t reader left want
+asked_none gives failures max_bytes s t reader left want h = record {
+  has_read = h.has_read;
+  reaches = elim h.reaches [
+    | inl none ↦ inl none
+    | inr r ↦ inr (record {
+      before = r.before;
+      last = r.last;
+      answers_are = r.answers_are;
+      most = r.most;
+      behind = let b = r.behind in omega arith;
+    })
+  ];
+}
 
 -- the same reading, with the same bytes pending
 pub read_same : {S : Type 0} (gives : S → Result (List ℕ) DeviceFault → S → Type 0) (failures : S → ℕ) (max_bytes : ℕ)

@@ -1,8 +1,8 @@
 -- A reading that begins.
-use Rattle.std.proofs.Common.{◌≡◌, ℕ, List, [], ◌++◌, Result, refl, sym, arith}
+use Rattle.std.proofs.Common.{◌≡◌, ℕ, List, [], ◌++◌, Result, refl, sym, arith, inl}
 use Rattle.byte_io.specs.declared.fault.DeviceFault.{DeviceFault}
 use Rattle.snap_file.specs.Table.{whole, reading_of}
-use Rattle.snap_file.specs.Outcomes.{ReaderState, HasRead, Stops}
+use Rattle.snap_file.specs.Outcomes.{ReaderState, HasJudged, Stops}
 use Rattle.snap_file.specs.declared.fault.SnapFault.TheVariants.{Memory}
 
 starts : (more : List ℕ) → reading_of ([] ++ more) ≡ whole (record { at = 0; rest = more })
@@ -11,20 +11,23 @@ starts more = refl
 
 pub read_begun : {S : Type 0} (gives : S → Result (List ℕ) DeviceFault → S → Type 0) (failures : S → ℕ) (m : ℕ) (s : S)
     (reader : ReaderState) →
-    reader.pending ≡ [] → reader.taken ≡ 0 → reader.max_bytes ≡ m → HasRead gives failures m s s reader whole
+    reader.pending ≡ [] → reader.taken ≡ 0 → reader.max_bytes ≡ m → HasJudged gives failures m s s reader whole
 read_begun gives failures m s reader pending taken limit = record {
-  answers = [];
-  calls = refl;
-  each = tt;
-  front = [];
-  bytes_are = sym pending;
-  are_bytes = λ i. omega arith;
-  taken_is = taken;
-  limit_is = limit;
-  within = omega arith;
-  few = omega arith;
-  none_failed = refl;
-  resumes = starts;
+  has_read = record {
+    answers = [];
+    calls = refl;
+    each = tt;
+    front = [];
+    bytes_are = sym pending;
+    are_bytes = λ i. omega arith;
+    taken_is = taken;
+    limit_is = limit;
+    within = omega arith;
+    few = omega arith;
+    none_failed = refl;
+    resumes = starts;
+  };
+  reaches = inl refl;
 }
 
 -- memory was refused before the first read
@@ -34,6 +37,6 @@ stops_first gives failures ended m s = record {
   answers = [];
   calls = refl;
   few = omega arith;
-  explains = tt;
+  explains = inl refl;
   unfailed = λ n. refl;
 }

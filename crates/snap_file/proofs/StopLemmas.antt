@@ -1,14 +1,15 @@
 -- Where a reading ends: short of bytes, with too many, with a failed read, or with a judgement.
 use Rattle.std.proofs.Common.{◌≡◌, ℕ, ◌+◌, ◌<◌, ◌≤◌, ◌⊎◌, Bool, true, false, List, [], ◌∷◌, ◌++◌, length, take, drop}
-use Rattle.std.proofs.Common.{Result, Ok, Err, refl, sym, ap, ◌∙◌, append_assoc, length-append, arith, inl, inr}
+use Rattle.std.proofs.Common.{Result, Ok, Err, refl, sym, ap, subst, ◌∙◌, append_assoc, length-append, arith, inl, inr}
 use Rattle.std.proofs.lemmas.List.{append-nil, length-take-le, take-append-drop}
 use Rattle.std.proofs.lemmas.Bool.{cases_lt}
 use Rattle.std.specs.Int.{Width, byte_len, from_be_bytes}
-use Rattle.byte_io.specs.Streams.{bytes_of_calls}
+use Rattle.byte_io.specs.Streams.{Answer, bytes_of_calls}
 use Rattle.byte_io.specs.declared.fault.DeviceFault.{DeviceFault}
 use Rattle.byte_io.proofs.StreamLemmas.{calls-append, calls_one, bytes_of_calls-append}
-use Rattle.snap_file.specs.Table.{Fault, Reading, fault_at, number, refuse_if, reading_of}
-use Rattle.snap_file.specs.Outcomes.{Turn, FaultAt, IsTold, Explains, ReaderState, HasRead, HasEnded, HasFailed, Stops}
+use Rattle.snap_file.specs.Table.{Input, Fault, Reading, fault_at, number, refuse_if, reading_of}
+use Rattle.snap_file.specs.Outcomes.{Turn, FaultAt, IsTold, IsOfBytes, ShowsBehind, ReachesLast, Explains, ReaderState}
+use Rattle.snap_file.specs.Outcomes.{HasRead, HasJudged, HasAsked, IsBehindHead, HasEnded, HasFailed, Stops}
 use Rattle.snap_file.specs.Outcomes.Turn.{at_limit, in_field}
 use Rattle.snap_file.specs.declared.fault.SnapFault.{SnapFault}
 use Rattle.snap_file.specs.declared.fault.SnapFault.TheVariants.{Read, Memory, Truncated, TooLong}
@@ -62,18 +63,19 @@ never_before front pending w k wide resumes kind p e within = elim
               omega arith
         ]
 
-told_as : (m : ℕ) (bytes : List ℕ) (ended failed : Type 0) (kind : SnapFault) → (kind ≡ Read → ⊥) →
-    IsTold m bytes ended kind → Explains m bytes ended failed kind
-told_as m bytes ended failed Read judged t = absurd (judged refl)
-told_as m bytes ended failed Memory judged t = tt
-told_as m bytes ended failed kind judged t = t
+told_as : (m : ℕ) (answers : List Answer) (ended failed : Type 0) (kind : SnapFault) → IsOfBytes kind →
+    IsTold m (bytes_of_calls answers) ended kind → Explains m answers ended failed kind
+told_as m answers ended failed Read judged t = absurd (judged.0 refl)
+told_as m answers ended failed Memory judged t = absurd (judged.1 refl)
+told_as m answers ended failed kind judged t = t
 
 pub stops_refused : {S : Type 0} (gives : S → Result (List ℕ) DeviceFault → S → Type 0) (failures : S → ℕ)
     (ended : Type 0) (m : ℕ) (s t : S) (reader : ReaderState) (test : Bool) (kind : SnapFault)
     (k : Unit {0} → Reading) →
-    HasRead gives failures m s t reader (refuse_if test kind k) → test ≡ true → (kind ≡ Read → ⊥) →
+    HasJudged gives failures m s t reader (refuse_if test kind k) → test ≡ true → IsOfBytes kind →
     Stops gives failures ended m s t kind
-stops_refused gives failures ended m s t reader test kind k a bad judged =
+stops_refused gives failures ended m s t reader test kind k h bad judged =
+    let a = h.has_read in
     let bytes = bytes_of_calls a.answers in
     let shows : reading_of bytes ≡ fault_at kind (length a.front) = ap reading_of a.bytes_are ∙
     a.resumes reader.pending ∙ refused_at k test kind (record { at = length a.front; rest = reader.pending }) bad in
@@ -83,7 +85,7 @@ stops_refused gives failures ended m s t reader test kind k a bad judged =
       answers = a.answers;
       calls = a.calls;
       few = let f = a.few in omega arith;
-      explains = told_as m bytes ended (failures t ≡ failures s + 1) kind judged
+      explains = told_as m a.answers ended (failures t ≡ failures s + 1) kind judged
           (record {
             place = length a.front;
             first = first_in_field m bytes
@@ -93,54 +95,73 @@ stops_refused gives failures ended m s t reader test kind k a bad judged =
       unfailed = λ n. a.none_failed;
     }
 
+-- the bytes that were judged, and those that are pending, where what is still to be read is read as something else
+left_as : {S : Type 0} (gives : S → Result (List ℕ) DeviceFault → S → Type 0) (failures : S → ℕ) (m : ℕ) (s t : S)
+    (reader : ReaderState) (old new : Reading) → HasJudged gives failures m s t reader old →
+    ((input : Input) → old input ≡ new input) → HasJudged gives failures m s t reader new
+left_as gives failures m s t reader old new h same =
+    let a = h.has_read in
+    record {
+      has_read = record {
+        answers = a.answers;
+        calls = a.calls;
+        each = a.each;
+        front = a.front;
+        bytes_are = a.bytes_are;
+        are_bytes = a.are_bytes;
+        taken_is = a.taken_is;
+        limit_is = a.limit_is;
+        within = a.within;
+        few = a.few;
+        none_failed = a.none_failed;
+        resumes = λ more. a.resumes more ∙ same (record { at = length a.front; rest = more });
+      };
+      reaches = h.reaches;
+    }
+
 pub read_passed : {S : Type 0} (gives : S → Result (List ℕ) DeviceFault → S → Type 0) (failures : S → ℕ) (m : ℕ)
     (s t : S) (reader : ReaderState) (test : Bool) (kind : SnapFault) (k : Unit {0} → Reading) →
-    HasRead gives failures m s t reader (refuse_if test kind k) → test ≡ false →
-    HasRead gives failures m s t reader (k tt)
-read_passed gives failures m s t reader test kind k a good = record {
-  answers = a.answers;
-  calls = a.calls;
-  each = a.each;
-  front = a.front;
-  bytes_are = a.bytes_are;
-  are_bytes = a.are_bytes;
-  taken_is = a.taken_is;
-  limit_is = a.limit_is;
-  within = a.within;
-  few = a.few;
-  none_failed = a.none_failed;
-  resumes = λ more. a.resumes more ∙ goes_on k test kind (record { at = length a.front; rest = more }) good;
-}
+    HasJudged gives failures m s t reader (refuse_if test kind k) → test ≡ false →
+    HasJudged gives failures m s t reader (k tt)
+read_passed gives failures m s t reader test kind k h good =
+    left_as gives failures m s t reader (refuse_if test kind k) (k tt) h (λ input. goes_on k test kind input good)
 
 pub read_field : {S : Type 0} (gives : S → Result (List ℕ) DeviceFault → S → Type 0) (failures : S → ℕ) (m : ℕ)
     (s t : S) (old new : ReaderState) (w : Width) (k : ℕ → Reading) →
-    HasRead gives failures m s t old (number w k) → byte_len w ≤ length old.pending →
+    HasAsked gives failures m s t old (number w k) (byte_len w) → byte_len w ≤ length old.pending →
     old.taken + byte_len w ≤ old.max_bytes →
     new.pending ≡ drop (byte_len w) old.pending → new.taken ≡ old.taken + byte_len w → new.max_bytes ≡ old.max_bytes →
-    HasRead gives failures m s t new (k (from_be_bytes w (take (byte_len w) old.pending)))
-read_field gives failures m s t old new w k a long room pending taken limit =
+    HasJudged gives failures m s t new (k (from_be_bytes w (take (byte_len w) old.pending)))
+read_field gives failures m s t old new w k h long room pending taken limit =
+    let a = h.has_read in
     let field = take (byte_len w) old.pending in
     let len : length field ≡ byte_len w = length-take-le (byte_len w) old.pending long in
     let l = a.limit_is in let i = a.taken_is in
     let more_front : length (a.front ++ field) ≡ length a.front + byte_len w = length-append a.front field ∙
     ap (λ (n : ℕ). length a.front + n) len in
     record {
-      answers = a.answers;
-      calls = a.calls;
-      each = a.each;
-      front = a.front ++ field;
-      bytes_are = a.bytes_are ∙ ap (λ (l : List ℕ). a.front ++ l)
-          (sym (take-append-drop (byte_len w) old.pending) ∙ ap (λ (l : List ℕ). field ++ l) (sym pending)) ∙
-          sym (append_assoc a.front field new.pending);
-      are_bytes = a.are_bytes;
-      taken_is = omega arith;
-      limit_is = limit ∙ a.limit_is;
-      within = omega arith;
-      few = a.few;
-      none_failed = a.none_failed;
-      resumes = λ more. ap reading_of (append_assoc a.front field more) ∙ a.resumes (field ++ more) ∙
-          number_there w k (length a.front) field more len
-          ∙ ap (λ (n : ℕ). k (from_be_bytes w field) (record { at = n; rest = more })) (sym more_front);
+      has_read = record {
+        answers = a.answers;
+        calls = a.calls;
+        each = a.each;
+        front = a.front ++ field;
+        bytes_are = a.bytes_are ∙ ap (λ (l : List ℕ). a.front ++ l)
+            (sym (take-append-drop (byte_len w) old.pending) ∙ ap (λ (l : List ℕ). field ++ l) (sym pending)) ∙
+            sym (append_assoc a.front field new.pending);
+        are_bytes = a.are_bytes;
+        taken_is = omega arith;
+        limit_is = limit ∙ a.limit_is;
+        within = omega arith;
+        few = a.few;
+        none_failed = a.none_failed;
+        resumes = λ more. ap reading_of (append_assoc a.front field more) ∙ a.resumes (field ++ more) ∙
+            number_there w k (length a.front) field more len
+            ∙ ap (λ (n : ℕ). k (from_be_bytes w field) (record { at = n; rest = more })) (sym more_front);
+      };
+      reaches = elim h.reaches [
+        | inl none ↦ inl none
+        | inr r ↦ inr (subst (λ (n : ℕ). ReachesLast a.answers n) (sym more_front) r)
+      ];
     }
 
 pub stops_long : {S : Type 0} (gives : S → Result (List ℕ) DeviceFault → S → Type 0) (failures : S → ℕ) (ended : Type 0)
@@ -242,11 +263,42 @@ stops_failed gives failures ended m s t want w k x wanted =
 -- memory was refused
 pub stops_memory : {S : Type 0} (gives : S → Result (List ℕ) DeviceFault → S → Type 0) (failures : S → ℕ)
     (ended : Type 0) (m : ℕ) (s t : S) (reader : ReaderState) (left : Reading) →
-    HasRead gives failures m s t reader left → Stops gives failures ended m s t Memory
-stops_memory gives failures ended m s t reader left a = record {
-  answers = a.answers;
-  calls = a.calls;
-  few = let f = a.few in omega arith;
-  explains = tt;
-  unfailed = λ n. a.none_failed;
-}
+    HasJudged gives failures m s t reader left → IsBehindHead left → Stops gives failures ended m s t Memory
+stops_memory gives failures ended m s t reader left h behind =
+    let a = h.has_read in
+    record {
+      answers = a.answers;
+      calls = a.calls;
+      few = let f = a.few in omega arith;
+      explains = elim h.reaches [
+        | inl none ↦ inl none
+        | inr r ↦ inr (record {
+          place = length a.front;
+          reaches = r;
+          within = let e = ap length a.bytes_are ∙ length-append a.front reader.pending in omega arith;
+          each = a.each;
+          none_before = λ more shown kind f. later m a.front reader.pending left (bytes_of_calls a.answers) a.bytes_are
+              a.within a.resumes behind more f.turn shown kind f.stands;
+        })
+      ];
+      unfailed = λ n. a.none_failed;
+    }
+  where
+    later : (m : ℕ) (front pending : List ℕ) (left : Reading) (bytes : List ℕ) → bytes ≡ front ++ pending →
+        length front ≤ m →
+        ((more : List ℕ) → reading_of (front ++ more) ≡ left (record { at = length front; rest = more })) →
+        IsBehindHead left → (more : List ℕ) (turn : Turn) (shown : ℕ) (kind : SnapFault) →
+        FaultAt turn m (bytes ++ more) shown kind → ShowsBehind (length front) shown kind
+    later m front pending left bytes is within resumes behind more at_limit shown kind h =
+        let place = h.place_is in
+        record {
+          no_mark = λ e. absurd (let k = sym h.kind_is ∙ e in cc);
+          no_version = λ e. absurd (let k = sym h.kind_is ∙ e in cc);
+          no_head = λ e. absurd (let k = sym h.kind_is ∙ e in cc);
+          not_before = omega arith;
+          total_alone = λ e. absurd (omega arith);
+        }
+    later m front pending left bytes is within resumes behind more in_field shown kind h =
+        behind.shows (record { at = length front; rest = pending ++ more }) kind shown
+        (sym (ap reading_of (ap (λ (l : List ℕ). l ++ more) is ∙ append_assoc front pending more) ∙
+        resumes (pending ++ more)) ∙ h)

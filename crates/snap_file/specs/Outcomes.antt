@@ -1,14 +1,15 @@
 -- The first fault of a list of bytes, and what a reader of a source tells of one.
-use Rattle.std.specs.Prelude.{◌≡◌, ℕ, ◌+◌, ◌*◌, ◌<◌, ◌≤◌, List, [], ◌++◌, length, Result, Ok, Err}
-use Rattle.byte_io.specs.Streams.{Calls, bytes_of_calls}
+use Rattle.std.specs.Prelude.{◌≡◌, ◌≢◌, ℕ, ◌+◌, ◌*◌, ◌<◌, ◌≤◌, ◌⊎◌, List, [], ◌∷◌, ◌++◌, length, Result, Ok, Err}
+use Rattle.byte_io.specs.Streams.{Answer, Calls, bytes_of_calls}
 use Rattle.byte_io.specs.Writing.{EachTakes}
 use Rattle.byte_io.specs.declared.fault.DeviceFault.{DeviceFault}
 use Rattle.batch_store.specs.Setups.{Setting}
 use Rattle.snap_file.specs.Spelling.{IsBytes, IsSnapshot}
-use Rattle.snap_file.specs.Table.{Reading, fault_at, reading_of}
+use Rattle.snap_file.specs.Table.{Input, Reading, fault_at, reading_of}
 use Rattle.batch_store.specs.Batches.{Submission}
 use Rattle.snap_file.specs.declared.fault.SnapFault.{SnapFault}
-use Rattle.snap_file.specs.declared.fault.SnapFault.TheVariants.{Read, Memory, Truncated, TooLong}
+use Rattle.snap_file.specs.declared.fault.SnapFault.TheVariants.{Read, Memory, BadMark, BadVersion, BadHead}
+use Rattle.snap_file.specs.declared.fault.SnapFault.TheVariants.{TotalDiffers, Truncated, TooLong}
 
 -- A place is the number of bytes that were read when a fault shows; the end of the bytes counts as one byte more.
 -- Two judgements are made at a place, in this order.
@@ -52,11 +53,47 @@ pub record IsReadFault (max_bytes : ℕ) (bytes : List ℕ) (failed : Type 0) : 
   pub failed_now : failed
   pub none_but : (place : ℕ) (kind : SnapFault) → FirstFaultAt max_bytes bytes place kind → kind ≡ Truncated
 
--- what a fault of a reading says of the bytes that were read
-abbrev pub Explains : ℕ → List ℕ → Type 0 → Type 0 → SnapFault → Type 0
-Explains max_bytes bytes ended failed Read = IsReadFault max_bytes bytes failed
-Explains max_bytes bytes ended failed Memory = Unit {0}
-Explains max_bytes bytes ended failed kind = IsTold max_bytes bytes ended kind
+-- what is told of bytes: neither a failed read nor want of memory
+abbrev pub IsOfBytes : SnapFault → Type 0
+IsOfBytes kind = (kind ≢ Read) × (kind ≢ Memory)
+
+-- A fault that shows at `shown` is none of the head's, and shows behind this place; at the place itself only where the
+-- total differs, since memory for the last batch is taken before that is judged.
+pub record ShowsBehind (place shown : ℕ) (kind : SnapFault) : Type 0 where
+  pub no_mark : kind ≢ BadMark
+  pub no_version : kind ≢ BadVersion
+  pub no_head : kind ≢ BadHead
+  pub not_before : place ≤ shown
+  pub total_alone : shown ≡ place → kind ≡ TotalDiffers
+
+-- the most bytes that are asked for in one call
+abbrev pub piece_bytes : ℕ
+piece_bytes = 65536
+
+-- The first n bytes are all that the calls before the last one gave, and some of what that one gave.
+pub record ReachesLast (answers : List Answer) (n : ℕ) : Type 0 where
+  pub before : List Answer
+  pub last : List ℕ
+  pub answers_are : answers ≡ before ++ Ok last ∷ []
+  pub most : length last ≤ piece_bytes
+  pub behind : length (bytes_of_calls before) < n
+
+-- Memory was refused behind the head, when so many bytes were judged: what the last call gave was needed for them. Each
+-- call gave bytes, so the end of the source was not seen. However the bytes go on, no fault shows in the head, and none
+-- up to this place.
+pub record IsMemoryFault (max_bytes : ℕ) (answers : List Answer) : Type 0 where
+  pub place : ℕ
+  pub reaches : ReachesLast answers place
+  pub within : place ≤ length (bytes_of_calls answers)
+  pub each : EachTakes answers
+  pub none_before : (more : List ℕ) (shown : ℕ) (kind : SnapFault) →
+      FirstFaultAt max_bytes (bytes_of_calls answers ++ more) shown kind → ShowsBehind place shown kind
+
+-- what a fault of a reading says of the calls: for want of memory, that none was made, or where it was refused
+abbrev pub Explains : ℕ → List Answer → Type 0 → Type 0 → SnapFault → Type 0
+Explains max_bytes answers ended failed Read = IsReadFault max_bytes (bytes_of_calls answers) failed
+Explains max_bytes answers ended failed Memory = (answers ≡ []) ⊎ IsMemoryFault max_bytes answers
+Explains max_bytes answers ended failed kind = IsTold max_bytes (bytes_of_calls answers) ended kind
 
 -- what a reader holds: the bytes that came and were not judged yet, how many were judged, and the most that may come
 pub record ReaderState : Type 0 where
@@ -79,6 +116,24 @@ pub record HasRead {S : Type 0} (gives : S → Result (List ℕ) DeviceFault →
   pub few : length answers ≤ max_bytes + 1
   pub none_failed : failures t ≡ failures s
   pub resumes : (more : List ℕ) → reading_of (front ++ more) ≡ left (record { at = length front; rest = more })
+
+-- The same, and no call was made for what is still to be read: what was judged reaches into what the last call gave.
+pub record HasJudged {S : Type 0} (gives : S → Result (List ℕ) DeviceFault → S → Type 0) (failures : S → ℕ)
+    (max_bytes : ℕ) (s t : S) (reader : ReaderState) (left : Reading) : Type 0 where
+  pub has_read : HasRead gives failures max_bytes s t reader left
+  pub reaches : (has_read.answers ≡ []) ⊎ ReachesLast has_read.answers (length has_read.front)
+
+-- The same where n bytes of what is still to be read were asked for.
+pub record HasAsked {S : Type 0} (gives : S → Result (List ℕ) DeviceFault → S → Type 0) (failures : S → ℕ)
+    (max_bytes : ℕ) (s t : S) (reader : ReaderState) (left : Reading) (n : ℕ) : Type 0 where
+  pub has_read : HasRead gives failures max_bytes s t reader left
+  pub reaches : (has_read.answers ≡ []) ⊎ ReachesLast has_read.answers (length has_read.front + n)
+
+-- What is read behind the head has no fault of the head, and none before a byte of it is there, but that the total
+-- differs.
+pub record IsBehindHead (left : Reading) : Type 0 where
+  pub shows : (input : Input) (kind : SnapFault) (shown : ℕ) → left input ≡ fault_at kind shown →
+      ShowsBehind input.at shown kind
 
 -- One more call gave nothing: the source has ended.
 pub record HasEnded {S : Type 0} (gives : S → Result (List ℕ) DeviceFault → S → Type 0) (failures : S → ℕ)
@@ -107,7 +162,7 @@ pub record Stops {S : Type 0} (gives : S → Result (List ℕ) DeviceFault → S
   pub answers : List (Result (List ℕ) DeviceFault)
   pub calls : Calls gives s answers t
   pub few : length answers ≤ max_bytes + 2
-  pub explains : Explains max_bytes (bytes_of_calls answers) ended (failures t ≡ failures s + 1) kind
+  pub explains : Explains max_bytes answers ended (failures t ≡ failures s + 1) kind
   pub unfailed : (kind ≡ Read → ⊥) → failures t ≡ failures s
 
 -- The source gave a snapshot of these contents, and ended.

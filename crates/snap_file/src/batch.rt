@@ -3,7 +3,7 @@
 //! The cells of a batch stand in order, each once. So they go into the batch's matrix a run at a time, without a sort
 //! and without a list of them all: the memory is that of the matrix and of one run. The pairs of client and number are
 //! kept in a tree, whose time no choice of pairs can spoil.
-ghost use Rattle.std.specs.Prelude.{◌≡◌, ℕ, ◌+◌, ◌<◌, ◌≤◌, ◌^◌, List, [], ◌∷◌, ◌++◌, IfOk, OnOk, IfErr, Result};
+ghost use Rattle.std.specs.Prelude.{◌≡◌, ℕ, ◌+◌, ◌<◌, ◌≤◌, ◌^◌, List, [], ◌∷◌, ◌++◌, false, IfOk, OnOk, IfErr, Result};
 ghost use Rattle.std.specs.BTreeSet.{BTreeSet};
 ghost use Rattle.cells.specs.Sums.{cell_total};
 ghost use Rattle.hyper_matrix.specs.Counts.{total, ewise_add};
@@ -13,7 +13,7 @@ ghost use Rattle.batch_store.specs.Batches.{Submission, submission, values};
 ghost use Rattle.snap_file.specs.Spelling.{stands_in};
 ghost use Rattle.snap_file.specs.Table.{Reading, Tally, Progress, no_cells, cells_behind, batch, batches_behind, body};
 ghost use Rattle.snap_file.specs.Table.{end, contents, nothing_yet};
-ghost use Rattle.snap_file.specs.Outcomes.{HasRead, Stops};
+ghost use Rattle.snap_file.specs.Outcomes.{HasJudged, IsBehindHead, Stops};
 ghost use Rattle.snap_file.specs.Tallies.{IsRun};
 ghost use Rattle.snap_file.specs.Lists.{HasPairs, progress_of};
 ghost use Rattle.snap_file.specs.declared.fault.SnapFault.{SnapFault};
@@ -64,13 +64,14 @@ fn read_entries<R: Source>(
     requires counted { tally.old.counted ≤ head.now.total }
     ensures counted { OnOk result (tally.new.counted ≤ head.now.total) }
     ensures ok { IfOk result (λ m. (s : R) (max_bytes : ℕ) (k : Tally → Reading) →
-        HasRead R.read_gives R.failure_count max_bytes s r.old reader.old
+        HasJudged R.read_gives R.failure_count max_bytes s r.old reader.old
         (cells_behind head.now count (no_cells tally.old.counted) k) →
         (t : Tally) × (m ≡ matrix head.now.setup.rows head.now.setup.cols (built_of t.cells)) ×
         (t.counted ≡ tally.new.counted)
-        × HasRead R.read_gives R.failure_count max_bytes s r.new reader.new (k t)) }
+        × HasJudged R.read_gives R.failure_count max_bytes s r.new reader.new (k t)) }
     ensures err { IfErr result (λ f. (s : R) (max_bytes : ℕ) (k : Tally → Reading) →
-        HasRead R.read_gives R.failure_count max_bytes s r.old reader.old
+        ((t : Tally) → IsBehindHead (k t)) →
+        HasJudged R.read_gives R.failure_count max_bytes s r.old reader.old
         (cells_behind head.now count (no_cells tally.old.counted) k) →
         Stops R.read_gives R.failure_count (R.at_end r.new) max_bytes s r.new f) }
     ensures no_failure { OnOk result (R.failure_count r.new ≡ R.failure_count r.old) }
@@ -98,7 +99,9 @@ fn note_pair(pairs: &mut BTreeSet<(u64, u64)>, client: u64, number: u64) -> Resu
     ensures noted { OnOk result ((list : List Submission) (b : Submission) → HasPairs pairs.old list →
         b.client ≡ client → b.number ≡ number →
         HasPairs pairs.new (list ++ b ∷ [])) }
-    ensures err { IfErr result (λ f. f ≡ SnapFault.Memory) }
+    // Only a new pair takes memory.
+    ensures err { IfErr result (λ f. (f ≡ SnapFault.Memory) × ((list : List Submission) → HasPairs pairs.old list →
+        (stands_in client number list ≡ false))) }
 {
     match pairs.insert((client, number)) {
         Ok(added) => Ok(!added),
@@ -149,10 +152,11 @@ fn read_batch<R: Source>(
     ensures counted { OnOk result (list.new.tally.counted ≤ head.now.total) }
     ensures pairs { OnOk result (HasPairs list.new.pairs (values list.new.batches.items)) }
     ensures ok { OnOk result ((s : R) (max_bytes : ℕ) (k : Progress → Reading) →
-        HasRead R.read_gives R.failure_count max_bytes s r.old reader.old (batch head.now (progress_of list.old) k) →
-        HasRead R.read_gives R.failure_count max_bytes s r.new reader.new (k (progress_of list.new))) }
+        HasJudged R.read_gives R.failure_count max_bytes s r.old reader.old (batch head.now (progress_of list.old) k) →
+        HasJudged R.read_gives R.failure_count max_bytes s r.new reader.new (k (progress_of list.new))) }
     ensures err { IfErr result (λ f. (s : R) (max_bytes : ℕ) (k : Progress → Reading) →
-        HasRead R.read_gives R.failure_count max_bytes s r.old reader.old (batch head.now (progress_of list.old) k) →
+        ((p : Progress) → IsBehindHead (k p)) →
+        HasJudged R.read_gives R.failure_count max_bytes s r.old reader.old (batch head.now (progress_of list.old) k) →
         Stops R.read_gives R.failure_count (R.at_end r.new) max_bytes s r.new f) }
     ensures no_failure { OnOk result (R.failure_count r.new ≡ R.failure_count r.old) }
 {
@@ -175,11 +179,11 @@ pub fn read_batches<R: Source>(
 ) -> Result<Vec<Arc<Batch>>, SnapFault>
     requires { R.failure_count r.old + 1 < 2 ^ 64 }
     ensures ok { IfOk result (λ list. (s : R) (max_bytes : ℕ) →
-        HasRead R.read_gives R.failure_count max_bytes s r.old reader.old (body head.now) →
-        HasRead R.read_gives R.failure_count max_bytes s r.new reader.new
+        HasJudged R.read_gives R.failure_count max_bytes s r.old reader.old (body head.now) →
+        HasJudged R.read_gives R.failure_count max_bytes s r.new reader.new
         (end (contents head.now.setup (values list.items)))) }
     ensures err { IfErr result (λ f. (s : R) (max_bytes : ℕ) →
-        HasRead R.read_gives R.failure_count max_bytes s r.old reader.old (body head.now) →
+        HasJudged R.read_gives R.failure_count max_bytes s r.old reader.old (body head.now) →
         Stops R.read_gives R.failure_count (R.at_end r.new) max_bytes s r.new f) }
     ensures no_failure { OnOk result (R.failure_count r.new ≡ R.failure_count r.old) }
 {

@@ -4,7 +4,7 @@ ghost use Rattle.cells.specs.Bounds.{IsDimension};
 ghost use Rattle.layer_cascade.specs.Cuts.{AreCuts};
 ghost use Rattle.batch_store.specs.Setups.{setting};
 ghost use Rattle.snap_file.specs.Table.{Reading, head, cuts_behind};
-ghost use Rattle.snap_file.specs.Outcomes.{HasRead, Stops};
+ghost use Rattle.snap_file.specs.Outcomes.{HasJudged, Stops};
 
 use crate::fault::SnapFault;
 use crate::limits::{MARK, VERSION};
@@ -57,10 +57,10 @@ fn read_cuts<R: Source>(
     requires few { count ≤ 7 }
     ensures cuts { IfOk result (λ cuts. AreCuts (take count cuts)) }
     ensures ok { IfOk result (λ cuts. (s : R) (max_bytes : ℕ) (k : List ℕ → Reading) →
-        HasRead R.read_gives R.failure_count max_bytes s r.old reader.old (cuts_behind count 1 [] k) →
-        HasRead R.read_gives R.failure_count max_bytes s r.new reader.new (k (take count cuts))) }
+        HasJudged R.read_gives R.failure_count max_bytes s r.old reader.old (cuts_behind count 1 [] k) →
+        HasJudged R.read_gives R.failure_count max_bytes s r.new reader.new (k (take count cuts))) }
     ensures err { IfErr result (λ f. (s : R) (max_bytes : ℕ) (k : List ℕ → Reading) →
-        HasRead R.read_gives R.failure_count max_bytes s r.old reader.old (cuts_behind count 1 [] k) →
+        HasJudged R.read_gives R.failure_count max_bytes s r.old reader.old (cuts_behind count 1 [] k) →
         Stops R.read_gives R.failure_count (R.at_end r.new) max_bytes s r.new f) }
     ensures no_failure { OnOk result (R.failure_count r.new ≡ R.failure_count r.old) }
 {
@@ -78,10 +78,10 @@ fn read_cuts<R: Source>(
 pub fn read_head<R: Source>(reader: &mut ByteReader, r: &mut R) -> Result<Head, SnapFault>
     requires failures { R.failure_count r.old + 1 < 2 ^ 64 }
     ensures ok { IfOk result (λ h. (s : R) (max_bytes : ℕ) (k : Head → Reading) →
-        HasRead R.read_gives R.failure_count max_bytes s r.old reader.old (head k) →
-        HasRead R.read_gives R.failure_count max_bytes s r.new reader.new (k h)) }
+        HasJudged R.read_gives R.failure_count max_bytes s r.old reader.old (head k) →
+        HasJudged R.read_gives R.failure_count max_bytes s r.new reader.new (k h)) }
     ensures err { IfErr result (λ f. (s : R) (max_bytes : ℕ) (k : Head → Reading) →
-        HasRead R.read_gives R.failure_count max_bytes s r.old reader.old (head k) →
+        HasJudged R.read_gives R.failure_count max_bytes s r.old reader.old (head k) →
         Stops R.read_gives R.failure_count (R.at_end r.new) max_bytes s r.new f) }
     ensures no_failure { OnOk result (R.failure_count r.new ≡ R.failure_count r.old) }
 {

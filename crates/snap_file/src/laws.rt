@@ -1,8 +1,9 @@
 //! Laws of the definitions.
-ghost use Rattle.std.specs.Prelude.{◌≡◌, ℕ, ◌≤◌, ◌⊎◌, List, [], ◌++◌, length};
+ghost use Rattle.std.specs.Prelude.{◌≡◌, ◌≢◌, ℕ, ◌+◌, ◌<◌, ◌≤◌, ◌⊎◌, List, [], ◌++◌, length};
+ghost use Rattle.byte_io.specs.Streams.{Answer, bytes_of_calls};
 ghost use Rattle.batch_store.specs.Setups.{Setting};
 ghost use Rattle.snap_file.specs.Spelling.{IsBytes, IsSnapshot};
-ghost use Rattle.snap_file.specs.Outcomes.{FirstFaultAt};
+ghost use Rattle.snap_file.specs.Outcomes.{FirstFaultAt, IsMemoryFault};
 ghost use Rattle.batch_store.specs.Batches.{Submission};
 ghost use Rattle.snap_file.specs.declared.fault.SnapFault.{SnapFault};
 
@@ -42,4 +43,13 @@ pub fn shown_fault_stays()
     ensures { (max_bytes : ℕ) (bytes more : List ℕ) (place : ℕ) (kind : SnapFault) →
         FirstFaultAt max_bytes bytes place kind → place ≤ length bytes →
         FirstFaultAt max_bytes (bytes ++ more) place kind }
+{}
+
+/// Where memory was refused, the first fault of what was read shows in its last 65,536 bytes at the earliest, and not in
+/// the head.
+pub fn refused_memory_hides_no_early_fault()
+    ensures { (max_bytes : ℕ) (answers : List Answer) (place : ℕ) (kind : SnapFault) →
+        IsMemoryFault max_bytes answers → FirstFaultAt max_bytes (bytes_of_calls answers) place kind →
+        (length (bytes_of_calls answers) < place + 65536)
+        × (kind ≢ SnapFault.BadMark) × (kind ≢ SnapFault.BadVersion) × (kind ≢ SnapFault.BadHead) }
 {}

@@ -23,7 +23,8 @@ pub use file::{load, save};
 pub use file_folder::{Folder, MemoryFolder};
 pub use laws::{
     every_file_is_a_snapshot_or_has_a_fault, no_snapshot_begins_another, one_first_fault,
-    one_snapshot_spelled, shown_fault_stays, snapshot_or_faulty,
+    one_snapshot_spelled, refused_memory_hides_no_early_fault, shown_fault_stays,
+    snapshot_or_faulty,
 };
 pub use read::read_snapshot;
 pub use saving::save_in;

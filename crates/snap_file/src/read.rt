@@ -33,7 +33,8 @@ impl From<AllocError> for SnapFault {
 /// The first fault of the bytes in the order of the format, each as soon as its bytes are there: `BadMark`,
 /// `BadVersion`, `BadHead`, `BadBatch`, `OutOfOrder`, `RepeatedNumber`, `TotalDiffers`, `ExtraBytes`, `Truncated` where
 /// the source ended, and `TooLong` at byte `max_bytes + 1`. `Read` where a read failed, and `Memory` where a growth was
-/// refused. What was read has been read, and nothing of it is kept.
+/// refused: before any read, or behind the head, where what was judged bears no fault (the total may not have
+/// been judged) and each byte that was asked for was needed. What was read has been read, and nothing of it is kept.
 pub fn read_snapshot<R: Source>(
     alloc: Global,
     r: &mut R,
@@ -44,7 +45,7 @@ pub fn read_snapshot<R: Source>(
     ensures ok { IfOk result (λ snapshot.
         ReadsSnapshot R.read_gives R.failure_count
         (R.at_end r.new) max_bytes r.old r.new snapshot.setup snapshot.list) }
-    // What it gave has this first fault; or a read failed, or memory was refused.
+    // What it gave has this first fault; or a read failed; or memory was refused, and up to there no fault shows.
     ensures err { IfErr result (λ fault.
         Stops R.read_gives R.failure_count (R.at_end r.new) max_bytes r.old r.new fault) }
 {

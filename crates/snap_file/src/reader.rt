@@ -1,10 +1,11 @@
 //! Fields of numbers, read from a source in pieces.
-ghost use Rattle.std.specs.Prelude.{◌≡◌, ◌≢◌, ℕ, ◌+◌, ◌-◌, ◌<◌, ◌≤◌, ◌^◌, List, [], ◌++◌, length, take, drop, Result};
+ghost use Rattle.std.specs.Prelude.{◌≡◌, ℕ, ◌+◌, ◌-◌, ◌<◌, ◌≤◌, ◌^◌, List, [], ◌++◌, length, take, drop, Result};
 ghost use Rattle.std.specs.Prelude.{Ok, Err, IfOk, OnOk, IfErr, OnErr, IsTrue, IsFalse, true, false};
 ghost use Rattle.std.specs.Int.{Width, w8, w32, w64, byte_len, from_be_bytes};
 ghost use Rattle.snap_file.specs.Spelling.{IsBytes};
 ghost use Rattle.snap_file.specs.Table.{Reading, Contents, number, refuse_if, outside, field_in, end};
-ghost use Rattle.snap_file.specs.Outcomes.{HasRead, HasEnded, HasFailed, Stops, ReadsSnapshot};
+ghost use Rattle.snap_file.specs.Outcomes.{HasJudged, HasAsked, HasEnded, HasFailed, IsOfBytes, Stops, ReadsSnapshot};
+ghost use Rattle.snap_file.specs.Outcomes.{piece_bytes};
 ghost use Rattle.snap_file.specs.Fills.{Fills};
 ghost use Rattle.snap_file.specs.declared.fault.SnapFault.{SnapFault};
 
@@ -27,8 +28,8 @@ pub struct ByteReader {
 }
 
 impl Model for ByteReader {
-    ghost use Rattle.std.specs.Prelude.{ℕ, ◌-◌, ◌≤◌, length, take, drop};
-    ghost use Rattle.snap_file.specs.Outcomes.{ReaderState};
+    ghost use Rattle.std.specs.Prelude.{◌≡◌, ℕ, ◌-◌, ◌≤◌, length, take, drop};
+    ghost use Rattle.snap_file.specs.Outcomes.{ReaderState, piece_bytes};
 
     ghost Value = { ReaderState };
 
@@ -38,7 +39,7 @@ impl Model for ByteReader {
       max_bytes = r.max_bytes;
     } };
 
-    ghost invariant = { λ r. (r.start ≤ r.end) × (r.end ≤ length r.piece.items) × (16 ≤ length r.piece.items) ×
+    ghost invariant = { λ r. (r.start ≤ r.end) × (r.end ≤ length r.piece.items) × (length r.piece.items ≡ piece_bytes) ×
         (r.taken ≤ r.max_bytes) };
 }
 
@@ -197,6 +198,7 @@ impl ByteReader {
         ensures taken { self.new.taken ≡ self.old.taken }
         ensures limit { self.new.max_bytes ≡ self.old.max_bytes }
         ensures ok { IfOk result (λ n. Fills R.read_gives r.old r.new self.old.pending self.new.pending n) }
+        ensures most { IfOk result (λ n. n ≤ piece_bytes) }
         ensures end { IfOk result (λ n. n ≡ 0 → R.at_end r.new) }
         ensures err { IfErr result (λ e. R.read_gives r.old (Err e) r.new × (self.new.pending ≡ self.old.pending)) }
         ensures no_failure { OnOk result (R.failure_count r.new ≡ R.failure_count r.old) }
@@ -226,13 +228,13 @@ impl ByteReader {
         ensures yes { IfOk result (λ b. IsTrue b → want ≤ length self.new.pending) }
         ensures no { IfOk result (λ b. IsFalse b → length self.new.pending < want) }
         ensures read { IfOk result (λ b. IsTrue b → (s : R) (max_bytes : ℕ) (left : Reading) →
-            HasRead R.read_gives R.failure_count max_bytes s r.old self.old left →
-            HasRead R.read_gives R.failure_count max_bytes s r.new self.new left) }
+            HasJudged R.read_gives R.failure_count max_bytes s r.old self.old left →
+            HasAsked R.read_gives R.failure_count max_bytes s r.new self.new left want) }
         ensures ended { IfOk result (λ b. IsFalse b → (s : R) (max_bytes : ℕ) (left : Reading) →
-            HasRead R.read_gives R.failure_count max_bytes s r.old self.old left →
+            HasJudged R.read_gives R.failure_count max_bytes s r.old self.old left →
             HasEnded R.read_gives R.failure_count (R.at_end r.new) max_bytes s r.new self.new left) }
         ensures err { IfErr result (λ f. (f ≡ SnapFault.Read) × ((s : R) (max_bytes : ℕ) (left : Reading) →
-            HasRead R.read_gives R.failure_count max_bytes s r.old self.old left →
+            HasJudged R.read_gives R.failure_count max_bytes s r.old self.old left →
             HasFailed R.read_gives R.failure_count max_bytes s r.new want left)) }
         ensures no_failure { OnOk result (R.failure_count r.new ≡ R.failure_count r.old) }
     {
@@ -253,10 +255,10 @@ impl ByteReader {
         ensures pending { OnOk result (width ≤ length self.new.pending) }
         ensures room { OnOk result (self.new.taken + width ≤ self.new.max_bytes) }
         ensures ok { OnOk result ((s : R) (max_bytes : ℕ) (left : Reading) →
-            HasRead R.read_gives R.failure_count max_bytes s r.old self.old left →
-            HasRead R.read_gives R.failure_count max_bytes s r.new self.new left) }
+            HasJudged R.read_gives R.failure_count max_bytes s r.old self.old left →
+            HasAsked R.read_gives R.failure_count max_bytes s r.new self.new left width) }
         ensures err { IfErr result (λ f. (s : R) (max_bytes : ℕ) (w : Width) (k : ℕ → Reading) → byte_len w ≡ width →
-            HasRead R.read_gives R.failure_count max_bytes s r.old self.old (number w k) →
+            HasJudged R.read_gives R.failure_count max_bytes s r.old self.old (number w k) →
             Stops R.read_gives R.failure_count (R.at_end r.new) max_bytes s r.new f) }
         ensures no_failure { OnOk result (R.failure_count r.new ≡ R.failure_count r.old) }
     {
@@ -327,10 +329,10 @@ impl ByteReader {
     pub fn next_u64<R: Source>(&mut self, r: &mut R) -> Result<u64, SnapFault>
         requires { R.failure_count r.old + 1 < 2 ^ 64 }
         ensures ok { IfOk result (λ n. (s : R) (max_bytes : ℕ) (k : ℕ → Reading) →
-            HasRead R.read_gives R.failure_count max_bytes s r.old self.old (number w64 k) →
-            HasRead R.read_gives R.failure_count max_bytes s r.new self.new (k n)) }
+            HasJudged R.read_gives R.failure_count max_bytes s r.old self.old (number w64 k) →
+            HasJudged R.read_gives R.failure_count max_bytes s r.new self.new (k n)) }
         ensures err { IfErr result (λ f. (s : R) (max_bytes : ℕ) (k : ℕ → Reading) →
-            HasRead R.read_gives R.failure_count max_bytes s r.old self.old (number w64 k) →
+            HasJudged R.read_gives R.failure_count max_bytes s r.old self.old (number w64 k) →
             Stops R.read_gives R.failure_count (R.at_end r.new) max_bytes s r.new f) }
         ensures no_failure { OnOk result (R.failure_count r.new ≡ R.failure_count r.old) }
     {
@@ -347,13 +349,13 @@ impl ByteReader {
         kind: SnapFault,
     ) -> Result<u64, SnapFault>
         requires failures { R.failure_count r.old + 1 < 2 ^ 64 }
-        requires judged { kind ≢ SnapFault.Read }
+        requires judged { IsOfBytes kind }
         ensures bounds { IfOk result (λ n. (low ≤ n) × (n ≤ high)) }
         ensures ok { IfOk result (λ n. (s : R) (max_bytes : ℕ) (k : ℕ → Reading) →
-            HasRead R.read_gives R.failure_count max_bytes s r.old self.old (field_in w64 low high kind k) →
-            HasRead R.read_gives R.failure_count max_bytes s r.new self.new (k n)) }
+            HasJudged R.read_gives R.failure_count max_bytes s r.old self.old (field_in w64 low high kind k) →
+            HasJudged R.read_gives R.failure_count max_bytes s r.new self.new (k n)) }
         ensures err { IfErr result (λ f. (s : R) (max_bytes : ℕ) (k : ℕ → Reading) →
-            HasRead R.read_gives R.failure_count max_bytes s r.old self.old (field_in w64 low high kind k) →
+            HasJudged R.read_gives R.failure_count max_bytes s r.old self.old (field_in w64 low high kind k) →
             Stops R.read_gives R.failure_count (R.at_end r.new) max_bytes s r.new f) }
         ensures no_failure { OnOk result (R.failure_count r.new ≡ R.failure_count r.old) }
     {
@@ -367,10 +369,10 @@ impl ByteReader {
     pub fn next_u32<R: Source>(&mut self, r: &mut R) -> Result<u32, SnapFault>
         requires { R.failure_count r.old + 1 < 2 ^ 64 }
         ensures ok { IfOk result (λ n. (s : R) (max_bytes : ℕ) (k : ℕ → Reading) →
-            HasRead R.read_gives R.failure_count max_bytes s r.old self.old (number w32 k) →
-            HasRead R.read_gives R.failure_count max_bytes s r.new self.new (k n)) }
+            HasJudged R.read_gives R.failure_count max_bytes s r.old self.old (number w32 k) →
+            HasJudged R.read_gives R.failure_count max_bytes s r.new self.new (k n)) }
         ensures err { IfErr result (λ f. (s : R) (max_bytes : ℕ) (k : ℕ → Reading) →
-            HasRead R.read_gives R.failure_count max_bytes s r.old self.old (number w32 k) →
+            HasJudged R.read_gives R.failure_count max_bytes s r.old self.old (number w32 k) →
             Stops R.read_gives R.failure_count (R.at_end r.new) max_bytes s r.new f) }
         ensures no_failure { OnOk result (R.failure_count r.new ≡ R.failure_count r.old) }
     {
@@ -387,13 +389,13 @@ impl ByteReader {
         kind: SnapFault,
     ) -> Result<u32, SnapFault>
         requires failures { R.failure_count r.old + 1 < 2 ^ 64 }
-        requires judged { kind ≢ SnapFault.Read }
+        requires judged { IsOfBytes kind }
         ensures bounds { IfOk result (λ n. (low ≤ n) × (n ≤ high)) }
         ensures ok { IfOk result (λ n. (s : R) (max_bytes : ℕ) (k : ℕ → Reading) →
-            HasRead R.read_gives R.failure_count max_bytes s r.old self.old (field_in w32 low high kind k) →
-            HasRead R.read_gives R.failure_count max_bytes s r.new self.new (k n)) }
+            HasJudged R.read_gives R.failure_count max_bytes s r.old self.old (field_in w32 low high kind k) →
+            HasJudged R.read_gives R.failure_count max_bytes s r.new self.new (k n)) }
         ensures err { IfErr result (λ f. (s : R) (max_bytes : ℕ) (k : ℕ → Reading) →
-            HasRead R.read_gives R.failure_count max_bytes s r.old self.old (field_in w32 low high kind k) →
+            HasJudged R.read_gives R.failure_count max_bytes s r.old self.old (field_in w32 low high kind k) →
             Stops R.read_gives R.failure_count (R.at_end r.new) max_bytes s r.new f) }
         ensures no_failure { OnOk result (R.failure_count r.new ≡ R.failure_count r.old) }
     {
@@ -407,10 +409,10 @@ impl ByteReader {
     pub fn next_u8<R: Source>(&mut self, r: &mut R) -> Result<u8, SnapFault>
         requires { R.failure_count r.old + 1 < 2 ^ 64 }
         ensures ok { IfOk result (λ n. (s : R) (max_bytes : ℕ) (k : ℕ → Reading) →
-            HasRead R.read_gives R.failure_count max_bytes s r.old self.old (number w8 k) →
-            HasRead R.read_gives R.failure_count max_bytes s r.new self.new (k n)) }
+            HasJudged R.read_gives R.failure_count max_bytes s r.old self.old (number w8 k) →
+            HasJudged R.read_gives R.failure_count max_bytes s r.new self.new (k n)) }
         ensures err { IfErr result (λ f. (s : R) (max_bytes : ℕ) (k : ℕ → Reading) →
-            HasRead R.read_gives R.failure_count max_bytes s r.old self.old (number w8 k) →
+            HasJudged R.read_gives R.failure_count max_bytes s r.old self.old (number w8 k) →
             Stops R.read_gives R.failure_count (R.at_end r.new) max_bytes s r.new f) }
         ensures no_failure { OnOk result (R.failure_count r.new ≡ R.failure_count r.old) }
     {
@@ -427,13 +429,13 @@ impl ByteReader {
         kind: SnapFault,
     ) -> Result<u8, SnapFault>
         requires failures { R.failure_count r.old + 1 < 2 ^ 64 }
-        requires judged { kind ≢ SnapFault.Read }
+        requires judged { IsOfBytes kind }
         ensures bounds { IfOk result (λ n. (low ≤ n) × (n ≤ high)) }
         ensures ok { IfOk result (λ n. (s : R) (max_bytes : ℕ) (k : ℕ → Reading) →
-            HasRead R.read_gives R.failure_count max_bytes s r.old self.old (field_in w8 low high kind k) →
-            HasRead R.read_gives R.failure_count max_bytes s r.new self.new (k n)) }
+            HasJudged R.read_gives R.failure_count max_bytes s r.old self.old (field_in w8 low high kind k) →
+            HasJudged R.read_gives R.failure_count max_bytes s r.new self.new (k n)) }
         ensures err { IfErr result (λ f. (s : R) (max_bytes : ℕ) (k : ℕ → Reading) →
-            HasRead R.read_gives R.failure_count max_bytes s r.old self.old (field_in w8 low high kind k) →
+            HasJudged R.read_gives R.failure_count max_bytes s r.old self.old (field_in w8 low high kind k) →
             Stops R.read_gives R.failure_count (R.at_end r.new) max_bytes s r.new f) }
         ensures no_failure { OnOk result (R.failure_count r.new ≡ R.failure_count r.old) }
     {
@@ -447,11 +449,11 @@ impl ByteReader {
     pub fn expect_end<R: Source>(&mut self, r: &mut R) -> Result<(), SnapFault>
         requires { R.failure_count r.old + 1 < 2 ^ 64 }
         ensures ok { OnOk result ((s : R) (max_bytes : ℕ) (contents : Contents) →
-            HasRead R.read_gives R.failure_count max_bytes s r.old self.old (end contents) →
+            HasJudged R.read_gives R.failure_count max_bytes s r.old self.old (end contents) →
             ReadsSnapshot R.read_gives R.failure_count
             (R.at_end r.new) max_bytes s r.new contents.setup contents.batches) }
         ensures err { IfErr result (λ f. (s : R) (max_bytes : ℕ) (contents : Contents) →
-            HasRead R.read_gives R.failure_count max_bytes s r.old self.old (end contents) →
+            HasJudged R.read_gives R.failure_count max_bytes s r.old self.old (end contents) →
             Stops R.read_gives R.failure_count (R.at_end r.new) max_bytes s r.new f) }
     {
         let room = self.room();

@@ -3,7 +3,7 @@ ghost use Rattle.std.specs.Prelude.{◌≡◌, ℕ, List, suc, ◌+◌, ◌<◌,
 ghost use Rattle.cells.specs.Sums.{cell_total};
 ghost use Rattle.cells.specs.declared.cell.Cell.{Cell};
 ghost use Rattle.snap_file.specs.Table.{Reading, Tally, cells_behind, is_below};
-ghost use Rattle.snap_file.specs.Outcomes.{HasRead, Stops};
+ghost use Rattle.snap_file.specs.Outcomes.{HasJudged, IsBehindHead, Stops};
 ghost use Rattle.snap_file.specs.Tallies.{tally_of, IsRun};
 
 use crate::fault::SnapFault;
@@ -53,12 +53,13 @@ pub fn read_cell<R: Source>(
     ensures added { OnOk result (tally.new.counted + cell_total tally.old.cells.items ≡
         tally.old.counted + cell_total tally.new.cells.items) }
     ensures ok { OnOk result ((s : R) (max_bytes n : ℕ) (done : List Cell) (k : Tally → Reading) →
-        HasRead R.read_gives R.failure_count max_bytes s r.old reader.old
+        HasJudged R.read_gives R.failure_count max_bytes s r.old reader.old
         (cells_behind head.now (suc n) (tally_of done tally.old) k) →
-        HasRead R.read_gives R.failure_count max_bytes s r.new reader.new
+        HasJudged R.read_gives R.failure_count max_bytes s r.new reader.new
         (cells_behind head.now n (tally_of done tally.new) k)) }
     ensures err { IfErr result (λ f. (s : R) (max_bytes n : ℕ) (done : List Cell) (k : Tally → Reading) →
-        HasRead R.read_gives R.failure_count max_bytes s r.old reader.old
+        ((t : Tally) → IsBehindHead (k t)) →
+        HasJudged R.read_gives R.failure_count max_bytes s r.old reader.old
         (cells_behind head.now (suc n) (tally_of done tally.old) k) →
         Stops R.read_gives R.failure_count (R.at_end r.new) max_bytes s r.new f) }
     ensures no_failure { OnOk result (R.failure_count r.new ≡ R.failure_count r.old) }
@@ -103,11 +104,12 @@ pub fn read_cells<R: Source>(
     ensures added { OnOk result (tally.new.counted + cell_total tally.old.cells.items ≡
         tally.old.counted + cell_total tally.new.cells.items) }
     ensures ok { OnOk result ((s : R) (max_bytes : ℕ) (done : List Cell) (k : Tally → Reading) →
-        HasRead R.read_gives R.failure_count max_bytes s r.old reader.old
+        HasJudged R.read_gives R.failure_count max_bytes s r.old reader.old
         (cells_behind head.now count (tally_of done tally.old) k) →
-        HasRead R.read_gives R.failure_count max_bytes s r.new reader.new (k (tally_of done tally.new))) }
+        HasJudged R.read_gives R.failure_count max_bytes s r.new reader.new (k (tally_of done tally.new))) }
     ensures err { IfErr result (λ f. (s : R) (max_bytes : ℕ) (done : List Cell) (k : Tally → Reading) →
-        HasRead R.read_gives R.failure_count max_bytes s r.old reader.old
+        ((t : Tally) → IsBehindHead (k t)) →
+        HasJudged R.read_gives R.failure_count max_bytes s r.old reader.old
         (cells_behind head.now count (tally_of done tally.old) k) →
         Stops R.read_gives R.failure_count (R.at_end r.new) max_bytes s r.new f) }
     ensures no_failure { OnOk result (R.failure_count r.new ≡ R.failure_count r.old) }

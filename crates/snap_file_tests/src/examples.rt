@@ -198,11 +198,22 @@ fn a_fault_before_the_limit_is_told(rt: HostRuntime) -> Result<(), Fail> {
     Ok(())
 }
 
+// Where a number of eight bytes stands in `ONE`, which declares more than there is memory for.
+static DECLARED: &[(usize, &[u8])] = &[
+    // 2^40 entries, and 2^63, of which one follows.
+    (94, b"\0\0\x01\0\0\0\0\0"),
+    (94, b"\x80\0\0\0\0\0\0\0"),
+];
+
 #[test]
-fn declared_numbers_take_no_memory(rt: HostRuntime) -> Result<(), Fail> {
-    // 2^63 entries are declared, and one follows.
-    let bytes = changed(rt.alloc(), ONE, 94, b"\x80\0\0\0\0\0\0\0")?;
-    let found = fault_within(rt.alloc(), &bytes, 126, MAX_BYTES);
-    assert_eq!(rt; found, Some(SnapFault::Truncated));
+fn declared_numbers_reserve_nothing(rt: HostRuntime) -> Result<(), Fail> {
+    for (at, number) in DECLARED {
+        let bytes = changed(rt.alloc(), ONE, *at, number)?;
+        let found = fault_within(rt.alloc(), &bytes, 126, MAX_BYTES);
+        assert_eq!(rt; found, Some(SnapFault::Truncated), "{at}");
+        // The same where they end behind the number.
+        let found = fault_within(rt.alloc(), &bytes[..102], 126, MAX_BYTES);
+        assert_eq!(rt; found, Some(SnapFault::Truncated), "{at}");
+    }
     Ok(())
 }

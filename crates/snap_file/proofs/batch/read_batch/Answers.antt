@@ -1,44 +1,47 @@
-use Rattle.std.proofs.Common.{◌≡◌, sym, subst, ◌∙◌, arith}
+use Rattle.std.proofs.Common.{sym, subst, ◌∙◌, arith}
 use Rattle.std.proofs.lemmas.Result.{err_from_is_err_and}
 use Rattle.batch_store.specs.Batches.{values}
 use Rattle.snap_file.specs.Table.{Progress, batch}
-use Rattle.snap_file.specs.Outcomes.{HasRead}
-use Rattle.snap_file.specs.declared.fault.SnapFault.{SnapFault}
-use Rattle.snap_file.specs.declared.fault.SnapFault.TheVariants.{Read, RepeatedNumber}
+use Rattle.snap_file.specs.Outcomes.{IsOfBytes, HasJudged}
+use Rattle.snap_file.specs.declared.fault.SnapFault.TheVariants.{RepeatedNumber}
 use Rattle.snap_file.specs.Lists.{progress_of}
 use Rattle.snap_file.proofs.StopLemmas.{stops_refused, stops_memory, read_passed}
 use Rattle.snap_file.proofs.ListLemmas.{progress_is}
+use Rattle.snap_file.proofs.BehindLemmas.{behind_pair}
 use Rattle.snap_file.proofs.batch.read_batch.Goals as goal
 
-judged : ◌≡◌ {A = SnapFault} RepeatedNumber Read → ⊥
-judged e = absurd cc
+judged : IsOfBytes RepeatedNumber
+judged = (λ e. absurd cc, λ e. absurd cc)
 
 pub returns-in_err-client-clause-err : goal.returns-in_err-client-clause-err
 unfolding batch
 returns-in_err-client-clause-err g c =
     let p = err_from_is_err_and c.from_residual.result c.from_residual.ensures.1 in
-    rw (p.1, p.2) (λ s m k h. c.in_err-client.ensures.err s m _ h)
+    rw (p.1, p.2) (λ s m k b h. c.in_err-client.ensures.err s m _ h)
 
 pub returns-in_err-number-clause-err : goal.returns-in_err-number-clause-err
 unfolding batch
 returns-in_err-number-clause-err g c =
     let p = err_from_is_err_and c.from_residual-in_err-number.result c.from_residual-in_err-number.ensures.1 in
-    rw (p.1, p.2) (λ s m k h. c.in_err-number.ensures.err s m _ (c.in_ok-client.ensures.ok s m _ h))
+    rw (p.1, p.2) (λ s m k b h. c.in_err-number.ensures.err s m _ (c.in_ok-client.ensures.ok s m _ h))
 
 pub returns-in_err-repeated-clause-err : goal.returns-in_err-repeated-clause-err
 unfolding batch
 returns-in_err-repeated-clause-err g c =
     let p = err_from_is_err_and c.from_residual-in_err-repeated.result c.from_residual-in_err-repeated.ensures.1 in
-    rw (p.1, p.2, c.in_err-repeated.ensures.err) (λ s m k h.
+    rw (p.1, p.2, c.in_err-repeated.ensures.err.0) (λ s m k b h.
     stops_memory {S = g.row.R.Denot} g.R.Source.read_gives g.R.Source.failure_count
     (g.R.Source.at_end c.next_u64-2.new.r) m s c.next_u64-2.new.r c.next_u64-2.new.self _
-    (c.in_ok-number.ensures.ok s m _ (c.in_ok-client.ensures.ok s m _ h)))
+    (read_passed {S = g.row.R.Denot} g.R.Source.read_gives g.R.Source.failure_count m s c.next_u64-2.new.r
+    c.next_u64-2.new.self _ RepeatedNumber _ (c.in_ok-number.ensures.ok s m _ (c.in_ok-client.ensures.ok s m _ h))
+    (c.in_err-repeated.ensures.err.1 (values c.args.list.now.batches.items) c.requires.pairs))
+    (behind_pair c.args.head.now _ _ (λ t. b _)))
 
 pub returns-in_err-refuse-clause-err : goal.returns-in_err-refuse-clause-err
 unfolding batch
 returns-in_err-refuse-clause-err g c =
     let p = err_from_is_err_and c.from_residual-in_err-refuse.result c.from_residual-in_err-refuse.ensures.1 in
-    rw (p.1, p.2, c.in_err-refuse.ensures.err.0) (λ s m k h.
+    rw (p.1, p.2, c.in_err-refuse.ensures.err.0) (λ s m k b h.
     stops_refused {S = g.row.R.Denot} g.R.Source.read_gives g.R.Source.failure_count
     (g.R.Source.at_end c.next_u64-2.new.r) m s c.next_u64-2.new.r c.next_u64-2.new.self _ RepeatedNumber _
     (c.in_ok-number.ensures.ok s m _ (c.in_ok-client.ensures.ok s m _ h))
@@ -49,7 +52,7 @@ pub returns-in_err-count-clause-err : goal.returns-in_err-count-clause-err
 unfolding batch
 returns-in_err-count-clause-err g c =
     let p = err_from_is_err_and c.from_residual-in_err-count.result c.from_residual-in_err-count.ensures.1 in
-    rw (p.1, p.2) (λ s m k h.
+    rw (p.1, p.2) (λ s m k b h.
     c.in_err-count.ensures.err s m _
     (read_passed {S = g.row.R.Denot} g.R.Source.read_gives g.R.Source.failure_count m s c.next_u64-2.new.r
     c.next_u64-2.new.self _ RepeatedNumber _ (c.in_ok-number.ensures.ok s m _ (c.in_ok-client.ensures.ok s m _ h))
@@ -60,8 +63,8 @@ pub returns-in_err-matrix-clause-err : goal.returns-in_err-matrix-clause-err
 unfolding batch
 returns-in_err-matrix-clause-err g c =
     let p = err_from_is_err_and c.from_residual-in_err-matrix.result c.from_residual-in_err-matrix.ensures.1 in
-    rw (p.1, p.2) (λ s m k h.
-    c.in_err-matrix.ensures.err s m _ (c.in_ok-count.ensures.ok s m _
+    rw (p.1, p.2) (λ s m k b h.
+    c.in_err-matrix.ensures.err s m _ (λ t. b _) (c.in_ok-count.ensures.ok s m _
     (read_passed {S = g.row.R.Denot} g.R.Source.read_gives g.R.Source.failure_count m s c.next_u64-2.new.r
     c.next_u64-2.new.self _ RepeatedNumber _ (c.in_ok-number.ensures.ok s m _ (c.in_ok-client.ensures.ok s m _ h))
     (sym (c.in_ok-repeated.ensures.told (values c.args.list.now.batches.items) c.requires.pairs) ∙
@@ -71,14 +74,14 @@ pub returns-in_err-push_batch-clause-err : goal.returns-in_err-push_batch-clause
 unfolding batch
 returns-in_err-push_batch-clause-err g c =
     let p = err_from_is_err_and c.from_residual-in_err-push_batch.result c.from_residual-in_err-push_batch.ensures.1 in
-    rw (p.1, p.2, c.in_err-push_batch.ensures.err) (λ s m k h.
+    rw (p.1, p.2, c.in_err-push_batch.ensures.err) (λ s m k b h.
     stops_memory {S = g.row.R.Denot} g.R.Source.read_gives g.R.Source.failure_count
     (g.R.Source.at_end c.read_entries.new.r) m s c.read_entries.new.r c.read_entries.new.reader _
     (c.in_ok-matrix.ensures.ok s m _ (c.in_ok-count.ensures.ok s m _
     (read_passed {S = g.row.R.Denot} g.R.Source.read_gives g.R.Source.failure_count m s c.next_u64-2.new.r
     c.next_u64-2.new.self _ RepeatedNumber _ (c.in_ok-number.ensures.ok s m _ (c.in_ok-client.ensures.ok s m _ h))
     (sym (c.in_ok-repeated.ensures.told (values c.args.list.now.batches.items) c.requires.pairs) ∙
-    c.in_ok-refuse.ensures.ok)))).3)
+    c.in_ok-refuse.ensures.ok)))).3 (b _))
 
 pub returns-clause-ok : goal.returns-clause-ok
 unfolding batch
@@ -91,7 +94,7 @@ returns-clause-ok g c = λ s m k h.
     let is = progress_is c.args.head.now
     (progress_of c.args.list.now) c.in_ok-client.client c.in_ok-number.number x.0 c.in_ok-matrix.matrix
     (values c.push_batch.new.batches.items) c.read_entries.new.tally.counted x.1 x.2 c.in_ok-push_batch.ensures.ok in
-    subst (λ (q : Progress). HasRead {S = g.row.R.Denot} g.R.Source.read_gives g.R.Source.failure_count m s
+    subst (λ (q : Progress). HasJudged {S = g.row.R.Denot} g.R.Source.read_gives g.R.Source.failure_count m s
     c.read_entries.new.r c.read_entries.new.reader (k q)) is x.3
 
 pub next_u64-requires-2 : goal.next_u64-requires-2

@@ -1,14 +1,30 @@
-use Rattle.std.proofs.Common.{◌≡◌, suc, ◌+◌, ◌-◌, arith, ◌∙◌}
+use Rattle.std.proofs.Common.{◌≡◌, suc, ◌+◌, ◌-◌, List, refl, sym, ap, subst, arith, ◌∙◌}
+use Rattle.std.proofs.Math.Nat.{sub-zero}
 use Rattle.std.proofs.lemmas.Result.{err_from_is_err_and}
-use Rattle.snap_file.specs.declared.fault.SnapFault.{SnapFault}
-use Rattle.snap_file.specs.declared.fault.SnapFault.TheVariants.{Read, TotalDiffers}
+use Rattle.snap_file.specs.declared.fault.SnapFault.TheVariants.{TotalDiffers}
+use Rattle.batch_store.specs.Batches.{Submission, values}
+use Rattle.snap_file.specs.Table.{batches_behind}
+use Rattle.snap_file.specs.Outcomes.{IsOfBytes, HasJudged}
 use Rattle.snap_file.specs.Lists.{progress_of}
 use Rattle.snap_file.proofs.StopLemmas.{stops_refused, read_passed}
-use Rattle.snap_file.proofs.ListLemmas.{ending, batch_next, batch_last}
+use Rattle.snap_file.proofs.ListLemmas.{ending, batch_next, batch_last, pairs_none}
+use Rattle.snap_file.proofs.BehindLemmas.{behind_batches, behind_ending}
 use Rattle.snap_file.proofs.batch.read_batches.Goals as goal
 
-judged : ◌≡◌ {A = SnapFault} TotalDiffers Read → ⊥
-judged e = absurd cc
+judged : IsOfBytes TotalDiffers
+judged = (λ e. absurd cc, λ e. absurd cc)
+
+pub batches-init : goal.batches-init
+batches-init g c =
+    let none = ap values c.new.ensures.items in
+    record {
+      counted = omega arith;
+      pairs = pairs_none c.new-2.result (values c.new.result.items) c.new-2.ensures.empty none;
+      failures = refl;
+      read = λ s m h. rw (sub-zero c.args.head.now.batches) (subst (λ (l : List Submission). HasJudged {S = g.row.R.Denot} g.R.Source.read_gives
+          g.R.Source.failure_count m s c.args.r.now c.args.reader.now (batches_behind c.args.head.now
+          c.args.head.now.batches (record { batches = l; counted = 0 }) (ending c.args.head.now))) (sym none) h);
+    }
 
 pub returns-in_err-read_batch-clause-err : goal.returns-in_err-read_batch-clause-err
 returns-in_err-read_batch-clause-err g c =
@@ -16,6 +32,8 @@ returns-in_err-read_batch-clause-err g c =
     let left : c.args.head.now.batches - c.batches._i ≡ suc (c.args.head.now.batches - (c.batches._i + 1)) = omega
     (arith, c.batches-test.true) in
     c.in_err-read_batch.ensures.err s m _
+    (λ p. behind_batches c.args.head.now (c.args.head.now.batches - (c.batches._i + 1)) p (ending c.args.head.now)
+    (λ q. behind_ending c.args.head.now q))
     (batch_next {S = g.row.R.Denot} g.R.Source.read_gives g.R.Source.failure_count m s c.batches.r c.batches.reader
     c.args.head.now (ending c.args.head.now) (c.args.head.now.batches - c.batches._i)
     (c.args.head.now.batches - (c.batches._i + 1)) (progress_of c.batches.list) left

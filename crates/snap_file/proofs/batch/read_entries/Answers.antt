@@ -8,6 +8,7 @@ use Rattle.hyper_rows.proofs.CountLaws.{total-empty}
 use Rattle.snap_file.specs.Table.{Tally}
 use Rattle.snap_file.proofs.ListLemmas.{tally_at, run_begun, run_last, built_more, total_held}
 use Rattle.snap_file.proofs.StopLemmas.{stops_memory}
+use Rattle.snap_file.proofs.BehindLemmas.{behind_cells}
 use Rattle.snap_file.proofs.batch.read_entries.Goals as goal
 
 pub runs-init : goal.runs-init
@@ -24,10 +25,11 @@ runs-init g c =
 
 pub returns-in_err-read_cells-clause-err : goal.returns-in_err-read_cells-clause-err
 returns-in_err-read_cells-clause-err g c =
-    let p = err_from_is_err_and c.from_residual.result c.from_residual.ensures.1 in rw (p.1, p.2) (λ s m k h.
+    let p = err_from_is_err_and c.from_residual.result c.from_residual.ensures.1 in rw (p.1, p.2) (λ s m k b h.
     let x = c.runs.invariant.read s m k h in
     let parts : c.runs.left ≡ c.min-run.result + (c.runs.left - c.min-run.result) = omega (arith, c.min-run.ensures) in
     c.in_err-read_cells.ensures.err s m x.0 _
+    (λ t. behind_cells c.args.head.now (c.runs.left - c.min-run.result) t k b)
     (run_begun {S = g.row.R.Denot} g.R.Source.read_gives g.R.Source.failure_count m s c.runs.r c.runs.reader
     c.args.head.now k c.runs.left c.min-run.result (c.runs.left - c.min-run.result) x.0 c.clear.new.self.items
     c.runs.tally.least_row c.runs.tally.least_col c.runs.tally.counted parts c.clear.ensures.items x.2))
@@ -35,7 +37,7 @@ returns-in_err-read_cells-clause-err g c =
 pub returns-in_err-m-clause-err : goal.returns-in_err-m-clause-err
 returns-in_err-m-clause-err g c =
     let p = err_from_is_err_and c.from_residual-in_err-m.result c.from_residual-in_err-m.ensures.1 in
-    rw (p.1, p.2, c.in_err-m.ensures.err) (λ s m k h.
+    rw (p.1, p.2, c.in_err-m.ensures.err) (λ s m k b h.
     let x = c.runs.invariant.read s m k h in
     let parts : c.runs.left ≡ c.min-run.result + (c.runs.left - c.min-run.result) = omega (arith, c.min-run.ensures) in
     stops_memory {S = g.row.R.Denot} g.R.Source.read_gives g.R.Source.failure_count
@@ -43,7 +45,8 @@ returns-in_err-m-clause-err g c =
     (c.in_ok-read_cells.ensures.ok s m x.0 _
     (run_begun {S = g.row.R.Denot} g.R.Source.read_gives g.R.Source.failure_count m s c.runs.r c.runs.reader
     c.args.head.now k c.runs.left c.min-run.result (c.runs.left - c.min-run.result) x.0 c.clear.new.self.items
-    c.runs.tally.least_row c.runs.tally.least_col c.runs.tally.counted parts c.clear.ensures.items x.2)))
+    c.runs.tally.least_row c.runs.tally.least_col c.runs.tally.counted parts c.clear.ensures.items x.2))
+    (behind_cells c.args.head.now (c.runs.left - c.min-run.result) _ k b))
 
 pub runs-preserved : goal.runs-preserved
 runs-preserved g c =

@@ -1,10 +1,11 @@
-use Rattle.std.proofs.Common.{◌≡◌, ◌+◌, ◌-◌, ℕ, List, suc, take, arith, sym, subst, ap, ◌∙◌}
+use Rattle.std.proofs.Common.{◌≡◌, ◌+◌, ◌-◌, ℕ, List, suc, take, arith, refl, sym, subst, ap, ◌∙◌}
 use Rattle.std.proofs.lemmas.Result.{err_from_is_err_and}
 use Rattle.std.proofs.lemmas.List.{take_more_set}
+use Rattle.std.proofs.Math.Nat.{sub-zero}
 use Rattle.std.proofs.Math.ListN.{length-set}
 use Rattle.snap_file.specs.Table.{cuts_behind}
-use Rattle.snap_file.specs.Outcomes.{HasRead}
-use Rattle.snap_file.proofs.CutLemmas.{cuts_step, cuts_done, rising_more, rising_cuts}
+use Rattle.snap_file.specs.Outcomes.{HasJudged}
+use Rattle.snap_file.proofs.CutLemmas.{cuts_step, cuts_done, rising_none, rising_more, rising_cuts}
 use Rattle.snap_file.proofs.head.read_cuts.Goals as goal
 
 pub returns-in_err-cut-clause-err : goal.returns-in_err-cut-clause-err
@@ -14,6 +15,15 @@ returns-in_err-cut-clause-err g c =
     c.in_err-cut.ensures.err s m _
     (cuts_step {S = g.row.R.Denot} g.R.Source.read_gives g.R.Source.failure_count m s c.loop-i.r c.loop-i.reader _ _
     c.loop-i.least _ k (c.loop-i.invariant.read s m k h) next))
+
+pub loop-i-init : goal.loop-i-init
+loop-i-init g c = record {
+  seven = refl;
+  low = omega arith;
+  rising = rising_none _;
+  failures = refl;
+  read = λ s m k h. rw (sub-zero c.args.count) h;
+}
 
 pub loop-i-preserved : goal.loop-i-preserved
 loop-i-preserved g c =
@@ -29,7 +39,7 @@ loop-i-preserved g c =
           c.in_ok-cut.ensures.bounds.1 (omega (arith, c.loop-i-test.true, c.requires.few, old.seven));
       failures = c.in_ok-cut.ensures.no_failure ∙ old.failures;
       read = λ s m k h.
-          subst (λ (l : List ℕ). HasRead {S = g.row.R.Denot} g.R.Source.read_gives g.R.Source.failure_count m s
+          subst (λ (l : List ℕ). HasJudged {S = g.row.R.Denot} g.R.Source.read_gives g.R.Source.failure_count m s
           c.next_u64_in.new.r c.next_u64_in.new.self (cuts_behind (c.args.count - (i + 1)) (cut + 1) l k))
           (sym (take_more_set c.loop-i.cuts i cut (omega (arith, c.loop-i-test.true, c.requires.few, old.seven))))
           (c.in_ok-cut.ensures.ok s m _ (cuts_step {S = g.row.R.Denot} g.R.Source.read_gives g.R.Source.failure_count m

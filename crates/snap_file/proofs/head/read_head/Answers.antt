@@ -2,7 +2,7 @@ use Rattle.std.proofs.Common.{sym, subst, arith}
 use Rattle.std.proofs.lemmas.Result.{err_from_is_err_and}
 use Rattle.batch_store.specs.Setups.{Setting}
 use Rattle.snap_file.specs.Table.{head}
-use Rattle.snap_file.specs.Outcomes.{HasRead}
+use Rattle.snap_file.specs.Outcomes.{HasJudged}
 use Rattle.snap_file.specs.declared.head.Head.{Head}
 use Rattle.snap_file.proofs.head.read_head.Goals as goal
 
@@ -222,7 +222,7 @@ returns-in_err-total-clause-err g c =
 pub returns-clause-ok : goal.returns-clause-ok
 unfolding head
 returns-clause-ok g c = λ s m k h.
-    subst (λ (x : Setting). HasRead {S = g.row.R.Denot} g.R.Source.read_gives g.R.Source.failure_count m s
+    subst (λ (x : Setting). HasJudged {S = g.row.R.Denot} g.R.Source.read_gives g.R.Source.failure_count m s
     c.next_u64_in-7.new.r c.next_u64_in-7.new.self
     (k (let y : Head = record { setup = x; batches = c.in_ok-batches.batches; total = c.in_ok-total.total } in y)))
     (sym c.setup_of-setup.ensures)

@@ -20,7 +20,7 @@ pub returns-then-room-eq0-clause-err : goal.returns-then-room-eq0-clause-err
 returns-then-room-eq0-clause-err g c = λ s m k h.
     stops_over {S = g.row.R.Denot} g.R.Source.read_gives g.R.Source.failure_count
     (g.R.Source.at_end c.need.new.r) m s c.need.new.r c.need.new.self k
-    (c.in-Ok-true.ensures.read c.in-Ok-true.field-0-test s m (end k) h)
+    (c.in-Ok-true.ensures.read c.in-Ok-true.field-0-test s m (end k) h).has_read
     (c.in-Ok-true.ensures.yes c.in-Ok-true.field-0-test)
     (omega (arith, c.if-room-eq0.true, c.room-room.ensures, c.in-Ok-true.ensures.taken, c.in-Ok-true.ensures.limit))
 
@@ -28,7 +28,7 @@ pub returns-else-room-eq0-clause-err : goal.returns-else-room-eq0-clause-err
 returns-else-room-eq0-clause-err g c = λ s m k h.
     stops_extra {S = g.row.R.Denot} g.R.Source.read_gives g.R.Source.failure_count
     (g.R.Source.at_end c.need.new.r) m s c.need.new.r c.need.new.self k
-    (c.in-Ok-true.ensures.read c.in-Ok-true.field-0-test s m (end k) h)
+    (c.in-Ok-true.ensures.read c.in-Ok-true.field-0-test s m (end k) h).has_read
     (c.in-Ok-true.ensures.yes c.in-Ok-true.field-0-test)
     (omega (
       arith,

@@ -1,0 +1,182 @@
+-- What is read behind the head: where its faults show.
+use Rattle.std.proofs.Common.{◌≡◌, ℕ, zero, suc, ◌+◌, ◌<◌, ◌≤◌, Bool, true, false, not, List, [], ◌∷◌, length}
+use Rattle.std.proofs.Common.{take, drop, Result, Ok, refl, sym, ◌∙◌, arith, inl, inr}
+use Rattle.std.specs.Prelude.{◌==◌, ◌≢◌}
+use Rattle.std.specs.Int.{Width, w64, byte_len, from_be_bytes}
+use Rattle.std.proofs.lemmas.Bool.{cases_lt, le-ltb}
+use Rattle.snap_file.specs.Table.{Input, Fault, Contents, Reading, fault_at, number, refuse_if, Tally, cells_behind}
+use Rattle.snap_file.specs.Table.{Progress, batch, batches_behind, end, contents_of}
+use Rattle.snap_file.specs.Outcomes.{ShowsBehind, IsBehindHead}
+use Rattle.snap_file.specs.declared.head.Head.{Head}
+use Rattle.snap_file.specs.declared.fault.SnapFault.{SnapFault}
+use Rattle.snap_file.specs.declared.fault.SnapFault.TheVariants.{BadMark, BadVersion, BadHead, BadBatch, OutOfOrder}
+use Rattle.snap_file.specs.declared.fault.SnapFault.TheVariants.{RepeatedNumber, TotalDiffers, Truncated, ExtraBytes}
+use Rattle.snap_file.proofs.Steady.{place_same, kind_same, number_short, refused_at, goes_on, end_more}
+use Rattle.snap_file.proofs.ListLemmas.{ending}
+
+abbrev outcome : Type 0
+outcome = Result Contents Fault
+
+-- none of the head's
+record IsNotOfHead (kind : SnapFault) : Type 0 where
+  no_mark : kind ≢ BadMark
+  no_version : kind ≢ BadVersion
+  no_head : kind ≢ BadHead
+
+-- A fault of this reading is none of the head's, and shows no earlier than where the reading begins.
+record IsFromHere (left : Reading) : Type 0 where
+  shows : (input : Input) (kind : SnapFault) (shown : ℕ) → left input ≡ fault_at kind shown →
+      IsNotOfHead kind × (input.at ≤ shown)
+
+truncated : IsNotOfHead Truncated
+truncated = record { no_mark = λ e. absurd cc; no_version = λ e. absurd cc; no_head = λ e. absurd cc }
+
+bad_batch : IsNotOfHead BadBatch
+bad_batch = record { no_mark = λ e. absurd cc; no_version = λ e. absurd cc; no_head = λ e. absurd cc }
+
+out_of_order : IsNotOfHead OutOfOrder
+out_of_order = record { no_mark = λ e. absurd cc; no_version = λ e. absurd cc; no_head = λ e. absurd cc }
+
+repeated : IsNotOfHead RepeatedNumber
+repeated = record { no_mark = λ e. absurd cc; no_version = λ e. absurd cc; no_head = λ e. absurd cc }
+
+differs : IsNotOfHead TotalDiffers
+differs = record { no_mark = λ e. absurd cc; no_version = λ e. absurd cc; no_head = λ e. absurd cc }
+
+extra : IsNotOfHead ExtraBytes
+extra = record { no_mark = λ e. absurd cc; no_version = λ e. absurd cc; no_head = λ e. absurd cc }
+
+same_kind : (j k : SnapFault) → j ≡ k → IsNotOfHead j → IsNotOfHead k
+same_kind j k e n = record {
+  no_mark = λ h. n.no_mark (e ∙ h);
+  no_version = λ h. n.no_version (e ∙ h);
+  no_head = λ h. n.no_head (e ∙ h);
+}
+
+-- behind where the reading begins
+farther : (at shown : ℕ) (kind : SnapFault) → IsNotOfHead kind → at < shown → ShowsBehind at shown kind
+farther at shown kind n h = record {
+  no_mark = n.no_mark;
+  no_version = n.no_version;
+  no_head = n.no_head;
+  not_before = omega arith;
+  total_alone = λ e. absurd (omega arith);
+}
+
+-- the fault that shows where the reading begins, where the total differs
+here : (at shown : ℕ) (kind : SnapFault) → TotalDiffers ≡ kind → at ≡ shown → ShowsBehind at shown kind
+here at shown kind e h =
+    let n = same_kind TotalDiffers kind e differs in
+    record {
+      no_mark = n.no_mark;
+      no_version = n.no_version;
+      no_head = n.no_head;
+      not_before = omega arith;
+      total_alone = λ _. sym e;
+    }
+
+-- behind the head, so from here
+from_here : (left : Reading) → IsBehindHead left → IsFromHere left
+from_here left b = record {
+  shows = λ input kind shown e.
+      let s = b.shows input kind shown e in
+      (record { no_mark = s.no_mark; no_version = s.no_version; no_head = s.no_head }, s.not_before);
+}
+
+tested : (test : Bool) (kind : SnapFault) (k : Unit {0} → Reading) → IsNotOfHead kind → IsFromHere (k tt) →
+    IsFromHere (refuse_if test kind k)
+tested true kind k n f = record {
+  shows = λ input j shown e.
+      let same = sym (refused_at k true kind input refl) ∙ e in
+      let place = place_same kind j input.at shown same in
+      (same_kind kind j (kind_same kind j input.at shown same) n, omega arith);
+}
+tested false kind k n f = record {
+  shows = λ input j shown e. f.shows input j shown (sym (goes_on k false kind input refl) ∙ e);
+}
+
+-- a field that is there
+field_there : (w : Width) (k : ℕ → Reading) (input : Input) → byte_len w ≤ length input.rest →
+    number w k input ≡ k (from_be_bytes w (take (byte_len w) input.rest))
+    (record { at = input.at + byte_len w; rest = drop (byte_len w) input.rest })
+unfolding number
+field_there w k input long = rw (le-ltb (length input.rest) (byte_len w) long) refl
+
+behind_field : (w : Width) (k : ℕ → Reading) → 0 < byte_len w → ((n : ℕ) → IsFromHere (k n)) →
+    IsBehindHead (number w k)
+behind_field w k wide each = record {
+  shows = λ input kind shown e. elim (cases_lt (length input.rest) (byte_len w)) [
+    | inl short ↦
+        let same : fault_at Truncated (input.at + length input.rest + 1) ≡ fault_at kind shown =
+        sym (number_short w k input.at input.rest short) ∙ e in
+        let place = place_same Truncated kind _ shown same in
+        farther input.at shown kind (same_kind Truncated kind (kind_same Truncated kind _ shown same) truncated)
+        (omega arith)
+    | inr long ↦
+        let s = (each (from_be_bytes w (take (byte_len w) input.rest))).shows _ kind shown
+        (sym (field_there w k input long) ∙ e) in
+        let from = s.1 in
+        farther input.at shown kind s.0 (omega arith)
+  ];
+}
+
+field : (w : Width) (k : ℕ → Reading) → 0 < byte_len w → ((n : ℕ) → IsFromHere (k n)) → IsFromHere (number w k)
+field w k wide each = from_here _ (behind_field w k wide each)
+
+pub behind_cells : (h : Head) (n : ℕ) (tally : Tally) (k : Tally → Reading) → ((t : Tally) → IsBehindHead (k t)) →
+    IsBehindHead (cells_behind h n tally k)
+unfolding cells_behind
+behind_cells h zero tally k each = each tally
+behind_cells h (suc n) tally k each =
+    behind_field w64 _ (omega arith) (λ row. tested _ BadBatch _ bad_batch
+    (field w64 _ (omega arith) (λ col. tested _ BadBatch _ bad_batch (tested _ OutOfOrder _ out_of_order
+    (field w64 _ (omega arith) (λ count. tested _ TotalDiffers _ differs
+    (from_here _ (behind_cells h n _ k each))))))))
+
+-- a batch whose pair was read
+pub behind_pair : (h : Head) (n : ℕ → Tally) (k : Tally → Reading) → ((t : Tally) → IsBehindHead (k t)) →
+    IsBehindHead (number w64 (λ entry_count. cells_behind h entry_count (n entry_count) k))
+behind_pair h n k each =
+    behind_field w64 _ (omega arith) (λ entry_count. from_here _ (behind_cells h entry_count _ k each))
+
+behind_batch : (h : Head) (p : Progress) (k : Progress → Reading) → ((q : Progress) → IsBehindHead (k q)) →
+    IsBehindHead (batch h p k)
+unfolding batch
+behind_batch h p k each =
+    behind_field w64 _ (omega arith) (λ client. field w64 _ (omega arith) (λ batch_number.
+    tested _ RepeatedNumber _ repeated (from_here _ (behind_pair h _ _ (λ t. each _)))))
+
+pub behind_batches : (h : Head) (n : ℕ) (p : Progress) (k : Progress → Reading) →
+    ((q : Progress) → IsBehindHead (k q)) → IsBehindHead (batches_behind h n p k)
+unfolding batches_behind
+behind_batches h zero p k each = each p
+behind_batches h (suc n) p k each = behind_batch h p _ (λ q. behind_batches h n q k each)
+
+end_here : (c : Contents) (at : ℕ) → end c (record { at = at; rest = [] }) ≡ Ok c
+unfolding end
+end_here c at = refl
+
+ended : (c : Contents) (at : ℕ) (rest : List ℕ) (kind : SnapFault) (shown : ℕ) →
+    end c (record { at = at; rest = rest }) ≡ fault_at kind shown → ShowsBehind at shown kind
+ended c at [] kind shown e = absurd (let same : ◌≡◌ {A = outcome} (Ok c) (fault_at kind shown) = sym (end_here c at) ∙ e
+    in cc)
+ended c at (x ∷ rest) kind shown e =
+    let same = sym (end_more c at x rest) ∙ e in
+    let place = place_same ExtraBytes kind (at + 1) shown same in
+    farther at shown kind (same_kind ExtraBytes kind (kind_same ExtraBytes kind (at + 1) shown same) extra)
+    (omega arith)
+
+last_test : (test : Bool) (c : Contents) → IsBehindHead (refuse_if test TotalDiffers (λ _. end c))
+last_test true c = record {
+  shows = λ input kind shown e.
+      let same = sym (refused_at (λ _. end c) true TotalDiffers input refl) ∙ e in
+      here input.at shown kind (kind_same TotalDiffers kind input.at shown same)
+      (place_same TotalDiffers kind input.at shown same);
+}
+last_test false c = record {
+  shows = λ input kind shown e. ended c input.at input.rest kind shown
+      (sym (goes_on (λ _. end c) false TotalDiffers input refl) ∙ e);
+}
+
+pub behind_ending : (h : Head) (p : Progress) → IsBehindHead (ending h p)
+behind_ending h p = last_test (not (p.counted == h.total)) (contents_of h p)
