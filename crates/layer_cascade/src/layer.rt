@@ -17,7 +17,7 @@ ghost use Rattle.layer_cascade.specs.Runs.{CountsPlaces};
 ghost use Rattle.layer_cascade.specs.Shared.{values, all_counts, HaveDims};
 ghost use Rattle.layer_cascade.specs.Steps.{joined, Takes};
 
-use crate::filters::{first_unfiltered, filtered_to, with_filter_at};
+use crate::filters::{filtered_to, first_unfiltered, with_filter_at};
 use crate::limits::{GATHERED_RUNS, KEPT_RUNS, MAX_COUNTED, MAX_LISTED, MAX_RUNS};
 use crate::lists::entries_bound;
 use crate::pairs::{due_pair, kept_in_front, with_pair_added, with_rest_added};
