@@ -45,8 +45,8 @@ pub fn shown_fault_stays()
         FirstFaultAt max_bytes (bytes ++ more) place kind }
 {}
 
-/// Where memory was refused, the first fault of what was read shows in its last 65,536 bytes at the earliest, and not in
-/// the head.
+/// Where memory was refused, the first fault of what was read shows in its last 65,536 bytes at the earliest, and not
+/// in the head.
 pub fn refused_memory_hides_no_early_fault()
     ensures { (max_bytes : ℕ) (answers : List Answer) (place : ℕ) (kind : SnapFault) →
         IsMemoryFault max_bytes answers → FirstFaultAt max_bytes (bytes_of_calls answers) place kind →

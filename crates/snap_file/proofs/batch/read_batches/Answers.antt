@@ -21,9 +21,10 @@ batches-init g c =
       counted = omega arith;
       pairs = pairs_none c.new-2.result (values c.new.result.items) c.new-2.ensures.empty none;
       failures = refl;
-      read = λ s m h. rw (sub-zero c.args.head.now.batches) (subst (λ (l : List Submission). HasJudged {S = g.row.R.Denot} g.R.Source.read_gives
-          g.R.Source.failure_count m s c.args.r.now c.args.reader.now (batches_behind c.args.head.now
-          c.args.head.now.batches (record { batches = l; counted = 0 }) (ending c.args.head.now))) (sym none) h);
+      read = λ s m h. rw (sub-zero c.args.head.now.batches) (subst (λ (l : List Submission).
+          HasJudged {S = g.row.R.Denot} g.R.Source.read_gives g.R.Source.failure_count m s c.args.r.now
+          c.args.reader.now (batches_behind c.args.head.now c.args.head.now.batches
+          (record { batches = l; counted = 0 }) (ending c.args.head.now))) (sym none) h);
     }
 
 pub returns-in_err-read_batch-clause-err : goal.returns-in_err-read_batch-clause-err
