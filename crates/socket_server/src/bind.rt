@@ -1,6 +1,6 @@
 //! Binds the listeners and tells where they are.
 ghost use Rattle.std.specs.Prelude.{◌≡◌, ◌+◌, ◌<◌, ◌^◌, IfErr, OnOk};
-ghost use Rattle.socket_server.specs.Faults.{IsMet};
+ghost use Rattle.socket_server.specs.Faults.{IsMetServing};
 
 use crate::door::{Door, Listen};
 use crate::fault::ServerFault;
@@ -66,7 +66,7 @@ impl Doors {
 pub fn tell<W: Sink>(out: &mut W, written: &mut u128, line: &str) -> Result<(), ServerFault>
     requires { W.failure_count out.old + 1 < 2 ^ 64 }
     ensures failures { OnOk result (W.failure_count out.new ≡ W.failure_count out.old) }
-    ensures met { IfErr result IsMet }
+    ensures met { IfErr result IsMetServing }
 {
     match write_all(out, line.as_bytes()) {
         Ok(()) => {
@@ -81,7 +81,7 @@ pub fn tell<W: Sink>(out: &mut W, written: &mut u128, line: &str) -> Result<(), 
 
 // What a fault of a call at this address is told as.
 fn listen_fault(fault: io::Error, address: String) -> ServerFault
-    ensures { IsMet result }
+    ensures { IsMetServing result }
 {
     if fault.kind() == io::ErrorKind::OutOfMemory {
         ServerFault::Memory
@@ -100,7 +100,7 @@ fn bind_tcp<R: Net<Listener = TcpListener, Stream = TcpStream>, W: Sink>(
 ) -> Result<Option<(Door<TcpListener>, Waker)>, ServerFault>
     requires { W.failure_count out.old + 1 < 2 ^ 64 }
     ensures failures { OnOk result (W.failure_count out.new ≡ W.failure_count out.old) }
-    ensures met { IfErr result IsMet }
+    ensures met { IfErr result IsMetServing }
 {
     let Some(address) = address else {
         return Ok(None);
@@ -133,7 +133,7 @@ fn bind_path<R: Host + Net, W: Sink>(
 ) -> Result<(Door<UnixListener>, Waker, OwnPath), ServerFault>
     requires { W.failure_count out.old + 1 < 2 ^ 64 }
     ensures failures { OnOk result (W.failure_count out.new ≡ W.failure_count out.old) }
-    ensures met { IfErr result IsMet }
+    ensures met { IfErr result IsMetServing }
 {
     let Ok(line) = format!(in alloc; "listening unix {path}\n") else {
         return Err(ServerFault::Memory);
@@ -176,7 +176,7 @@ pub fn open_doors<R: Host + Net<Listener = TcpListener, Stream = TcpStream>, W: 
 ) -> Result<Doors, ServerFault>
     requires { W.failure_count out.old + 1 < 2 ^ 64 }
     ensures failures { OnOk result (W.failure_count out.new ≡ W.failure_count out.old) }
-    ensures met { IfErr result IsMet }
+    ensures met { IfErr result IsMetServing }
 {
     let Places {
         tcp,

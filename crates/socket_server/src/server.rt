@@ -1,11 +1,10 @@
 //! The server, from its settings to its last line.
-ghost use Rattle.std.specs.Prelude.{◌≡◌, ◌+◌, ◌<◌, ◌≤◌, ◌^◌, ◌↔◌, ◌⊎◌, List, None, Err, IfOk, IfErr, OnOk};
-ghost use Rattle.batch_store.specs.Batches.{Submission};
-ghost use Rattle.batch_store.specs.Books.{AreAccepted};
-ghost use Rattle.plain_engine.specs.Object.{status_of};
-ghost use Rattle.batch_store.specs.Batches.{entries_of};
+ghost use Rattle.std.specs.Prelude.{◌≡◌, ◌+◌, ◌<◌, ◌≤◌, ◌^◌, ◌↔◌, ◌⊎◌, List, length, None, Err, IfOk, IfErr, OnOk};
+ghost use Rattle.batch_store.specs.Batches.{Submission, entries_of};
 ghost use Rattle.locked_engine.specs.Opened.{NamesEngine};
-ghost use Rattle.socket_server.specs.Faults.{IsMet};
+ghost use Rattle.socket_server.specs.Ends.{EndsWith};
+ghost use Rattle.socket_server.specs.Faults.{IsMet, IsMetServing};
+ghost use Rattle.socket_server.specs.Starts.{StartsFrom, IsLoadTold};
 
 use crate::bind::{Doors, Places, open_doors, tell};
 use crate::fault::ServerFault;
@@ -46,9 +45,10 @@ fn serve_open<
     doors: &Doors,
     saver: &Saver,
 ) -> Result<Status, ServerFault>
-    ensures status { IfOk result (λ s.
-        (list : List Submission) × AreAccepted N.setup list × (s ≡ status_of list)) }
-    ensures met { IfErr result IsMet }
+    requires seats { length seats.items ≡ N.seats }
+    ensures ended { IfOk result (λ s. (list : List Submission)
+        × EndsWith R.saves rt.now saver.now.path N.setup list s) }
+    ensures met { IfErr result IsMetServing }
 {
     if let Err(fault) = serve_doors(rt, alloc, &engine, seats.as_mut_slice(), doors, saver) {
         drop(seats);
@@ -71,9 +71,10 @@ fn serve_bound<
     doors: Doors,
     saver: &Saver,
 ) -> Result<Status, ServerFault>
-    ensures status { IfOk result (λ s.
-        (list : List Submission) × AreAccepted N.setup list × (s ≡ status_of list)) }
-    ensures met { IfErr result IsMet }
+    requires seats { length seats.items ≡ N.seats }
+    ensures ended { IfOk result (λ s. (list : List Submission)
+        × EndsWith R.saves rt.now saver.now.path N.setup list s) }
+    ensures met { IfErr result IsMetServing }
 {
     let outcome = serve_open(rt, alloc, engine, seats, &doors, saver);
     doors.remove_path(rt);
@@ -106,9 +107,9 @@ fn serve_named<
     requires made_from { plain.setup ≡ names.setup }
     requires opened { entries_of plain.book.list ≡ N.opened }
     ensures failures { OnOk result (W.failure_count out.new ≡ W.failure_count out.old) }
-    ensures status { IfOk result (λ s.
-        (list : List Submission) × AreAccepted names.setup list × (s ≡ status_of list)) }
-    ensures met { IfErr result IsMet }
+    ensures ended { IfOk result (λ s. (list : List Submission)
+        × EndsWith R.saves rt.now plan.saver.path names.setup list s) }
+    ensures met { IfErr result IsMetServing }
 {
     let Ok((engine, seats)) = Engine::<N, H>::open(alloc, plain, names) else {
         return Err(ServerFault::Memory);
@@ -146,9 +147,9 @@ fn serve_plan<
 ) -> Result<Status, ServerFault>
     requires failures { W.failure_count out.old + 1 < 2 ^ 64 }
     requires workers { (1 ≤ workers) × (workers ≤ 32) }
-    ensures status { IfOk result (λ s.
-        (list : List Submission) × AreAccepted plain.setup list × (s ≡ status_of list)) }
-    ensures met { IfErr result IsMet }
+    ensures ended { IfOk result (λ s. (list : List Submission)
+        × EndsWith R.saves rt.now plan.saver.path plain.setup list s) }
+    ensures met { IfErr result IsMetServing }
 {
     let Ok(names) = Names::new(rt, alloc, &plain, workers as usize) else {
         return Err(ServerFault::Memory);
@@ -174,6 +175,7 @@ fn serve_plan<
 }
 
 // Serves as the settings say, which were judged.
+#[tactic(auto, using(crate::proofs::FaultLaws::serving_met, crate::proofs::FaultLaws::serving_told))]
 fn serve_settings<
     R: Threads
         + Wait
@@ -187,9 +189,12 @@ fn serve_settings<
 >(rt: &R, alloc: Global, settings: Settings, out: &mut W) -> Result<Status, ServerFault>
     requires failures { W.failure_count out.old + 1 < 2 ^ 64 }
     requires workers { (1 ≤ settings.workers) × (settings.workers ≤ 32) }
-    ensures status { IfOk result (λ s.
-        (list : List Submission) × AreAccepted settings.setup list × (s ≡ status_of list)) }
+    ensures started { IfOk result (λ s. (list : List Submission)
+        × StartsFrom R.loads rt.now settings.snapshot settings.setup list) }
+    ensures ended { IfOk result (λ s. (list : List Submission)
+        × EndsWith R.saves rt.now settings.snapshot settings.setup list s) }
     ensures met { IfErr result IsMet }
+    ensures told { IfErr result (λ f. IsLoadTold R.loads rt.now settings.snapshot settings.setup f) }
 {
     let Settings {
         tcp,
@@ -243,8 +248,11 @@ pub fn run_server<
     ensures nowhere { (result ≡ Err ServerFault.NoAddress)
         ↔ ((1 ≤ settings.workers) × (settings.workers ≤ 32) × (settings.tcp ≡ None) × (settings.unix ≡ None)) }
     ensures others { IfErr result (λ f. (f ≡ ServerFault.BadWorkers) ⊎ (f ≡ ServerFault.NoAddress) ⊎ IsMet f) }
-    ensures status { IfOk result (λ s.
-        (list : List Submission) × AreAccepted settings.setup list × (s ≡ status_of list)) }
+    ensures told { IfErr result (λ f. IsLoadTold R.loads rt.now settings.snapshot settings.setup f) }
+    ensures started { IfOk result (λ s. (list : List Submission)
+        × StartsFrom R.loads rt.now settings.snapshot settings.setup list) }
+    ensures ended { IfOk result (λ s. (list : List Submission)
+        × EndsWith R.saves rt.now settings.snapshot settings.setup list s) }
 {
     settings.judge()?;
     serve_settings(rt, alloc, settings, out)

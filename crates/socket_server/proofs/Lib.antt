@@ -1,0 +1,2 @@
+mod SeatLaws
+mod FaultLaws

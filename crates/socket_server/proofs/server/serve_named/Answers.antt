@@ -1,0 +1,11 @@
+use Rattle.std.proofs.Common.{length, ap, ◌∙◌}
+use Rattle.batch_store.specs.Batches.{entries_of}
+use Rattle.batch_store.specs.Books.{list_total}
+use Rattle.socket_server.proofs.SeatLaws.{opened_count}
+use Rattle.socket_server.proofs.server.serve_named.Goals as goal
+
+-- the engine was just opened, with so many seats
+pub serve_bound-requires-clause-seats : goal.serve_bound-requires-clause-seats
+serve_bound-requires-clause-seats g c κs within =
+    ap length c.in-Ok.ensures.seats
+    ∙ opened_count (entries_of c.args.plain.book.list) (list_total c.args.plain.book.list) g.N.Named.seats
