@@ -66,32 +66,45 @@ fn expect_shards<N: Named, H: Ledger, R: Wait + Abort>(
     engine: &Engine<N, H>,
 ) -> Result<(), Fail> {
     for held in &SHARDS {
-        if held.0 >= engine.setup().shards() {
+        let (number, total, batches, cells) = *held;
+        if number >= engine.setup().shards() {
             return Err("no such shard".into());
         }
-        let Some(found) = engine.look(rt, held.0, |shard| holds(shard, held)) else {
-            return Err("another number".into());
-        };
-        assert!(rt; found, "shard {}", held.0);
+        let found = engine.look(rt, number, |shard| {
+            shard.number() == number
+                && shard.total() == total
+                && has_batches(shard, batches)
+                && has_cells(shard, cells)
+        });
+        assert_eq!(rt; found, Some(true), "shard {number}");
     }
     Ok(())
 }
 
-// Whether a shard holds exactly this.
-fn holds(shard: &Shard, held: &Held) -> bool {
-    let (number, total, [first, second], cells) = held;
-    let batches = *first as u64 + *second as u64;
-    (shard.number(), shard.total(), shard.record_len()) == (*number, *total, batches)
-        && shard.holds(7, 1) == *first
-        && shard.holds(8, 1) == *second
-        && has_cells(shard, cells)
+// Whether a shard has each of the two batches, or hasn't, and no others.
+fn has_batches(shard: &Shard, batches: [bool; 2]) -> bool {
+    let [first, second] = batches;
+    shard.holds(7, 1) == first
+        && shard.holds(8, 1) == second
+        && shard.record_len() == u64::from(first) + u64::from(second)
 }
 
 // Whether these are all cells of a shard within the small setup.
-fn has_cells(shard: &Shard, cells: &[(u64, u64, u64)]) -> bool {
-    (0..9u64).all(|place| {
-        let (row, col) = (place / 3, place % 3);
-        let cell = cells.iter().find(|cell| (cell.0, cell.1) == (row, col));
-        shard.get(row, col) == cell.map(|cell| cell.2)
-    })
+fn has_cells(shard: &Shard, cells: Cells) -> bool {
+    for place in 0..9u64 {
+        if shard.get(place / 3, place % 3) != count_at(cells, place / 3, place % 3) {
+            return false;
+        }
+    }
+    true
+}
+
+// The count that a table has at a place.
+fn count_at(cells: Cells, row: u64, col: u64) -> Option<u64> {
+    for cell in cells {
+        if cell.0 == row && cell.1 == col {
+            return Some(cell.2);
+        }
+    }
+    None
 }
