@@ -131,8 +131,8 @@ const STEP: u64 = 8;
 // The frames have 456 bytes, which are 57 reads, and the replies are 39 writes: this call is the read that gives none.
 const LAST: u32 = 96;
 
-// How the session ends whose call with this number fails. A frame is answered once it was read to its end, whatever came
-// behind it, and its reply is written before more is read.
+// How the session ends whose call with this number fails. A frame is answered once it was read to its end, whatever
+// came behind it, and its reply is written before more is read.
 fn end_at(call: u64) -> End {
     let mut left = call;
     let (mut read, mut needed) = (0u64, 0u64);
