@@ -6,4 +6,4 @@ pub mod ShardLaws
 pub mod FileLaws
 pub mod ListLaws
 pub mod VerdictMeaning
-pub mod CutLaws
+pub mod BatchPartLaws

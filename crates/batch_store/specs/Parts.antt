@@ -1,4 +1,4 @@
--- The shares of shards in a matrix, and in a list of batches. The shard of a cell is its row's remainder by the number
+-- The parts of shards in a matrix, and in a list of batches. The shard of a cell is its row's remainder by the number
 -- of shards, with rows counted from 0.
 --     part m s k            the rows of shard s of k (of Rattle.hyper_matrix.specs.Counts)
 --     part_of s k m         the total of that part

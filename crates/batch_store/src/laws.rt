@@ -1,4 +1,4 @@
-//! Laws of the verdict, of the shards' shares and of records, in terms of the definitions alone.
+//! Laws of the verdict, of the shards' parts and of records, in terms of the definitions alone.
 //!
 //! Each is a function without parameters whose `ensures` is the law. They hold for all numbers, matrices and lists.
 ghost use Rattle.std.specs.Prelude.{◌≡◌, ℕ, ◌+◌, ◌<◌, ◌≤◌, ◌↔◌, ◌++◌, [], ◌∷◌, List, false, length};
@@ -52,7 +52,7 @@ pub fn one_shard_more()
         list_below (s + 1) k list ≡ list_below s k list + total (record_content s k list) }
 {}
 
-/// The shares of all shards make the whole.
+/// The parts of all shards make the whole.
 pub fn shards_have_all()
     ensures matrix { (k : ℕ) (m : Counts) → 0 < k → below k k m ≡ total m }
     ensures list { (k : ℕ) (list : List Submission) → 0 < k → list_below k k list ≡ list_total list }

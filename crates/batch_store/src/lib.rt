@@ -11,8 +11,8 @@
 #![tactic(auto)]
 
 mod batch;
+mod batch_parts;
 mod book;
-mod cut;
 mod fault;
 mod laws;
 mod limits;

@@ -230,7 +230,7 @@ impl Shard {
             return Err(ShardFault::AlreadyThere);
         }
         match batch.matrix.part(alloc, self.number(), self.setup.shards()) {
-            Ok(share) => self.prepare_part(alloc, b, &share),
+            Ok(part) => self.prepare_part(alloc, b, &part),
             Err(_) => Err(self.refusal(batch)),
         }
     }
@@ -260,9 +260,9 @@ impl Shard {
         &mut self,
         alloc: Global,
         b: &Arc<Batch>,
-        share: &Hyper,
+        part: &Hyper,
     ) -> Result<Prepared, ShardFault>
-        requires share { share.now ≡ matrix_in self.old (arc_value b.now) }
+        requires part { part.now ≡ matrix_in self.old (arc_value b.now) }
         requires dims { HasDims self.old.setup (arc_value b.now) }
         requires absent { stands (arc_value b.now).client (arc_value b.now).number self.old.record_list ≡ false }
         ensures stays { Stays self.old self.new }
@@ -270,10 +270,10 @@ impl Shard {
         ensures ready { IfOk result (IsReady self.new) }
         ensures err { IfErr result (Refuses self.old (arc_value b.now)) }
     {
-        if !self.fits(share.total()) {
+        if !self.fits(part.total()) {
             return Err(ShardFault::Over);
         }
-        match self.made_ready(alloc, b, share) {
+        match self.made_ready(alloc, b, part) {
             Ok(p) => Ok(p),
             Err(_) => Err(ShardFault::Memory),
         }
@@ -284,9 +284,9 @@ impl Shard {
         &mut self,
         alloc: Global,
         b: &Arc<Batch>,
-        share: &Hyper,
+        part: &Hyper,
     ) -> Result<Prepared, AllocError>
-        requires share { share.now ≡ matrix_in self.old (arc_value b.now) }
+        requires part { part.now ≡ matrix_in self.old (arc_value b.now) }
         requires dims { HasDims self.old.setup (arc_value b.now) }
         requires absent { stands (arc_value b.now).client (arc_value b.now).number self.old.record_list ≡ false }
         requires fits { shard_total self.old + amount_in self.old (arc_value b.now) ≤ self.old.setup.limit }
@@ -294,12 +294,12 @@ impl Shard {
         ensures batch { IfOk result (λ p. p.batch ≡ arc_value b.now) }
         ensures ready { IfOk result (IsReady self.new) }
     {
-        let plan = self.layers.plan(alloc, share)?;
+        let plan = self.layers.plan(alloc, part)?;
         self.held.reserve(1)?;
         let batch = Arc::try_clone(b)?;
         Ok(Prepared {
             batch,
-            amount: share.total(),
+            amount: part.total(),
             plan,
         })
     }

@@ -102,11 +102,11 @@ fn a_batch_without_cells_concerns_no_shard(rt: HostRuntime) -> Result<(), Fail> 
 }
 
 /// A text, and of its part in each of so many shards the number of cells and the total; None where no cell lies there.
-type Shares = (&'static str, &'static [Option<(u64, u64)>]);
+type Parts = (&'static str, &'static [Option<(u64, u64)>]);
 
 const ROWS: &str = "3 3 3\n1 1 5\n1 2 0\n3 1 4\n";
 
-static SHARES: &[Shares] = &[
+static PARTS: &[Parts] = &[
     ("3 3 0\n", &[None]),
     ("3 3 0\n", &[None, None]),
     // A stored zero is a cell.
@@ -117,18 +117,18 @@ static SHARES: &[Shares] = &[
     (ROWS, &[Some((2, 5)), None, Some((1, 4)), None, None]),
 ];
 
-// Whether a batch has these shares, also where a growth was refused the first time.
+// Whether a batch has these parts, also where a growth was refused the first time.
 fn has_shares(alloc: Global, b: &Batch, want: &[Option<(u64, u64)>]) -> Result<bool, Fail> {
     let k = want.len() as u64;
     if k == 0 {
         return Ok(false);
     }
-    let shares = match b.shares(alloc, k) {
-        Ok(shares) => shares,
-        Err(_) => b.shares(alloc, k)?,
+    let parts = match b.parts(alloc, k) {
+        Ok(parts) => parts,
+        Err(_) => b.parts(alloc, k)?,
     };
-    for (share, expected) in shares.iter().zip(want) {
-        let found = match share {
+    for (part, expected) in parts.iter().zip(want) {
+        let found = match part {
             Some(part) => Some((part.entries(), part.total())),
             None => None,
         };
@@ -136,13 +136,13 @@ fn has_shares(alloc: Global, b: &Batch, want: &[Option<(u64, u64)>]) -> Result<b
             return Ok(false);
         }
     }
-    Ok(shares.len() == want.len())
+    Ok(parts.len() == want.len())
 }
 
 #[test]
 fn a_batch_is_cut_by_rows(rt: HostRuntime) -> Result<(), Fail> {
     let setup = small_setup()?;
-    for (tail, want) in SHARES {
+    for (tail, want) in PARTS {
         let b = batch(rt.alloc(), &setup, 7, 1, tail)?;
         assert!(rt; has_shares(rt.alloc(), &b, want)?, "{tail:?} {want:?}");
     }

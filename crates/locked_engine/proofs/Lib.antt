@@ -1,5 +1,5 @@
 pub mod MomentLaws
-pub mod ShareLaws
+pub mod AdmittedLaws
 pub mod PrefixLaws
 pub mod AddLaws
 pub mod ToldLaws

@@ -3,7 +3,7 @@ ghost use Rattle.std.specs.Prelude.{◌≡◌, ◌⊎◌, ◌+◌, ◌≤◌, �
 ghost use mathlib.Core.List.{IsPrefix};
 ghost use Rattle.std.specs.Arc.{arc_value};
 ghost use Rattle.batch_store.specs.Batches.{batch_total, entry_of};
-ghost use Rattle.batch_store.specs.Cuts.{shares_below};
+ghost use Rattle.batch_store.specs.BatchParts.{parts_if_any};
 ghost use Rattle.batch_store.specs.Parts.{below};
 ghost use Rattle.locked_engine.specs.Told.{IsTold, answer_of};
 
@@ -134,7 +134,7 @@ impl<N: Named, H: Ledger> Engine<N, H> {
         answer
     }
 
-    // Puts a batch from a seat that has these shares. Ok is a first acceptance.
+    // Puts a batch from a seat that has these shares of the ledgers. Ok is a first acceptance.
     fn put_shares<R: Wait>(
         &self,
         rt: &R,
@@ -157,17 +157,17 @@ impl<N: Named, H: Ledger> Engine<N, H> {
         ensures err { IfErr result (λ u. IsTold N.setup (entry_of (arc_value b.now)) seen.new (answer_of u)) }
     {
         self.ask(rt, seen, b)?;
-        let shares = b.shares(alloc, self.setup.shards())?;
+        let parts = b.parts(alloc, self.setup.shards())?;
         let place = NextPlace::make(alloc)?;
         // The batch lives on behind this call, so no lock is held while its cells are given back.
         let own = Arc::try_clone(b)?;
         let mut past = Vec::with_capacity(alloc, self.setup.shards() as usize)?;
         let kept = self.put_from(
-            rt, alloc, first, second, seen, place, own, &shares, &mut past, 0,
+            rt, alloc, first, second, seen, place, own, &parts, &mut past, 0,
         )?;
         drop(past);
         let due = kept.index % self.setup.shards();
-        if let Some(Some(_)) = shares.get(due as usize) {
+        if let Some(Some(_)) = parts.get(due as usize) {
             self.gather(rt, alloc, due);
         }
         Ok(kept)
@@ -203,13 +203,13 @@ impl<N: Named, H: Ledger> Engine<N, H> {
         seen: &mut Version<N>,
         next: NextPlace<N>,
         b: Arc<Batch>,
-        shares: &[Option<Hyper>],
+        parts: &[Option<Hyper>],
         past: &mut Vec<Arc<ShardVersion<N>>>,
         s: u64,
     ) -> Result<Kept, NotAdmitted>
         requires rows { (arc_value b).matrix.rows ≡ N.setup.rows }
         requires cols { (arc_value b).matrix.cols ≡ N.setup.cols }
-        requires shares { shares.now ≡ shares_below N.setup.shards N.setup.shards (arc_value b) }
+        requires batch_parts { parts.now ≡ parts_if_any N.setup.shards N.setup.shards (arc_value b) }
         requires place { s ≤ N.setup.shards }
         requires room { vec_len past.old + N.setup.shards ≤ vec_capacity past.old + s }
         requires parts { (first.old.parts ≡ 1) × (second.old.parts ≡ 1) }
@@ -228,16 +228,16 @@ impl<N: Named, H: Ledger> Engine<N, H> {
         if s == self.setup.shards() {
             return self.admit(rt, first, second, seen, next, b);
         }
-        let Some(share) = &shares[s as usize] else {
-            return self.put_from(rt, alloc, first, second, seen, next, b, shares, past, s + 1);
+        let Some(part) = &parts[s as usize] else {
+            return self.put_from(rt, alloc, first, second, seen, next, b, parts, past, s + 1);
         };
         let mut guard = self.shards[s as usize].lock(rt);
         let locked = &mut *guard;
-        let ready = match locked.prepare(alloc, s, &b, share) {
+        let ready = match locked.prepare(alloc, s, &b, part) {
             Ok(ready) => ready,
             Err(refusal) => return Err(self.answer_for(rt, seen, &b, refusal)),
         };
-        let kept = self.put_from(rt, alloc, first, second, seen, next, b, shares, past, s + 1)?;
+        let kept = self.put_from(rt, alloc, first, second, seen, next, b, parts, past, s + 1)?;
         let version = locked.deliver(ready, second);
         past.push_reserved(self.show(rt, s, version));
         Ok(kept)

@@ -6,7 +6,7 @@ ghost use Rattle.std.specs.Arc.{arc_value};
 ghost use Rattle.batch_store.specs.declared.verdict.Verdict.TheVariants.{Fresh};
 ghost use Rattle.batch_store.specs.Batches.{batch_total};
 ghost use Rattle.batch_store.specs.Books.{list_total};
-ghost use Rattle.batch_store.specs.Cuts.{cut_of, shares_below};
+ghost use Rattle.batch_store.specs.BatchParts.{part_matrix, parts_if_any};
 ghost use Rattle.batch_store.specs.Parts.{concerns};
 ghost use Rattle.batch_store.specs.Shards.{IsReady, stands, shard_total, amount_in};
 ghost use Rattle.batch_store.specs.Verdicts.{kept};
@@ -20,16 +20,16 @@ use std::alloc::{AllocError, Global};
 use std::sync::Arc;
 
 // A batch's part in shard s, and None where no cell of it lies there.
-fn share_in<'a>(shares: &'a [Option<Hyper>], b: &Batch, s: u64, k: u64) -> Option<&'a Hyper>
-    requires told { shares.now ≡ shares_below k k b.now }
+fn part_in<'a>(parts: &'a [Option<Hyper>], b: &Batch, s: u64, k: u64) -> Option<&'a Hyper>
+    requires told { parts.now ≡ parts_if_any k k b.now }
     requires shard { s < k }
     requires most { k ≤ 64 }
-    ensures part { IfSome result (λ m. m.now ≡ cut_of s k b.now) }
+    ensures part { IfSome result (λ m. m.now ≡ part_matrix s k b.now) }
     ensures some { IfSome result (λ m. concerns s k b.now.matrix.counts ≡ true) }
     ensures none { IfNone result (concerns s k b.now.matrix.counts ≡ false) }
 {
-    match &shares[s as usize] {
-        Some(share) => Some(share),
+    match &parts[s as usize] {
+        Some(part) => Some(part),
         None => None,
     }
 }
@@ -39,18 +39,18 @@ fn prepared_for(
     shard: &mut Shard,
     alloc: Global,
     b: &Arc<Batch>,
-    share: &Hyper,
+    part: &Hyper,
 ) -> Result<Prepared, AllocError>
     requires rows { (arc_value b.now).matrix.rows ≡ shard.old.setup.rows }
     requires cols { (arc_value b.now).matrix.cols ≡ shard.old.setup.cols }
-    requires share { share.now ≡ cut_of shard.old.number shard.old.setup.shards (arc_value b.now) }
+    requires part { part.now ≡ part_matrix shard.old.number shard.old.setup.shards (arc_value b.now) }
     requires absent { stands (arc_value b.now).client (arc_value b.now).number shard.old.record_list ≡ false }
     requires fits { shard_total shard.old + amount_in shard.old (arc_value b.now) ≤ shard.old.setup.limit }
     ensures bare { bare_shard shard.new ≡ bare_shard shard.old }
     ensures batch { IfOk result (λ p. p.batch ≡ arc_value b.now) }
     ensures ready { IfOk result (IsReady shard.new) }
 {
-    match shard.prepare_with(alloc, b, share) {
+    match shard.prepare_with(alloc, b, part) {
         Ok(prepared) => Ok(prepared),
         Err(ShardFault::Memory) => Err(AllocError),
         Err(ShardFault::AlreadyThere) => unreachable!(),
@@ -82,13 +82,13 @@ fn put_from(
     k: u64,
     book: &mut Book,
     b: Arc<Batch>,
-    shares: &[Option<Hyper>],
+    parts: &[Option<Hyper>],
 ) -> Result<Kept, AllocError>
     requires fresh { verdict_in book.old.setup book.old.list (arc_value b) ≡ Fresh }
     requires rows { (arc_value b).matrix.rows ≡ book.old.setup.rows }
     requires cols { (arc_value b).matrix.cols ≡ book.old.setup.cols }
     requires k { k ≡ book.old.setup.shards }
-    requires shares { shares.now ≡ shares_below k k (arc_value b) }
+    requires parts { parts.now ≡ parts_if_any k k (arc_value b) }
     requires take { AllTake book.old.setup (arc_value b) shards.old }
     ensures setup { book.new.setup ≡ book.old.setup }
     ensures list { OnOk result (book.new.list ≡ book.old.list ++ arc_value b ∷ []) }
@@ -104,11 +104,11 @@ fn put_from(
     };
     // A call on a shard tells what it keeps, here and after the commit.
     let _held = first.total();
-    let Some(share) = share_in(shares, &b, first.number(), k) else {
-        return put_from(rest, alloc, k, book, b, shares);
+    let Some(part) = part_in(parts, &b, first.number(), k) else {
+        return put_from(rest, alloc, k, book, b, parts);
     };
-    let prepared = prepared_for(first, alloc, &b, share)?;
-    let kept = put_from(rest, alloc, k, book, b, shares)?;
+    let prepared = prepared_for(first, alloc, &b, part)?;
+    let kept = put_from(rest, alloc, k, book, b, parts)?;
     first.commit(prepared);
     let _held = first.total();
     Ok(kept)
@@ -139,6 +139,6 @@ pub fn put_fresh(
     ensures same_list { OnErr result (book.new.list ≡ book.old.list) }
     ensures same_shards { OnErr result (map bare_shard shards.new ≡ map bare_shard shards.old) }
 {
-    let shares = b.shares(alloc, k)?;
-    put_from(shards, alloc, k, book, b, &shares)
+    let parts = b.parts(alloc, k)?;
+    put_from(shards, alloc, k, book, b, &parts)
 }

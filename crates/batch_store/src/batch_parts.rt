@@ -4,7 +4,7 @@
 //! first, and holds a shard only for what needs the shard's layers.
 ghost use Rattle.std.specs.Prelude.{◌≡◌, ◌<◌, IfOk, IfErr};
 ghost use Rattle.std.specs.Arc.{arc_value};
-ghost use Rattle.batch_store.specs.Cuts.{cut_of, shares_below, unless_empty};
+ghost use Rattle.batch_store.specs.BatchParts.{part_matrix, parts_if_any, unless_empty};
 ghost use Rattle.batch_store.specs.Parts.{part_of};
 ghost use Rattle.batch_store.specs.Shards.{IsReady, Refuses, Stays};
 
@@ -33,16 +33,16 @@ impl Batch {
     /// # Errors
     ///
     /// A growth was refused.
-    pub fn shares(&self, alloc: Global, k: u64) -> Result<Vec<Option<Hyper>>, AllocError>
+    pub fn parts(&self, alloc: Global, k: u64) -> Result<Vec<Option<Hyper>>, AllocError>
         requires { 0 < k }
-        ensures { IfOk result (λ shares. shares.items ≡ shares_below k k self.now) }
+        ensures { IfOk result (λ parts. parts.items ≡ parts_if_any k k self.now) }
     {
-        let parts = self.matrix.parts(alloc, k)?;
-        let mut shares = Vec::with_capacity(alloc, parts.len())?;
-        'parts: for part in parts {
-            shares.push(unless_empty(part))?;
+        let all = self.matrix.parts(alloc, k)?;
+        let mut parts = Vec::with_capacity(alloc, all.len())?;
+        'all: for part in all {
+            parts.push(unless_empty(part))?;
         }
-        Ok(shares)
+        Ok(parts)
     }
 }
 
@@ -57,11 +57,11 @@ impl Shard {
         &mut self,
         alloc: Global,
         b: &Arc<Batch>,
-        share: &Hyper,
+        part: &Hyper,
     ) -> Result<Prepared, ShardFault>
         requires rows { (arc_value b.now).matrix.rows ≡ self.old.setup.rows }
         requires cols { (arc_value b.now).matrix.cols ≡ self.old.setup.cols }
-        requires share { share.now ≡ cut_of self.old.number self.old.setup.shards (arc_value b.now) }
+        requires part { part.now ≡ part_matrix self.old.number self.old.setup.shards (arc_value b.now) }
         ensures stays { Stays self.old self.new }
         ensures batch { IfOk result (λ p. p.batch ≡ arc_value b.now) }
         ensures amount { IfOk result (λ p. p.amount ≡
@@ -73,6 +73,6 @@ impl Shard {
         if self.holds(batch.client, batch.number) {
             return Err(ShardFault::AlreadyThere);
         }
-        self.prepare_part(alloc, b, share)
+        self.prepare_part(alloc, b, part)
     }
 }
