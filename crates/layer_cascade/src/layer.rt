@@ -134,6 +134,7 @@ impl Layer {
     pub fn entries(&self) -> u64
         ensures { result ≡ len self.now.counts }
     {
+        // It fits 64 bits, so the entries do.
         let _bound = self.most;
         entries_in(&self.runs, self.counted, self.places)
     }
@@ -250,6 +251,7 @@ impl Layer {
     pub fn counted_on(&self, alloc: Global, more: usize) -> Result<Layer, AllocError>
         ensures { IfOk result (λ layer. layer ≡ self.now) }
     {
+        // It fits 64 bits, so the entries do.
         let _bound = self.most;
         let until = self
             .counted

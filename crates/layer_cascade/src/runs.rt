@@ -150,6 +150,7 @@ fn new_by_look_ups(before: &[Arc<FilteredMatrix>], m: &Hyper) -> u64
     requires { total (content (all_counts (values before.now))) < 2 ^ 64 }
     ensures { result ≡ count_new (content (all_counts (values before.now))) (entries m.now.counts) }
 {
+    // They fit 64 bits, so the new ones do.
     let _bound = m.entries();
     let mut new = 0;
     'cells: for cell in m.iter() {

@@ -38,6 +38,7 @@ fn stands_at(head: Option<Cell>, place: (u64, u64)) -> bool
 pub fn new_beside(before: &Hyper, m: &Hyper) -> u64
     ensures { result ≡ count_new before.now.counts (entries m.now.counts) }
 {
+    // They fit 64 bits, so the new ones do.
     let _bound = m.entries();
     let mut others = before.iter();
     let mut head = others.next();
