@@ -1,4 +1,3 @@
 pub mod Bounds
 pub mod Order
 pub mod Sums
-pub mod Buckets

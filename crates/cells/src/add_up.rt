@@ -9,7 +9,7 @@ ghost use Rattle.cells.specs.Order.{NeverFall, Rise};
 ghost use Rattle.cells.specs.Sums.{cell_total, sum_at};
 
 use crate::cell::Cell;
-use crate::sort::sorted;
+use crate::sort::{into_sorted, sorted};
 use std::alloc::{AllocError, Global};
 
 // Whether two cells stand at one place.
@@ -62,9 +62,20 @@ pub fn added_up(cells: Vec<Cell>) -> Vec<Cell>
     list
 }
 
-/// The places of a list by row and then by column, each once and with the sum of its counts.
+/// The places of a list by row and then by column, each once and with the sum of its counts, in the list's own memory.
 ///
-/// Takes the time and memory of `sorted`, and a pass.
+/// Takes the time of `into_sorted`, and a pass.
+pub fn into_summed(cells: Vec<Cell>) -> Vec<Cell>
+    requires fits { cell_total cells.items < 2 ^ 64 }
+    ensures rises { Rise result.items }
+    ensures sums { (q : ℕ × ℕ) → sum_at q result.items ≡ sum_at q cells.items }
+    ensures total { cell_total result.items ≡ cell_total cells.items }
+    ensures within { (rows cols : ℕ) → AreWithin rows cols cells.items → AreWithin rows cols result.items }
+{
+    added_up(into_sorted(cells))
+}
+
+/// The same in a list of its own, for a list that is lent. Takes the time and memory of `sorted`, and a pass.
 ///
 /// # Errors
 ///

@@ -16,9 +16,9 @@ mod order;
 mod sort;
 mod total;
 
-pub use add_up::{added_up, summed};
+pub use add_up::{added_up, into_summed, summed};
 pub use cell::Cell;
 pub use limits::MAX_DIMENSION;
 pub use order::{is_in_order, rises};
-pub use sort::sorted;
+pub use sort::{into_sorted, sorted};
 pub use total::{checked_total, total_of};
