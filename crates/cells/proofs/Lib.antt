@@ -1,3 +1,4 @@
 pub mod OrderLaws
 pub mod AddUpLaws
 pub mod SumLaws
+pub mod HeldLaws

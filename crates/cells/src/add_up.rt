@@ -9,6 +9,7 @@ ghost use Rattle.cells.specs.Order.{NeverFall, Rise};
 ghost use Rattle.cells.specs.Sums.{cell_total, sum_at};
 
 use crate::cell::Cell;
+use crate::order::rises;
 use crate::sort::{into_sorted, sorted};
 use std::alloc::{AllocError, Global};
 
@@ -64,7 +65,8 @@ pub fn added_up(cells: Vec<Cell>) -> Vec<Cell>
 
 /// The places of a list by row and then by column, each once and with the sum of its counts, in the list's own memory.
 ///
-/// Takes the time of `into_sorted`, and a pass.
+/// Takes the time of `into_sorted`, and a pass or two. A list in which each place stands once, in order, is given back
+/// after one.
 pub fn into_summed(cells: Vec<Cell>) -> Vec<Cell>
     requires fits { cell_total cells.items < 2 ^ 64 }
     ensures rises { Rise result.items }
@@ -72,6 +74,9 @@ pub fn into_summed(cells: Vec<Cell>) -> Vec<Cell>
     ensures total { cell_total result.items ≡ cell_total cells.items }
     ensures within { (rows cols : ℕ) → AreWithin rows cols cells.items → AreWithin rows cols result.items }
 {
+    if rises(&cells) {
+        return cells;
+    }
     added_up(into_sorted(cells))
 }
 

@@ -1,6 +1,6 @@
 //! Equal places added up, beside a plain map.
 use crate::shapes::{COUNTS, GREAT_COUNTS, LONG_COUNTS, SHAPES, Shape, cell, listed};
-use cells::{Cell, checked_total, rises, summed, total_of};
+use cells::{Cell, checked_total, into_summed, rises, summed, total_of};
 use std::alloc::{AllocError, Global};
 use std::collections::BTreeMap;
 use std::test::Fail;
@@ -28,12 +28,14 @@ fn cells_of(alloc: Global, triples: &[(u64, u64, u64)]) -> Result<Vec<Cell>, All
     Ok(cells)
 }
 
-// Whether a list is summed to these cells. Its counts fit 64 bits together.
+// Whether a list is summed to these cells, lent and given away. Its counts fit 64 bits together.
 fn sums_to(alloc: Global, cells: &[Cell], want: &[Cell]) -> Result<bool, AllocError> {
     match checked_total(cells) {
         Some(total) => {
             let list = summed(alloc, cells)?;
             let same = list.as_slice() == want && rises(&list);
+            let given = into_summed(Vec::from_slice(alloc, cells)?);
+            let same = same && given.as_slice() == want;
             Ok(same && total_of(cells) == total && checked_total(&list) == Some(total))
         }
         None => Ok(false),

@@ -1,17 +1,24 @@
-//! The sort, beside std's.
+//! The sort of a list that is lent and of one that is given away, beside std's.
 use crate::shapes::{COUNTS, GREAT_COUNTS, LONG_COUNTS, SHAPES, Shape, listed};
-use cells::{Cell, is_in_order, sorted};
+use cells::{Cell, into_sorted, is_in_order, sorted};
 use std::alloc::{AllocError, Global};
 use std::test::Fail;
 
-// Whether a list is sorted to what std's sort makes of it, but for the order of cells at one place.
-fn sorts(alloc: Global, cells: &[Cell]) -> Result<bool, AllocError> {
-    let mut list = sorted(alloc, cells)?;
+// Whether a sorted list has the cells of another, whatever the order of cells at one place.
+fn is_sorted_of(alloc: Global, list: Vec<Cell>, cells: &[Cell]) -> Result<bool, AllocError> {
+    let mut list = list;
     let in_order = is_in_order(&list);
     let mut want = Vec::from_slice(alloc, cells)?;
     want.sort_unstable_by_key(|c| (c.row, c.col, c.count));
     list.sort_unstable_by_key(|c| (c.row, c.col, c.count));
     Ok(in_order && list.as_slice() == want.as_slice())
+}
+
+// Whether a list is sorted to what std's sort makes of it, lent and given away.
+fn sorts(alloc: Global, cells: &[Cell]) -> Result<bool, AllocError> {
+    let lent = sorted(alloc, cells)?;
+    let given = into_sorted(Vec::from_slice(alloc, cells)?);
+    Ok(is_sorted_of(alloc, lent, cells)? && is_sorted_of(alloc, given, cells)?)
 }
 
 fn sorts_shape(alloc: Global, shape: Shape, counts: &[u64]) -> Result<bool, AllocError> {
@@ -91,9 +98,19 @@ fn refused_sort(rt: HostRuntime) -> Result<(), Fail> {
     Ok(())
 }
 
-// The same where each part of the list asks for memory.
+// A list that is given away stays in its memory, of which it takes no more.
+fn stays_in_place(alloc: Global, count: u64) -> Result<bool, AllocError> {
+    let cells = listed(alloc, Shape::Within(1 << 60, 1 << 60), count)?;
+    let room = cells.capacity();
+    let list = into_sorted(cells);
+    Ok(list.capacity() == room)
+}
+
 #[test]
-fn refused_sort_of_a_long_list(rt: HostRuntime) -> Result<(), Fail> {
-    assert!(rt; sorts_again(rt.alloc(), 20_000)?);
+fn lists_given_away(rt: HostRuntime) -> Result<(), Fail> {
+    for count in COUNTS {
+        assert!(rt; stays_in_place(rt.alloc(), count)?, "{count}");
+    }
+    assert!(rt; stays_in_place(rt.alloc(), 100_000)?);
     Ok(())
 }
