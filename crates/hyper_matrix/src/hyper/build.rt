@@ -16,7 +16,7 @@ use super::assemble;
 use crate::hyper::Hyper;
 use crate::judge::{BuildFault, judge_cells};
 use crate::split::push_blocks;
-use cells::{Cell, rises, summed, total_of};
+use cells::{Cell, into_summed, rises, total_of};
 use std::alloc::{AllocError, Global};
 
 impl Hyper {
@@ -45,6 +45,37 @@ impl Hyper {
         match judge_cells(rows, cols, cells) {
             Some(fault) => Err(fault),
             None => match build_judged(alloc, rows, cols, cells) {
+                Ok(m) => Ok(m),
+                Err(_) => Err(BuildFault::Memory),
+            },
+        }
+    }
+
+    /// The same of a list that is given away. It is judged as it came, and then sorted and added up in its own memory,
+    /// so that beside the matrix no memory is taken. The list is gone, also where it is refused.
+    ///
+    /// # Errors
+    ///
+    /// Those of `build`.
+    pub fn build_list(
+        alloc: Global,
+        rows: u64,
+        cols: u64,
+        cells: Vec<Cell>,
+    ) -> Result<Hyper, BuildFault>
+        requires rows { IsDimension rows }
+        requires cols { IsDimension cols }
+        ensures ok { IfOk result (λ m. m ≡ matrix rows cols (built_of cells.items)) }
+        ensures index { (result ≡ Err BuildFault.IndexOutOfRange) ↔
+            (first_fault rows cols 0 cells.items ≡ Some BuildFault.IndexOutOfRange) }
+        ensures sum { (result ≡ Err BuildFault.SumTooLarge) ↔
+            (first_fault rows cols 0 cells.items ≡ Some BuildFault.SumTooLarge) }
+        ensures memory { (result ≡ Err BuildFault.Memory) → (first_fault rows cols 0 cells.items ≡ None) }
+        ensures none { length cells.items ≡ 0 → IsOk result }
+    {
+        match judge_cells(rows, cols, &cells) {
+            Some(fault) => Err(fault),
+            None => match build_given(alloc, rows, cols, cells) {
                 Ok(m) => Ok(m),
                 Err(_) => Err(BuildFault::Memory),
             },
@@ -81,6 +112,22 @@ pub fn of_list(alloc: Global, rows: u64, cols: u64, cells: &[Cell]) -> Result<Hy
     Ok(m)
 }
 
+// The matrix of a list of cells that was judged and is given away.
+fn build_given(alloc: Global, rows: u64, cols: u64, cells: Vec<Cell>) -> Result<Hyper, AllocError>
+    requires rows { IsDimension rows }
+    requires cols { IsDimension cols }
+    requires judged { first_fault rows cols 0 cells.items ≡ None }
+    ensures value { IfOk result (λ m. m ≡ matrix rows cols (built_of cells.items)) }
+    ensures none { length cells.items ≡ 0 → IsOk result }
+{
+    if cells.len() == 0 {
+        return Ok(Hyper::new(alloc, rows, cols));
+    }
+    let list = into_summed(cells);
+    let m = of_list(alloc, rows, cols, &list)?;
+    Ok(m)
+}
+
 // The matrix of a list of cells that was judged.
 fn build_judged(alloc: Global, rows: u64, cols: u64, cells: &[Cell]) -> Result<Hyper, AllocError>
     requires rows { IsDimension rows }
@@ -96,7 +143,7 @@ fn build_judged(alloc: Global, rows: u64, cols: u64, cells: &[Cell]) -> Result<H
         let m = of_list(alloc, rows, cols, cells)?;
         return Ok(m);
     }
-    let list = summed(alloc, cells)?;
-    let m = of_list(alloc, rows, cols, &list)?;
+    let list = Vec::from_slice(alloc, cells)?;
+    let m = build_given(alloc, rows, cols, list)?;
     Ok(m)
 }

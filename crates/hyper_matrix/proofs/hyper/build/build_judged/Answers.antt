@@ -1,9 +1,6 @@
-use Rattle.std.proofs.Common.{ap, ◌∙◌, subst, sym, arith}
-use Rattle.cells.specs.Bounds.{AreWithin}
-use Rattle.cells.specs.Order.{Rise}
-use Rattle.hyper_rows.specs.Cells.{built_of, cell_total}
+use Rattle.std.proofs.Common.{ap, ◌∙◌, arith}
 use Rattle.hyper_matrix.specs.Matrix.{matrix}
-use Rattle.hyper_rows.proofs.BuiltOfLaws.{built_of-none, built_of-same}
+use Rattle.hyper_rows.proofs.BuiltOfLaws.{built_of-none}
 use Rattle.hyper_matrix.proofs.RefusalLaws.{no_faults}
 use Rattle.hyper_matrix.proofs.hyper.build.build_judged.Goals as goal
 
@@ -16,27 +13,3 @@ of_list-requires-clause-within c = ((no_faults c.args.rows c.args.cols c.args.ce
 
 pub of_list-requires-clause-fits : goal.of_list-requires-clause-fits
 of_list-requires-clause-fits c = ((no_faults c.args.rows c.args.cols c.args.cells.now).0 c.requires.judged).fits
-
-pub summed-requires : goal.summed-requires
-summed-requires c = record { fits = ((no_faults c.args.rows c.args.cols c.args.cells.now).0 c.requires.judged).fits }
-
-pub of_list-requires-2-clause-rises : goal.of_list-requires-2-clause-rises
-of_list-requires-2-clause-rises c = subst Rise (sym c.deref.ensures.value) c.in_ok-list.ensures.rises
-
-pub of_list-requires-2-clause-within : goal.of_list-requires-2-clause-within
-of_list-requires-2-clause-within c = subst (AreWithin c.args.rows c.args.cols) (sym c.deref.ensures.value)
-    (c.in_ok-list.ensures.within c.args.rows c.args.cols
-    ((no_faults c.args.rows c.args.cols c.args.cells.now).0 c.requires.judged).within)
-
-pub of_list-requires-2-clause-fits : goal.of_list-requires-2-clause-fits
-of_list-requires-2-clause-fits c = omega (
-  arith,
-  ap cell_total c.deref.ensures.value,
-  c.in_ok-list.ensures.total,
-  ((no_faults c.args.rows c.args.cols c.args.cells.now).0 c.requires.judged).fits,
-)
-
-pub returns-clause-value : goal.returns-clause-value
-returns-clause-value c = c.in_ok-m-2.ensures ∙ ap (λ cells. matrix c.args.rows c.args.cols
-    (built_of cells)) c.deref.ensures.value ∙ ap (matrix c.args.rows c.args.cols)
-    (built_of-same _ _ c.in_ok-list.ensures.sums)
