@@ -11,6 +11,7 @@ ghost use Rattle.batch_store.specs.Lists.{MakesBatch, RefusesList};
 ghost use Rattle.batch_store.specs.declared.fault.CellsFault.{CellsFault};
 
 use crate::fault::{BatchFault, CellsFault};
+use crate::given::given_list_matrix;
 use crate::listed::list_matrix;
 use crate::part::has_part;
 use crate::setup::Setup;
@@ -126,6 +127,43 @@ impl Batch {
             result ≡ Err fault }
     {
         let matrix = match list_matrix(alloc, setup, cells) {
+            Ok(matrix) => matrix,
+            Err(fault) => return Err(fault),
+        };
+        let total = matrix.total();
+        let batch = Batch {
+            client,
+            number,
+            matrix,
+            total,
+        };
+        match Arc::new(alloc, batch) {
+            Ok(b) => Ok(b),
+            Err(_) => Err(CellsFault::Memory),
+        }
+    }
+
+    /// The same of a list that is given away: it is sorted and added up in its own memory, so that beside the batch no
+    /// memory is taken. The list is gone, also where it is refused.
+    ///
+    /// # Errors
+    ///
+    /// Those of `from_cells`.
+    pub fn from_cell_list(
+        alloc: Global,
+        setup: &Setup,
+        client: u64,
+        number: u64,
+        cells: Vec<Cell>,
+    ) -> Result<Arc<Batch>, CellsFault>
+        ensures ok { IfOk result (λ b. arc_value b ≡
+            submission client number (matrix setup.now.rows setup.now.cols (built_of cells.items))) }
+        ensures fits { OnOk result (MakesBatch setup.now cells.items) }
+        ensures err { IfErr result (λ fault. RefusesList setup.now cells.items fault) }
+        ensures exact { (fault : CellsFault) → fault ≢ CellsFault.Memory → RefusesList setup.now cells.items fault →
+            result ≡ Err fault }
+    {
+        let matrix = match given_list_matrix(alloc, setup, cells) {
             Ok(matrix) => matrix,
             Err(fault) => return Err(fault),
         };

@@ -36,7 +36,7 @@ pub enum BatchFault {
     SumTooLarge,
 }
 
-/// Why `Batch::from_cells` made no batch. `Memory` is the last to be judged.
+/// Why `Batch::from_cells` or `Batch::from_cell_list` made no batch. `Memory` is the last to be judged.
 #[derive(Clone, Copy, Debug, PartialEq, Eq, Error)]
 pub enum CellsFault {
     /// A growth was refused. The list itself has no fault.

@@ -14,6 +14,7 @@ mod batch;
 mod batch_parts;
 mod book;
 mod fault;
+mod given;
 mod laws;
 mod limits;
 mod line;

@@ -12,8 +12,8 @@ use cells::Cell;
 use hyper_matrix::{BuildFault, Hyper};
 use std::alloc::Global;
 
-// How many cells stand before the first that lies outside. A pass over these, once a list is refused.
-fn cells_before_outside(rows: u64, cols: u64, cells: &[Cell]) -> usize
+/// How many cells stand before the first that lies outside, or all. A pass over these.
+pub fn cells_before_outside(rows: u64, cols: u64, cells: &[Cell]) -> usize
     ensures { (w : LeavesDimensions rows cols cells.now) → result ≡ length w.before }
 {
     let mut i = 0;
