@@ -2,7 +2,7 @@
 //!
 //! Rows that are shared are never changed. Those that have one owner can be exchanged for others, and counts can be
 //! added to theirs, which takes no memory.
-ghost use Rattle.std.specs.Prelude.{◌≡◌, ℕ, ◌+◌, ◌<◌, ◌^◌, IfOk, OnOk, IsTrue, IsFalse, [], length};
+ghost use Rattle.std.specs.Prelude.{◌≡◌, ℕ, ◌+◌, ◌<◌, ◌^◌, IfOk, OnOk, OnErr, IsTrue, IsFalse, [], length};
 ghost use Rattle.std.specs.Arc.{arc_value};
 ghost use Rattle.hyper_rows.specs.Cells.{cell_total};
 ghost use Rattle.hyper_rows.specs.InPlace.{AddsFirst};
@@ -57,6 +57,26 @@ fn exchange(shared: &mut Arc<Rows>, rows: &mut Rows) -> bool
     }
 }
 
+// Puts rows in place of those that are shared: by an exchange, or where somebody else has the old ones too by a pointer of
+// their own, and then `rows` gets new room for so many cells.
+fn replace(
+    shared: &mut Arc<Rows>,
+    alloc: Global,
+    rows: &mut Rows,
+    room: usize,
+) -> Result<(), AllocError>
+    ensures ok { OnOk result (arc_value shared.new ≡ rows.old) }
+    ensures err { OnErr result (arc_value shared.new ≡ arc_value shared.old) }
+{
+    if exchange(shared, rows) {
+        return Ok(());
+    }
+    let room = Rows::with_room(alloc, room)?;
+    let own = Arc::new(alloc, mem::replace(rows, room))?;
+    *shared = own;
+    Ok(())
+}
+
 // Adds the first cells of a list to the rows in place, unless somebody else has the rows too, and gives their number.
 // It stands apart so that its loops have registers of their own.
 #[inline(never)]
@@ -98,10 +118,7 @@ impl Block {
     {
         let (row, col) = rows.first();
         let count = rows.entry_count();
-        if !exchange(&mut self.rows, rows) {
-            let room = Rows::with_room(alloc, room)?;
-            self.rows = Arc::new(alloc, mem::replace(rows, room))?;
-        }
+        replace(&mut self.rows, alloc, rows, room)?;
         self.row = row;
         self.col = col;
         self.count = count;
