@@ -48,8 +48,8 @@ fn cells_in(alloc: Global, bytes: &[u8]) -> Result<Vec<Cell>, AllocError>
 
 /// The batch of the cells of a PutCells, or the first refusal.
 ///
-/// The cells are read where they lie, into one list of their own, and then the body is given back. A body of too many
-/// is refused before anything is read of it.
+/// The cells are read where they lie, into one list of their own, and then the body is given back. The list is sorted in
+/// its own memory. A body of too many is refused before anything is read of it.
 pub fn batch_of_cells(
     alloc: Global,
     setup: &Setup,
@@ -70,7 +70,7 @@ pub fn batch_of_cells(
         Err(_) => return Err(PutRefusal::Memory),
     };
     drop(body);
-    match Batch::from_cells(alloc, setup, client, number, &cells) {
+    match Batch::from_cell_list(alloc, setup, client, number, cells) {
         Ok(batch) => Ok(batch),
         Err(CellsFault::Memory) => Err(PutRefusal::Memory),
         Err(CellsFault::TooManyCells) => Err(PutRefusal::Refused {

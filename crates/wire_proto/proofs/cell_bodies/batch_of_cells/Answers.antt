@@ -10,4 +10,4 @@ returns-then-len-gt-MAX_CELLS c = too_many_cells c.args.setup.now c.args.body _ 
 pub returns-in-Err-IndexOutOfRange : goal.returns-in-Err-IndexOutOfRange
 returns-in-Err-IndexOutOfRange c =
     cell_outside c.args.setup.now c.args.body _ _ _ c.in-Err-IndexOutOfRange.ensures.err
-    c.in-Err-IndexOutOfRange.field-0-is (c.deref.ensures.value ∙ c.in-Ok.ensures ∙ ap cells_of c.as_slice.ensures)
+    c.in-Err-IndexOutOfRange.field-0-is (c.in-Ok.ensures ∙ ap cells_of c.as_slice.ensures)
