@@ -2,12 +2,12 @@
 ghost use Rattle.std.specs.Prelude.{◌≡◌, ◌+◌, ◌<◌, ◌^◌, IfErr, OnOk};
 ghost use Rattle.socket_server.specs.Faults.{IsMetServing};
 
-use crate::door::{Door, Listen};
 use crate::fault::ServerFault;
 use crate::host::{FileId, Host};
 use crate::numbers::SessionNumbers;
 use crate::shared::Shared;
 use crate::stop::StopGate;
+use crate::watched_listener::{Listen, WatchedListener};
 use byte_io::{Sink, WriteFault, write_all};
 use mio::Waker;
 use std::alloc::Global;
@@ -46,14 +46,14 @@ impl OwnPath {
 
 /// The listeners that are bound, and what their acceptors share.
 #[derive(Drop)]
-pub struct Doors {
-    pub tcp: Option<Door<TcpListener>>,
-    pub unix: Option<Door<UnixListener>>,
+pub struct Listeners {
+    pub tcp: Option<WatchedListener<TcpListener>>,
+    pub unix: Option<WatchedListener<UnixListener>>,
     pub shared: Shared,
     own: Option<OwnPath>,
 }
 
-impl Doors {
+impl Listeners {
     /// Removes the Unix socket's path, unless another file stands there by now.
     pub fn remove_path(&self, host: &impl Host) {
         if let Some(own) = &self.own {
@@ -90,14 +90,14 @@ fn listen_fault(fault: io::Error, address: String) -> ServerFault
     }
 }
 
-// A door at the address, if one is given, which is told with the port that it got, and what wakes its acceptor.
+// A listener at the address, if one is given, which is told with the port that it got, and what wakes its acceptor.
 fn bind_tcp<R: Net<Listener = TcpListener, Stream = TcpStream>, W: Sink>(
     rt: &R,
     alloc: Global,
     address: Option<String>,
     out: &mut W,
     written: &mut u128,
-) -> Result<Option<(Door<TcpListener>, Waker)>, ServerFault>
+) -> Result<Option<(WatchedListener<TcpListener>, Waker)>, ServerFault>
     requires { W.failure_count out.old + 1 < 2 ^ 64 }
     ensures failures { OnOk result (W.failure_count out.new ≡ W.failure_count out.old) }
     ensures met { IfErr result IsMetServing }
@@ -114,23 +114,23 @@ fn bind_tcp<R: Net<Listener = TcpListener, Stream = TcpStream>, W: Sink>(
     let Ok(line) = format!(in alloc; "listening tcp {own}\n") else {
         return Err(ServerFault::Memory);
     };
-    match Door::new(rt, alloc, listener) {
-        Ok(door) => {
+    match WatchedListener::new(rt, alloc, listener) {
+        Ok(watched) => {
             tell(out, written, line.as_str())?;
-            Ok(Some(door))
+            Ok(Some(watched))
         }
         Err(fault) => Err(listen_fault(fault, address)),
     }
 }
 
-// A door at the path, what wakes its acceptor, and what is to be removed. After a fault the path is removed.
+// A listener at the path, what wakes its acceptor, and what is to be removed. After a fault the path is removed.
 fn bind_path<R: Host + Net, W: Sink>(
     rt: &R,
     alloc: Global,
     path: String,
     out: &mut W,
     written: &mut u128,
-) -> Result<(Door<UnixListener>, Waker, OwnPath), ServerFault>
+) -> Result<(WatchedListener<UnixListener>, Waker, OwnPath), ServerFault>
     requires { W.failure_count out.old + 1 < 2 ^ 64 }
     ensures failures { OnOk result (W.failure_count out.new ≡ W.failure_count out.old) }
     ensures met { IfErr result IsMetServing }
@@ -143,7 +143,7 @@ fn bind_path<R: Host + Net, W: Sink>(
     };
     let file = rt.file_id(path.as_str());
     let own = OwnPath { path, file };
-    let (door, waker) = match Door::new(rt, alloc, listener) {
+    let (watched, waker) = match WatchedListener::new(rt, alloc, listener) {
         Ok(made) => made,
         Err(fault) => {
             own.remove(rt);
@@ -154,26 +154,28 @@ fn bind_path<R: Host + Net, W: Sink>(
         own.remove(rt);
         return Err(fault);
     }
-    Ok((door, waker, own))
+    Ok((watched, waker, own))
 }
 
-// The door and the waker, apart.
-fn parted<L>(made: Option<(Door<L>, Waker)>) -> (Option<Door<L>>, Option<Waker>) {
+// The listener and the waker, apart.
+fn parted<L>(
+    made: Option<(WatchedListener<L>, Waker)>,
+) -> (Option<WatchedListener<L>>, Option<Waker>) {
     match made {
-        Some((door, waker)) => (Some(door), Some(waker)),
+        Some((watched, waker)) => (Some(watched), Some(waker)),
         None => (None, None),
     }
 }
 
 /// Binds the listeners, TCP first, and writes a line for each once it is bound. After a fault the path of the Unix
 /// socket, if it was bound, is removed.
-pub fn open_doors<R: Host + Net<Listener = TcpListener, Stream = TcpStream>, W: Sink>(
+pub fn bind_listeners<R: Host + Net<Listener = TcpListener, Stream = TcpStream>, W: Sink>(
     rt: &R,
     alloc: Global,
     places: Places,
     out: &mut W,
     written: &mut u128,
-) -> Result<Doors, ServerFault>
+) -> Result<Listeners, ServerFault>
     requires { W.failure_count out.old + 1 < 2 ^ 64 }
     ensures failures { OnOk result (W.failure_count out.new ≡ W.failure_count out.old) }
     ensures met { IfErr result IsMetServing }
@@ -187,12 +189,12 @@ pub fn open_doors<R: Host + Net<Listener = TcpListener, Stream = TcpStream>, W: 
     let (tcp, tcp_waker) = parted(bind_tcp(rt, alloc, tcp, out, written)?);
     let (unix, unix_waker, own) = match unix {
         Some(path) => {
-            let (door, waker, own) = bind_path(rt, alloc, path, out, written)?;
-            (Some(door), Some(waker), Some(own))
+            let (watched, waker, own) = bind_path(rt, alloc, path, out, written)?;
+            (Some(watched), Some(waker), Some(own))
         }
         None => (None, None, None),
     };
-    Ok(Doors {
+    Ok(Listeners {
         tcp,
         unix,
         shared: Shared {

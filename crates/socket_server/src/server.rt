@@ -6,10 +6,10 @@ ghost use Rattle.socket_server.specs.Ends.{EndsWith};
 ghost use Rattle.socket_server.specs.Faults.{IsMet, IsMetServing};
 ghost use Rattle.socket_server.specs.Starts.{StartsFrom, IsLoadTold};
 
-use crate::bind::{Doors, Places, open_doors, tell};
+use crate::bind::{Listeners, Places, bind_listeners, tell};
 use crate::fault::ServerFault;
 use crate::host::Host;
-use crate::serving::{close_all, serve_doors};
+use crate::serving::{close_all, serve_listeners};
 use crate::settings::{Settings, idle_limit};
 use crate::start::starting_engine;
 use byte_io::Sink;
@@ -42,7 +42,7 @@ fn serve_open<
     alloc: Global,
     engine: Engine<N, H>,
     mut seats: Vec<Seat<N, H>>,
-    doors: &Doors,
+    listeners: &Listeners,
     saver: &Saver,
 ) -> Result<Status, ServerFault>
     requires seats { length seats.items ≡ N.seats }
@@ -50,7 +50,14 @@ fn serve_open<
         × EndsWith R.saves rt.now saver.now.path N.setup list s) }
     ensures met { IfErr result IsMetServing }
 {
-    if let Err(fault) = serve_doors(rt, alloc, &engine, seats.as_mut_slice(), doors, saver) {
+    if let Err(fault) = serve_listeners(
+        rt,
+        alloc,
+        &engine,
+        seats.as_mut_slice(),
+        listeners,
+        saver,
+    ) {
         drop(seats);
         engine.end(rt);
         return Err(fault);
@@ -68,7 +75,7 @@ fn serve_bound<
     alloc: Global,
     engine: Engine<N, H>,
     seats: Vec<Seat<N, H>>,
-    doors: Doors,
+    listeners: Listeners,
     saver: &Saver,
 ) -> Result<Status, ServerFault>
     requires seats { length seats.items ≡ N.seats }
@@ -76,8 +83,8 @@ fn serve_bound<
         × EndsWith R.saves rt.now saver.now.path N.setup list s) }
     ensures met { IfErr result IsMetServing }
 {
-    let outcome = serve_open(rt, alloc, engine, seats, &doors, saver);
-    doors.remove_path(rt);
+    let outcome = serve_open(rt, alloc, engine, seats, &listeners, saver);
+    listeners.remove_path(rt);
     outcome
 }
 
@@ -115,15 +122,15 @@ fn serve_named<
         return Err(ServerFault::Memory);
     };
     let Plan { places, saver } = plan;
-    let doors = match open_doors(rt, alloc, places, out, written) {
-        Ok(doors) => doors,
+    let listeners = match bind_listeners(rt, alloc, places, out, written) {
+        Ok(listeners) => listeners,
         Err(fault) => {
             drop(seats);
             engine.end(rt);
             return Err(fault);
         }
     };
-    serve_bound(rt, alloc, engine, seats, doors, &saver)
+    serve_bound(rt, alloc, engine, seats, listeners, &saver)
 }
 
 // Serves by so many workers, from an engine of this setup.

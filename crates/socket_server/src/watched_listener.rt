@@ -47,17 +47,21 @@ impl Listen for UnixListener {
 
 /// A listener, and what its acceptor waits by: one acceptor has that for as long as it runs.
 #[derive(Drop)]
-pub struct Door<L> {
+pub struct WatchedListener<L> {
     pub listener: L,
     pub watch: Mutex<Watch>,
 }
 
-impl<L: Listen + Drop> Door<L> {
-    /// A door at a listener, and what wakes its acceptor.
-    pub fn new(net: &impl Net, alloc: Global, listener: L) -> io::Result<(Door<L>, Waker)> {
+impl<L: Listen + Drop> WatchedListener<L> {
+    /// A listener that no longer waits, and what wakes its acceptor.
+    pub fn new(
+        net: &impl Net,
+        alloc: Global,
+        listener: L,
+    ) -> io::Result<(WatchedListener<L>, Waker)> {
         listener.set_waitless()?;
         let (watch, waker) = Watch::new(net, alloc, listener.as_raw_fd())?;
         let watch = Mutex::new(watch);
-        Ok((Door { listener, watch }, waker))
+        Ok((WatchedListener { listener, watch }, waker))
     }
 }
