@@ -1,0 +1,43 @@
+//! What the tests of the other crates compare values by. Each call answers whether what a test wants holds, and where it
+//! doesn't, writes why to standard error; the test passes the answer to a plain `assert!`, which ends it and names the
+//! line. So the text of a failure is put together here alone, and proved once: `assert_eq!`, and an `assert!` with a
+//! text, are proved anew wherever they stand.
+#![tactic(auto)]
+
+ghost use Rattle.std.specs.Prelude.{◌≡◌};
+
+use std::fmt::Debug;
+use std::io::Eprint;
+
+/// Whether two values are equal. Where they aren't, both are written.
+pub fn same<T: PartialEq + Debug>(rt: &impl Eprint, got: &T, want: &T) -> bool
+    ensures { result ≡ T.eq got.now want.now }
+{
+    let equal = got == want;
+    if !equal {
+        let _ = rt.eprintln(format_args!("  got: {got:?}\n want: {want:?}"));
+    }
+    equal
+}
+
+/// Whether two values are equal. Where they aren't, both are written behind the place, as a table's line.
+pub fn same_at<P: Debug, T: PartialEq + Debug>(
+    rt: &impl Eprint,
+    place: &P,
+    got: &T,
+    want: &T,
+) -> bool
+    ensures { result ≡ T.eq got.now want.now }
+{
+    holds_at(rt, place, same(rt, got, want))
+}
+
+/// Whether this holds. Where it doesn't, the place is written.
+pub fn holds_at<P: Debug>(rt: &impl Eprint, place: &P, holds: bool) -> bool
+    ensures { result ≡ holds }
+{
+    if !holds {
+        let _ = rt.eprintln(format_args!("   at: {place:?}"));
+    }
+    holds
+}
