@@ -9,6 +9,7 @@ use std::alloc::Global;
 use std::process::Abort;
 use std::sync::Arc;
 use std::test::Fail;
+use test_support::{holds_at, same};
 
 const WIDE: TextLimits = TextLimits {
     max_bytes: 1_000_000,
@@ -73,7 +74,7 @@ fn files_are_judged(rt: HostRuntime) -> Result<(), Fail> {
     let setup = small_setup()?;
     for (tail, expected) in FAULTS {
         let found = fault(rt.alloc(), &setup, tail)?;
-        assert_eq!(rt; found, *expected);
+        assert!(rt; same(&rt, &found, expected));
     }
     Ok(())
 }
@@ -82,10 +83,13 @@ fn files_are_judged(rt: HostRuntime) -> Result<(), Fail> {
 fn a_batch_has_each_place_once(rt: HostRuntime) -> Result<(), Fail> {
     let setup = small_setup()?;
     let b = batch(rt.alloc(), &setup, 7, 1, "3 3 3\n2 1 4\n2 3 0\n2 1 5\n")?;
-    assert_eq!(rt; (b.client, b.number, b.total), (7, 1, 9));
-    assert_eq!(rt;
-        (b.matrix.entries(), b.matrix.get(1, 0), b.matrix.get(1, 2)),
-        (2, Some(9), Some(0))
+    assert!(rt; same(&rt, &(b.client, b.number, b.total), &(7, 1, 9)));
+    assert!(rt;
+        same(
+            &rt,
+            &(b.matrix.entries(), b.matrix.get(1, 0), b.matrix.get(1, 2)),
+            &(2, Some(9), Some(0))
+        )
     );
     assert!(rt; b.concerns(1, 2) && !b.concerns(0, 2));
     assert!(rt; b.concerns(0, 1));
@@ -96,7 +100,7 @@ fn a_batch_has_each_place_once(rt: HostRuntime) -> Result<(), Fail> {
 fn a_batch_without_cells_concerns_no_shard(rt: HostRuntime) -> Result<(), Fail> {
     let setup = small_setup()?;
     let b = batch(rt.alloc(), &setup, 9, 1, "3 3 0\n")?;
-    assert_eq!(rt; (b.matrix.entries(), b.total), (0, 0));
+    assert!(rt; same(&rt, &(b.matrix.entries(), b.total), &(0, 0)));
     assert!(rt; !b.concerns(0, 2) && !b.concerns(1, 2));
     Ok(())
 }
@@ -144,7 +148,7 @@ fn a_batch_is_cut_by_rows(rt: HostRuntime) -> Result<(), Fail> {
     let setup = small_setup()?;
     for (tail, want) in PARTS {
         let b = batch(rt.alloc(), &setup, 7, 1, tail)?;
-        assert!(rt; has_shares(rt.alloc(), &b, want)?, "{tail:?} {want:?}");
+        assert!(rt; holds_at(&rt, &(tail, want), has_shares(rt.alloc(), &b, want)?));
     }
     Ok(())
 }

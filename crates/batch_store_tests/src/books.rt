@@ -7,9 +7,11 @@ use crate::setups::small_setup;
 use batch_store::Verdict::{BookFull, Known, NumberReused, OverTotal};
 use batch_store::{Batch, Book, Kept, Setup, Verdict};
 use std::alloc::{AllocError, Global};
+use std::io::Eprint;
 use std::process::Abort;
 use std::sync::Arc;
 use std::test::Fail;
+use test_support::same;
 
 /// The client, the number and the text of a batch that is put, and what the book answers.
 type Put = (u64, u64, &'static str, Verdict);
@@ -41,7 +43,7 @@ fn answer(alloc: Global, setup: &Setup, book: &mut Book, step: &Put) -> Result<V
 
 // Puts the batches of a table, and compares each answer.
 fn put_all(
-    rt: &impl Abort,
+    rt: &(impl Abort + Eprint),
     alloc: Global,
     setup: &Setup,
     book: &mut Book,
@@ -51,7 +53,7 @@ fn put_all(
 {
     'steps: for step in steps {
         let verdict = answer(alloc, setup, book, step)?;
-        assert_eq!(rt; verdict, step.3);
+        assert!(rt; same(rt, &verdict, &step.3));
     }
     Ok(())
 }
@@ -257,7 +259,7 @@ fn a_limit_is_kept_exactly(rt: HostRuntime) -> Result<(), Fail> {
     let setup = small_setup()?;
     let mut book = Book::new(&rt, rt.alloc(), &setup)?;
     put_all(&rt, rt.alloc(), &setup, &mut book, WITHIN_100)?;
-    assert_eq!(rt; (book.len(), book.total()), (3, 100));
+    assert!(rt; same(&rt, &(book.len(), book.total()), &(3, 100)));
     Ok(())
 }
 
@@ -266,7 +268,7 @@ fn repeats_get_the_reply_of_then(rt: HostRuntime) -> Result<(), Fail> {
     let setup = small_setup()?;
     let mut book = Book::new(&rt, rt.alloc(), &setup)?;
     put_all(&rt, rt.alloc(), &setup, &mut book, REPEATS)?;
-    assert_eq!(rt; (book.len(), book.total()), (3, 13));
+    assert!(rt; same(&rt, &(book.len(), book.total()), &(3, 13)));
     Ok(())
 }
 
@@ -275,7 +277,7 @@ fn batches_without_cells_are_accepted(rt: HostRuntime) -> Result<(), Fail> {
     let setup = small_setup()?;
     let mut book = Book::new(&rt, rt.alloc(), &setup)?;
     put_all(&rt, rt.alloc(), &setup, &mut book, NOTHING)?;
-    assert_eq!(rt; (book.len(), book.total()), (1, 0));
+    assert!(rt; same(&rt, &(book.len(), book.total()), &(1, 0)));
     Ok(())
 }
 
@@ -284,7 +286,13 @@ fn a_full_book_knows_its_batches(rt: HostRuntime) -> Result<(), Fail> {
     let setup = Setup::new(3, 3, &[2, 4], 2, 100, 1)?;
     let mut book = Book::new(&rt, rt.alloc(), &setup)?;
     put_all(&rt, rt.alloc(), &setup, &mut book, ONE_BATCH)?;
-    assert_eq!(rt; contents(book.list(rt.alloc())?.as_slice()), Some((7, 5)));
+    assert!(rt;
+        same(
+            &rt,
+            &contents(book.list(rt.alloc())?.as_slice()),
+            &Some((7, 5))
+        )
+    );
     Ok(())
 }
 
@@ -293,8 +301,8 @@ fn the_largest_total_is_accepted(rt: HostRuntime) -> Result<(), Fail> {
     let setup = Setup::new(3, 3, &[2, 4], 2, u64::MAX, 10)?;
     let mut book = Book::new(&rt, rt.alloc(), &setup)?;
     put_all(&rt, rt.alloc(), &setup, &mut book, LARGEST)?;
-    assert_eq!(rt; book.at(0).map(|b| b.total), Some(u64::MAX));
-    assert_eq!(rt; book.at(1).map(|b| b.total), Some(0));
+    assert!(rt; same(&rt, &book.at(0).map(|b| b.total), &Some(u64::MAX)));
+    assert!(rt; same(&rt, &book.at(1).map(|b| b.total), &Some(0)));
     assert!(rt; book.at(2).is_none());
     Ok(())
 }

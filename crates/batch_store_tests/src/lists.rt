@@ -7,6 +7,7 @@ use std::alloc::{AllocError, Global};
 use std::process::Abort;
 use std::sync::Arc;
 use std::test::Fail;
+use test_support::same;
 
 const fn cell(row: u64, col: u64, count: u64) -> Cell {
     Cell { row, col, count }
@@ -75,28 +76,54 @@ fn made(
     }
 }
 
+// The batch of a list that is given away, made again where a growth was refused.
+fn given(
+    alloc: Global,
+    setup: &Setup,
+    number: u64,
+    cells: &[Cell],
+) -> Result<Arc<Batch>, CellsFault> {
+    for _ in 0..2 {
+        if let Ok(list) = Vec::from_slice(alloc, cells) {
+            match Batch::from_cell_list(alloc, setup, 7, number, list) {
+                Err(CellsFault::Memory) => {}
+                answer => return answer,
+            }
+        }
+    }
+    Err(CellsFault::Memory)
+}
+
 #[test]
 fn lists_are_judged(rt: HostRuntime) -> Result<(), Fail> {
     let setup = small_setup()?;
     for (list, expected) in FAULTS {
         let cells = cells_of(rt.alloc(), *list)?;
         let found = made(rt.alloc(), &setup, 1, cells.as_slice()).err();
-        assert_eq!(rt; found, *expected);
+        assert!(rt; same(&rt, &found, expected));
+        let found = given(rt.alloc(), &setup, 1, cells.as_slice()).err();
+        assert!(rt; same(&rt, &found, expected));
     }
     Ok(())
 }
 
-// Whether a list makes a batch of these two cells.
-fn makes_two(alloc: Global, setup: &Setup, list: &[(u64, u64, u64)]) -> Result<bool, Fail> {
-    let cells = cells_of(alloc, list)?;
-    match made(alloc, setup, 3, cells.as_slice()) {
-        Ok(b) => Ok(
+// Whether a batch of these two cells was made.
+fn is_two(made: Result<Arc<Batch>, CellsFault>) -> bool {
+    match made {
+        Ok(b) => {
             (b.client, b.number, b.total) == (7, 3, 9)
                 && (b.matrix.dims(), b.matrix.entries()) == ((3, 3), 2)
-                && (b.matrix.get(1, 0), b.matrix.get(1, 2)) == (Some(9), Some(0)),
-        ),
-        Err(_) => Ok(false),
+                && (b.matrix.get(1, 0), b.matrix.get(1, 2)) == (Some(9), Some(0))
+        }
+        Err(_) => false,
     }
+}
+
+// Whether a list makes one, lent and given away.
+fn makes_two(alloc: Global, setup: &Setup, list: &[(u64, u64, u64)]) -> Result<bool, Fail> {
+    let cells = cells_of(alloc, list)?;
+    let lent = is_two(made(alloc, setup, 3, cells.as_slice()));
+    Ok(lent && is_two(given(alloc, setup, 3, cells.as_slice())))
 }
 
 // One batch, as lists in strict order and in other orders.
@@ -124,7 +151,7 @@ fn a_batch_of_no_cells_has_no_total(rt: HostRuntime) -> Result<(), Fail> {
         Ok(b) => b,
         Err(_) => return Err("no batch".into()),
     };
-    assert_eq!(rt; (b.matrix.entries(), b.total), (0, 0));
+    assert!(rt; same(&rt, &(b.matrix.entries(), b.total), &(0, 0)));
     Ok(())
 }
 
@@ -137,6 +164,6 @@ fn a_list_has_at_most_1048576_cells(rt: HostRuntime) -> Result<(), Fail> {
     // One more, which lies outside: that there are too many is told first.
     cells.push(cell(3, 0, 1))?;
     let more = made(rt.alloc(), &setup, 1, cells.as_slice()).err();
-    assert_eq!(rt; more, Some(CellsFault::TooManyCells));
+    assert!(rt; same(&rt, &more, &Some(CellsFault::TooManyCells)));
     Ok(())
 }

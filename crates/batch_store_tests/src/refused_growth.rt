@@ -11,6 +11,7 @@ use std::alloc::{AllocError, Global};
 use std::process::Abort;
 use std::sync::Arc;
 use std::test::Fail;
+use test_support::same;
 
 const TEXT: &str = "3 3 2\n1 1 5\n2 1 4\n";
 
@@ -73,8 +74,8 @@ fn a_book_outlasts_refusals(rt: HostRuntime) -> Result<(), Fail> {
         index: 0,
         total_after: 9,
     };
-    assert_eq!(rt; admitted(&mut book, b)?, Some(kept));
-    assert_eq!(rt; listed(rt.alloc(), &book)?, 1);
+    assert!(rt; same(&rt, &admitted(&mut book, b)?, &Some(kept)));
+    assert!(rt; same(&rt, &listed(rt.alloc(), &book)?, &1));
     Ok(())
 }
 
@@ -83,7 +84,7 @@ fn a_shard_outlasts_refusals(rt: HostRuntime) -> Result<(), Fail> {
     let setup = small_setup()?;
     let mut shard = Shard::new(&rt, rt.alloc(), &setup, 0)?;
     let b = batch(rt.alloc(), &setup, 7, 1, TEXT)?;
-    assert_eq!(rt; taken(rt.alloc(), &mut shard, &b), Ok(5));
-    assert_eq!(rt; viewed(rt.alloc(), &shard)?.record_len(), 1);
+    assert!(rt; same(&rt, &taken(rt.alloc(), &mut shard, &b), &Ok(5)));
+    assert!(rt; same(&rt, &viewed(rt.alloc(), &shard)?.record_len(), &1));
     Ok(())
 }

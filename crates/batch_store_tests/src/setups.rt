@@ -2,6 +2,7 @@
 use batch_store::{Setup, SetupFault};
 use std::process::Abort;
 use std::test::Fail;
+use test_support::same;
 
 // Three rows, three columns, two shards and a limit of 100.
 pub fn small_setup() -> Result<Setup, SetupFault> {
@@ -54,9 +55,15 @@ fn values_out_of_range_are_refused_in_order(rt: HostRuntime) {
 fn a_setup_gives_its_values(rt: HostRuntime) -> Result<(), Fail> {
     let setup = small_setup()?;
     let copy = setup;
-    assert_eq!(rt; (setup.rows(), setup.cols(), setup.shards()), (3, 3, 2));
-    assert_eq!(rt; (copy.limit(), copy.max_batches()), (100, 10));
-    assert_eq!(rt; setup.cuts(), [2, 4].as_slice());
+    assert!(rt;
+        same(
+            &rt,
+            &(setup.rows(), setup.cols(), setup.shards()),
+            &(3, 3, 2)
+        )
+    );
+    assert!(rt; same(&rt, &(copy.limit(), copy.max_batches()), &(100, 10)));
+    assert!(rt; same(&rt, &setup.cuts(), &[2, 4].as_slice()));
     Ok(())
 }
 

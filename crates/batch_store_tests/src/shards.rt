@@ -6,9 +6,11 @@ use crate::batches::batch;
 use crate::setups::small_setup;
 use batch_store::{Batch, Setup, Shard, ShardFault};
 use std::alloc::Global;
+use std::io::Eprint;
 use std::process::Abort;
 use std::sync::Arc;
 use std::test::Fail;
+use test_support::same;
 
 /// The client, the number and the text of a batch that is taken in, and the total of its part or why it isn't.
 pub type Step = (u64, u64, &'static str, Result<u64, ShardFault>);
@@ -46,7 +48,7 @@ fn answer(
 
 /// Takes in the batches of a table, and compares each answer.
 pub fn take_all(
-    rt: &impl Abort,
+    rt: &(impl Abort + Eprint),
     alloc: Global,
     setup: &Setup,
     shard: &mut Shard,
@@ -57,7 +59,7 @@ pub fn take_all(
 {
     'steps: for step in steps {
         let taken = answer(alloc, setup, shard, step)?;
-        assert_eq!(rt; taken, step.3);
+        assert!(rt; same(rt, &taken, &step.3));
     }
     Ok(())
 }
@@ -84,9 +86,12 @@ fn a_shard_takes_each_batch_once(rt: HostRuntime) -> Result<(), Fail> {
     let setup = small_setup()?;
     let mut shard = Shard::new(&rt, rt.alloc(), &setup, 0)?;
     take_all(&rt, rt.alloc(), &setup, &mut shard, STEPS)?;
-    assert_eq!(rt;
-        (shard.number(), shard.total(), shard.record_len()),
-        (0, 100, 3)
+    assert!(rt;
+        same(
+            &rt,
+            &(shard.number(), shard.total(), shard.record_len()),
+            &(0, 100, 3)
+        )
     );
     assert!(rt; shard.holds(7, 1) && shard.holds(9, 1) && !shard.holds(7, 2));
     Ok(())
@@ -97,18 +102,24 @@ fn a_shard_has_its_own_rows(rt: HostRuntime) -> Result<(), Fail> {
     let setup = small_setup()?;
     let mut shard = Shard::new(&rt, rt.alloc(), &setup, 0)?;
     take_all(&rt, rt.alloc(), &setup, &mut shard, STEPS)?;
-    assert_eq!(rt;
-        (shard.get(0, 0), shard.get(0, 1), shard.get(2, 0)),
-        (Some(60), Some(0), Some(40))
+    assert!(rt;
+        same(
+            &rt,
+            &(shard.get(0, 0), shard.get(0, 1), shard.get(2, 0)),
+            &(Some(60), Some(0), Some(40))
+        )
     );
     // Row 1 is of shard 1, and there is no row 4.
-    assert_eq!(rt;
-        (shard.get(1, 0), shard.get(1, 1), shard.get(4, 0)),
-        (None, None, None)
+    assert!(rt;
+        same(
+            &rt,
+            &(shard.get(1, 0), shard.get(1, 1), shard.get(4, 0)),
+            &(None, None, None)
+        )
     );
     let (first, other) = (shard.row_total(0), shard.row_total(1));
-    assert_eq!(rt; (first.entries, first.total), (2, 60));
-    assert_eq!(rt; (other.entries, other.total), (0, 0));
+    assert!(rt; same(&rt, &(first.entries, first.total), &(2, 60)));
+    assert!(rt; same(&rt, &(other.entries, other.total), &(0, 0)));
     Ok(())
 }
 
@@ -127,12 +138,15 @@ fn given_up(alloc: Global, setup: &Setup, shard: &mut Shard) -> Result<Option<u6
 fn what_is_prepared_may_be_dropped(rt: HostRuntime) -> Result<(), Fail> {
     let setup = small_setup()?;
     let mut shard = Shard::new(&rt, rt.alloc(), &setup, 0)?;
-    assert_eq!(rt; given_up(rt.alloc(), &setup, &mut shard)?, Some(5));
-    assert_eq!(rt;
-        (shard.total(), shard.record_len(), shard.holds(7, 1)),
-        (0, 0, false)
+    assert!(rt; same(&rt, &given_up(rt.alloc(), &setup, &mut shard)?, &Some(5)));
+    assert!(rt;
+        same(
+            &rt,
+            &(shard.total(), shard.record_len(), shard.holds(7, 1)),
+            &(0, 0, false)
+        )
     );
     take_all(&rt, rt.alloc(), &setup, &mut shard, FIVE)?;
-    assert_eq!(rt; (shard.total(), shard.record_len()), (5, 1));
+    assert!(rt; same(&rt, &(shard.total(), shard.record_len()), &(5, 1)));
     Ok(())
 }

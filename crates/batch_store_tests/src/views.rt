@@ -6,6 +6,7 @@ use hyper_matrix::Hyper;
 use std::alloc::{AllocError, Global};
 use std::process::Abort;
 use std::test::Fail;
+use test_support::same;
 
 static FIVE: &[Step] = &[(7, 1, "3 3 1\n1 1 5\n", Ok(5))];
 
@@ -36,11 +37,14 @@ fn a_view_stays_as_it_was(rt: HostRuntime) -> Result<(), Fail> {
     take_all(&rt, rt.alloc(), &setup, &mut shard, FIVE)?;
     let view = shard.view(rt.alloc())?;
     take_all(&rt, rt.alloc(), &setup, &mut shard, THREE)?;
-    assert_eq!(rt;
-        (view.record_len(), summed(rt.alloc(), &view)?),
-        (1, (1, 5))
+    assert!(rt;
+        same(
+            &rt,
+            &(view.record_len(), summed(rt.alloc(), &view)?),
+            &(1, (1, 5))
+        )
     );
-    assert_eq!(rt; (shard.total(), shard.record_len()), (8, 2));
+    assert!(rt; same(&rt, &(shard.total(), shard.record_len()), &(8, 2)));
     Ok(())
 }
 
@@ -72,10 +76,13 @@ fn ten_cells_cascade(rt: HostRuntime) -> Result<(), Fail> {
     let setup = Setup::new(3, 10, &[2, 4], 1, 100, 10)?;
     let mut shard = Shard::new(&rt, rt.alloc(), &setup, 0)?;
     take_all(&rt, rt.alloc(), &setup, &mut shard, TEN)?;
-    assert_eq!(rt;
-        layer_sizes(&shard),
-        [None, Some(1), Some(3), Some(6), None]
+    assert!(rt;
+        same(
+            &rt,
+            &layer_sizes(&shard),
+            &[None, Some(1), Some(3), Some(6), None]
+        )
     );
-    assert_eq!(rt; seen(rt.alloc(), &shard)?, (10, (10, 10)));
+    assert!(rt; same(&rt, &seen(rt.alloc(), &shard)?, &(10, (10, 10))));
     Ok(())
 }

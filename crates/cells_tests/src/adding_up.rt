@@ -4,6 +4,7 @@ use cells::{Cell, checked_total, into_summed, rises, summed, total_of};
 use std::alloc::{AllocError, Global};
 use std::collections::BTreeMap;
 use std::test::Fail;
+use test_support::holds_at;
 
 /// A list, and its places with the sums of their counts.
 static SUMS: [(&[(u64, u64, u64)], &[(u64, u64, u64)]); 5] = [
@@ -87,7 +88,7 @@ fn adds_up_shape(alloc: Global, shape: Shape, counts: &[u64]) -> Result<bool, Al
 #[test]
 fn worked_rows(rt: HostRuntime) -> Result<(), Fail> {
     for (triples, want) in SUMS {
-        assert!(rt; adds_up(rt.alloc(), triples, want)?, "{triples:?}");
+        assert!(rt; holds_at(&rt, &triples, adds_up(rt.alloc(), triples, want)?));
     }
     Ok(())
 }
@@ -95,7 +96,7 @@ fn worked_rows(rt: HostRuntime) -> Result<(), Fail> {
 #[test]
 fn lists_of_each_shape(rt: HostRuntime) -> Result<(), Fail> {
     for shape in SHAPES {
-        assert!(rt; adds_up_shape(rt.alloc(), shape, &COUNTS)?, "{shape:?}");
+        assert!(rt; holds_at(&rt, &shape, adds_up_shape(rt.alloc(), shape, &COUNTS)?));
     }
     assert!(rt; adds_up_shape(rt.alloc(), Shape::Within(90, 90), &GREAT_COUNTS)?);
     Ok(())
@@ -109,10 +110,7 @@ fn long_lists_of_few_places(rt: HostRuntime) -> Result<(), Fail> {
         Shape::Within(3, 2),
         Shape::Same,
     ] {
-        assert!(rt;
-            adds_up_shape(rt.alloc(), shape, &LONG_COUNTS)?,
-            "{shape:?}"
-        );
+        assert!(rt; holds_at(&rt, &shape, adds_up_shape(rt.alloc(), shape, &LONG_COUNTS)?));
     }
     Ok(())
 }
@@ -125,8 +123,11 @@ fn long_lists_of_many_places(rt: HostRuntime) -> Result<(), Fail> {
         Shape::Falling,
     ] {
         assert!(rt;
-            adds_up_shape(rt.alloc(), shape, &LONG_COUNTS[..2])?,
-            "{shape:?}"
+            holds_at(
+                &rt,
+                &shape,
+                adds_up_shape(rt.alloc(), shape, &LONG_COUNTS[..2])?
+            )
         );
     }
     Ok(())

@@ -2,6 +2,7 @@
 use crate::shapes::cell;
 use cells::{is_in_order, rises};
 use std::test::Fail;
+use test_support::holds_at;
 
 const HIGH: u64 = u64::MAX;
 
@@ -22,8 +23,11 @@ fn pairs(rt: HostRuntime) -> Result<(), Fail> {
     for (p, q, follows, precedes) in PAIRS {
         let pair = [cell(p.0, p.1, 1), cell(q.0, q.1, 1)];
         assert!(rt;
-            is_in_order(&pair) == follows && rises(&pair) == precedes,
-            "{p:?} and {q:?}"
+            holds_at(
+                &rt,
+                &(p, q),
+                is_in_order(&pair) == follows && rises(&pair) == precedes
+            )
         );
     }
     Ok(())

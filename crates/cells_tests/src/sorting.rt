@@ -3,6 +3,7 @@ use crate::shapes::{COUNTS, GREAT_COUNTS, LONG_COUNTS, SHAPES, Shape, listed};
 use cells::{Cell, into_sorted, is_in_order, sorted};
 use std::alloc::{AllocError, Global};
 use std::test::Fail;
+use test_support::holds_at;
 
 // Whether a sorted list has the cells of another, whatever the order of cells at one place.
 fn is_sorted_of(alloc: Global, list: Vec<Cell>, cells: &[Cell]) -> Result<bool, AllocError> {
@@ -34,7 +35,7 @@ fn sorts_shape(alloc: Global, shape: Shape, counts: &[u64]) -> Result<bool, Allo
 #[test]
 fn lists_of_each_shape(rt: HostRuntime) -> Result<(), Fail> {
     for shape in SHAPES {
-        assert!(rt; sorts_shape(rt.alloc(), shape, &COUNTS)?, "{shape:?}");
+        assert!(rt; holds_at(&rt, &shape, sorts_shape(rt.alloc(), shape, &COUNTS)?));
     }
     Ok(())
 }
@@ -42,7 +43,7 @@ fn lists_of_each_shape(rt: HostRuntime) -> Result<(), Fail> {
 #[test]
 fn lists_at_the_upper_bound(rt: HostRuntime) -> Result<(), Fail> {
     for shape in [Shape::Within(1 << 60, 1 << 60), Shape::Crowded] {
-        assert!(rt; sorts_shape(rt.alloc(), shape, &GREAT_COUNTS)?, "{shape:?}");
+        assert!(rt; holds_at(&rt, &shape, sorts_shape(rt.alloc(), shape, &GREAT_COUNTS)?));
     }
     Ok(())
 }
@@ -78,8 +79,11 @@ fn long_lists_in_order_and_in_falling_order(rt: HostRuntime) -> Result<(), Fail>
 fn long_lists_of_few_places(rt: HostRuntime) -> Result<(), Fail> {
     for shape in [Shape::Same, Shape::Within(3, 2), Shape::Within(90, 90)] {
         assert!(rt;
-            sorts_shape(rt.alloc(), shape, &LONG_COUNTS[..2])?,
-            "{shape:?}"
+            holds_at(
+                &rt,
+                &shape,
+                sorts_shape(rt.alloc(), shape, &LONG_COUNTS[..2])?
+            )
         );
     }
     Ok(())

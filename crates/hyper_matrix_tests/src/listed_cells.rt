@@ -1,6 +1,7 @@
 //! A matrix's cells in a list behind those that it has.
 use crate::matrices::{SIDE, built, cell, grid};
 use std::test::Fail;
+use test_support::holds_at;
 
 #[test]
 fn cells_stand_behind_others(rt: HostRuntime) -> Result<(), Fail> {
@@ -10,6 +11,6 @@ fn cells_stand_behind_others(rt: HostRuntime) -> Result<(), Fail> {
     let mut want = Vec::from_slice(rt.alloc(), &list)?;
     m.push_cells(&mut list)?;
     want.append(&mut m.cells(rt.alloc())?)?;
-    assert!(rt; list.as_slice() == want.as_slice(), "{list:?}");
+    assert!(rt; holds_at(&rt, &list, list.as_slice() == want.as_slice()));
     Ok(())
 }

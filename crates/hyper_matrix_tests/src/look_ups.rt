@@ -18,6 +18,7 @@ enum LookUp {
 }
 
 use LookUp::{CellAt, FirstInRow, Get, RowTotal};
+use test_support::holds_at;
 
 static SMALL: &[Triple] = &[(2, 2, 4), (0, 1, 0), (0, 0, 1), (0, 0, 2)];
 
@@ -91,7 +92,7 @@ fn first_wrong(
 fn small_tables(rt: HostRuntime) -> Result<(), Fail> {
     for (list, questions) in [(SMALL, IN_SMALL), (&[], IN_NONE)] {
         let wrong = first_wrong(rt.alloc(), list, questions)?;
-        assert!(rt; wrong.is_none(), "{wrong:?}");
+        assert!(rt; holds_at(&rt, &wrong, wrong.is_none()));
     }
     Ok(())
 }

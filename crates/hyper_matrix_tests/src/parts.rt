@@ -4,6 +4,7 @@ use cells::Cell;
 use hyper_matrix::Hyper;
 use std::alloc::{AllocError, Global};
 use std::test::Fail;
+use test_support::holds_at;
 
 /// A list, a shard, how many there are, and the cells of the part.
 type Parted = (&'static [Triple], u64, u64, &'static [Triple]);
@@ -43,7 +44,7 @@ fn parts(alloc: Global, case: &Parted) -> Result<bool, AllocError> {
 #[test]
 fn shards_have_their_rows(rt: HostRuntime) -> Result<(), Fail> {
     for case in PARTS {
-        assert!(rt; parts(rt.alloc(), case)?, "{case:?}");
+        assert!(rt; holds_at(&rt, &case, parts(rt.alloc(), case)?));
     }
     Ok(())
 }
@@ -75,7 +76,7 @@ fn parts_of_many_blocks(rt: HostRuntime) -> Result<(), Fail> {
     let list = tall(rt.alloc(), 2000, None)?;
     let m = built(rt.alloc(), SIDE, &list)?;
     for s in 0..5 {
-        assert!(rt; part_has(rt.alloc(), &m, s)?, "{s}");
+        assert!(rt; holds_at(&rt, &s, part_has(rt.alloc(), &m, s)?));
     }
     Ok(())
 }
@@ -137,7 +138,7 @@ fn parts_of_all_shards(rt: HostRuntime) -> Result<(), Fail> {
     for list in &lists(rt.alloc())? {
         let m = built(rt.alloc(), SIDE, list)?;
         for k in [1, 2, 3, 64] {
-            assert!(rt; all_parts(rt.alloc(), &m, list, k)?, "{k} of {list:?}");
+            assert!(rt; holds_at(&rt, &(k, list), all_parts(rt.alloc(), &m, list, k)?));
         }
     }
     Ok(())

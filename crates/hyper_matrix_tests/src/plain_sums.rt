@@ -6,6 +6,7 @@ use cells::Cell;
 use std::alloc::{AllocError, Global};
 use std::collections::BTreeMap;
 use std::test::Fail;
+use test_support::holds_at;
 
 /// How many cells a list has, and in how many rows and columns they are scattered.
 type Shape = (u64, u64, u64);
@@ -93,7 +94,7 @@ fn adds_as_maps(alloc: Global, left: Shape, right: Shape) -> Result<bool, AllocE
 #[test]
 fn lists(rt: HostRuntime) -> Result<(), Fail> {
     for shape in SHAPES {
-        assert!(rt; builds_as_a_map(rt.alloc(), shape)?, "{shape:?}");
+        assert!(rt; holds_at(&rt, &shape, builds_as_a_map(rt.alloc(), shape)?));
     }
     Ok(())
 }
@@ -102,10 +103,7 @@ fn lists(rt: HostRuntime) -> Result<(), Fail> {
 fn pairs(rt: HostRuntime) -> Result<(), Fail> {
     for left in SHAPES {
         for right in SHAPES {
-            assert!(rt;
-                adds_as_maps(rt.alloc(), left, right)?,
-                "{left:?} and {right:?}"
-            );
+            assert!(rt; holds_at(&rt, &(left, right), adds_as_maps(rt.alloc(), left, right)?));
         }
     }
     Ok(())

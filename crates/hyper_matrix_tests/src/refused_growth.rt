@@ -4,6 +4,7 @@ use cells::Cell;
 use hyper_matrix::Hyper;
 use std::alloc::{AllocError, Global};
 use std::test::Fail;
+use test_support::holds_at;
 
 // Whether a sum has these cells. Where it is refused memory, the first matrix is to have its cells still, and the sum
 // is to come out the next time.
@@ -35,7 +36,7 @@ fn sum_outlasts_refusal(alloc: Global, shape: Triple) -> Result<bool, AllocError
 #[test]
 fn lent_sums(rt: HostRuntime) -> Result<(), Fail> {
     for shape in [(600, 1, 97), (600, 700, 2), (600, 10, 1)] {
-        assert!(rt; sum_outlasts_refusal(rt.alloc(), shape)?, "{shape:?}");
+        assert!(rt; holds_at(&rt, &shape, sum_outlasts_refusal(rt.alloc(), shape)?));
     }
     Ok(())
 }

@@ -3,6 +3,7 @@
 use crate::matrices::{Triple, adds_up, built_grid, grid};
 use std::alloc::{AllocError, Global};
 use std::test::Fail;
+use test_support::holds_at;
 
 fn adds_to_standing(alloc: Global, shape: Triple) -> Result<bool, AllocError> {
     let a = built_grid(alloc, shape, 1, 1)?;
@@ -20,7 +21,7 @@ fn standing_places(rt: HostRuntime) -> Result<(), Fail> {
         (600, 10, 4),
         (600, 10, 97),
     ] {
-        assert!(rt; adds_to_standing(rt.alloc(), shape)?, "{shape:?}");
+        assert!(rt; holds_at(&rt, &shape, adds_to_standing(rt.alloc(), shape)?));
     }
     Ok(())
 }

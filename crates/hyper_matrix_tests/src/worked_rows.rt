@@ -5,6 +5,7 @@ use crate::matrices::{Triple, adds_up, built, cell, cells_of, has, small};
 use hyper_matrix::{BuildFault, Hyper};
 use std::alloc::{AllocError, Global};
 use std::test::Fail;
+use test_support::holds_at;
 
 const HALF: u64 = 1 << 63;
 
@@ -46,10 +47,16 @@ static REFUSED: &[(&[Triple], BuildFault)] = &[
     (&[(0, 0, HALF), (3, 0, HALF)], BuildFault::IndexOutOfRange),
 ];
 
+// Whether a list makes the matrix of these cells, lent and given away.
 fn builds(alloc: Global, list: &[Triple], want: &[Triple]) -> Result<bool, AllocError> {
     let m = small(alloc, list)?;
     let want = cells_of(alloc, want)?;
-    Ok(m.dims() == (3, 3) && has(alloc, &m, &want)?)
+    let given = match Hyper::build_list(alloc, 3, 3, cells_of(alloc, list)?) {
+        Ok(given) => given,
+        Err(_) => return Ok(false),
+    };
+    let same = given.dims() == (3, 3) && has(alloc, &given, &want)?;
+    Ok(same && m.dims() == (3, 3) && has(alloc, &m, &want)?)
 }
 
 fn sums(alloc: Global, xs: &[Triple], ys: &[Triple], want: &[Triple]) -> Result<bool, AllocError> {
@@ -61,16 +68,15 @@ fn sums(alloc: Global, xs: &[Triple], ys: &[Triple], want: &[Triple]) -> Result<
 
 fn is_refused(alloc: Global, list: &[Triple], want: BuildFault) -> Result<bool, AllocError> {
     let list = cells_of(alloc, list)?;
-    match Hyper::build(alloc, 3, 3, &list) {
-        Ok(_) => Ok(false),
-        Err(fault) => Ok(fault == want),
-    }
+    let lent = Hyper::build(alloc, 3, 3, &list).err();
+    let given = Hyper::build_list(alloc, 3, 3, list).err();
+    Ok(lent == Some(want) && given == Some(want))
 }
 
 #[test]
 fn lists(rt: HostRuntime) -> Result<(), Fail> {
     for (list, want) in BUILT {
-        assert!(rt; builds(rt.alloc(), list, want)?, "{list:?}");
+        assert!(rt; holds_at(&rt, &list, builds(rt.alloc(), list, want)?));
     }
     Ok(())
 }
@@ -78,7 +84,7 @@ fn lists(rt: HostRuntime) -> Result<(), Fail> {
 #[test]
 fn pairs(rt: HostRuntime) -> Result<(), Fail> {
     for (xs, ys, want) in SUMS {
-        assert!(rt; sums(rt.alloc(), xs, ys, want)?, "{xs:?} and {ys:?}");
+        assert!(rt; holds_at(&rt, &(xs, ys), sums(rt.alloc(), xs, ys, want)?));
     }
     Ok(())
 }
@@ -86,7 +92,7 @@ fn pairs(rt: HostRuntime) -> Result<(), Fail> {
 #[test]
 fn refusals(rt: HostRuntime) -> Result<(), Fail> {
     for (list, want) in REFUSED {
-        assert!(rt; is_refused(rt.alloc(), list, *want)?, "{list:?}");
+        assert!(rt; holds_at(&rt, &list, is_refused(rt.alloc(), list, *want)?));
     }
     Ok(())
 }

@@ -5,8 +5,10 @@ use byte_io::{DeviceFault, Script, Sink, Source, WriteFault};
 use mm_sum::{SumFault, run_sum};
 use mm_text::{MmFault, MmKind};
 use std::alloc::{AllocError, Global};
+use std::io::Eprint;
 use std::process::Abort;
 use std::test::Fail;
+use test_support::{holds_at, same, same_at};
 
 const TEXT: &str =
     "%%MatrixMarket matrix coordinate integer general\n3 3 4\n1 1 5\n3 2 7\n1 1 2\n2 3 0\n";
@@ -67,24 +69,27 @@ fn line_after(text: &str, given: usize) -> u64 {
     line
 }
 
-fn check_failing_reads(rt: &impl Abort, alloc: Global, most: u64) -> Result<(), Fail> {
+fn check_failing_reads(rt: &(impl Abort + Eprint), alloc: Global, most: u64) -> Result<(), Fail> {
     let mut given = 0u64;
     let mut read = 0u64;
     // One read for each piece, and one that finds the end.
     for _ in 0..(TEXT.len() as u64).div_ceil(most.max(1)).wrapping_add(1) {
         let mut source = in_pieces(alloc, TEXT, most as usize, Some(read))?;
         let want = text_fault(MmKind::Read, line_after(TEXT, given as usize));
-        assert_eq!(rt;
-            outcome_of(rt, alloc, &mut source, SUM),
-            Err(want),
-            "read {read}"
+        assert!(rt;
+            same_at(
+                rt,
+                &read,
+                &outcome_of(rt, alloc, &mut source, SUM),
+                &Err(want)
+            )
         );
-        assert_eq!(rt; Source::failures(&source), 1);
+        assert!(rt; same(rt, &Source::failures(&source), &1));
         given = given.wrapping_add(most);
         read = read.wrapping_add(1);
     }
     let mut source = in_pieces(alloc, TEXT, most as usize, Some(read))?;
-    assert_eq!(rt; outcome_of(rt, alloc, &mut source, SUM), Ok(()));
+    assert!(rt; same(rt, &outcome_of(rt, alloc, &mut source, SUM), &Ok(())));
     Ok(())
 }
 
@@ -101,8 +106,14 @@ fn a_fault_is_told_before_a_later_read_fails(rt: HostRuntime) -> Result<(), Fail
     let text = "%%MatrixMarket matrix coordinate integer general\n3 3 1\n0 1 1\n1 1 1\n";
     let mut source = in_pieces(rt.alloc(), text, 61, Some(1))?;
     let want = text_fault(MmKind::IndexOutOfRange, 3);
-    assert_eq!(rt; outcome_of(&rt, rt.alloc(), &mut source, SUM), Err(want));
-    assert_eq!(rt; Source::failures(&source), 0);
+    assert!(rt;
+        same(
+            &rt,
+            &outcome_of(&rt, rt.alloc(), &mut source, SUM),
+            &Err(want)
+        )
+    );
+    assert!(rt; same(&rt, &Source::failures(&source), &0));
     Ok(())
 }
 
@@ -119,15 +130,15 @@ fn cuts_are_judged_before_anything_is_read(rt: HostRuntime) -> Result<(), Fail> 
         let mut source = in_pieces(rt.alloc(), TEXT, 7, Some(0))?;
         let mut sink = with_room(rt.alloc(), Some(0));
         let outcome = run_sum(rt.alloc(), &mut source, &mut sink, cuts);
-        assert_eq!(rt; outcome, Err(SumFault::BadCuts));
-        assert_eq!(rt; Source::failures(&source), 0);
-        assert_eq!(rt; Sink::failures(&sink), 0);
+        assert!(rt; same(&rt, &outcome, &Err(SumFault::BadCuts)));
+        assert!(rt; same(&rt, &Source::failures(&source), &0));
+        assert!(rt; same(&rt, &Sink::failures(&sink), &0));
     }
     Ok(())
 }
 
 fn check_pieces(
-    rt: &impl Abort,
+    rt: &(impl Abort + Eprint),
     alloc: Global,
     text: &str,
     want: Result<(), SumFault>,
@@ -135,7 +146,7 @@ fn check_pieces(
 ) -> Result<(), Fail> {
     for most in [1, 13, 1_000] {
         let mut source = in_pieces(alloc, text, most, None)?;
-        assert_eq!(rt; outcome_of(rt, alloc, &mut source, sum), want, "{text}");
+        assert!(rt; same_at(rt, &text, &outcome_of(rt, alloc, &mut source, sum), &want));
     }
     Ok(())
 }
@@ -175,7 +186,7 @@ fn sum_into(
 
 /// Sums a text into a sink that takes `room` bytes, fewer than the sum has.
 fn check_room(
-    rt: &impl Abort,
+    rt: &(impl Abort + Eprint),
     alloc: Global,
     text: &str,
     sum: &str,
@@ -184,10 +195,10 @@ fn check_room(
     let mut sink = with_room(alloc, Some(room as u64));
     let written = room as u128;
     let want = Err(SumFault::Output(WriteFault { written }));
-    assert_eq!(rt; sum_into(alloc, text, &mut sink)?, want);
+    assert!(rt; same(rt, &sum_into(alloc, text, &mut sink)?, &want));
     let taken = sum.as_bytes().get(..room);
-    assert!(rt; Some(sink.written()) == taken, "room for {room}");
-    assert_eq!(rt; Sink::failures(&sink), 1);
+    assert!(rt; holds_at(rt, &room, Some(sink.written()) == taken));
+    assert!(rt; same(rt, &Sink::failures(&sink), &1));
     Ok(())
 }
 
@@ -241,6 +252,6 @@ fn writes_that_take_nothing(rt: HostRuntime) -> Result<(), Fail> {
     let mut source = in_pieces(rt.alloc(), TEXT, 7, None)?;
     let outcome = run_sum(rt.alloc(), &mut source, &mut Full, &[4_096]);
     let fault = WriteFault { written: 0 };
-    assert_eq!(rt; outcome, Err(SumFault::Output(fault)));
+    assert!(rt; same(&rt, &outcome, &Err(SumFault::Output(fault))));
     Ok(())
 }
