@@ -9,8 +9,8 @@
 //! An addition has two steps: `Layers::plan` makes all growth and changes nothing, and `Layers::commit` puts the
 //! planned layers in place and cannot fail. `Layers::view` shows a reader the layers of one moment.
 //!
-//! Where cells are only added, and the sum is asked for once, lists of them can wait to be added up by `into_summed`,
-//! and `Layers::push_cells` lists what the layers hold, for `merged`.
+//! Where cells are only added, and the sum is asked for once, lists of them can wait to be added up by
+//! `cells::into_summed`, and `Layers::push_cells` lists what the layers hold, for `merged`.
 #![tactic(auto)]
 
 mod addition;
@@ -35,5 +35,5 @@ pub use fault::CascadeFault;
 pub use laws::{cascades_add, cascades_add_all, cascades_end_once, cascades_keep_cuts};
 pub use layers::{Layers, Plan};
 pub use limits::{MAX_CUT, MAX_CUTS};
-pub use lists::{into_summed, merged};
+pub use lists::merged;
 pub use view::LayerView;

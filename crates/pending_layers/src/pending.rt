@@ -19,9 +19,9 @@ ghost use Rattle.layer_cascade.specs.Cascade.{content};
 ghost use Rattle.layer_cascade.specs.Cuts.{AreCuts};
 
 use crate::limits::{FIRST_DUE, LEAST_PENDING, MAX_PENDING, SPARED_SHARE};
-use cells::{Cell, rises, total_of};
+use cells::{Cell, into_summed, rises, total_of};
 use hyper_matrix::Hyper;
-use layer_cascade::{CascadeFault, Layers, into_summed, merged};
+use layer_cascade::{CascadeFault, Layers, merged};
 use std::alloc::{AllocError, Global};
 use std::marker::Model;
 
@@ -214,7 +214,7 @@ impl PendingLayers {
         ensures { IfOk result (λ after. after ≡ self) }
     {
         let before = self.pending.len();
-        let mut pending = into_summed(alloc, self.pending)?;
+        let mut pending = into_summed(self.pending);
         if pending.len() <= self.most / 2 {
             let due = next_due(before, pending.len(), self.most);
             return Ok(PendingLayers {
@@ -238,9 +238,8 @@ impl PendingLayers {
 
     /// All of it as one list of cells, by row and then by column, each place once.
     ///
-    /// Those that wait are put in order first, in as much memory again unless they are. The cells of the layers are
-    /// appended to them, in room that is made once and exactly; then the layers' memory is free, and all are merged, in
-    /// half as much memory again.
+    /// Those that wait are put in order first, in their own memory. The cells of the layers are appended to them, in room
+    /// that is made once and exactly; then the layers' memory is free, and all are merged, in half as much memory again.
     ///
     /// # Errors
     ///
@@ -252,7 +251,7 @@ impl PendingLayers {
         ensures fits { total self.counts < 2 ^ 64 }
     {
         let layers = self.layers;
-        let mut cells = into_summed(alloc, self.pending)?;
+        let mut cells = into_summed(self.pending);
         layers.push_cells(&mut cells)?;
         drop(layers);
         // Where the layers hold nothing there is nothing to merge.
