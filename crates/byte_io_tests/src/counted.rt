@@ -3,10 +3,11 @@ ghost use Rattle.std.specs.Prelude.{◌≡◌, ℕ, ◌+◌, ◌<◌, ◌≤◌,
 
 use crate::scripts::read_all;
 use byte_io::{Counted, DeviceFault, Link, Sink, Source};
+use std::alloc::Global;
 use std::io;
 use std::io::{Error, ErrorKind, Read, Write};
-use std::process::Abort;
 use std::test::Fail;
+use test_support::{same, same_at};
 
 /// A reader and writer whose first call fails with an error of this kind. Later ones move nothing.
 #[derive(Drop)]
@@ -52,45 +53,59 @@ const KINDS: [ErrorKind; 6] = [
     ErrorKind::Other,
 ];
 
+/// What two calls answer, the failures behind the first, and how often the device inside was called.
+type Ends = ([Result<usize, DeviceFault>; 2], u64, u64);
+
+const FAILED_ONCE: Ends = ([Err(DeviceFault), Ok(0)], 1, 2);
+
 // A read that fails, and one that gives nothing.
-fn expect_failed_read(rt: &impl Abort, kind: ErrorKind) {
+fn reads(kind: ErrorKind) -> Ends {
     let mut reader = Counted::new(FailsOnce { kind, calls: 0 });
-    assert_eq!(rt; reader.read(&mut [0u8; 4]), Err(DeviceFault));
-    assert_eq!(rt; Source::failures(&reader), 1);
-    assert_eq!(rt; reader.read(&mut [0u8; 4]), Ok(0));
-    assert_eq!(rt; reader.into_inner().calls, 2);
+    let first = reader.read(&mut [0u8; 4]);
+    let failures = Source::failures(&reader);
+    let second = reader.read(&mut [0u8; 4]);
+    ([first, second], failures, reader.into_inner().calls)
 }
 
 // A write that fails, and one that takes nothing.
-fn expect_failed_write(rt: &impl Abort, kind: ErrorKind) {
+fn writes(kind: ErrorKind) -> Ends {
     let mut writer = Counted::new(FailsOnce { kind, calls: 0 });
-    assert_eq!(rt; writer.write(b"ab"), Err(DeviceFault));
-    assert_eq!(rt; Sink::failures(&writer), 1);
-    assert_eq!(rt; writer.write(b"ab"), Ok(0));
-    assert_eq!(rt; writer.into_inner().calls, 2);
+    let first = writer.write(b"ab");
+    let failures = Sink::failures(&writer);
+    let second = writer.write(b"ab");
+    ([first, second], failures, writer.into_inner().calls)
 }
 
 #[test]
 fn errors_are_failures(rt: HostRuntime) {
     for kind in KINDS {
-        expect_failed_read(&rt, kind);
-        expect_failed_write(&rt, kind);
+        assert!(rt; same_at(&rt, &kind, &reads(kind), &FAILED_ONCE));
+        assert!(rt; same_at(&rt, &kind, &writes(kind), &FAILED_ONCE));
     }
+}
+
+// What a list takes, its failures, and whether it has these bytes.
+fn list_takes(alloc: Global, bytes: &[u8]) -> (Result<usize, DeviceFault>, u64, bool) {
+    let mut writer = Counted::new(Vec::new(alloc));
+    let taken = writer.write(bytes);
+    let failures = Sink::failures(&writer);
+    (taken, failures, writer.into_inner().as_slice() == bytes)
+}
+
+// What room for two bytes takes of three, and then of one more.
+fn room_takes() -> [Result<usize, DeviceFault>; 2] {
+    let mut room = [0u8; 2];
+    let mut short = Counted::new(room.as_mut_slice());
+    [short.write(b"abc"), short.write(b"c")]
 }
 
 #[test]
 fn counted_devices(rt: HostRuntime) -> Result<(), Fail> {
     let mut reader = Counted::new(b"abc".as_slice());
     let got = read_all(rt.alloc(), &mut reader, 2)?;
-    assert_eq!(rt; got.as_slice(), b"ab|c|".as_slice());
-    let mut writer = Counted::new(Vec::new(rt.alloc()));
-    assert_eq!(rt; writer.write(b"abc"), Ok(3));
-    assert_eq!(rt; Sink::failures(&writer), 0);
-    assert_eq!(rt; writer.into_inner().as_slice(), b"abc".as_slice());
-    let mut room = [0u8; 2];
-    let mut short = Counted::new(room.as_mut_slice());
-    assert_eq!(rt; short.write(b"abc"), Ok(2));
-    assert_eq!(rt; short.write(b"c"), Ok(0));
+    assert!(rt; got.as_slice() == b"ab|c|".as_slice());
+    assert!(rt; same(&rt, &list_takes(rt.alloc(), b"abc"), &(Ok(3), 0, true)));
+    assert!(rt; same(&rt, &room_takes(), &[Ok(2), Ok(0)]));
     Ok(())
 }
 
@@ -110,7 +125,7 @@ fn failures_of_a_link(rt: HostRuntime) {
     for kind in KINDS {
         let mut link = Counted::new(FailsOnce { kind, calls: 0 });
         assert!(rt; !echo(&mut link));
-        assert_eq!(rt; Source::failures(&link), 1);
-        assert_eq!(rt; Sink::failures(&link), 1);
+        assert!(rt; same(&rt, &Source::failures(&link), &1));
+        assert!(rt; same(&rt, &Sink::failures(&link), &1));
     }
 }

@@ -3,8 +3,10 @@ ghost use Rattle.std.specs.Prelude.{◌≡◌, ℕ, ◌+◌, ◌<◌, ◌≤◌,
 
 use byte_io::{DeviceFault, Script, Sink, Source};
 use std::alloc::{AllocError, Global};
+use std::io::Eprint;
 use std::process::Abort;
 use std::test::Fail;
+use test_support::{holds_at, same};
 
 /// The pieces of a text that is cut at each `/`.
 fn cut(alloc: Global, text: &str) -> Result<Vec<Vec<u8>>, AllocError> {
@@ -97,43 +99,43 @@ fn reads_as(alloc: Global, row: &Row) -> Result<bool, AllocError> {
 #[test]
 fn script_reads(rt: HostRuntime) -> Result<(), Fail> {
     for row in ROWS {
-        assert!(rt; reads_as(rt.alloc(), row)?, "{}", row.3);
+        assert!(rt; holds_at(&rt, &row.3, reads_as(rt.alloc(), row)?));
     }
     Ok(())
 }
 
 // Two bytes are read, and then none.
-fn read_and_fail(rt: &impl Abort, script: &mut Script)
+fn read_and_fail(rt: &(impl Abort + Eprint), script: &mut Script)
     requires { script.old.failures + 2 < 2 ^ 64 }
     ensures { script.new.failures ≡ 2 }
 {
     let mut buffer = [0u8; 2];
-    assert_eq!(rt; script.read(&mut buffer), Ok(2));
-    assert_eq!(rt; &buffer, b"ab");
-    assert_eq!(rt; script.read(&mut buffer), Err(DeviceFault));
-    assert_eq!(rt; script.read(&mut buffer), Err(DeviceFault));
-    assert_eq!(rt; Source::failures(script), 2);
+    assert!(rt; same(rt, &script.read(&mut buffer), &Ok(2)));
+    assert!(rt; same(rt, &buffer, b"ab"));
+    assert!(rt; same(rt, &script.read(&mut buffer), &Err(DeviceFault)));
+    assert!(rt; same(rt, &script.read(&mut buffer), &Err(DeviceFault)));
+    assert!(rt; same(rt, &Source::failures(script), &2));
 }
 
 // A byte is written, and a write of none takes none.
-fn write_one(rt: &impl Abort, script: &mut Script, bytes: &[u8])
+fn write_one(rt: &(impl Abort + Eprint), script: &mut Script, bytes: &[u8])
     requires { script.old.failures ≡ 2 }
     ensures { script.new.failures ≡ 2 }
 {
-    assert_eq!(rt; script.write(bytes), Ok(1));
-    assert_eq!(rt; script.write(b""), Ok(0));
-    assert_eq!(rt; Sink::failures(script), 2);
+    assert!(rt; same(rt, &script.write(bytes), &Ok(1)));
+    assert!(rt; same(rt, &script.write(b""), &Ok(0)));
+    assert!(rt; same(rt, &Sink::failures(script), &2));
 }
 
 // Two bytes are written, and then none.
-fn write_and_fail(rt: &impl Abort, script: &mut Script)
+fn write_and_fail(rt: &(impl Abort + Eprint), script: &mut Script)
     requires { script.old.failures ≡ 2 }
 {
     write_one(rt, script, b"x");
     write_one(rt, script, b"yz");
-    assert_eq!(rt; script.write(b"z"), Err(DeviceFault));
-    assert_eq!(rt; Sink::failures(script), 3);
-    assert_eq!(rt; script.written(), b"xy".as_slice());
+    assert!(rt; same(rt, &script.write(b"z"), &Err(DeviceFault)));
+    assert!(rt; same(rt, &Sink::failures(script), &3));
+    assert!(rt; same(rt, &script.written(), &b"xy".as_slice()));
 }
 
 #[test]

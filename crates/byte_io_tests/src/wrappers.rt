@@ -4,8 +4,10 @@ ghost use Rattle.std.specs.Prelude.{◌≡◌, ◌≢◌, ℕ, ◌+◌, ◌-◌,
 use crate::scripts::read_all;
 use byte_io::{DeviceFault, Link, Once, Script, Sink, Source, Trickle, WriteFault, write_all};
 use std::alloc::{AllocError, Global};
+use std::io::Eprint;
 use std::process::Abort;
 use std::test::Fail;
+use test_support::{holds_at, same, same_at};
 
 // A script that gives `abc` and `de`, and takes so many bytes.
 fn two_pieces(alloc: Global, room: Option<u64>) -> Result<Script, AllocError>
@@ -17,46 +19,85 @@ fn two_pieces(alloc: Global, room: Option<u64>) -> Result<Script, AllocError>
     Ok(Script::new(alloc, pieces, None, room))
 }
 
-// What is read while this call fails, with a `|` behind each read, the calls that are made, and the failures.
+// What is read while this call fails, with a `|` behind each read, the calls that were made, and the failures, also
+// those of the script itself.
+fn read_while(alloc: Global, fail_at: u32) -> Result<(Vec<u8>, (u64, u64, u64)), AllocError> {
+    let mut once = Once::new(two_pieces(alloc, None)?, u64::from(fail_at));
+    let got = read_all(alloc, &mut once, 4)?;
+    let failures = Source::failures(&once);
+    Ok((
+        got,
+        (once.calls(), failures, Source::failures(once.inner())),
+    ))
+}
+
 fn expect_reads(
-    rt: &impl Abort,
+    rt: &(impl Abort + Eprint),
     alloc: Global,
     fail_at: u32,
     read: &[u8],
-    calls: u64,
-    failures: u64,
+    counts: (u64, u64),
 ) -> Result<(), Fail> {
-    let mut once = Once::new(two_pieces(alloc, None)?, u64::from(fail_at));
-    let got = read_all(alloc, &mut once, 4)?;
-    assert!(rt; got.as_slice() == read);
-    assert_eq!(rt; once.calls(), calls);
-    assert_eq!(rt; Source::failures(&once), failures);
-    assert_eq!(rt; Source::failures(once.inner()), 0);
+    let (got, found) = read_while(alloc, fail_at)?;
+    assert!(rt; holds_at(rt, &fail_at, got.as_slice() == read));
+    assert!(rt; same_at(rt, &fail_at, &found, &(counts.0, counts.1, 0)));
     Ok(())
 }
 
 #[test]
 fn one_read_fails(rt: HostRuntime) -> Result<(), Fail> {
-    expect_reads(&rt, rt.alloc(), 0, b"!", 1, 1)?;
-    expect_reads(&rt, rt.alloc(), 1, b"abc|!", 2, 1)?;
-    expect_reads(&rt, rt.alloc(), 2, b"abc|de|!", 3, 1)?;
-    expect_reads(&rt, rt.alloc(), 3, b"abc|de|", 3, 0)?;
-    expect_reads(&rt, rt.alloc(), 99, b"abc|de|", 3, 0)
+    expect_reads(&rt, rt.alloc(), 0, b"!", (1, 1))?;
+    expect_reads(&rt, rt.alloc(), 1, b"abc|!", (2, 1))?;
+    expect_reads(&rt, rt.alloc(), 2, b"abc|de|!", (3, 1))?;
+    expect_reads(&rt, rt.alloc(), 3, b"abc|de|", (3, 0))?;
+    expect_reads(&rt, rt.alloc(), 99, b"abc|de|", (3, 0))
 }
 
-// A text is written byte by byte while this call fails.
-fn expect_writes(rt: &impl Abort, alloc: Global, fail_at: u32) -> Result<(), Fail>
+// The end of a write that moves byte by byte while this call fails, whether what it took is the front of the text up to
+// there, and the calls that were made.
+fn written_while(
+    alloc: Global,
+    fail_at: u32,
+) -> Result<(Result<(), WriteFault>, bool, u64), AllocError>
     requires { fail_at < 4 }
 {
     let slow = Trickle::new(two_pieces(alloc, None)?, 1);
     let mut once = Once::new(slow, u64::from(fail_at));
+    let outcome = write_all(&mut once, b"text");
+    let is_front = once.inner().inner().written() == &b"text"[..fail_at as usize];
+    Ok((outcome, is_front, once.calls()))
+}
+
+fn expect_writes(rt: &(impl Abort + Eprint), alloc: Global, fail_at: u32) -> Result<(), Fail>
+    requires { fail_at < 4 }
+{
     let fault = WriteFault {
         written: u128::from(fail_at),
     };
-    assert_eq!(rt; write_all(&mut once, b"text"), Err(fault));
-    assert!(rt; once.inner().inner().written() == &b"text"[..fail_at as usize]);
-    assert_eq!(rt; once.calls(), u64::from(fail_at) + 1);
+    let want = (Err(fault), true, u64::from(fail_at) + 1);
+    assert!(rt; same_at(rt, &fail_at, &written_while(alloc, fail_at)?, &want));
     Ok(())
+}
+
+// A text is written, a call fails, and the next one is answered; whether both were taken.
+fn written_again(
+    alloc: Global,
+) -> Result<
+    (
+        Result<(), WriteFault>,
+        [Result<usize, DeviceFault>; 2],
+        bool,
+    ),
+    AllocError,
+> {
+    let mut once = Once::new(two_pieces(alloc, None)?, 1);
+    let whole = write_all(&mut once, b"text");
+    let answers = [once.write(b"x"), once.write(b"x")];
+    Ok((
+        whole,
+        answers,
+        once.inner().written() == b"textx".as_slice(),
+    ))
 }
 
 #[test]
@@ -64,11 +105,8 @@ fn one_write_fails(rt: HostRuntime) -> Result<(), Fail> {
     for fail_at in 0..4 {
         expect_writes(&rt, rt.alloc(), fail_at)?;
     }
-    let mut once = Once::new(two_pieces(rt.alloc(), None)?, 1);
-    assert_eq!(rt; write_all(&mut once, b"text"), Ok(()));
-    assert_eq!(rt; once.write(b"x"), Err(DeviceFault));
-    assert_eq!(rt; once.write(b"x"), Ok(1));
-    assert_eq!(rt; once.inner().written(), b"textx".as_slice());
+    let want = (Ok(()), [Err(DeviceFault), Ok(1)], true);
+    assert!(rt; same(&rt, &written_again(rt.alloc())?, &want));
     Ok(())
 }
 
@@ -83,13 +121,18 @@ fn three_calls<L: Link>(link: &mut L) -> [bool; 3]
     [first, second, third]
 }
 
-// Both kinds of calls have one count.
-fn expect_count(rt: &impl Abort, alloc: Global, fail_at: u32) -> Result<(), Fail> {
+// Which of the calls went well, the failures, and the calls that were made.
+fn counted_while(alloc: Global, fail_at: u32) -> Result<([bool; 3], u64, u64), AllocError> {
     let mut once = Once::new(two_pieces(alloc, None)?, u64::from(fail_at));
     let answers = three_calls(&mut once);
-    assert!(rt; answers == [fail_at != 0, fail_at != 1, fail_at != 2]);
-    assert_eq!(rt; Sink::failures(&once), u64::from(fail_at < 3));
-    assert_eq!(rt; once.calls(), 3);
+    Ok((answers, Sink::failures(&once), once.calls()))
+}
+
+// Both kinds of calls have one count.
+fn expect_count(rt: &(impl Abort + Eprint), alloc: Global, fail_at: u32) -> Result<(), Fail> {
+    let answers = [fail_at != 0, fail_at != 1, fail_at != 2];
+    let want = (answers, u64::from(fail_at < 3), 3);
+    assert!(rt; same_at(rt, &fail_at, &counted_while(alloc, fail_at)?, &want));
     Ok(())
 }
 
@@ -102,22 +145,40 @@ fn reads_and_writes_are_counted_together(rt: HostRuntime) -> Result<(), Fail> {
 }
 
 // What is read in steps of this size, with a `|` behind each read.
-fn expect_steps(rt: &impl Abort, alloc: Global, step: usize, read: &[u8]) -> Result<(), Fail>
+fn expect_steps(
+    rt: &(impl Abort + Eprint),
+    alloc: Global,
+    step: usize,
+    read: &[u8],
+) -> Result<(), Fail>
     requires { step ≢ 0 }
 {
     let mut slow = Trickle::new(two_pieces(alloc, None)?, step);
     let got = read_all(alloc, &mut slow, 4)?;
-    assert!(rt; got.as_slice() == read);
+    assert!(rt; holds_at(rt, &step, got.as_slice() == read));
     Ok(())
 }
 
-// A write in steps of this size.
-fn expect_step(rt: &impl Abort, alloc: Global, step: usize) -> Result<(), Fail>
+// What a write in steps of this size takes, and whether it is the front of the text.
+fn taken_in_steps(
+    alloc: Global,
+    step: usize,
+) -> Result<(Result<usize, DeviceFault>, bool), AllocError>
     requires { step ≢ 0 }
 {
     let mut slow = Trickle::new(two_pieces(alloc, None)?, step);
-    assert_eq!(rt; slow.write(b"some text"), Ok(step.min(9)));
-    assert!(rt; slow.inner().written() == &b"some text"[..step.min(9)]);
+    let taken = slow.write(b"some text");
+    Ok((
+        taken,
+        slow.inner().written() == &b"some text"[..step.min(9)],
+    ))
+}
+
+fn expect_step(rt: &(impl Abort + Eprint), alloc: Global, step: usize) -> Result<(), Fail>
+    requires { step ≢ 0 }
+{
+    let want = (Ok(step.min(9)), true);
+    assert!(rt; same_at(rt, &step, &taken_in_steps(alloc, step)?, &want));
     Ok(())
 }
 
@@ -131,19 +192,28 @@ fn calls_move_few_bytes(rt: HostRuntime) -> Result<(), Fail> {
     expect_step(&rt, rt.alloc(), 20)
 }
 
+// The answers of four writes that fail, each pair in a device around the one before, and the failures that are told
+// before, between and behind them; the last ones by the device inside.
+fn failed_on(alloc: Global) -> Result<([Result<usize, DeviceFault>; 4], [u64; 4]), AllocError> {
+    let mut script = two_pieces(alloc, Some(0))?;
+    let first = script.write(b"x");
+    let mut slow = Trickle::new(script, 1);
+    let before = Sink::failures(&slow);
+    let second = slow.write(b"x");
+    let mut once = Once::new(slow, 0);
+    let between = Source::failures(&once);
+    let answers = [first, second, once.write(b"x"), once.write(b"x")];
+    let behind = Source::failures(&once);
+    Ok((
+        answers,
+        [before, between, behind, Sink::failures(once.inner())],
+    ))
+}
+
 // The failures of a link that failed before are counted on.
 #[test]
 fn failures_are_counted_on(rt: HostRuntime) -> Result<(), Fail> {
-    let mut script = two_pieces(rt.alloc(), Some(0))?;
-    assert_eq!(rt; script.write(b"x"), Err(DeviceFault));
-    let mut slow = Trickle::new(script, 1);
-    assert_eq!(rt; Sink::failures(&slow), 1);
-    assert_eq!(rt; slow.write(b"x"), Err(DeviceFault));
-    let mut once = Once::new(slow, 0);
-    assert_eq!(rt; Source::failures(&once), 2);
-    assert_eq!(rt; once.write(b"x"), Err(DeviceFault));
-    assert_eq!(rt; once.write(b"x"), Err(DeviceFault));
-    assert_eq!(rt; Source::failures(&once), 4);
-    assert_eq!(rt; Sink::failures(once.inner()), 3);
+    let want = ([Err(DeviceFault); 4], [1, 2, 4, 3]);
+    assert!(rt; same(&rt, &failed_on(rt.alloc())?, &want));
     Ok(())
 }

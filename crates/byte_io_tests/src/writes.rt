@@ -4,28 +4,30 @@ ghost use Rattle.std.specs.Prelude.{◌≤◌};
 use crate::sinks::{Full, OneByte};
 use byte_io::{Script, Sink, WriteFault, write_all};
 use std::alloc::Global;
+use std::io::Eprint;
 use std::process::Abort;
+use test_support::same;
 
 // A text is written byte by byte.
-fn expect_whole(rt: &impl Abort, alloc: Global) {
+fn expect_whole(rt: &(impl Abort + Eprint), alloc: Global) {
     let mut slow = OneByte {
         inner: Script::new(alloc, Vec::new(alloc), None, None),
     };
-    assert_eq!(rt; write_all(&mut slow, b"some text"), Ok(()));
-    assert_eq!(rt; slow.inner.written(), b"some text".as_slice());
+    assert!(rt; same(rt, &write_all(&mut slow, b"some text"), &Ok(())));
+    assert!(rt; same(rt, &slow.inner.written(), &b"some text".as_slice()));
 }
 
 // A write fails after so many bytes.
-fn expect_cut(rt: &impl Abort, alloc: Global, limit: u64)
+fn expect_cut(rt: &(impl Abort + Eprint), alloc: Global, limit: u64)
     requires { limit ≤ 9 }
 {
     let mut script = Script::new(alloc, Vec::new(alloc), None, Some(limit));
     let fault = WriteFault {
         written: u128::from(limit),
     };
-    assert_eq!(rt; write_all(&mut script, b"some text"), Err(fault));
+    assert!(rt; same(rt, &write_all(&mut script, b"some text"), &Err(fault)));
     assert!(rt; script.written() == &b"some text"[..limit as usize]);
-    assert_eq!(rt; Sink::failures(&script), 1);
+    assert!(rt; same(rt, &Sink::failures(&script), &1));
 }
 
 #[test]
@@ -38,6 +40,12 @@ fn whole_texts(rt: HostRuntime) {
 
 #[test]
 fn full_sinks(rt: HostRuntime) {
-    assert_eq!(rt; write_all(&mut Full, b""), Ok(()));
-    assert_eq!(rt; write_all(&mut Full, b"a"), Err(WriteFault { written: 0 }));
+    assert!(rt; same(&rt, &write_all(&mut Full, b""), &Ok(())));
+    assert!(rt;
+        same(
+            &rt,
+            &write_all(&mut Full, b"a"),
+            &Err(WriteFault { written: 0 })
+        )
+    );
 }

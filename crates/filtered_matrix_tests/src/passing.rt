@@ -1,7 +1,9 @@
 //! Which places pass the filter, and what is looked up at them.
 use crate::matrices::{SHAPES, Shape, count_of, shaped};
 use filtered_matrix::FilteredMatrix;
+use std::alloc::{AllocError, Global};
 use std::test::Fail;
+use test_support::{holds_at, same_at};
 
 // How many places that have no entry are asked for.
 const ASKED: u64 = 10_000;
@@ -37,28 +39,44 @@ fn passing(m: &FilteredMatrix, shape: Shape, n: u64) -> Option<u64> {
     Some(passing)
 }
 
+// Whether the matrix of the first n places of a shape gets a filter, which lets all of them pass; and how many others.
+fn with_filter(
+    alloc: Global,
+    shape: Shape,
+    n: u64,
+) -> Result<(bool, bool, Option<u64>), AllocError> {
+    let m = FilteredMatrix::with_filter(alloc, shaped(alloc, shape, n)?)?;
+    Ok((m.has_filter(), has_all(&m, shape, n), passing(&m, shape, n)))
+}
+
 #[test]
 fn entries_pass_and_few_others(rt: HostRuntime) -> Result<(), Fail> {
     for shape in SHAPES {
         for (n, bound) in BOUNDS {
-            let m = shaped(rt.alloc(), shape, n)?;
-            let m = FilteredMatrix::with_filter(rt.alloc(), m)?;
-            assert!(rt; m.has_filter(), "{shape:?}");
-            assert!(rt; has_all(&m, shape, n), "{shape:?}");
-            let others = passing(&m, shape, n).ok_or("a count at a place without an entry")?;
-            assert!(rt; others <= bound, "{others} of {ASKED}: {shape:?} of {n}");
+            let (is_filtered, all_pass, others) = with_filter(rt.alloc(), shape, n)?;
+            assert!(rt; same_at(&rt, &(shape, n), &(is_filtered, all_pass), &(true, true)));
+            let are_few = matches!(others, Some(passing) if passing <= bound);
+            assert!(rt; holds_at(&rt, &(others, ASKED, shape, n), are_few));
         }
     }
     Ok(())
 }
 
+// The same of a matrix that gets none.
+fn without_filter(
+    alloc: Global,
+    shape: Shape,
+    n: u64,
+) -> Result<(bool, bool, Option<u64>), AllocError> {
+    let m = FilteredMatrix::new(alloc, shaped(alloc, shape, n)?);
+    Ok((m.has_filter(), has_all(&m, shape, n), passing(&m, shape, n)))
+}
+
 #[test]
 fn all_pass_without_a_filter(rt: HostRuntime) -> Result<(), Fail> {
     for shape in SHAPES {
-        let m = FilteredMatrix::new(rt.alloc(), shaped(rt.alloc(), shape, 1_000)?);
-        assert!(rt; !m.has_filter(), "{shape:?}");
-        assert!(rt; has_all(&m, shape, 1_000), "{shape:?}");
-        assert!(rt; passing(&m, shape, 1_000) == Some(ASKED), "{shape:?}");
+        let found = without_filter(rt.alloc(), shape, 1_000)?;
+        assert!(rt; same_at(&rt, &shape, &found, &(false, true, Some(ASKED))));
     }
     Ok(())
 }

@@ -4,6 +4,7 @@ use filtered_matrix::FilteredMatrix;
 use hyper_matrix::Hyper;
 use std::alloc::{AllocError, Global};
 use std::test::Fail;
+use test_support::holds_at;
 
 // The filter of a copy. Where memory is refused, it is to come out the next time.
 fn filtered(alloc: Global, m: &Hyper) -> Result<FilteredMatrix, AllocError> {
@@ -25,12 +26,17 @@ fn have_all(m: &Hyper, filtered: &FilteredMatrix, shape: Shape, n: u64) -> bool 
     true
 }
 
+// The same of a matrix that is made, and of a copy with a filter.
+fn both_have_all(alloc: Global, shape: Shape, n: u64) -> Result<bool, AllocError> {
+    let m = shaped(alloc, shape, n)?;
+    let filtered = filtered(alloc, &m)?;
+    Ok(have_all(&m, &filtered, shape, n))
+}
+
 #[test]
 fn filters_outlast_refusals(rt: HostRuntime) -> Result<(), Fail> {
     for shape in SHAPES {
-        let m = shaped(rt.alloc(), shape, 300)?;
-        let filtered = filtered(rt.alloc(), &m)?;
-        assert!(rt; have_all(&m, &filtered, shape, 300), "{shape:?}");
+        assert!(rt; holds_at(&rt, &shape, both_have_all(rt.alloc(), shape, 300)?));
     }
     Ok(())
 }

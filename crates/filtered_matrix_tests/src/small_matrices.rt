@@ -4,42 +4,78 @@ use cells::Cell;
 use filtered_matrix::FilteredMatrix;
 use hyper_matrix::Hyper;
 use std::test::Fail;
+use test_support::same;
 
 const LAST: u64 = SIDE - 1;
 
 static OUTSIDE: &[(u64, u64)] = &[(0, SIDE), (SIDE, 0), (LAST, SIDE), (u64::MAX, u64::MAX)];
 
+// The first of these places that passes the filter or has a count.
+fn first_found(m: &FilteredMatrix, places: &[(u64, u64)]) -> Option<(u64, u64)> {
+    for (row, col) in places {
+        if m.may_have(*row, *col) || m.get(*row, *col).is_some() {
+            return Some((*row, *col));
+        }
+    }
+    None
+}
+
+static OF_NO_ENTRY: &[(u64, u64)] = &[(0, 0), (0, LAST), (1, 0), (u64::MAX, u64::MAX)];
+
 #[test]
 fn the_empty_matrix(rt: HostRuntime) -> Result<(), Fail> {
     let m = FilteredMatrix::with_filter(rt.alloc(), Hyper::new(rt.alloc(), 1, SIDE))?;
     assert!(rt; m.has_filter());
-    for (row, col) in [(0, 0), (0, LAST), (1, 0), (u64::MAX, u64::MAX)] {
-        assert!(rt; !m.may_have(row, col), "{row}, {col}");
-        assert_eq!(rt; m.get(row, col), None, "{row}, {col}");
-    }
-    assert_eq!(rt; m.matrix().entries(), 0);
-    assert_eq!(rt; m.matrix().dims(), (1, SIDE));
+    assert!(rt; same(&rt, &first_found(&m, OF_NO_ENTRY), &None));
+    assert!(rt;
+        same(
+            &rt,
+            &(m.matrix().entries(), m.matrix().dims()),
+            &(0, (1, SIDE))
+        )
+    );
     Ok(())
+}
+
+static CORNERS: [(u64, u64, u64); 4] = [
+    (0, 0, 7),
+    (0, LAST, 0),
+    (LAST, 0, u64::MAX - 9),
+    (LAST, LAST, 2),
+];
+
+// The first corner that doesn't pass the filter or hasn't its count.
+fn first_missed(m: &FilteredMatrix) -> Option<(u64, u64)> {
+    for (row, col, count) in CORNERS {
+        if !m.may_have(row, col) || m.get(row, col) != Some(count) {
+            return Some((row, col));
+        }
+    }
+    None
+}
+
+// The first place outside the dimensions that has a count.
+fn first_outside(m: &FilteredMatrix) -> Option<(u64, u64)> {
+    for (row, col) in OUTSIDE {
+        if m.get(*row, *col).is_some() {
+            return Some((*row, *col));
+        }
+    }
+    None
 }
 
 #[test]
 fn the_corners(rt: HostRuntime) -> Result<(), Fail> {
-    let corners = [
-        (0, 0, 7),
-        (0, LAST, 0),
-        (LAST, 0, u64::MAX - 9),
-        (LAST, LAST, 2),
-    ];
-    let cells = corners.map(|(row, col, count)| Cell { row, col, count });
+    let cells = CORNERS.map(|(row, col, count)| Cell { row, col, count });
     let m = FilteredMatrix::with_filter(rt.alloc(), built(rt.alloc(), &cells)?)?;
-    for (row, col, count) in corners {
-        assert!(rt; m.may_have(row, col), "{row}, {col}");
-        assert_eq!(rt; m.get(row, col), Some(count), "{row}, {col}");
-    }
-    for (row, col) in OUTSIDE {
-        assert_eq!(rt; m.get(*row, *col), None, "{row}, {col}");
-    }
-    assert_eq!(rt; m.matrix().entries(), 4);
-    assert_eq!(rt; m.matrix().total(), u64::MAX);
+    assert!(rt; same(&rt, &first_missed(&m), &None));
+    assert!(rt; same(&rt, &first_outside(&m), &None));
+    assert!(rt;
+        same(
+            &rt,
+            &(m.matrix().entries(), m.matrix().total()),
+            &(4, u64::MAX)
+        )
+    );
     Ok(())
 }

@@ -6,6 +6,7 @@ use snap_file::{SnapFault, read_snapshot};
 use std::alloc::Global;
 use std::io::{self, Read};
 use std::process::Abort;
+use test_support::same_at;
 
 // The fault of these bytes and then zeros for ever.
 fn fault_behind(alloc: Global, front: &[u8], max_bytes: u64) -> Option<SnapFault> {
@@ -32,7 +33,7 @@ static EMPTY: &[(u64, SnapFault)] = &[
 fn a_byte_behind_the_end_is_told(rt: HostRuntime) {
     for (most, expected) in ENDLESS {
         let found = fault_behind(rt.alloc(), ONE, *most);
-        assert_eq!(rt; found, Some(*expected), "{most}");
+        assert!(rt; same_at(&rt, &most, &found, &Some(*expected)));
     }
 }
 
@@ -40,6 +41,6 @@ fn a_byte_behind_the_end_is_told(rt: HostRuntime) {
 fn an_endless_byte_is_no_snapshot(rt: HostRuntime) {
     for (most, expected) in EMPTY {
         let found = fault_behind(rt.alloc(), b"", *most);
-        assert_eq!(rt; found, Some(*expected), "{most}");
+        assert!(rt; same_at(&rt, &most, &found, &Some(*expected)));
     }
 }

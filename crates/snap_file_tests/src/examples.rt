@@ -5,8 +5,10 @@ use batch_store::{Batch, Setup};
 use byte_io::Script;
 use snap_file::{SnapFault, Snapshot, write_snapshot};
 use std::alloc::{AllocError, Global};
+use std::io::Eprint;
 use std::process::Abort;
 use std::test::Fail;
+use test_support::{same, same_at};
 
 // The bytes with others in place of those at `at`.
 fn changed(alloc: Global, bytes: &[u8], at: usize, with: &[u8]) -> Result<Vec<u8>, AllocError> {
@@ -29,31 +31,37 @@ fn written(alloc: Global, snapshot: &Snapshot) -> Result<Script, Fail> {
 
 // Compares a batch: client, number and total, and its cells.
 fn expect_batch(
-    rt: &impl Abort,
+    rt: &(impl Abort + Eprint),
     batch: &Batch,
     fields: (u64, u64, u64),
     cells: &[(u64, u64, u64)],
 ) {
-    assert_eq!(rt; (batch.client, batch.number, batch.total), fields);
-    assert_eq!(rt; batch.matrix.entries(), cells.len() as u64);
+    assert!(rt; same(rt, &(batch.client, batch.number, batch.total), &fields));
+    assert!(rt; same(rt, &batch.matrix.entries(), &(cells.len() as u64)));
     for (row, col, count) in cells {
-        assert_eq!(rt; batch.matrix.get(*row, *col), Some(*count));
+        assert!(rt; same(rt, &batch.matrix.get(*row, *col), &Some(*count)));
     }
 }
 
 // Compares the setup of the examples.
-fn expect_setup(rt: &impl Abort, setup: &Setup) {
-    assert_eq!(rt; (setup.rows(), setup.cols(), setup.shards()), (3, 3, 2));
+fn expect_setup(rt: &(impl Abort + Eprint), setup: &Setup) {
+    assert!(rt;
+        same(
+            rt,
+            &(setup.rows(), setup.cols(), setup.shards()),
+            &(3, 3, 2)
+        )
+    );
     assert!(rt; setup.cuts() == [2u64, 4].as_slice());
-    assert_eq!(rt; (setup.limit(), setup.max_batches()), (100, 10));
+    assert!(rt; same(rt, &(setup.limit(), setup.max_batches()), &(100, 10)));
 }
 
 #[test]
 fn an_example_is_read(rt: HostRuntime) -> Result<(), Fail> {
-    assert_eq!(rt; ONE.len(), 126);
+    assert!(rt; same(&rt, &ONE.len(), &126));
     let snapshot = read(rt.alloc(), ONE, ONE.len(), MAX_BYTES)?;
     expect_setup(&rt, &snapshot.setup);
-    assert_eq!(rt; snapshot.batches.len(), 1);
+    assert!(rt; same(&rt, &snapshot.batches.len(), &1));
     expect_batch(&rt, &snapshot.batches[0], (7, 1, 5), &[(0, 0, 5)]);
     Ok(())
 }
@@ -61,7 +69,7 @@ fn an_example_is_read(rt: HostRuntime) -> Result<(), Fail> {
 #[test]
 fn two_batches_are_read(rt: HostRuntime) -> Result<(), Fail> {
     let snapshot = read(rt.alloc(), TWO, 1, MAX_BYTES)?;
-    assert_eq!(rt; snapshot.batches.len(), 2);
+    assert!(rt; same(&rt, &snapshot.batches.len(), &2));
     expect_batch(
         &rt,
         &snapshot.batches[0],
@@ -102,7 +110,7 @@ static DAMAGES: &[(usize, &[u8], SnapFault)] = &[
 fn damages_are_found(rt: HostRuntime) -> Result<(), Fail> {
     for (at, with, expected) in DAMAGES {
         let bytes = changed(rt.alloc(), ONE, *at, with)?;
-        assert_eq!(rt; fault(rt.alloc(), &bytes), Some(*expected), "at {at}");
+        assert!(rt; same_at(&rt, &at, &fault(rt.alloc(), &bytes), &Some(*expected)));
     }
     Ok(())
 }
@@ -118,7 +126,13 @@ fn followed(alloc: Global, bytes: &[u8], more: &[u8]) -> Result<Vec<u8>, AllocEr
 #[test]
 fn bytes_behind_the_end_are_found(rt: HostRuntime) -> Result<(), Fail> {
     let bytes = followed(rt.alloc(), ONE, b"\0")?;
-    assert_eq!(rt; fault(rt.alloc(), &bytes), Some(SnapFault::ExtraBytes));
+    assert!(rt;
+        same(
+            &rt,
+            &fault(rt.alloc(), &bytes),
+            &Some(SnapFault::ExtraBytes)
+        )
+    );
     Ok(())
 }
 
@@ -128,7 +142,7 @@ fn the_first_byte_behind_the_end_is_told(rt: HostRuntime) -> Result<(), Fail> {
     let bytes = followed(rt.alloc(), ONE, &[0; 1_000])?;
     for size in [1, 64, 1_126] {
         let found = fault_within(rt.alloc(), &bytes, size, 200);
-        assert_eq!(rt; found, Some(SnapFault::ExtraBytes), "{size}");
+        assert!(rt; same_at(&rt, &size, &found, &Some(SnapFault::ExtraBytes)));
     }
     Ok(())
 }
@@ -147,7 +161,7 @@ fn a_byte_past_the_limit_is_too_long(rt: HostRuntime) -> Result<(), Fail> {
     let bytes = followed(rt.alloc(), ONE, b"\0")?;
     for (size, most, expected) in BEHIND {
         let found = fault_within(rt.alloc(), &bytes, *size, *most);
-        assert_eq!(rt; found, Some(*expected), "{size} {most}");
+        assert!(rt; same_at(&rt, &(size, most), &found, &Some(*expected)));
     }
     Ok(())
 }
@@ -165,7 +179,7 @@ fn repeats_are_found(rt: HostRuntime) -> Result<(), Fail> {
     for (at, from, expected) in REPEATS {
         let bytes = changed(rt.alloc(), ONE, *at, b"\x02")?;
         let twice = followed(rt.alloc(), &bytes, ONE.get(*from..).unwrap_or(&[]))?;
-        assert_eq!(rt; fault(rt.alloc(), &twice), Some(*expected));
+        assert!(rt; same(&rt, &fault(rt.alloc(), &twice), &Some(*expected)));
     }
     Ok(())
 }
@@ -184,7 +198,7 @@ static LIMITS: &[(usize, u64, Option<SnapFault>)] = &[
 fn the_limit_of_bytes_is_judged_first(rt: HostRuntime) {
     for (size, most, expected) in LIMITS {
         let found = fault_within(rt.alloc(), ONE, *size, *most);
-        assert_eq!(rt; found, *expected, "{size} {most}");
+        assert!(rt; same_at(&rt, &(size, most), &found, expected));
     }
 }
 
@@ -193,7 +207,7 @@ fn a_fault_before_the_limit_is_told(rt: HostRuntime) -> Result<(), Fail> {
     let bytes = changed(rt.alloc(), ONE, 7, b"\r")?;
     for (most, expected) in [(8, SnapFault::BadMark), (7, SnapFault::TooLong)] {
         let found = fault_within(rt.alloc(), &bytes, 126, most);
-        assert_eq!(rt; found, Some(expected), "{most}");
+        assert!(rt; same_at(&rt, &most, &found, &Some(expected)));
     }
     Ok(())
 }
@@ -210,11 +224,11 @@ fn declared_numbers_reserve_nothing(rt: HostRuntime) -> Result<(), Fail> {
     for (at, number) in DECLARED {
         let bytes = changed(rt.alloc(), ONE, *at, number)?;
         let found = fault_within(rt.alloc(), &bytes, 126, MAX_BYTES);
-        assert_eq!(rt; found, Some(SnapFault::Truncated), "{at}");
+        assert!(rt; same_at(&rt, &at, &found, &Some(SnapFault::Truncated)));
         // The same where they end behind the number.
         let front = bytes.get(..102).unwrap_or(&[]);
         let found = fault_within(rt.alloc(), front, 126, MAX_BYTES);
-        assert_eq!(rt; found, Some(SnapFault::Truncated), "{at}");
+        assert!(rt; same_at(&rt, &at, &found, &Some(SnapFault::Truncated)));
     }
     Ok(())
 }

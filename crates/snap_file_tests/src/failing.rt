@@ -6,6 +6,7 @@ use snap_file::{SnapFault, Snapshot, read_snapshot, write_snapshot};
 use std::alloc::{AllocError, Global};
 use std::process::Abort;
 use std::test::Fail;
+use test_support::{holds_at, same, same_at};
 
 // The fault of these bytes, one byte a read, of which that number `failing` fails, and how often one failed.
 fn fault_failing(
@@ -24,7 +25,7 @@ fn each_read_fails_in_turn(rt: HostRuntime) -> Result<(), Fail> {
         // One byte a read, and one read more at the end.
         for failing in 0..=bytes.len() as u64 {
             let found = fault_failing(rt.alloc(), bytes, failing)?;
-            assert_eq!(rt; found, (Some(SnapFault::Read), 1), "read {failing}");
+            assert!(rt; same_at(&rt, &failing, &found, &(Some(SnapFault::Read), 1)));
         }
     }
     Ok(())
@@ -34,7 +35,7 @@ fn each_read_fails_in_turn(rt: HostRuntime) -> Result<(), Fail> {
 fn no_read_follows_the_end(rt: HostRuntime) -> Result<(), Fail> {
     for bytes in [ONE, TWO] {
         let found = fault_failing(rt.alloc(), bytes, bytes.len() as u64 + 1)?;
-        assert_eq!(rt; found, (None, 0));
+        assert!(rt; same(&rt, &found, &(None, 0)));
     }
     Ok(())
 }
@@ -56,7 +57,7 @@ fn each_write_fails_in_turn(rt: HostRuntime) -> Result<(), Fail> {
     for bytes in [ONE, TWO] {
         let snapshot = read(rt.alloc(), bytes, bytes.len(), MAX_BYTES)?;
         for room in 0..bytes.len() {
-            assert!(rt; stops_at(rt.alloc(), &snapshot, bytes, room), "{room}");
+            assert!(rt; holds_at(&rt, &room, stops_at(rt.alloc(), &snapshot, bytes, room)));
         }
     }
     Ok(())

@@ -5,6 +5,7 @@ use snap_file::SnapFault;
 use std::alloc::{AllocError, Global};
 use std::process::Abort;
 use std::test::Fail;
+use test_support::same_at;
 
 // Where a field of eight bytes stands in `ONE`, its value, and the fault.
 static FIELDS: &[(usize, u64, Option<SnapFault>)] = &[
@@ -141,7 +142,7 @@ fn fault_with(
 fn fields_are_judged_at_their_bounds(rt: HostRuntime) -> Result<(), Fail> {
     for (at, value, expected) in FIELDS {
         let found = fault_with(rt.alloc(), ONE, *at, &[*value])?;
-        assert_eq!(rt; found, *expected, "{value} at {at}");
+        assert!(rt; same_at(&rt, &(value, at), &found, expected));
     }
     Ok(())
 }
@@ -150,7 +151,7 @@ fn fields_are_judged_at_their_bounds(rt: HostRuntime) -> Result<(), Fail> {
 fn bytes_are_judged_at_their_bounds(rt: HostRuntime) -> Result<(), Fail> {
     for (at, value, expected) in BYTES {
         let bytes = with_byte(rt.alloc(), ONE, *at, *value)?;
-        assert_eq!(rt; fault(rt.alloc(), &bytes), *expected, "{value} at {at}");
+        assert!(rt; same_at(&rt, &(value, at), &fault(rt.alloc(), &bytes), expected));
     }
     Ok(())
 }
@@ -159,7 +160,7 @@ fn bytes_are_judged_at_their_bounds(rt: HostRuntime) -> Result<(), Fail> {
 fn cells_stand_in_order(rt: HostRuntime) -> Result<(), Fail> {
     for (row, col, expected) in ORDERS {
         let found = fault_with(rt.alloc(), TWO, 126, &[*row, *col])?;
-        assert_eq!(rt; found, *expected, "({row}, {col})");
+        assert!(rt; same_at(&rt, &(row, col), &found, expected));
     }
     Ok(())
 }
@@ -168,7 +169,7 @@ fn cells_stand_in_order(rt: HostRuntime) -> Result<(), Fail> {
 fn pairs_stand_once(rt: HostRuntime) -> Result<(), Fail> {
     for (client, number, expected) in PAIRS {
         let found = fault_with(rt.alloc(), TWO, 150, &[*client, *number])?;
-        assert_eq!(rt; found, *expected, "({client}, {number})");
+        assert!(rt; same_at(&rt, &(client, number), &found, expected));
     }
     Ok(())
 }

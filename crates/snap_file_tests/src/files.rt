@@ -7,6 +7,7 @@ use std::os::unix::fs::{MetadataExt, PermissionsExt, symlink};
 use std::process::Abort;
 use std::test::Fail;
 use std::{fs, io};
+use test_support::same;
 
 fn saved(rt: &HostRuntime, path: &str, snapshot: &Snapshot) -> Result<(), SaveFault> {
     // Any use of it tells what it keeps.
@@ -57,7 +58,7 @@ fn what_is_saved_is_loaded(rt: HostRuntime) -> Result<(), Fail> {
 fn a_save_without_its_folder_fails(rt: HostRuntime) -> Result<(), Fail> {
     let snapshot = read(rt.alloc(), ONE, ONE.len(), MAX_BYTES)?;
     let absent = "/tmp/hhm_snap_file_no_folder/file";
-    assert_eq!(rt; saved(&rt, absent, &snapshot), Err(SaveFault::Create));
+    assert!(rt; same(&rt, &saved(&rt, absent, &snapshot), &Err(SaveFault::Create)));
     Ok(())
 }
 
@@ -73,7 +74,7 @@ fn saved_as_folder(rt: &HostRuntime, snapshot: &Snapshot) -> io::Result<Result<(
 fn a_folder_is_not_replaced(rt: HostRuntime) -> Result<(), Fail> {
     let snapshot = read(rt.alloc(), ONE, ONE.len(), MAX_BYTES)?;
     let answer = saved_as_folder(&rt, &snapshot)?;
-    assert_eq!(rt; answer, Err(SaveFault::Rename));
+    assert!(rt; same(&rt, &answer, &Err(SaveFault::Rename)));
     Ok(())
 }
 
@@ -95,7 +96,7 @@ fn a_save_that_fails_leaves_the_file(rt: HostRuntime) -> Result<(), Fail> {
     let path = "/tmp/hhm_snap_file_kept";
     fs::write(&rt, path, b"as it was".as_slice())?;
     let answer = saved_beside_folder(&rt, path, &snapshot)?;
-    assert_eq!(rt; answer, Err(SaveFault::Create));
+    assert!(rt; same(&rt, &answer, &Err(SaveFault::Create)));
     assert!(rt; holds(&rt, path, b"as it was")?);
     fs::remove_file(&rt, path)?;
     Ok(())
@@ -118,7 +119,7 @@ fn a_link_beside_is_not_followed(rt: HostRuntime) -> Result<(), Fail> {
     let snapshot = read(rt.alloc(), ONE, ONE.len(), MAX_BYTES)?;
     let (path, other) = ("/tmp/hhm_snap_file_linked", "/tmp/hhm_snap_file_other");
     let answer = saved_beside_link(&rt, path, other, &snapshot)?;
-    assert_eq!(rt; answer, Ok(()));
+    assert!(rt; same(&rt, &answer, &Ok(())));
     assert!(rt; holds(&rt, path, ONE)? && holds(&rt, other, b"as it was")?);
     assert!(rt; fs::symlink_metadata(&rt, path)?.is_file());
     fs::remove_file(&rt, path)?;
@@ -141,7 +142,7 @@ fn mode_after(rt: &HostRuntime, snapshot: &Snapshot, mode: u32) -> io::Result<u3
 fn a_mode_is_kept(rt: HostRuntime) -> Result<(), Fail> {
     let snapshot = read(rt.alloc(), ONE, ONE.len(), MAX_BYTES)?;
     for mode in [0o600, 0o640, 0o444, 0o666, 0o700] {
-        assert_eq!(rt; mode_after(&rt, &snapshot, mode)?, mode);
+        assert!(rt; same(&rt, &mode_after(&rt, &snapshot, mode)?, &mode));
     }
     Ok(())
 }
@@ -157,6 +158,6 @@ static NONE: &[(&str, FileFault)] = &[
 #[test]
 fn what_is_no_snapshot_is_told(rt: HostRuntime) {
     for (path, fault) in NONE {
-        assert_eq!(rt; loaded_batches(&rt, *path), Err(*fault));
+        assert!(rt; same(&rt, &loaded_batches(&rt, *path), &Err(*fault)));
     }
 }

@@ -5,8 +5,10 @@ use crate::bytes::{MAX_BYTES, ONE, read};
 use byte_io::{DeviceFault, WriteFault};
 use snap_file::{Folder, MemoryFolder, SaveFault, Snapshot, save_in};
 use std::alloc::{AllocError, Global};
+use std::io::Eprint;
 use std::process::Abort;
 use std::test::Fail;
+use test_support::{same, same_at};
 
 // A folder of files, of which call number `fail_at` fails.
 fn folder(
@@ -45,7 +47,7 @@ fn holds(f: &MemoryFolder, name: &str, bytes: &[u8]) -> bool {
 
 // What a save is answered in a folder whose call number `fail_at` fails, and what stands under `a` and `b` then.
 fn expect_save(
-    rt: &impl Abort,
+    rt: &(impl Abort + Eprint),
     alloc: Global,
     snapshot: &Snapshot,
     fail_at: Option<u64>,
@@ -54,11 +56,11 @@ fn expect_save(
 ) -> Result<(), Fail> {
     let mut f = folder(alloc, &[("a", b"old"), ("b", b"other")], fail_at)?;
     let answer = saved(alloc, &mut f, snapshot);
-    assert_eq!(rt; answer, expected, "{fail_at:?}");
+    assert!(rt; same_at(rt, &fail_at, &answer, &expected));
     assert!(rt; holds(&f, "a", held));
     assert!(rt; holds(&f, "b", b"other"));
     let failures = if expected.is_ok() { 0 } else { 1 };
-    assert_eq!(rt; f.failures(), failures);
+    assert!(rt; same(rt, &f.failures(), &failures));
     Ok(())
 }
 
@@ -85,7 +87,7 @@ fn each_call_fails_in_turn(rt: HostRuntime) -> Result<(), Fail> {
 fn what_was_left_over_is_written_over(rt: HostRuntime) -> Result<(), Fail> {
     let snapshot = read(rt.alloc(), ONE, ONE.len(), MAX_BYTES)?;
     let mut f = folder(rt.alloc(), &[("a.new", b"left over"), ("a", b"old")], None)?;
-    assert_eq!(rt; saved(rt.alloc(), &mut f, &snapshot), Ok(()));
+    assert!(rt; same(&rt, &saved(rt.alloc(), &mut f, &snapshot), &Ok(())));
     assert!(rt; holds(&f, "a", ONE));
     assert!(rt; f.file("a.new").is_none());
     Ok(())
@@ -95,7 +97,7 @@ fn what_was_left_over_is_written_over(rt: HostRuntime) -> Result<(), Fail> {
 #[test]
 fn a_created_file_is_empty(rt: HostRuntime) -> Result<(), Fail> {
     let mut f = folder(rt.alloc(), &[("new", b"was there")], None)?;
-    assert_eq!(rt; f.create("new"), Ok(()));
+    assert!(rt; same(&rt, &f.create("new"), &Ok(())));
     assert!(rt; holds(&f, "new", b""));
     Ok(())
 }
@@ -106,7 +108,7 @@ fn the_first_of_a_name_counts(rt: HostRuntime) -> Result<(), Fail> {
     let f = folder(rt.alloc(), &[("name", b"first"), ("name", b"second")], None)?;
     assert!(rt; holds(&f, "name", b"first"));
     assert!(rt; f.file("other").is_none());
-    assert_eq!(rt; f.failures(), 0);
+    assert!(rt; same(&rt, &f.failures(), &0));
     Ok(())
 }
 
@@ -115,9 +117,9 @@ fn the_first_of_a_name_counts(rt: HostRuntime) -> Result<(), Fail> {
 fn one_call_fails(rt: HostRuntime) -> Result<(), Fail> {
     let mut f = folder(rt.alloc(), &[("name", b"old")], Some(1))?;
     f.create("new")?;
-    assert_eq!(rt; f.create("name"), Err(DeviceFault));
+    assert!(rt; same(&rt, &f.create("name"), &Err(DeviceFault)));
     assert!(rt; holds(&f, "name", b"old"));
-    assert_eq!(rt; f.create("name"), Ok(()));
-    assert_eq!(rt; f.failures(), 1);
+    assert!(rt; same(&rt, &f.create("name"), &Ok(())));
+    assert!(rt; same(&rt, &f.failures(), &1));
     Ok(())
 }

@@ -9,6 +9,7 @@ use std::alloc::Global;
 use std::fs;
 use std::process::Abort;
 use std::test::Fail;
+use test_support::same;
 
 const PATH: &str = "/tmp/hhm_snap_file_refused";
 
@@ -45,9 +46,9 @@ fn load_twice(rt: &HostRuntime) -> Result<usize, FileFault> {
 #[test]
 fn a_refused_growth_is_want_of_memory(rt: HostRuntime) -> Result<(), Fail> {
     let snapshot = read_twice(rt.alloc())?;
-    assert_eq!(rt; snapshot.batches.len(), 2);
-    assert_eq!(rt; save_twice(&rt, &snapshot), Ok(()));
-    assert_eq!(rt; load_twice(&rt), Ok(2));
+    assert!(rt; same(&rt, &snapshot.batches.len(), &2));
+    assert!(rt; same(&rt, &save_twice(&rt, &snapshot), &Ok(())));
+    assert!(rt; same(&rt, &load_twice(&rt), &Ok(2)));
     fs::remove_file(&rt, PATH)?;
     Ok(())
 }
