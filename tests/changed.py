@@ -4,7 +4,7 @@
 Run it anywhere in the repository: tests/changed.py [BASE]. BASE is the commit to compare with, HEAD where it is left
 out. Of each crate whose sources or line of crates.txt differ, and of each crate above one, it runs `rt check` and,
 where there are tests, `rt test`; of those that differ also the layout and all wrong bodies, those of must-fail/ too, as
-tests/attacks.py tries them. Where the program or what tests it is touched, it builds the program and runs tests/ on it.
+tests/attacks.py tries them. Where a program or what tests it is touched, it builds the program and runs tests/ on it.
 A crate whose library is refused is not tried. The line before the last says how long it took, the last is `N passed,
 M failed`, and the status is 0 exactly where nothing failed. The environment's RT, if set, is run in place of `rt`.
 """
@@ -19,8 +19,12 @@ from pathlib import Path
 sys.dont_write_bytecode = True
 from attacks import RT, SOURCES, TOP, copy_parts, crates_below, lines_of_list
 
-PROGRAM = "hhm"
-PROGRAM_TESTS = ("program.py", "server.py", "server_faults.py", "server_clients.py", "refused.py", "clients.py")
+HHM_TESTS = ("program.py", "server.py", "server_faults.py", "server_clients.py", "refused.py", "clients.py")
+# Of each program the words and the input of a run once it is built, and the scripts of tests/ that are run on it.
+PROGRAMS = {
+    "hhm": (["sum"], "examples/packets.mtx", HHM_TESTS),
+    "refuse_growths": ([], "/dev/null", ("refused_libraries.py",)),
+}
 LAST_LINE = re.compile(r"(\d+) passed, (\d+) failed")
 
 
@@ -104,6 +108,15 @@ def prove(touched, lines, tally):
     return proved
 
 
+def test_program(program, words, text, tests, tally):
+    """Builds a program, runs it once, and runs the scripts on what was built."""
+    folder = TOP / "crates" / program
+    with open(TOP / text) as stdin:
+        is_built = tally.run(f"{program}: build", [RT, "run", "--", *words], folder, stdin=stdin)
+    for name in tests if is_built else ():
+        tally.run_counted(name, [sys.executable, TOP / "tests" / name, folder / "out" / program])
+
+
 def main(words):
     begin, lines, tally = time.time(), lines_of_list(), Tally()
     sources, edits, others = changed_since(words[0] if words else "HEAD", lines)
@@ -116,11 +129,9 @@ def main(words):
     to_attack = [it for it in lines if it in sources & proved or it in edits - touched]
     if to_attack:
         tally.run_counted("wrong bodies", [sys.executable, TOP / "tests/attacks.py", "--all", *to_attack])
-    if PROGRAM in proved or any(it.startswith(("tests/", "clients/")) for it in others):
-        with open(TOP / "examples/packets.mtx") as text:
-            is_built = tally.run(f"{PROGRAM}: build", [RT, "run", "--", "sum"], TOP / "crates" / PROGRAM, stdin=text)
-        for name in PROGRAM_TESTS if is_built else ():
-            tally.run_counted(name, [sys.executable, TOP / "tests" / name, TOP / "crates" / PROGRAM / "out" / PROGRAM])
+    for program, run in PROGRAMS.items():
+        if program in proved or any(it.startswith(("tests/", "clients/")) for it in others):
+            test_program(program, *run, tally)
     print(f"{time.time() - begin:.0f} s")
     print(f"{tally.passed} passed, {tally.failed} failed")
     return 1 if tally.failed else 0

@@ -10,8 +10,6 @@ mod books;
 #[cfg(test)]
 mod lists;
 #[cfg(test)]
-mod refused_growth;
-#[cfg(test)]
 mod setups;
 #[cfg(test)]
 mod shards;

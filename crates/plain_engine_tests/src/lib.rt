@@ -17,5 +17,3 @@ mod model;
 mod parts;
 #[cfg(test)]
 mod puts;
-#[cfg(test)]
-mod refusals;

@@ -11,11 +11,11 @@ use std::random::RandomSource;
 use std::sync::Arc;
 use std::test::Fail;
 
-/// The client, the number and the cells of each batch of a list.
-pub type Batches = &'static [(u64, u64, Cells)];
+// The client, the number and the cells of each batch of a list.
+type Batches = &'static [(u64, u64, Cells)];
 
-/// The batches of a table.
-pub fn list_of(alloc: Global, setup: &Setup, table: Batches) -> Result<Vec<Arc<Batch>>, Fail>
+// The batches of a table.
+fn list_of(alloc: Global, setup: &Setup, table: Batches) -> Result<Vec<Arc<Batch>>, Fail>
     ensures { IfOk result (λ list. HaveDims setup.now.rows setup.now.cols (values list.items)) }
 {
     let mut list = Vec::new(alloc);
@@ -25,8 +25,8 @@ pub fn list_of(alloc: Global, setup: &Setup, table: Batches) -> Result<Vec<Arc<B
     Ok(list)
 }
 
-/// What the engine of a list has accepted, or why there is none.
-pub fn loaded(
+// What the engine of a list has accepted, or why there is none.
+fn loaded(
     rt: &impl RandomSource,
     alloc: Global,
     setup: Setup,

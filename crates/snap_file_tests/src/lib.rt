@@ -20,5 +20,3 @@ mod files;
 mod folders;
 #[cfg(test)]
 mod prefixes;
-#[cfg(test)]
-mod refused_growth;

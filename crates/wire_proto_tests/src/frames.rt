@@ -113,8 +113,8 @@ fn headers_are_judged_at_their_fifth_byte(rt: HostRuntime) -> Result<(), Fail> {
     Ok(())
 }
 
-/// The text of a request, where it is a put of this pair.
-pub fn text_of_put(request: &Option<Request>, pair: (u64, u64)) -> Option<&[u8]> {
+// The text of a request, where it is a put of this pair.
+fn text_of_put(request: &Option<Request>, pair: (u64, u64)) -> Option<&[u8]> {
     match request {
         Some(
             Request::Put {

@@ -25,8 +25,6 @@ mod large;
 #[cfg(test)]
 mod plain;
 #[cfg(test)]
-mod refusals;
-#[cfg(test)]
 mod replies;
 #[cfg(test)]
 mod sessions;

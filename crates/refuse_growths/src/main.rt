@@ -1,0 +1,100 @@
+//! Makes calls of the engines, of sessions and of snapshots, each again where memory was refused, and tells what stands
+//! after each.
+//!
+//! Its one argument is the name of a scenario; without one all are run in turn. With ample memory it tells the answers
+//! alone. `tests/refused_libraries.py` runs it with each growth refused in turn: a refusal is told, all is as before,
+//! and the same call succeeds then.
+#![tactic(auto)]
+
+mod book;
+mod examples;
+mod frames;
+mod locked;
+mod plain;
+mod reads;
+mod seats;
+mod session;
+mod show;
+mod snapshot;
+mod stop;
+
+use crate::stop::Stop;
+use std::alloc::Global;
+use std::process::ExitCode;
+use std::random::RandomSource;
+use std::rt::Files;
+use std::sync::Wait;
+use std::{env, io};
+
+/// The scenarios, in the order in which they are run.
+static NAMES: &[&str] = &[
+    "plain", "reads", "book", "locked", "frames", "session", "snapshot",
+];
+
+fn main(rt: HostRuntime) -> ExitCode {
+    let ended = match asked(&rt) {
+        Ok(Some(name)) => tell(&rt, rt.alloc(), name.as_str()),
+        Ok(None) => tell_all(&rt, rt.alloc()),
+        Err(stop) => tell_stop(&rt, stop),
+    };
+    if ended.is_ok() {
+        ExitCode::SUCCESS
+    } else {
+        ExitCode::FAILURE
+    }
+}
+
+/// The name of the scenario that is asked for, if one is.
+fn asked(rt: &HostRuntime) -> Result<Option<String>, Stop> {
+    match env::args(rt) {
+        Ok(mut args) => Ok(args.nth(1)),
+        Err(error) if error.kind() == io::ErrorKind::OutOfMemory => Err(Stop::SetUp),
+        Err(_) => Err(Stop::Fault),
+    }
+}
+
+fn tell_all<R: Wait + Print + RandomSource + Files>(rt: &R, alloc: Global) -> Result<(), Stop> {
+    for name in NAMES {
+        tell(rt, alloc, name)?;
+    }
+    Ok(())
+}
+
+/// Runs a scenario under its name, and tells where it went no further.
+fn tell<R: Wait + Print + RandomSource + Files>(
+    rt: &R,
+    alloc: Global,
+    name: &str,
+) -> Result<(), Stop> {
+    println!(rt; "{name}")?;
+    match run(rt, alloc, name) {
+        Ok(()) => Ok(()),
+        Err(stop) => tell_stop(rt, stop),
+    }
+}
+
+fn tell_stop(rt: &impl Print, stop: Stop) -> Result<(), Stop> {
+    match stop {
+        Stop::SetUp => println!(rt; "set-up refused")?,
+        Stop::Fault => println!(rt; "fault")?,
+        Stop::Output => return Err(stop),
+    }
+    Ok(())
+}
+
+fn run<R: Wait + Print + RandomSource + Files>(
+    rt: &R,
+    alloc: Global,
+    name: &str,
+) -> Result<(), Stop> {
+    match name {
+        "plain" => plain::run(rt, alloc),
+        "reads" => reads::run(rt, alloc),
+        "book" => book::run(rt, alloc),
+        "locked" => locked::run(rt, alloc),
+        "frames" => frames::run(rt, alloc),
+        "session" => session::run(rt, alloc),
+        "snapshot" => snapshot::run(rt, alloc),
+        _ => Err(Stop::Fault),
+    }
+}

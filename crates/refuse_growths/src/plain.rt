@@ -1,0 +1,71 @@
+//! A put through the engine of one thread.
+ghost use Rattle.std.specs.Prelude.{◌≡◌};
+ghost use Rattle.std.specs.Arc.{arc_value};
+
+use crate::examples::{batch, small_setup};
+use crate::show::{show_engine, show_put};
+use crate::stop::Stop;
+use batch_store::{Batch, Kept};
+use plain_engine::{PlainEngine, PutFault};
+use std::alloc::{AllocError, Global};
+use std::random::RandomSource;
+use std::sync::Arc;
+
+/// Puts a batch, puts it once more, and reads it.
+pub fn run(rt: &(impl RandomSource + Print), alloc: Global) -> Result<(), Stop> {
+    let setup = small_setup()?;
+    let mut engine = PlainEngine::new(rt, alloc, setup)?;
+    let b = batch(alloc, &setup)?;
+    put_at_last(rt, alloc, &mut engine, &b)?;
+    let repeat = put(alloc, &mut engine, &b)?;
+    show_put(rt, &repeat)?;
+    show_reads(rt, &engine)?;
+    Ok(())
+}
+
+// Puts a batch of the engine's dimensions.
+fn put(
+    alloc: Global,
+    engine: &mut PlainEngine,
+    b: &Arc<Batch>,
+) -> Result<Result<Kept, PutFault>, AllocError>
+    requires rows { (arc_value b.now).matrix.rows ≡ engine.old.setup.rows }
+    requires cols { (arc_value b.now).matrix.cols ≡ engine.old.setup.cols }
+    ensures { engine.new.setup ≡ engine.old.setup }
+{
+    let shared = Arc::try_clone(b)?;
+    Ok(engine.put(alloc, shared))
+}
+
+// Puts a batch, and again where memory was refused, and tells what stands after each.
+fn put_at_last(
+    rt: &impl Print,
+    alloc: Global,
+    engine: &mut PlainEngine,
+    b: &Arc<Batch>,
+) -> Result<(), Stop>
+    requires rows { (arc_value b.now).matrix.rows ≡ engine.old.setup.rows }
+    requires cols { (arc_value b.now).matrix.cols ≡ engine.old.setup.cols }
+    ensures { engine.new.setup ≡ engine.old.setup }
+{
+    let mut answer = put(alloc, engine, b)?;
+    if answer == Err(PutFault::Memory) {
+        show_put(rt, &answer)?;
+        show_engine(rt, engine)?;
+        answer = put(alloc, engine, b)?;
+    }
+    show_put(rt, &answer)?;
+    show_engine(rt, engine)?;
+    Ok(())
+}
+
+// What the engine answers on the first cell and its row, without memory.
+fn show_reads(rt: &impl Print, engine: &PlainEngine) -> Result<(), Stop> {
+    let Some(count) = engine.cell(0, 0) else {
+        return Err(Stop::Fault);
+    };
+    println!(rt; "cell 0 0 is {count}")?;
+    let row = engine.row(0);
+    println!(rt; "row 0 entries {} total {}", row.entries, row.total)?;
+    Ok(())
+}

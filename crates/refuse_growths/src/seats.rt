@@ -1,0 +1,151 @@
+//! What is put from one seat of an engine of several threads, and read from another.
+ghost use Rattle.std.specs.Prelude.{◌≡◌};
+ghost use Rattle.std.specs.Arc.{arc_value};
+
+use crate::show::{show_cells, show_put};
+use crate::stop::Stop;
+use batch_store::{Batch, Kept};
+use hyper_matrix::Hyper;
+use locked_engine::{Engine, Named, PutFault, Seat};
+use std::alloc::{AllocError, Global};
+use std::io;
+use std::sync::ledger::Ledger;
+use std::sync::{Arc, Wait};
+
+/// Puts a batch twice from the first seat, and reads what the second is shown.
+pub fn show_seats<N: Named, H: Ledger, R: Wait + Print>(
+    rt: &R,
+    alloc: Global,
+    engine: &Engine<N, H>,
+    seats: &mut [Seat<N, H>],
+    b: &Arc<Batch>,
+) -> Result<(), Stop>
+    requires rows { (arc_value b.now).matrix.rows ≡ N.setup.rows }
+    requires cols { (arc_value b.now).matrix.cols ≡ N.setup.cols }
+{
+    let [first, second] = seats else {
+        return Err(Stop::Fault);
+    };
+    put_at_last(rt, alloc, engine, first, b)?;
+    let repeat = put(rt, alloc, engine, first, b)?;
+    show_put(rt, &repeat)?;
+    show_export(rt, alloc, engine)?;
+    show_list(rt, alloc, engine, second)?;
+    show_status(rt, engine, second)?;
+    Ok(())
+}
+
+// Puts a batch of the engine's dimensions.
+fn put<N: Named, H: Ledger, R: Wait + Print>(
+    rt: &R,
+    alloc: Global,
+    engine: &Engine<N, H>,
+    seat: &mut Seat<N, H>,
+    b: &Arc<Batch>,
+) -> Result<Result<Kept, PutFault>, AllocError>
+    requires rows { (arc_value b.now).matrix.rows ≡ N.setup.rows }
+    requires cols { (arc_value b.now).matrix.cols ≡ N.setup.cols }
+{
+    let shared = Arc::try_clone(b)?;
+    Ok(engine.put(rt, alloc, seat, shared))
+}
+
+// Puts a batch, and again where memory was refused, and tells what stands after each.
+fn put_at_last<N: Named, H: Ledger, R: Wait + Print>(
+    rt: &R,
+    alloc: Global,
+    engine: &Engine<N, H>,
+    seat: &mut Seat<N, H>,
+    b: &Arc<Batch>,
+) -> Result<(), Stop>
+    requires rows { (arc_value b.now).matrix.rows ≡ N.setup.rows }
+    requires cols { (arc_value b.now).matrix.cols ≡ N.setup.cols }
+{
+    let mut answer = put(rt, alloc, engine, seat, b)?;
+    if answer == Err(PutFault::Memory) {
+        show_put(rt, &answer)?;
+        show_status(rt, engine, seat)?;
+        answer = put(rt, alloc, engine, seat, b)?;
+    }
+    show_put(rt, &answer)?;
+    show_status(rt, engine, seat)?;
+    Ok(())
+}
+
+// What was accepted, what stands at the first place and in its row, and what stands behind each shard's lock.
+fn show_status<N: Named, H: Ledger, R: Wait + Print>(
+    rt: &R,
+    engine: &Engine<N, H>,
+    seat: &mut Seat<N, H>,
+) -> io::Result<()> {
+    let status = engine.status(seat);
+    println!(rt; "batches {} total {}", status.batches, status.total)?;
+    let count = engine.cell(rt, 0, 0).unwrap_or(0);
+    let row = engine.row(rt, 0);
+    println!(rt;
+        "cell 0 0 is {count}, row 0 entries {} total {}",
+        row.entries, row.total
+    )?;
+    show_shards(rt, engine)
+}
+
+// How many batches each shard has taken in, and the total of its parts.
+fn show_shards<N: Named, H: Ledger, R: Wait + Print>(
+    rt: &R,
+    engine: &Engine<N, H>,
+) -> io::Result<()> {
+    for s in 0..engine.setup().shards() {
+        let held = engine.look(rt, s, |shard| (shard.record_len(), shard.total()));
+        if let Some((batches, total)) = held {
+            println!(rt; "shard {s} batches {batches} total {total}")?;
+        }
+    }
+    Ok(())
+}
+
+fn export_at_last<N: Named, H: Ledger, R: Wait + Print>(
+    rt: &R,
+    alloc: Global,
+    engine: &Engine<N, H>,
+) -> Result<Hyper, Stop> {
+    if let Ok(sum) = engine.export(rt, alloc) {
+        return Ok(sum);
+    }
+    println!(rt; "export refused")?;
+    Ok(engine.export(rt, alloc)?)
+}
+
+fn show_export<N: Named, H: Ledger, R: Wait + Print>(
+    rt: &R,
+    alloc: Global,
+    engine: &Engine<N, H>,
+) -> Result<(), Stop> {
+    let sum = export_at_last(rt, alloc, engine)?;
+    println!(rt; "export of entries {}", sum.entries())?;
+    show_cells(rt, &sum)?;
+    Ok(())
+}
+
+fn list_at_last<N: Named, H: Ledger, R: Wait + Print>(
+    rt: &R,
+    alloc: Global,
+    engine: &Engine<N, H>,
+    seat: &mut Seat<N, H>,
+) -> Result<Vec<Arc<Batch>>, Stop> {
+    if let Ok(list) = engine.batch_list(rt, alloc, seat) {
+        return Ok(list);
+    }
+    println!(rt; "list refused")?;
+    Ok(engine.batch_list(rt, alloc, seat)?)
+}
+
+fn show_list<N: Named, H: Ledger, R: Wait + Print>(
+    rt: &R,
+    alloc: Global,
+    engine: &Engine<N, H>,
+    seat: &mut Seat<N, H>,
+) -> Result<(), Stop> {
+    let list = list_at_last(rt, alloc, engine, seat)?;
+    println!(rt; "list of batches {}", list.len())?;
+    Ok(())
+}

@@ -1,0 +1,70 @@
+//! Sessions over an engine of one thread.
+
+use crate::examples::small_setup;
+use crate::stop::Stop;
+use byte_io::Script;
+use byte_io_tests::pieces;
+use plain_engine::PlainEngine;
+use std::alloc::Global;
+use std::io;
+use std::random::RandomSource;
+use wire_proto::{Ended, serve_engine};
+
+/// Client 7 puts 5 at row 0 and column 0 under its number 1, client 8 puts 3 there, and the count there is asked for.
+static SENT: &[u8] = b"\0\0\0\x4d\x01\0\0\0\0\0\0\0\x07\0\0\0\0\0\0\0\x01\
+%%MatrixMarket matrix coordinate integer general\n3 3 1\n1 1 5\n\
+\0\0\0\x4d\x01\0\0\0\0\0\0\0\x08\0\0\0\0\0\0\0\x01\
+%%MatrixMarket matrix coordinate integer general\n3 3 1\n1 1 3\n\
+\0\0\0\x10\x02\0\0\0\0\0\0\0\0\0\0\0\0\0\0\0\0";
+
+/// More reads than a session of these frames takes.
+const TURNS: u64 = 100;
+
+/// Serves the frames, and then serves them once more: the puts are fresh first, and then repeats.
+pub fn run(rt: &(impl RandomSource + Print), alloc: Global) -> Result<(), Stop> {
+    let setup = small_setup()?;
+    let mut engine = PlainEngine::new(rt, alloc, setup)?;
+    let first = pieces(alloc, SENT, 60)?;
+    let second = pieces(alloc, SENT, 60)?;
+    let third = pieces(alloc, SENT, 60)?;
+    let is_first_whole = serve(rt, alloc, &mut engine, first)?;
+    let is_second_whole = serve(rt, alloc, &mut engine, second)?;
+    // Where memory was refused in one of them, a new session is answered as if nothing had been.
+    if !is_first_whole || !is_second_whole {
+        serve(rt, alloc, &mut engine, third)?;
+    }
+    Ok(())
+}
+
+// Serves these pieces, and tells how the session ends, what it writes, and what is accepted then. Whether all of them
+// were served.
+fn serve(
+    rt: &impl Print,
+    alloc: Global,
+    engine: &mut PlainEngine,
+    list: Vec<Vec<u8>>,
+) -> Result<bool, Stop> {
+    let mut link = Script::new(alloc, list, None, None);
+    let ended = serve_engine(alloc, &mut link, engine, TURNS);
+    show_end(rt, ended)?;
+    show_written(rt, &link)?;
+    let status = engine.status();
+    println!(rt; "batches {} total {}", status.batches, status.total)?;
+    Ok(ended == Ended::Closed { rest: 0 })
+}
+
+fn show_end(rt: &impl Print, ended: Ended) -> io::Result<()> {
+    match ended {
+        Ended::Closed { rest } => println!(rt; "closed, bytes left {rest}"),
+        Ended::Memory => println!(rt; "session refused"),
+        Ended::WriteFault { written } => println!(rt; "write refused behind bytes {written}"),
+        _ => println!(rt; "fault"),
+    }
+}
+
+fn show_written(rt: &impl Print, link: &Script) -> io::Result<()> {
+    for byte in link.written() {
+        print!(rt; "{byte:02x}")?;
+    }
+    println!(rt;)
+}

@@ -1,0 +1,132 @@
+//! Snapshots in memory and as a file.
+ghost use Rattle.std.specs.Prelude.{◌≡◌, ◌+◌, ◌<◌, ◌^◌};
+
+use crate::stop::Stop;
+use byte_io::{Script, WriteFault};
+use byte_io_tests::pieces;
+use snap_file::{
+    FileFault, SaveFault, SnapFault, Snapshot, load, read_snapshot, save, write_snapshot,
+};
+use std::alloc::Global;
+use std::rt::Files;
+use std::{fs, io};
+
+/// Three rows, three columns, cuts 2 and 4, 2 shards, a limit of 100 and at most 10 batches; 1 batch, total 5. Then
+/// client 7, number 1, 1 cell: row 0, column 0, count 5.
+static BYTES: &[u8] = b"HHMSNAP\n\0\0\0\x01\
+\0\0\0\0\0\0\0\x03\0\0\0\0\0\0\0\x03\
+\x02\0\0\0\0\0\0\0\x02\0\0\0\0\0\0\0\x04\
+\x02\0\0\0\0\0\0\0\x64\0\0\0\0\0\0\0\x0a\
+\0\0\0\0\0\0\0\x01\0\0\0\0\0\0\0\x05\
+\0\0\0\0\0\0\0\x07\0\0\0\0\0\0\0\x01\0\0\0\0\0\0\0\x01\
+\0\0\0\0\0\0\0\0\0\0\0\0\0\0\0\0\0\0\0\0\0\0\0\x05";
+
+/// The most bytes of a snapshot that is read.
+const MAX_BYTES: u64 = 1_000_000;
+
+/// A file of the folder that the program runs in.
+const PATH: &str = "refuse_growths.snap";
+
+/// Reads a snapshot, writes it again, and saves and loads it.
+pub fn run(rt: &(impl Files + Print), alloc: Global) -> Result<(), Stop> {
+    let first = pieces(alloc, BYTES, 50)?;
+    let second = pieces(alloc, BYTES, 50)?;
+    let snapshot = read_at_last(rt, alloc, first, second)?;
+    run_example(rt, alloc, &snapshot)
+}
+
+fn run_example(rt: &(impl Files + Print), alloc: Global, snapshot: &Snapshot) -> Result<(), Stop> {
+    println!(rt; "read batches {}", snapshot.batches.len())?;
+    write_at_last(rt, alloc, snapshot)?;
+    save_at_last(rt, alloc, snapshot)?;
+    load_at_last(rt, alloc)?;
+    fs::remove_file(rt, PATH)?;
+    Ok(())
+}
+
+fn read_from(alloc: Global, list: Vec<Vec<u8>>) -> Result<Snapshot, SnapFault> {
+    let mut link = Script::new(alloc, list, None, None);
+    read_snapshot(alloc, &mut link, MAX_BYTES)
+}
+
+// Reads a snapshot from the first of two lists of pieces, and where memory was refused from the second.
+fn read_at_last(
+    rt: &impl Print,
+    alloc: Global,
+    first: Vec<Vec<u8>>,
+    second: Vec<Vec<u8>>,
+) -> Result<Snapshot, Stop> {
+    match read_from(alloc, first) {
+        Ok(snapshot) => Ok(snapshot),
+        Err(SnapFault::Memory) => {
+            println!(rt; "read refused")?;
+            read_from(alloc, second).map_err(|_| Stop::Fault)
+        }
+        Err(_) => Err(Stop::Fault),
+    }
+}
+
+fn written(link: &mut Script, snapshot: &Snapshot) -> Result<(), WriteFault>
+    requires { link.old.failures + 1 < 2 ^ 64 }
+{
+    // Any use of it tells what it keeps.
+    let batches = &snapshot.batches;
+    write_snapshot(link, &snapshot.setup, batches)
+}
+
+// Writes a snapshot to a link that keeps it in memory, and where that was refused to another.
+fn write_at_last(rt: &impl Print, alloc: Global, snapshot: &Snapshot) -> Result<(), Stop> {
+    let mut link = Script::new(alloc, Vec::new(alloc), None, None);
+    let mut again = Script::new(alloc, Vec::new(alloc), None, None);
+    if let Err(fault) = written(&mut link, snapshot) {
+        println!(rt; "write refused behind bytes {}", fault.written)?;
+        show_link(rt, &link)?;
+        if written(&mut again, snapshot).is_err() {
+            return Err(Stop::Fault);
+        }
+        link = again;
+    }
+    show_link(rt, &link)?;
+    Ok(())
+}
+
+fn show_link(rt: &impl Print, link: &Script) -> io::Result<()> {
+    let is_whole = link.written() == BYTES;
+    println!(rt; "written bytes {}, whole {is_whole}", link.written().len())
+}
+
+fn saved(rt: &(impl Files + Print), alloc: Global, snapshot: &Snapshot) -> Result<(), SaveFault> {
+    // Any use of it tells what it keeps.
+    let batches = &snapshot.batches;
+    save(rt, alloc, PATH, &snapshot.setup, batches)
+}
+
+fn save_at_last(rt: &(impl Files + Print), alloc: Global, snapshot: &Snapshot) -> Result<(), Stop> {
+    if let Err(fault) = saved(rt, alloc, snapshot) {
+        println!(rt; "save refused: {fault}")?;
+        if saved(rt, alloc, snapshot).is_err() {
+            return Err(Stop::Fault);
+        }
+    }
+    println!(rt; "saved")?;
+    Ok(())
+}
+
+// How many batches are loaded.
+fn loaded(rt: &impl Files, alloc: Global) -> Result<usize, FileFault> {
+    let snapshot = load(rt, alloc, PATH, MAX_BYTES)?;
+    Ok(snapshot.batches.len())
+}
+
+fn load_at_last(rt: &(impl Files + Print), alloc: Global) -> Result<(), Stop> {
+    let mut answer = loaded(rt, alloc);
+    if answer == Err(FileFault::Memory) {
+        println!(rt; "load refused")?;
+        answer = loaded(rt, alloc);
+    }
+    match answer {
+        Ok(batches) => println!(rt; "loaded batches {batches}")?,
+        Err(_) => return Err(Stop::Fault),
+    }
+    Ok(())
+}
