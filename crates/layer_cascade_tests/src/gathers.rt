@@ -4,8 +4,8 @@
 use crate::streams::{add_matrix, have_same_sizes, holds_first, sees_first};
 use layer_cascade::Layers;
 use std::alloc::{AllocError, Global};
-use std::process::Abort;
 use std::test::Fail;
+use test_support::same_at;
 
 /// So many additions that each layer but the last passes its cut, and the last has many matrices.
 const MANY: u64 = 60;
@@ -24,61 +24,79 @@ fn gathered(alloc: Global, layers: &mut Layers, others: &Layers) -> Result<bool,
     Ok(held)
 }
 
-/// Gathers so many times. What the layers hold is not to change.
-fn gather_often(
-    rt: &impl Abort,
+/// Gathers so many times. False if what the layers hold changed.
+fn gathered_often(
     alloc: Global,
     layers: &mut Layers,
     others: &Layers,
     gathers: u64,
-) -> Result<(), AllocError> {
-    for i in 0..gathers {
-        let held = gathered(alloc, layers, others)?;
-        assert!(rt; held, "gathered {i} times before");
+) -> Result<bool, AllocError> {
+    for _ in 0..gathers {
+        if !gathered(alloc, layers, others)? {
+            return Ok(false);
+        }
     }
-    Ok(())
+    Ok(true)
 }
 
-/// Adds these matrices of the stream to both, the first of which is the next, and gathers so many times after each. The
-/// cuts, the entries of each layer and all that is looked up are those of the layers that are left alone.
-fn check_additions(
-    rt: &impl Abort,
+/// Adds matrix `i` of the stream, which is the next, to both, and gathers so many times. Whether the entries of each
+/// layer and all that is looked up are those of the layers that are left alone.
+fn agree_after(
+    alloc: Global,
+    layers: &mut Layers,
+    others: &mut Layers,
+    i: u64,
+    gathers: u64,
+) -> Result<bool, Fail> {
+    add_matrix(alloc, layers, i)?;
+    add_matrix(alloc, others, i)?;
+    let held = gathered_often(alloc, layers, others, gathers)?;
+    let holds = holds_first(alloc, layers, i.wrapping_add(1))?;
+    Ok(held && holds && have_same_sizes(layers, others))
+}
+
+/// The first of these matrices of the stream behind which layers that are gathered differ from those that are left
+/// alone.
+fn first_difference(
     alloc: Global,
     layers: &mut Layers,
     others: &mut Layers,
     matrices: (u64, u64),
     gathers: u64,
-) -> Result<(), Fail> {
+) -> Result<Option<u64>, Fail> {
     for i in matrices.0..matrices.1 {
-        add_matrix(alloc, layers, i)?;
-        add_matrix(alloc, others, i)?;
-        gather_often(rt, alloc, layers, others, gathers)?;
-        let holds = holds_first(alloc, layers, i.wrapping_add(1))?;
-        assert!(rt; holds && have_same_sizes(layers, others), "after {i}");
+        if !agree_after(alloc, layers, others, i, gathers)? {
+            return Ok(Some(i));
+        }
     }
-    Ok(())
+    Ok(None)
 }
 
-/// Adds the matrices behind those that a view is to see, and compares the view at the end.
-fn check_behind_view(
-    rt: &impl Abort,
+/// The same of the matrices behind those that a view is to see; and whether the view saw them at the end.
+fn difference_behind_view(
     alloc: Global,
     layers: &mut Layers,
     others: &mut Layers,
     gathers: u64,
-) -> Result<(), Fail> {
+) -> Result<(Option<u64>, bool), Fail> {
     let view = layers.view(alloc)?;
-    check_additions(rt, alloc, layers, others, (SEEN, MANY), gathers)?;
-    let sees = sees_first(alloc, &view, SEEN)?;
-    assert!(rt; sees);
-    Ok(())
+    let difference = first_difference(alloc, layers, others, (SEEN, MANY), gathers)?;
+    Ok((difference, sees_first(alloc, &view, SEEN)?))
 }
 
-fn check_gathered(rt: &impl Abort, alloc: Global, cuts: &[u64], gathers: u64) -> Result<(), Fail> {
+/// What differs before the view and behind it, and whether the view saw what it was to see.
+fn differences(
+    alloc: Global,
+    cuts: &[u64],
+    gathers: u64,
+) -> Result<(Option<u64>, (Option<u64>, bool)), Fail> {
     let mut layers = Layers::new(alloc, 9, 9, cuts)?;
     let mut others = Layers::new(alloc, 9, 9, cuts)?;
-    check_additions(rt, alloc, &mut layers, &mut others, (0, SEEN), gathers)?;
-    check_behind_view(rt, alloc, &mut layers, &mut others, gathers)
+    let before = first_difference(alloc, &mut layers, &mut others, (0, SEEN), gathers)?;
+    Ok((
+        before,
+        difference_behind_view(alloc, &mut layers, &mut others, gathers)?,
+    ))
 }
 
 /// Cuts with which matrices stand side by side in the first layer, in the second, in both and in the third.
@@ -87,8 +105,10 @@ const CUTS: [&[u64]; 5] = [&[], &[4], &[12], &[15, 60], &[2, 4]];
 #[test]
 fn gathered_layers_agree_with_others(rt: HostRuntime) -> Result<(), Fail> {
     for cuts in CUTS {
-        check_gathered(&rt, rt.alloc(), cuts, 1)?;
-        check_gathered(&rt, rt.alloc(), cuts, 5)?;
+        for gathers in [1, 5] {
+            let found = differences(rt.alloc(), cuts, gathers)?;
+            assert!(rt; same_at(&rt, &(cuts, gathers), &found, &(None, (None, true))));
+        }
     }
     Ok(())
 }

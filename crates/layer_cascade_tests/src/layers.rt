@@ -5,6 +5,7 @@ use hyper_matrix::{BuildFault, Hyper};
 use layer_cascade::{CascadeFault, LayerView, Layers, are_cuts};
 use std::alloc::{AllocError, Global};
 use std::test::Fail;
+use test_support::{holds_at, same, same_at};
 
 fn one_cell(alloc: Global, row: u64, col: u64, count: u64) -> Result<Hyper, BuildFault> {
     Hyper::build(alloc, 3, 3, &[Cell { row, col, count }])
@@ -46,26 +47,36 @@ fn hold(layers: &Layers, (row, col): (u64, u64), added: u64, want: [u64; 3]) -> 
         && layers.get(row, col) == Some(7)
 }
 
+/// Adds the cell of count 7 that has this number, and tells whether the layers then hold so many of them.
+fn holds_after(
+    alloc: Global,
+    layers: &mut Layers,
+    place: (u64, u64),
+    added: u64,
+    want: [u64; 3],
+) -> Result<bool, Fail> {
+    add_cell(alloc, layers, place.0, place.1, 7)?;
+    Ok(hold(layers, place, added, want) && entries_of_sum(alloc, layers)? == added)
+}
+
+/// Places, and the entries of three layers once a cell was added there.
+const DISTINCT: [((u64, u64), [u64; 3]); 6] = [
+    ((0, 0), [1, 0, 0]),
+    ((2, 1), [2, 0, 0]),
+    ((0, 2), [0, 3, 0]),
+    ((1, 1), [1, 3, 0]),
+    ((2, 2), [2, 3, 0]),
+    ((0, 1), [0, 0, 6]),
+];
+
 #[test]
 fn distinct_cells_cascade(rt: HostRuntime) -> Result<(), Fail> {
     let mut layers = Layers::new(rt.alloc(), 3, 3, &[2, 4])?;
-    let steps = [
-        ((0, 0), [1, 0, 0]),
-        ((2, 1), [2, 0, 0]),
-        ((0, 2), [0, 3, 0]),
-        ((1, 1), [1, 3, 0]),
-        ((2, 2), [2, 3, 0]),
-        ((0, 1), [0, 0, 6]),
-    ];
     let mut added = 0u64;
-    for (place, want) in steps {
+    for (place, want) in DISTINCT {
         added = added.saturating_add(1);
-        add_cell(rt.alloc(), &mut layers, place.0, place.1, 7)?;
-        assert!(rt; hold(&layers, place, added, want), "after {added}");
-        assert!(rt;
-            entries_of_sum(rt.alloc(), &layers)? == added,
-            "after {added}"
-        );
+        let holds = holds_after(rt.alloc(), &mut layers, place, added, want)?;
+        assert!(rt; holds_at(&rt, &added, holds));
     }
     assert!(rt; layers.get(1, 2).is_none() && layers.get(3, 0).is_none());
     Ok(())
@@ -115,9 +126,9 @@ fn a_column_counts_once(rt: HostRuntime) -> Result<(), Fail> {
     for (row, col) in COLUMNS_AGAIN {
         add_cell(rt.alloc(), &mut layers, row, col, 1)?;
     }
-    assert_eq!(rt; sizes(&layers), [2, 8, u64::MAX]);
+    assert!(rt; same(&rt, &sizes(&layers), &[2, 8, u64::MAX]));
     for (row, entries, total) in [(0, 2, 2), (1, 3, 8), (2, 3, 4), (3, 0, 0)] {
-        assert!(rt; row_is(&layers, row, entries, total), "row {row}");
+        assert!(rt; holds_at(&rt, &row, row_is(&layers, row, entries, total)));
     }
     Ok(())
 }
@@ -155,7 +166,7 @@ fn a_plan_changes_nothing(rt: HostRuntime) -> Result<(), Fail> {
     let mut layers = Layers::new(rt.alloc(), 3, 3, &[])?;
     add_cell(rt.alloc(), &mut layers, 0, 0, 0)?;
     assert!(rt; plan_changes_nothing(rt.alloc(), &mut layers)?);
-    assert_eq!(rt; layers.layer_entries(2), None);
+    assert!(rt; same(&rt, &layers.layer_entries(2), &None));
     Ok(())
 }
 
@@ -189,7 +200,7 @@ fn a_view_stays_as_it_was(rt: HostRuntime) -> Result<(), Fail> {
     let mut layers = Layers::new(rt.alloc(), 3, 3, &[2])?;
     add_cell(rt.alloc(), &mut layers, 0, 0, 5)?;
     let stays = view_stays(rt.alloc(), &mut layers)?;
-    assert_eq!(rt; stays, (true, true));
+    assert!(rt; same(&rt, &stays, &(true, true)));
     assert!(rt; layers.layer_entries(1) == Some(2) && layers.total() == 9);
     Ok(())
 }
@@ -221,7 +232,7 @@ fn cuts_are_judged(rt: HostRuntime) {
         } else {
             Some(CascadeFault::BadCuts)
         };
-        assert_eq!(rt; judged(rt.alloc(), cuts), want, "{good}");
-        assert_eq!(rt; are_cuts(cuts), good);
+        assert!(rt; same_at(&rt, &good, &judged(rt.alloc(), cuts), &want));
+        assert!(rt; same(&rt, &are_cuts(cuts), &good));
     }
 }

@@ -7,8 +7,10 @@ use cells::Cell;
 use hyper_matrix::{BuildFault, Hyper};
 use layer_cascade::Layers;
 use std::alloc::{AllocError, Global};
+use std::io::Eprint;
 use std::process::Abort;
 use std::test::Fail;
+use test_support::{holds_at, same};
 
 const SIDE: u64 = 1 << 20;
 
@@ -86,14 +88,11 @@ const ROWS: [(&[u64], u64, u64); 3] = [
     (&[300, 700], 20_000, 2),
 ];
 
-fn check_found(rt: &impl Abort, alloc: Global, gathers: u64) -> Result<(), Fail> {
+fn check_found(rt: &(impl Abort + Eprint), alloc: Global, gathers: u64) -> Result<(), Fail> {
     for (cuts, step, matrices) in ROWS {
         let chain = Chain { step, matrices };
         let layers = chain.layers(alloc, cuts, gathers)?;
-        assert!(rt;
-            chain.is_found(&layers),
-            "{matrices} matrices, {gathers} steps"
-        );
+        assert!(rt; holds_at(rt, &(matrices, gathers), chain.is_found(&layers)));
     }
     Ok(())
 }
@@ -124,10 +123,10 @@ fn places_are_found_after_a_refusal(rt: HostRuntime) -> Result<(), Fail> {
         matrices: 2,
     };
     let mut layers = chain.layers(rt.alloc(), &[250], 0)?;
-    assert_eq!(rt; layers.layer_entries(1), Some(0));
-    assert_eq!(rt; layers.layer_entries(2), Some(300));
+    assert!(rt; same(&rt, &layers.layer_entries(1), &Some(0)));
+    assert!(rt; same(&rt, &layers.layer_entries(2), &Some(300)));
     assert!(rt; gathered(rt.alloc(), &mut layers, chain)?);
     assert!(rt; chain.is_found(&layers));
-    assert_eq!(rt; layers.layer_entries(2), Some(300));
+    assert!(rt; same(&rt, &layers.layer_entries(2), &Some(300)));
     Ok(())
 }

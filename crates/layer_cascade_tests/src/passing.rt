@@ -6,8 +6,10 @@ use cells::Cell;
 use hyper_matrix::Hyper;
 use layer_cascade::Layers;
 use std::alloc::{AllocError, Global};
+use std::io::Eprint;
 use std::process::Abort;
 use std::test::Fail;
+use test_support::{holds_at, same_at};
 
 const SIDE: u64 = 1 << 20;
 
@@ -138,7 +140,7 @@ fn add_list(alloc: Global, layers: &mut Layers, list: &[Cell], gathers: u64) -> 
 
 /// Adds matrix `i` to both, and compares the entries of each layer.
 fn check_addition(
-    rt: &impl Abort,
+    rt: &(impl Abort + Eprint),
     alloc: Global,
     layers: &mut Layers,
     model: &mut Model,
@@ -149,7 +151,7 @@ fn check_addition(
     let list = stream.list(alloc, i)?;
     add_list(alloc, layers, &list, gathers)?;
     model.add(alloc, &list)?;
-    assert!(rt; model.has_sizes(layers), "sizes after {i}");
+    assert!(rt; holds_at(rt, &i, model.has_sizes(layers)));
     Ok(())
 }
 
@@ -169,7 +171,7 @@ fn hold_all(
 /// The entries of each of three layers once so many matrices were added, at least one, with so many steps of `gather`
 /// after each. All agree with the model.
 fn check(
-    rt: &impl Abort,
+    rt: &(impl Abort + Eprint),
     alloc: Global,
     cuts: &[u64],
     stream: &Stream,
@@ -199,7 +201,7 @@ fn layers_that_pass_a_cut_agree_with_lists(rt: HostRuntime) -> Result<(), Fail> 
     for (cuts, places, cells, matrices, want) in ROWS {
         let stream = Stream { places, cells };
         let sizes = check(&rt, rt.alloc(), cuts, &stream, matrices, 0)?;
-        assert_eq!(rt; sizes, want, "{places} places in matrices of {cells}");
+        assert!(rt; same_at(&rt, &(places, cells), &sizes, &want));
     }
     Ok(())
 }
@@ -214,14 +216,14 @@ const COUNTED: [(&[u64], u64, [u64; 3]); 3] = [
 ];
 
 /// The rows of `COUNTED`, with so many steps of `gather` after each addition.
-fn check_counted(rt: &impl Abort, alloc: Global, gathers: u64) -> Result<(), Fail> {
+fn check_counted(rt: &(impl Abort + Eprint), alloc: Global, gathers: u64) -> Result<(), Fail> {
     for (cuts, places, want) in COUNTED {
         let stream = Stream {
             places,
             cells: 7_100,
         };
         let sizes = check(rt, alloc, cuts, &stream, 3, gathers)?;
-        assert_eq!(rt; sizes, want, "{places} places, {gathers} steps");
+        assert!(rt; same_at(rt, &(places, gathers), &sizes, &want));
     }
     Ok(())
 }

@@ -4,8 +4,10 @@ use cells::Cell;
 use hyper_matrix::{BuildFault, Hyper};
 use layer_cascade::{LayerView, Layers};
 use std::alloc::{AllocError, Global};
+use std::io::Eprint;
 use std::process::Abort;
 use std::test::Fail;
+use test_support::{holds_at, same_at};
 
 /// How many cells each matrix of the stream is built from.
 const CELLS: u64 = 5;
@@ -109,7 +111,7 @@ pub fn add_matrix(alloc: Global, layers: &mut Layers, i: u64) -> Result<(), Fail
 
 /// Adds these matrices of the stream, the first of which is the next, and compares after each.
 fn check_additions(
-    rt: &impl Abort,
+    rt: &(impl Abort + Eprint),
     alloc: Global,
     layers: &mut Layers,
     matrices: (u64, u64),
@@ -117,12 +119,12 @@ fn check_additions(
     for i in matrices.0..matrices.1 {
         add_matrix(alloc, layers, i)?;
         let holds = holds_first(alloc, layers, i.wrapping_add(1))?;
-        assert!(rt; holds, "after {i}");
+        assert!(rt; holds_at(rt, &i, holds));
     }
     Ok(())
 }
 
-fn check_planned(rt: &impl Abort, alloc: Global, cuts: &[u64]) -> Result<(), Fail> {
+fn check_planned(rt: &(impl Abort + Eprint), alloc: Global, cuts: &[u64]) -> Result<(), Fail> {
     let mut layers = Layers::new(alloc, 9, 9, cuts)?;
     check_additions(rt, alloc, &mut layers, (0, 20))
 }
@@ -160,7 +162,11 @@ pub fn sees_first(alloc: Global, view: &LayerView, matrices: u64) -> Result<bool
 }
 
 /// Adds the matrices behind those that a view is to see, and compares the view at the end.
-fn check_behind_view(rt: &impl Abort, alloc: Global, layers: &mut Layers) -> Result<(), Fail> {
+fn check_behind_view(
+    rt: &(impl Abort + Eprint),
+    alloc: Global,
+    layers: &mut Layers,
+) -> Result<(), Fail> {
     let view = layers.view(alloc)?;
     check_additions(rt, alloc, layers, (SEEN, MANY))?;
     let sees = sees_first(alloc, &view, SEEN)?;
@@ -168,7 +174,7 @@ fn check_behind_view(rt: &impl Abort, alloc: Global, layers: &mut Layers) -> Res
     Ok(())
 }
 
-fn check_many(rt: &impl Abort, alloc: Global, cuts: &[u64]) -> Result<(), Fail> {
+fn check_many(rt: &(impl Abort + Eprint), alloc: Global, cuts: &[u64]) -> Result<(), Fail> {
     let mut layers = Layers::new(alloc, 9, 9, cuts)?;
     check_additions(rt, alloc, &mut layers, (0, SEEN))?;
     check_behind_view(rt, alloc, &mut layers)
@@ -195,10 +201,13 @@ fn entries_after(alloc: Global, matrices: u64) -> Result<Option<u64>, Fail> {
 fn a_layer_counts_a_place_once(rt: HostRuntime) -> Result<(), Fail> {
     for matrices in [0, 1, 2, 16, 31, 32, 33, MANY] {
         let want = sum_of(rt.alloc(), 0, matrices)?.entries();
-        assert_eq!(rt;
-            entries_after(rt.alloc(), matrices)?,
-            Some(want),
-            "{matrices}"
+        assert!(rt;
+            same_at(
+                &rt,
+                &matrices,
+                &entries_after(rt.alloc(), matrices)?,
+                &Some(want)
+            )
         );
     }
     Ok(())

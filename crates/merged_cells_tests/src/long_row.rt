@@ -1,8 +1,10 @@
 //! One row whose cells lie in several matrices of many blocks, some of them in two.
 use crate::matrices::{Entry, cells_of, listed, matrix};
+use cells::Cell;
 use hyper_matrix::Hyper;
 use std::alloc::{AllocError, Global};
 use std::test::Fail;
+use test_support::{holds_at, same};
 
 const COLS: u64 = 5_000;
 
@@ -32,17 +34,22 @@ fn pushed(alloc: Global, all: &mut Vec<Hyper>, first: u64, count: u64) -> Result
     Ok(())
 }
 
+// The list of four matrices, of which each has a third of the columns and two the same.
+fn merged_thirds(alloc: Global) -> Result<Vec<Cell>, Fail> {
+    let mut all = Vec::new(alloc);
+    pushed(alloc, &mut all, 2, 5)?;
+    pushed(alloc, &mut all, 0, 1)?;
+    pushed(alloc, &mut all, 1, 1)?;
+    pushed(alloc, &mut all, 2, 2)?;
+    Ok(listed(alloc, &all)?)
+}
+
 #[test]
 fn a_long_row_is_one_list(rt: HostRuntime) -> Result<(), Fail> {
-    let mut all = Vec::new(rt.alloc());
-    pushed(rt.alloc(), &mut all, 2, 5)?;
-    pushed(rt.alloc(), &mut all, 0, 1)?;
-    pushed(rt.alloc(), &mut all, 1, 1)?;
-    pushed(rt.alloc(), &mut all, 2, 2)?;
-    let list = listed(rt.alloc(), &all)?;
+    let list = merged_thirds(rt.alloc())?;
     let entries = expected(rt.alloc())?;
     let want = cells_of(rt.alloc(), entries.as_slice())?;
-    assert_eq!(rt; list.len(), 5_000);
-    assert!(rt; list.as_slice() == want.as_slice(), "{list:?}");
+    assert!(rt; same(&rt, &list.len(), &5_000));
+    assert!(rt; holds_at(&rt, &list, list.as_slice() == want.as_slice()));
     Ok(())
 }

@@ -1,8 +1,10 @@
 //! Lists of a few cells, whose sum was worked out by hand.
 use crate::matrices::{Entry, cells_of, listed, matrices};
 use std::alloc::Global;
+use std::io::Eprint;
 use std::process::Abort;
 use std::test::Fail;
+use test_support::holds_at;
 
 const MAX: u64 = u64::MAX;
 
@@ -64,11 +66,11 @@ static CASES: &[Case] = &[
     ),
 ];
 
-fn check(rt: &impl Abort, alloc: Global, case: &Case) -> Result<(), Fail> {
+fn check(rt: &(impl Abort + Eprint), alloc: Global, case: &Case) -> Result<(), Fail> {
     let all = matrices(alloc, case.0)?;
     let list = listed(alloc, &all)?;
     let want = cells_of(alloc, case.1)?;
-    assert!(rt; list.as_slice() == want.as_slice(), "{list:?}");
+    assert!(rt; holds_at(rt, &list, list.as_slice() == want.as_slice()));
     Ok(())
 }
 

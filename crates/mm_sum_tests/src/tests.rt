@@ -8,7 +8,7 @@ use std::alloc::{AllocError, Global};
 use std::io::Eprint;
 use std::process::Abort;
 use std::test::Fail;
-use test_support::{holds_at, same, same_at};
+use test_support::{same, same_at};
 
 const TEXT: &str =
     "%%MatrixMarket matrix coordinate integer general\n3 3 4\n1 1 5\n3 2 7\n1 1 2\n2 3 0\n";
@@ -38,20 +38,37 @@ fn with_room(alloc: Global, room: Option<u64>) -> Script
     Script::new(alloc, Vec::new(alloc), None, room)
 }
 
-/// What comes of a sum in one layer above a cut of 2. Nothing is written but on success, and then `sum`.
-fn outcome_of(
-    rt: &impl Abort,
+/// The sum of a source, of which nothing is told but how it ended.
+fn sum_of(
     alloc: Global,
     source: &mut Script,
-    sum: &str,
+    sink: &mut Script,
+    cuts: &[u64],
 ) -> Result<(), SumFault>
-    requires { source.old.failures ≡ 0 }
+    requires source { source.old.failures ≡ 0 }
+    requires sink { sink.old.failures ≡ 0 }
 {
+    run_sum(alloc, source, sink, cuts)
+}
+
+/// How a sum ended, and the failures of its source and its sink.
+type Ended = (Result<(), SumFault>, u64, u64);
+
+/// What comes of a text in such pieces, in one layer above a cut of 2, and whether what is written is `sum` on success
+/// and else nothing.
+fn outcome_of(
+    alloc: Global,
+    text: &str,
+    most: usize,
+    fail_read: Option<u64>,
+    sum: &str,
+) -> Result<(Ended, bool), AllocError> {
+    let mut source = in_pieces(alloc, text, most, fail_read)?;
     let mut sink = with_room(alloc, None);
-    let outcome = run_sum(alloc, source, &mut sink, &[2]);
+    let outcome = sum_of(alloc, &mut source, &mut sink, &[2]);
     let want = if outcome.is_ok() { sum } else { "" };
-    assert!(rt; sink.written() == want.as_bytes());
-    outcome
+    let ended = (outcome, Source::failures(&source), Sink::failures(&sink));
+    Ok((ended, sink.written() == want.as_bytes()))
 }
 
 fn text_fault(kind: MmKind, line: u64) -> SumFault {
@@ -74,22 +91,14 @@ fn check_failing_reads(rt: &(impl Abort + Eprint), alloc: Global, most: u64) -> 
     let mut read = 0u64;
     // One read for each piece, and one that finds the end.
     for _ in 0..(TEXT.len() as u64).div_ceil(most.max(1)).wrapping_add(1) {
-        let mut source = in_pieces(alloc, TEXT, most as usize, Some(read))?;
-        let want = text_fault(MmKind::Read, line_after(TEXT, given as usize));
-        assert!(rt;
-            same_at(
-                rt,
-                &read,
-                &outcome_of(rt, alloc, &mut source, SUM),
-                &Err(want)
-            )
-        );
-        assert!(rt; same(rt, &Source::failures(&source), &1));
+        let fault = text_fault(MmKind::Read, line_after(TEXT, given as usize));
+        let found = outcome_of(alloc, TEXT, most as usize, Some(read), SUM)?;
+        assert!(rt; same_at(rt, &(most, read), &found, &((Err(fault), 1, 0), true)));
         given = given.wrapping_add(most);
         read = read.wrapping_add(1);
     }
-    let mut source = in_pieces(alloc, TEXT, most as usize, Some(read))?;
-    assert!(rt; same(rt, &outcome_of(rt, alloc, &mut source, SUM), &Ok(())));
+    let found = outcome_of(alloc, TEXT, most as usize, Some(read), SUM)?;
+    assert!(rt; same_at(rt, &(most, read), &found, &((Ok(()), 0, 0), true)));
     Ok(())
 }
 
@@ -104,39 +113,38 @@ fn reads_that_fail(rt: HostRuntime) -> Result<(), Fail> {
 #[test]
 fn a_fault_is_told_before_a_later_read_fails(rt: HostRuntime) -> Result<(), Fail> {
     let text = "%%MatrixMarket matrix coordinate integer general\n3 3 1\n0 1 1\n1 1 1\n";
-    let mut source = in_pieces(rt.alloc(), text, 61, Some(1))?;
-    let want = text_fault(MmKind::IndexOutOfRange, 3);
-    assert!(rt;
-        same(
-            &rt,
-            &outcome_of(&rt, rt.alloc(), &mut source, SUM),
-            &Err(want)
-        )
-    );
-    assert!(rt; same(&rt, &Source::failures(&source), &0));
+    let found = outcome_of(rt.alloc(), text, 61, Some(1), SUM)?;
+    let fault = text_fault(MmKind::IndexOutOfRange, 3);
+    assert!(rt; same(&rt, &found, &((Err(fault), 0, 0), true)));
     Ok(())
+}
+
+static BAD_CUTS: &[&[u64]] = &[
+    &[1, 2, 3, 4, 5, 6, 7, 8],
+    &[0],
+    &[1, 1_099_511_627_777],
+    &[4, 4],
+    &[5, 4],
+];
+
+/// How a sum with these cuts ends, of a source and into a sink whose first call fails.
+fn judged(alloc: Global, cuts: &[u64]) -> Result<Ended, AllocError> {
+    let mut source = in_pieces(alloc, TEXT, 7, Some(0))?;
+    let mut sink = with_room(alloc, Some(0));
+    let outcome = sum_of(alloc, &mut source, &mut sink, cuts);
+    Ok((outcome, Source::failures(&source), Sink::failures(&sink)))
 }
 
 #[test]
 fn cuts_are_judged_before_anything_is_read(rt: HostRuntime) -> Result<(), Fail> {
-    let bad: [&[u64]; 5] = [
-        &[1, 2, 3, 4, 5, 6, 7, 8],
-        &[0],
-        &[1, 1_099_511_627_777],
-        &[4, 4],
-        &[5, 4],
-    ];
-    for cuts in bad {
-        let mut source = in_pieces(rt.alloc(), TEXT, 7, Some(0))?;
-        let mut sink = with_room(rt.alloc(), Some(0));
-        let outcome = run_sum(rt.alloc(), &mut source, &mut sink, cuts);
-        assert!(rt; same(&rt, &outcome, &Err(SumFault::BadCuts)));
-        assert!(rt; same(&rt, &Source::failures(&source), &0));
-        assert!(rt; same(&rt, &Sink::failures(&sink), &0));
+    for cuts in BAD_CUTS {
+        let found = judged(rt.alloc(), cuts)?;
+        assert!(rt; same_at(&rt, cuts, &found, &(Err(SumFault::BadCuts), 0, 0)));
     }
     Ok(())
 }
 
+/// Checks a text in pieces of each size, none of whose reads fails.
 fn check_pieces(
     rt: &(impl Abort + Eprint),
     alloc: Global,
@@ -145,8 +153,8 @@ fn check_pieces(
     sum: &str,
 ) -> Result<(), Fail> {
     for most in [1, 13, 1_000] {
-        let mut source = in_pieces(alloc, text, most, None)?;
-        assert!(rt; same_at(rt, &text, &outcome_of(rt, alloc, &mut source, sum), &want));
+        let found = outcome_of(alloc, text, most, None, sum)?;
+        assert!(rt; same_at(rt, &(text, most), &found, &((want, 0, 0), true)));
     }
     Ok(())
 }
@@ -173,15 +181,18 @@ fn counts_up_to_64_bits(rt: HostRuntime) -> Result<(), Fail> {
     Ok(())
 }
 
-fn sum_into(
+/// What comes of a text whose sum is written into so much room, and whether that took the front of `sum`.
+fn written_within(
     alloc: Global,
     text: &str,
-    sink: &mut Script,
-) -> Result<Result<(), SumFault>, AllocError>
-    requires { sink.old.failures ≡ 0 }
-{
+    sum: &str,
+    room: usize,
+) -> Result<(Ended, bool), AllocError> {
     let mut source = in_pieces(alloc, text, 65_536, None)?;
-    Ok(run_sum(alloc, &mut source, sink, &[1, 2, 3]))
+    let mut sink = with_room(alloc, Some(room as u64));
+    let outcome = sum_of(alloc, &mut source, &mut sink, &[1, 2, 3]);
+    let ended = (outcome, Source::failures(&source), Sink::failures(&sink));
+    Ok((ended, sum.as_bytes().get(..room) == Some(sink.written())))
 }
 
 /// Sums a text into a sink that takes `room` bytes, fewer than the sum has.
@@ -192,13 +203,10 @@ fn check_room(
     sum: &str,
     room: usize,
 ) -> Result<(), Fail> {
-    let mut sink = with_room(alloc, Some(room as u64));
     let written = room as u128;
-    let want = Err(SumFault::Output(WriteFault { written }));
-    assert!(rt; same(rt, &sum_into(alloc, text, &mut sink)?, &want));
-    let taken = sum.as_bytes().get(..room);
-    assert!(rt; holds_at(rt, &room, Some(sink.written()) == taken));
-    assert!(rt; same(rt, &Sink::failures(&sink), &1));
+    let fault = SumFault::Output(WriteFault { written });
+    let found = written_within(alloc, text, sum, room)?;
+    assert!(rt; same_at(rt, &room, &found, &((Err(fault), 0, 1), true)));
     Ok(())
 }
 

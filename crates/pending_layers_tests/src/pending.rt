@@ -178,21 +178,33 @@ const SHORT: [Stream; 3] = [
     },
 ];
 
+/// Whether the sum of a stream, in layers with these cuts, is what it is by hand.
+fn is_summed(
+    alloc: Global,
+    cuts: &[u64],
+    expected: u64,
+    stream: Stream,
+    as_matrices: bool,
+) -> Result<bool, CascadeFault> {
+    let sum = sum_again(alloc, cuts, expected, stream, as_matrices)?;
+    Ok(stream.is_in(&sum))
+}
+
 #[test]
 fn short_streams(rt: HostRuntime) -> Result<(), Fail> {
     for stream in SHORT {
         for as_matrices in [false, true] {
             for expected in [0, 3, 6, 7] {
-                let sum = sum_again(rt.alloc(), &[2, 4], expected, stream, as_matrices)?;
-                assert!(rt; holds_at(&rt, &(as_matrices, expected), stream.is_in(&sum)));
+                let holds = is_summed(rt.alloc(), &[2, 4], expected, stream, as_matrices)?;
+                assert!(rt; holds_at(&rt, &(as_matrices, expected), holds));
             }
         }
     }
     Ok(())
 }
 
-/// Whether the sum of a stream in lists of 1,000 cells, in layers with the cuts 2 and 4, is what it is by hand. With
-/// these cuts 131,072 cells may wait.
+/// The same of a stream in lists of 1,000 cells, in layers with the cuts 2 and 4. With these cuts 131,072 cells may
+/// wait.
 fn sums_up(
     alloc: Global,
     lists: u64,
@@ -204,8 +216,7 @@ fn sums_up(
         cells: 1_000,
         places,
     };
-    let sum = sum_again(alloc, &[2, 4], places, stream, as_matrices)?;
-    Ok(stream.is_in(&sum))
+    is_summed(alloc, &[2, 4], places, stream, as_matrices)
 }
 
 #[test]
@@ -233,8 +244,7 @@ fn lists_longer_than_are_due(rt: HostRuntime) -> Result<(), Fail> {
         cells: 70_000,
         places: 100_000,
     };
-    let sum = sum_again(rt.alloc(), &[70_000], 0, stream, false)?;
-    assert!(rt; stream.is_in(&sum));
+    assert!(rt; is_summed(rt.alloc(), &[70_000], 0, stream, false)?);
     Ok(())
 }
 
@@ -245,8 +255,7 @@ fn one_list_longer_than_may_wait(rt: HostRuntime) -> Result<(), Fail> {
         cells: 140_000,
         places: 139_000,
     };
-    let sum = sum_again(rt.alloc(), &[2, 4], u64::MAX, stream, false)?;
-    assert!(rt; stream.is_in(&sum));
+    assert!(rt; is_summed(rt.alloc(), &[2, 4], u64::MAX, stream, false)?);
     Ok(())
 }
 
