@@ -80,12 +80,16 @@ fn two_batches_are_read(rt: HostRuntime) -> Result<(), Fail> {
     Ok(())
 }
 
+// Whether bytes that are read come out of a write again.
+fn come_again(alloc: Global, bytes: &[u8]) -> Result<bool, Fail> {
+    let snapshot = read(alloc, bytes, 7, MAX_BYTES)?;
+    Ok(written(alloc, &snapshot)?.written() == bytes)
+}
+
 #[test]
 fn what_is_read_is_written_again(rt: HostRuntime) -> Result<(), Fail> {
     for bytes in [ONE, TWO] {
-        let snapshot = read(rt.alloc(), bytes, 7, MAX_BYTES)?;
-        let script = written(rt.alloc(), &snapshot)?;
-        assert!(rt; script.written() == bytes);
+        assert!(rt; come_again(rt.alloc(), bytes)?);
     }
     Ok(())
 }
@@ -174,12 +178,18 @@ static REPEATS: &[(usize, usize, SnapFault)] = &[
     (69, 78, SnapFault::RepeatedNumber),
 ];
 
+// The fault of `ONE` with 2 at a place, and all from another on twice.
+fn fault_of_repeat(alloc: Global, at: usize, from: usize) -> Result<Option<SnapFault>, AllocError> {
+    let bytes = changed(alloc, ONE, at, b"\x02")?;
+    let twice = followed(alloc, &bytes, ONE.get(from..).unwrap_or(&[]))?;
+    Ok(fault(alloc, &twice))
+}
+
 #[test]
 fn repeats_are_found(rt: HostRuntime) -> Result<(), Fail> {
     for (at, from, expected) in REPEATS {
-        let bytes = changed(rt.alloc(), ONE, *at, b"\x02")?;
-        let twice = followed(rt.alloc(), &bytes, ONE.get(*from..).unwrap_or(&[]))?;
-        assert!(rt; same(&rt, &fault(rt.alloc(), &twice), &Some(*expected)));
+        let found = fault_of_repeat(rt.alloc(), *at, *from)?;
+        assert!(rt; same_at(&rt, at, &found, &Some(*expected)));
     }
     Ok(())
 }
