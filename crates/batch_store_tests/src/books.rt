@@ -9,6 +9,7 @@ use batch_store::{Batch, Book, Kept, Setup, Verdict};
 use std::alloc::{AllocError, Global};
 use std::io::Eprint;
 use std::process::Abort;
+use std::random::RandomSource;
 use std::sync::Arc;
 use std::test::Fail;
 use test_support::same;
@@ -246,63 +247,77 @@ static LARGEST: &[Put] = &[
     ),
 ];
 
-// The clients and totals of the batches that a list has.
-fn contents(list: &[Arc<Batch>]) -> Option<(u64, u64)> {
-    match list {
-        [b] => Some((b.client, b.total)),
-        _ => None,
-    }
+// A book of three rows and columns to which the batches of a table were put, each with its answer.
+fn book_after<R: RandomSource + Abort + Eprint>(
+    rt: &R,
+    alloc: Global,
+    setup: &Setup,
+    steps: &[Put],
+) -> Result<Book, Fail> {
+    let mut book = Book::new(rt, alloc, setup)?;
+    put_all(rt, alloc, setup, &mut book, steps)?;
+    Ok(book)
+}
+
+// How many batches it has then, and their total.
+fn size_after<R: RandomSource + Abort + Eprint>(
+    rt: &R,
+    alloc: Global,
+    steps: &[Put],
+) -> Result<(u64, u64), Fail> {
+    let setup = small_setup()?;
+    let book = book_after(rt, alloc, &setup, steps)?;
+    Ok((book.len(), book.total()))
 }
 
 #[test]
 fn a_limit_is_kept_exactly(rt: HostRuntime) -> Result<(), Fail> {
-    let setup = small_setup()?;
-    let mut book = Book::new(&rt, rt.alloc(), &setup)?;
-    put_all(&rt, rt.alloc(), &setup, &mut book, WITHIN_100)?;
-    assert!(rt; same(&rt, &(book.len(), book.total()), &(3, 100)));
+    assert!(rt; same(&rt, &size_after(&rt, rt.alloc(), WITHIN_100)?, &(3, 100)));
     Ok(())
 }
 
 #[test]
 fn repeats_get_the_reply_of_then(rt: HostRuntime) -> Result<(), Fail> {
-    let setup = small_setup()?;
-    let mut book = Book::new(&rt, rt.alloc(), &setup)?;
-    put_all(&rt, rt.alloc(), &setup, &mut book, REPEATS)?;
-    assert!(rt; same(&rt, &(book.len(), book.total()), &(3, 13)));
+    assert!(rt; same(&rt, &size_after(&rt, rt.alloc(), REPEATS)?, &(3, 13)));
     Ok(())
 }
 
 #[test]
 fn batches_without_cells_are_accepted(rt: HostRuntime) -> Result<(), Fail> {
-    let setup = small_setup()?;
-    let mut book = Book::new(&rt, rt.alloc(), &setup)?;
-    put_all(&rt, rt.alloc(), &setup, &mut book, NOTHING)?;
-    assert!(rt; same(&rt, &(book.len(), book.total()), &(1, 0)));
+    assert!(rt; same(&rt, &size_after(&rt, rt.alloc(), NOTHING)?, &(1, 0)));
     Ok(())
+}
+
+// The client and the total of the batch that a book lists, where it lists one alone.
+fn listed(alloc: Global, book: &Book) -> Result<Option<(u64, u64)>, AllocError> {
+    let list = book.list(alloc)?;
+    match list.as_slice() {
+        [b] => Ok(Some((b.client, b.total))),
+        _ => Ok(None),
+    }
 }
 
 #[test]
 fn a_full_book_knows_its_batches(rt: HostRuntime) -> Result<(), Fail> {
     let setup = Setup::new(3, 3, &[2, 4], 2, 100, 1)?;
-    let mut book = Book::new(&rt, rt.alloc(), &setup)?;
-    put_all(&rt, rt.alloc(), &setup, &mut book, ONE_BATCH)?;
-    assert!(rt;
-        same(
-            &rt,
-            &contents(book.list(rt.alloc())?.as_slice()),
-            &Some((7, 5))
-        )
-    );
+    let book = book_after(&rt, rt.alloc(), &setup, ONE_BATCH)?;
+    assert!(rt; same(&rt, &listed(rt.alloc(), &book)?, &Some((7, 5))));
     Ok(())
+}
+
+// The total of the batch at a place of a book.
+fn total_at(book: &Book, i: u64) -> Option<u64> {
+    match book.at(i) {
+        Some(b) => Some(b.total),
+        None => None,
+    }
 }
 
 #[test]
 fn the_largest_total_is_accepted(rt: HostRuntime) -> Result<(), Fail> {
     let setup = Setup::new(3, 3, &[2, 4], 2, u64::MAX, 10)?;
-    let mut book = Book::new(&rt, rt.alloc(), &setup)?;
-    put_all(&rt, rt.alloc(), &setup, &mut book, LARGEST)?;
-    assert!(rt; same(&rt, &book.at(0).map(|b| b.total), &Some(u64::MAX)));
-    assert!(rt; same(&rt, &book.at(1).map(|b| b.total), &Some(0)));
-    assert!(rt; book.at(2).is_none());
+    let book = book_after(&rt, rt.alloc(), &setup, LARGEST)?;
+    let totals = [total_at(&book, 0), total_at(&book, 1), total_at(&book, 2)];
+    assert!(rt; same(&rt, &totals, &[Some(u64::MAX), Some(0), None]));
     Ok(())
 }

@@ -1,5 +1,5 @@
 //! Shards: what is taken in, what is refused, and where the cells lie.
-ghost use Rattle.std.specs.Prelude.{◌≡◌};
+ghost use Rattle.std.specs.Prelude.{◌≡◌, IfOk};
 ghost use Rattle.std.specs.Arc.{arc_value};
 
 use crate::batches::batch;
@@ -8,6 +8,7 @@ use batch_store::{Batch, Setup, Shard, ShardFault};
 use std::alloc::Global;
 use std::io::Eprint;
 use std::process::Abort;
+use std::random::RandomSource;
 use std::sync::Arc;
 use std::test::Fail;
 use test_support::same;
@@ -81,45 +82,80 @@ static STEPS: &[Step] = &[
     (9, 1, "3 3 0\n", Ok(0)),
 ];
 
+/// A new shard with number 0 that took in the batches of a table, each with its answer.
+pub fn shard_after<R: RandomSource + Abort + Eprint>(
+    rt: &R,
+    alloc: Global,
+    setup: &Setup,
+    steps: &[Step],
+) -> Result<Shard, Fail>
+    ensures { IfOk result (λ shard. shard.setup ≡ setup.now) }
+{
+    // Any call on it tells that it has a shard.
+    let _shards = setup.shards();
+    let mut shard = Shard::new(rt, alloc, setup, 0)?;
+    take_all(rt, alloc, setup, &mut shard, steps)?;
+    Ok(shard)
+}
+
+/// Its total, and how many batches it has.
+pub fn size(shard: &Shard) -> (u64, u64) {
+    (shard.total(), shard.record_len())
+}
+
+// Which of these batches it has.
+fn held(shard: &Shard, pairs: [(u64, u64); 3]) -> [bool; 3] {
+    let [first, second, third] = pairs;
+    [
+        shard.holds(first.0, first.1),
+        shard.holds(second.0, second.1),
+        shard.holds(third.0, third.1),
+    ]
+}
+
 #[test]
 fn a_shard_takes_each_batch_once(rt: HostRuntime) -> Result<(), Fail> {
     let setup = small_setup()?;
-    let mut shard = Shard::new(&rt, rt.alloc(), &setup, 0)?;
-    take_all(&rt, rt.alloc(), &setup, &mut shard, STEPS)?;
-    assert!(rt;
-        same(
-            &rt,
-            &(shard.number(), shard.total(), shard.record_len()),
-            &(0, 100, 3)
-        )
-    );
-    assert!(rt; shard.holds(7, 1) && shard.holds(9, 1) && !shard.holds(7, 2));
+    let shard = shard_after(&rt, rt.alloc(), &setup, STEPS)?;
+    let found = (size(&shard), held(&shard, [(7, 1), (9, 1), (7, 2)]));
+    assert!(rt; same(&rt, &found, &((100, 3), [true, true, false])));
+    assert!(rt; same(&rt, &shard.number(), &0));
     Ok(())
+}
+
+// The counts at these places.
+fn counts(shard: &Shard, places: [(u64, u64); 3]) -> [Option<u64>; 3] {
+    let [first, second, third] = places;
+    [
+        shard.get(first.0, first.1),
+        shard.get(second.0, second.1),
+        shard.get(third.0, third.1),
+    ]
+}
+
+// The entries and the total of a row.
+fn row(shard: &Shard, row: u64) -> (u64, u64) {
+    let sum = shard.row_total(row);
+    (sum.entries, sum.total)
+}
+
+// The counts at three places of shard 0, and the entries and the total of its first row; the same of rows of others:
+// row 1 is of shard 1, and there is no row 4.
+type Looked = ([Option<u64>; 3], (u64, u64));
+
+fn own_and_others(shard: &Shard) -> (Looked, Looked) {
+    let own = counts(shard, [(0, 0), (0, 1), (2, 0)]);
+    let others = counts(shard, [(1, 0), (1, 1), (4, 0)]);
+    ((own, row(shard, 0)), (others, row(shard, 1)))
 }
 
 #[test]
 fn a_shard_has_its_own_rows(rt: HostRuntime) -> Result<(), Fail> {
     let setup = small_setup()?;
-    let mut shard = Shard::new(&rt, rt.alloc(), &setup, 0)?;
-    take_all(&rt, rt.alloc(), &setup, &mut shard, STEPS)?;
-    assert!(rt;
-        same(
-            &rt,
-            &(shard.get(0, 0), shard.get(0, 1), shard.get(2, 0)),
-            &(Some(60), Some(0), Some(40))
-        )
-    );
-    // Row 1 is of shard 1, and there is no row 4.
-    assert!(rt;
-        same(
-            &rt,
-            &(shard.get(1, 0), shard.get(1, 1), shard.get(4, 0)),
-            &(None, None, None)
-        )
-    );
-    let (first, other) = (shard.row_total(0), shard.row_total(1));
-    assert!(rt; same(&rt, &(first.entries, first.total), &(2, 60)));
-    assert!(rt; same(&rt, &(other.entries, other.total), &(0, 0)));
+    let shard = shard_after(&rt, rt.alloc(), &setup, STEPS)?;
+    let own = ([Some(60), Some(0), Some(40)], (2, 60));
+    let others = ([None, None, None], (0, 0));
+    assert!(rt; same(&rt, &own_and_others(&shard), &(own, others)));
     Ok(())
 }
 
@@ -134,19 +170,27 @@ fn given_up(alloc: Global, setup: &Setup, shard: &mut Shard) -> Result<Option<u6
     Ok(shard.prepare(alloc, &b).ok().map(|p| p.amount()))
 }
 
+// What a shard was given up, and its size then; and its size once it took the batch in.
+fn given_up_and_taken(
+    rt: &(impl Abort + Eprint),
+    alloc: Global,
+    setup: &Setup,
+    shard: &mut Shard,
+) -> Result<(Option<u64>, (u64, u64), bool, (u64, u64)), Fail>
+    requires { shard.old.setup ≡ setup.now }
+{
+    let amount = given_up(alloc, setup, shard)?;
+    let before = size(shard);
+    let is_held = shard.holds(7, 1);
+    take_all(rt, alloc, setup, shard, FIVE)?;
+    Ok((amount, before, is_held, size(shard)))
+}
+
 #[test]
 fn what_is_prepared_may_be_dropped(rt: HostRuntime) -> Result<(), Fail> {
     let setup = small_setup()?;
     let mut shard = Shard::new(&rt, rt.alloc(), &setup, 0)?;
-    assert!(rt; same(&rt, &given_up(rt.alloc(), &setup, &mut shard)?, &Some(5)));
-    assert!(rt;
-        same(
-            &rt,
-            &(shard.total(), shard.record_len(), shard.holds(7, 1)),
-            &(0, 0, false)
-        )
-    );
-    take_all(&rt, rt.alloc(), &setup, &mut shard, FIVE)?;
-    assert!(rt; same(&rt, &(shard.total(), shard.record_len()), &(5, 1)));
+    let found = given_up_and_taken(&rt, rt.alloc(), &setup, &mut shard)?;
+    assert!(rt; same(&rt, &found, &(Some(5), (0, 0), false, (5, 1))));
     Ok(())
 }

@@ -1,9 +1,13 @@
 //! Layers of a shard, and views of them.
+ghost use Rattle.std.specs.Prelude.{◌≡◌};
+
 use crate::setups::small_setup;
-use crate::shards::{Step, take_all};
+use crate::shards;
+use crate::shards::{Step, shard_after, take_all};
 use batch_store::{Setup, Shard, ShardView};
 use hyper_matrix::Hyper;
 use std::alloc::{AllocError, Global};
+use std::io::Eprint;
 use std::process::Abort;
 use std::test::Fail;
 use test_support::same;
@@ -30,21 +34,27 @@ fn seen(alloc: Global, shard: &Shard) -> Result<(u64, (u64, u64)), AllocError> {
     Ok((view.record_len(), summed(alloc, &view)?))
 }
 
+// What a view shows once the batch of 3 was taken in behind it: the length of the record, and the entries and the total
+// of the sum.
+fn seen_behind(
+    rt: &(impl Abort + Eprint),
+    alloc: Global,
+    setup: &Setup,
+    shard: &mut Shard,
+) -> Result<(u64, (u64, u64)), Fail>
+    requires { shard.old.setup ≡ setup.now }
+{
+    let view = shard.view(alloc)?;
+    take_all(rt, alloc, setup, shard, THREE)?;
+    Ok((view.record_len(), summed(alloc, &view)?))
+}
+
 #[test]
 fn a_view_stays_as_it_was(rt: HostRuntime) -> Result<(), Fail> {
     let setup = small_setup()?;
-    let mut shard = Shard::new(&rt, rt.alloc(), &setup, 0)?;
-    take_all(&rt, rt.alloc(), &setup, &mut shard, FIVE)?;
-    let view = shard.view(rt.alloc())?;
-    take_all(&rt, rt.alloc(), &setup, &mut shard, THREE)?;
-    assert!(rt;
-        same(
-            &rt,
-            &(view.record_len(), summed(rt.alloc(), &view)?),
-            &(1, (1, 5))
-        )
-    );
-    assert!(rt; same(&rt, &(shard.total(), shard.record_len()), &(8, 2)));
+    let mut shard = shard_after(&rt, rt.alloc(), &setup, FIVE)?;
+    let seen = seen_behind(&rt, rt.alloc(), &setup, &mut shard)?;
+    assert!(rt; same(&rt, &(seen, shards::size(&shard)), &((1, (1, 5)), (8, 2))));
     Ok(())
 }
 
@@ -74,15 +84,9 @@ fn layer_sizes(shard: &Shard) -> [Option<u64>; 5] {
 #[test]
 fn ten_cells_cascade(rt: HostRuntime) -> Result<(), Fail> {
     let setup = Setup::new(3, 10, &[2, 4], 1, 100, 10)?;
-    let mut shard = Shard::new(&rt, rt.alloc(), &setup, 0)?;
-    take_all(&rt, rt.alloc(), &setup, &mut shard, TEN)?;
-    assert!(rt;
-        same(
-            &rt,
-            &layer_sizes(&shard),
-            &[None, Some(1), Some(3), Some(6), None]
-        )
-    );
+    let shard = shard_after(&rt, rt.alloc(), &setup, TEN)?;
+    let sizes = [None, Some(1), Some(3), Some(6), None];
+    assert!(rt; same(&rt, &layer_sizes(&shard), &sizes));
     assert!(rt; same(&rt, &seen(rt.alloc(), &shard)?, &(10, (10, 10))));
     Ok(())
 }

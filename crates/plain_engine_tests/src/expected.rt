@@ -5,25 +5,37 @@ use batch_store::ShardView;
 use hyper_matrix::Hyper;
 use plain_engine::PlainEngine;
 use std::alloc::{AllocError, Global};
+use std::io::Eprint;
 use std::process::Abort;
+use test_support::same;
 
 /// The number of accepted batches and their total.
-pub fn expect_status(rt: &impl Abort, engine: &PlainEngine, batches: u64, total: u64) {
+pub fn expect_status(rt: &(impl Abort + Eprint), engine: &PlainEngine, batches: u64, total: u64) {
     let status = engine.status();
-    assert_eq!(rt; (status.batches, status.total), (batches, total));
+    assert!(rt; same(rt, &(status.batches, status.total), &(batches, total)));
 }
 
 /// The counts at places, each as row, column and count.
-pub fn expect_counts(rt: &impl Abort, engine: &PlainEngine, places: &[(u64, u64, Option<u64>)]) {
+pub fn expect_counts(
+    rt: &(impl Abort + Eprint),
+    engine: &PlainEngine,
+    places: &[(u64, u64, Option<u64>)],
+) {
     for (row, col, count) in places {
-        assert_eq!(rt; engine.cell(*row, *col), *count);
+        assert!(rt; same(rt, &engine.cell(*row, *col), count));
     }
 }
 
 /// How many entries a row has, and their total.
-pub fn expect_row(rt: &impl Abort, engine: &PlainEngine, row: u64, entries: u64, total: u64) {
+pub fn expect_row(
+    rt: &(impl Abort + Eprint),
+    engine: &PlainEngine,
+    row: u64,
+    entries: u64,
+    total: u64,
+) {
     let sum = engine.row(row);
-    assert_eq!(rt; (sum.entries, sum.total), (entries, total));
+    assert!(rt; same(rt, &(sum.entries, sum.total), &(entries, total)));
 }
 
 // The number of a shard, its total, and the number of batches in its record.
@@ -33,15 +45,15 @@ fn sizes(engine: &PlainEngine, s: u64) -> Option<(u64, u64, u64)> {
 }
 
 /// Of each of some shards its number, its total, and the number of batches in its record.
-pub fn expect_shards(rt: &impl Abort, engine: &PlainEngine, shards: &[(u64, u64, u64)]) {
+pub fn expect_shards(rt: &(impl Abort + Eprint), engine: &PlainEngine, shards: &[(u64, u64, u64)]) {
     for shard in shards {
-        assert_eq!(rt; sizes(engine, shard.0), Some(*shard));
+        assert!(rt; same(rt, &sizes(engine, shard.0), &Some(*shard)));
     }
 }
 
 /// There is no shard of this number.
-pub fn expect_no_shard(rt: &impl Abort, engine: &PlainEngine, s: u64) {
-    assert_eq!(rt; sizes(engine, s), None);
+pub fn expect_no_shard(rt: &(impl Abort + Eprint), engine: &PlainEngine, s: u64) {
+    assert!(rt; same(rt, &sizes(engine, s), &None));
 }
 
 // Whether a matrix has the cells of a table.
@@ -72,12 +84,18 @@ pub fn exported_total(alloc: Global, engine: &PlainEngine) -> Result<u64, AllocE
 
 /// How many batches a view has, and the entries and total of its sum.
 pub fn expect_view(
-    rt: &impl Abort,
+    rt: &(impl Abort + Eprint),
     alloc: Global,
     view: &ShardView,
     expected: (u64, u64, u64),
 ) -> Result<(), AllocError> {
     let sum = view.sum(alloc)?;
-    assert_eq!(rt; (view.record_len(), sum.entries(), sum.total()), expected);
+    assert!(rt;
+        same(
+            rt,
+            &(view.record_len(), sum.entries(), sum.total()),
+            &expected
+        )
+    );
     Ok(())
 }

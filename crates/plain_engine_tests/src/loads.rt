@@ -10,6 +10,7 @@ use std::alloc::Global;
 use std::random::RandomSource;
 use std::sync::Arc;
 use std::test::Fail;
+use test_support::same;
 
 // The client, the number and the cells of each batch of a list.
 type Batches = &'static [(u64, u64, Cells)];
@@ -88,7 +89,7 @@ fn lists_are_judged_in_order(rt: HostRuntime) -> Result<(), Fail> {
     let setup = small_setup()?;
     for (list, expected) in LISTS {
         let found = loaded_of(&rt, rt.alloc(), setup, list)?;
-        assert_eq!(rt; found, *expected);
+        assert!(rt; same(&rt, &found, expected));
     }
     Ok(())
 }
@@ -99,6 +100,6 @@ static FULL: Batches = &[(7, 1, &[(0, 0, 5)]), (8, 1, &[(0, 0, 3)])];
 fn a_list_may_be_too_long(rt: HostRuntime) -> Result<(), Fail> {
     let setup = Setup::new(3, 3, &[2, 4], 2, 100, 1)?;
     let found = loaded_of(&rt, rt.alloc(), setup, FULL)?;
-    assert_eq!(rt; found, Err(LoadFault::BookFull { at: 1 }));
+    assert!(rt; same(&rt, &found, &Err(LoadFault::BookFull { at: 1 })));
     Ok(())
 }

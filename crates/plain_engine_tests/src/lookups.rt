@@ -9,9 +9,11 @@ use crate::puts::{Step, engine_of, put_all, small_engine_of};
 use batch_store::{Setup, ShardView};
 use plain_engine::PlainEngine;
 use std::alloc::{AllocError, Global};
+use std::io::Eprint;
 use std::process::Abort;
 use std::random::RandomSource;
 use std::test::Fail;
+use test_support::same;
 
 // Rows 0 and 2 are of shard 0, row 1 is of shard 1.
 static THREE: &[Step] = &[
@@ -71,7 +73,7 @@ fn shards_have_their_batches(rt: HostRuntime) -> Result<(), Fail> {
     expect_no_shard(&rt, &engine, 2);
     expect_no_shard(&rt, &engine, u64::MAX);
     let setup = engine.setup();
-    assert_eq!(rt; (setup.shards(), setup.limit()), (2, 100));
+    assert!(rt; same(&rt, &(setup.shards(), setup.limit()), &(2, 100)));
     Ok(())
 }
 
@@ -110,7 +112,7 @@ fn first_view(alloc: Global, engine: &PlainEngine) -> Result<ShardView, AllocErr
 
 // As `expect_view`, of the view of shard 0.
 fn expect_first_view(
-    rt: &impl Abort,
+    rt: &(impl Abort + Eprint),
     alloc: Global,
     engine: &PlainEngine,
     expected: (u64, u64, u64),
@@ -120,7 +122,10 @@ fn expect_first_view(
 }
 
 // The engine that has put the ten batches, in one shard.
-fn engine_of_ten<R: RandomSource + Abort>(rt: &R, alloc: Global) -> Result<PlainEngine, Fail> {
+fn engine_of_ten<R: RandomSource + Abort + Eprint>(
+    rt: &R,
+    alloc: Global,
+) -> Result<PlainEngine, Fail> {
     let setup = Setup::new(3, 10, &[2, 4], 1, 100, 10)?;
     engine_of(rt, alloc, setup, TEN)
 }
@@ -128,7 +133,13 @@ fn engine_of_ten<R: RandomSource + Abort>(rt: &R, alloc: Global) -> Result<Plain
 #[test]
 fn layers_keep_their_cuts(rt: HostRuntime) -> Result<(), Fail> {
     let engine = engine_of_ten(&rt, rt.alloc())?;
-    assert_eq!(rt; layers(&engine), Some([Some(1), Some(3), Some(6), None]));
+    assert!(rt;
+        same(
+            &rt,
+            &layers(&engine),
+            &Some([Some(1), Some(3), Some(6), None])
+        )
+    );
     expect_first_view(&rt, rt.alloc(), &engine, (10, 10, 10))?;
     Ok(())
 }
@@ -139,7 +150,7 @@ static SECOND: &[Step] = &[(8, 1, &[(0, 0, 3)], Ok((1, 8)))];
 
 // Puts the second batch, and compares the view that was taken before.
 fn expect_view_of_first(
-    rt: &impl Abort,
+    rt: &(impl Abort + Eprint),
     alloc: Global,
     setup: &Setup,
     engine: &mut PlainEngine,

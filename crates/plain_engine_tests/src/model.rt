@@ -8,9 +8,11 @@ use cells::Cell;
 use plain_engine::{PlainEngine, PutFault, Status};
 use std::alloc::{AllocError, Global};
 use std::collections::BTreeMap;
+use std::io::Eprint;
 use std::process::Abort;
 use std::random::RandomSource;
 use std::test::Fail;
+use test_support::same;
 
 type Counts = BTreeMap<(u64, u64), u64>;
 
@@ -200,7 +202,7 @@ fn cells_for(
 
 // Compares what both answer to a generated put.
 fn agree_on_put(
-    rt: &impl Abort,
+    rt: &(impl Abort + Eprint),
     alloc: Global,
     setup: &Setup,
     engine: &mut PlainEngine,
@@ -214,23 +216,26 @@ fn agree_on_put(
     let cells = cells_for(alloc, pair, stream.below(5) == 0)?;
     let expected = plain.put(alloc, pair, &cells)?;
     let answer = put(alloc, setup, engine, pair, &cells)?;
-    assert_eq!(rt; answer, expected);
+    assert!(rt; same(rt, &answer, &expected));
     Ok(())
 }
 
 // Compares a row's cells, one column past the last too, and its sum.
-fn agree_on_row(rt: &impl Abort, engine: &PlainEngine, plain: &Plain, row: u64) {
+fn agree_on_row(rt: &(impl Abort + Eprint), engine: &PlainEngine, plain: &Plain, row: u64) {
     for col in 0..COLS + 1 {
-        assert_eq!(rt;
-            engine.cell(row, col),
-            plain.cells.get(&(row, col)).copied()
+        assert!(rt;
+            same(
+                rt,
+                &engine.cell(row, col),
+                &plain.cells.get(&(row, col)).copied()
+            )
         );
     }
     let sum = engine.row(row);
-    assert_eq!(rt; (sum.entries, sum.total), plain.row(row));
+    assert!(rt; same(rt, &(sum.entries, sum.total), &plain.row(row)));
 }
 
-fn agree_on_rows(rt: &impl Abort, engine: &PlainEngine, plain: &Plain) {
+fn agree_on_rows(rt: &(impl Abort + Eprint), engine: &PlainEngine, plain: &Plain) {
     for row in 0..ROWS + 1 {
         agree_on_row(rt, engine, plain, row);
     }
@@ -268,13 +273,13 @@ fn is_line(batch: &Batch, line: &Line) -> bool {
 
 // Compares the batches in order.
 fn agree_on_batches(
-    rt: &impl Abort,
+    rt: &(impl Abort + Eprint),
     alloc: Global,
     engine: &PlainEngine,
     plain: &Plain,
 ) -> Result<(), AllocError> {
     let batches = engine.batches(alloc)?;
-    assert_eq!(rt; batches.len(), plain.lines.len());
+    assert!(rt; same(rt, &batches.len(), &plain.lines.len()));
     for (batch, line) in batches.iter().zip(&plain.lines) {
         assert!(rt; is_line(batch, line));
     }
@@ -290,7 +295,7 @@ fn status_of(plain: &Plain) -> Status {
 
 // Compares all that both hold.
 fn agree_on_all(
-    rt: &impl Abort,
+    rt: &(impl Abort + Eprint),
     alloc: Global,
     engine: &PlainEngine,
     plain: &Plain,
@@ -302,7 +307,7 @@ fn agree_on_all(
 
 // Compares so many generated puts, and the status after each.
 fn agree_on_puts(
-    rt: &impl Abort,
+    rt: &(impl Abort + Eprint),
     alloc: Global,
     setup: &Setup,
     engine: &mut PlainEngine,
@@ -316,12 +321,12 @@ fn agree_on_puts(
     };
     'steps: for _ in 0..steps {
         agree_on_put(rt, alloc, setup, engine, plain, &mut stream)?;
-        assert_eq!(rt; engine.status(), status_of(plain));
+        assert!(rt; same(rt, &engine.status(), &status_of(plain)));
     }
     Ok(())
 }
 
-fn agree<R: RandomSource + Abort>(
+fn agree<R: RandomSource + Abort + Eprint>(
     rt: &R,
     alloc: Global,
     setup: Setup,

@@ -7,9 +7,11 @@ use crate::puts::{Step, engine_of, small_engine_of};
 use batch_store::{Book, Setup, Shard};
 use plain_engine::{PlainEngine, Status, join_parts};
 use std::alloc::Global;
+use std::io::Eprint;
 use std::process::Abort;
 use std::random::RandomSource;
 use std::test::Fail;
+use test_support::same;
 
 fn book_of(engine: PlainEngine) -> Book
     ensures { result.setup ≡ engine.setup }
@@ -26,7 +28,7 @@ fn shards_of(engine: PlainEngine) -> Vec<Shard>
 }
 
 // The book of the engine that has put the batches of a table.
-fn made_book<R: RandomSource + Abort>(
+fn made_book<R: RandomSource + Abort + Eprint>(
     rt: &R,
     alloc: Global,
     setup: Setup,
@@ -39,7 +41,7 @@ fn made_book<R: RandomSource + Abort>(
 }
 
 // Its shards.
-fn made_shards<R: RandomSource + Abort>(
+fn made_shards<R: RandomSource + Abort + Eprint>(
     rt: &R,
     alloc: Global,
     setup: Setup,
@@ -94,7 +96,11 @@ const TURNED: &[Step] = &[
 // A batch without cells is in no record.
 const WITH_EMPTY: &[Step] = &[(7, 1, &[(0, 0, 5)], Ok((0, 5))), (9, 1, &[], Ok((1, 5)))];
 
-fn mixed<R: RandomSource + Abort>(rt: &R, alloc: Global, case: &Case) -> Result<Joined, Fail> {
+fn mixed<R: RandomSource + Abort + Eprint>(
+    rt: &R,
+    alloc: Global,
+    case: &Case,
+) -> Result<Joined, Fail> {
     let setup = small_setup()?;
     let book = made_book(rt, alloc, setup, case.0)?;
     let shards = made_shards(rt, alloc, setup, case.1)?;
@@ -142,7 +148,7 @@ static CASES: &[Case] = &[
 fn records_are_compared_with_the_book(rt: HostRuntime) -> Result<(), Fail> {
     for case in CASES {
         let found = mixed(&rt, rt.alloc(), case)?;
-        assert_eq!(rt; found, case.2);
+        assert!(rt; same(&rt, &found, &case.2));
     }
     Ok(())
 }
@@ -162,7 +168,7 @@ fn part_sizes(engine: PlainEngine) -> (u64, u64, usize) {
 #[test]
 fn an_engine_has_a_book_and_shards(rt: HostRuntime) -> Result<(), Fail> {
     let engine = small_engine_of(&rt, rt.alloc(), TWO)?;
-    assert_eq!(rt; part_sizes(engine), (2, 9, 2));
+    assert!(rt; same(&rt, &part_sizes(engine), &(2, 9, 2)));
     Ok(())
 }
 
@@ -173,7 +179,7 @@ fn parts_make_the_engine_again(rt: HostRuntime) -> Result<(), Fail> {
         batches: 2,
         total: 9,
     };
-    assert_eq!(rt; rejoined(engine), Ok(status));
+    assert!(rt; same(&rt, &rejoined(engine), &Ok(status)));
     Ok(())
 }
 
@@ -187,7 +193,7 @@ fn without_last(engine: PlainEngine) -> Vec<Shard>
 }
 
 // What a book and shards without the last make.
-fn joined_without_last<R: RandomSource + Abort>(
+fn joined_without_last<R: RandomSource + Abort + Eprint>(
     rt: &R,
     alloc: Global,
     setup: Setup,
@@ -200,7 +206,7 @@ fn joined_without_last<R: RandomSource + Abort>(
 #[test]
 fn a_shard_may_be_missing(rt: HostRuntime) -> Result<(), Fail> {
     let found = joined_without_last(&rt, rt.alloc(), small_setup()?)?;
-    assert_eq!(rt; found, Err((0, 1)));
+    assert!(rt; same(&rt, &found, &Err((0, 1))));
     Ok(())
 }
 
@@ -217,7 +223,7 @@ fn turned(alloc: Global, engine: PlainEngine) -> Result<Vec<Shard>, Fail>
 }
 
 // What a book and shards in another order make.
-fn joined_turned<R: RandomSource + Abort>(
+fn joined_turned<R: RandomSource + Abort + Eprint>(
     rt: &R,
     alloc: Global,
     setup: Setup,
@@ -231,6 +237,6 @@ fn joined_turned<R: RandomSource + Abort>(
 #[test]
 fn shards_have_their_places(rt: HostRuntime) -> Result<(), Fail> {
     let found = joined_turned(&rt, rt.alloc(), small_setup()?)?;
-    assert_eq!(rt; found, Err((0, 2)));
+    assert!(rt; same(&rt, &found, &Err((0, 2))));
     Ok(())
 }

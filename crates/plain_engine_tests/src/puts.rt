@@ -8,10 +8,12 @@ use batch_store::{Batch, Setup};
 use plain_engine::PutFault::{BookFull, NumberReused, OverTotal};
 use plain_engine::{PlainEngine, PutFault};
 use std::alloc::{AllocError, Global};
+use std::io::Eprint;
 use std::process::Abort;
 use std::random::RandomSource;
 use std::sync::Arc;
 use std::test::Fail;
+use test_support::same;
 
 /// The place and the total of a kept reply, or why there is none.
 pub type Answer = Result<(u64, u64), PutFault>;
@@ -47,7 +49,7 @@ pub fn put(
 
 /// Puts the batches of a table, and compares each answer.
 pub fn put_all(
-    rt: &impl Abort,
+    rt: &(impl Abort + Eprint),
     alloc: Global,
     setup: &Setup,
     engine: &mut PlainEngine,
@@ -58,13 +60,13 @@ pub fn put_all(
 {
     'steps: for step in steps {
         let answer = put(alloc, setup, engine, (step.0, step.1), step.2)?;
-        assert_eq!(rt; answer, step.3);
+        assert!(rt; same(rt, &answer, &step.3));
     }
     Ok(())
 }
 
 /// The engine that has put the batches of a table.
-pub fn engine_of<R: RandomSource + Abort>(
+pub fn engine_of<R: RandomSource + Abort + Eprint>(
     rt: &R,
     alloc: Global,
     setup: Setup,
@@ -78,7 +80,7 @@ pub fn engine_of<R: RandomSource + Abort>(
 }
 
 // The same of the small setup, but for its limit and the most batches.
-fn small_engine_within<R: RandomSource + Abort>(
+fn small_engine_within<R: RandomSource + Abort + Eprint>(
     rt: &R,
     alloc: Global,
     limit: u64,
@@ -90,7 +92,7 @@ fn small_engine_within<R: RandomSource + Abort>(
 }
 
 /// The same of the small setup.
-pub fn small_engine_of<R: RandomSource + Abort>(
+pub fn small_engine_of<R: RandomSource + Abort + Eprint>(
     rt: &R,
     alloc: Global,
     steps: &[Step],
@@ -164,7 +166,7 @@ fn listed(
 fn a_full_book_knows_its_batches(rt: HostRuntime) -> Result<(), Fail> {
     let engine = small_engine_within(&rt, rt.alloc(), 100, 1, AT_MOST_ONE)?;
     let found = listed(rt.alloc(), &engine)?;
-    assert_eq!(rt; found, (1, Some((7, 1, 5))));
+    assert!(rt; same(&rt, &found, &(1, Some((7, 1, 5)))));
     Ok(())
 }
 
@@ -200,6 +202,6 @@ static GREATEST: &[Step] = &[
 fn the_greatest_total_is_taken(rt: HostRuntime) -> Result<(), Fail> {
     let engine = small_engine_within(&rt, rt.alloc(), u64::MAX, 10, GREATEST)?;
     let total = exported_total(rt.alloc(), &engine)?;
-    assert_eq!(rt; total, u64::MAX);
+    assert!(rt; same(&rt, &total, &u64::MAX));
     Ok(())
 }
