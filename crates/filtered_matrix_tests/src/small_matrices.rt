@@ -25,30 +25,42 @@ static OF_NO_ENTRY: &[(u64, u64)] = &[(0, 0), (0, LAST), (1, 0), (u64::MAX, u64:
 #[test]
 fn the_empty_matrix(rt: HostRuntime) -> Result<(), Fail> {
     let m = FilteredMatrix::with_filter(rt.alloc(), Hyper::new(rt.alloc(), 1, SIDE))?;
-    assert!(rt; m.has_filter());
-    assert!(rt; same(&rt, &first_found(&m, OF_NO_ENTRY), &None));
-    assert!(rt;
-        same(
-            &rt,
-            &(m.matrix().entries(), m.matrix().dims()),
-            &(0, (1, SIDE))
-        )
-    );
+    let size = (m.matrix().entries(), m.matrix().dims());
+    let found = (m.has_filter(), first_found(&m, OF_NO_ENTRY), size);
+    assert!(rt; same(&rt, &found, &(true, None, (0, (1, SIDE)))));
     Ok(())
 }
 
-static CORNERS: [(u64, u64, u64); 4] = [
-    (0, 0, 7),
-    (0, LAST, 0),
-    (LAST, 0, u64::MAX - 9),
-    (LAST, LAST, 2),
+static CORNERS: [Cell; 4] = [
+    Cell {
+        row: 0,
+        col: 0,
+        count: 7,
+    },
+    Cell {
+        row: 0,
+        col: LAST,
+        count: 0,
+    },
+    Cell {
+        row: LAST,
+        col: 0,
+        count: u64::MAX - 9,
+    },
+    Cell {
+        row: LAST,
+        col: LAST,
+        count: 2,
+    },
 ];
 
 // The first corner that doesn't pass the filter or hasn't its count.
-fn first_missed(m: &FilteredMatrix) -> Option<(u64, u64)> {
-    for (row, col, count) in CORNERS {
-        if !m.may_have(row, col) || m.get(row, col) != Some(count) {
-            return Some((row, col));
+fn first_missed(m: &FilteredMatrix) -> Option<Cell> {
+    for corner in &CORNERS {
+        if !m.may_have(corner.row, corner.col)
+            || m.get(corner.row, corner.col) != Some(corner.count)
+        {
+            return Some(*corner);
         }
     }
     None
@@ -66,16 +78,9 @@ fn first_outside(m: &FilteredMatrix) -> Option<(u64, u64)> {
 
 #[test]
 fn the_corners(rt: HostRuntime) -> Result<(), Fail> {
-    let cells = CORNERS.map(|(row, col, count)| Cell { row, col, count });
-    let m = FilteredMatrix::with_filter(rt.alloc(), built(rt.alloc(), &cells)?)?;
-    assert!(rt; same(&rt, &first_missed(&m), &None));
-    assert!(rt; same(&rt, &first_outside(&m), &None));
-    assert!(rt;
-        same(
-            &rt,
-            &(m.matrix().entries(), m.matrix().total()),
-            &(4, u64::MAX)
-        )
-    );
+    let m = FilteredMatrix::with_filter(rt.alloc(), built(rt.alloc(), &CORNERS)?)?;
+    let size = (m.matrix().entries(), m.matrix().total());
+    let found = (first_missed(&m), first_outside(&m), size);
+    assert!(rt; same(&rt, &found, &(None, None, (4, u64::MAX))));
     Ok(())
 }

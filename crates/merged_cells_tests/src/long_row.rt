@@ -44,12 +44,17 @@ fn merged_thirds(alloc: Global) -> Result<Vec<Cell>, Fail> {
     Ok(listed(alloc, &all)?)
 }
 
+// Whether a list is the one expected.
+fn is_expected(alloc: Global, list: &[Cell]) -> Result<bool, AllocError> {
+    let entries = expected(alloc)?;
+    let want = cells_of(alloc, entries.as_slice())?;
+    Ok(list == want.as_slice())
+}
+
 #[test]
 fn a_long_row_is_one_list(rt: HostRuntime) -> Result<(), Fail> {
     let list = merged_thirds(rt.alloc())?;
-    let entries = expected(rt.alloc())?;
-    let want = cells_of(rt.alloc(), entries.as_slice())?;
     assert!(rt; same(&rt, &list.len(), &5_000));
-    assert!(rt; holds_at(&rt, &list, list.as_slice() == want.as_slice()));
+    assert!(rt; holds_at(&rt, &list, is_expected(rt.alloc(), &list)?));
     Ok(())
 }
