@@ -20,7 +20,7 @@ pub fn same<T: PartialEq + Debug>(rt: &impl Eprint, got: &T, want: &T) -> bool
     equal
 }
 
-/// Whether two values are equal. Where they aren't, both are written behind the place, as a table's line.
+/// Whether two values are equal. Where they aren't, both are written, and below them the place, as the row of a table.
 pub fn same_at<P: Debug, T: PartialEq + Debug>(
     rt: &impl Eprint,
     place: &P,
