@@ -27,11 +27,23 @@ pub fn run(rt: &(impl RandomSource + Print), alloc: Global) -> Result<(), Stop> 
     let first = pieces(alloc, SENT, 60)?;
     let second = pieces(alloc, SENT, 60)?;
     let third = pieces(alloc, SENT, 60)?;
-    let is_first_whole = serve(rt, alloc, &mut engine, first)?;
-    let is_second_whole = serve(rt, alloc, &mut engine, second)?;
-    // Where memory was refused in one of them, a new session is answered as if nothing had been.
+    serve_all(rt, alloc, &mut engine, first, second, third)
+}
+
+// Serves the first two of these, and where memory was refused in one of them the third, which is answered as if nothing
+// had been.
+fn serve_all(
+    rt: &impl Print,
+    alloc: Global,
+    engine: &mut PlainEngine,
+    first: Vec<Vec<u8>>,
+    second: Vec<Vec<u8>>,
+    third: Vec<Vec<u8>>,
+) -> Result<(), Stop> {
+    let is_first_whole = serve(rt, alloc, engine, first)?;
+    let is_second_whole = serve(rt, alloc, engine, second)?;
     if !is_first_whole || !is_second_whole {
-        serve(rt, alloc, &mut engine, third)?;
+        serve(rt, alloc, engine, third)?;
     }
     Ok(())
 }
