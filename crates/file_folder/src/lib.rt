@@ -1,4 +1,5 @@
-//! Folders in which a file is made beside another and takes its place, and one in memory that fails where it is told to.
+//! Folders in which a file is made beside another and takes its place, and one in memory that fails where it is told
+//! to.
 #![tactic(auto)]
 
 mod calls;

@@ -13,8 +13,8 @@ use crate::calls::Folder;
 use byte_io::DeviceFault;
 use std::alloc::{AllocError, Global};
 
-/// A folder in memory, which tells its files. One call of it fails, the one that `new` was told, and each for which there
-/// is no memory; a failed call changes no file.
+/// A folder in memory, which tells its files. One call of it fails, the one that `new` was told, and each for which
+/// there is no memory; a failed call changes no file.
 #[derive(Drop)]
 pub struct MemoryFolder {
     alloc: Global,
@@ -108,7 +108,8 @@ fn move_first(
 }
 
 impl MemoryFolder {
-    /// A folder of these files, the first where a name stands twice, whose call number `fail_at`, counted from 0, fails.
+    /// A folder of these files, the first where a name stands twice, whose call number `fail_at`, counted from 0,
+    /// fails.
     ///
     /// What is written is kept in memory of `alloc`, of which this call takes none. After 2^64 - 1 calls they are
     /// counted no further.

@@ -11,8 +11,8 @@ use socket_server::{ServerFault, Settings};
 use std::alloc::{AllocError, Global};
 use std::num::NonZeroU64;
 
-/// The status that a server's fault ends the program with: 2 for settings, 3 for what a snapshot says, 4 for a device, an
-/// address or a thread, 5 for memory, 6 for records that differ.
+/// The status that a server's fault ends the program with: 2 for settings, 3 for what a snapshot says, 4 for a device,
+/// an address or a thread, 5 for memory, 6 for records that differ.
 pub fn status_of(fault: &ServerFault) -> u8
     ensures { result ≡ server_status fault.now }
 {

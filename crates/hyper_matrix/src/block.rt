@@ -57,8 +57,8 @@ fn exchange(shared: &mut Arc<Rows>, rows: &mut Rows) -> bool
     }
 }
 
-// Puts rows in place of those that are shared: by an exchange, or where somebody else has the old ones too by a pointer of
-// their own, and then `rows` gets new room for so many cells.
+// Puts rows in place of those that are shared: by an exchange, or where somebody else has the old ones too by a pointer
+// of their own, and then `rows` gets new room for so many cells.
 fn replace(
     shared: &mut Arc<Rows>,
     alloc: Global,

@@ -318,7 +318,8 @@ impl Layer {
         Ok(Some(self.with_runs(runs, self.counted, self.places)))
     }
 
-    /// The same layer with a filter beside a run that has none and is to have one (`first_unfiltered`). The others are shared.
+    /// The same layer with a filter beside a run that has none and is to have one (`first_unfiltered`). The others are
+    /// shared.
     pub fn filtered(&self, alloc: Global) -> Result<Option<Layer>, AllocError>
         ensures { IfOk result (λ filtered. IfSome filtered (λ layer. layer ≡ self.now)) }
     {

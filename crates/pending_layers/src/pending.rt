@@ -238,8 +238,9 @@ impl PendingLayers {
 
     /// All of it as one list of cells, by row and then by column, each place once.
     ///
-    /// Those that wait are put in order first, in their own memory. The cells of the layers are appended to them, in room
-    /// that is made once and exactly; then the layers' memory is free, and all are merged, in half as much memory again.
+    /// Those that wait are put in order first, in their own memory. The cells of the layers are appended to them, in
+    /// room that is made once and exactly; then the layers' memory is free, and all are merged, in half as much memory
+    /// again.
     ///
     /// # Errors
     ///

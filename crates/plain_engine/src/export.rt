@@ -65,8 +65,8 @@ impl ViewedSum {
         (self.setup.rows(), self.setup.cols())
     }
 
-    /// The way through the cells, by row and then by column, each within the dimensions. It borrows the views, and takes
-    /// all its memory now: some 100 bytes for each of their matrices.
+    /// The way through the cells, by row and then by column, each within the dimensions. It borrows the views, and
+    /// takes all its memory now: some 100 bytes for each of their matrices.
     ///
     /// # Errors
     ///

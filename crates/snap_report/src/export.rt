@@ -44,8 +44,8 @@ fn write_export<W: Sink>(
     }
 }
 
-/// Reads the snapshot under `path`, and writes the canonical text of the sum of its batches: a Matrix Market text in the
-/// dimensions of its setup, with the cells by row and then by column.
+/// Reads the snapshot under `path`, and writes the canonical text of the sum of its batches: a Matrix Market text in
+/// the dimensions of its setup, with the cells by row and then by column.
 ///
 /// Takes the memory of `run_check`, and its time and that of the text's bytes. `w` is not flushed.
 ///

@@ -1,5 +1,5 @@
-//! What is told of a snapshot's file: `run_check` writes one line of its numbers, and `run_export` the canonical text of
-//! the sum of its batches.
+//! What is told of a snapshot's file: `run_check` writes one line of its numbers, and `run_export` the canonical text
+//! of the sum of its batches.
 //!
 //! Both read the file whole and add its batches up before they write. The line and the text are said by
 //! `specs/Checks`, of the setup and the list of batches that the file holds.

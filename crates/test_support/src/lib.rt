@@ -1,7 +1,7 @@
-//! What the tests of the other crates compare values by. Each call answers whether what a test wants holds, and where it
-//! doesn't, writes why to standard error; the test passes the answer to a plain `assert!`, which ends it and names the
-//! line. So the text of a failure is put together here alone, and proved once: `assert_eq!`, and an `assert!` with a
-//! text, are proved anew wherever they stand.
+//! What the tests of the other crates compare values by. Each call answers whether what a test wants holds, and where
+//! it doesn't, writes why to standard error; the test passes the answer to a plain `assert!`, which ends it and names
+//! the line. So the text of a failure is put together here alone, and proved once: `assert_eq!`, and an `assert!` with
+//! a text, are proved anew wherever they stand.
 #![tactic(auto)]
 
 ghost use Rattle.std.specs.Prelude.{◌≡◌};

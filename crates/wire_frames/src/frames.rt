@@ -11,9 +11,10 @@ use std::marker::Model;
 
 /// The bytes that a link gave and that aren't handed out yet. Contracts see them as a list of bytes.
 ///
-/// A Put's text and the cells of a PutCells are a view of the buffer: no byte of it is copied. The buffer grows by doubling, so a frame that comes
-/// in many pieces takes time in proportion to its bytes, and what a header declares takes no memory. As a long frame is
-/// handed out, what is left is moved to a new buffer, so that its memory goes with the last view of it.
+/// A Put's text and the cells of a PutCells are a view of the buffer: no byte of it is copied. The buffer grows by
+/// doubling, so a frame that comes in many pieces takes time in proportion to its bytes, and what a header declares
+/// takes no memory. As a long frame is handed out, what is left is moved to a new buffer, so that its memory goes with
+/// the last view of it.
 #[derive(Drop)]
 pub struct Frames {
     bytes: BytesMut,

@@ -48,8 +48,8 @@ fn cells_in(alloc: Global, bytes: &[u8]) -> Result<Vec<Cell>, AllocError>
 
 /// The batch of the cells of a PutCells, or the first refusal.
 ///
-/// The cells are read where they lie, into one list of their own, and then the body is given back. The list is sorted in
-/// its own memory. A body of too many is refused before anything is read of it.
+/// The cells are read where they lie, into one list of their own, and then the body is given back. The list is sorted
+/// in its own memory. A body of too many is refused before anything is read of it.
 pub fn batch_of_cells(
     alloc: Global,
     setup: &Setup,

@@ -1,10 +1,10 @@
 //! The session that answers the frames of a link.
 //!
-//! A client sends frames, each a header of five bytes and a body, and gets a frame for each. `wire_frames` cuts a stream
-//! into requests and encodes them, `decode_reply` reads what comes back. `serve` is the
-//! loop of one session: it reads, answers every whole request in order, and ends when the link does, at a bad header,
-//! at a `Stop`, or where memory or the link refuses. It works over any `Keeper`, a store that answers calls, and over
-//! any link; what it does is a run of the keeper (specs/Sessions.antt), and whatever the keeper keeps is kept.
+//! A client sends frames, each a header of five bytes and a body, and gets a frame for each. `wire_frames` cuts a
+//! stream into requests and encodes them, `decode_reply` reads what comes back. `serve` is the loop of one session: it
+//! reads, answers every whole request in order, and ends when the link does, at a bad header, at a `Stop`, or where
+//! memory or the link refuses. It works over any `Keeper`, a store that answers calls, and over any link; what it does
+//! is a run of the keeper (specs/Sessions.antt), and whatever the keeper keeps is kept.
 //!
 //! A session has one buffer and one piece of 64 KiB for its reads. A frame's bytes are copied into the buffer once, and
 //! a put's text is read where it lies; replies but texts are made on the stack, and a text is written by a walk over

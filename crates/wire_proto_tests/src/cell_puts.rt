@@ -1,4 +1,5 @@
-//! Puts of cells as numbers: their replies and refusals, cut at each byte, and with each read, write and growth failing.
+//! Puts of cells as numbers: their replies and refusals, cut at each byte, and with each read, write and growth
+//! failing.
 
 use crate::asks::{
     Ask, Ran, Session, cells_frame, check, exchange, expect_run, expect_status, frame, frames,

@@ -18,8 +18,8 @@ const MOST: u64 = 1_152_921_504_606_846_976;
 
 const FIRST: u64 = 1_000_000_000_000_000_000;
 
-// A banner line of 49 bytes, a size line of 48, a line of 42 for each cell with a count of one digit, and eleven further
-// digits in each of the last three make 67,108,864 bytes.
+// A banner line of 49 bytes, a size line of 48, a line of 42 for each cell with a count of one digit, and eleven
+// further digits in each of the last three make 67,108,864 bytes.
 const CELLS: u64 = 1_597_827;
 
 // How many of them are in each of two puts: all but the last three.
