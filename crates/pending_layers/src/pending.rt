@@ -148,9 +148,8 @@ impl PendingLayers {
     /// caller sees to it that they lie within the dimensions and that all counts together stay below 2^64.
     ///
     /// The cells are appended to the list, 24 bytes for each. Where that has come to its bound it is sorted and added
-    /// up first, in as much memory again, which it doesn't take where it is in order by row and then by column; and
-    /// where it then has more than half of the cells that may wait, it becomes a matrix, which is added to the layers
-    /// as `Layers::plan` says.
+    /// up first, in its own memory; and where it then has more than half of the cells that may wait, it becomes a
+    /// matrix, which is added to the layers as `Layers::plan` says.
     ///
     /// # Errors
     ///
