@@ -1,6 +1,9 @@
 pub mod PartLaws
+pub mod SumLaws
 pub mod SetupLaws
 pub mod VerdictLaws
+pub mod TwoLists
+pub mod FoldLaws
 pub mod BookLaws
 pub mod ShardLaws
 pub mod FileLaws

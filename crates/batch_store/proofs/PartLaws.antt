@@ -9,9 +9,12 @@ use Rattle.hyper_matrix.specs.Counts.{Place, Counts, count_sum, total, built, ew
 use Rattle.hyper_matrix.proofs.CountLaws.{parts_whole, total-ewise_add, total-empty}
 use Rattle.hyper_matrix.proofs.PartLaws.{entries-part, built-entries, total-part, total-entries, part_sum-le}
 use Rattle.layer_cascade.proofs.CascadeLaws.{empty-ewise_add}
-use Rattle.batch_store.specs.Batches.{Submission}
+use Rattle.layer_cascade.specs.Cascade.{content}
+use Rattle.batch_store.specs.Batches.{Submission, entries_of}
+use Rattle.batch_store.specs.Accepted.{Accepted, IsBase, total_in}
 use Rattle.batch_store.specs.Books.{list_total}
-use Rattle.batch_store.specs.Parts.{part_of, below, concerns, concerned, list_below, record_content}
+use Rattle.batch_store.specs.Parts.{part_of, below, below_in, concerns, concerned, list_below, parts_of, record_content}
+use Rattle.batch_store.proofs.VerdictLaws.{total_of-append}
 
 -- a part is no more than the whole
 pub part_of-le : (s k : ℕ) (m : Counts) → part_of s k m ≤ total m
@@ -49,36 +52,63 @@ below-suc s k m = ap (λ n. below n k m) {x = s + 1} {y = suc s} (omega arith)
 pub below-all : (k : ℕ) (m : Counts) → 0 < k → below k k m ≡ total m
 below-all k m pos = ap total (parts_whole m k pos)
 
-pub list_below-zero : (k : ℕ) (list : List Submission) → list_below 0 k list ≡ 0
+list_below-zero : (k : ℕ) (list : List Submission) → list_below 0 k list ≡ 0
 list_below-zero k [] = refl
 list_below-zero k (b ∷ bs) = omega (arith, below-zero k b.matrix.counts, list_below-zero k bs)
 
--- a shard more is the content of its record more
-pub list_below-suc : (s k : ℕ) (list : List Submission) →
-    list_below (s + 1) k list ≡ list_below s k list + total (record_content s k list)
+pub below_in-zero : (k : ℕ) (a : Accepted) → below_in 0 k a ≡ 0
+below_in-zero k a = omega (arith, below-zero k a.base, list_below-zero k a.list)
+
+list_below-suc : (s k : ℕ) (list : List Submission) →
+    list_below (s + 1) k list ≡ list_below s k list + total (content (parts_of s k list))
 list_below-suc s k [] = omega (arith, total-empty)
 list_below-suc s k (b ∷ bs) =
     omega (
       arith,
       below-suc s k b.matrix.counts,
       list_below-suc s k bs,
-      total-ewise_add (part b.matrix.counts s k) (record_content s k bs),
+      total-ewise_add (part b.matrix.counts s k) (content (parts_of s k bs)),
     )
 
-pub list_below-all : (k : ℕ) (list : List Submission) → 0 < k → list_below k k list ≡ list_total list
+-- a shard more is the content of its record more
+pub below_in-suc : (s k : ℕ) (a : Accepted) →
+    below_in (s + 1) k a ≡ below_in s k a + total (record_content s k (part a.base s k) a.list)
+below_in-suc s k a =
+    omega (
+      arith,
+      below-suc s k a.base,
+      list_below-suc s k a.list,
+      total-ewise_add (part a.base s k) (content (parts_of s k a.list)),
+    )
+
+list_below-all : (k : ℕ) (list : List Submission) → 0 < k → list_below k k list ≡ list_total list
 list_below-all k [] pos = refl
 list_below-all k (b ∷ bs) pos = omega (arith, below-all k b.matrix.counts pos, list_below-all k bs pos)
 
+pub below_in-all : (k : ℕ) (a : Accepted) → 0 < k → IsBase a.base a.folded → below_in k k a ≡ total_in a
+below_in-all k a pos based =
+    omega (
+      arith,
+      below-all k a.base pos,
+      list_below-all k a.list pos,
+      based.adds_up,
+      total_of-append a.folded (entries_of a.list),
+    )
+
 -- batches with no cell in a shard add nothing
-pub record_content-concerned : (s k : ℕ) (list : List Submission) →
-    record_content s k (concerned s k list) ≡ record_content s k list
-record_content-concerned s k [] = refl
-record_content-concerned s k (b ∷ bs) = by (concerns s k b.matrix.counts) refl (record_content-concerned s k bs)
+parts-concerned : (s k : ℕ) (list : List Submission) →
+    content (parts_of s k (concerned s k list)) ≡ content (parts_of s k list)
+parts-concerned s k [] = refl
+parts-concerned s k (b ∷ bs) = by (concerns s k b.matrix.counts) refl (parts-concerned s k bs)
   where
     by : (x : Bool) → concerns s k b.matrix.counts ≡ x →
-        record_content s k (concerned s k bs) ≡ record_content s k bs →
-        record_content s k (cond x (b ∷ concerned s k bs) (concerned s k bs)) ≡ ewise_add (part b.matrix.counts s k)
-        (record_content s k bs)
+        content (parts_of s k (concerned s k bs)) ≡ content (parts_of s k bs) →
+        content (parts_of s k (cond x (b ∷ concerned s k bs) (concerned s k bs))) ≡ ewise_add (part b.matrix.counts s k)
+        (content (parts_of s k bs))
     by true here rest = ap (ewise_add (part b.matrix.counts s k)) rest
-    by false none rest = rest ∙ sym (empty-ewise_add (record_content s k bs))
-        ∙ ap (λ m. ewise_add m (record_content s k bs)) (sym (part-unconcerned s k b.matrix.counts none))
+    by false none rest = rest ∙ sym (empty-ewise_add (content (parts_of s k bs)))
+        ∙ ap (λ m. ewise_add m (content (parts_of s k bs))) (sym (part-unconcerned s k b.matrix.counts none))
+
+pub record_content-concerned : (s k : ℕ) (base : Counts) (list : List Submission) →
+    record_content s k base (concerned s k list) ≡ record_content s k base list
+record_content-concerned s k base list = ap (ewise_add base) (parts-concerned s k list)

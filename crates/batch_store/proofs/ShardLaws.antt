@@ -6,13 +6,14 @@ use Rattle.std.specs.List.{AllByRecursion}
 use Rattle.std.specs.Arc.{arc_value}
 use Rattle.std.specs.declared.sync.Arc.{Arc}
 use Rattle.std.specs.declared.alloc.Global.{Global}
-use Rattle.std.specs.FinMap.{empty}
+use Rattle.std.specs.FinMap.{empty, len-empty}
 use Rattle.std.specs.Map.{lookup}
 use Rattle.std.proofs.lemmas.List.{map-append}
-use Rattle.hyper_matrix.specs.Counts.{Counts, ewise_add, total, part}
+use Rattle.hyper_matrix.specs.Counts.{Counts, place_cmp, ewise_add, total, part}
+use Rattle.hyper_matrix.specs.Matrix.{Matrix, matrix}
 use Rattle.hyper_matrix.proofs.CountLaws.{ewise_add_assoc, ewise_add-empty, total-ewise_add, total-empty}
 use Rattle.layer_cascade.specs.Cascade.{content, cascade, KeepsCuts}
-use Rattle.layer_cascade.specs.Layering.{Layering, layering, IsLayering, no_layers}
+use Rattle.layer_cascade.specs.Layering.{Layering, layering, no_layers}
 use Rattle.layer_cascade.proofs.CascadeLaws.{content-cascade, cuts-cascade, length-cascade, empty-ewise_add}
 use Rattle.batch_store.specs.declared.pair.Pair.{Pair}
 use Rattle.batch_store.specs.declared.verdict.Entry.{Entry}
@@ -25,6 +26,7 @@ use Rattle.batch_store.specs.Shards.{Holding, holding, Preparation, shard_total,
 use Rattle.batch_store.specs.Shards.{AreKeyed, KeepsShard}
 use Rattle.batch_store.proofs.VerdictLaws.{distinct_nil, distinct_push, same_pair_flips}
 use Rattle.batch_store.proofs.BookLaws.{dims_push}
+use Rattle.batch_store.proofs.SumLaws.{part-empty, record-own}
 
 abbrev pub Held : Type 0
 Held = List (Pair × Arc Submission Global)
@@ -40,10 +42,12 @@ content-push [] m = ewise_add-empty m ∙ sym (empty-ewise_add m)
 content-push (x ∷ xs) m = ap (ewise_add x) (content-push xs m) ∙ sym (ewise_add_assoc x (content xs) m)
 
 -- one batch more adds its part
-pub record_content-push : (s k : ℕ) (list : List Submission) (b : Submission) →
-    record_content s k (list ++ b ∷ []) ≡ ewise_add (record_content s k list) (part b.matrix.counts s k)
-record_content-push s k list b = ap content (map-append (λ (x : Submission). part x.matrix.counts s k) list (b ∷ []))
-    ∙ content-push (parts_of s k list) (part b.matrix.counts s k)
+pub record_content-push : (s k : ℕ) (base : Counts) (list : List Submission) (b : Submission) →
+    record_content s k base (list ++ b ∷ []) ≡ ewise_add (record_content s k base list) (part b.matrix.counts s k)
+record_content-push s k base list b =
+    ap (λ ms. ewise_add base (content ms)) (map-append (λ (x : Submission). part x.matrix.counts s k) list (b ∷ []))
+    ∙ ap (ewise_add base) (content-push (parts_of s k list) (part b.matrix.counts s k))
+    ∙ sym (ewise_add_assoc base (content (parts_of s k list)) (part b.matrix.counts s k))
 
 -- the key that is looked up stands among the batches, or not
 pub stands_is : (p : Pair) (client number : ℕ) (held : Held) → p.client ≡ client → p.number ≡ number → AreKeyed held →
@@ -74,54 +78,131 @@ keyed_push : (held : Held) (e : Pair × Arc Submission Global) → AreKeyed held
 keyed_push [] e h c n = (c, n, tt)
 keyed_push (x ∷ xs) e h c n = (h.0, h.1, keyed_push xs e h.2 c n)
 
+-- empty layers keep any cuts
+keeps_none : (n : ℕ) (cuts : List ℕ) → KeepsCuts (replicate n empty) cuts
+keeps_none zero cuts = tt
+keeps_none (suc n) [] = tt
+keeps_none (suc n) (c ∷ cs) = (omega (arith, len-empty place_cmp ℕ), keeps_none n cs)
+
+abbrev no_layer : Counts
+no_layer = empty
+
+count_none : (n : ℕ) → length (replicate n no_layer) ≡ n
+count_none zero = refl
+count_none (suc n) = ap suc (count_none n)
+
+-- a shard of a base alone, which its layers hold
+begins : (v : Setting) (s : ℕ) (ls : List Counts) (base : Matrix) → IsSetting v → s < v.shards → base.rows ≡ v.rows →
+    base.cols ≡ v.cols → part base.counts s v.shards ≡ base.counts → total base.counts ≤ v.limit →
+    content ls ≡ base.counts → KeepsCuts ls v.cuts → length ls ≡ length v.cuts + 1 →
+    KeepsShard v s (layering v.rows v.cols v.cuts ls) base []
+begins v s ls base sound here rows cols own within held kept count = record {
+  told = record {
+    sound = sound;
+    here = here;
+    sums = held ∙ sym (ewise_add-empty base.counts);
+    own = own;
+    cuts_kept = kept;
+    distinct = distinct_nil;
+    dims = tt;
+    within = omega (arith, ap total held, within);
+  };
+  base_rows = rows;
+  base_cols = cols;
+  rows = refl;
+  cols = refl;
+  cuts = refl;
+  count = count;
+  keyed = tt;
+}
+
 -- a shard without batches
-pub shard_begins : (v : Setting) (s : ℕ) (layers : Layering) (held : Held) (cuts : List ℕ) → IsSetting v →
-    IsLayering layers → s < v.shards → cuts ≡ v.cuts → layers ≡ no_layers v.rows v.cols cuts → held ≡ [] →
-    KeepsShard v s layers held
-shard_begins v s layers held cuts sound kept here is_cuts is none =
-    let is' : layers ≡ no_layers v.rows v.cols v.cuts = is ∙ ap (no_layers v.rows v.cols) is_cuts in
-    let nothing : content layers.layers ≡ empty = ap (λ (l : Layering). content l.layers) is'
-    ∙ content-empty (length v.cuts + 1) in
-    let same : layers.cuts ≡ v.cuts = ap (λ (l : Layering). l.cuts) is' in
-    subst (λ (h : Held). KeepsShard v s layers h) (sym none) (record {
+pub shard_begins : (v : Setting) (s : ℕ) (layers : Layering) (base : Matrix) → IsSetting v → s < v.shards →
+    layers ≡ no_layers v.rows v.cols v.cuts → base ≡ matrix v.rows v.cols empty → KeepsShard v s layers base []
+shard_begins v s layers base sound here is based =
+    subst (λ (l : Layering). KeepsShard v s l base []) (sym is)
+    (subst (λ (m : Matrix). KeepsShard v s (no_layers v.rows v.cols v.cuts) m []) (sym based)
+    (begins v s (replicate (length v.cuts + 1) empty) (matrix v.rows v.cols empty) sound here refl refl
+    (part-empty s v.shards) (omega (arith, total-empty)) (content-empty (length v.cuts + 1))
+    (keeps_none (length v.cuts + 1) v.cuts) (count_none (length v.cuts + 1))))
+
+-- empty layers have nothing
+pub none_held : (v : Setting) (layers : Layering) → layers ≡ no_layers v.rows v.cols v.cuts →
+    total (content layers.layers) ≡ 0
+none_held v layers is = ap (λ (l : Layering). total (content l.layers)) is
+    ∙ ap total (content-empty (length v.cuts + 1)) ∙ total-empty
+
+-- a shard of a base
+pub shard_based : (v : Setting) (s : ℕ) (old plan layers : Layering) (base : Matrix) → IsSetting v → s < v.shards →
+    base.rows ≡ v.rows → base.cols ≡ v.cols → part base.counts s v.shards ≡ base.counts → total base.counts ≤ v.limit →
+    old ≡ no_layers v.rows v.cols v.cuts → plan ≡ record old { layers = cascade old.layers old.cuts base.counts } →
+    layers ≡ plan → KeepsShard v s layers base []
+shard_based v s old plan layers base sound here rows cols own within begun planned is =
+    let none = replicate (length v.cuts + 1) empty in
+    let count = count_none (length v.cuts + 1) in
+    let all = is ∙ planned ∙ ap (λ (l : Layering). record l { layers = cascade l.layers l.cuts base.counts }) begun in
+    subst (λ (l : Layering). KeepsShard v s l base []) (sym all)
+    (begins v s (cascade none v.cuts base.counts) base sound here rows cols own within
+    (content-cascade none v.cuts base.counts count
+    ∙ ap (λ (m : Counts). ewise_add m base.counts) (content-empty (length v.cuts + 1))
+    ∙ empty-ewise_add base.counts)
+    (cuts-cascade none v.cuts base.counts (keeps_none (length v.cuts + 1) v.cuts))
+    (length-cascade none v.cuts base.counts ∙ count))
+
+-- a shard whose base is what its layers hold
+pub shard_rebased : (v : Setting) (s free : ℕ) (layers : Layering) (base new : Matrix) (held none : Held)
+    (x : Holding) → KeepsShard v s layers base held → holding v s layers.layers base.counts (recorded held) free ≡ x →
+    new ≡ matrix x.setup.rows x.setup.cols (content x.layers) → none ≡ [] → KeepsShard v s layers new none
+shard_rebased v s free layers base new held none x keeps view is nothing =
+    let is' : new ≡ matrix v.rows v.cols (content layers.layers) =
+    is ∙ sym (ap (λ (y : Holding). matrix y.setup.rows y.setup.cols (content y.layers)) view) in
+    let h = keeps.told in
+    let counts = ap (λ (m : Matrix). m.counts) is' in
+    subst (KeepsShard v s layers new) (sym nothing) (record {
       told = record {
-        sound = sound;
-        here = here;
-        sums = nothing;
-        cuts_kept = subst (KeepsCuts layers.layers) same kept.kept;
+        sound = h.sound;
+        here = h.here;
+        sums = sym counts ∙ sym (ewise_add-empty new.counts);
+        own = ap (λ (m : Counts). part m s v.shards) (counts ∙ h.sums)
+            ∙ record-own s v.shards base.counts (recorded held) h.own ∙ sym (counts ∙ h.sums);
+        cuts_kept = h.cuts_kept;
         distinct = distinct_nil;
         dims = tt;
-        within = omega (arith, ap total nothing, total-empty);
+        within = h.within;
       };
-      rows = ap (λ (l : Layering). l.rows) is';
-      cols = ap (λ (l : Layering). l.cols) is';
-      cuts = same;
-      count = kept.count ∙ ap (λ (c : List ℕ). length c + 1) same;
+      base_rows = ap (λ (m : Matrix). m.rows) is';
+      base_cols = ap (λ (m : Matrix). m.cols) is';
+      rows = keeps.rows;
+      cols = keeps.cols;
+      cuts = keeps.cuts;
+      count = keeps.count;
       keyed = tt;
     })
 
 -- the record after a batch that wasn't there
-pub held_push : (s : Setting) (n : ℕ) (layers : List Counts) (list : List Submission) (b : Submission) →
-    AreHeld s n layers list → length layers ≡ length s.cuts + 1 → stands b.client b.number list ≡ false →
+pub held_push : (s : Setting) (n : ℕ) (layers : List Counts) (base : Counts) (list : List Submission)
+    (b : Submission) → AreHeld s n layers base list → length layers ≡ length s.cuts + 1 → stands b.client b.number list ≡ false →
     b.matrix.rows ≡ s.rows → b.matrix.cols ≡ s.cols
     → total (content layers) + part_of n s.shards b.matrix.counts ≤ s.limit →
-    AreHeld s n (cascade layers s.cuts (part b.matrix.counts n s.shards)) (list ++ b ∷ [])
-held_push s n layers list b h count absent rows cols fits =
+    AreHeld s n (cascade layers s.cuts (part b.matrix.counts n s.shards)) base (list ++ b ∷ [])
+held_push s n layers base list b h count absent rows cols fits =
     let m = part b.matrix.counts n s.shards in
     let added = content-cascade layers s.cuts m count in
     let more : entries_of (list ++ b ∷ []) ≡ entries_of list ++ entry_of b ∷ [] = map-append entry_of list (b ∷ []) in
     record {
       sound = h.sound;
       here = h.here;
-      sums = added ∙ ap (λ x. ewise_add x m) h.sums ∙ sym (record_content-push n s.shards list b);
+      sums = added ∙ ap (λ x. ewise_add x m) h.sums ∙ sym (record_content-push n s.shards base list b);
+      own = h.own;
       cuts_kept = cuts-cascade layers s.cuts m h.cuts_kept;
       distinct = rw more (distinct_push (entries_of list) (entry_of b) h.distinct (none_stands b list absent));
       dims = dims_push s.rows s.cols list b h.dims rows cols;
       within = omega (arith, ap total added, total-ewise_add (content layers) m, fits);
     }
 
-module _ (s : Setting) (n free : ℕ) (layers : Layering) (held : Held) (v : Holding)
-    (keeps : KeepsShard s n layers held) (view : holding s n layers.layers (recorded held) free ≡ v) where
+module _ (s : Setting) (n free : ℕ) (layers : Layering) (base : Matrix) (held : Held) (v : Holding)
+    (keeps : KeepsShard s n layers base held)
+    (view : holding s n layers.layers base.counts (recorded held) free ≡ v) where
   -- a pair that isn't in the record is under no key
   pub absent_held : (p : Pair) (q : Preparation) → p.client ≡ q.batch.client → p.number ≡ q.batch.number →
       stands q.batch.client q.batch.number v.record_list ≡ false → lookup (same_key p) held ≡ None
@@ -131,20 +212,20 @@ module _ (s : Setting) (n free : ℕ) (layers : Layering) (held : Held) (v : Hol
 
   -- what the shard will keep once a preparation is put in place
   pub held_after : (q : Preparation) → IsReady v q → AreHeld v.setup v.number
-      (cascade v.layers v.setup.cuts (part q.batch.matrix.counts v.number v.setup.shards))
+      (cascade v.layers v.setup.cuts (part q.batch.matrix.counts v.number v.setup.shards)) v.base
       (v.record_list ++ q.batch ∷ [])
   held_after q ready =
       let r = subst (λ (w : Holding). IsReady w q) (sym view) ready in
       subst (λ (w : Holding). AreHeld w.setup w.number
-      (cascade w.layers w.setup.cuts (part q.batch.matrix.counts w.number w.setup.shards))
+      (cascade w.layers w.setup.cuts (part q.batch.matrix.counts w.number w.setup.shards)) w.base
       (w.record_list ++ q.batch ∷ [])) view
-      (held_push s n layers.layers (recorded held) q.batch keeps.told keeps.count r.absent r.rows r.cols
+      (held_push s n layers.layers base.counts (recorded held) q.batch keeps.told keeps.count r.absent r.rows r.cols
       (omega (arith, r.fits, r.amount)))
 
   -- the shard after a preparation was put in place
   module _ (q : Preparation) (ready : IsReady v q) (after plan : Layering) (told : plan ≡ q.planned)
       (is : after ≡ plan) where
-    ready_now : IsReady (holding s n layers.layers (recorded held) free) q
+    ready_now : IsReady (holding s n layers.layers base.counts (recorded held) free) q
     ready_now = subst (λ (w : Holding). IsReady w q) (sym view) ready
 
     after_is : after ≡ layering s.rows s.cols s.cuts
@@ -162,7 +243,7 @@ module _ (s : Setting) (n free : ℕ) (layers : Layering) (held : Held) (v : Hol
 
     pub keeps_committed : (held' : Held) (p : Pair) (batch : Arc Submission Global) → arc_value batch ≡ q.batch →
         p.client ≡ q.batch.client → p.number ≡ q.batch.number → held' ≡ held ++ (p, batch) ∷ [] →
-        KeepsShard s n after held'
+        KeepsShard s n after base held'
     keeps_committed held' p batch same client number more =
         let r = ready_now in
         let list : recorded held' ≡ recorded held ++ q.batch ∷ [] = ap recorded more
@@ -170,10 +251,12 @@ module _ (s : Setting) (n free : ℕ) (layers : Layering) (held : Held) (v : Hol
         ∙ ap (λ (b : Submission). recorded held ++ b ∷ []) same in
         let layers' = ap (λ (l : Layering). l.layers) after_is in
         record {
-          told = subst (λ (bs : List Submission). AreHeld s n after.layers bs) (sym list)
-              (subst (λ (l : List Counts). AreHeld s n l (recorded held ++ q.batch ∷ [])) (sym layers')
-              (held_push s n layers.layers (recorded held) q.batch keeps.told keeps.count r.absent r.rows r.cols
+          told = subst (λ (bs : List Submission). AreHeld s n after.layers base.counts bs) (sym list)
+              (subst (λ (l : List Counts). AreHeld s n l base.counts (recorded held ++ q.batch ∷ [])) (sym layers')
+              (held_push s n layers.layers base.counts (recorded held) q.batch keeps.told keeps.count r.absent r.rows r.cols
               (omega (arith, r.fits, r.amount))));
+          base_rows = keeps.base_rows;
+          base_cols = keeps.base_cols;
           rows = ap (λ (l : Layering). l.rows) after_is;
           cols = ap (λ (l : Layering). l.cols) after_is;
           cuts = ap (λ (l : Layering). l.cuts) after_is;

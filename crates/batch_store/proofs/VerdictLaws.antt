@@ -84,3 +84,8 @@ distinct_push (e ∷ es) b h none = (
 pub total_push : (es : List Entry) (b : Entry) → total_of_entries (es ++ b ∷ []) ≡ total_of_entries es + b.total
 total_push [] b = omega arith
 total_push (e ∷ es) b = omega (arith, total_push es b)
+
+pub total_of-append : (xs ys : List Entry) →
+    total_of_entries (xs ++ ys) ≡ total_of_entries xs + total_of_entries ys
+total_of-append [] ys = omega arith
+total_of-append (x ∷ xs) ys = omega (arith, total_of-append xs ys)

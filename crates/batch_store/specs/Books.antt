@@ -1,34 +1,62 @@
 -- What contracts see of a book, and what it keeps.
---     Register        the setup, the accepted batches in order, and for how many more there is room without memory
---     list_total      the sum of the totals of a list of batches
---     AreAccepted     no client and number stands twice, each batch has the setup's dimensions, and both limits hold
+--     Register        the setup, what was accepted, and for how many more batches there is room without memory
+--     AreAccepted     no client and number stands twice, folded or not, each batch that isn't folded has the setup's
+--                     dimensions, both limits hold, and the base is that of the folded batches
 --     verdict_on      the verdict of a book on a batch
+--     list_total      the sum of the totals of a list of batches
+--     Listing         a list of what was accepted, as it is handed out: the base is a matrix
 --     KeepsBook       what a book's fields keep: all that, beside each batch its pair and the total up to it, and the
 --                     total of all
-use Rattle.std.specs.Prelude.{◌≡◌, ℕ, ◌+◌, ◌≤◌, Bool, ◌==◌, ◌&&◌, List, [], ◌∷◌, length, map, refl}
+use Rattle.std.specs.Prelude.{◌≡◌, ℕ, ◌+◌, ◌≤◌, Bool, ◌==◌, ◌&&◌, List, [], ◌∷◌, map, refl}
 use Rattle.std.specs.Coded.{Coded, code_by, coded×, coded_ℕ, coded_list}
 use Rattle.std.specs.List.{IsDistinct}
 use Rattle.std.specs.Arc.{arc_value}
+use Rattle.hyper_matrix.specs.Matrix.{Matrix, matrix, coded_matrix}
 use Rattle.batch_store.specs.declared.pair.Pair.{Pair}
 use Rattle.batch_store.specs.declared.line.Line.{Line}
 use Rattle.batch_store.specs.Setups.{Setting, coded_setting, IsSetting}
 use Rattle.batch_store.specs.Batches.{Submission, coded_submission, batch_total, entry_of, entries_of}
+use Rattle.batch_store.specs.declared.verdict.Entry.{Entry}
 use Rattle.batch_store.specs.declared.verdict.Verdict.{Verdict}
-use Rattle.batch_store.specs.Verdicts.{total_of_entries, same_pair, verdict_of}
+use Rattle.batch_store.specs.Verdicts.{coded_entry, total_of_entries, same_pair, verdict_of}
+use Rattle.batch_store.specs.Accepted.{Accepted, accepted, coded_accepted, entries_in, count_in, total_in, IsBase}
+use Rattle.batch_store.specs.Folds.{Fold}
 
 pub record Register : Type 0 where
   pub setup : Setting
-  pub list : List Submission
+  pub state : Accepted
   pub free : ℕ
 
-abbrev pub register : Setting → List Submission → ℕ → Register
-register s l f = record { setup = s; list = l; free = f }
+abbrev pub register : Setting → Accepted → ℕ → Register
+register s a f = record { setup = s; state = a; free = f }
 
 abbrev pub coded_register : Coded Register
 coded_register =
-    code_by (Setting × (List Submission × ℕ)) (coded× coded_setting (coded× (coded_list coded_submission) coded_ℕ))
-    (λ v. (v.setup, (v.list, v.free))) (λ p. register p.0 p.1.0 p.1.1) (λ _. refl)
+    code_by (Setting × (Accepted × ℕ)) (coded× coded_setting (coded× coded_accepted coded_ℕ))
+    (λ v. (v.setup, (v.state, v.free))) (λ p. register p.0 p.1.0 p.1.1) (λ _. refl)
 
+pub record Listing : Type 0 where
+  pub base : Matrix
+  pub folded : List Entry
+  pub list : List Submission
+
+abbrev pub listing : Matrix → List Entry → List Submission → Listing
+listing base folded list = record { base = base; folded = folded; list = list }
+
+abbrev pub coded_listing : Coded Listing
+coded_listing =
+    code_by (Matrix × (List Entry × List Submission))
+    (coded× coded_matrix (coded× (coded_list coded_entry) (coded_list coded_submission)))
+    (λ v. (v.base, (v.folded, v.list))) (λ p. listing p.0 p.1.0 p.1.1) (λ _. refl)
+
+-- what a list tells, and the list that tells it under a setup
+abbrev pub accepted_in : Listing → Accepted
+accepted_in v = accepted v.base.counts v.folded v.list
+
+abbrev pub listed_in : Setting → Accepted → Listing
+listed_in s a = listing (matrix s.rows s.cols a.base) a.folded a.list
+
+-- the totals of a list of batches together
 abbrev pub list_total : List Submission → ℕ
 list_total list = total_of_entries (entries_of list)
 
@@ -41,15 +69,16 @@ abbrev pub HaveDims : ℕ → ℕ → List Submission → Type 0
 HaveDims r c [] = Unit {0}
 HaveDims r c (b ∷ bs) = (b.matrix.rows ≡ r) × (b.matrix.cols ≡ c) × HaveDims r c bs
 
-pub record AreAccepted (setup : Setting) (list : List Submission) : Type 0 where
+pub record AreAccepted (setup : Setting) (a : Accepted) : Type 0 where
   pub sound : IsSetting setup
-  pub distinct : AreDistinct list
-  pub dims : HaveDims setup.rows setup.cols list
-  pub few : length list ≤ setup.max_batches
-  pub within : list_total list ≤ setup.limit
+  pub distinct : IsDistinct same_pair (entries_in a)
+  pub dims : HaveDims setup.rows setup.cols a.list
+  pub few : count_in a ≤ setup.max_batches
+  pub within : total_in a ≤ setup.limit
+  pub based : IsBase a.base a.folded
 
 abbrev pub verdict_on : Register → Submission → Verdict
-verdict_on v b = verdict_of v.setup.limit v.setup.max_batches (entries_of v.list) (entry_of b)
+verdict_on v b = verdict_of v.setup.limit v.setup.max_batches (entries_in v.state) (entry_of b)
 
 -- whether two keys are the same
 abbrev pub same_key : Pair → Pair → Bool
@@ -66,7 +95,13 @@ AreLines total (e ∷ es) =
     × (e.1.total_after ≡ total + batch_total (arc_value e.1.batch))
     × AreLines (total + batch_total (arc_value e.1.batch)) es
 
-pub record KeepsBook (setup : Setting) (total : ℕ) (lines : List (Pair × Line)) : Type 0 where
-  pub told : AreAccepted setup (batches_of lines)
-  pub kept : AreLines 0 lines
-  pub adds_up : total ≡ list_total (batches_of lines)
+-- what folded batches and lines tell together
+abbrev pub state_of : Fold → List (Pair × Line) → Accepted
+state_of past lines = accepted past.base.counts past.entries (batches_of lines)
+
+pub record KeepsBook (setup : Setting) (total : ℕ) (past : Fold) (lines : List (Pair × Line)) : Type 0 where
+  pub told : AreAccepted setup (state_of past lines)
+  pub rows : past.base.rows ≡ setup.rows
+  pub cols : past.base.cols ≡ setup.cols
+  pub kept : AreLines (total_of_entries past.entries) lines
+  pub adds_up : total ≡ total_in (state_of past lines)

@@ -1,8 +1,9 @@
 -- What contracts see of a shard, what it keeps, and when it may take in what was prepared.
---     Holding         the setup, the shard's number, what each layer holds, the batches of the record in order, and for
---                     how many more the record has room without memory
---     AreHeld         the layers add up to the parts of the record's batches, each layer but the last keeps its cut, no
---                     client and number stands twice, each batch has the setup's dimensions, and the limit holds
+--     Holding         the setup, the shard's number, what each layer holds, the base, the batches of the record in
+--                     order, and for how many more the record has room without memory
+--     AreHeld         the layers add up to the base and the parts of the record's batches, each layer but the last
+--                     keeps its cut, no client and number stands twice in the record, each batch has the setup's
+--                     dimensions, the base's rows are the shard's own, and the limit holds
 --     Preparation     a batch, the total of its part, and the layers with the part
 --     IsReady         this preparation is of the shard as it is now, and may be committed
 --     Refuses         why a shard can't take a batch
@@ -31,19 +32,20 @@ pub record Holding : Type 0 where
   pub setup : Setting
   pub number : ℕ
   pub layers : List Counts
+  pub base : Counts
   pub record_list : List Submission
   pub free : ℕ
 
-abbrev pub holding : Setting → ℕ → List Counts → List Submission → ℕ → Holding
-holding s n l r f = record { setup = s; number = n; layers = l; record_list = r; free = f }
+abbrev pub holding : Setting → ℕ → List Counts → Counts → List Submission → ℕ → Holding
+holding s n l b r f = record { setup = s; number = n; layers = l; base = b; record_list = r; free = f }
 
 abbrev pub coded_holding : Coded Holding
 coded_holding =
-    code_by (Setting × (ℕ × (List Counts × (List Submission × ℕ))))
-    (coded× coded_setting
-    (coded× coded_ℕ (coded× (coded_list coded_counts) (coded× (coded_list coded_submission) coded_ℕ))))
-    (λ v. (v.setup, (v.number, (v.layers, (v.record_list, v.free)))))
-    (λ p. holding p.0 p.1.0 p.1.1.0 p.1.1.1.0 p.1.1.1.1) (λ _. refl)
+    code_by (Setting × (ℕ × (List Counts × (Counts × (List Submission × ℕ)))))
+    (coded× coded_setting (coded× coded_ℕ
+    (coded× (coded_list coded_counts) (coded× coded_counts (coded× (coded_list coded_submission) coded_ℕ)))))
+    (λ v. (v.setup, (v.number, (v.layers, (v.base, (v.record_list, v.free))))))
+    (λ p. holding p.0 p.1.0 p.1.1.0 p.1.1.1.0 p.1.1.1.1.0 p.1.1.1.1.1) (λ _. refl)
 
 -- the total of what a shard's layers hold
 abbrev pub shard_total : Holding → ℕ
@@ -66,6 +68,7 @@ pub record Stays (old new : Holding) : Type 0 where
   pub setup : new.setup ≡ old.setup
   pub number : new.number ≡ old.number
   pub layers : new.layers ≡ old.layers
+  pub base : new.base ≡ old.base
   pub record_list : new.record_list ≡ old.record_list
   pub room : old.free ≤ new.free
 
@@ -81,11 +84,13 @@ layering_of v = layering v.setup.rows v.setup.cols v.setup.cuts v.layers
 abbrev pub layering_with : Holding → Submission → Layering
 layering_with v b = layering v.setup.rows v.setup.cols v.setup.cuts (cascade v.layers v.setup.cuts (part_in v b))
 
--- the layers and the record of a shard
-pub record AreHeld (setup : Setting) (number : ℕ) (layers : List Counts) (list : List Submission) : Type 0 where
+-- the layers, the base and the record of a shard
+pub record AreHeld (setup : Setting) (number : ℕ) (layers : List Counts) (base : Counts)
+    (list : List Submission) : Type 0 where
   pub sound : IsSetting setup
   pub here : number < setup.shards
-  pub sums : content layers ≡ record_content number setup.shards list
+  pub sums : content layers ≡ record_content number setup.shards base list
+  pub own : part base number setup.shards ≡ base
   pub cuts_kept : KeepsCuts layers setup.cuts
   pub distinct : AreDistinct list
   pub dims : HaveDims setup.rows setup.cols list
@@ -141,9 +146,11 @@ AreKeyed [] = Unit {0}
 AreKeyed (e ∷ es) =
     (e.0.client ≡ (arc_value e.1).client) × (e.0.number ≡ (arc_value e.1).number) × AreKeyed es
 
-pub record KeepsShard (setup : Setting) (number : ℕ) (layers : Layering)
+pub record KeepsShard (setup : Setting) (number : ℕ) (layers : Layering) (base : Matrix)
     (held : List (Pair × Arc Submission Global)) : Type 0 where
-  pub told : AreHeld setup number layers.layers (recorded held)
+  pub told : AreHeld setup number layers.layers base.counts (recorded held)
+  pub base_rows : base.rows ≡ setup.rows
+  pub base_cols : base.cols ≡ setup.cols
   pub rows : layers.rows ≡ setup.rows
   pub cols : layers.cols ≡ setup.cols
   pub cuts : layers.cuts ≡ setup.cuts

@@ -5,9 +5,13 @@
 --         the batch's pass the limit; else BookFull where the list has as many entries as it may; else Fresh
 --     IsVerdict limit most es b r
 --         the same told by what each verdict means, in any order
+--     coded_entry, total_of_entries
+--         how entries are told apart, and the totals of a list of them together
 -- All numbers are whole numbers: no sum wraps.
 use Rattle.std.specs.Prelude.{◌≡◌, ℕ, ◌+◌, ◌<◌, ◌≤◌, Bool, ◌==◌, ◌&&◌, nat_lt, nat_le, if◌then◌else◌, List, [], ◌∷◌}
 use Rattle.std.specs.Prelude.{length, take, map, position, slice_index_or, slice_get, Option, Some, None, Contains}
+use Rattle.std.specs.Prelude.{refl}
+use Rattle.std.specs.Coded.{Coded, code_by, coded×, coded_ℕ}
 use Rattle.batch_store.specs.declared.verdict.Entry.{Entry}
 use Rattle.batch_store.specs.declared.verdict.Kept.{Kept}
 use Rattle.batch_store.specs.declared.verdict.Verdict.{Verdict}
@@ -15,6 +19,12 @@ use Rattle.batch_store.specs.declared.verdict.Verdict.TheVariants.{Fresh, Known,
 
 abbrev pub kept : ℕ → ℕ → Kept
 kept index total = record { index = index; total_after = total }
+
+abbrev pub coded_entry : Coded Entry
+coded_entry =
+    code_by (ℕ × (ℕ × (ℕ × ℕ))) (coded× coded_ℕ (coded× coded_ℕ (coded× coded_ℕ coded_ℕ)))
+    (λ e. (e.client, (e.number, (e.cells, e.total))))
+    (λ p. record { client = p.0; number = p.1.0; cells = p.1.1.0; total = p.1.1.1 }) (λ _. refl)
 
 -- the totals of a list together; a recursion from the front, since std's `sum` is a fold from the left
 abbrev pub total_of_entries : List Entry → ℕ

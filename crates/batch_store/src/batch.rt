@@ -4,7 +4,7 @@ ghost use Rattle.std.specs.Arc.{arc_value};
 ghost use Rattle.hyper_matrix.specs.Counts.{total as total_of};
 ghost use Rattle.hyper_matrix.specs.Cells.{built_of, cell_total};
 ghost use Rattle.hyper_matrix.specs.Matrix.{matrix};
-ghost use Rattle.batch_store.specs.Batches.{submission, batch_total};
+ghost use Rattle.batch_store.specs.Batches.{submission, batch_total, entry_of};
 ghost use Rattle.batch_store.specs.Parts.{concerns};
 ghost use Rattle.batch_store.specs.Files.{Fits, RefusesCells, RefusesFile};
 ghost use Rattle.batch_store.specs.Lists.{MakesBatch, RefusesList};
@@ -15,6 +15,7 @@ use crate::given::given_list_matrix;
 use crate::listed::list_matrix;
 use crate::part::has_part;
 use crate::setup::Setup;
+use crate::verdict::Entry;
 use cells::Cell;
 use hyper_matrix::{BuildFault, Hyper};
 use mm_text::MmFile;
@@ -177,6 +178,18 @@ impl Batch {
         match Arc::new(alloc, batch) {
             Ok(b) => Ok(b),
             Err(_) => Err(CellsFault::Memory),
+        }
+    }
+
+    /// What a verdict reads of the batch: whose it is, and its size. Constant time.
+    pub fn entry(&self) -> Entry
+        ensures { result ≡ entry_of self.now }
+    {
+        Entry {
+            client: self.client,
+            number: self.number,
+            cells: self.matrix.entries(),
+            total: self.total,
         }
     }
 

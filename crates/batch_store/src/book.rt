@@ -1,20 +1,28 @@
-//! The book of accepted batches: a map from client and number to the batch and its reply, in the order of acceptance.
+//! The book of accepted batches: a map from client and number to the batch and its reply, in the order of acceptance,
+//! behind what is kept of the batches that were folded.
 //!
-//! A verdict is one look-up. The keys are hashed with a seed drawn for each book, since clients choose them. What a
-//! reply tells is kept beside its batch, so no call but `list` walks over the book.
-ghost use Rattle.std.specs.Prelude.{◌≡◌, ℕ, ◌+◌, ◌<◌, ◌≤◌, ◌^◌, ◌++◌, [], ◌∷◌, IfOk, OnOk, None, length, slice_get};
+//! A verdict is one look-up, and one more where batches are folded. The keys are hashed with seeds drawn for each book,
+//! since clients choose them. What a reply tells is kept beside its batch, so no call but `list`, `book_list` and `fold`
+//! walks over the book.
+ghost use Rattle.std.specs.Prelude.{◌≡◌, ℕ, ◌+◌, ◌<◌, ◌≤◌, ◌^◌, ◌++◌, [], ◌∷◌, IfOk, OnOk, OnErr, None, length, slice_get};
 ghost use Rattle.std.specs.Option.{option_map};
 ghost use Rattle.std.specs.Arc.{arc_value};
-ghost use Rattle.batch_store.specs.Batches.{entry_of, batch_total, values};
-ghost use Rattle.batch_store.specs.Verdicts.{verdict_on_new, repeat_of, kept};
+ghost use Rattle.hyper_matrix.specs.Matrix.{matrix};
+ghost use Rattle.batch_store.specs.Accepted.{accepted, unfolded, entries_in, count_in, total_in, with_batch};
+ghost use Rattle.batch_store.specs.Accepted.{folded_into, batch_at, summed};
+ghost use Rattle.batch_store.specs.Batches.{entry_of, entries_of, batch_total, values};
+ghost use Rattle.batch_store.specs.Verdicts.{verdict_on_new, kept};
 ghost use Rattle.indexmap.specs.IndexMap.{get, spare};
-ghost use Rattle.batch_store.specs.Books.{AreAccepted, list_total, same_key, batches_of, verdict_on};
+ghost use Rattle.batch_store.specs.Books.{AreAccepted, same_key, batches_of, verdict_on, listed_in};
 
 use crate::batch::Batch;
+use crate::book_list::BookList;
+use crate::folded::{Folded, repeated};
 use crate::line::Line;
 use crate::pair::Pair;
 use crate::setup::Setup;
-use crate::verdict::{Kept, Verdict};
+use crate::verdict::{Entry, Kept, Verdict};
+use hyper_matrix::Hyper;
 use indexmap::IndexMap;
 use std::alloc::{AllocError, Global};
 use std::collections::hash_map::RandomState;
@@ -24,41 +32,29 @@ use std::sync::Arc;
 
 /// The batches in the order in which they were accepted, each with its reply.
 ///
-/// Contracts see the setup, the list of batches, and how many more the book takes without memory. No client and number
-/// stands twice, each batch has the setup's dimensions, and both limits of the setup hold. The batches are shared with
-/// whoever else has them; beside each the book takes some 50 bytes.
+/// Contracts see the setup, what was accepted, and how many batches more the book takes without memory. No client and
+/// number stands twice, each batch that isn't folded has the setup's dimensions, and both limits of the setup hold. The
+/// batches are shared with whoever else has them; beside each the book takes some 50 bytes. Of a folded batch some 60
+/// bytes are all that is kept.
 #[derive(Drop)]
 pub struct Book {
     setup: Setup,
     total: u64,
+    past: Folded,
     lines: IndexMap<Pair, Line, RandomState>,
 }
 
 impl Model for Book {
     ghost use Rattle.indexmap.specs.IndexMap.{spare};
-    ghost use Rattle.batch_store.specs.Books.{Register, register, coded_register, batches_of, KeepsBook};
+    ghost use Rattle.batch_store.specs.Books.{Register, register, coded_register, state_of, KeepsBook};
 
     ghost Value = { Register };
 
     ghost coded = { coded_register };
 
-    ghost view = { λ a. register a.setup (batches_of a.lines.entries) (spare a.lines) };
+    ghost view = { λ a. register a.setup (state_of a.past a.lines.entries) (spare a.lines) };
 
-    ghost invariant = { λ a. KeepsBook a.setup a.total a.lines.entries };
-}
-
-// What a repeat of a pair is answered.
-fn repeated(a: &Batch, b: &Batch, index: u64, after: u64) -> Verdict
-    ensures { result ≡ repeat_of (entry_of a.now) (entry_of b.now) index after }
-{
-    if a.matrix.entries() == b.matrix.entries() && a.total == b.total {
-        Verdict::Known(Kept {
-            index,
-            total_after: after,
-        })
-    } else {
-        Verdict::NumberReused
-    }
+    ghost invariant = { λ a. KeepsBook a.setup a.total a.past a.lines.entries };
 }
 
 // What a new pair is answered, where `count` batches were accepted, with this total.
@@ -76,64 +72,121 @@ fn judged_new(limit: u64, most: u64, count: u64, total: u64, b: &Batch) -> Verdi
 }
 
 impl Book {
-    /// An empty book. It draws the seed of its hasher from the system, and takes no memory.
+    /// An empty book. It takes memory for an empty base, and draws the seeds of its hashers from the system.
     ///
     /// # Errors
     ///
-    /// The system gave no seed.
+    /// A growth was refused, or the system gave no seed.
     pub fn new(rt: &impl RandomSource, alloc: Global, setup: &Setup) -> Result<Book, AllocError>
         ensures setup { IfOk result (λ b. b.setup ≡ setup.now) }
-        ensures empty { IfOk result (λ b. b.list ≡ []) }
+        ensures empty { IfOk result (λ b. b.state ≡ unfolded []) }
     {
-        // Any call on it tells that its values lie within their ranges.
+        let base = Arc::new(alloc, Hyper::new(alloc, setup.rows(), setup.cols()))?;
+        Book::with_folded(rt, alloc, setup, base, &[])
+    }
+
+    /// A book of folded batches alone: their base, and their entries in the order of their acceptance. Takes the time
+    /// of a look-up for each, and some 60 bytes.
+    ///
+    /// The caller sees to what a book keeps: the base's dimensions and total, distinct clients and numbers, and the
+    /// setup's limits.
+    ///
+    /// # Errors
+    ///
+    /// A growth was refused, or the system gave no seed.
+    pub fn with_folded(
+        rt: &impl RandomSource,
+        alloc: Global,
+        setup: &Setup,
+        base: Arc<Hyper>,
+        folded: &[Entry],
+    ) -> Result<Book, AllocError>
+        requires accepted { AreAccepted setup.now (accepted (arc_value base).counts folded.now []) }
+        requires rows { (arc_value base).rows ≡ setup.now.rows }
+        requires cols { (arc_value base).cols ≡ setup.now.cols }
+        ensures setup { IfOk result (λ b. b.setup ≡ setup.now) }
+        ensures state { IfOk result (λ b. b.state ≡ accepted (arc_value base).counts folded.now []) }
+    {
+        // It bounds the total.
         let _limit = setup.limit();
+        let mut past = Folded::new(rt, alloc, base)?;
+        past.reserve(folded.len())?;
+        past.push_all(folded);
         match RandomState::new(rt) {
             Ok(hasher) => Ok(Book {
                 setup: *setup,
-                total: 0,
+                total: past.total(),
+                past,
                 lines: IndexMap::with_hasher(alloc, hasher),
             }),
             Err(_) => Err(AllocError),
         }
     }
 
-    /// The verdict on a batch, by one look-up, in whole numbers: no sum wraps. Takes no memory.
+    /// The verdict on a batch, by one look-up, and one more where batches are folded, in whole numbers: no sum wraps.
+    /// Takes no memory.
     ///
     /// If the batch's client and number stand in the book: `Known` with the reply of then, where the batch has as many
     /// cells and the same total, else `NumberReused`; the cells aren't compared one by one. If they are new:
     /// `OverTotal` where the accepted total and the batch's pass the limit, else `BookFull` where there are
-    /// `max_batches`, else `Fresh`.
+    /// `max_batches`, else `Fresh`. Folded batches count as the others do.
     pub fn look(&self, b: &Batch) -> Verdict
         ensures { result ≡ verdict_on self.now b.now }
     {
+        if let Some(verdict) = self.past.repeat(b) {
+            return verdict;
+        }
         let pair = Pair {
             client: b.client,
             number: b.number,
         };
+        let count = self.len();
         match self.lines.get_full(&pair) {
-            Some((index, _, line)) => repeated(&line.batch, b, index as u64, line.total_after),
+            Some((index, _, line)) => {
+                let kept = Kept {
+                    index: self.past.len() + index as u64,
+                    total_after: line.total_after,
+                };
+                repeated(line.batch.matrix.entries(), line.batch.total, b, kept)
+            }
             None => judged_new(
                 self.setup.limit(),
                 self.setup.max_batches(),
-                self.lines.len() as u64,
+                count,
                 self.total,
                 b,
             ),
         }
     }
 
-    /// The number of batches. Constant time.
+    /// The number of batches, folded or not. Constant time.
     pub fn len(&self) -> u64
-        ensures value { result ≡ length self.now.list }
-        ensures kept { AreAccepted self.now.setup self.now.list }
+        ensures value { result ≡ count_in self.now.state }
+        ensures kept { AreAccepted self.now.setup self.now.state }
     {
-        self.lines.len() as u64
+        // It bounds their number.
+        let _most = self.setup.max_batches();
+        self.past.len() + self.lines.len() as u64
+    }
+
+    /// The number of folded batches. Constant time.
+    pub fn folded(&self) -> u64
+        ensures { result ≡ length self.now.state.folded }
+    {
+        self.past.len()
+    }
+
+    /// The sum of the folded batches, shared. Constant time.
+    pub fn base(&self) -> &Arc<Hyper>
+        ensures { arc_value result.now ≡ matrix self.now.setup.rows self.now.setup.cols self.now.state.base }
+    {
+        self.past.base()
     }
 
     /// The accepted total: the sum of all counts of all batches, at most the setup's limit. Constant time.
     pub fn total(&self) -> u64
-        ensures value { result ≡ list_total self.now.list }
-        ensures kept { AreAccepted self.now.setup self.now.list }
+        ensures value { result ≡ total_in self.now.state }
+        ensures kept { AreAccepted self.now.setup self.now.state }
     {
         self.total
     }
@@ -156,7 +209,7 @@ impl Book {
     ///
     /// A growth was refused.
     pub fn reserve(&mut self, _b: &Arc<Batch>) -> Result<(), AllocError>
-        ensures list { self.new.list ≡ self.old.list }
+        ensures state { self.new.state ≡ self.old.state }
         ensures setup { self.new.setup ≡ self.old.setup }
         ensures ok { OnOk result (0 < self.new.free) }
         ensures room { self.old.free ≤ self.new.free }
@@ -173,10 +226,10 @@ impl Book {
         requires room { 0 < self.old.free }
         requires rows { (arc_value b).matrix.rows ≡ self.old.setup.rows }
         requires cols { (arc_value b).matrix.cols ≡ self.old.setup.cols }
-        ensures list { self.new.list ≡ self.old.list ++ arc_value b ∷ [] }
-        ensures total { list_total self.new.list ≡ list_total self.old.list + batch_total (arc_value b) }
+        ensures state { self.new.state ≡ with_batch self.old.state (arc_value b) }
+        ensures total { total_in self.new.state ≡ total_in self.old.state + batch_total (arc_value b) }
         ensures setup { self.new.setup ≡ self.old.setup }
-        ensures kept { result ≡ kept (length self.old.list) (list_total self.old.list + batch_total (arc_value b)) }
+        ensures kept { result ≡ kept (count_in self.old.state) (total_in self.old.state + batch_total (arc_value b)) }
     {
         // It bounds the total.
         let _limit = self.setup.limit();
@@ -185,7 +238,7 @@ impl Book {
             client: batch.client,
             number: batch.number,
         };
-        let index = self.lines.len() as u64;
+        let index = self.len();
         let total_after = self.total + batch.total;
         push_line(
             &mut self.lines,
@@ -199,25 +252,88 @@ impl Book {
         Kept { index, total_after }
     }
 
-    /// The batch at a place, counted from 0, and None from the number of batches on. Constant time.
+    /// The batch at a place, counted from 0 over all batches, and None at a folded one and from the number of batches
+    /// on. Constant time.
     pub fn at(&self, i: u64) -> Option<&Arc<Batch>>
-        ensures { option_map (λ a. arc_value a.now) result ≡ slice_get self.now.list i }
+        ensures { option_map (λ a. arc_value a.now) result ≡ batch_at self.now.state i }
     {
-        let (_, line) = self.lines.get_index(i as usize)?;
+        let folded = self.past.len();
+        if i < folded {
+            return None;
+        }
+        let (_, line) = self.lines.get_index((i - folded) as usize)?;
         Some(&line.batch)
     }
 
-    /// All batches in order, in a list that shares them. One growth, of a pointer for each batch.
+    /// What a verdict reads of the batch at a place, folded or not, counted from 0, and None from the number of batches
+    /// on. Constant time.
+    pub fn entry_at(&self, i: u64) -> Option<Entry>
+        ensures { result ≡ slice_get (entries_in self.now.state) i }
+    {
+        let folded = self.past.len();
+        if i < folded {
+            return self.past.at(i);
+        }
+        let (_, line) = self.lines.get_index((i - folded) as usize)?;
+        Some(line.batch.entry())
+    }
+
+    /// The batches that aren't folded, in order, in a list that shares them. One growth, of a pointer for each batch.
     ///
     /// # Errors
     ///
     /// The growth was refused.
     pub fn list(&self, alloc: Global) -> Result<Vec<Arc<Batch>>, AllocError>
-        ensures list { IfOk result (λ list. values list.items ≡ self.now.list) }
-        ensures kept { AreAccepted self.now.setup self.now.list }
+        ensures list { IfOk result (λ list. values list.items ≡ self.now.state.list) }
+        ensures kept { AreAccepted self.now.setup self.now.state }
     {
         let list = share_all(alloc, &self.lines)?;
         Ok(list)
+    }
+
+    /// All that was accepted, in a list that shares the base and the batches. Two growths: 32 bytes for each folded
+    /// batch, and a pointer for each other.
+    ///
+    /// # Errors
+    ///
+    /// A growth was refused.
+    pub fn book_list(&self, alloc: Global) -> Result<BookList, AllocError>
+        ensures list { IfOk result (λ list. list ≡ listed_in self.now.setup self.now.state) }
+        ensures kept { AreAccepted self.now.setup self.now.state }
+    {
+        let base = Arc::try_clone(self.past.base())?;
+        let folded = self.past.list(alloc)?;
+        let batches = share_all(alloc, &self.lines)?;
+        Ok(BookList {
+            base,
+            folded,
+            batches,
+        })
+    }
+
+    /// Folds all batches: of each only its entry, its place and its reply are kept, and its cells are let go of, as far
+    /// as nobody else shares them. No verdict changes. Takes the time of a look-up for each batch, and two growths.
+    ///
+    /// The caller has added up the base: the old one and the matrices of all batches that aren't folded.
+    ///
+    /// # Errors
+    ///
+    /// A growth was refused. The book is as before.
+    pub fn fold(&mut self, alloc: Global, base: Arc<Hyper>) -> Result<(), AllocError>
+        requires { arc_value base ≡ matrix self.old.setup.rows self.old.setup.cols (summed self.old.state) }
+        ensures ok { OnOk result (self.new.state ≡ folded_into (arc_value base).counts self.old.state) }
+        ensures err { OnErr result (self.new.state ≡ self.old.state) }
+        ensures setup { self.new.setup ≡ self.old.setup }
+    {
+        // It bounds the total.
+        let _limit = self.setup.limit();
+        let entries = entries_of_batches(alloc, &self.lines)?;
+        self.past.reserve(entries.len())?;
+        self.past.push_all(&entries);
+        self.past.set_base(base);
+        self.lines.clear();
+        self.lines.shrink_to_fit();
+        Ok(())
     }
 }
 
@@ -232,6 +348,20 @@ fn share_all(
     'lines: for line in lines.values() {
         let batch = Arc::try_clone(&line.batch)?;
         list.push(batch)?;
+    }
+    Ok(list)
+}
+
+// The entries of all lines.
+fn entries_of_batches(
+    alloc: Global,
+    lines: &IndexMap<Pair, Line, RandomState>,
+) -> Result<Vec<Entry>, AllocError>
+    ensures { IfOk result (λ list. list.items ≡ entries_of (batches_of lines.now.entries)) }
+{
+    let mut list = Vec::with_capacity(alloc, lines.len())?;
+    'lines: for line in lines.values() {
+        list.push(line.batch.entry())?;
     }
     Ok(list)
 }

@@ -7,8 +7,8 @@ ghost use Rattle.std.specs.List.{IsDistinct};
 ghost use Rattle.hyper_matrix.specs.Counts.{Counts, ewise_add, part, total};
 ghost use Rattle.batch_store.specs.declared.verdict.Entry.{Entry};
 ghost use Rattle.batch_store.specs.Batches.{Submission};
-ghost use Rattle.batch_store.specs.Books.{list_total};
-ghost use Rattle.batch_store.specs.Parts.{part_of, below, concerns, concerned, list_below, record_content};
+ghost use Rattle.batch_store.specs.Accepted.{Accepted, IsBase, total_in, summed};
+ghost use Rattle.batch_store.specs.Parts.{part_of, below, concerns, concerned, below_in, record_content};
 ghost use Rattle.batch_store.specs.Verdicts.{verdict_of, IsVerdict, same_pair, total_of_entries};
 
 use crate::verdict::Verdict;
@@ -42,29 +42,37 @@ pub fn unconcerned_shards_have_nothing()
 /// No cell lies below shard 0.
 pub fn no_cell_lies_below_shard_zero()
     ensures matrix { (k : ℕ) (m : Counts) → below 0 k m ≡ 0 }
-    ensures list { (k : ℕ) (list : List Submission) → list_below 0 k list ≡ 0 }
+    ensures accepted { (k : ℕ) (a : Accepted) → below_in 0 k a ≡ 0 }
 {}
 
-/// One shard more is its part more. Of a list of batches it is the content of their record more.
+/// One shard more is its part more. Of all that was accepted it is the content of its record more.
 pub fn one_shard_more()
     ensures matrix { (s k : ℕ) (m : Counts) → below (s + 1) k m ≡ below s k m + part_of s k m }
-    ensures list { (s k : ℕ) (list : List Submission) →
-        list_below (s + 1) k list ≡ list_below s k list + total (record_content s k list) }
+    ensures accepted { (s k : ℕ) (a : Accepted) →
+        below_in (s + 1) k a ≡ below_in s k a + total (record_content s k (part a.base s k) a.list) }
+{}
+
+/// A record of what was accepted holds the part of all of it: the part of the base, and those of the batches that have a
+/// cell in the shard.
+pub fn records_hold_the_part()
+    ensures { (s k : ℕ) (a : Accepted) →
+        record_content s k (part a.base s k) (concerned s k a.list) ≡ part (summed a) s k }
 {}
 
 /// The parts of all shards make the whole.
 pub fn shards_have_all()
     ensures matrix { (k : ℕ) (m : Counts) → 0 < k → below k k m ≡ total m }
-    ensures list { (k : ℕ) (list : List Submission) → 0 < k → list_below k k list ≡ list_total list }
+    ensures accepted { (k : ℕ) (a : Accepted) → 0 < k → IsBase a.base a.folded → below_in k k a ≡ total_in a }
 {}
 
 /// One batch more in a record is its part more in the content.
 pub fn records_grow_by_a_part()
-    ensures { (s k : ℕ) (list : List Submission) (b : Submission) →
-        record_content s k (list ++ b ∷ []) ≡ ewise_add (record_content s k list) (part b.matrix.counts s k) }
+    ensures { (s k : ℕ) (base : Counts) (list : List Submission) (b : Submission) →
+        record_content s k base (list ++ b ∷ []) ≡ ewise_add (record_content s k base list) (part b.matrix.counts s k) }
 {}
 
 /// The batches with no cell in a shard add nothing to its content.
 pub fn unconcerned_batches_add_nothing()
-    ensures { (s k : ℕ) (list : List Submission) → record_content s k (concerned s k list) ≡ record_content s k list }
+    ensures { (s k : ℕ) (base : Counts) (list : List Submission) →
+        record_content s k base (concerned s k list) ≡ record_content s k base list }
 {}

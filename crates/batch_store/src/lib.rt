@@ -13,7 +13,9 @@
 mod batch;
 mod batch_parts;
 mod book;
+mod book_list;
 mod fault;
+mod folded;
 mod given;
 mod laws;
 mod limits;
@@ -29,11 +31,12 @@ mod view_reads;
 
 pub use batch::Batch;
 pub use book::Book;
+pub use book_list::BookList;
 pub use fault::{BatchFault, CellsFault, SetupFault, ShardFault};
 pub use laws::{
     a_part_is_no_more_than_the_whole, fresh_batches_fit, no_cell_lies_below_shard_zero,
-    one_shard_more, records_grow_by_a_part, shards_have_all, unconcerned_batches_add_nothing,
-    unconcerned_shards_have_nothing, verdicts_are_exact,
+    one_shard_more, records_grow_by_a_part, records_hold_the_part, shards_have_all,
+    unconcerned_batches_add_nothing, unconcerned_shards_have_nothing, verdicts_are_exact,
 };
 pub use limits::{MAX_BATCHES, MAX_CELLS, MAX_SHARDS};
 pub use setup::Setup;

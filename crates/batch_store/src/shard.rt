@@ -9,14 +9,15 @@ ghost use Rattle.std.specs.Prelude.{option_map, replicate, length, slice_get};
 ghost use Rattle.std.specs.Arc.{arc_value};
 ghost use Rattle.std.specs.FinMap.{empty, get as get_count, len};
 ghost use Rattle.indexmap.specs.IndexMap.{get, spare};
-ghost use Rattle.hyper_matrix.specs.Counts.{total as total_of};
+ghost use Rattle.hyper_matrix.specs.Counts.{total as total_of, part};
+ghost use Rattle.hyper_matrix.specs.Matrix.{matrix};
 ghost use Rattle.hyper_matrix.specs.RowOf.{row_of};
 ghost use Rattle.layer_cascade.specs.Cascade.{content, cascade};
-ghost use Rattle.layer_cascade.specs.Layering.{entries_of_layer};
+ghost use Rattle.layer_cascade.specs.Layering.{entries_of_layer, no_layers};
 ghost use Rattle.batch_store.specs.Parts.{part_of};
 ghost use Rattle.batch_store.specs.Books.{same_key};
 ghost use Rattle.batch_store.specs.Shards.{AreHeld, stands, Refuses, IsReady, shard_total, part_in, amount_in};
-ghost use Rattle.batch_store.specs.Shards.{layering_of, layering_with, HasDims, matrix_in, Stays};
+ghost use Rattle.batch_store.specs.Shards.{layering_of, layering_with, HasDims, matrix_in, Stays, KeepsShard};
 
 use crate::batch::Batch;
 use crate::fault::ShardFault;
@@ -33,21 +34,24 @@ use std::marker::Model;
 use std::random::RandomSource;
 use std::sync::Arc;
 
-/// The parts of one shard, and the record of the batches that they are of.
+/// The parts of one shard, the base of those that are folded, and the record of the batches that the others are of.
 ///
-/// Contracts see the setup, the shard's number, what each layer holds, the batches of the record in order, and how many
-/// more it takes without memory. At any time the layers add up to the parts of the record's batches, each layer but the
-/// last keeps its cut, no client and number stands twice in the record, and the total is within the setup's limit. The
-/// batches are shared with whoever else has them; beside each the record takes some 40 bytes.
+/// Contracts see the setup, the shard's number, what each layer holds, the base, the batches of the record in order, and
+/// how many more it takes without memory. At any time the layers add up to the base and the parts of the record's
+/// batches, each layer but the last keeps its cut, no client and number stands twice in the record, and the total is
+/// within the setup's limit. The base and the batches are shared with whoever else has them; beside each batch the
+/// record takes some 40 bytes.
 #[derive(Drop)]
 pub struct Shard {
     setup: Setup,
     number: u64,
     layers: Layers,
+    base: Arc<Hyper>,
     held: IndexMap<Pair, Arc<Batch>, RandomState>,
 }
 
 impl Model for Shard {
+    ghost use Rattle.std.specs.Arc.{arc_value};
     ghost use Rattle.indexmap.specs.IndexMap.{spare};
     ghost use Rattle.batch_store.specs.Shards.{Holding, holding, coded_holding, recorded, KeepsShard};
 
@@ -55,9 +59,10 @@ impl Model for Shard {
 
     ghost coded = { coded_holding };
 
-    ghost view = { λ a. holding a.setup a.number a.layers.layers (recorded a.held.entries) (spare a.held) };
+    ghost view = { λ a. holding a.setup a.number a.layers.layers (arc_value a.base).counts (recorded a.held.entries)
+        (spare a.held) };
 
-    ghost invariant = { λ a. KeepsShard a.setup a.number a.layers a.held.entries };
+    ghost invariant = { λ a. KeepsShard a.setup a.number a.layers (arc_value a.base) a.held.entries };
 }
 
 /// A batch with the layers that hold its part, ready to be committed to the shard that it was prepared for.
@@ -100,8 +105,19 @@ fn push_held(held: &mut IndexMap<Pair, Arc<Batch>, RandomState>, pair: Pair, bat
     let _ = held.insert(pair, batch);
 }
 
+// The layers of a setup, empty.
+fn empty_layers(alloc: Global, setup: &Setup) -> Result<Layers, AllocError>
+    ensures { IfOk result (λ l. l ≡ no_layers setup.now.rows setup.now.cols setup.now.cuts) }
+{
+    match Layers::new(alloc, setup.rows(), setup.cols(), setup.cuts()) {
+        Ok(layers) => Ok(layers),
+        Err(_) => Err(AllocError),
+    }
+}
+
 impl Shard {
-    /// Shard `s`, empty. It takes memory for empty layers, and draws the seed of its record's hasher from the system.
+    /// Shard `s`, empty. It takes memory for empty layers and an empty base, and draws the seed of its record's hasher
+    /// from the system.
     ///
     /// # Errors
     ///
@@ -116,19 +132,72 @@ impl Shard {
         ensures setup { IfOk result (λ v. v.setup ≡ setup.now) }
         ensures number { IfOk result (λ v. v.number ≡ s) }
         ensures record { IfOk result (λ v. v.record_list ≡ []) }
+        ensures base { IfOk result (λ v. v.base ≡ empty) }
         ensures layers { IfOk result (λ v. v.layers ≡ replicate (length setup.now.cuts + 1) empty) }
     {
-        let layers = match Layers::new(alloc, setup.rows(), setup.cols(), setup.cuts()) {
-            Ok(layers) => layers,
-            Err(_) => return Err(AllocError),
-        };
-        // Any call on them tells that they keep their cuts.
-        let _dims = layers.dims();
+        let base = Arc::new(alloc, Hyper::new(alloc, setup.rows(), setup.cols()))?;
+        let layers = empty_layers(alloc, setup)?;
+        Shard::with_layers(rt, alloc, setup, s, layers, base)
+    }
+
+    /// Shard `s` with what was folded of it: the cascade of empty layers with the base, and no batch in the record. The
+    /// layers share the base's cells.
+    ///
+    /// The caller sees to the base: its rows are the shard's own, its total is within the limit, and its dimensions are
+    /// the setup's.
+    ///
+    /// # Errors
+    ///
+    /// A growth was refused, or the system gave no seed.
+    pub fn with_base(
+        rt: &impl RandomSource,
+        alloc: Global,
+        setup: &Setup,
+        s: u64,
+        base: Arc<Hyper>,
+    ) -> Result<Shard, AllocError>
+        requires here { s < setup.now.shards }
+        requires rows { (arc_value base).rows ≡ setup.now.rows }
+        requires cols { (arc_value base).cols ≡ setup.now.cols }
+        requires own { part (arc_value base).counts s setup.now.shards ≡ (arc_value base).counts }
+        requires within { total_of (arc_value base).counts ≤ setup.now.limit }
+        ensures setup { IfOk result (λ v. v.setup ≡ setup.now) }
+        ensures number { IfOk result (λ v. v.number ≡ s) }
+        ensures record { IfOk result (λ v. v.record_list ≡ []) }
+        ensures base { IfOk result (λ v. v.base ≡ (arc_value base).counts) }
+        ensures layers { IfOk result (λ v. v.layers ≡
+            cascade (replicate (length setup.now.cuts + 1) empty) setup.now.cuts (arc_value base).counts) }
+    {
+        // It bounds the total.
+        let _limit = setup.limit();
+        let mut layers = empty_layers(alloc, setup)?;
+        let plan = layers.plan(alloc, &base)?;
+        layers.commit(plan);
+        Shard::with_layers(rt, alloc, setup, s, layers, base)
+    }
+
+    // A shard of these layers and no batch.
+    fn with_layers(
+        rt: &impl RandomSource,
+        alloc: Global,
+        setup: &Setup,
+        s: u64,
+        layers: Layers,
+        base: Arc<Hyper>,
+    ) -> Result<Shard, AllocError>
+        requires { KeepsShard setup.now s layers (arc_value base) [] }
+        ensures setup { IfOk result (λ v. v.setup ≡ setup.now) }
+        ensures number { IfOk result (λ v. v.number ≡ s) }
+        ensures record { IfOk result (λ v. v.record_list ≡ []) }
+        ensures base { IfOk result (λ v. v.base ≡ (arc_value base).counts) }
+        ensures layers { IfOk result (λ v. v.layers ≡ layers.layers) }
+    {
         match RandomState::new(rt) {
             Ok(hasher) => Ok(Shard {
                 setup: *setup,
                 number: s,
                 layers,
+                base,
                 held: IndexMap::with_hasher(alloc, hasher),
             }),
             Err(_) => Err(AllocError),
@@ -138,7 +207,7 @@ impl Shard {
     /// The number of the shard, from 0, below the setup's number of shards. Constant time.
     pub fn number(&self) -> u64
         ensures value { result ≡ self.now.number }
-        ensures kept { AreHeld self.now.setup self.now.number self.now.layers self.now.record_list }
+        ensures kept { AreHeld self.now.setup self.now.number self.now.layers self.now.base self.now.record_list }
     {
         self.number
     }
@@ -146,12 +215,19 @@ impl Shard {
     /// The sum of all counts of all parts, at most the setup's limit. Constant time for each of at most 8 layers.
     pub fn total(&self) -> u64
         ensures value { result ≡ shard_total self.now }
-        ensures kept { AreHeld self.now.setup self.now.number self.now.layers self.now.record_list }
+        ensures kept { AreHeld self.now.setup self.now.number self.now.layers self.now.base self.now.record_list }
     {
         self.layers.total()
     }
 
-    /// The number of batches in the record. Constant time.
+    /// The sum of the folded batches' parts, shared. Constant time.
+    pub fn base(&self) -> &Arc<Hyper>
+        ensures { arc_value result.now ≡ matrix self.now.setup.rows self.now.setup.cols self.now.base }
+    {
+        &self.base
+    }
+
+    /// The number of batches in the record, which the folded ones have left. Constant time.
     pub fn record_len(&self) -> u64
         ensures { result ≡ length self.now.record_list }
     {
@@ -215,6 +291,7 @@ impl Shard {
         ensures setup { self.new.setup ≡ self.old.setup }
         ensures number { self.new.number ≡ self.old.number }
         ensures layers { self.new.layers ≡ self.old.layers }
+        ensures base { self.new.base ≡ self.old.base }
         ensures record { self.new.record_list ≡ self.old.record_list }
         ensures room { self.old.free ≤ self.new.free }
 
@@ -312,6 +389,7 @@ impl Shard {
         requires { IsReady self.old p }
         ensures setup { self.new.setup ≡ self.old.setup }
         ensures number { self.new.number ≡ self.old.number }
+        ensures base { self.new.base ≡ self.old.base }
         ensures record { self.new.record_list ≡ self.old.record_list ++ p.batch ∷ [] }
         ensures layers { self.new.layers ≡ cascade self.old.layers self.old.setup.cuts (part_in self.old p.batch) }
         ensures total { shard_total self.new ≡ shard_total self.old + p.amount }
@@ -332,6 +410,23 @@ impl Shard {
 }
 
 impl Shard {
+    /// Puts a base in place of the old one and the record: all that the shard has taken in is folded. The layers stay.
+    /// It can't fail and takes no memory.
+    ///
+    /// The caller has added up the layers: the base is their content.
+    pub fn rebase(&mut self, base: Arc<Hyper>)
+        requires { arc_value base ≡ matrix self.old.setup.rows self.old.setup.cols (content self.old.layers) }
+        ensures setup { self.new.setup ≡ self.old.setup }
+        ensures number { self.new.number ≡ self.old.number }
+        ensures layers { self.new.layers ≡ self.old.layers }
+        ensures base { self.new.base ≡ (arc_value base).counts }
+        ensures record { self.new.record_list ≡ [] }
+    {
+        self.base = base;
+        self.held.clear();
+        self.held.shrink_to_fit();
+    }
+
     /// Adds up parts that stand side by side in the layers, or counts their places, so that the batch that needs that
     /// finds most of it done: one bounded step (`Layers::gather`). What the shard holds stays, also on an error.
     ///
@@ -371,7 +466,7 @@ impl Shard {
         ensures layers { IfOk result (λ v. v.layers ≡ layering_with self.now p.now.batch) }
         ensures record { IfOk result (λ v. v.record_len ≡ length self.now.record_list + 1) }
         ensures held { AreHeld self.now.setup self.now.number
-            (cascade self.now.layers self.now.setup.cuts (part_in self.now p.now.batch))
+            (cascade self.now.layers self.now.setup.cuts (part_in self.now p.now.batch)) self.now.base
             (self.now.record_list ++ p.now.batch ∷ []) }
     {
         let record_len = self.held.len() as u64 + 1;

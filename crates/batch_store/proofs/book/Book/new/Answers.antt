@@ -1,6 +1,13 @@
-use Rattle.batch_store.proofs.BookLaws.{book_begins}
+use Rattle.std.proofs.Common.{sym, ap, subst, ◌∙◌, []}
+use Rattle.hyper_matrix.specs.Counts.{Counts}
+use Rattle.hyper_matrix.specs.Matrix.{Matrix}
+use Rattle.batch_store.specs.Accepted.{accepted}
+use Rattle.batch_store.specs.Books.{AreAccepted}
+use Rattle.batch_store.proofs.BookLaws.{accepted_none}
 use Rattle.batch_store.proofs.book.Book.new.Goals as goal
 
-pub invariant_of-result : goal.invariant_of-result
-invariant_of-result g c = book_begins c.args.setup.now c.with_hasher.result.entries c.limit-limit.ensures.kept
-    c.with_hasher.ensures.empty
+pub with_folded-requires-clause-accepted : goal.with_folded-requires-clause-accepted
+with_folded-requires-clause-accepted g c =
+    subst (λ (m : Counts). AreAccepted c.args.setup.now (accepted m [] []))
+    (sym (ap (λ (m : Matrix). m.counts) (c.in_ok-base.ensures.ok ∙ c.new.ensures)))
+    (accepted_none c.args.setup.now c.rows.ensures.kept)

@@ -7,18 +7,18 @@ use Rattle.batch_store.proofs.shard.Shard.commit.Goals as goal
 pub push_held-requires-clause-absent : goal.push_held-requires-clause-absent
 push_held-requires-clause-absent c =
     let same = c.taken.view_is ∙ c.deref-taken.ensures ∙ ap (λ (q : Preparation). q.batch) c.p.view_is in
-    absent_held _ _ _ _ _ _ c.self.invariant c.self.view_is _ c.args.p (ap (λ (b : Submission). b.client) same)
+    absent_held _ _ _ _ _ _ _ c.self.invariant c.self.view_is _ c.args.p (ap (λ (b : Submission). b.client) same)
     (ap (λ (b : Submission). b.number) same) c.requires.absent
 
 pub invariant_of-self : goal.invariant_of-self
 invariant_of-self c =
     let same = c.taken.view_is ∙ c.deref-taken.ensures ∙ ap (λ (q : Preparation). q.batch) c.p.view_is in
-    keeps_committed _ _ _ _ _ _ c.self.invariant c.self.view_is c.args.p c.requires c.commit.new.self c.p.inside.plan
+    keeps_committed _ _ _ _ _ _ _ c.self.invariant c.self.view_is c.args.p c.requires c.commit.new.self c.p.inside.plan
     (ap (λ (q : Preparation). q.planned) c.p.view_is) c.commit.ensures
     c.push_held.new.held.entries _ c.p.inside.batch (ap (λ (q : Preparation). q.batch) c.p.view_is)
     (ap (λ (b : Submission). b.client) same) (ap (λ (b : Submission). b.number) same) c.push_held.ensures.held
 
 pub returns-clause-total : goal.returns-clause-total
 returns-clause-total c =
-    total_committed _ _ _ _ _ _ c.self.invariant c.self.view_is c.args.p c.requires c.commit.new.self c.p.inside.plan
+    total_committed _ _ _ _ _ _ _ c.self.invariant c.self.view_is c.args.p c.requires c.commit.new.self c.p.inside.plan
     (ap (λ (q : Preparation). q.planned) c.p.view_is) c.commit.ensures
