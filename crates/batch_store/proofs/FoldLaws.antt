@@ -133,7 +133,8 @@ all_middle : (P : Entry → Type 0) (xs : List Entry) (e : Entry) (ys : List Ent
 all_middle P [] e ys h = h.0
 all_middle P (x ∷ xs) e ys h = all_middle P xs e ys h.1
 
-before_apart : (xs : List Entry) (e : Entry) (ys : List Entry) → IsDistinct same_pair (xs ++ e ∷ ys) →
+-- in a list of distinct entries none before an entry has its pair
+pub before_apart : (xs : List Entry) (e : Entry) (ys : List Entry) → IsDistinct same_pair (xs ++ e ∷ ys) →
     AllByRecursion (λ (x : Entry). same_pair e x ≡ false) xs
 unfolding IsDistinct
 before_apart [] e ys h = tt
@@ -148,6 +149,11 @@ nowhere e n [] h = refl
 nowhere e n (x ∷ xs) h =
     ap (λ t. cond t (Some n) (position_from (same_pair e) (n + 1) xs)) h.0 ∙ nowhere e (n + 1) xs h.1
 
+-- a pair that none has stands nowhere
+pub found_nowhere : (e : Entry) (xs : List Entry) → AllByRecursion (λ (x : Entry). same_pair e x ≡ false) xs →
+    position (same_pair e) xs ≡ None
+found_nowhere e xs h = position_from-zero (same_pair e) xs ∙ nowhere e 0 xs h
+
 module _ (xs ys now : List Entry) (i : ℕ) (d : Entry) (told : now ≡ xs ++ take i ys) (here : i < length ys) where
   all_is : xs ++ ys ≡ now ++ slice_index_or ys i d ∷ drop (suc i) ys
   all_is = ap (λ l. xs ++ l) (cut_at ys i d here)
@@ -157,8 +163,7 @@ module _ (xs ys now : List Entry) (i : ℕ) (d : Entry) (told : now ≡ xs ++ ta
   pub next_new : IsDistinct same_pair (xs ++ ys) → position (same_pair (slice_index_or ys i d)) now ≡ None
   next_new distinct =
       let e = slice_index_or ys i d in
-      position_from-zero (same_pair e) now
-      ∙ nowhere e 0 now (before_apart now e (drop (suc i) ys) (subst (IsDistinct same_pair) all_is distinct))
+      found_nowhere e now (before_apart now e (drop (suc i) ys) (subst (IsDistinct same_pair) all_is distinct))
 
   pub next_fits : (m : ℕ) → total_of_entries (xs ++ ys) < m →
       total_of_entries now + (slice_index_or ys i d).total < m

@@ -100,7 +100,7 @@ base-folded a based = record {
     nothing (e ∷ es) list h is = cc
 
 -- the parts of a list of batches make the part of its sum
-content-parts : (s k : ℕ) (list : List Submission) → content (parts_of s k list) ≡ part (list_sum list) s k
+pub content-parts : (s k : ℕ) (list : List Submission) → content (parts_of s k list) ≡ part (list_sum list) s k
 content-parts s k [] = sym (part-empty s k)
 content-parts s k (b ∷ bs) = ap (ewise_add (part b.matrix.counts s k)) (content-parts s k bs)
     ∙ sym (part-ewise_add b.matrix.counts (list_sum bs) s k)

@@ -1,5 +1,5 @@
 //! Books: what each put of a table is answered.
-ghost use Rattle.std.specs.Prelude.{◌≡◌};
+ghost use Rattle.std.specs.Prelude.{◌≡◌, IfOk};
 ghost use Rattle.std.specs.Arc.{arc_value};
 
 use crate::batches::batch;
@@ -15,7 +15,7 @@ use std::test::Fail;
 use test_support::same;
 
 /// The client, the number and the text of a batch that is put, and what the book answers.
-type Put = (u64, u64, &'static str, Verdict);
+pub type Put = (u64, u64, &'static str, Verdict);
 
 // The verdict on a batch; one that is fresh is admitted, and answered as a repeat of it would be.
 fn put(book: &mut Book, b: Arc<Batch>) -> Result<Verdict, AllocError>
@@ -42,8 +42,8 @@ fn answer(alloc: Global, setup: &Setup, book: &mut Book, step: &Put) -> Result<V
     Ok(verdict)
 }
 
-// Puts the batches of a table, and compares each answer.
-fn put_all(
+/// Puts the batches of a table, and compares each answer.
+pub fn put_all(
     rt: &(impl Abort + Eprint),
     alloc: Global,
     setup: &Setup,
@@ -51,6 +51,7 @@ fn put_all(
     steps: &[Put],
 ) -> Result<(), Fail>
     requires { book.old.setup ≡ setup.now }
+    ensures { book.new.setup ≡ setup.now }
 {
     'steps: for step in steps {
         let verdict = answer(alloc, setup, book, step)?;
@@ -247,13 +248,15 @@ static LARGEST: &[Put] = &[
     ),
 ];
 
-// A book of three rows and columns to which the batches of a table were put, each with its answer.
-fn book_after<R: RandomSource + Abort + Eprint>(
+/// A book of three rows and columns to which the batches of a table were put, each with its answer.
+pub fn book_after<R: RandomSource + Abort + Eprint>(
     rt: &R,
     alloc: Global,
     setup: &Setup,
     steps: &[Put],
-) -> Result<Book, Fail> {
+) -> Result<Book, Fail>
+    ensures { IfOk result (λ book. book.setup ≡ setup.now) }
+{
     let mut book = Book::new(rt, alloc, setup)?;
     put_all(rt, alloc, setup, &mut book, steps)?;
     Ok(book)
@@ -305,8 +308,8 @@ fn a_full_book_knows_its_batches(rt: HostRuntime) -> Result<(), Fail> {
     Ok(())
 }
 
-// The total of the batch at a place of a book.
-fn total_at(book: &Book, i: u64) -> Option<u64> {
+/// The total of the batch at a place of a book.
+pub fn total_at(book: &Book, i: u64) -> Option<u64> {
     match book.at(i) {
         Some(b) => Some(b.total),
         None => None,

@@ -8,6 +8,8 @@ mod batches;
 #[cfg(test)]
 mod books;
 #[cfg(test)]
+mod folds;
+#[cfg(test)]
 mod lists;
 #[cfg(test)]
 mod setups;

@@ -1,11 +1,16 @@
 //! Setups, good and bad.
+ghost use Rattle.std.specs.Prelude.{◌≡◌, [], ◌∷◌, IfOk};
+ghost use Rattle.batch_store.specs.Setups.{setting};
+
 use batch_store::{Setup, SetupFault};
 use std::process::Abort;
 use std::test::Fail;
 use test_support::same;
 
 // Three rows, three columns, two shards and a limit of 100.
-pub fn small_setup() -> Result<Setup, SetupFault> {
+pub fn small_setup() -> Result<Setup, SetupFault>
+    ensures { IfOk result (λ setup. setup ≡ setting 3 3 (2 ∷ 4 ∷ []) 2 100 10) }
+{
     Setup::new(3, 3, &[2, 4], 2, 100, 10)
 }
 

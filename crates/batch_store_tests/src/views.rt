@@ -72,8 +72,8 @@ static TEN: &[Step] = &[
     (7, 10, "3 10 1\n1 10 1\n", Ok(1)),
 ];
 
-// How many entries each of three layers has, and that there is none before and none behind them.
-fn layer_sizes(shard: &Shard) -> [Option<u64>; 5] {
+/// How many entries each of three layers has, and that there is none before and none behind them.
+pub fn layer_sizes(shard: &Shard) -> [Option<u64>; 5] {
     let mut sizes = [None; 5];
     for (i, size) in sizes.iter_mut().enumerate() {
         *size = shard.layer_entries(i);

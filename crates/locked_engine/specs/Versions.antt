@@ -3,20 +3,13 @@
 --     version_status es   how many entries there are, and the sum of their totals
 --     entry_verdict v es e
 --                         what the version says of a batch of this entry, under the setup's limits
-use Rattle.std.specs.Prelude.{ℕ, ◌≤◌, List, length, refl}
-use Rattle.std.specs.Coded.{Coded, code_by, coded×, coded_ℕ}
+use Rattle.std.specs.Prelude.{ℕ, ◌≤◌, List, length}
 use Rattle.std.specs.List.{IsDistinct}
 use Rattle.batch_store.specs.declared.verdict.Entry.{Entry}
 use Rattle.batch_store.specs.declared.verdict.Verdict.{Verdict}
 use Rattle.batch_store.specs.Setups.{Setting, IsSetting}
 use Rattle.batch_store.specs.Verdicts.{same_pair, total_of_entries, verdict_of}
 use Rattle.plain_engine.specs.declared.status.Status.{Status}
-
-abbrev pub coded_entry : Coded Entry
-coded_entry =
-    code_by (ℕ × (ℕ × (ℕ × ℕ))) (coded× coded_ℕ (coded× coded_ℕ (coded× coded_ℕ coded_ℕ)))
-    (λ e. (e.client, (e.number, (e.cells, e.total))))
-    (λ p. record { client = p.0; number = p.1.0; cells = p.1.1.0; total = p.1.1.1 }) (λ _. refl)
 
 pub record IsVersion (setup : Setting) (es : List Entry) : Type 0 where
   pub sound : IsSetting setup

@@ -6,7 +6,7 @@ use Rattle.std.specs.Coded.{Coded, code_by, coded×, coded_ℕ, coded_list}
 use Rattle.logbook.specs.Pages.{Book}
 use Rattle.batch_store.specs.Setups.{Setting, coded_setting}
 use Rattle.batch_store.specs.declared.verdict.Entry.{Entry}
-use Rattle.locked_engine.specs.Versions.{coded_entry}
+use Rattle.batch_store.specs.Verdicts.{coded_entry}
 
 pub record NamesView : Type 0 where
   pub setup : Setting

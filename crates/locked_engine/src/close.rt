@@ -2,8 +2,7 @@
 ghost use Rattle.std.specs.Prelude.{◌≡◌, ◌≢◌, ◌+◌, ◌≤◌, ◌<◌, IfOk, OnOk, [], List, length, vec_len, vec_capacity};
 ghost use mathlib.Core.List.{IsPrefix};
 ghost use Rattle.batch_store.specs.declared.verdict.Entry.{Entry};
-ghost use Rattle.batch_store.specs.Batches.{entries_of};
-ghost use Rattle.batch_store.specs.Books.{list_total};
+ghost use Rattle.batch_store.specs.Accepted.{entries_in, total_in};
 ghost use Rattle.plain_engine.specs.Standing.{AreTogether, HaveSetup, IsWhole, shards_total};
 ghost use Rattle.locked_engine.specs.Opened.{firsts};
 ghost use Rattle.locked_engine.specs.Told.{AreShown};
@@ -32,8 +31,8 @@ pub enum CloseFault<N: Named, H: Ledger> {
         engine: Engine<N, H>,
         seats: Vec<Seat<N, H>>,
     },
-    /// Some record isn't, in order, the book's batches that concern its shard. Their totals agree all the same. Puts
-    /// alone never lead to it.
+    /// Some shard's base isn't the part of the book's, or its record isn't, in order, the book's batches that concern
+    /// it. The totals agree all the same. Puts alone never lead to it.
     RecordsDiffer {
         shards: Vec<Shard>,
         book: Book,
@@ -64,19 +63,20 @@ impl<N: Named, H: Ledger> Engine<N, H> {
         // The shards' totals add up to exactly the accepted total, within the limit, and so do the seats' first shares.
         ensures setup { IfOk result (λ e. e.setup ≡ N.setup) }
         ensures whole { IfOk result IsWhole }
-        ensures seats { IfOk result (λ e. firsts seats.items ≡ list_total e.book.list) }
+        ensures seats { IfOk result (λ e. firsts seats.items ≡ total_in e.book.state) }
         ensures differ { (shards : _) (book : _) → result ≡ Err (CloseFault.RecordsDiffer shards book) →
-            (shards_total shards.items ≡ list_total book.list) × (list_total book.list ≤ N.setup.limit)
-            × (firsts seats.items ≡ list_total book.list) }
-        // Some shard isn't at its place, or its record isn't the book's batches that concern it.
+            (shards_total shards.items ≡ total_in book.state) × (total_in book.state ≤ N.setup.limit)
+            × (firsts seats.items ≡ total_in book.state) }
+        // Some shard isn't at its place, or its base isn't the part of the book's, or its record isn't the book's
+        // batches that concern it.
         ensures apart { (shards : _) (book : _) → result ≡ Err (CloseFault.RecordsDiffer shards book) →
-            ¬ ((length shards.items ≡ N.setup.shards) × AreTogether N.setup.shards book.list 0 shards.items) }
+            ¬ ((length shards.items ≡ N.setup.shards) × AreTogether N.setup.shards book.state 0 shards.items) }
 
         // What the seats were shown and the book's entries are beginnings of one version.
         ensures shown { IfOk result (λ e. (all : List Entry) × AreShown seats.items all
-            × IsPrefix (entries_of e.book.list) all) }
+            × IsPrefix (entries_in e.book.state) all) }
         ensures shown_apart { (shards : _) (book : _) → result ≡ Err (CloseFault.RecordsDiffer shards book) →
-            (all : List Entry) × AreShown seats.items all × IsPrefix (entries_of book.list) all }
+            (all : List Entry) × AreShown seats.items all × IsPrefix (entries_in book.state) all }
     {
         if seats.len() != self.seats {
             return Err(CloseFault::SeatsMissing {

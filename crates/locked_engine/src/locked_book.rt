@@ -1,11 +1,12 @@
 //! What stands behind the book's lock.
-ghost use Rattle.std.specs.Prelude.{◌≡◌, ◌+◌, ◌≤◌, ◌<◌, [], ◌∷◌, ◌++◌, IfOk, IfErr, OnOk, OnErr, Ok, Some, length};
+ghost use Rattle.std.specs.Prelude.{◌≡◌, ◌+◌, ◌≤◌, ◌<◌, [], IfOk, IfErr, OnOk, OnErr, Ok, Some};
 ghost use Rattle.std.specs.Prelude.{drop};
 ghost use Rattle.std.specs.Bool.{OnTrue};
 ghost use mathlib.Core.List.{IsPrefix};
 ghost use Rattle.std.specs.Arc.{arc_value};
-ghost use Rattle.batch_store.specs.Batches.{batch_total, entry_of as summary_of, entries_of, values};
-ghost use Rattle.batch_store.specs.Books.{AreAccepted, list_total, verdict_on};
+ghost use Rattle.batch_store.specs.Accepted.{unfolded, entries_in, count_in, total_in, with_batch};
+ghost use Rattle.batch_store.specs.Batches.{batch_total, entry_of as summary_of, values};
+ghost use Rattle.batch_store.specs.Books.{AreAccepted, verdict_on};
 ghost use Rattle.batch_store.specs.Verdicts.{kept};
 ghost use Rattle.batch_store.specs.declared.verdict.Verdict.TheVariants.{Fresh};
 ghost use Rattle.locked_engine.specs.Told.{Answers, IsTold, answer_of};
@@ -25,7 +26,7 @@ use std::sync::ledger::{Ledger, Share};
 use std::sync::{Arc, Wait, ledger};
 
 /// The book with the numbers of both ledgers, each of which is its total, beside what shows its entries to readers, who
-/// are shown no others.
+/// are shown no others. None of its batches is folded.
 ///
 /// Contracts see the book. It isn't Drop, since the writer isn't: `end` takes that out.
 pub struct LockedBook<N: Named, H: Ledger>
@@ -47,8 +48,8 @@ where
     Version<N>: Absorb<NextVersion<N>, State = ()>,
 {
     ghost use Rattle.std.specs.Prelude.{◌≡◌, [], drop, IfSome};
-    ghost use Rattle.batch_store.specs.Batches.{entries_of};
-    ghost use Rattle.batch_store.specs.Books.{Register, coded_register, list_total};
+    ghost use Rattle.batch_store.specs.Accepted.{entries_in, total_in};
+    ghost use Rattle.batch_store.specs.Books.{Register, coded_register};
 
     ghost Value = { Register };
 
@@ -56,9 +57,10 @@ where
 
     ghost view = { λ d. d.book };
 
-    ghost invariant = { λ d. (d.book.setup ≡ N.setup) × (d.first.total ≡ list_total d.book.list)
-        × (d.second.total ≡ list_total d.book.list) × (d.version ≡ entries_of d.book.list)
-        × IfSome d.writer (λ w. (w.desk.shown.value ≡ entries_of d.book.list) × (drop w.behind w.log.items ≡ [])) };
+    ghost invariant = { λ d. (d.book.setup ≡ N.setup) × (d.book.state.folded ≡ [])
+        × (d.first.total ≡ total_in d.book.state) × (d.second.total ≡ total_in d.book.state)
+        × (d.version ≡ entries_in d.book.state)
+        × IfSome d.writer (λ w. (w.desk.shown.value ≡ entries_in d.book.state) × (drop w.behind w.log.items ≡ [])) };
 }
 
 /// Err where the verdict isn't a fresh one.
@@ -140,10 +142,11 @@ where
         writer: VersionWriter<N>,
     ) -> LockedBook<N, H>
         requires setup { book.setup ≡ N.setup }
-        requires first { first.total ≡ list_total book.list }
-        requires second { second.total ≡ list_total book.list }
-        requires version { version ≡ entries_of book.list }
-        requires published { writer.desk.shown.value ≡ entries_of book.list }
+        requires plain { book.state.folded ≡ [] }
+        requires first { first.total ≡ total_in book.state }
+        requires second { second.total ≡ total_in book.state }
+        requires version { version ≡ entries_in book.state }
+        requires published { writer.desk.shown.value ≡ entries_in book.state }
         requires pending { drop writer.behind writer.log.items ≡ [] }
         ensures { result ≡ book }
     {
@@ -166,10 +169,11 @@ where
     ) -> (Book, ledger::Book<N>, ledger::Book<H>, Version<N>)
         ensures book { result.0 ≡ self }
         ensures setup { result.0.setup ≡ N.setup }
-        ensures first { result.1.total ≡ list_total result.0.list }
-        ensures second { result.2.total ≡ list_total result.0.list }
+        ensures plain { result.0.state.folded ≡ [] }
+        ensures first { result.1.total ≡ total_in result.0.state }
+        ensures second { result.2.total ≡ total_in result.0.state }
         ensures shown { IsPrefix seen result.3 }
-        ensures accepted { IsPrefix (entries_of result.0.list) result.3 }
+        ensures accepted { IsPrefix (entries_in result.0.state) result.3 }
     {
         let LockedBook {
             book,
@@ -196,8 +200,8 @@ where
     /// Shows a seat the book's entries. False where the seat was shown more.
     pub fn show(&self, seen: &mut Version<N>) -> bool
         ensures later { IsPrefix seen.old seen.new }
-        ensures shown { OnTrue result (seen.new ≡ entries_of self.now.list) }
-        ensures legal { IsVersion N.setup (entries_of self.now.list) }
+        ensures shown { OnTrue result (seen.new ≡ entries_in self.now.state) }
+        ensures legal { IsVersion N.setup (entries_in self.now.state) }
     {
         if seen.status().batches > self.version.status().batches {
             return false;
@@ -209,7 +213,7 @@ where
     /// Shows a seat the book's entries, and judges a batch by them. Err where it isn't fresh.
     pub fn judge(&self, seen: &mut Version<N>, b: &Batch) -> Result<(), NotAdmitted>
         ensures later { IsPrefix seen.old seen.new }
-        ensures shown { OnOk result (seen.new ≡ entries_of self.now.list) }
+        ensures shown { OnOk result (seen.new ≡ entries_in self.now.state) }
         ensures fresh { OnOk result (verdict_on self.now b.now ≡ Fresh) }
         ensures told { IfErr result (λ u. IsTold N.setup (summary_of b.now) seen.new (answer_of u)) }
     {
@@ -226,8 +230,8 @@ where
     /// A growth was refused, or the seat was shown more.
     pub fn list(&self, alloc: Global, seen: &mut Version<N>) -> Result<Vec<Arc<Batch>>, AllocError>
         ensures later { IsPrefix seen.old seen.new }
-        ensures list { IfOk result (λ list. AreAccepted N.setup (values list.items)) }
-        ensures shown { IfOk result (λ list. entries_of (values list.items) ≡ seen.new) }
+        ensures list { IfOk result (λ list. AreAccepted N.setup (unfolded (values list.items))) }
+        ensures shown { IfOk result (λ list. entries_in (unfolded (values list.items)) ≡ seen.new) }
     {
         if !self.show(seen) {
             return Err(AllocError);
@@ -251,10 +255,10 @@ where
         requires cols { (arc_value b).matrix.cols ≡ N.setup.cols }
         requires parts { (first.old.parts ≡ 1) × (second.old.parts ≡ 1) }
         ensures fresh { OnOk result (verdict_on self.old (arc_value b) ≡ Fresh) }
-        ensures list { OnOk result (self.new.list ≡ self.old.list ++ arc_value b ∷ []) }
+        ensures state { OnOk result (self.new.state ≡ with_batch self.old.state (arc_value b)) }
         ensures kept { IfOk result (λ r. r ≡
-            kept (length self.old.list) (list_total self.old.list + batch_total (arc_value b))) }
-        ensures refused { OnErr result (self.new.list ≡ self.old.list) }
+            kept (count_in self.old.state) (total_in self.old.state + batch_total (arc_value b))) }
+        ensures refused { OnErr result (self.new.state ≡ self.old.state) }
         ensures parts { (first.new.parts ≡ 1) × (second.new.parts ≡ 1) }
         ensures first { OnOk result (first.new.amount ≡ first.old.amount + batch_total (arc_value b)) }
         ensures second { OnOk result (second.new.amount ≡ second.old.amount + batch_total (arc_value b)) }
@@ -282,18 +286,18 @@ where
         requires rows { (arc_value b).matrix.rows ≡ N.setup.rows }
         requires cols { (arc_value b).matrix.cols ≡ N.setup.cols }
         requires parts { (first.old.parts ≡ 1) × (second.old.parts ≡ 1) }
-        requires shown { seen.old ≡ entries_of self.old.list }
+        requires shown { seen.old ≡ entries_in self.old.state }
         requires fresh { verdict_on self.old (arc_value b) ≡ Fresh }
-        ensures list { OnOk result (self.new.list ≡ self.old.list ++ arc_value b ∷ []) }
+        ensures state { OnOk result (self.new.state ≡ with_batch self.old.state (arc_value b)) }
         ensures kept { IfOk result (λ r. r ≡
-            kept (length self.old.list) (list_total self.old.list + batch_total (arc_value b))) }
-        ensures refused { OnErr result (self.new.list ≡ self.old.list) }
+            kept (count_in self.old.state) (total_in self.old.state + batch_total (arc_value b))) }
+        ensures refused { OnErr result (self.new.state ≡ self.old.state) }
         ensures parts { (first.new.parts ≡ 1) × (second.new.parts ≡ 1) }
         ensures first { OnOk result (first.new.amount ≡ first.old.amount + batch_total (arc_value b)) }
         ensures second { OnOk result (second.new.amount ≡ second.old.amount + batch_total (arc_value b)) }
         ensures first_kept { OnErr result (first.new.amount ≡ first.old.amount) }
         ensures second_kept { OnErr result (second.new.amount ≡ second.old.amount) }
-        ensures seen { OnOk result (seen.new ≡ entries_of self.new.list) }
+        ensures seen { OnOk result (seen.new ≡ entries_in self.new.state) }
         ensures seen_kept { OnErr result (seen.new ≡ seen.old) }
         ensures err { IfErr result (λ u. IsTold N.setup (summary_of (arc_value b)) seen.new (answer_of u)) }
     {

@@ -4,7 +4,8 @@ ghost use Rattle.std.specs.Fn.{FnOnceReturnsAt};
 ghost use Rattle.std.specs.FinMap.{get};
 ghost use Rattle.layer_cascade.specs.Cascade.{content};
 ghost use mathlib.Core.List.{IsPrefix};
-ghost use Rattle.batch_store.specs.Batches.{entries_of, values};
+ghost use Rattle.batch_store.specs.Accepted.{unfolded, entries_in};
+ghost use Rattle.batch_store.specs.Batches.{values};
 ghost use Rattle.batch_store.specs.Books.{AreAccepted};
 ghost use Rattle.batch_store.specs.Shards.{Holding};
 ghost use Rattle.locked_engine.specs.Moments.{IsShardOf, no_sum, row_sum_in};
@@ -99,8 +100,8 @@ impl<N: Named, H: Ledger> Engine<N, H> {
         ensures number { seat.new.number ≡ seat.old.number }
         ensures first { seat.new.first ≡ seat.old.first }
         ensures later { IsPrefix seat.old.seen seat.new.seen }
-        ensures list { IfOk result (λ list. AreAccepted N.setup (values list.items)) }
-        ensures shown { IfOk result (λ list. entries_of (values list.items) ≡ seat.new.seen) }
+        ensures list { IfOk result (λ list. AreAccepted N.setup (unfolded (values list.items))) }
+        ensures shown { IfOk result (λ list. entries_in (unfolded (values list.items)) ≡ seat.new.seen) }
     {
         let locked = self.book.lock(rt);
         let list = locked.list(alloc, &mut seat.seen);

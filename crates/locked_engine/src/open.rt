@@ -1,7 +1,6 @@
 //! Opening: an engine of one thread becomes one of several, with its seats.
 ghost use Rattle.std.specs.Prelude.{◌≡◌, ◌+◌, ◌≤◌, ◌<◌, IfOk, IfErr, [], vec_len, vec_capacity};
-ghost use Rattle.batch_store.specs.Batches.{entries_of};
-ghost use Rattle.batch_store.specs.Books.{list_total};
+ghost use Rattle.batch_store.specs.Accepted.{entries_in, total_in};
 ghost use Rattle.plain_engine.specs.Standing.{HaveSetup, shards_total};
 ghost use Rattle.locked_engine.specs.Opened.{opened_seats, NamesEngine};
 
@@ -37,9 +36,9 @@ impl<N: Named, H: Ledger> Engine<N, H> {
     ) -> Result<(Engine<N, H>, Vec<Seat<N, H>>), (PlainEngine, Names, AllocError)>
         requires named { NamesEngine names N.setup N.seats N.history N.name N.parts H.name H.parts }
         requires made_from { plain.setup ≡ names.setup }
-        requires opened { entries_of plain.book.list ≡ N.opened }
+        requires opened { entries_in plain.book.state ≡ N.opened }
         ensures seats { IfOk result (λ r. r.1.items ≡
-            opened_seats (entries_of plain.book.list) (list_total plain.book.list) N.seats) }
+            opened_seats (entries_in plain.book.state) (total_in plain.book.state) N.seats) }
         ensures err { IfErr result (λ r. (r.0 ≡ plain) × (r.1 ≡ names)) }
     {
         let mut seats = Vec::new(alloc);

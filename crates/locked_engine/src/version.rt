@@ -35,7 +35,8 @@ impl<N: Named> Model for Version<N> {
     ghost use Rattle.std.specs.Prelude.{◌≡◌, ◌++◌, List, length};
     ghost use Rattle.std.specs.Coded.{coded_list};
     ghost use Rattle.batch_store.specs.declared.verdict.Entry.{Entry};
-    ghost use Rattle.locked_engine.specs.Versions.{coded_entry, IsVersion, version_status};
+    ghost use Rattle.batch_store.specs.Verdicts.{coded_entry};
+    ghost use Rattle.locked_engine.specs.Versions.{IsVersion, version_status};
 
     ghost Value = { List Entry };
 

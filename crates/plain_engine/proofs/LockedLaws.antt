@@ -8,6 +8,7 @@ use Rattle.batch_store.specs.Setups.{Setting}
 use Rattle.batch_store.specs.Batches.{Submission}
 use Rattle.batch_store.specs.Parts.{concerns, concerned}
 use Rattle.batch_store.specs.declared.verdict.Verdict.TheVariants.{Fresh}
+use Rattle.batch_store.specs.Accepted.{unfolded}
 use Rattle.plain_engine.specs.Object.{verdict_in}
 use Rattle.plain_engine.specs.World.{Part, World, Event, part_for, parts_for, record_at, append_at, Delivers, Admits}
 use Rattle.plain_engine.specs.World.{RunsLocked, FindsFree, AllFollow, Starts, world, deliveries}
@@ -211,7 +212,7 @@ deliver-all v book records (p ∷ ps) =
 
 -- a batch that is put alone: its admission and the deliveries of its parts are a locked run, which ends with nothing in
 -- flight
-pub put_is_run : (v : Setting) (w : World) (b : Submission) → Starts v w → verdict_in v w.book b ≡ Fresh
+pub put_is_run : (v : Setting) (w : World) (b : Submission) → Starts v w → verdict_in v (unfolded w.book) b ≡ Fresh
     → (u : World) × (RunsLocked v w (Admit b ∷ deliveries (parts_for b v.shards v.shards)) u ×
     (u.book ≡ w.book ++ b ∷ []) × (u.flight ≡ []))
 put_is_run v w b st fresh =

@@ -10,28 +10,27 @@ use Rattle.hyper_matrix.proofs.CountLaws.{same_counts, get-part}
 use Rattle.hyper_matrix.proofs.RowOfLaws.{get-row_of}
 use Rattle.layer_cascade.specs.Cascade.{content}
 use Rattle.batch_store.specs.Setups.{Setting}
-use Rattle.batch_store.specs.Batches.{Submission}
+use Rattle.batch_store.specs.Accepted.{Accepted, summed}
 use Rattle.batch_store.specs.Shards.{Holding}
-use Rattle.plain_engine.specs.Object.{summed}
 use Rattle.plain_engine.specs.Standing.{StandsAt, Stand, HaveSetup, shards_total}
 use Rattle.plain_engine.proofs.StandLaws.{holds_part}
 
-pub stands_here : (v : Setting) (list : List Submission) (i j : ℕ) (xs : List Holding) (x : Holding) →
-    Stand v list i xs → j < length xs → x ≡ get_or xs j x → StandsAt v list (i + j) x
-stands_here v list i j [] x h below is = absurd (omega arith)
-stands_here v list i zero (y ∷ ys) x h below is =
-    subst (λ (n : ℕ). StandsAt v list n x) {x = i} {y = i + 0} (omega arith) (subst (StandsAt v list i) (sym is) h.0)
-stands_here v list i (suc j) (y ∷ ys) x h below is =
-    subst (λ (n : ℕ). StandsAt v list n x) {x = (i + 1) + j} {y = i + suc j} (omega arith)
-    (stands_here v list (i + 1) j ys x h.1 (omega arith) is)
+pub stands_here : (v : Setting) (a : Accepted) (i j : ℕ) (xs : List Holding) (x : Holding) →
+    Stand v a i xs → j < length xs → x ≡ get_or xs j x → StandsAt v a (i + j) x
+stands_here v a i j [] x h below is = absurd (omega arith)
+stands_here v a i zero (y ∷ ys) x h below is =
+    subst (λ (n : ℕ). StandsAt v a n x) {x = i} {y = i + 0} (omega arith) (subst (StandsAt v a i) (sym is) h.0)
+stands_here v a i (suc j) (y ∷ ys) x h below is =
+    subst (λ (n : ℕ). StandsAt v a n x) {x = (i + 1) + j} {y = i + suc j} (omega arith)
+    (stands_here v a (i + 1) j ys x h.1 (omega arith) is)
 
 -- a shard has the cells of its rows
-pub get-shard : (v : Setting) (list : List Submission) (x : Holding) (row col : ℕ) →
-    StandsAt v list (row % v.shards) x → get (content x.layers) (row, col) ≡ get (summed list) (row, col)
-get-shard v list x row col h =
+pub get-shard : (v : Setting) (a : Accepted) (x : Holding) (row col : ℕ) →
+    StandsAt v a (row % v.shards) x → get (content x.layers) (row, col) ≡ get (summed a) (row, col)
+get-shard v a x row col h =
     let i = row % v.shards in
-    let m = summed list in
-    ap (λ (c : Counts). get c (row, col)) (holds_part v list i x h) ∙ get-part m i v.shards (row, col)
+    let m = summed a in
+    ap (λ (c : Counts). get c (row, col)) (holds_part v a i x h) ∙ get-part m i v.shards (row, col)
     ∙ ap (λ (b : Bool). cond b (get m (row, col)) None) (eq-eqb i i refl)
 
 -- a part has the rows that lie in it
@@ -47,15 +46,15 @@ row_of-part m r k = same_counts _ _ (λ q.
         ap (λ (b : Bool). cond b (get m q) None) (eq-eqb (q.0 % k) (r % k) (ap (λ (n : ℕ). n % k) same))
     by q false is = refl
 
-pub row_of-shard : (v : Setting) (list : List Submission) (x : Holding) (row : ℕ) →
-    StandsAt v list (row % v.shards) x → row_of (content x.layers) row ≡ row_of (summed list) row
-row_of-shard v list x row h =
-    ap (λ (c : Counts). row_of c row) (holds_part v list (row % v.shards) x h) ∙ row_of-part (summed list) row v.shards
+pub row_of-shard : (v : Setting) (a : Accepted) (x : Holding) (row : ℕ) →
+    StandsAt v a (row % v.shards) x → row_of (content x.layers) row ≡ row_of (summed a) row
+row_of-shard v a x row h =
+    ap (λ (c : Counts). row_of c row) (holds_part v a (row % v.shards) x h) ∙ row_of-part (summed a) row v.shards
 
 -- shards at their places were made with the setup
-pub have_setup : (v : Setting) (list : List Submission) (i : ℕ) (xs : List Holding) → Stand v list i xs → HaveSetup v xs
-have_setup v list i [] h = tt
-have_setup v list i (x ∷ xs) h = (h.0.setup, have_setup v list (i + 1) xs h.1)
+pub have_setup : (v : Setting) (a : Accepted) (i : ℕ) (xs : List Holding) → Stand v a i xs → HaveSetup v xs
+have_setup v a i [] h = tt
+have_setup v a i (x ∷ xs) h = (h.0.setup, have_setup v a (i + 1) xs h.1)
 
 pub have_take : (v : Setting) (n : ℕ) (xs : List Holding) → HaveSetup v xs → HaveSetup v (take n xs)
 have_take v zero [] h = tt

@@ -1,12 +1,14 @@
 -- Comparing lists, and a record with the list that it should follow.
 use Rattle.std.proofs.Common.{◌≡◌, ℕ, zero, suc, ◌<◌, ◌≤◌, Bool, true, false, cond, List, [], ◌∷◌, ◌++◌, length, take}
-use Rattle.std.proofs.Common.{drop, Some, sym, ◌∙◌, ap, arith, append-nil}
+use Rattle.std.proofs.Common.{◌+◌, ◌-◌, None, drop, Some, sym, ◌∙◌, ap, arith, append-nil}
 use Rattle.std.specs.Prelude.{slice_get}
 use Rattle.std.proofs.lemmas.List.Elements.{filter-append}
 use Rattle.std.specs.FinMap.{entries}
 use Rattle.hyper_matrix.specs.Counts.{built}
 use Rattle.hyper_matrix.specs.Matrix.{Matrix}
 use Rattle.hyper_matrix.proofs.PartLaws.{built-entries}
+use Rattle.std.proofs.lemmas.Bool.{le-ltb}
+use Rattle.batch_store.specs.Accepted.{Accepted, batch_at}
 use Rattle.batch_store.specs.Batches.{Submission}
 use Rattle.batch_store.specs.Parts.{concerns, concerned}
 use Rattle.plain_engine.specs.Records.{Follows}
@@ -23,6 +25,13 @@ pub cut_at : {A : Type 0} (i : ℕ) (xs : List A) (x : A) → slice_get xs i ≡
 cut_at i [] x h = absurd cc
 cut_at zero (y ∷ ys) x h = let same : y ≡ x = cc in ap (λ z. z ∷ ys) same
 cut_at (suc i) (y ∷ ys) x h = ap (λ zs. y ∷ zs) (cut_at i ys x h)
+
+-- a place counted behind the folded batches
+pub behind_folded : (a : Accepted) (n i : ℕ) → n ≡ length a.folded → batch_at a (n + i) ≡ slice_get a.list i
+behind_folded a n i is =
+    ap (λ (t : Bool). cond t None (slice_get a.list (n + i - length a.folded)))
+    (le-ltb (n + i) (length a.folded) (omega (arith, is)))
+    ∙ ap (slice_get a.list) {x = n + i - length a.folded} {y = i} (omega (arith, is))
 
 -- what stands behind a beginning of a list
 behind : {A : Type 0} (n : ℕ) (xs zs : List A) (x : A) → n ≤ length xs → xs ≡ take n xs ++ x ∷ zs →

@@ -5,7 +5,9 @@ use Rattle.std.specs.List.{IsDistinct, AllByRecursion}
 use Rattle.std.proofs.lemmas.List.{map-append}
 use Rattle.std.proofs.lemmas.Bool.{cases_lt}
 use Rattle.std.proofs.lemmas.Bool.Decides.{nat_tests}
+use Rattle.std.specs.FinMap.{empty}
 use Rattle.hyper_matrix.specs.Counts.{Counts, ewise_add, part, parts}
+use Rattle.layer_cascade.specs.Cascade.{content}
 use Rattle.hyper_matrix.proofs.CountLaws.{ewise_add-empty, ewise_add_comm, ewise_add_assoc, parts_whole}
 use Rattle.layer_cascade.proofs.CascadeLaws.{empty-ewise_add}
 use Rattle.batch_store.specs.declared.verdict.Entry.{Entry}
@@ -13,15 +15,18 @@ use Rattle.batch_store.specs.declared.verdict.Verdict.TheVariants.{Fresh}
 use Rattle.batch_store.specs.Setups.{Setting}
 use Rattle.batch_store.specs.Batches.{Submission, entry_of, entries_of}
 use Rattle.batch_store.specs.Verdicts.{same_pair}
-use Rattle.batch_store.specs.Parts.{concerns, record_content, concerned}
+use Rattle.batch_store.specs.Accepted.{unfolded, list_sum}
+use Rattle.batch_store.specs.Parts.{concerns, parts_of, record_content, concerned}
 use Rattle.batch_store.specs.Books.{AreDistinct}
 use Rattle.batch_store.proofs.VerdictLaws.{fresh_is, none_same, distinct_push}
+use Rattle.batch_store.proofs.PartLaws.{record_content-concerned}
 use Rattle.batch_store.proofs.ShardLaws.{record_content-push}
-use Rattle.plain_engine.specs.Object.{summed, verdict_in}
+use Rattle.batch_store.proofs.SumLaws.{list_sum-push, content-parts}
+use Rattle.plain_engine.specs.Object.{verdict_in}
 use Rattle.plain_engine.specs.World.{Part, World, Event, part_for, parts_for, record_at, append_at, Delivers, Admits}
 use Rattle.plain_engine.specs.World.{Runs, AllFollow, Starts, records_content, flight_content}
 use Rattle.plain_engine.specs.World.Event.{Admit, Deliver}
-use Rattle.plain_engine.proofs.SumLaws.{move_middle, summed-push, record_content-concerned}
+use Rattle.plain_engine.proofs.SumLaws.{move_middle}
 use Rattle.batch_store.proofs.PartLaws.{part-unconcerned}
 
 -- == The sums
@@ -58,12 +63,12 @@ records_content-append_at i k [] s b h = absurd (omega arith)
 records_content-append_at i k (r ∷ rs) zero b h =
     let rest = records_content (i + 1) k rs in
     let m = part b.matrix.counts i k in
-    let own = record_content i k r in
-    ap (λ (c : Counts). ewise_add c rest) (record_content-push i k r b)
+    let own = record_content i k empty r in
+    ap (λ (c : Counts). ewise_add c rest) (record_content-push i k empty r b)
     ∙ ewise_add_assoc own m rest ∙ ap (ewise_add own) (ewise_add_comm m rest) ∙ sym (ewise_add_assoc own rest m)
     ∙ ap (λ (n : ℕ). ewise_add (ewise_add own rest) (part b.matrix.counts n k)) {x = i} {y = i + 0} (omega arith)
 records_content-append_at i k (r ∷ rs) (suc s) b h =
-    let own = record_content i k r in
+    let own = record_content i k empty r in
     ap (ewise_add own) (records_content-append_at (i + 1) k rs s b (omega arith))
     ∙ sym (ewise_add_assoc own (records_content (i + 1) k rs) (part b.matrix.counts ((i + 1) + s) k))
     ∙ ap (λ (n : ℕ). ewise_add (ewise_add own (records_content (i + 1) k rs)) (part b.matrix.counts n k))
@@ -77,33 +82,34 @@ length-append_at (r ∷ rs) (suc s) b = ap suc (length-append_at rs s b)
 -- records that follow a list have its parts
 records_content-follow : (i k : ℕ) (rs : List (List Submission)) (list : List Submission) →
     ((s : ℕ) → s < length rs → record_at rs s ≡ concerned (i + s) k list)
-    → ewise_add (parts (summed list) i k) (records_content i k rs) ≡ parts (summed list) (i + length rs) k
+    → ewise_add (parts (list_sum list) i k) (records_content i k rs) ≡ parts (list_sum list) (i + length rs) k
 records_content-follow i k [] list h =
-    ewise_add-empty (parts (summed list) i k) ∙ ap (λ (n : ℕ). parts (summed list) n k) {x = i} {y = i + 0}
+    ewise_add-empty (parts (list_sum list) i k) ∙ ap (λ (n : ℕ). parts (list_sum list) n k) {x = i} {y = i + 0}
     (omega arith)
 records_content-follow i k (r ∷ rs) list h =
-    let m = summed list in
-    let here : record_content i k r ≡ part m i k =
-    ap (record_content i k) (h 0 (omega arith) ∙ ap (λ (n : ℕ). concerned n k list) {x = i + 0} {y = i}
-    (omega arith)) ∙ record_content-concerned i k list in
+    let m = list_sum list in
+    let here : record_content i k empty r ≡ part m i k =
+    ap (record_content i k empty) (h 0 (omega arith) ∙ ap (λ (n : ℕ). concerned n k list) {x = i + 0} {y = i}
+    (omega arith)) ∙ record_content-concerned i k empty list
+    ∙ empty-ewise_add (content (parts_of i k list)) ∙ content-parts i k list in
     let next : (s : ℕ) → s < length rs → record_at rs s ≡ concerned ((i + 1) + s) k list =
     λ s below. h (suc s) (omega arith) ∙ ap (λ (n : ℕ). concerned n k list) {x = i + suc s} {y = (i + 1) + s}
     (omega arith) in
-    sym (ewise_add_assoc (parts m i k) (record_content i k r) (records_content (i + 1) k rs))
+    sym (ewise_add_assoc (parts m i k) (record_content i k empty r) (records_content (i + 1) k rs))
     ∙ ap (λ (c : Counts). ewise_add (ewise_add (parts m i k) c) (records_content (i + 1) k rs)) here
     ∙ ap (λ (n : ℕ). ewise_add (parts m n k) (records_content (i + 1) k rs)) {x = suc i} {y = i + 1} (omega arith)
     ∙ records_content-follow (i + 1) k rs list next
     ∙ ap (λ (n : ℕ). parts m n k) {x = (i + 1) + length rs} {y = i + suc (length rs)} (omega arith)
 
 pub records_content-whole : (k : ℕ) (rs : List (List Submission)) (list : List Submission) → 0 < k → length rs ≡ k →
-    AllFollow k rs list → records_content 0 k rs ≡ summed list
+    AllFollow k rs list → records_content 0 k rs ≡ list_sum list
 records_content-whole k rs list pos count follow =
     let at : (s : ℕ) → s < length rs → record_at rs s ≡ concerned (0 + s) k list = λ s below. follow s (omega arith)
     ∙ ap (λ (n : ℕ). concerned n k list) {x = s} {y = 0 + s} (omega arith) in
     sym (empty-ewise_add (records_content 0 k rs))
     ∙ records_content-follow 0 k rs list at
-    ∙ ap (λ (n : ℕ). parts (summed list) n k) {x = 0 + length rs} {y = k} (omega arith)
-    ∙ parts_whole (summed list) k pos
+    ∙ ap (λ (n : ℕ). parts (list_sum list) n k) {x = 0 + length rs} {y = k} (omega arith)
+    ∙ parts_whole (list_sum list) k pos
 
 -- each part in flight is for one of n shards
 abbrev AreBelow : ℕ → List Part → Type 0
@@ -134,7 +140,7 @@ below-parts_for b k n (suc m) h = by (concerns m k b.matrix.counts) (below-parts
 pub record Agrees (v : Setting) (w : World) : Type 0 where
   pub count : length w.records ≡ v.shards
   pub below : AreBelow v.shards w.flight
-  pub sums : summed w.book ≡ ewise_add (records_content 0 v.shards w.records) (flight_content v.shards w.flight)
+  pub sums : list_sum w.book ≡ ewise_add (records_content 0 v.shards w.records) (flight_content v.shards w.flight)
 
 agrees-start : (v : Setting) (w : World) → Starts v w → Agrees v w
 agrees-start v w st = record {
@@ -159,7 +165,7 @@ agrees-admit v w b u pos a inv =
       count = inv.count;
       below = below-append k w.flight (parts_for b k k) inv.below (below-parts_for b k k k (omega arith));
       sums =
-          summed-push w.book b ∙ ap (λ (c : Counts). ewise_add c m) inv.sums ∙ ewise_add_assoc rs fl m
+          list_sum-push w.book b ∙ ap (λ (c : Counts). ewise_add c m) inv.sums ∙ ewise_add_assoc rs fl m
           ∙ ap (ewise_add rs) (ap (ewise_add fl) (sym own) ∙ sym (flight_content-append k w.flight (parts_for b k k)));
     })
 
@@ -198,7 +204,7 @@ pub run_agrees : (v : Setting) (w : World) (es : List Event) (u : World) → Sta
 run_agrees v w es u st run = agrees-run v es w u st.some run (agrees-start v w st)
 
 pub run_lands : (v : Setting) (w : World) (es : List Event) (u : World) → Starts v w → Runs v w es u → u.flight ≡ [] →
-    records_content 0 v.shards u.records ≡ summed u.book
+    records_content 0 v.shards u.records ≡ list_sum u.book
 run_lands v w es u st run none =
     let rs = records_content 0 v.shards u.records in
     sym ((run_agrees v w es u st run).sums ∙ ap (λ (ps : List Part). ewise_add rs (flight_content v.shards ps)) none
@@ -277,7 +283,7 @@ counted_distinct (x ∷ xs) h =
 
 -- the list after a fresh batch has distinct pairs
 pub distinct-fresh : (v : Setting) (list : List Submission) (b : Submission) → AreDistinct list →
-    verdict_in v list b ≡ Fresh → AreDistinct (list ++ b ∷ [])
+    verdict_in v (unfolded list) b ≡ Fresh → AreDistinct (list ++ b ∷ [])
 distinct-fresh v list b h fresh =
     subst (IsDistinct same_pair) (sym (map-append entry_of list (b ∷ [])))
     (distinct_push (entries_of list) (entry_of b) h

@@ -16,12 +16,12 @@ use Rattle.plain_engine.specs.Object.{verdict_in}
 use Rattle.plain_engine.specs.Standing.{Standing, bare_shard}
 
 abbrev pub IsFresh : Standing → Submission → Type 0
-IsFresh e b = verdict_in e.setup e.book.list b ≡ Fresh
+IsFresh e b = verdict_in e.setup e.book.state b ≡ Fresh
 
 abbrev pub shard_after : Submission → Holding → Holding
 shard_after b x =
     if concerns x.number x.setup.shards b.matrix.counts
-    then holding x.setup x.number (cascade x.layers x.setup.cuts (part_in x b)) (x.record_list ++ b ∷ []) 0
+    then holding x.setup x.number (cascade x.layers x.setup.cuts (part_in x b)) x.base (x.record_list ++ b ∷ []) 0
     else bare_shard x
 
 pub record Takes (v : Setting) (b : Submission) (x : Holding) : Type 0 where
@@ -35,4 +35,4 @@ AllTake v b (x ∷ xs) = Takes v b x × AllTake v b xs
 
 abbrev pub AreAllHeld : List Holding → Type 0
 AreAllHeld [] = Unit {0}
-AreAllHeld (x ∷ xs) = AreHeld x.setup x.number x.layers x.record_list × AreAllHeld xs
+AreAllHeld (x ∷ xs) = AreHeld x.setup x.number x.layers x.base x.record_list × AreAllHeld xs

@@ -12,6 +12,7 @@ use Rattle.std.specs.FinMap.{empty}
 use Rattle.hyper_matrix.specs.Counts.{Counts, ewise_add, part}
 use Rattle.batch_store.specs.declared.verdict.Verdict.TheVariants.{Fresh}
 use Rattle.batch_store.specs.Setups.{Setting}
+use Rattle.batch_store.specs.Accepted.{unfolded}
 use Rattle.batch_store.specs.Batches.{Submission}
 use Rattle.batch_store.specs.Parts.{concerns, record_content}
 use Rattle.batch_store.specs.Books.{AreDistinct}
@@ -64,7 +65,7 @@ pub record Delivers (w : World) (b : Submission) (s : ℕ) (u : World) : Type 0 
 
 -- a batch that the book calls fresh stands at its end, and its parts are in flight
 pub record Admits (v : Setting) (w : World) (b : Submission) (u : World) : Type 0 where
-  pub fresh : verdict_in v w.book b ≡ Fresh
+  pub fresh : verdict_in v (unfolded w.book) b ≡ Fresh
   pub now : u ≡ world (w.book ++ b ∷ []) w.records (w.flight ++ parts_for b v.shards v.shards)
 
 abbrev pub Steps : Setting → World → Event → World → Type 0
@@ -102,7 +103,7 @@ pub record Starts (v : Setting) (w : World) : Type 0 where
 -- the contents of records, of which the first is that of shard i of k
 abbrev pub records_content : ℕ → ℕ → List (List Submission) → Counts
 records_content i k [] = empty
-records_content i k (r ∷ rs) = ewise_add (record_content i k r) (records_content (i + 1) k rs)
+records_content i k (r ∷ rs) = ewise_add (record_content i k empty r) (records_content (i + 1) k rs)
 
 -- the sum of the parts in flight, for k shards
 abbrev pub flight_content : ℕ → List Part → Counts

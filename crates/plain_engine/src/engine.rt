@@ -7,6 +7,7 @@ ghost use Rattle.plain_engine.specs.Object.{verdict_in, Puts, cell_of, row_sum_o
 ghost use Rattle.plain_engine.specs.Puts.{IsFresh, shard_after};
 ghost use Rattle.plain_engine.specs.Standing.{AreEmpty, Stand, StandsAt, KeepsEngine, IsWhole, HaveSetup};
 ghost use Rattle.plain_engine.specs.Standing.{standing, bare, bare_shard};
+ghost use Rattle.batch_store.specs.Accepted.{unfolded};
 ghost use Rattle.batch_store.specs.Batches.{values};
 
 use crate::export::{ViewedSum, views_of};
@@ -56,7 +57,7 @@ impl PlainEngine {
         setup: Setup,
     ) -> Result<PlainEngine, AllocError>
         ensures setup { IfOk result (λ e. e.setup ≡ setup) }
-        ensures empty { IfOk result (λ e. e.book.list ≡ []) }
+        ensures empty { IfOk result (λ e. e.book.state ≡ unfolded []) }
         ensures layers { IfOk result (λ e. AreEmpty setup e.shards) }
     {
         let book = Book::new(rt, alloc, &setup)?;
@@ -81,7 +82,7 @@ impl PlainEngine {
 
     /// How many batches were accepted, and their total. Constant time, and no memory.
     pub fn status(&self) -> Status
-        ensures { result ≡ status_of self.now.book.list }
+        ensures { result ≡ status_of self.now.book.state }
     {
         Status {
             batches: self.book.len(),
@@ -91,7 +92,7 @@ impl PlainEngine {
 
     // What the book says of a batch.
     pub(crate) fn verdict(&self, b: &Batch) -> Verdict
-        ensures { result ≡ verdict_in self.now.setup self.now.book.list b.now }
+        ensures { result ≡ verdict_in self.now.setup self.now.book.state b.now }
     {
         self.book.look(b)
     }
@@ -102,7 +103,7 @@ impl PlainEngine {
     ///
     /// A growth was refused.
     pub fn batches(&self, alloc: Global) -> Result<Vec<Arc<Batch>>, AllocError>
-        ensures { IfOk result (λ list. values list.items ≡ self.now.book.list) }
+        ensures { IfOk result (λ list. values list.items ≡ self.now.book.state.list) }
     {
         self.book.list(alloc)
     }
@@ -116,7 +117,7 @@ impl PlainEngine {
 
     // The shard of a row.
     fn shard_of(&self, row: u64) -> &Shard
-        ensures { StandsAt self.now.setup self.now.book.list (row % self.now.setup.shards) result.now }
+        ensures { StandsAt self.now.setup self.now.book.state (row % self.now.setup.shards) result.now }
     {
         let k = self.setup.shards();
         &self.shards[(row % k) as usize]
@@ -125,7 +126,7 @@ impl PlainEngine {
     /// The count at a place of the sum of all accepted batches, and None where that sum has no entry, as outside the
     /// dimensions. A stored zero is Some. Bisections in the layers of one shard, and no memory.
     pub fn cell(&self, row: u64, col: u64) -> Option<u64>
-        ensures { result ≡ cell_of self.now.book.list row col }
+        ensures { result ≡ cell_of self.now.book.state row col }
     {
         self.shard_of(row).get(row, col)
     }
@@ -133,7 +134,7 @@ impl PlainEngine {
     /// How many entries a row of the sum of all accepted batches has, stored zeros included, and the sum of their
     /// counts. Both are 0 where it has none, as outside the dimensions. One shard is read; no memory.
     pub fn row(&self, row: u64) -> RowSum
-        ensures { result ≡ row_sum_of self.now.book.list row }
+        ensures { result ≡ row_sum_of self.now.book.state row }
     {
         self.shard_of(row).row_total(row)
     }
@@ -144,7 +145,7 @@ impl PlainEngine {
     ///
     /// A growth was refused. The engine is as it was.
     pub fn export(&self, alloc: Global) -> Result<Hyper, AllocError>
-        ensures { IfOk result (λ m. m ≡ export_of self.now.setup self.now.book.list) }
+        ensures { IfOk result (λ m. m ≡ export_of self.now.setup self.now.book.state) }
     {
         let viewed = self.viewed(alloc)?;
         let sum = viewed.build(alloc)?;
@@ -158,7 +159,7 @@ impl PlainEngine {
     ///
     /// A growth was refused. The engine is as it was.
     pub fn viewed(&self, alloc: Global) -> Result<ViewedSum, AllocError>
-        ensures { IfOk result (λ m. m ≡ export_of self.now.setup self.now.book.list) }
+        ensures { IfOk result (λ m. m ≡ export_of self.now.setup self.now.book.state) }
     {
         let views = views_of(&self.shards, alloc)?;
         Ok(ViewedSum::new(self.setup, views))
@@ -200,7 +201,7 @@ impl PlainEngine {
         ensures setup { self.new.setup ≡ self.old.setup }
 
         // What the object of one thread answers and leaves; or, of a fresh batch alone, want of memory.
-        ensures object { Puts self.old.setup self.old.book.list (arc_value b) result self.new.book.list }
+        ensures object { Puts self.old.setup self.old.book.state (arc_value b) result self.new.book.state }
         // Each shard that a fresh batch concerns has taken its part in, and the others are as before.
         ensures shards { OnOk result (IsFresh self.old (arc_value b) →
             map bare_shard self.new.shards ≡ map (shard_after (arc_value b)) self.old.shards) }
@@ -245,7 +246,7 @@ fn empty_shards(
     setup: &Setup,
 ) -> Result<Vec<Shard>, AllocError>
     ensures count { IfOk result (λ v. length v.items ≡ setup.now.shards) }
-    ensures stand { IfOk result (λ v. Stand setup.now [] 0 v.items) }
+    ensures stand { IfOk result (λ v. Stand setup.now (unfolded []) 0 v.items) }
     ensures layers { IfOk result (λ v. AreEmpty setup.now v.items) }
 {
     let k = setup.shards();

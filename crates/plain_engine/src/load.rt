@@ -1,8 +1,9 @@
 //! An engine from a list of batches, as from a file.
-ghost use Rattle.std.specs.Prelude.{◌≡◌, ◌++◌, List, [], ◌∷◌, None, Some, OnOk, IfOk, IfErr, length};
+ghost use Rattle.std.specs.Prelude.{◌≡◌, List, [], None, Some, OnOk, IfOk, IfErr};
 ghost use Rattle.std.specs.Arc.{arc_value};
 ghost use Rattle.batch_store.specs.Setups.{Setting};
 ghost use Rattle.batch_store.specs.Batches.{Submission, values};
+ghost use Rattle.batch_store.specs.Accepted.{unfolded, with_batch};
 ghost use Rattle.batch_store.specs.Books.{HaveDims, AreAccepted};
 ghost use Rattle.batch_store.specs.declared.verdict.Verdict.TheVariants.{Fresh};
 ghost use Rattle.plain_engine.specs.Object.{verdict_in};
@@ -17,7 +18,8 @@ use std::sync::Arc;
 
 /// Of a list that a book accepts no batch is refused: put in order, each is fresh behind those before it.
 pub fn accepted_lists_load()
-    ensures { (setup : Setting) (list : List Submission) → AreAccepted setup list → first_refusal setup [] list ≡ None }
+    ensures { (setup : Setting) (list : List Submission) → AreAccepted setup (unfolded list) →
+        first_refusal setup (unfolded []) list ≡ None }
 {}
 
 // Why a batch at a place isn't taken.
@@ -40,10 +42,10 @@ impl PlainEngine {
         requires rows { (arc_value b.now).matrix.rows ≡ self.old.setup.rows }
         requires cols { (arc_value b.now).matrix.cols ≡ self.old.setup.cols }
         ensures setup { self.new.setup ≡ self.old.setup }
-        ensures fresh { OnOk result (verdict_in self.old.setup self.old.book.list (arc_value b.now) ≡ Fresh) }
-        ensures list { OnOk result (self.new.book.list ≡ self.old.book.list ++ arc_value b.now ∷ []) }
+        ensures fresh { OnOk result (verdict_in self.old.setup self.old.book.state (arc_value b.now) ≡ Fresh) }
+        ensures state { OnOk result (self.new.book.state ≡ with_batch self.old.book.state (arc_value b.now)) }
         ensures err { IfErr result (λ fault. (fault ≡ LoadFault.Memory → ⊥) →
-            refusal_of (verdict_in self.old.setup self.old.book.list (arc_value b.now)) at None ≡ Some fault) }
+            refusal_of (verdict_in self.old.setup self.old.book.state (arc_value b.now)) at None ≡ Some fault) }
     {
         judged(self.verdict(b), at)?;
         let batch = Arc::try_clone(b)?;
@@ -70,11 +72,11 @@ impl PlainEngine {
     ) -> Result<PlainEngine, LoadFault>
         requires { HaveDims setup.rows setup.cols (values list.now) }
         ensures setup { IfOk result (λ e. e.setup ≡ setup) }
-        ensures list { IfOk result (λ e. e.book.list ≡ values list.now) }
-        ensures ok { OnOk result (first_refusal setup [] (values list.now) ≡ None) }
+        ensures state { IfOk result (λ e. e.book.state ≡ unfolded (values list.now)) }
+        ensures ok { OnOk result (first_refusal setup (unfolded []) (values list.now) ≡ None) }
         ensures err { IfErr result (λ fault. (fault ≡ LoadFault.Memory → ⊥) →
-            first_refusal setup [] (values list.now) ≡ Some fault) }
-        ensures accepted { AreAccepted setup (values list.now) → IfErr result (λ fault. fault ≡ LoadFault.Memory) }
+            first_refusal setup (unfolded []) (values list.now) ≡ Some fault) }
+        ensures accepted { AreAccepted setup (unfolded (values list.now)) → IfErr result (λ fault. fault ≡ LoadFault.Memory) }
     {
         let mut engine = PlainEngine::new(rt, alloc, setup)?;
         let mut at = 0u64;

@@ -1,5 +1,6 @@
 //! An engine from its parts: `PlainEngine::parts` the other way round, for parts that went through other hands.
-ghost use Rattle.std.specs.Prelude.{◌≡◌, ◌<◌, ◌↔◌, IfOk, IfErr, IsOk, IsTrue, true, length};
+ghost use Rattle.std.specs.Prelude.{◌≡◌, ◌<◌, ◌↔◌, [], IfOk, IfErr, IsOk, IsTrue, true, length};
+ghost use Rattle.std.specs.FinMap.{empty};
 ghost use Rattle.plain_engine.specs.Standing.{standing, HaveSetup, AreTogether, Stand};
 
 use crate::engine::PlainEngine;
@@ -11,8 +12,9 @@ use batch_store::{Book, Setup, Shard};
 ///
 /// # Errors
 ///
-/// There isn't a shard for each number below the setup's shards, a shard's number isn't its place, or some record
-/// isn't, in order, the book's batches that concern its shard, compared by client, number and matrix, cell by cell.
+/// There isn't a shard for each number below the setup's shards, a batch is folded, a shard's number isn't its place or
+/// its base isn't the part of the book's, or some record isn't, in order, the book's batches that concern its shard,
+/// compared by client, number and matrix, cell by cell.
 /// Book and shards are handed back as they were.
 pub fn join_parts(
     setup: Setup,
@@ -24,9 +26,13 @@ pub fn join_parts(
     ensures ok { IfOk result (λ e. e ≡ standing setup book shards.items) }
     ensures err { IfErr result (λ r. (r.0 ≡ book) × (r.1 ≡ shards)) }
     ensures exactly { IsOk result ↔
-        ((length shards.items ≡ setup.shards) × AreTogether setup.shards book.list 0 shards.items) }
+        ((length shards.items ≡ setup.shards) × (book.state.folded ≡ [])
+        × AreTogether setup.shards book.state 0 shards.items) }
 {
-    if shards.len() as u64 != setup.shards() || !are_together(&setup, &book, &shards) {
+    if shards.len() as u64 != setup.shards() || book.folded() > 0 {
+        return Err((book, shards));
+    }
+    if !are_together(&setup, &book, &shards) {
         return Err((book, shards));
     }
     // Any call on a book tells what it keeps.
@@ -34,16 +40,20 @@ pub fn join_parts(
     Ok(PlainEngine::of_parts(setup, book, shards))
 }
 
-// Whether each shard has its place for its number, and its record follows the book.
+// Whether each shard has its place for its number and no base, and its record follows the book.
 fn are_together(setup: &Setup, book: &Book, shards: &[Shard]) -> bool
-    requires { HaveSetup setup.now shards.now }
-    ensures stand { result ≡ true → Stand setup.now book.now.list 0 shards.now }
-    ensures exactly { IsTrue result ↔ AreTogether setup.now.shards book.now.list 0 shards.now }
+    requires made { HaveSetup setup.now shards.now }
+    requires plain { book.now.state.base ≡ empty }
+    ensures stand { result ≡ true → Stand setup.now book.now.state 0 shards.now }
+    ensures exactly { IsTrue result ↔ AreTogether setup.now.shards book.now.state 0 shards.now }
 {
     let k = setup.shards();
     let mut place = 0u64;
     'shards: for shard in shards {
         if shard.number() != place {
+            return false;
+        }
+        if shard.base().entries() > 0 {
             return false;
         }
         if !record_follows(shard, book, place, k) {

@@ -1,16 +1,16 @@
 //! Putting a batch: the verdict, the cut into parts, then every other growth, then one admission and the commits, which
 //! can't fail.
-ghost use Rattle.std.specs.Prelude.{◌≡◌, ◌+◌, ◌<◌, ◌≤◌, ◌++◌, [], ◌∷◌, IfOk, IfSome, IfNone, OnOk, OnErr, true, false};
-ghost use Rattle.std.specs.Prelude.{length, map};
+ghost use Rattle.std.specs.Prelude.{◌≡◌, ◌+◌, ◌<◌, ◌≤◌, IfOk, IfSome, IfNone, OnOk, OnErr, true, false};
+ghost use Rattle.std.specs.Prelude.{map};
 ghost use Rattle.std.specs.Arc.{arc_value};
 ghost use Rattle.batch_store.specs.declared.verdict.Verdict.TheVariants.{Fresh};
 ghost use Rattle.batch_store.specs.Batches.{batch_total};
-ghost use Rattle.batch_store.specs.Books.{list_total};
+ghost use Rattle.batch_store.specs.Accepted.{count_in, total_in, with_batch};
+ghost use Rattle.batch_store.specs.Books.{verdict_on};
 ghost use Rattle.batch_store.specs.BatchParts.{part_matrix, parts_if_any};
 ghost use Rattle.batch_store.specs.Parts.{concerns};
 ghost use Rattle.batch_store.specs.Shards.{IsReady, stands, shard_total, amount_in};
 ghost use Rattle.batch_store.specs.Verdicts.{kept};
-ghost use Rattle.plain_engine.specs.Object.{verdict_in};
 ghost use Rattle.plain_engine.specs.Puts.{shard_after, AllTake, AreAllHeld};
 ghost use Rattle.plain_engine.specs.Standing.{bare_shard};
 
@@ -60,14 +60,14 @@ fn prepared_for(
 
 // Makes a free place in the book for a fresh batch, and admits it.
 fn admitted(book: &mut Book, b: Arc<Batch>) -> Result<Kept, AllocError>
-    requires fresh { verdict_in book.old.setup book.old.list (arc_value b) ≡ Fresh }
+    requires fresh { verdict_on book.old (arc_value b) ≡ Fresh }
     requires rows { (arc_value b).matrix.rows ≡ book.old.setup.rows }
     requires cols { (arc_value b).matrix.cols ≡ book.old.setup.cols }
     ensures setup { book.new.setup ≡ book.old.setup }
-    ensures list { OnOk result (book.new.list ≡ book.old.list ++ arc_value b ∷ []) }
+    ensures state { OnOk result (book.new.state ≡ with_batch book.old.state (arc_value b)) }
     ensures kept { IfOk result (λ r. r ≡
-        kept (length book.old.list) (list_total book.old.list + batch_total (arc_value b))) }
-    ensures same_list { OnErr result (book.new.list ≡ book.old.list) }
+        kept (count_in book.old.state) (total_in book.old.state + batch_total (arc_value b))) }
+    ensures same_state { OnErr result (book.new.state ≡ book.old.state) }
 {
     book.reserve(&b)?;
     Ok(book.admit(b))
@@ -84,19 +84,19 @@ fn put_from(
     b: Arc<Batch>,
     parts: &[Option<Hyper>],
 ) -> Result<Kept, AllocError>
-    requires fresh { verdict_in book.old.setup book.old.list (arc_value b) ≡ Fresh }
+    requires fresh { verdict_on book.old (arc_value b) ≡ Fresh }
     requires rows { (arc_value b).matrix.rows ≡ book.old.setup.rows }
     requires cols { (arc_value b).matrix.cols ≡ book.old.setup.cols }
     requires k { k ≡ book.old.setup.shards }
     requires parts { parts.now ≡ parts_if_any k k (arc_value b) }
     requires take { AllTake book.old.setup (arc_value b) shards.old }
     ensures setup { book.new.setup ≡ book.old.setup }
-    ensures list { OnOk result (book.new.list ≡ book.old.list ++ arc_value b ∷ []) }
+    ensures state { OnOk result (book.new.state ≡ with_batch book.old.state (arc_value b)) }
     ensures kept { IfOk result (λ r. r ≡
-        kept (length book.old.list) (list_total book.old.list + batch_total (arc_value b))) }
+        kept (count_in book.old.state) (total_in book.old.state + batch_total (arc_value b))) }
     ensures shards { OnOk result (map bare_shard shards.new ≡ map (shard_after (arc_value b)) shards.old) }
     ensures held { OnOk result (AreAllHeld shards.new) }
-    ensures same_list { OnErr result (book.new.list ≡ book.old.list) }
+    ensures same_state { OnErr result (book.new.state ≡ book.old.state) }
     ensures same_shards { OnErr result (map bare_shard shards.new ≡ map bare_shard shards.old) }
 {
     let Some((first, rest)) = shards.split_first_mut() else {
@@ -124,19 +124,19 @@ pub fn put_fresh(
     book: &mut Book,
     b: Arc<Batch>,
 ) -> Result<Kept, AllocError>
-    requires fresh { verdict_in book.old.setup book.old.list (arc_value b) ≡ Fresh }
+    requires fresh { verdict_on book.old (arc_value b) ≡ Fresh }
     requires rows { (arc_value b).matrix.rows ≡ book.old.setup.rows }
     requires cols { (arc_value b).matrix.cols ≡ book.old.setup.cols }
     requires k { k ≡ book.old.setup.shards }
     requires some { 0 < k }
     requires take { AllTake book.old.setup (arc_value b) shards.old }
     ensures setup { book.new.setup ≡ book.old.setup }
-    ensures list { OnOk result (book.new.list ≡ book.old.list ++ arc_value b ∷ []) }
+    ensures state { OnOk result (book.new.state ≡ with_batch book.old.state (arc_value b)) }
     ensures kept { IfOk result (λ r. r ≡
-        kept (length book.old.list) (list_total book.old.list + batch_total (arc_value b))) }
+        kept (count_in book.old.state) (total_in book.old.state + batch_total (arc_value b))) }
     ensures shards { OnOk result (map bare_shard shards.new ≡ map (shard_after (arc_value b)) shards.old) }
     ensures held { OnOk result (AreAllHeld shards.new) }
-    ensures same_list { OnErr result (book.new.list ≡ book.old.list) }
+    ensures same_state { OnErr result (book.new.state ≡ book.old.state) }
     ensures same_shards { OnErr result (map bare_shard shards.new ≡ map bare_shard shards.old) }
 {
     let parts = b.parts(alloc, k)?;

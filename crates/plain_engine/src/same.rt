@@ -42,14 +42,15 @@ pub fn same_batch(a: &Batch, b: &Batch) -> bool
     a.client == b.client && a.number == b.number && same_matrix(&a.matrix, &b.matrix)
 }
 
-/// Whether a shard's record is, in order, the book's batches that concern shard s of k.
+/// Whether a shard's record is, in order, the book's batches that concern shard s of k and aren't folded.
 pub fn record_follows(shard: &Shard, book: &Book, s: u64, k: u64) -> bool
     requires { 0 < k }
-    ensures { IsTrue result ↔ Follows s k shard.now.record_list book.now.list }
+    ensures { IsTrue result ↔ Follows s k shard.now.record_list book.now.state.list }
 {
+    let folded = book.folded();
     let mut next = 0u64;
-    'batches: for i in 0..book.len() {
-        let Some(batch) = book.at(i) else {
+    'batches: for i in 0..book.len() - folded {
+        let Some(batch) = book.at(folded + i) else {
             unreachable!()
         };
         if batch.concerns(s, k) {

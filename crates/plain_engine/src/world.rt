@@ -12,7 +12,8 @@ ghost use Rattle.batch_store.specs.declared.verdict.Verdict.TheVariants.{Fresh};
 ghost use Rattle.batch_store.specs.Setups.{Setting};
 ghost use Rattle.batch_store.specs.Batches.{Submission};
 ghost use Rattle.batch_store.specs.Books.{AreDistinct};
-ghost use Rattle.plain_engine.specs.Object.{summed, verdict_in};
+ghost use Rattle.batch_store.specs.Accepted.{unfolded, list_sum};
+ghost use Rattle.plain_engine.specs.Object.{verdict_in};
 ghost use Rattle.plain_engine.specs.World.{World, Event, Starts, Runs, RunsLocked, AllFollow, record_at, parts_for};
 ghost use Rattle.plain_engine.specs.World.{deliveries, held_in, records_content, flight_content};
 ghost use Rattle.plain_engine.specs.World.Event.{Admit};
@@ -24,14 +25,14 @@ ghost use Rattle.plain_engine.specs.World.Event.{Admit};
 /// its shard.
 pub fn sums_agree()
     ensures cells { (v : Setting) (w : World) (es : List Event) (u : World) (q : Place) → Starts v w → Runs v w es u →
-        get (summed u.book) q ≡
+        get (list_sum u.book) q ≡
         plus (get (records_content 0 v.shards u.records) q) (get (flight_content v.shards u.flight) q) }
     ensures sums { (v : Setting) (w : World) (es : List Event) (u : World) → Starts v w → Runs v w es u →
-        summed u.book ≡ held_in v.shards u }
+        list_sum u.book ≡ held_in v.shards u }
     ensures distinct { (v : Setting) (w : World) (es : List Event) (u : World) (s : ℕ) → Starts v w → Runs v w es u →
         AreDistinct (record_at u.records s) }
     ensures landed { (v : Setting) (w : World) (es : List Event) (u : World) → Starts v w → Runs v w es u →
-        u.flight ≡ [] → records_content 0 v.shards u.records ≡ summed u.book }
+        u.flight ≡ [] → records_content 0 v.shards u.records ≡ list_sum u.book }
     ensures follow { (v : Setting) (w : World) (es : List Event) (u : World) → Starts v w → RunsLocked v w es u →
         u.flight ≡ [] → AllFollow v.shards u.records u.book }
 {}
@@ -39,7 +40,7 @@ pub fn sums_agree()
 /// A fresh batch that is put alone makes a locked run: its admission, and then the deliveries of its parts. The run
 /// ends with the batch at the end of the accepted list and nothing in flight.
 pub fn puts_are_locked_runs()
-    ensures { (v : Setting) (w : World) (b : Submission) → Starts v w → verdict_in v w.book b ≡ Fresh →
+    ensures { (v : Setting) (w : World) (b : Submission) → Starts v w → verdict_in v (unfolded w.book) b ≡ Fresh →
         (u : World) × (RunsLocked v w (Admit b ∷ deliveries (parts_for b v.shards v.shards)) u
         × (u.book ≡ w.book ++ b ∷ []) × (u.flight ≡ [])) }
 {}

@@ -1,6 +1,6 @@
--- Over the engine of one thread each message has one answer, and leaves one list.
-use Rattle.std.proofs.Common.{◌≡◌, ◌≢◌, ◌⊎◌, inl, inr, ℕ, ◌+◌, ◌<◌, ◌^◌, List, [], ◌∷◌, ◌++◌, length, refl, sym, ◌∙◌, ap}
-use Rattle.std.proofs.Common.{subst, arith, Some, Result, Ok, Err}
+-- Over the engine of one thread each message has one answer, and leaves one state.
+use Rattle.std.proofs.Common.{◌≡◌, ◌≢◌, ◌⊎◌, inl, inr, ℕ, ◌+◌, ◌<◌, ◌^◌, List, [], ◌∷◌, ◌++◌, refl, sym, ◌∙◌, ap, subst}
+use Rattle.std.proofs.Common.{arith, Some, Result, Ok, Err}
 use Rattle.cells.specs.declared.cell.Cell.{Cell}
 use Rattle.std.proofs.lemmas.Bool.{cases_lt}
 use Rattle.std.proofs.lemmas.Option.{same_Some}
@@ -14,7 +14,7 @@ use Rattle.hyper_matrix.specs.Matrix.{Matrix, matrix}
 use Rattle.std.specs.declared.alloc.AllocError.{AllocError}
 use Rattle.batch_store.specs.Setups.{Setting}
 use Rattle.batch_store.specs.Batches.{Submission, submission, batch_total}
-use Rattle.batch_store.specs.Books.{list_total}
+use Rattle.batch_store.specs.Accepted.{Accepted, count_in, total_in}
 use Rattle.batch_store.specs.Verdicts.{kept}
 use Rattle.batch_store.specs.Lists.{RefusesList}
 use Rattle.batch_store.specs.declared.fault.CellsFault.{CellsFault}
@@ -23,8 +23,8 @@ use Rattle.batch_store.proofs.ListLaws.{never_refused, one_fault, makes_or_refus
 use Rattle.batch_store.specs.declared.verdict.Verdict.{Verdict}
 use Rattle.batch_store.specs.declared.verdict.Verdict.TheVariants as verdict
 use Rattle.batch_store.specs.declared.verdict.Kept.{Kept}
-use Rattle.plain_engine.specs.Object.{Puts, answer_of, list_after, verdict_in, answer_to, list_by, cell_of, row_sum_of}
-use Rattle.plain_engine.specs.Object.{export_of, status_of}
+use Rattle.plain_engine.specs.Object.{Puts, answer_of, state_after, verdict_in, answer_to, state_by, cell_of}
+use Rattle.plain_engine.specs.Object.{row_sum_of, export_of, status_of}
 use Rattle.plain_engine.specs.declared.fault.PutFault.{PutFault}
 use Rattle.plain_engine.specs.declared.fault.PutFault.TheVariants as fault
 use Rattle.wire_frames.specs.Frames.{Message}
@@ -137,130 +137,130 @@ one_cells_refusal setup bytes code detail code' detail' r r' =
     (f.3 ∙ ap code_of_cells one ∙ sym g.3, f.4 ∙ ap detail_of_cells one ∙ sym g.4)
 
 -- a put that is replied to is the object's
-pub put_is : (v : Setting) (list : List Submission) (b : Submission) (answer : Result Kept PutFault)
-    (t : List Submission) (w : List ℕ) →
-    Puts v list b answer t → put_reply answer ≡ Some w → (answer ≡ answer_of v list b) × (t ≡ list_after v list b)
-put_is v list b (Ok k) t w h e = h
-put_is v list b (Err fault.Memory) t w h e = absurd (cc)
-put_is v list b (Err fault.NumberReused) t w h e = h
-put_is v list b (Err (fault.OverTotal total)) t w h e = h
-put_is v list b (Err fault.BookFull) t w h e = h
-put_is v list b (Err fault.RecordsDiffer) t w h e = h
+pub put_is : (v : Setting) (state : Accepted) (b : Submission) (answer : Result Kept PutFault)
+    (t : Accepted) (w : List ℕ) →
+    Puts v state b answer t → put_reply answer ≡ Some w → (answer ≡ answer_of v state b) × (t ≡ state_after v state b)
+put_is v state b (Ok k) t w h e = h
+put_is v state b (Err fault.Memory) t w h e = absurd (cc)
+put_is v state b (Err fault.NumberReused) t w h e = h
+put_is v state b (Err (fault.OverTotal total)) t w h e = h
+put_is v state b (Err fault.BookFull) t w h e = h
+put_is v state b (Err fault.RecordsDiffer) t w h e = h
 
-abbrev Same : List ℕ → List ℕ → List Submission → List Submission → Type 0
+abbrev Same : List ℕ → List ℕ → Accepted → Accepted → Type 0
 Same w w' t t' = (w ≡ w') × (t ≡ t')
 
 -- of one event, one reply
-event_once : (v : Setting) (list : List Submission) (e e' : Event) (w w' : List ℕ) (t t' : List Submission) → e ≡ e' →
+event_once : (v : Setting) (state : Accepted) (e e' : Event) (w w' : List ℕ) (t t' : Accepted) → e ≡ e' →
     t ≡ t' →
     reply_of e ≡ Some w → reply_of e' ≡ Some w' → Same w w' t t'
-event_once v list e e' w w' t t' i j h k = (same_Some w w' (sym h ∙ ap reply_of i ∙ k), j)
+event_once v state e e' w w' t t' i j h k = (same_Some w w' (sym h ∙ ap reply_of i ∙ k), j)
 
 -- an exported matrix that is replied to is the object's
-export_is : (v : Setting) (list : List Submission) (a : Result Matrix AllocError) (t : List Submission) (w : List ℕ) →
-    PlainGives v list (export a) t → reply_of (export a) ≡ Some w → (a ≡ Ok (export_of v list)) × (t ≡ list)
-export_is v list (Ok m) t w h e = (ap (λ x. Ok x) h.0, h.1)
-export_is v list (Err x) t w h e = absurd (cc)
+export_is : (v : Setting) (state : Accepted) (a : Result Matrix AllocError) (t : Accepted) (w : List ℕ) →
+    PlainGives v state (export a) t → reply_of (export a) ≡ Some w → (a ≡ Ok (export_of v state)) × (t ≡ state)
+export_is v state (Ok m) t w h e = (ap (λ x. Ok x) h.0, h.1)
+export_is v state (Err x) t w h e = absurd (cc)
 
 -- of puts of one batch, one reply
-one_put : (v : Setting) (list : List Submission) (e e' : Event) (b b' : Submission) (a a' : Result Kept PutFault)
-    (w w' : List ℕ) (t t' : List Submission) → b ≡ b' → e ≡ put b a → e' ≡ put b' a' → PlainGives v list e t →
-    PlainGives v list e' t' → reply_of e ≡ Some w → reply_of e' ≡ Some w' → Same w w' t t'
-one_put v list e e' b b' a a' w w' t t' same ev ev' h h' i i' =
-    let one = put_is v list b a t w (subst (λ x. PlainGives v list x t) ev h)
+one_put : (v : Setting) (state : Accepted) (e e' : Event) (b b' : Submission) (a a' : Result Kept PutFault)
+    (w w' : List ℕ) (t t' : Accepted) → b ≡ b' → e ≡ put b a → e' ≡ put b' a' → PlainGives v state e t →
+    PlainGives v state e' t' → reply_of e ≡ Some w → reply_of e' ≡ Some w' → Same w w' t t'
+one_put v state e e' b b' a a' w w' t t' same ev ev' h h' i i' =
+    let one = put_is v state b a t w (subst (λ x. PlainGives v state x t) ev h)
     (subst (λ x. reply_of x ≡ Some w) ev i) in
-    let two = put_is v list b' a' t' w' (subst (λ x. PlainGives v list x t') ev' h')
+    let two = put_is v state b' a' t' w' (subst (λ x. PlainGives v state x t') ev' h')
     (subst (λ x. reply_of x ≡ Some w') ev' i') in
-    let answers = one.0 ∙ ap (answer_of v list) same ∙ sym two.0 in
-    event_once v list e e' w w' t t' (ev ∙ ap (λ x. put x a) same ∙ ap (λ x. put b' x) answers ∙ sym ev')
-    (one.1 ∙ ap (list_after v list) same ∙ sym two.1) i i'
+    let answers = one.0 ∙ ap (answer_of v state) same ∙ sym two.0 in
+    event_once v state e e' w w' t t' (ev ∙ ap (λ x. put x a) same ∙ ap (λ x. put b' x) answers ∙ sym ev')
+    (one.1 ∙ ap (state_after v state) same ∙ sym two.1) i i'
 
-pub one_answer : (v : Setting) (list : List Submission) (r : Request) (w w' : List ℕ) (t t' : List Submission) →
-    Answers (PlainGives v) v r w list t → Answers (PlainGives v) v r w' list t' → Same w w' t t'
-one_answer v list (Put c n bytes) w w' t t' (asked e a h i) (asked e' a' h' i') =
-    one_put v list e e' a.0 a'.0 a.1 a'.1 w w' t t' (one_batch v c n bytes a.0 a'.0 a.2 a'.2) a.3 a'.3 h h' i i'
-one_answer v list (Put c n bytes) w w' t t' (asked e a h i) (unasked a' i') = absurd
+pub one_answer : (v : Setting) (state : Accepted) (r : Request) (w w' : List ℕ) (t t' : Accepted) →
+    Answers (PlainGives v) v r w state t → Answers (PlainGives v) v r w' state t' → Same w w' t t'
+one_answer v state (Put c n bytes) w w' t t' (asked e a h i) (asked e' a' h' i') =
+    one_put v state e e' a.0 a'.0 a.1 a'.1 w w' t t' (one_batch v c n bytes a.0 a'.0 a.2 a'.2) a.3 a'.3 h h' i i'
+one_answer v state (Put c n bytes) w w' t t' (asked e a h i) (unasked a' i') = absurd
     (never_both v c n bytes a.0 a'.0 a'.1 a.2 a'.2)
-one_answer v list (Put c n bytes) w w' t t' (unasked a i) (asked e' a' h' i') = absurd
+one_answer v state (Put c n bytes) w w' t t' (unasked a i) (asked e' a' h' i') = absurd
     (never_both v c n bytes a'.0 a.0 a.1 a'.2 a.2)
-one_answer v list (Put c n bytes) w w' t t' (unasked a i) (unasked a' i') =
+one_answer v state (Put c n bytes) w w' t t' (unasked a i) (unasked a' i') =
     let one = one_refusal v bytes a.0 a.1 a'.0 a'.1 a.2 a'.2 in
     (a.3 ∙ ap (λ x. refused x a.1) one.0 ∙ ap (λ x. refused a'.0 x) one.1 ∙ sym a'.3, i ∙ sym i')
-one_answer v list (CellAt r c) w w' t t' (asked e a h i) (asked e' a' h' i') =
-    let g = subst (λ x. PlainGives v list x t) a.3 h in let g' = subst (λ x. PlainGives v list x t') a'.3 h' in
-    event_once v list e e' w w' t t' (a.3 ∙ ap (cell r c) (g.0 ∙ sym g'.0) ∙ sym a'.3) (g.1 ∙ sym g'.1) i i'
-one_answer v list (CellAt r c) w w' t t' (asked e a h i) (unasked a' i') = absurd (a'.0 (a.1, a.2))
-one_answer v list (CellAt r c) w w' t t' (unasked a i) (asked e' a' h' i') = absurd (a.0 (a'.1, a'.2))
-one_answer v list (CellAt r c) w w' t t' (unasked a i) (unasked a' i') = (a.1 ∙ sym a'.1, i ∙ sym i')
-one_answer v list (Row r) w w' t t' (asked e a h i) (asked e' a' h' i') =
-    let g = subst (λ x. PlainGives v list x t) a.2 h in let g' = subst (λ x. PlainGives v list x t') a'.2 h' in
-    event_once v list e e' w w' t t' (a.2 ∙ ap (row r) (g.0 ∙ sym g'.0) ∙ sym a'.2) (g.1 ∙ sym g'.1) i i'
-one_answer v list (Row r) w w' t t' (asked e a h i) (unasked a' i') = absurd (a'.0 a.1)
-one_answer v list (Row r) w w' t t' (unasked a i) (asked e' a' h' i') = absurd (a.0 a'.1)
-one_answer v list (Row r) w w' t t' (unasked a i) (unasked a' i') = (a.1 ∙ sym a'.1, i ∙ sym i')
-one_answer v list Status w w' t t' (asked e a h i) (asked e' a' h' i') =
-    let g = subst (λ x. PlainGives v list x t) a.1 h in let g' = subst (λ x. PlainGives v list x t') a'.1 h' in
-    event_once v list e e' w w' t t' (a.1 ∙ ap status (g.0 ∙ sym g'.0) ∙ sym a'.1) (g.1 ∙ sym g'.1) i i'
-one_answer v list Status w w' t t' (asked e a h i) (unasked a' i') = absurd a'
-one_answer v list Status w w' t t' (unasked a i) other = absurd a
-one_answer v list Export w w' t t' (asked e a h i) (asked e' a' h' i') =
-    let g = export_is v list a.0 t w (subst (λ x. PlainGives v list x t) a.1 h)
+one_answer v state (CellAt r c) w w' t t' (asked e a h i) (asked e' a' h' i') =
+    let g = subst (λ x. PlainGives v state x t) a.3 h in let g' = subst (λ x. PlainGives v state x t') a'.3 h' in
+    event_once v state e e' w w' t t' (a.3 ∙ ap (cell r c) (g.0 ∙ sym g'.0) ∙ sym a'.3) (g.1 ∙ sym g'.1) i i'
+one_answer v state (CellAt r c) w w' t t' (asked e a h i) (unasked a' i') = absurd (a'.0 (a.1, a.2))
+one_answer v state (CellAt r c) w w' t t' (unasked a i) (asked e' a' h' i') = absurd (a.0 (a'.1, a'.2))
+one_answer v state (CellAt r c) w w' t t' (unasked a i) (unasked a' i') = (a.1 ∙ sym a'.1, i ∙ sym i')
+one_answer v state (Row r) w w' t t' (asked e a h i) (asked e' a' h' i') =
+    let g = subst (λ x. PlainGives v state x t) a.2 h in let g' = subst (λ x. PlainGives v state x t') a'.2 h' in
+    event_once v state e e' w w' t t' (a.2 ∙ ap (row r) (g.0 ∙ sym g'.0) ∙ sym a'.2) (g.1 ∙ sym g'.1) i i'
+one_answer v state (Row r) w w' t t' (asked e a h i) (unasked a' i') = absurd (a'.0 a.1)
+one_answer v state (Row r) w w' t t' (unasked a i) (asked e' a' h' i') = absurd (a.0 a'.1)
+one_answer v state (Row r) w w' t t' (unasked a i) (unasked a' i') = (a.1 ∙ sym a'.1, i ∙ sym i')
+one_answer v state Status w w' t t' (asked e a h i) (asked e' a' h' i') =
+    let g = subst (λ x. PlainGives v state x t) a.1 h in let g' = subst (λ x. PlainGives v state x t') a'.1 h' in
+    event_once v state e e' w w' t t' (a.1 ∙ ap status (g.0 ∙ sym g'.0) ∙ sym a'.1) (g.1 ∙ sym g'.1) i i'
+one_answer v state Status w w' t t' (asked e a h i) (unasked a' i') = absurd a'
+one_answer v state Status w w' t t' (unasked a i) other = absurd a
+one_answer v state Export w w' t t' (asked e a h i) (asked e' a' h' i') =
+    let g = export_is v state a.0 t w (subst (λ x. PlainGives v state x t) a.1 h)
     (subst (λ x. reply_of x ≡ Some w) a.1 i) in
-    let g' = export_is v list a'.0 t' w' (subst (λ x. PlainGives v list x t') a'.1 h')
+    let g' = export_is v state a'.0 t' w' (subst (λ x. PlainGives v state x t') a'.1 h')
     (subst (λ x. reply_of x ≡ Some w') a'.1 i') in
-    event_once v list e e' w w' t t' (a.1 ∙ ap export (g.0 ∙ sym g'.0) ∙ sym a'.1) (g.1 ∙ sym g'.1) i i'
-one_answer v list Export w w' t t' (asked e a h i) (unasked a' i') = absurd a'
-one_answer v list Export w w' t t' (unasked a i) other = absurd a
-one_answer v list Save w w' t t' (asked e a h i) (asked e' a' h' i') =
-    let g = subst (λ x. PlainGives v list x t) a.1 h in let g' = subst (λ x. PlainGives v list x t') a'.1 h' in
-    event_once v list e e' w w' t t' (a.1 ∙ ap save (g.0 ∙ sym g'.0) ∙ sym a'.1) (g.1 ∙ sym g'.1) i i'
-one_answer v list Save w w' t t' (asked e a h i) (unasked a' i') = absurd a'
-one_answer v list Save w w' t t' (unasked a i) other = absurd a
-one_answer v list Stop w w' t t' (asked e a h i) other = absurd a
-one_answer v list Stop w w' t t' (unasked a i) other = absurd a
-one_answer v list (PutCells c n bytes) w w' t t' (asked e a h i) (asked e' a' h' i') =
-    one_put v list e e' a.0 a'.0 a.1 a'.1 w w' t t' (one_cells_batch v c n bytes a.0 a'.0 a.2 a'.2) a.3 a'.3 h h' i i'
-one_answer v list (PutCells c n bytes) w w' t t' (asked e a h i) (unasked a' i') = absurd
+    event_once v state e e' w w' t t' (a.1 ∙ ap export (g.0 ∙ sym g'.0) ∙ sym a'.1) (g.1 ∙ sym g'.1) i i'
+one_answer v state Export w w' t t' (asked e a h i) (unasked a' i') = absurd a'
+one_answer v state Export w w' t t' (unasked a i) other = absurd a
+one_answer v state Save w w' t t' (asked e a h i) (asked e' a' h' i') =
+    let g = subst (λ x. PlainGives v state x t) a.1 h in let g' = subst (λ x. PlainGives v state x t') a'.1 h' in
+    event_once v state e e' w w' t t' (a.1 ∙ ap save (g.0 ∙ sym g'.0) ∙ sym a'.1) (g.1 ∙ sym g'.1) i i'
+one_answer v state Save w w' t t' (asked e a h i) (unasked a' i') = absurd a'
+one_answer v state Save w w' t t' (unasked a i) other = absurd a
+one_answer v state Stop w w' t t' (asked e a h i) other = absurd a
+one_answer v state Stop w w' t t' (unasked a i) other = absurd a
+one_answer v state (PutCells c n bytes) w w' t t' (asked e a h i) (asked e' a' h' i') =
+    one_put v state e e' a.0 a'.0 a.1 a'.1 w w' t t' (one_cells_batch v c n bytes a.0 a'.0 a.2 a'.2) a.3 a'.3 h h' i i'
+one_answer v state (PutCells c n bytes) w w' t t' (asked e a h i) (unasked a' i') = absurd
     (never_both_cells v c n bytes a.0 a'.0 a'.1 a.2 a'.2)
-one_answer v list (PutCells c n bytes) w w' t t' (unasked a i) (asked e' a' h' i') = absurd
+one_answer v state (PutCells c n bytes) w w' t t' (unasked a i) (asked e' a' h' i') = absurd
     (never_both_cells v c n bytes a'.0 a.0 a.1 a'.2 a.2)
-one_answer v list (PutCells c n bytes) w w' t t' (unasked a i) (unasked a' i') =
+one_answer v state (PutCells c n bytes) w w' t t' (unasked a i) (unasked a' i') =
     let one = one_cells_refusal v bytes a.0 a.1 a'.0 a'.1 a.2 a'.2 in
     (a.3 ∙ ap (λ x. refused x a.1) one.0 ∙ ap (λ x. refused a'.0 x) one.1 ∙ sym a'.3, i ∙ sym i')
 
 -- messages one after another
-then_one : (v : Setting) (list : List Submission) (r : Request) (ms : List Message) (w w' : List ℕ)
-    (t t' : List Submission) →
-    ((m : List Submission) (x x' : List ℕ) → IsAnswered v m ms x t → IsAnswered v m ms x' t' → Same x x' t t') →
-    (m : List Submission) × (reply : List ℕ) × (more : List ℕ) × Answers (PlainGives v) v r reply list m ×
+then_one : (v : Setting) (state : Accepted) (r : Request) (ms : List Message) (w w' : List ℕ)
+    (t t' : Accepted) →
+    ((m : Accepted) (x x' : List ℕ) → IsAnswered v m ms x t → IsAnswered v m ms x' t' → Same x x' t t') →
+    (m : Accepted) × (reply : List ℕ) × (more : List ℕ) × Answers (PlainGives v) v r reply state m ×
     (w ≡ reply ++ more) × IsAnswered v m ms more t →
-    (m : List Submission) × (reply : List ℕ) × (more : List ℕ) × Answers (PlainGives v) v r reply list m ×
+    (m : Accepted) × (reply : List ℕ) × (more : List ℕ) × Answers (PlainGives v) v r reply state m ×
     (w' ≡ reply ++ more) × IsAnswered v m ms more t' →
     Same w w' t t'
-then_one v list r ms w w' t t' again a b =
-    let one = one_answer v list r a.1 b.1 a.0 b.0 a.3 b.3 in
+then_one v state r ms w w' t t' again a b =
+    let one = one_answer v state r a.1 b.1 a.0 b.0 a.3 b.3 in
     let more = again b.0 a.2 b.2 (subst (λ m. IsAnswered v m ms a.2 t) one.1 a.5) b.5 in
     (a.4 ∙ ap (λ x. x ++ a.2) one.0 ∙ ap (λ x. b.1 ++ x) more.0 ∙ sym b.4, more.1)
 
-pub answered_once : (v : Setting) (list : List Submission) (ms : List Message) (w w' : List ℕ)
-    (t t' : List Submission) →
-    IsAnswered v list ms w t → IsAnswered v list ms w' t' → Same w w' t t'
-answered_once v list [] w w' t t' a b = (a.0 ∙ sym b.0, a.1 ∙ sym b.1)
-answered_once v list (Ok Stop ∷ ms) w w' t t' a b = (a.0 ∙ sym b.0, a.1 ∙ sym b.1)
-answered_once v list (Err f ∷ ms) w w' t t' a b = (a.0 ∙ sym b.0, a.1 ∙ sym b.1)
-answered_once v list (Ok (Put x y z) ∷ ms) w w' t t' a b = then_one v list (Put x y z) ms w w' t t'
+pub answered_once : (v : Setting) (state : Accepted) (ms : List Message) (w w' : List ℕ)
+    (t t' : Accepted) →
+    IsAnswered v state ms w t → IsAnswered v state ms w' t' → Same w w' t t'
+answered_once v state [] w w' t t' a b = (a.0 ∙ sym b.0, a.1 ∙ sym b.1)
+answered_once v state (Ok Stop ∷ ms) w w' t t' a b = (a.0 ∙ sym b.0, a.1 ∙ sym b.1)
+answered_once v state (Err f ∷ ms) w w' t t' a b = (a.0 ∙ sym b.0, a.1 ∙ sym b.1)
+answered_once v state (Ok (Put x y z) ∷ ms) w w' t t' a b = then_one v state (Put x y z) ms w w' t t'
     (λ m p q c d. answered_once v m ms p q t t' c d) a b
-answered_once v list (Ok (CellAt x y) ∷ ms) w w' t t' a b = then_one v list (CellAt x y) ms w w' t t'
+answered_once v state (Ok (CellAt x y) ∷ ms) w w' t t' a b = then_one v state (CellAt x y) ms w w' t t'
     (λ m p q c d. answered_once v m ms p q t t' c d) a b
-answered_once v list (Ok (Row x) ∷ ms) w w' t t' a b = then_one v list (Row x) ms w w' t t'
+answered_once v state (Ok (Row x) ∷ ms) w w' t t' a b = then_one v state (Row x) ms w w' t t'
     (λ m p q c d. answered_once v m ms p q t t' c d) a b
-answered_once v list (Ok Status ∷ ms) w w' t t' a b = then_one v list Status ms w w' t t'
+answered_once v state (Ok Status ∷ ms) w w' t t' a b = then_one v state Status ms w w' t t'
     (λ m p q c d. answered_once v m ms p q t t' c d) a b
-answered_once v list (Ok Export ∷ ms) w w' t t' a b = then_one v list Export ms w w' t t'
+answered_once v state (Ok Export ∷ ms) w w' t t' a b = then_one v state Export ms w w' t t'
     (λ m p q c d. answered_once v m ms p q t t' c d) a b
-answered_once v list (Ok Save ∷ ms) w w' t t' a b = then_one v list Save ms w w' t t'
+answered_once v state (Ok Save ∷ ms) w w' t t' a b = then_one v state Save ms w w' t t'
     (λ m p q c d. answered_once v m ms p q t t' c d) a b
-answered_once v list (Ok (PutCells x y z) ∷ ms) w w' t t' a b = then_one v list (PutCells x y z) ms w w' t t'
+answered_once v state (Ok (PutCells x y z) ∷ ms) w w' t t' a b = then_one v state (PutCells x y z) ms w w' t t'
     (λ m p q c d. answered_once v m ms p q t t' c d) a b
 
 -- ---- and there is one
@@ -270,142 +270,142 @@ equal_or_not m n = elim (cases_lt m n) [
   | inr ge ↦ elim (cases_lt n m) [ inl more ↦ inr (λ e. omega (arith, more, e)) | inr le ↦ inl (omega (arith, ge, le)) ]
 ]
 
-abbrev HasAnswer : Setting → List Submission → Request → Type 0
-HasAnswer v list r = (w : List ℕ) × (t : List Submission) × Answers (PlainGives v) v r w list t
+abbrev HasAnswer : Setting → Accepted → Request → Type 0
+HasAnswer v state r = (w : List ℕ) × (t : Accepted) × Answers (PlainGives v) v r w state t
 
-by_verdict : (v : Setting) (list : List Submission) (b : Submission) (vd : Verdict) → verdict_in v list b ≡ vd →
-    (w : List ℕ) × (t : List Submission) × (a : Result Kept PutFault) × Puts v list b a t × (put_reply a ≡ Some w)
-by_verdict v list b verdict.Fresh e = (
+by_verdict : (v : Setting) (state : Accepted) (b : Submission) (vd : Verdict) → verdict_in v state b ≡ vd →
+    (w : List ℕ) × (t : Accepted) × (a : Result Kept PutFault) × Puts v state b a t × (put_reply a ≡ Some w)
+by_verdict v state b verdict.Fresh e = (
   _,
   _,
-  Ok (kept (length list) (list_total list + batch_total b)),
-  (ap (answer_to list b) (sym e), ap (list_by list b) (sym e)),
+  Ok (kept (count_in state) (total_in state + batch_total b)),
+  (ap (answer_to state b) (sym e), ap (state_by state b) (sym e)),
   refl,
 )
-by_verdict v list b (verdict.Known k) e = (
+by_verdict v state b (verdict.Known k) e = (
   _,
   _,
   Ok k,
-  (ap (answer_to list b) (sym e), ap (list_by list b) (sym e)),
+  (ap (answer_to state b) (sym e), ap (state_by state b) (sym e)),
   refl,
 )
-by_verdict v list b verdict.NumberReused e = (
+by_verdict v state b verdict.NumberReused e = (
   _,
   _,
   Err fault.NumberReused,
-  (ap (answer_to list b) (sym e), ap (list_by list b) (sym e)),
+  (ap (answer_to state b) (sym e), ap (state_by state b) (sym e)),
   refl,
 )
-by_verdict v list b (verdict.OverTotal total) e = (
+by_verdict v state b (verdict.OverTotal total) e = (
   _,
   _,
   Err (fault.OverTotal total),
-  (ap (answer_to list b) (sym e), ap (list_by list b) (sym e)),
+  (ap (answer_to state b) (sym e), ap (state_by state b) (sym e)),
   refl,
 )
-by_verdict v list b verdict.BookFull e = (
+by_verdict v state b verdict.BookFull e = (
   _,
   _,
   Err fault.BookFull,
-  (ap (answer_to list b) (sym e), ap (list_by list b) (sym e)),
+  (ap (answer_to state b) (sym e), ap (state_by state b) (sym e)),
   refl,
 )
 
-refuses : (v : Setting) (list : List Submission) (c n : ℕ) (bytes : List ℕ) (code detail : ℕ) →
-    RefusesText v bytes code detail → HasAnswer v list (Put c n bytes)
-refuses v list c n bytes code detail h = (refused code detail, list, unasked (code, detail, h, refl) refl)
+refuses : (v : Setting) (state : Accepted) (c n : ℕ) (bytes : List ℕ) (code detail : ℕ) →
+    RefusesText v bytes code detail → HasAnswer v state (Put c n bytes)
+refuses v state c n bytes code detail h = (refused code detail, state, unasked (code, detail, h, refl) refl)
 
-puts : (v : Setting) (list : List Submission) (c n : ℕ) (bytes : List ℕ) (cells : List Cell) →
-    Spells bytes put_limits v.rows v.cols cells → cell_total cells < 2 ^ 64 → HasAnswer v list (Put c n bytes)
-puts v list c n bytes cells s fits =
+puts : (v : Setting) (state : Accepted) (c n : ℕ) (bytes : List ℕ) (cells : List Cell) →
+    Spells bytes put_limits v.rows v.cols cells → cell_total cells < 2 ^ 64 → HasAnswer v state (Put c n bytes)
+puts v state c n bytes cells s fits =
     let b = submission c n (matrix v.rows v.cols (built_of cells)) in
     let p : PutsBatch v c n bytes b = record { cells = cells; spells = s; fits = fits; batch_is = refl } in
-    let h = by_verdict v list b (verdict_in v list b) refl in
+    let h = by_verdict v state b (verdict_in v state b) refl in
     (h.0, h.1, asked (put b h.2) (b, h.2, p, refl) h.3 h.4)
 
-of_dims : (v : Setting) (list : List Submission) (c n : ℕ) (bytes : List ℕ) (rows cols : ℕ) (cells : List Cell) →
+of_dims : (v : Setting) (state : Accepted) (c n : ℕ) (bytes : List ℕ) (rows cols : ℕ) (cells : List Cell) →
     Spells bytes put_limits rows cols cells →
-    rows ≡ v.rows → cols ≡ v.cols → HasAnswer v list (Put c n bytes)
-of_dims v list c n bytes rows cols cells s e f =
+    rows ≡ v.rows → cols ≡ v.cols → HasAnswer v state (Put c n bytes)
+of_dims v state c n bytes rows cols cells s e f =
     let s' = subst (λ r. Spells bytes put_limits r v.cols cells) e
     (subst (λ k. Spells bytes put_limits rows k cells) f s) in
     elim (cases_lt (cell_total cells) (2 ^ 64)) [
-      | inl small ↦ puts v list c n bytes cells s' small
-      | inr large ↦ refuses v list c n bytes 21 0 (too_large cells s' large refl refl)
+      | inl small ↦ puts v state c n bytes cells s' small
+      | inr large ↦ refuses v state c n bytes 21 0 (too_large cells s' large refl refl)
     ]
 
-of_spelled : (v : Setting) (list : List Submission) (c n : ℕ) (bytes : List ℕ) (rows cols : ℕ) (cells : List Cell) →
-    Spells bytes put_limits rows cols cells → HasAnswer v list (Put c n bytes)
-of_spelled v list c n bytes rows cols cells s =
+of_spelled : (v : Setting) (state : Accepted) (c n : ℕ) (bytes : List ℕ) (rows cols : ℕ) (cells : List Cell) →
+    Spells bytes put_limits rows cols cells → HasAnswer v state (Put c n bytes)
+of_spelled v state c n bytes rows cols cells s =
     elim (equal_or_not rows v.rows) [
       | inl e ↦ elim (equal_or_not cols v.cols) [
-        | inl f ↦ of_dims v list c n bytes rows cols cells s e f
-        | inr g ↦ refuses v list c n bytes 20 0 (differs rows cols cells s (λ h. g h.1) refl refl)
+        | inl f ↦ of_dims v state c n bytes rows cols cells s e f
+        | inr g ↦ refuses v state c n bytes 20 0 (differs rows cols cells s (λ h. g h.1) refl refl)
       ]
-      | inr g ↦ refuses v list c n bytes 20 0 (differs rows cols cells s (λ h. g h.0) refl refl)
+      | inr g ↦ refuses v state c n bytes 20 0 (differs rows cols cells s (λ h. g h.0) refl refl)
     ]
 
-has_put : (v : Setting) (list : List Submission) (c n : ℕ) (bytes : List ℕ) → HasAnswer v list (Put c n bytes)
-has_put v list c n bytes = elim (spells_or_faulty bytes put_limits) [
-  | inl h ↦ of_spelled v list c n bytes h.0 h.1 h.2 h.3
-  | inr h ↦ refuses v list c n bytes (100 + kind_number h.0) h.1 (faulty h.0 h.1 h.2 refl refl)
+has_put : (v : Setting) (state : Accepted) (c n : ℕ) (bytes : List ℕ) → HasAnswer v state (Put c n bytes)
+has_put v state c n bytes = elim (spells_or_faulty bytes put_limits) [
+  | inl h ↦ of_spelled v state c n bytes h.0 h.1 h.2 h.3
+  | inr h ↦ refuses v state c n bytes (100 + kind_number h.0) h.1 (faulty h.0 h.1 h.2 refl refl)
 ]
 
 -- the same of a list of cells
-has_cells : (v : Setting) (list : List Submission) (c n : ℕ) (bytes : List ℕ) → HasAnswer v list (PutCells c n bytes)
-has_cells v list c n bytes = elim (makes_or_refused v (cells_of bytes)) [
+has_cells : (v : Setting) (state : Accepted) (c n : ℕ) (bytes : List ℕ) → HasAnswer v state (PutCells c n bytes)
+has_cells v state c n bytes = elim (makes_or_refused v (cells_of bytes)) [
   | inl m ↦
       let b = submission c n (matrix v.rows v.cols (built_of (cells_of bytes))) in
       let p : PutsCells v c n bytes b = record { makes = m; batch_is = refl } in
-      let h = by_verdict v list b (verdict_in v list b) refl in
+      let h = by_verdict v state b (verdict_in v state b) refl in
       (h.0, h.1, asked (put b h.2) (b, h.2, p, refl) h.3 h.4)
   | inr r ↦ (
     refused (code_of_cells r.0) (detail_of_cells r.0),
-    list,
+    state,
     unasked (code_of_cells r.0, detail_of_cells r.0, refuses_cells v bytes r.0 r.1 r.2, refl) refl,
   )
 ]
 
-has_cell : (v : Setting) (list : List Submission) (r c : ℕ) → HasAnswer v list (CellAt r c)
-has_cell v list r c = elim (cases_lt r v.rows) [
+has_cell : (v : Setting) (state : Accepted) (r c : ℕ) → HasAnswer v state (CellAt r c)
+has_cell v state r c = elim (cases_lt r v.rows) [
   | inl a ↦ elim (cases_lt c v.cols) [
-    | inl b ↦ (_, list, asked (cell r c (cell_of list r c)) (_, a, b, refl) (refl, refl) refl)
-    | inr b ↦ (_, list, unasked ((λ h. let k = h.1 in omega (arith, b, k)), refl) refl)
+    | inl b ↦ (_, state, asked (cell r c (cell_of state r c)) (_, a, b, refl) (refl, refl) refl)
+    | inr b ↦ (_, state, unasked ((λ h. let k = h.1 in omega (arith, b, k)), refl) refl)
   ]
-  | inr a ↦ (_, list, unasked ((λ h. let k = h.0 in omega (arith, a, k)), refl) refl)
+  | inr a ↦ (_, state, unasked ((λ h. let k = h.0 in omega (arith, a, k)), refl) refl)
 ]
 
-has_row : (v : Setting) (list : List Submission) (r : ℕ) → HasAnswer v list (Row r)
-has_row v list r = elim (cases_lt r v.rows) [
-  | inl a ↦ (_, list, asked (row r (row_sum_of list r)) (_, a, refl) (refl, refl) refl)
-  | inr a ↦ (_, list, unasked ((λ h. omega (arith, a, h)), refl) refl)
+has_row : (v : Setting) (state : Accepted) (r : ℕ) → HasAnswer v state (Row r)
+has_row v state r = elim (cases_lt r v.rows) [
+  | inl a ↦ (_, state, asked (row r (row_sum_of state r)) (_, a, refl) (refl, refl) refl)
+  | inr a ↦ (_, state, unasked ((λ h. omega (arith, a, h)), refl) refl)
 ]
 
-then_some : (v : Setting) (list : List Submission) (r : Request) (ms : List Message) → HasAnswer v list r →
-    ((m : List Submission) → (w : List ℕ) × (t : List Submission) × IsAnswered v m ms w t) →
-    (w : List ℕ) × (t : List Submission) × (m : List Submission) × (reply : List ℕ) × (more : List ℕ) ×
-    Answers (PlainGives v) v r reply list m × (w ≡ reply ++ more) × IsAnswered v m ms more t
-then_some v list r ms h again = let more = again h.1 in (h.0 ++ more.0, more.1, h.1, h.0, more.0, h.2, refl, more.2)
+then_some : (v : Setting) (state : Accepted) (r : Request) (ms : List Message) → HasAnswer v state r →
+    ((m : Accepted) → (w : List ℕ) × (t : Accepted) × IsAnswered v m ms w t) →
+    (w : List ℕ) × (t : Accepted) × (m : Accepted) × (reply : List ℕ) × (more : List ℕ) ×
+    Answers (PlainGives v) v r reply state m × (w ≡ reply ++ more) × IsAnswered v m ms more t
+then_some v state r ms h again = let more = again h.1 in (h.0 ++ more.0, more.1, h.1, h.0, more.0, h.2, refl, more.2)
 
-pub has_answers : (v : Setting) (list : List Submission) (ms : List Message) →
-    (w : List ℕ) × (t : List Submission) × IsAnswered v list ms w t
-has_answers v list [] = ([], list, (refl, refl))
-has_answers v list (Ok Stop ∷ ms) = (_, list, (refl, refl))
-has_answers v list (Err f ∷ ms) = (_, list, (refl, refl))
-has_answers v list (Ok (Put x y z) ∷ ms) = let h = then_some v list (Put x y z) ms (has_put v list x y z)
+pub has_answers : (v : Setting) (state : Accepted) (ms : List Message) →
+    (w : List ℕ) × (t : Accepted) × IsAnswered v state ms w t
+has_answers v state [] = ([], state, (refl, refl))
+has_answers v state (Ok Stop ∷ ms) = (_, state, (refl, refl))
+has_answers v state (Err f ∷ ms) = (_, state, (refl, refl))
+has_answers v state (Ok (Put x y z) ∷ ms) = let h = then_some v state (Put x y z) ms (has_put v state x y z)
     (λ m. has_answers v m ms) in (h.0, h.1, (h.2, h.3, h.4, h.5, h.6, h.7))
-has_answers v list (Ok (CellAt x y) ∷ ms) = let h = then_some v list (CellAt x y) ms (has_cell v list x y)
+has_answers v state (Ok (CellAt x y) ∷ ms) = let h = then_some v state (CellAt x y) ms (has_cell v state x y)
     (λ m. has_answers v m ms) in (h.0, h.1, (h.2, h.3, h.4, h.5, h.6, h.7))
-has_answers v list (Ok (Row x) ∷ ms) = let h = then_some v list (Row x) ms (has_row v list x)
+has_answers v state (Ok (Row x) ∷ ms) = let h = then_some v state (Row x) ms (has_row v state x)
     (λ m. has_answers v m ms) in (h.0, h.1, (h.2, h.3, h.4, h.5, h.6, h.7))
-has_answers v list (Ok Status ∷ ms) = let h = then_some v list Status ms
-    (_, list, asked (status (status_of list)) (_, refl) (refl, refl) refl) (λ m. has_answers v m ms) in
+has_answers v state (Ok Status ∷ ms) = let h = then_some v state Status ms
+    (_, state, asked (status (status_of state)) (_, refl) (refl, refl) refl) (λ m. has_answers v m ms) in
     (h.0, h.1, (h.2, h.3, h.4, h.5, h.6, h.7))
-has_answers v list (Ok Export ∷ ms) = let h = then_some v list Export ms
-    (_, list, asked (export (Ok (export_of v list))) (_, refl) (refl, refl) refl) (λ m. has_answers v m ms) in
+has_answers v state (Ok Export ∷ ms) = let h = then_some v state Export ms
+    (_, state, asked (export (Ok (export_of v state))) (_, refl) (refl, refl) refl) (λ m. has_answers v m ms) in
     (h.0, h.1, (h.2, h.3, h.4, h.5, h.6, h.7))
-has_answers v list (Ok Save ∷ ms) = let h = then_some v list Save ms
-    (_, list, asked (save (Err SaveOff)) (_, refl) (refl, refl) refl) (λ m. has_answers v m ms) in
+has_answers v state (Ok Save ∷ ms) = let h = then_some v state Save ms
+    (_, state, asked (save (Err SaveOff)) (_, refl) (refl, refl) refl) (λ m. has_answers v m ms) in
     (h.0, h.1, (h.2, h.3, h.4, h.5, h.6, h.7))
-has_answers v list (Ok (PutCells x y z) ∷ ms) = let h = then_some v list (PutCells x y z) ms (has_cells v list x y z)
+has_answers v state (Ok (PutCells x y z) ∷ ms) = let h = then_some v state (PutCells x y z) ms (has_cells v state x y z)
     (λ m. has_answers v m ms) in (h.0, h.1, (h.2, h.3, h.4, h.5, h.6, h.7))

@@ -1,10 +1,10 @@
--- Sessions over a keeper whose state is a list alone.
+-- Sessions over a keeper whose state is what was accepted, and nothing else.
 use Rattle.std.proofs.Common.{◌≡◌, ◌⊎◌, inl, inr, ℕ, ◌+◌, ◌≤◌, List, [], ◌∷◌, ◌++◌, length, take, map, refl, sym, ◌∙◌}
 use Rattle.std.proofs.Common.{ap, subst, append_assoc, None, Ok, Err}
 use Rattle.std.proofs.lemmas.List.{append-nil}
 use Rattle.byte_io.specs.Streams.{Answer}
 use Rattle.batch_store.specs.Setups.{Setting}
-use Rattle.batch_store.specs.Batches.{Submission}
+use Rattle.batch_store.specs.Accepted.{Accepted}
 use Rattle.wire_frames.specs.Frames.{Message, Gives, messages}
 use Rattle.wire_proto.specs.Keeping.{Event, put, cell, row, status, export, save}
 use Rattle.plain_engine.specs.declared.fault.PutFault.TheVariants as fault
@@ -57,31 +57,31 @@ module _ {S : Type 0} (gives : S → Event → S → Type 0) (setup : Setting) w
       (subst (λ v. AnswersMessages gives setup s v (bytes ++ []) t) (append-nil (map (λ r. Ok r) rs))
       (all_more s t t rs [] bytes [] a (refl, refl)))
 
--- ---- a keeper whose state is seen as a list
-module _ {S N : Type 0} (name : S → N) (setup_of : S → Setting) (list : S → List Submission) where
+-- ---- a keeper of which just what was accepted is seen
+module _ {S N : Type 0} (name : S → N) (setup_of : S → Setting) (state : S → Accepted) where
   abbrev pub Steps : S → Event → S → Type 0
-  Steps s e t = (name t ≡ name s) × (setup_of t ≡ setup_of s) × PlainGives (setup_of s) (list s) e (list t)
+  Steps s e t = (name t ≡ name s) × (setup_of t ≡ setup_of s) × PlainGives (setup_of s) (state s) e (state t)
 
-  -- the keeper is the same, with this list
+  -- the keeper is the same, with this setup
   pub record Is (v : Setting) (s t : S) : Type 0 where
     pub same : name t ≡ name s
     pub setup : setup_of t ≡ v
 
   one_seen : (v : Setting) (r : Request) (reply : List ℕ) (s t : S) → setup_of s ≡ v → Answers Steps v r reply s t →
-      Answers (PlainGives v) v r reply (list s) (list t) × Is v s t
+      Answers (PlainGives v) v r reply (state s) (state t) × Is v s t
   one_seen v r reply s t e (asked ev a h i) = (
-    asked ev a (subst (λ u. PlainGives u (list s) ev (list t)) e h.2) i,
+    asked ev a (subst (λ u. PlainGives u (state s) ev (state t)) e h.2) i,
     record { same = h.0; setup = h.1 ∙ e },
   )
   one_seen v r reply s t e (unasked h i) = (
-    unasked h (ap list i),
+    unasked h (ap state i),
     record { same = ap name i; setup = ap setup_of i ∙ e },
   )
 
   pub all_seen : (v : Setting) (s t : S) (rs : List Request) (bytes : List ℕ) → setup_of s ≡ v →
-      AnswersAll Steps v s rs bytes t → AnswersAll (PlainGives v) v (list s) rs bytes (list t) × Is v s t
+      AnswersAll Steps v s rs bytes t → AnswersAll (PlainGives v) v (state s) rs bytes (state t) × Is v s t
   all_seen v s t [] bytes e a = (
-    (ap list a.0, a.1),
+    (ap state a.0, a.1),
     record {
       same = sym (ap name a.0);
       setup = sym (ap setup_of a.0) ∙ e;
@@ -90,10 +90,10 @@ module _ {S N : Type 0} (name : S → N) (setup_of : S → Setting) (list : S �
   all_seen v s t (r ∷ rs) bytes e a =
       let one = one_seen v r a.1 s a.0 e a.3 in
       let more = all_seen v a.0 t rs a.2 one.1.setup a.5 in
-      ((list a.0, a.1, a.2, one.0, a.4, more.0), record { same = more.1.same ∙ one.1.same; setup = more.1.setup })
+      ((state a.0, a.1, a.2, one.0, a.4, more.0), record { same = more.1.same ∙ one.1.same; setup = more.1.setup })
 
--- memory ran out: the list is as it was
-pub memory_keeps : (v : Setting) (l l' : List Submission) (e : Event) → PlainGives v l e l' → reply_of e ≡ None → l' ≡ l
+-- memory ran out: what was accepted is as it was
+pub memory_keeps : (v : Setting) (l l' : Accepted) (e : Event) → PlainGives v l e l' → reply_of e ≡ None → l' ≡ l
 memory_keeps v l l' (put batch (Ok k)) h n = absurd (cc)
 memory_keeps v l l' (put batch (Err fault.Memory)) h n = h.1
 memory_keeps v l l' (put batch (Err fault.NumberReused)) h n = absurd (cc)
@@ -107,36 +107,36 @@ memory_keeps v l l' (export (Ok m)) h n = h.1
 memory_keeps v l l' (export (Err e)) h n = h
 memory_keeps v l l' (save answer) h n = h.1
 
-module _ {S N : Type 0} (name : S → N) (setup_of : S → Setting) (list : S → List Submission) where
-  runs_out_seen : (v : Setting) (r : Request) (s t : S) → setup_of s ≡ v → RunsOut (Steps name setup_of list) v r s t →
-      (list t ≡ list s) × Is name setup_of list v s t
-  runs_out_seen v r s t e (before_call i) = (ap list i, record { same = ap name i; setup = ap setup_of i ∙ e })
+module _ {S N : Type 0} (name : S → N) (setup_of : S → Setting) (state : S → Accepted) where
+  runs_out_seen : (v : Setting) (r : Request) (s t : S) → setup_of s ≡ v → RunsOut (Steps name setup_of state) v r s t →
+      (state t ≡ state s) × Is name setup_of state v s t
+  runs_out_seen v r s t e (before_call i) = (ap state i, record { same = ap name i; setup = ap setup_of i ∙ e })
   runs_out_seen v r s t e (in_call ev a h n) = (
-    memory_keeps (setup_of s) (list s) (list t) ev h.2 n,
+    memory_keeps (setup_of s) (state s) (state t) ev h.2 n,
     record { same = h.0; setup = h.1 ∙ e },
   )
 
   lacks_seen : (v : Setting) (kept : List ℕ) (s t : S) → setup_of s ≡ v →
-      LacksMemory (Steps name setup_of list) v kept s t → (list t ≡ list s) × Is name setup_of list v s t
-  lacks_seen v kept s t e (no_call i) = (ap list i, record { same = ap name i; setup = ap setup_of i ∙ e })
+      LacksMemory (Steps name setup_of state) v kept s t → (state t ≡ state s) × Is name setup_of state v s t
+  lacks_seen v kept s t e (no_call i) = (ap state i, record { same = ap name i; setup = ap setup_of i ∙ e })
   lacks_seen v kept s t e (a_call r rest f h) = runs_out_seen v r s t e h
 
 -- ---- ends
 module _ {L S N : Type 0} (reads : L → Answer → L → Type 0) (writes : L → List ℕ → Answer → L → Type 0)
     (failures : L → ℕ)
-    (name : S → N) (setup_of : S → Setting) (list : S → List Submission) (v : Setting) where
+    (name : S → N) (setup_of : S → Setting) (state : S → Accepted) (v : Setting) where
   split_is : (s t : S) (given kept replies : List ℕ) (rs : List Request) → Gives given rs kept →
-      AnswersAll (Steps name setup_of list) v s rs replies t →
+      AnswersAll (Steps name setup_of state) v s rs replies t →
       messages given ≡ map (λ r. Ok r) rs ++ messages kept
   split_is s t given kept replies rs cut a = answered_messages
-      (Steps name setup_of list) v s t given rs replies kept cut a
+      (Steps name setup_of state) v s t given rs replies kept cut a
 
   pub rests_between : (l l' : L) (s t : S) (kept : List ℕ) (turns : ℕ) → setup_of s ≡ v →
-      (a : Rests reads writes failures (Steps name setup_of list) v l l' s t kept turns) →
-      (b : Between reads writes failures v l l' (list s) (list t) kept turns) × (b.exchange.given ≡ a.given) ×
-      Is name setup_of list v s t
+      (a : Rests reads writes failures (Steps name setup_of state) v l l' s t kept turns) →
+      (b : Between reads writes failures v l l' (state s) (state t) kept turns) × (b.exchange.given ≡ a.given) ×
+      Is name setup_of state v s t
   rests_between l l' s t kept turns e a =
-      let seen = all_seen name setup_of list v s t a.requests a.replies e a.answered in
+      let seen = all_seen name setup_of state v s t a.requests a.replies e a.answered in
       let all : messages a.given ≡ map
       (λ r. Ok r) a.requests = split_is s t a.given kept a.replies a.requests a.cut a.answered
       ∙ ap (λ ms. map (λ r. Ok r) a.requests ++ ms) (messages_none kept a.none) ∙
@@ -146,13 +146,13 @@ module _ {L S N : Type 0} (reads : L → Answer → L → Type 0) (writes : L �
             given = a.given;
             taken = a.replies;
             talks = a.talks;
-            answers = subst (λ ms. IsAnswered v (list s) ms a.replies (list t)) (sym all)
-                (all_answered (PlainGives v) v (list s) (list t) a.requests a.replies seen.0);
+            answers = subst (λ ms. IsAnswered v (state s) ms a.replies (state t)) (sym all)
+                (all_answered (PlainGives v) v (state s) (state t) a.requests a.replies seen.0);
           };
           requests = a.requests;
           cut = a.cut;
           none = a.none;
-          go_on = none_stops (Steps name setup_of list) v s t a.requests a.replies a.answered;
+          go_on = none_stops (Steps name setup_of state) v s t a.requests a.replies a.answered;
         },
         refl,
         seen.1,
@@ -160,12 +160,12 @@ module _ {L S N : Type 0} (reads : L → Answer → L → Type 0) (writes : L �
 
   -- a session whose last message has this reply
   last_seen : (l l' : L) (s m t : S) (kept reply : List ℕ) (written turns : ℕ) (last : Message) → setup_of s ≡ v →
-      Then reads writes failures (Steps name setup_of list) v l l' s m kept reply written turns →
+      Then reads writes failures (Steps name setup_of state) v l l' s m kept reply written turns →
       messages kept ≡ last ∷ [] →
-      IsAnswered v (list m) (last ∷ []) reply (list t) → name t ≡ name m → setup_of t ≡ setup_of m →
-      WithLast reads writes failures v l l' (list s) (list t) turns last × Is name setup_of list v s t
+      IsAnswered v (state m) (last ∷ []) reply (state t) → name t ≡ name m → setup_of t ≡ setup_of m →
+      WithLast reads writes failures v l l' (state s) (state t) turns last × Is name setup_of state v s t
   last_seen l l' s m t kept reply written turns last e a one h same setup =
-      let seen = all_seen name setup_of list v s m a.requests a.replies e a.answered in
+      let seen = all_seen name setup_of state v s m a.requests a.replies e a.answered in
       let all = split_is s m a.given kept a.replies a.requests a.cut a.answered ∙
       ap (λ ms. map (λ r. Ok r) a.requests ++ ms) one in (
         record {
@@ -173,8 +173,9 @@ module _ {L S N : Type 0} (reads : L → Answer → L → Type 0) (writes : L �
             given = a.given;
             taken = a.replies ++ reply;
             talks = a.talks;
-            answers = subst (λ ms. IsAnswered v (list s) ms (a.replies ++ reply) (list t)) (sym all)
-                (all_more (PlainGives v) v (list s) (list m) (list t) a.requests (last ∷ []) a.replies reply seen.0 h);
+            answers = subst (λ ms. IsAnswered v (state s) ms (a.replies ++ reply) (state t)) (sym all)
+                (all_more (PlainGives v) v (state s) (state m) (state t) a.requests (last ∷ []) a.replies reply seen.0
+                h);
           };
           before = map (λ r. Ok r) a.requests;
           last_is = all;
@@ -183,40 +184,40 @@ module _ {L S N : Type 0} (reads : L → Answer → L → Type 0) (writes : L �
       )
 
   partly_seen : (l l' : L) (s m : S) (kept last last' : List ℕ) (written turns : ℕ) → setup_of s ≡ v → last ≡ last' →
-      (a : Then reads writes failures (Steps name setup_of list) v l l' s m kept last written turns) →
-      Partly reads writes failures v l l' (list s) turns a.replies last' (list m) (messages kept) ×
-      Is name setup_of list v s m
+      (a : Then reads writes failures (Steps name setup_of state) v l l' s m kept last written turns) →
+      Partly reads writes failures v l l' (state s) turns a.replies last' (state m) (messages kept) ×
+      Is name setup_of state v s m
   partly_seen l l' s m kept last last' written turns e same a =
-      let seen = all_seen name setup_of list v s m a.requests a.replies e a.answered in (
+      let seen = all_seen name setup_of state v s m a.requests a.replies e a.answered in (
         record {
           given = a.given;
           talks = subst (λ x. Talks reads writes l l' a.given (a.replies ++ x) turns) same a.talks;
           requests = a.requests;
           split = split_is s m a.given kept a.replies a.requests a.cut a.answered;
-          answers = all_answered (PlainGives v) v (list s) (list m) a.requests a.replies seen.0;
+          answers = all_answered (PlainGives v) v (state s) (state m) a.requests a.replies seen.0;
         },
         seen.1,
       )
 
   reply_seen : (kept reply : List ℕ) (s t : S) → setup_of s ≡ v →
-      NextReply (Steps name setup_of list) v kept reply s t →
+      NextReply (Steps name setup_of state) v kept reply s t →
       (((m : Message) × (others : List Message) × (messages kept ≡ m ∷ others) ×
-      IsAnswered v (list s) (m ∷ []) reply (list t))
-      ⊎ ((reply ≡ refused 1 0) × (list t ≡ list s))) × Is name setup_of list v s t
+      IsAnswered v (state s) (m ∷ []) reply (state t))
+      ⊎ ((reply ≡ refused 1 0) × (state t ≡ state s))) × Is name setup_of state v s t
   reply_seen kept reply s t e (answered r rest f a) =
-      let one = one_seen name setup_of list v r reply s t e a in
-      let goes = goes_on (Steps name setup_of list) v r reply s t a in (
+      let one = one_seen name setup_of state v r reply s t e a in
+      let goes = goes_on (Steps name setup_of state) v r reply s t a in (
         inl (
           Ok r,
           messages rest,
           messages_request kept r rest f goes,
-          one_more (PlainGives v) v (list s) (list t) (list t) r reply [] [] reply goes one.0 (sym (append-nil reply))
-              (refl, refl),
+          one_more (PlainGives v) v (state s) (state t) (state t) r reply [] [] reply goes one.0
+              (sym (append-nil reply)) (refl, refl),
         ),
         one.1,
       )
   reply_seen kept reply s t e (stop rest f i is) = (
-    inl (Ok Stop, [], messages_stop kept rest f, (is, ap list i)),
+    inl (Ok Stop, [], messages_stop kept rest f, (is, ap state i)),
     record { same = ap name i; setup = ap setup_of i ∙ e },
   )
   reply_seen kept reply s t e (bad fault f i is) = (
@@ -224,15 +225,15 @@ module _ {L S N : Type 0} (reads : L → Answer → L → Type 0) (writes : L �
       Err fault,
       [],
       messages_bad kept fault kept f,
-      (is, ap list i),
+      (is, ap state i),
     ),
     record { same = ap name i; setup = ap setup_of i ∙ e },
   )
-  reply_seen kept reply s t e (out h is) = let k = lacks_seen name setup_of list v kept s t e h in (inr (is, k.0), k.1)
+  reply_seen kept reply s t e (out h is) = let k = lacks_seen name setup_of state v kept s t e h in (inr (is, k.0), k.1)
 
   breaks_seen : (l l' : L) (s t : S) (turns n : ℕ) → setup_of s ≡ v →
-      Breaks reads writes failures (Steps name setup_of list) v l l' s t turns n →
-      Broken reads writes failures v l l' (list s) (list t) turns n × Is name setup_of list v s t
+      Breaks reads writes failures (Steps name setup_of state) v l l' s t turns n →
+      Broken reads writes failures v l l' (state s) (state t) turns n × Is name setup_of state v s t
   breaks_seen l l' s t turns n e a =
       let part = partly_seen l l' s a.mid a.kept (take a.some a.reply)
       (take a.some a.reply) a.written turns e refl a.before in
@@ -241,7 +242,7 @@ module _ {L S N : Type 0} (reads : L → Answer → L → Type 0) (writes : L �
           replies = a.before.replies;
           reply = a.reply;
           some = a.some;
-          mid = list a.mid;
+          mid = state a.mid;
           rest = messages a.kept;
           partly = part.0;
           proper = a.proper;
@@ -255,8 +256,8 @@ module _ {L S N : Type 0} (reads : L → Answer → L → Type 0) (writes : L �
       )
 
   pub ends_seen : (at_end : L → Type 0) (l l' : L) (s t : S) (most turns : ℕ) (ended : Ended) → setup_of s ≡ v →
-      Ends reads writes failures (Steps name setup_of list) v at_end l l' s t most turns ended →
-      EndsPlain reads writes failures v at_end l l' (list s) (list t) most turns ended × Is name setup_of list v s t
+      Ends reads writes failures (Steps name setup_of state) v at_end l l' s t most turns ended →
+      EndsPlain reads writes failures v at_end l l' (state s) (state t) most turns ended × Is name setup_of state v s t
   ends_seen at_end l l' s t most turns (Closed n) e a = let b = rests_between l l' s t a.0 turns e a.3 in
       ((a.0, a.1, a.2, b.0), b.2)
   ends_seen at_end l l' s t most turns ReadFault e a =
@@ -282,19 +283,19 @@ module _ {L S N : Type 0} (reads : L → Answer → L → Type 0) (writes : L �
   ends_seen at_end l l' s t most turns Stopped e a =
       let last = a.last in
       last_seen l l' s a.mid t a.kept a.reply a.written turns (Ok Stop) e a.before (messages_stop a.kept last.0 last.1)
-      (last.3, ap list last.2) (ap name last.2) (ap setup_of last.2)
+      (last.3, ap state last.2) (ap name last.2) (ap setup_of last.2)
   ends_seen at_end l l' s t most turns BadFrame e a =
       let last = a.last in
       let b = last_seen l l' s a.mid t a.kept a.reply a.written turns (Err last.0) e a.before
-      (messages_bad a.kept last.0 a.kept last.1) (last.3, ap list last.2) (ap name last.2) (ap setup_of last.2) in
+      (messages_bad a.kept last.0 a.kept last.1) (last.3, ap state last.2) (ap name last.2) (ap setup_of last.2) in
       ((last.0, b.0), b.1)
   ends_seen at_end l l' s t most turns Memory e a =
       let part = partly_seen l l' s a.mid a.kept a.reply (refused 1 0) a.written turns e a.last.1 a.before in
-      let k = lacks_seen name setup_of list v a.kept a.mid t part.1.setup a.last.0 in (
+      let k = lacks_seen name setup_of state v a.kept a.mid t part.1.setup a.last.0 in (
         record {
           replies = a.before.replies;
           rest = messages a.kept;
-          partly = subst (λ x. Partly reads writes failures v l l' (list s) turns a.before.replies (refused 1 0) x
+          partly = subst (λ x. Partly reads writes failures v l l' (state s) turns a.before.replies (refused 1 0) x
               (messages a.kept)) (sym k.0) part.0;
         },
         record { same = k.1.same ∙ part.1.same; setup = k.1.setup },

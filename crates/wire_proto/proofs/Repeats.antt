@@ -3,11 +3,11 @@ use Rattle.std.proofs.Common.{◌≡◌, ◌⊎◌, inl, inr, ℕ, suc, ◌+◌,
 use Rattle.std.proofs.Common.{nat_lt, List, [], ◌∷◌, ◌++◌, length, take, position, if◌then◌else◌, refl, sym, ◌∙◌, ap}
 use Rattle.std.proofs.Common.{subst, arith, append_assoc, length-append, map, Option, Some, None, Result, Ok, Err}
 use Rattle.std.specs.List.{position_or_len}
-use Rattle.std.proofs.lemmas.List.{append-nil, take-append-le, take_at, length-map, map-append}
+use Rattle.std.proofs.lemmas.List.{append-nil, take-append-le, take_at, map-append}
 use Rattle.std.proofs.lemmas.Bool.Decides.{nat_tests}
 use Rattle.batch_store.specs.Setups.{Setting}
 use Rattle.batch_store.specs.Batches.{Submission, entry_of, entries_of, batch_total}
-use Rattle.batch_store.specs.Books.{list_total}
+use Rattle.batch_store.specs.Accepted.{Accepted, accepted as state_with, entries_in, count_in, total_in, with_batch}
 use Rattle.batch_store.specs.Verdicts.{kept, total_of_entries, same_pair, verdict_at}
 use Rattle.batch_store.specs.declared.verdict.Entry.{Entry}
 use Rattle.batch_store.specs.declared.verdict.Kept.{Kept}
@@ -16,20 +16,33 @@ use Rattle.batch_store.specs.declared.verdict.Verdict.TheVariants as verdict
 use Rattle.batch_store.proofs.VerdictLaws.{fresh_is, total_push}
 use Rattle.hyper_matrix.specs.Matrix.{Matrix}
 use Rattle.std.specs.declared.alloc.AllocError.{AllocError}
-use Rattle.plain_engine.specs.Object.{Puts, answer_to, list_by, verdict_in}
+use Rattle.plain_engine.specs.Object.{Puts, answer_to, state_by, verdict_in}
 use Rattle.plain_engine.specs.declared.fault.PutFault.{PutFault}
 use Rattle.plain_engine.specs.declared.fault.PutFault.TheVariants as fault
 use Rattle.wire_proto.specs.Keeping.{Event, put, export}
 use Rattle.wire_proto.specs.Replies.{accepted, refused, put_reply, reply_of}
 use Rattle.wire_proto.specs.Answering.{PutsBatch, PutsCells, Answers, asked, unasked}
 use Rattle.wire_frames.specs.Frames.{Message}
-use Rattle.wire_proto.specs.Plain.{PlainGives, IsAnswered, AreAnswered, FreshPuts, PutsFresh, GoOn, IsPut}
+use Rattle.wire_proto.specs.Plain.{PlainGives, IsAnswered, AreAnswered, FreshPuts, PutsFresh, GoOn, IsPut, with_batches}
 use Rattle.wire_proto.proofs.DecodeLemmas.{frame_kind}
 use Rattle.wire_proto.specs.Decoding.{accepted as says_accepted, refused as says_refused}
 use Rattle.wire_proto.proofs.OneAnswer.{one_batch, never_both, put_is, one_cells_batch, never_both_cells}
 use Rattle.wire_proto.proofs.PlainLemmas.{one_more}
 use Rattle.wire_frames.specs.declared.request.Request.{Request}
 use Rattle.wire_frames.specs.declared.request.Request.TheVariants.{Put, PutCells, Cell, Row, Status, Export, Save, Stop}
+
+-- ---- batches behind what was accepted
+none_behind : (state : Accepted) → with_batches state [] ≡ state
+none_behind state = ap (state_with state.base state.folded) (append-nil state.list)
+
+more_behind : (state : Accepted) (xs ys : List Submission) →
+    with_batches (with_batches state xs) ys ≡ with_batches state (xs ++ ys)
+more_behind state xs ys = ap (state_with state.base state.folded) (append_assoc state.list xs ys)
+
+entries_behind : (state : Accepted) (more : List Submission) →
+    entries_in state ++ entries_of more ≡ entries_in (with_batches state more)
+entries_behind state more = append_assoc state.folded (entries_of state.list) (entries_of more) ∙
+    ap (λ es. state.folded ++ es) (sym (map-append entry_of state.list more))
 
 -- ---- the first place of a pair
 abbrev pair_test : ℕ → ℕ → Entry → Bool
@@ -78,13 +91,13 @@ some_place p xs i h = by (nat_lt (position_or_len p xs) (length xs)) refl h
 own_pair : (c n : ℕ) → ((c == c) && (n == n)) ≡ true
 own_pair c n = grind (arith, nat_tests)
 
--- This reply is kept for a pair, at the first place where it stands in the list.
-record Stored (list : List Submission) (c n : ℕ) (k : Kept) : Type 0 where
-  found : position_or_len (pair_test c n) (entries_of list) < length (entries_of list)
-  is : k ≡ kept (position_or_len (pair_test c n) (entries_of list))
-      (total_of_entries (take (position_or_len (pair_test c n) (entries_of list) + 1) (entries_of list)))
+-- This reply is kept for a pair, at the first place where it stands.
+record Stored (state : Accepted) (c n : ℕ) (k : Kept) : Type 0 where
+  found : position_or_len (pair_test c n) (entries_in state) < length (entries_in state)
+  is : k ≡ kept (position_or_len (pair_test c n) (entries_in state))
+      (total_of_entries (take (position_or_len (pair_test c n) (entries_in state) + 1) (entries_in state)))
 
--- the list grows, and the reply stays
+-- more is accepted, and the reply stays
 stored_longer : (es ms : List Entry) (c n : ℕ) (k : Kept) → position_or_len (pair_test c n) es < length es →
     k ≡ kept (position_or_len (pair_test c n) es) (total_of_entries
     (take (position_or_len (pair_test c n) es + 1) es)) →
@@ -98,10 +111,11 @@ stored_longer es ms c n k found is =
           (take-append-le (position_or_len (pair_test c n) es + 1) es ms (omega (arith, found))))),
     )
 
-stored_more : (list more : List Submission) (c n : ℕ) (k : Kept) → Stored list c n k → Stored (list ++ more) c n k
-stored_more list more c n k s =
-    let both = stored_longer (entries_of list) (entries_of more) c n k s.found s.is in
-    let e = sym (map-append entry_of list more) in
+stored_more : (state : Accepted) (more : List Submission) (c n : ℕ) (k : Kept) → Stored state c n k →
+    Stored (with_batches state more) c n k
+stored_more state more c n k s =
+    let both = stored_longer (entries_in state) (entries_of more) c n k s.found s.is in
+    let e = entries_behind state more in
     record {
       found = subst (λ (es : List Entry). position_or_len (pair_test c n) es < length es) e both.0;
       is = subst (λ (es : List Entry). k ≡ kept (position_or_len (pair_test c n) es)
@@ -109,8 +123,8 @@ stored_more list more c n k s =
     }
 
 -- so there is one
-stored_once : (list : List Submission) (c n : ℕ) (k k' : Kept) → Stored list c n k → Stored list c n k' → k ≡ k'
-stored_once list c n k k' s t = s.is ∙ sym t.is
+stored_once : (state : Accepted) (c n : ℕ) (k k' : Kept) → Stored state c n k → Stored state c n k' → k ≡ k'
+stored_once state c n k k' s t = s.is ∙ sym t.is
 
 -- ---- a fresh batch stands at the end, a known one where it stood
 end_stored : (es : List Entry) (b : Entry) → length es ≤ position_or_len (pair_test b.client b.number) es →
@@ -126,21 +140,20 @@ end_stored es b h =
           total_push es b,
     )
 
-stored_fresh : (v : Setting) (list : List Submission) (b : Submission) → verdict_in v list b ≡ verdict.Fresh →
-    Stored (list ++ b ∷ []) b.client b.number (kept (length list) (list_total list + batch_total b))
-stored_fresh v list b h =
-    let es = entries_of list in
+stored_fresh : (v : Setting) (state : Accepted) (b : Submission) → verdict_in v state b ≡ verdict.Fresh →
+    Stored (with_batch state b) b.client b.number (kept (count_in state) (total_in state + batch_total b))
+stored_fresh v state b h =
+    let es = entries_in state in
     let new = none_past (pair_test b.client b.number) es (fresh_is v.limit v.max_batches es (entry_of b) h).new_pair in
     let ends = end_stored es (entry_of b) new in
-    let e = sym (map-append entry_of list (b ∷ [])) in
-    let count : length list ≡ length es = omega (arith, length-map list entry_of) in
+    let e = entries_behind state (b ∷ []) in
     record {
       found = subst (λ (l : List Entry). position_or_len (pair_test b.client b.number) l < length l) e
           (let k = ends.0 in omega (arith, k, length-append es (entry_of b ∷ [])));
-      is = subst (λ (l : List Entry). kept (length list) (list_total list + batch_total b) ≡
+      is = subst (λ (l : List Entry). kept (count_in state) (total_in state + batch_total b) ≡
           kept (position_or_len (pair_test b.client b.number) l)
           (total_of_entries (take (position_or_len (pair_test b.client b.number) l + 1) l))) e
-          (rw ends.0 (rw ends.1 (ap (λ n. kept n (total_of_entries es + batch_total b)) count)));
+          (rw ends.0 (rw ends.1 refl));
     }
 
 known_is : (x : Bool) (i after : ℕ) (k : Kept) → (if x then verdict.Known (kept i after) else verdict.NumberReused) ≡
@@ -167,26 +180,26 @@ stored_at limit most es b k (Some i) is h =
           sym (ap (λ j. kept j (total_of_entries (take (j + 1) es))) place.0),
     )
 
-stored_known : (v : Setting) (list : List Submission) (b : Submission) (k : Kept) →
-    verdict_in v list b ≡ verdict.Known k → Stored list b.client b.number k
-stored_known v list b k h =
-    let both = stored_at v.limit v.max_batches (entries_of list) (entry_of b) k
-    (position (same_pair (entry_of b)) (entries_of list)) refl h in
+stored_known : (v : Setting) (state : Accepted) (b : Submission) (k : Kept) →
+    verdict_in v state b ≡ verdict.Known k → Stored state b.client b.number k
+stored_known v state b k h =
+    let both = stored_at v.limit v.max_batches (entries_in state) (entry_of b) k
+    (position (same_pair (entry_of b)) (entries_in state)) refl h in
     record { found = both.0; is = both.1 }
 
 ok_is : (x y : Kept) → ◌≡◌ {A = Result Kept PutFault} (Ok x) (Ok y) → x ≡ y
 ok_is x y e = cc
 
-by_stored : (v : Setting) (list t : List Submission) (b : Submission) (k : Kept) (vd : Verdict) →
-    verdict_in v list b ≡ vd → ◌≡◌ {A = Result Kept PutFault} (Ok k) (answer_to list b vd) → t ≡ list_by list b vd →
+by_stored : (v : Setting) (state t : Accepted) (b : Submission) (k : Kept) (vd : Verdict) →
+    verdict_in v state b ≡ vd → ◌≡◌ {A = Result Kept PutFault} (Ok k) (answer_to state b vd) → t ≡ state_by state b vd →
     Stored t b.client b.number k
-by_stored v list t b k verdict.Fresh is a h = subst (λ l. Stored l b.client b.number k) (sym h)
-    (subst (Stored (list ++ b ∷ []) b.client b.number) (sym (ok_is _ _ a)) (stored_fresh v list b is))
-by_stored v list t b k (verdict.Known k') is a h = subst (λ l. Stored l b.client b.number k) (sym h)
-    (subst (Stored list b.client b.number) (sym (ok_is _ _ a)) (stored_known v list b k' is))
-by_stored v list t b k verdict.NumberReused is a h = absurd (cc)
-by_stored v list t b k (verdict.OverTotal total) is a h = absurd (cc)
-by_stored v list t b k verdict.BookFull is a h = absurd (cc)
+by_stored v state t b k verdict.Fresh is a h = subst (λ l. Stored l b.client b.number k) (sym h)
+    (subst (Stored (with_batch state b) b.client b.number) (sym (ok_is _ _ a)) (stored_fresh v state b is))
+by_stored v state t b k (verdict.Known k') is a h = subst (λ l. Stored l b.client b.number k) (sym h)
+    (subst (Stored state b.client b.number) (sym (ok_is _ _ a)) (stored_known v state b k' is))
+by_stored v state t b k verdict.NumberReused is a h = absurd (cc)
+by_stored v state t b k (verdict.OverTotal total) is a h = absurd (cc)
+by_stored v state t b k verdict.BookFull is a h = absurd (cc)
 
 -- ---- replies that say Accepted
 never_refused : (w : List ℕ) (k : Kept) (code detail : ℕ) → w ≡ accepted k → w ≡ refused code detail → ⊥
@@ -197,215 +210,217 @@ never_refused w k code detail e f =
 some_reply : (x y : List ℕ) → Some x ≡ Some y → x ≡ y
 some_reply x y e = cc
 
-by_answer : (v : Setting) (list t : List Submission) (b : Submission) (answer : Result Kept PutFault) (w : List ℕ)
-    (k : Kept) → Puts v list b answer t → put_reply answer ≡ Some w → w ≡ accepted k →
+by_answer : (v : Setting) (state t : Accepted) (b : Submission) (answer : Result Kept PutFault) (w : List ℕ)
+    (k : Kept) → Puts v state b answer t → put_reply answer ≡ Some w → w ≡ accepted k →
     (k' : Kept) × (w ≡ accepted k') × Stored t b.client b.number k'
-by_answer v list t b (Ok k') w k h i e = (
+by_answer v state t b (Ok k') w k h i e = (
   k',
   sym (some_reply _ _ i),
-  by_stored v list t b k' (verdict_in v list b) refl h.0 h.1,
+  by_stored v state t b k' (verdict_in v state b) refl h.0 h.1,
 )
-by_answer v list t b (Err fault.Memory) w k h i e = absurd (cc)
-by_answer v list t b (Err fault.NumberReused) w k h i e = absurd (never_refused w k 30 0 e (sym (some_reply _ _ i)))
-by_answer v list t b (Err (fault.OverTotal total)) w k h i e = absurd
+by_answer v state t b (Err fault.Memory) w k h i e = absurd (cc)
+by_answer v state t b (Err fault.NumberReused) w k h i e = absurd (never_refused w k 30 0 e (sym (some_reply _ _ i)))
+by_answer v state t b (Err (fault.OverTotal total)) w k h i e = absurd
     (never_refused w k 31 total e (sym (some_reply _ _ i)))
-by_answer v list t b (Err fault.BookFull) w k h i e = absurd (never_refused w k 32 0 e (sym (some_reply _ _ i)))
-by_answer v list t b (Err fault.RecordsDiffer) w k h i e = absurd (never_refused w k 33 0 e (sym (some_reply _ _ i)))
+by_answer v state t b (Err fault.BookFull) w k h i e = absurd (never_refused w k 32 0 e (sym (some_reply _ _ i)))
+by_answer v state t b (Err fault.RecordsDiffer) w k h i e = absurd (never_refused w k 33 0 e (sym (some_reply _ _ i)))
 
 -- a put of a batch, from whatever request
-batch_stored : (v : Setting) (list t : List Submission) (c n : ℕ) (e : Event) (b : Submission)
+batch_stored : (v : Setting) (state t : Accepted) (c n : ℕ) (e : Event) (b : Submission)
     (answer : Result Kept PutFault) (w : List ℕ) (k : Kept) → e ≡ put b answer → b.client ≡ c → b.number ≡ n →
-    PlainGives v list e t → reply_of e ≡ Some w → w ≡ accepted k →
+    PlainGives v state e t → reply_of e ≡ Some w → w ≡ accepted k →
     (k' : Kept) × (w ≡ accepted k') × Stored t c n k'
-batch_stored v list t c n e b answer w k is client number h i told =
-    let found = by_answer v list t b answer w k (subst (λ x. PlainGives v list x t) is h)
+batch_stored v state t c n e b answer w k is client number h i told =
+    let found = by_answer v state t b answer w k (subst (λ x. PlainGives v state x t) is h)
     (subst (λ x. reply_of x ≡ Some w) is i) told in (
       found.0,
       found.1,
       subst (λ m. Stored t c m found.0) number (subst (λ m. Stored t m b.number found.0) client found.2),
     )
 
-put_stored : (v : Setting) (list t : List Submission) (c n : ℕ) (r : Request) (w : List ℕ) (k : Kept) → IsPut c n r →
-    Answers (PlainGives v) v r w list t → w ≡ accepted k → (k' : Kept) × (w ≡ accepted k') × Stored t c n k'
-put_stored v list t c n (Put x y text) w k p (asked ev a h i) e =
-    batch_stored v list t c n ev a.0 a.1 w k a.3 (ap (λ (b : Submission). b.client) a.2.batch_is ∙ p.0)
+put_stored : (v : Setting) (state t : Accepted) (c n : ℕ) (r : Request) (w : List ℕ) (k : Kept) → IsPut c n r →
+    Answers (PlainGives v) v r w state t → w ≡ accepted k → (k' : Kept) × (w ≡ accepted k') × Stored t c n k'
+put_stored v state t c n (Put x y text) w k p (asked ev a h i) e =
+    batch_stored v state t c n ev a.0 a.1 w k a.3 (ap (λ (b : Submission). b.client) a.2.batch_is ∙ p.0)
     (ap (λ (b : Submission). b.number) a.2.batch_is ∙ p.1) h i e
-put_stored v list t c n (Put x y text) w k p (unasked a i) e = absurd (never_refused w k a.0 a.1 e a.3)
-put_stored v list t c n (PutCells x y cells) w k p (asked ev a h i) e =
-    batch_stored v list t c n ev a.0 a.1 w k a.3 (ap (λ (b : Submission). b.client) a.2.batch_is ∙ p.0)
+put_stored v state t c n (Put x y text) w k p (unasked a i) e = absurd (never_refused w k a.0 a.1 e a.3)
+put_stored v state t c n (PutCells x y cells) w k p (asked ev a h i) e =
+    batch_stored v state t c n ev a.0 a.1 w k a.3 (ap (λ (b : Submission). b.client) a.2.batch_is ∙ p.0)
     (ap (λ (b : Submission). b.number) a.2.batch_is ∙ p.1) h i e
-put_stored v list t c n (PutCells x y cells) w k p (unasked a i) e = absurd (never_refused w k a.0 a.1 e a.3)
-put_stored v list t c n (Cell x y) w k p a e = absurd p
-put_stored v list t c n (Row x) w k p a e = absurd p
-put_stored v list t c n Status w k p a e = absurd p
-put_stored v list t c n Export w k p a e = absurd p
-put_stored v list t c n Save w k p a e = absurd p
-put_stored v list t c n Stop w k p a e = absurd p
+put_stored v state t c n (PutCells x y cells) w k p (unasked a i) e = absurd (never_refused w k a.0 a.1 e a.3)
+put_stored v state t c n (Cell x y) w k p a e = absurd p
+put_stored v state t c n (Row x) w k p a e = absurd p
+put_stored v state t c n Status w k p a e = absurd p
+put_stored v state t c n Export w k p a e = absurd p
+put_stored v state t c n Save w k p a e = absurd p
+put_stored v state t c n Stop w k p a e = absurd p
 
--- ---- what a session adds to the list
+-- ---- what a session adds to what was accepted
 -- P: it is the one batch of a put
 by_fresh : (P : Submission → Type 0) → ((x y : Submission) → P x → P y → x ≡ y) →
-    (v : Setting) (list t : List Submission) (b : Submission) (vd : Verdict) → verdict_in v list b ≡ vd → P b →
-    t ≡ list_by list b vd →
-    ((((x : Submission) → P x × (verdict_in v list x ≡ verdict.Fresh) → ⊥) × (t ≡ list)) ⊎
-    ((x : Submission) × (P x × (verdict_in v list x ≡ verdict.Fresh)) × (t ≡ list ++ x ∷ [])))
-by_fresh P one v list t b verdict.Fresh is p h = inr (b, (p, is), h)
-by_fresh P one v list t b (verdict.Known k) is p h = inl
-    ((λ x f. let same = ap (verdict_in v list) (one x b f.0 p) in let fresh = f.1 in cc), h)
-by_fresh P one v list t b verdict.NumberReused is p h = inl
-    ((λ x f. let same = ap (verdict_in v list) (one x b f.0 p) in let fresh = f.1 in cc), h)
-by_fresh P one v list t b (verdict.OverTotal total) is p h = inl
-    ((λ x f. let same = ap (verdict_in v list) (one x b f.0 p) in let fresh = f.1 in cc), h)
-by_fresh P one v list t b verdict.BookFull is p h = inl
-    ((λ x f. let same = ap (verdict_in v list) (one x b f.0 p) in let fresh = f.1 in cc), h)
+    (v : Setting) (state t : Accepted) (b : Submission) (vd : Verdict) → verdict_in v state b ≡ vd → P b →
+    t ≡ state_by state b vd →
+    ((((x : Submission) → P x × (verdict_in v state x ≡ verdict.Fresh) → ⊥) × (t ≡ state)) ⊎
+    ((x : Submission) × (P x × (verdict_in v state x ≡ verdict.Fresh)) × (t ≡ with_batch state x)))
+by_fresh P one v state t b verdict.Fresh is p h = inr (b, (p, is), h)
+by_fresh P one v state t b (verdict.Known k) is p h = inl
+    ((λ x f. let same = ap (verdict_in v state) (one x b f.0 p) in let fresh = f.1 in cc), h)
+by_fresh P one v state t b verdict.NumberReused is p h = inl
+    ((λ x f. let same = ap (verdict_in v state) (one x b f.0 p) in let fresh = f.1 in cc), h)
+by_fresh P one v state t b (verdict.OverTotal total) is p h = inl
+    ((λ x f. let same = ap (verdict_in v state) (one x b f.0 p) in let fresh = f.1 in cc), h)
+by_fresh P one v state t b verdict.BookFull is p h = inl
+    ((λ x f. let same = ap (verdict_in v state) (one x b f.0 p) in let fresh = f.1 in cc), h)
 
-abbrev Adds : Setting → List Submission → Request → List Submission → Type 0
-Adds v list r t = (((x : Submission) → PutsFresh v list r x → ⊥) × (t ≡ list)) ⊎
-    ((x : Submission) × PutsFresh v list r x × (t ≡ list ++ x ∷ []))
+abbrev Adds : Setting → Accepted → Request → Accepted → Type 0
+Adds v state r t = (((x : Submission) → PutsFresh v state r x → ⊥) × (t ≡ state)) ⊎
+    ((x : Submission) × PutsFresh v state r x × (t ≡ with_batch state x))
 
-export_keeps : (v : Setting) (list t : List Submission) (e : Event) (a : Result Matrix AllocError) → e ≡ export a →
-    PlainGives v list e t → t ≡ list
-export_keeps v list t e (Ok m) is h = (subst (λ x. PlainGives v list x t) is h).1
-export_keeps v list t e (Err x) is h = subst (λ x. PlainGives v list x t) is h
+export_keeps : (v : Setting) (state t : Accepted) (e : Event) (a : Result Matrix AllocError) → e ≡ export a →
+    PlainGives v state e t → t ≡ state
+export_keeps v state t e (Ok m) is h = (subst (λ x. PlainGives v state x t) is h).1
+export_keeps v state t e (Err x) is h = subst (λ x. PlainGives v state x t) is h
 
-adds : (v : Setting) (list t : List Submission) (r : Request) (w : List ℕ) → Answers (PlainGives v) v r w list t →
-    Adds v list r t
-adds v list t (Put c n text) w (asked ev a h i) =
-    let one = put_is v list a.0 a.1 t w (subst (λ x. PlainGives v list x t) a.3 h)
+adds : (v : Setting) (state t : Accepted) (r : Request) (w : List ℕ) → Answers (PlainGives v) v r w state t →
+    Adds v state r t
+adds v state t (Put c n text) w (asked ev a h i) =
+    let one = put_is v state a.0 a.1 t w (subst (λ x. PlainGives v state x t) a.3 h)
     (subst (λ x. reply_of x ≡ Some w) a.3 i) in
-    by_fresh (PutsBatch v c n text) (one_batch v c n text) v list t a.0 (verdict_in v list a.0) refl a.2 one.1
-adds v list t (Put c n text) w (unasked a i) = inl ((λ x f. never_both v c n text x a.0 a.1 f.0 a.2), i)
-adds v list t (PutCells c n cells) w (asked ev a h i) =
-    let one = put_is v list a.0 a.1 t w (subst (λ x. PlainGives v list x t) a.3 h)
+    by_fresh (PutsBatch v c n text) (one_batch v c n text) v state t a.0 (verdict_in v state a.0) refl a.2 one.1
+adds v state t (Put c n text) w (unasked a i) = inl ((λ x f. never_both v c n text x a.0 a.1 f.0 a.2), i)
+adds v state t (PutCells c n cells) w (asked ev a h i) =
+    let one = put_is v state a.0 a.1 t w (subst (λ x. PlainGives v state x t) a.3 h)
     (subst (λ x. reply_of x ≡ Some w) a.3 i) in
-    by_fresh (PutsCells v c n cells) (one_cells_batch v c n cells) v list t a.0 (verdict_in v list a.0) refl a.2 one.1
-adds v list t (PutCells c n cells) w (unasked a i) = inl
+    by_fresh (PutsCells v c n cells) (one_cells_batch v c n cells) v state t a.0 (verdict_in v state a.0) refl a.2 one.1
+adds v state t (PutCells c n cells) w (unasked a i) = inl
     ((λ x f. never_both_cells v c n cells x a.0 a.1 f.0 a.2), i)
-adds v list t (Cell r c) w (asked ev a h i) = inl ((λ x f. f), (subst (λ x. PlainGives v list x t) a.3 h).1)
-adds v list t (Cell r c) w (unasked a i) = inl ((λ x f. f), i)
-adds v list t (Row r) w (asked ev a h i) = inl ((λ x f. f), (subst (λ x. PlainGives v list x t) a.2 h).1)
-adds v list t (Row r) w (unasked a i) = inl ((λ x f. f), i)
-adds v list t Status w (asked ev a h i) = inl ((λ x f. f), (subst (λ x. PlainGives v list x t) a.1 h).1)
-adds v list t Status w (unasked a i) = inl ((λ x f. f), i)
-adds v list t Export w (asked ev a h i) = inl ((λ x f. f), export_keeps v list t ev a.0 a.1 h)
-adds v list t Export w (unasked a i) = inl ((λ x f. f), i)
-adds v list t Save w (asked ev a h i) = inl ((λ x f. f), (subst (λ x. PlainGives v list x t) a.1 h).1)
-adds v list t Save w (unasked a i) = inl ((λ x f. f), i)
-adds v list t Stop w (asked ev a h i) = absurd a
-adds v list t Stop w (unasked a i) = absurd a
+adds v state t (Cell r c) w (asked ev a h i) = inl ((λ x f. f), (subst (λ x. PlainGives v state x t) a.3 h).1)
+adds v state t (Cell r c) w (unasked a i) = inl ((λ x f. f), i)
+adds v state t (Row r) w (asked ev a h i) = inl ((λ x f. f), (subst (λ x. PlainGives v state x t) a.2 h).1)
+adds v state t (Row r) w (unasked a i) = inl ((λ x f. f), i)
+adds v state t Status w (asked ev a h i) = inl ((λ x f. f), (subst (λ x. PlainGives v state x t) a.1 h).1)
+adds v state t Status w (unasked a i) = inl ((λ x f. f), i)
+adds v state t Export w (asked ev a h i) = inl ((λ x f. f), export_keeps v state t ev a.0 a.1 h)
+adds v state t Export w (unasked a i) = inl ((λ x f. f), i)
+adds v state t Save w (asked ev a h i) = inl ((λ x f. f), (subst (λ x. PlainGives v state x t) a.1 h).1)
+adds v state t Save w (unasked a i) = inl ((λ x f. f), i)
+adds v state t Stop w (asked ev a h i) = absurd a
+adds v state t Stop w (unasked a i) = absurd a
 
 -- a request that is answered, and then other messages
-abbrev OneFirst : Setting → List Submission → Request → List Message → List Submission → Type 0
-OneFirst v list r ms more =
-    (((x : Submission) → PutsFresh v list r x → ⊥) × FreshPuts v list ms more)
-    ⊎ ((x : Submission) × (rest : List Submission) × PutsFresh v list r x × (more ≡ x ∷ rest) ×
-    FreshPuts v (list ++ x ∷ []) ms rest)
+abbrev OneFirst : Setting → Accepted → Request → List Message → List Submission → Type 0
+OneFirst v state r ms more =
+    (((x : Submission) → PutsFresh v state r x → ⊥) × FreshPuts v state ms more)
+    ⊎ ((x : Submission) × (rest : List Submission) × PutsFresh v state r x × (more ≡ x ∷ rest) ×
+    FreshPuts v (with_batch state x) ms rest)
 
-then_adds : (v : Setting) (list m t : List Submission) (r : Request) (ms : List Message) (w : List ℕ) →
-    Answers (PlainGives v) v r w list m → (more : List Submission) × (t ≡ m ++ more) × FreshPuts v m ms more →
-    (more : List Submission) × (t ≡ list ++ more) × OneFirst v list r ms more
-then_adds v list m t r ms w h a = elim (adds v list m r w h) [
+then_adds : (v : Setting) (state m t : Accepted) (r : Request) (ms : List Message) (w : List ℕ) →
+    Answers (PlainGives v) v r w state m →
+    (more : List Submission) × (t ≡ with_batches m more) × FreshPuts v m ms more →
+    (more : List Submission) × (t ≡ with_batches state more) × OneFirst v state r ms more
+then_adds v state m t r ms w h a = elim (adds v state m r w h) [
   | inl same ↦ (
     a.0,
-    a.1 ∙ ap (λ l. l ++ a.0) same.1,
+    a.1 ∙ ap (λ s. with_batches s a.0) same.1,
     inl (same.0, subst (λ l. FreshPuts v l ms a.0) same.1 a.2),
   )
   | inr one ↦ (
     one.0 ∷ a.0,
-    a.1 ∙ ap (λ l. l ++ a.0) one.2 ∙ append_assoc list (one.0 ∷ []) a.0,
+    a.1 ∙ ap (λ s. with_batches s a.0) one.2 ∙ more_behind state (one.0 ∷ []) a.0,
     inr (one.0, a.0, one.1, refl, subst (λ l. FreshPuts v l ms a.0) one.2 a.2),
   )
 ]
 
 -- nothing more
-ends_here : (list t : List Submission) → t ≡ list → (more : List Submission) × (t ≡ list ++ more) × (more ≡ [])
-ends_here list t e = ([], e ∙ sym (append-nil list), refl)
+ends_here : (state t : Accepted) → t ≡ state → (more : List Submission) × (t ≡ with_batches state more) × (more ≡ [])
+ends_here state t e = ([], e ∙ sym (none_behind state), refl)
 
-pub all_adds : (v : Setting) (list t : List Submission) (ms : List Message) (w : List ℕ) →
-    IsAnswered v list ms w t → (more : List Submission) × (t ≡ list ++ more) × FreshPuts v list ms more
-all_adds v list t [] w a = ends_here list t a.1
-all_adds v list t (Ok (Put c n x) ∷ ms) w a =
-    then_adds v list a.0 t (Put c n x) ms a.1 a.3 (all_adds v a.0 t ms a.2 a.5)
-all_adds v list t (Ok (PutCells c n x) ∷ ms) w a =
-    then_adds v list a.0 t (PutCells c n x) ms a.1 a.3 (all_adds v a.0 t ms a.2 a.5)
-all_adds v list t (Ok (Cell x y) ∷ ms) w a = then_adds v list a.0 t (Cell x y) ms a.1 a.3 (all_adds v a.0 t ms a.2 a.5)
-all_adds v list t (Ok (Row x) ∷ ms) w a = then_adds v list a.0 t (Row x) ms a.1 a.3 (all_adds v a.0 t ms a.2 a.5)
-all_adds v list t (Ok Status ∷ ms) w a = then_adds v list a.0 t Status ms a.1 a.3 (all_adds v a.0 t ms a.2 a.5)
-all_adds v list t (Ok Export ∷ ms) w a = then_adds v list a.0 t Export ms a.1 a.3 (all_adds v a.0 t ms a.2 a.5)
-all_adds v list t (Ok Save ∷ ms) w a = then_adds v list a.0 t Save ms a.1 a.3 (all_adds v a.0 t ms a.2 a.5)
-all_adds v list t (Ok Stop ∷ ms) w a = ends_here list t a.1
-all_adds v list t (Err f ∷ ms) w a = ends_here list t a.1
+pub all_adds : (v : Setting) (state t : Accepted) (ms : List Message) (w : List ℕ) →
+    IsAnswered v state ms w t → (more : List Submission) × (t ≡ with_batches state more) × FreshPuts v state ms more
+all_adds v state t [] w a = ends_here state t a.1
+all_adds v state t (Ok (Put c n x) ∷ ms) w a =
+    then_adds v state a.0 t (Put c n x) ms a.1 a.3 (all_adds v a.0 t ms a.2 a.5)
+all_adds v state t (Ok (PutCells c n x) ∷ ms) w a =
+    then_adds v state a.0 t (PutCells c n x) ms a.1 a.3 (all_adds v a.0 t ms a.2 a.5)
+all_adds v state t (Ok (Cell x y) ∷ ms) w a =
+    then_adds v state a.0 t (Cell x y) ms a.1 a.3 (all_adds v a.0 t ms a.2 a.5)
+all_adds v state t (Ok (Row x) ∷ ms) w a = then_adds v state a.0 t (Row x) ms a.1 a.3 (all_adds v a.0 t ms a.2 a.5)
+all_adds v state t (Ok Status ∷ ms) w a = then_adds v state a.0 t Status ms a.1 a.3 (all_adds v a.0 t ms a.2 a.5)
+all_adds v state t (Ok Export ∷ ms) w a = then_adds v state a.0 t Export ms a.1 a.3 (all_adds v a.0 t ms a.2 a.5)
+all_adds v state t (Ok Save ∷ ms) w a = then_adds v state a.0 t Save ms a.1 a.3 (all_adds v a.0 t ms a.2 a.5)
+all_adds v state t (Ok Stop ∷ ms) w a = ends_here state t a.1
+all_adds v state t (Err f ∷ ms) w a = ends_here state t a.1
 
--- sessions add to the list, and take nothing away
-all_grow : (v : Setting) (list t : List Submission) (sessions : List (List Message)) → AreAnswered v list sessions t →
-    (more : List Submission) × (t ≡ list ++ more)
-all_grow v list t [] e = ([], e ∙ sym (append-nil list))
-all_grow v list t (ms ∷ sessions) a =
-    let one = all_adds v list a.1 ms a.0 a.2 in
+-- sessions add to what was accepted, and take nothing away
+all_grow : (v : Setting) (state t : Accepted) (sessions : List (List Message)) → AreAnswered v state sessions t →
+    (more : List Submission) × (t ≡ with_batches state more)
+all_grow v state t [] e = ([], e ∙ sym (none_behind state))
+all_grow v state t (ms ∷ sessions) a =
+    let one = all_adds v state a.1 ms a.0 a.2 in
     let rest = all_grow v a.1 t sessions a.3 in
-    (one.0 ++ rest.0, rest.1 ∙ ap (λ l. l ++ rest.0) one.1 ∙ append_assoc list one.0 rest.0)
+    (one.0 ++ rest.0, rest.1 ∙ ap (λ s. with_batches s rest.0) one.1 ∙ more_behind state one.0 rest.0)
 
 -- ---- messages that are answered in parts
 -- the first of them, which isn't a Stop
-first_answered : (v : Setting) (list t : List Submission) (r : Request) (ms : List Message) (w : List ℕ) →
-    (r ≡ Stop → ⊥) → IsAnswered v list (Ok r ∷ ms) w t →
-    (m : List Submission) × (reply : List ℕ) × (more : List ℕ) × Answers (PlainGives v) v r reply list m ×
+first_answered : (v : Setting) (state t : Accepted) (r : Request) (ms : List Message) (w : List ℕ) →
+    (r ≡ Stop → ⊥) → IsAnswered v state (Ok r ∷ ms) w t →
+    (m : Accepted) × (reply : List ℕ) × (more : List ℕ) × Answers (PlainGives v) v r reply state m ×
     (w ≡ reply ++ more) × IsAnswered v m ms more t
-first_answered v list t (Put x y z) ms w n a = a
-first_answered v list t (PutCells x y z) ms w n a = a
-first_answered v list t (Cell x y) ms w n a = a
-first_answered v list t (Row x) ms w n a = a
-first_answered v list t Status ms w n a = a
-first_answered v list t Export ms w n a = a
-first_answered v list t Save ms w n a = a
-first_answered v list t Stop ms w n a = absurd (n refl)
+first_answered v state t (Put x y z) ms w n a = a
+first_answered v state t (PutCells x y z) ms w n a = a
+first_answered v state t (Cell x y) ms w n a = a
+first_answered v state t (Row x) ms w n a = a
+first_answered v state t Status ms w n a = a
+first_answered v state t Export ms w n a = a
+first_answered v state t Save ms w n a = a
+first_answered v state t Stop ms w n a = absurd (n refl)
 
 -- requests, none of them a Stop, and then other messages
-pub parts_answered : (v : Setting) (list t : List Submission) (rs : List Request) (ms : List Message) (w : List ℕ) →
-    GoOn rs → IsAnswered v list (map (λ r. Ok r) rs ++ ms) w t →
-    (first : List ℕ) × (more : List ℕ) × (mid : List Submission) × (w ≡ first ++ more) ×
-    IsAnswered v list (map (λ r. Ok r) rs) first mid × IsAnswered v mid ms more t
-parts_answered v list t [] ms w go a = ([], w, list, refl, (refl, refl), a)
-parts_answered v list t (r ∷ rs) ms w go a =
-    let one = first_answered v list t r (map (λ r. Ok r) rs ++ ms) w go.0 a in
+pub parts_answered : (v : Setting) (state t : Accepted) (rs : List Request) (ms : List Message) (w : List ℕ) →
+    GoOn rs → IsAnswered v state (map (λ r. Ok r) rs ++ ms) w t →
+    (first : List ℕ) × (more : List ℕ) × (mid : Accepted) × (w ≡ first ++ more) ×
+    IsAnswered v state (map (λ r. Ok r) rs) first mid × IsAnswered v mid ms more t
+parts_answered v state t [] ms w go a = ([], w, state, refl, (refl, refl), a)
+parts_answered v state t (r ∷ rs) ms w go a =
+    let one = first_answered v state t r (map (λ r. Ok r) rs ++ ms) w go.0 a in
     let rest = parts_answered v one.0 t rs ms one.2 go.1 one.5 in (
       one.1 ++ rest.0,
       rest.1,
       rest.2,
       one.4 ∙ ap (λ l. one.1 ++ l) rest.3 ∙ sym (append_assoc one.1 rest.0 rest.1),
-      one_more (PlainGives v) v list one.0 rest.2 r one.1 rest.0 (map (λ r. Ok r) rs) (one.1 ++ rest.0) go.0 one.3 refl
+      one_more (PlainGives v) v state one.0 rest.2 r one.1 rest.0 (map (λ r. Ok r) rs) (one.1 ++ rest.0) go.0 one.3 refl
           rest.4,
       rest.5,
     )
 
 -- ---- a repeat
 -- a put that is answered alone
-alone_from : (v : Setting) (list t : List Submission) (c n : ℕ) (r : Request) (w : List ℕ) (k : Kept) → IsPut c n r →
-    (m : List Submission) × (reply : List ℕ) × (more : List ℕ) × Answers (PlainGives v) v r reply list m ×
+alone_from : (v : Setting) (state t : Accepted) (c n : ℕ) (r : Request) (w : List ℕ) (k : Kept) → IsPut c n r →
+    (m : Accepted) × (reply : List ℕ) × (more : List ℕ) × Answers (PlainGives v) v r reply state m ×
     (w ≡ reply ++ more) × IsAnswered v m [] more t → w ≡ accepted k →
     (k' : Kept) × (w ≡ accepted k') × Stored t c n k'
-alone_from v list t c n r w k p a e =
+alone_from v state t c n r w k p a e =
     let whole : w ≡ a.1 = a.4 ∙ ap (λ l. a.1 ++ l) a.5.0 ∙ append-nil a.1 in
-    let one = put_stored v list a.0 c n r a.1 k p a.3 (sym whole ∙ e) in
+    let one = put_stored v state a.0 c n r a.1 k p a.3 (sym whole ∙ e) in
     (one.0, whole ∙ one.1, subst (λ l. Stored l c n one.0) (sym a.5.1) one.2)
 
-alone_stored : (v : Setting) (list t : List Submission) (c n : ℕ) (r : Request) (w : List ℕ) (k : Kept) → IsPut c n r →
-    IsAnswered v list (Ok r ∷ []) w t → w ≡ accepted k → (k' : Kept) × (w ≡ accepted k') × Stored t c n k'
-alone_stored v list t c n (Put x y z) w k p a e = alone_from v list t c n (Put x y z) w k p a e
-alone_stored v list t c n (PutCells x y z) w k p a e = alone_from v list t c n (PutCells x y z) w k p a e
-alone_stored v list t c n (Cell x y) w k p a e = absurd p
-alone_stored v list t c n (Row x) w k p a e = absurd p
-alone_stored v list t c n Status w k p a e = absurd p
-alone_stored v list t c n Export w k p a e = absurd p
-alone_stored v list t c n Save w k p a e = absurd p
-alone_stored v list t c n Stop w k p a e = absurd p
+alone_stored : (v : Setting) (state t : Accepted) (c n : ℕ) (r : Request) (w : List ℕ) (k : Kept) → IsPut c n r →
+    IsAnswered v state (Ok r ∷ []) w t → w ≡ accepted k → (k' : Kept) × (w ≡ accepted k') × Stored t c n k'
+alone_stored v state t c n (Put x y z) w k p a e = alone_from v state t c n (Put x y z) w k p a e
+alone_stored v state t c n (PutCells x y z) w k p a e = alone_from v state t c n (PutCells x y z) w k p a e
+alone_stored v state t c n (Cell x y) w k p a e = absurd p
+alone_stored v state t c n (Row x) w k p a e = absurd p
+alone_stored v state t c n Status w k p a e = absurd p
+alone_stored v state t c n Export w k p a e = absurd p
+alone_stored v state t c n Save w k p a e = absurd p
+alone_stored v state t c n Stop w k p a e = absurd p
 
-pub repeat_replied : (v : Setting) (list a b t : List Submission) (c n : ℕ) (r r' : Request) (w w' : List ℕ)
+pub repeat_replied : (v : Setting) (state a b t : Accepted) (c n : ℕ) (r r' : Request) (w w' : List ℕ)
     (between : List (List Message)) (k k' : Kept) → IsPut c n r → IsPut c n r' →
-    IsAnswered v list (Ok r ∷ []) w a → w ≡ accepted k → AreAnswered v a between b →
+    IsAnswered v state (Ok r ∷ []) w a → w ≡ accepted k → AreAnswered v a between b →
     IsAnswered v b (Ok r' ∷ []) w' t → w' ≡ accepted k' → w ≡ w'
-repeat_replied v list a b t c n r r' w w' between k k' p p' one e all two e' =
-    let first = alone_stored v list a c n r w k p one e in
+repeat_replied v state a b t c n r r' w w' between k k' p p' one e all two e' =
+    let first = alone_stored v state a c n r w k p one e in
     let second = alone_stored v b t c n r' w' k' p' two e' in
     let grown = all_grow v a b between all in
     let last = all_adds v b t (Ok r' ∷ []) w' two in

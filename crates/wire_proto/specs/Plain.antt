@@ -1,11 +1,12 @@
--- Sessions over the engine of one thread, whose state is the list of accepted batches alone.
---     PlainGives          what the engine answers to a call, and the list that it leaves
+-- Sessions over the engine of one thread, whose state is what was accepted, and nothing else.
+--     with_batches        what was accepted with these batches behind it
+--     PlainGives          what the engine answers to a call, and the state that it leaves
 --     AnswersMessages     these bytes answer the messages, one after another: each request as a keeper does, a Stop and
 --                         a bad header as the last
---     IsAnswered          the same over the engine of one thread: of the list before and the messages, the bytes and
---                         the list after are a function
+--     IsAnswered          the same over the engine of one thread: of the state before and the messages, the bytes and
+--                         the state after are a function
 --     AreAnswered         so do the messages of one session after another, whatever the bytes
---     FreshPuts           the batches that messages add to the list: each that was fresh, in order, once
+--     FreshPuts           the batches that messages add to what was accepted: each that was fresh, in order, once
 --     EndsPlain           how a session over it ends, by cases
 use Rattle.std.specs.Prelude.{◌≡◌, ◌⊎◌, ℕ, ◌+◌, ◌<◌, ◌≤◌, List, [], ◌∷◌, ◌++◌, length, take, map, None, Ok, Err}
 use Rattle.byte_io.specs.Streams.{Answer}
@@ -13,6 +14,7 @@ use Rattle.byte_io.specs.declared.fault.DeviceFault.{DeviceFault}
 use Rattle.byte_io.specs.Writing.{HasStopped}
 use Rattle.batch_store.specs.Setups.{Setting}
 use Rattle.batch_store.specs.Batches.{Submission}
+use Rattle.batch_store.specs.Accepted.{Accepted, accepted, with_batch}
 use Rattle.plain_engine.specs.Object.{Puts, verdict_in, cell_of, row_sum_of, export_of, status_of}
 use Rattle.batch_store.specs.declared.verdict.Verdict.TheVariants.{Fresh}
 use Rattle.wire_frames.specs.Frames.{Message, front, Gives, messages}
@@ -28,14 +30,17 @@ use Rattle.wire_proto.specs.declared.ended.Ended.{Ended}
 use Rattle.wire_proto.specs.declared.ended.Ended.TheVariants.{Closed, ReadFault, WriteFault, BadFrame, Memory, Stopped}
 use Rattle.wire_proto.specs.declared.ended.Ended.TheVariants.{TooManyTurns}
 
-abbrev pub PlainGives : Setting → List Submission → Event → List Submission → Type 0
-PlainGives v list (put batch answer) after = Puts v list batch answer after
-PlainGives v list (cell r c count) after = (count ≡ cell_of list r c) × (after ≡ list)
-PlainGives v list (row r sum) after = (sum ≡ row_sum_of list r) × (after ≡ list)
-PlainGives v list (status s) after = (s ≡ status_of list) × (after ≡ list)
-PlainGives v list (export (Ok m)) after = (m ≡ export_of v list) × (after ≡ list)
-PlainGives v list (export (Err e)) after = after ≡ list
-PlainGives v list (save answer) after = (answer ≡ Err SaveOff) × (after ≡ list)
+abbrev pub with_batches : Accepted → List Submission → Accepted
+with_batches a bs = accepted a.base a.folded (a.list ++ bs)
+
+abbrev pub PlainGives : Setting → Accepted → Event → Accepted → Type 0
+PlainGives v state (put batch answer) after = Puts v state batch answer after
+PlainGives v state (cell r c count) after = (count ≡ cell_of state r c) × (after ≡ state)
+PlainGives v state (row r sum) after = (sum ≡ row_sum_of state r) × (after ≡ state)
+PlainGives v state (status s) after = (s ≡ status_of state) × (after ≡ state)
+PlainGives v state (export (Ok m)) after = (m ≡ export_of v state) × (after ≡ state)
+PlainGives v state (export (Err e)) after = after ≡ state
+PlainGives v state (save answer) after = (answer ≡ Err SaveOff) × (after ≡ state)
 
 abbrev pub AnswersMessages : {S : Type 0} → (S → Event → S → Type 0) → Setting → S → List Message → List ℕ → S → Type 0
 AnswersMessages gives setup s [] bytes t = (bytes ≡ []) × (t ≡ s)
@@ -45,31 +50,32 @@ AnswersMessages gives setup s (Ok r ∷ ms) bytes t =
     AnswersMessages gives setup m ms more t
 AnswersMessages gives setup s (Err fault ∷ ms) bytes t = (bytes ≡ refused (fault_code fault) 0) × (t ≡ s)
 
-abbrev pub IsAnswered : Setting → List Submission → List Message → List ℕ → List Submission → Type 0
-IsAnswered v list ms bytes after = AnswersMessages (PlainGives v) v list ms bytes after
+abbrev pub IsAnswered : Setting → Accepted → List Message → List ℕ → Accepted → Type 0
+IsAnswered v state ms bytes after = AnswersMessages (PlainGives v) v state ms bytes after
 
--- the messages of sessions, one after another, are answered, and lead from a list to a list
-abbrev pub AreAnswered : Setting → List Submission → List (List Message) → List Submission → Type 0
-AreAnswered v list [] after = after ≡ list
-AreAnswered v list (ms ∷ sessions) after =
-    (bytes : List ℕ) × (mid : List Submission) × IsAnswered v list ms bytes mid × AreAnswered v mid sessions after
+-- the messages of sessions, one after another, are answered, and lead from a state to a state
+abbrev pub AreAnswered : Setting → Accepted → List (List Message) → Accepted → Type 0
+AreAnswered v state [] after = after ≡ state
+AreAnswered v state (ms ∷ sessions) after =
+    (bytes : List ℕ) × (mid : Accepted) × IsAnswered v state ms bytes mid × AreAnswered v mid sessions after
 
 -- the request puts this batch, which is fresh
-abbrev pub PutsFresh : Setting → List Submission → Request → Submission → Type 0
-PutsFresh v list (Put client n bytes) batch = PutsBatch v client n bytes batch × (verdict_in v list batch ≡ Fresh)
-PutsFresh v list (PutCells client n bytes) batch = PutsCells v client n bytes batch × (verdict_in v list batch ≡ Fresh)
-PutsFresh v list r batch = ⊥
+abbrev pub PutsFresh : Setting → Accepted → Request → Submission → Type 0
+PutsFresh v state (Put client n bytes) batch = PutsBatch v client n bytes batch × (verdict_in v state batch ≡ Fresh)
+PutsFresh v state (PutCells client n bytes) batch =
+    PutsCells v client n bytes batch × (verdict_in v state batch ≡ Fresh)
+PutsFresh v state r batch = ⊥
 
--- These messages, one after another, add just these batches to the list: each puts one that is fresh, or none. A Stop
--- and a bad header are the last.
-abbrev pub FreshPuts : Setting → List Submission → List Message → List Submission → Type 0
-FreshPuts v list [] more = more ≡ []
-FreshPuts v list (Ok Stop ∷ ms) more = more ≡ []
-FreshPuts v list (Ok r ∷ ms) more =
-    (((batch : Submission) → PutsFresh v list r batch → ⊥) × FreshPuts v list ms more)
-    ⊎ ((batch : Submission) × (rest : List Submission) × PutsFresh v list r batch × (more ≡ batch ∷ rest) ×
-    FreshPuts v (list ++ batch ∷ []) ms rest)
-FreshPuts v list (Err fault ∷ ms) more = more ≡ []
+-- These messages, one after another, add just these batches to what was accepted: each puts one that is fresh, or none.
+-- A Stop and a bad header are the last.
+abbrev pub FreshPuts : Setting → Accepted → List Message → List Submission → Type 0
+FreshPuts v state [] more = more ≡ []
+FreshPuts v state (Ok Stop ∷ ms) more = more ≡ []
+FreshPuts v state (Ok r ∷ ms) more =
+    (((batch : Submission) → PutsFresh v state r batch → ⊥) × FreshPuts v state ms more)
+    ⊎ ((batch : Submission) × (rest : List Submission) × PutsFresh v state r batch × (more ≡ batch ∷ rest) ×
+    FreshPuts v (with_batch state batch) ms rest)
+FreshPuts v state (Err fault ∷ ms) more = more ≡ []
 
 -- a put under this client and this number, of a text or of cells
 abbrev pub IsPut : ℕ → ℕ → Request → Type 0
@@ -85,27 +91,27 @@ GoOn (r ∷ rs) = (r ≡ Stop → ⊥) × GoOn rs
 module _ {L : Type 0} (reads : L → Answer → L → Type 0) (writes : L → List ℕ → Answer → L → Type 0) (failures : L → ℕ)
     (v : Setting) where
   -- The link gave these bytes, and took the answers to their messages.
-  pub record Exchange (l l' : L) (list after : List Submission) (turns : ℕ) : Type 0 where
+  pub record Exchange (l l' : L) (state after : Accepted) (turns : ℕ) : Type 0 where
     pub given : List ℕ
     pub taken : List ℕ
     pub talks : Talks reads writes l l' given taken turns
-    pub answers : IsAnswered v list (messages given) taken after
+    pub answers : IsAnswered v state (messages given) taken after
 
   -- The same, of a session that ended between two replies: no message was a Stop or a bad header, and these bytes of
   -- what the link gave stand behind the last of them.
-  pub record Between (l l' : L) (list after : List Submission) (kept : List ℕ) (turns : ℕ) : Type 0 where
-    pub exchange : Exchange l l' list after turns
+  pub record Between (l l' : L) (state after : Accepted) (kept : List ℕ) (turns : ℕ) : Type 0 where
+    pub exchange : Exchange l l' state after turns
     pub requests : List Request
     pub cut : Gives exchange.given requests kept
     pub none : front kept ≡ None
     pub go_on : GoOn requests
 
   -- The same, of a session that stood so with no call failed, and whose last call was a read that failed.
-  pub record FailsToRead (l l' : L) (list after : List Submission) (turns : ℕ) : Type 0 where
+  pub record FailsToRead (l l' : L) (state after : Accepted) (turns : ℕ) : Type 0 where
     pub kept : List ℕ
     pub at : L
     pub before : ℕ
-    pub between : Between l at list after kept before
+    pub between : Between l at state after kept before
     pub unfailed : failures at ≡ failures l
     pub fault : DeviceFault
     pub failed : reads at (Err fault) l'
@@ -113,35 +119,35 @@ module _ {L : Type 0} (reads : L → Answer → L → Type 0) (writes : L → Li
     pub turns_are : turns ≡ before + 1
 
   -- The same, of a session whose last message is this one.
-  pub record WithLast (l l' : L) (list after : List Submission) (turns : ℕ) (last : Message) : Type 0 where
-    pub exchange : Exchange l l' list after turns
+  pub record WithLast (l l' : L) (state after : Accepted) (turns : ℕ) (last : Message) : Type 0 where
+    pub exchange : Exchange l l' state after turns
     pub before : List Message
     pub last_is : messages exchange.given ≡ before ++ last ∷ []
 
-  -- The link took the answers to the first of these messages, and then these bytes; behind those answers stands a list.
-  pub record Partly (l l' : L) (list : List Submission) (turns : ℕ) (replies behind : List ℕ) (mid : List Submission)
+  -- The link took the answers to the first of these messages, and then these bytes; this was accepted by then.
+  pub record Partly (l l' : L) (state : Accepted) (turns : ℕ) (replies behind : List ℕ) (mid : Accepted)
       (rest : List Message) : Type 0 where
     pub given : List ℕ
     pub talks : Talks reads writes l l' given (replies ++ behind) turns
     pub requests : List Request
     pub split : messages given ≡ map (λ r. Ok r) requests ++ rest
-    pub answers : IsAnswered v list (map (λ r. Ok r) requests) replies mid
+    pub answers : IsAnswered v state (map (λ r. Ok r) requests) replies mid
 
   -- Memory ran out behind some messages: so the last reply is that it did, and nothing of the next message was kept.
-  pub record OutOfMemory (l l' : L) (list after : List Submission) (turns : ℕ) : Type 0 where
+  pub record OutOfMemory (l l' : L) (state after : Accepted) (turns : ℕ) : Type 0 where
     pub replies : List ℕ
     pub rest : List Message
-    pub partly : Partly l l' list turns replies (refused 1 0) after rest
+    pub partly : Partly l l' state turns replies (refused 1 0) after rest
 
   -- The link refused to take more of a reply: of that to the next message, whose batch stays accepted if it was, or of
   -- that which says that memory ran out.
-  pub record Broken (l l' : L) (list after : List Submission) (turns n : ℕ) : Type 0 where
+  pub record Broken (l l' : L) (state after : Accepted) (turns n : ℕ) : Type 0 where
     pub replies : List ℕ
     pub reply : List ℕ
     pub some : ℕ
-    pub mid : List Submission
+    pub mid : Accepted
     pub rest : List Message
-    pub partly : Partly l l' list turns replies (take some reply) mid rest
+    pub partly : Partly l l' state turns replies (take some reply) mid rest
     pub proper : some < length reply
     pub count : n ≡ length replies + some
     pub reply_is :
@@ -152,14 +158,14 @@ module _ {L : Type 0} (reads : L → Answer → L → Type 0) (writes : L → Li
     pub refused_by : HasStopped writes failures at l' reply some
 
   -- how a session of at most `most` turns ends
-  abbrev pub EndsPlain : (L → Type 0) → L → L → List Submission → List Submission → ℕ → ℕ → Ended → Type 0
-  EndsPlain at_end l l' list after most turns (Closed rest) =
-      (kept : List ℕ) × (length kept ≡ rest) × at_end l' × Between l l' list after kept turns
-  EndsPlain at_end l l' list after most turns ReadFault = FailsToRead l l' list after turns
-  EndsPlain at_end l l' list after most turns TooManyTurns =
-      (kept : List ℕ) × (turns ≡ most) × (b : Between l l' list after kept turns) × (most ≤ length b.exchange.given)
-  EndsPlain at_end l l' list after most turns Stopped = WithLast l l' list after turns (Ok Stop)
-  EndsPlain at_end l l' list after most turns BadFrame = (fault : FrameFault) ×
-      WithLast l l' list after turns (Err fault)
-  EndsPlain at_end l l' list after most turns Memory = OutOfMemory l l' list after turns
-  EndsPlain at_end l l' list after most turns (WriteFault n) = Broken l l' list after turns n
+  abbrev pub EndsPlain : (L → Type 0) → L → L → Accepted → Accepted → ℕ → ℕ → Ended → Type 0
+  EndsPlain at_end l l' state after most turns (Closed rest) =
+      (kept : List ℕ) × (length kept ≡ rest) × at_end l' × Between l l' state after kept turns
+  EndsPlain at_end l l' state after most turns ReadFault = FailsToRead l l' state after turns
+  EndsPlain at_end l l' state after most turns TooManyTurns =
+      (kept : List ℕ) × (turns ≡ most) × (b : Between l l' state after kept turns) × (most ≤ length b.exchange.given)
+  EndsPlain at_end l l' state after most turns Stopped = WithLast l l' state after turns (Ok Stop)
+  EndsPlain at_end l l' state after most turns BadFrame = (fault : FrameFault) ×
+      WithLast l l' state after turns (Err fault)
+  EndsPlain at_end l l' state after most turns Memory = OutOfMemory l l' state after turns
+  EndsPlain at_end l l' state after most turns (WriteFault n) = Broken l l' state after turns n

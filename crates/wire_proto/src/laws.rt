@@ -3,10 +3,11 @@ ghost use Rattle.std.specs.Prelude.{◌≡◌, ◌≢◌, ℕ, All, List, [], �
 ghost use Rattle.wire_frames.specs.Frames.{Message, front, Gives, messages};
 ghost use Rattle.wire_proto.specs.CellBytes.{cells_of, spelled_cells, FitsBytes};
 ghost use Rattle.cells.specs.declared.cell.Cell.{Cell};
-ghost use Rattle.wire_proto.specs.Plain.{IsAnswered, AreAnswered, FreshPuts, GoOn, IsPut};
+ghost use Rattle.wire_proto.specs.Plain.{IsAnswered, AreAnswered, FreshPuts, GoOn, IsPut, with_batches};
 ghost use Rattle.wire_proto.specs.Replies.{accepted};
 ghost use Rattle.batch_store.specs.declared.verdict.Kept.{Kept};
 ghost use Rattle.batch_store.specs.Batches.{Submission};
+ghost use Rattle.batch_store.specs.Accepted.{Accepted};
 ghost use Rattle.wire_proto.specs.Sessions.{AnswersAll};
 ghost use Rattle.wire_frames.specs.declared.request.Request.{Request};
 ghost use Rattle.wire_frames.specs.declared.request.FrameFault.{FrameFault};
@@ -33,39 +34,39 @@ pub fn sessions_answer_messages<K: Keeper>()
         messages kept ≡ Ok r ∷ messages rest }
 {}
 
-/// Over the engine of one thread the messages are answered in one way alone: of the accepted list before and the
-/// messages, the bytes and the list after are a function.
+/// Over the engine of one thread the messages are answered in one way alone: of what was accepted before and the
+/// messages, the bytes and what was accepted after are a function.
 pub fn messages_have_one_answer()
-    ensures some { (setup : Setting) (list : List Submission) (ms : List Message) →
-        (bytes : List ℕ) × (after : List Submission) × IsAnswered setup list ms bytes after }
-    ensures one { (setup : Setting) (list after after' : List Submission) (ms : List Message) (bytes bytes' : List ℕ) →
-        IsAnswered setup list ms bytes after → IsAnswered setup list ms bytes' after' →
+    ensures some { (setup : Setting) (state : Accepted) (ms : List Message) →
+        (bytes : List ℕ) × (after : Accepted) × IsAnswered setup state ms bytes after }
+    ensures one { (setup : Setting) (state after after' : Accepted) (ms : List Message) (bytes bytes' : List ℕ) →
+        IsAnswered setup state ms bytes after → IsAnswered setup state ms bytes' after' →
         (bytes ≡ bytes') × (after ≡ after') }
 {}
 
-/// What a session adds to the accepted list: the batches of its puts that were fresh, in order, each once.
+/// What a session adds to what was accepted: the batches of its puts that were fresh, in order, each once.
 pub fn sessions_accept_fresh_batches()
-    ensures { (setup : Setting) (list after : List Submission) (ms : List Message) (bytes : List ℕ) →
-        IsAnswered setup list ms bytes after →
-        (more : List Submission) × (after ≡ list ++ more) × FreshPuts setup list ms more }
+    ensures { (setup : Setting) (state after : Accepted) (ms : List Message) (bytes : List ℕ) →
+        IsAnswered setup state ms bytes after →
+        (more : List Submission) × (after ≡ with_batches state more) × FreshPuts setup state ms more }
 {}
 
 /// The answers to some requests and then to other messages are those to the requests, and behind them those to the
-/// others over the list that the requests left. So each message of a session has its own reply.
+/// others over the state that the requests left. So each message of a session has its own reply.
 pub fn messages_are_answered_in_parts()
-    ensures { (setup : Setting) (list after : List Submission) (requests : List Request) (ms : List Message)
-        (bytes : List ℕ) → GoOn requests → IsAnswered setup list (map (λ r. Ok r) requests ++ ms) bytes after →
-        (first : List ℕ) × (more : List ℕ) × (mid : List Submission) × (bytes ≡ first ++ more)
-        × IsAnswered setup list (map (λ r. Ok r) requests) first mid × IsAnswered setup mid ms more after }
+    ensures { (setup : Setting) (state after : Accepted) (requests : List Request) (ms : List Message)
+        (bytes : List ℕ) → GoOn requests → IsAnswered setup state (map (λ r. Ok r) requests ++ ms) bytes after →
+        (first : List ℕ) × (more : List ℕ) × (mid : Accepted) × (bytes ≡ first ++ more)
+        × IsAnswered setup state (map (λ r. Ok r) requests) first mid × IsAnswered setup mid ms more after }
 {}
 
 /// Two puts with one client and one number, of texts or of cells, that are both answered Accepted get the same bytes,
 /// whatever messages were answered between them, in one session or in several.
 pub fn repeats_get_their_reply()
-    ensures { (setup : Setting) (list mid later after : List Submission) (client number : ℕ)
+    ensures { (setup : Setting) (state mid later after : Accepted) (client number : ℕ)
         (put again : Request) (first second : List ℕ) (between : List (List Message)) (kept kept' : Kept) →
         IsPut client number put → IsPut client number again →
-        IsAnswered setup list (Ok put ∷ []) first mid → first ≡ accepted kept →
+        IsAnswered setup state (Ok put ∷ []) first mid → first ≡ accepted kept →
         AreAnswered setup mid between later →
         IsAnswered setup later (Ok again ∷ []) second after → second ≡ accepted kept' →
         first ≡ second }

@@ -14,7 +14,7 @@ use std::sync::Arc;
 
 /// An engine of one thread, lent to a session.
 ///
-/// Its state is the list of accepted batches alone, and each answer follows from it, but for want of memory. It saves
+/// Its state is what was accepted, and nothing else, and each answer follows from it, but for want of memory. It saves
 /// nothing.
 #[derive(Drop)]
 pub struct PlainKeeper<'a> {
@@ -34,7 +34,7 @@ impl<'a> PlainKeeper<'a> {
 impl<'a> Keeper for PlainKeeper<'a> {
     ghost gives = { λ s e t. (t.engine.ghost_name ≡ s.engine.ghost_name)
         × (t.engine.now.setup ≡ s.engine.now.setup)
-        × PlainGives s.engine.now.setup s.engine.now.book.list e t.engine.now.book.list };
+        × PlainGives s.engine.now.setup s.engine.now.book.state e t.engine.now.book.state };
 
     ghost fact = { λ s. ⊤ };
 
@@ -82,8 +82,8 @@ fn serve_plain<L: Link>(
     ensures same_reference { keeper.new.engine.ghost_name ≡ keeper.old.engine.ghost_name }
     ensures ends { (turns : ℕ) × (turns ≤ max_turns)
         × EndsPlain L.Source.read_gives L.Sink.write_takes L.Sink.failure_count keeper.old.engine.now.setup
-        L.Source.at_end link.old link.new keeper.old.engine.now.book.list
-        keeper.new.engine.now.book.list max_turns turns result }
+        L.Source.at_end link.old link.new keeper.old.engine.now.book.state
+        keeper.new.engine.now.book.state max_turns turns result }
     ensures setup { keeper.new.engine.now.setup ≡ keeper.old.engine.now.setup }
 {
     serve(alloc, link, keeper, max_turns)
@@ -91,8 +91,8 @@ fn serve_plain<L: Link>(
 
 /// Serves one link over an engine of one thread, until the session ends.
 ///
-/// What the engine had accepted before and has accepted then are two lists; which follows from which, and what the link
-/// took, is told by the bytes that it gave, for each end (specs/Plain.antt). A batch whose reply was lost stays
+/// What the engine had accepted before and has accepted then are two states; which follows from which, and what the
+/// link took, is told by the bytes that it gave, for each end (specs/Plain.antt). A batch whose reply was lost stays
 /// accepted. Time and memory are those of `serve`.
 pub fn serve_engine<L: Link>(
     alloc: Global,
@@ -103,7 +103,7 @@ pub fn serve_engine<L: Link>(
     requires { L.Sink.failure_count link.old + 1 < 2 ^ 64 }
     ensures ends { (turns : ℕ) × (turns ≤ max_turns)
         × EndsPlain L.Source.read_gives L.Sink.write_takes L.Sink.failure_count engine.old.setup
-        L.Source.at_end link.old link.new engine.old.book.list engine.new.book.list max_turns turns result }
+        L.Source.at_end link.old link.new engine.old.book.state engine.new.book.state max_turns turns result }
     ensures setup { engine.new.setup ≡ engine.old.setup }
 {
     let mut keeper = PlainKeeper::new(engine);

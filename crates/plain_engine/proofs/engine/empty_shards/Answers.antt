@@ -7,4 +7,4 @@ make-preserved g c =
     let x = c.in_ok-shard.shard in
     let e = c.in_ok-shard.ensures in
     makes_next v c.make.s c.make.shards.items c.push.new.self.items x c.make.invariant c.in_ok-push.ensures.items
-    e.layers (stands_new v c.make.s x e.setup e.number e.record c.number-held.ensures.kept)
+    e.layers (stands_new v c.make.s x e.setup e.number e.record e.base c.number-held.ensures.kept)

@@ -4,7 +4,7 @@ use Rattle.std.specs.Arc.{arc_value}
 use Rattle.std.proofs.lemmas.Option.{same_Some}
 use Rattle.batch_store.specs.Batches.{Submission}
 use Rattle.batch_store.specs.Parts.{concerns, concerned}
-use Rattle.plain_engine.proofs.SameLaws.{held_next, next_taken, next_skipped, within_list}
+use Rattle.plain_engine.proofs.SameLaws.{behind_folded, held_next, next_taken, next_skipped, within_list}
 use Rattle.plain_engine.proofs.same.record_follows.Goals as goal
 use Rattle.plain_engine.proofs.same.record_follows.Goals.{then-concerns+in-Some-at+else-not-same_batch, else-concerns}
 
@@ -18,7 +18,8 @@ returns-then-not-same_batch c = (
       let here : concerns c.args.s c.args.k b.matrix.counts ≡ true =
       ap (λ (x : Submission). concerns c.args.s c.args.k x.matrix.counts) (sym c.deref.ensures)
       ∙ sym c.concerns.ensures ∙ c.if-concerns.true in
-      let there = held_next c.args.s c.args.k c.args.book.now.list c.batches.i b (sym c.in-Some.ensures) held
+      let at = sym (behind_folded c.args.book.now.state _ c.batches.i c.folded-folded.ensures) ∙ sym c.in-Some.ensures in
+      let there = held_next c.args.s c.args.k c.args.book.now.state.list c.batches.i b at held
       c.batches.next inv.within inv.so_far here follows in
       let same : arc_value c.in-Some-at.held.now ≡ b = same_Some _ _ (c.in-Some-at.ensures ∙ there) in
       sym c.if-not-same_batch.true ∙ c.same_batch.ensures.1 (c.deref-in-Some-at.ensures ∙ same
@@ -35,7 +36,8 @@ returns-in-None c = (
       let here : concerns c.args.s c.args.k b.matrix.counts ≡ true =
       ap (λ (x : Submission). concerns c.args.s c.args.k x.matrix.counts) (sym c.deref.ensures)
       ∙ sym c.concerns.ensures ∙ c.if-concerns.true in
-      let there = held_next c.args.s c.args.k c.args.book.now.list c.batches.i b (sym c.in-Some.ensures) held
+      let at = sym (behind_folded c.args.book.now.state _ c.batches.i c.folded-folded.ensures) ∙ sym c.in-Some.ensures in
+      let there = held_next c.args.s c.args.k c.args.book.now.state.list c.batches.i b at held
       c.batches.next inv.within inv.so_far here follows in
       let none : None ≡ Some b = c.in-None.ensures ∙ there in
       absurd cc,
@@ -45,13 +47,14 @@ pub batches-preserved : goal.batches-preserved
 batches-preserved c =
     let s = c.args.s in
     let k = c.args.k in
-    let list = c.args.book.now.list in
+    let list = c.args.book.now.state.list in
     let held = c.args.shard.now.record_list in
     let inv = c.batches.invariant in
     let i = c.batches.i in
     let n = c.batches.next in
     let b = arc_value c.in-Some.batch.now in
-    let at : slice_get list i ≡ Some b = sym c.in-Some.ensures in
+    let at : slice_get list i ≡ Some b =
+    sym (behind_folded c.args.book.now.state _ i c.folded-folded.ensures) ∙ sym c.in-Some.ensures in
     let test : concerns s k b.matrix.counts ≡ c.concerns.result =
     ap (λ (x : Submission). concerns s k x.matrix.counts) (sym c.deref.ensures) ∙ sym c.concerns.ensures in
     let up : concerned s k (take (suc i) list) ≡ concerned s k (take (i + 1) list) =

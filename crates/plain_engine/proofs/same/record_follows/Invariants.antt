@@ -6,5 +6,5 @@ abbrev pub invariant-batches : goal.invariant-batches
 invariant-batches l = record {
   within : l.next ≤ length l.shard.record_list;
   few : l.next ≤ l.i;
-  so_far : take l.next l.shard.record_list ≡ concerned l.s l.k (take l.i l.book.list);
+  so_far : take l.next l.shard.record_list ≡ concerned l.s l.k (take l.i l.book.state.list);
 }

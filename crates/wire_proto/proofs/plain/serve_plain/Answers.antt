@@ -7,7 +7,7 @@ pub returns : goal.returns
 returns g c =
     let ended = ends_seen g.L.Source.read_gives g.L.Sink.write_takes g.L.Sink.failure_count
     (λ (k : PlainKeeper). k.engine.ghost_name) (λ (k : PlainKeeper). k.engine.now.setup)
-    (λ (k : PlainKeeper). k.engine.now.book.list) c.args.keeper.now.engine.now.setup
+    (λ (k : PlainKeeper). k.engine.now.book.state) c.args.keeper.now.engine.now.setup
     g.L.Source.at_end c.args.link.now c.serve.new.link c.args.keeper.now c.serve.new.keeper c.args.max_turns
     c.serve.ensures.ends.0 c.serve.result refl c.serve.ensures.ends.2 in
     record {

@@ -5,4 +5,4 @@ use Rattle.plain_engine.proofs.engine.PlainEngine.cell.Goals as goal
 pub returns : goal.returns
 returns c =
     let e = c.args.self.now in
-    c.get.ensures ∙ get-shard e.setup e.book.list c.shard_of.result.now c.args.row c.args.col c.shard_of.ensures
+    c.get.ensures ∙ get-shard e.setup e.book.state c.shard_of.result.now c.args.row c.args.col c.shard_of.ensures

@@ -3,7 +3,8 @@ use Rattle.std.proofs.Common.{arith, length-take-le}
 use Rattle.std.specs.Arc.{arc_value}
 use Rattle.std.proofs.lemmas.List.{length-map, map-append}
 use Rattle.std.proofs.lemmas.Result.{err_from_is_err_and, IfErr-weaker}
-use Rattle.batch_store.specs.Batches.{Submission, values}
+use Rattle.batch_store.specs.Accepted.{Accepted, unfolded, count_in, with_batch}
+use Rattle.batch_store.specs.Batches.{entry_of, values}
 use Rattle.batch_store.specs.Books.{HaveDims}
 use Rattle.plain_engine.proofs.StandLaws.{drop_here, take_here}
 use Rattle.plain_engine.proofs.LoadLaws.{refused_here, passed_here, none_refused, memory_alone}
@@ -20,12 +21,12 @@ returns-in_err-load-clause-err g c =
     let rest = values (drop (i + 1) list) in
     let cut : values (drop i list) ≡ b ∷ rest = ap values
     (drop_here i list c.b-item.result c.batches-test.true c.b-item.is) in
-    let count : c.batches.at ≡ length done = inv.at
-    ∙ sym (length-map (take i list) arc_value ∙ length-take-le i list (omega arith)) in
+    let count : c.batches.at ≡ count_in (unfolded done) = inv.at
+    ∙ sym (length-map done entry_of ∙ length-map (take i list) arc_value ∙ length-take-le i list (omega arith)) in
     let p = err_from_is_err_and c.from_residual-in_err-load.result c.from_residual-in_err-load.ensures.1 in
     rw (p.1, p.2)
-    (λ other. refused_here v c.batches.engine.setup c.batches.engine.book.list done (values (drop i list)) rest
-    (values list) b c.batches.at c.in_err-load.field-0.0 inv.setup inv.list count inv.rest cut
+    (λ other. refused_here v c.batches.engine.setup c.batches.engine.book.state (unfolded done) (values (drop i list))
+    rest (values list) b c.batches.at c.in_err-load.field-0.0 inv.setup inv.state count inv.rest cut
     (c.in_err-load.ensures.err other))
 
 pub returns-in_err-load-clause-accepted : goal.returns-in_err-load-clause-accepted
@@ -52,8 +53,9 @@ batches-preserved g c =
     record {
       setup = c.in_ok-load.ensures.setup ∙ inv.setup;
       at = ap (λ (n : ℕ). n + 1) inv.at;
-      list = c.in_ok-load.ensures.list ∙ ap (λ (l : List Submission). l ++ b ∷ []) inv.list ∙ sym more;
+      state = c.in_ok-load.ensures.state ∙ ap (λ (a : Accepted). with_batch a b) inv.state ∙ sym (ap unfolded more);
       dims = (subst (HaveDims v.rows v.cols) cut inv.dims).2;
-      rest = passed_here v c.batches.engine.setup c.batches.engine.book.list done (values (drop i list)) rest
-          (values list) (values (take (i + 1) list)) b inv.setup inv.list inv.rest cut more c.in_ok-load.ensures.fresh;
+      rest = passed_here v c.batches.engine.setup c.batches.engine.book.state (unfolded done)
+          (unfolded (values (take (i + 1) list))) (values (drop i list)) rest (values list) b inv.setup inv.state
+          inv.rest cut (ap unfolded more) c.in_ok-load.ensures.fresh;
     }

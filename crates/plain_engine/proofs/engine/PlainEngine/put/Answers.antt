@@ -15,13 +15,13 @@ put_fresh-answer-requires-clause-take c =
     let book = c.self.inside.book in
     let b = arc_value c.args.b in
     let inv = c.self.invariant in
-    let fresh : verdict_in book.setup book.list b ≡ Fresh = ap (verdict_in book.setup book.list) (sym c.deref.ensures)
+    let fresh : verdict_in book.setup book.state b ≡ Fresh = ap (verdict_in book.setup book.state) (sym c.deref.ensures)
     ∙ sym c.in-Fresh.ensures in
-    let here : verdict_in v book.list b ≡ Fresh =
-    subst (λ (w : Setting). verdict_in w book.list b ≡ Fresh) inv.of_setup fresh in
+    let here : verdict_in v book.state b ≡ Fresh =
+    subst (λ (w : Setting). verdict_in w book.state b ≡ Fresh) inv.of_setup fresh in
     subst (λ (w : Setting). AllTake w b c.as_mut_slice.result.now) (sym inv.of_setup)
     (subst (AllTake v b) (sym c.as_mut_slice.ensures.value)
-    (all_take v book.list b 0 c.self.inside.shards.items here inv.stand))
+    (all_take v book.state b 0 c.self.inside.shards.items inv.accepted.based here inv.stand))
 
 pub invariant_of-self : goal.invariant_of-self
 invariant_of-self c =
@@ -37,12 +37,12 @@ invariant_of-self c =
       | in-Ok w ↦
           let e = w.in-Ok.ensures in
           let kept : KeepsEngine v after ys = keeps_after v book after xs ys inv e.setup b c.len-accepted.ensures.kept
-          e.list e.held (e.shards ∙ ap (map (shard_after b)) value) in
+          e.state e.held (e.shards ∙ ap (map (shard_after b)) value) in
           subst (KeepsEngine v after) (sym (written c.self.inside.shards.len ys (drop (length ys) xs)
           (omega (arith, kept.count, inv.count, c.self.inside.shards.ok)))) kept
       | in-Err w ↦
           let e = w.in-Err.ensures in
-          let kept : KeepsEngine v after ys = keeps_same v book after xs ys inv e.setup b e.same_list (e.same_shards
+          let kept : KeepsEngine v after ys = keeps_same v book after xs ys inv e.setup b e.same_state (e.same_shards
           ∙ ap (map bare_shard) value) in
           subst (KeepsEngine v after) (sym (written c.self.inside.shards.len ys (drop (length ys) xs)
           (omega (arith, kept.count, inv.count, c.self.inside.shards.ok)))) kept

@@ -13,7 +13,7 @@ new-requires c =
     let inside = c.self.inside in
     let v = inside.setup in
     let made : HaveSetup v c.deref.result.now = subst (HaveSetup v) (sym c.deref.ensures.value)
-    (have_setup v inside.book.list 0 inside.shards.items c.self.invariant.stand) in
+    (have_setup v inside.book.state 0 inside.shards.items c.self.invariant.stand) in
     show_size v c.in_ok-views.views.items c.deref.result.now made c.in_ok-views.ensures
 
 pub returns : goal.returns
@@ -26,4 +26,4 @@ returns c =
     sum_shown v v views views c.deref.result.now c.new.result c.new.ensures refl refl c.in_ok-views.ensures
     ∙ ap (λ (xs : List Holding). matrix v.rows v.cols (shards_content xs)) c.deref.ensures.value
     ∙ ap (matrix v.rows v.cols) all.sums
-    ∙ ap (λ (e : Standing). export_of e.setup e.book.list) c.self.view_is
+    ∙ ap (λ (e : Standing). export_of e.setup e.book.state) c.self.view_is
