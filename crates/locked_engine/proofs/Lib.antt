@@ -3,4 +3,5 @@ pub mod AdmittedLaws
 pub mod PrefixLaws
 pub mod AddLaws
 pub mod ToldLaws
+pub mod ListedLaws
 pub mod ShownLaws

@@ -2,17 +2,17 @@
 use Rattle.std.proofs.Common.{◌≡◌, ℕ, suc, ◌+◌, List, [], ◌∷◌, ◌++◌, length, take, slice_get, Some, refl, sym, ◌∙◌}
 use Rattle.std.proofs.Common.{ap, subst, arith}
 use Rattle.std.specs.Prelude.{Result, Ok, Err, IfOk, IfErr, OnOk, OnErr}
-use Rattle.std.proofs.lemmas.List.{map-append}
 use mathlib.Core.List.{IsPrefix}
 use Rattle.batch_store.specs.declared.verdict.Entry.{Entry}
 use Rattle.batch_store.specs.declared.verdict.Kept.{Kept}
 use Rattle.batch_store.specs.declared.verdict.Verdict.{Verdict}
 use Rattle.batch_store.specs.declared.verdict.Verdict.TheVariants.{Fresh, Known, NumberReused, OverTotal, BookFull}
 use Rattle.batch_store.specs.Setups.{Setting}
-use Rattle.batch_store.specs.Batches.{Submission, entry_of, entries_of, batch_total}
+use Rattle.batch_store.specs.Accepted.{Accepted, entries_in, count_in, total_in, with_batch}
+use Rattle.batch_store.specs.Batches.{Submission, entry_of, batch_total}
 use Rattle.batch_store.specs.Verdicts.{IsVerdict, kept, total_of_entries}
-use Rattle.batch_store.specs.Books.{Register, AreAccepted, list_total, verdict_on}
-use Rattle.batch_store.proofs.BookLaws.{length-entries_of}
+use Rattle.batch_store.specs.Books.{Register, verdict_on}
+use Rattle.batch_store.proofs.BookLaws.{entries-with}
 use Rattle.batch_store.proofs.VerdictMeaning.{verdict_means}
 use Rattle.plain_engine.specs.declared.fault.PutFault.{PutFault}
 use Rattle.locked_engine.specs.declared.fault.NotAdmitted.{NotAdmitted}
@@ -20,19 +20,6 @@ use Rattle.locked_engine.specs.Versions.{IsVersion, entry_verdict}
 use Rattle.locked_engine.specs.Views.{SeatView}
 use Rattle.locked_engine.specs.Told.{Answers, IsTold, AreShown, answer_of}
 use Rattle.locked_engine.proofs.PrefixLaws.{prefix_trans, prefix_push}
-
--- the entries of accepted batches are a version
-pub accepted_version : (v : Setting) (list : List Submission) → AreAccepted v list → IsVersion v (entries_of list)
-accepted_version v list held = record {
-  sound = held.sound;
-  distinct = held.distinct;
-  few = omega (arith, held.few, length-entries_of list);
-  within = held.within;
-}
-
-pub entries_push : (list : List Submission) (b : Submission) →
-    entries_of (list ++ b ∷ []) ≡ entries_of list ++ entry_of b ∷ []
-entries_push list b = map-append entry_of list (b ∷ [])
 
 -- the answer to a verdict follows from the version
 pub told_by : (v : Setting) (es : List Entry) (e : Entry) (r : Verdict) (u : Result Kept PutFault) →
@@ -48,12 +35,12 @@ told_by v es e BookFull u is legal h = subst (λ (w : Result Kept PutFault). IsT
 
 -- the same for a version that is the book's
 pub judged : {T : Type 0} (v : Setting) (w : Register) (b : Submission) (r : Verdict) (es : List Entry)
-    (res : Result T NotAdmitted) → w.setup ≡ v → es ≡ entries_of w.list → IsVersion v (entries_of w.list) →
+    (res : Result T NotAdmitted) → w.setup ≡ v → es ≡ entries_in w.state → IsVersion v (entries_in w.state) →
     r ≡ verdict_on w b → IfErr res (λ (u : NotAdmitted). Answers r (answer_of u)) →
     IfErr res (λ (u : NotAdmitted). IsTold v (entry_of b) es (answer_of u))
 judged v w b r es (Ok x) setup same legal is h = tt
 judged v w b r es (Err u) setup same legal is h =
-    let all = entries_of w.list in
+    let all = entries_in w.state in
     let here : r ≡ entry_verdict v all (entry_of b) = is
     ∙ ap (λ (s : Setting). entry_verdict s all (entry_of b)) setup in
     subst (λ (l : List Entry). IsTold v (entry_of b) l (answer_of u)) (sym same)
@@ -77,29 +64,27 @@ added_told v es e = (
       ∙ last_total es e),
 )
 
-pub admitted_told : (v : Setting) (list now : List Submission) (seen : List Entry) (b : Submission)
-    (res : Result Kept NotAdmitted) → OnOk res (seen ≡ entries_of now) → OnOk res (now ≡ list ++ b ∷ [])
-    → IfOk res (λ (k : Kept). k ≡ kept (length list) (list_total list + batch_total b))
+pub admitted_told : (v : Setting) (a now : Accepted) (seen : List Entry) (b : Submission)
+    (res : Result Kept NotAdmitted) → OnOk res (seen ≡ entries_in now) → OnOk res (now ≡ with_batch a b)
+    → IfOk res (λ (k : Kept). k ≡ kept (count_in a) (total_in a + batch_total b))
     → IfOk res (λ (k : Kept). IsTold v (entry_of b) seen (Ok k))
-admitted_told v list now seen b (Err u) same more is = tt
-admitted_told v list now seen b (Ok k) same more is =
-    let es = entries_of list in
+admitted_told v a now seen b (Err u) same more is = tt
+admitted_told v a now seen b (Ok k) same more is =
+    let es = entries_in a in
     let e = entry_of b in
-    let shown : seen ≡ es ++ e ∷ [] = same ∙ ap entries_of more ∙ entries_push list b in
-    let reply : k ≡ kept (length es) (total_of_entries es + e.total) = is
-    ∙ ap (λ (n : ℕ). kept n (list_total list + batch_total b)) (sym (length-entries_of list)) in
+    let shown : seen ≡ es ++ e ∷ [] = same ∙ ap entries_in more ∙ entries-with a b in
     subst (λ (l : List Entry). IsTold v e l (Ok k)) (sym shown)
-    (subst (λ (n : Kept). IsTold v e (es ++ e ∷ []) (Ok n)) (sym reply) (added_told v es e))
+    (subst (λ (n : Kept). IsTold v e (es ++ e ∷ []) (Ok n)) (sym is) (added_told v es e))
 
 -- what was shown before an admission begins what is shown after it
-pub admitted_later : (res : Result Kept NotAdmitted) (before seen after : List Entry) (list now : List Submission)
-    (b : Submission) → IsPrefix before seen → seen ≡ entries_of list → OnOk res (after ≡ entries_of now)
-    → OnOk res (now ≡ list ++ b ∷ []) → OnErr res (after ≡ seen) → IsPrefix before after
-admitted_later (Err u) before seen after list now b begins shown same more kept =
+pub admitted_later : (res : Result Kept NotAdmitted) (before seen after : List Entry) (a now : Accepted)
+    (b : Submission) → IsPrefix before seen → seen ≡ entries_in a → OnOk res (after ≡ entries_in now)
+    → OnOk res (now ≡ with_batch a b) → OnErr res (after ≡ seen) → IsPrefix before after
+admitted_later (Err u) before seen after a now b begins shown same more kept =
     subst (IsPrefix before) (sym kept) begins
-admitted_later (Ok k) before seen after list now b begins shown same more kept =
+admitted_later (Ok k) before seen after a now b begins shown same more kept =
     let longer = seen ++ entry_of b ∷ [] in
-    let is : after ≡ longer = same ∙ ap entries_of more ∙ entries_push list b
+    let is : after ≡ longer = same ∙ ap entries_in more ∙ entries-with a b
     ∙ ap (λ (l : List Entry). l ++ entry_of b ∷ []) (sym shown) in
     subst (IsPrefix before) (sym is) (prefix_trans before seen longer begins (prefix_push seen (entry_of b ∷ [])))
 

@@ -2,7 +2,7 @@
 //! others look, export and ask for the status. Afterwards a plain model of the accepted list says what each answer,
 //! each record and the sum must be.
 ghost use Rattle.std.specs.Prelude.{◌≡◌, ◌<◌};
-ghost use Rattle.batch_store.specs.Batches.{entries_of};
+ghost use Rattle.batch_store.specs.Accepted.{entries_in};
 ghost use Rattle.locked_engine.specs.Opened.{NamesEngine};
 
 use crate::opened::{Answer, closed, opened, put, unopened};
@@ -643,7 +643,7 @@ fn put_at_once<N: Named + Send + Sync, H: Ledger + Send + Sync, R: Threads + Wai
 ) -> Result<(), Fail>
     requires named { NamesEngine names N.setup N.seats N.history N.name N.parts H.name H.parts }
     requires made_from { plain.setup ≡ names.setup }
-    requires opened { entries_of plain.book.list ≡ N.opened }
+    requires opened { entries_in plain.book.state ≡ N.opened }
 {
     let (engine, seats) = opened::<N, H>(alloc, plain, names)?;
     let (seats, lines) = match put_from_all(rt, alloc, &engine, seats) {

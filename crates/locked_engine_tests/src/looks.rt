@@ -1,6 +1,6 @@
 //! A look finds what its shard holds: its number, its total, the batches that concern it, and its cells.
 ghost use Rattle.std.specs.Prelude.{◌≡◌};
-ghost use Rattle.batch_store.specs.Batches.{entries_of};
+ghost use Rattle.batch_store.specs.Accepted.{entries_in};
 ghost use Rattle.locked_engine.specs.Opened.{NamesEngine};
 
 use crate::batches::{Cells, small_setup};
@@ -43,7 +43,7 @@ fn put_and_look<N: Named, H: Ledger, R: Wait + Abort>(
 ) -> Result<(), Fail>
     requires named { NamesEngine names N.setup N.seats N.history N.name N.parts H.name H.parts }
     requires made_from { plain.setup ≡ names.setup }
-    requires opened { entries_of plain.book.list ≡ N.opened }
+    requires opened { entries_in plain.book.state ≡ N.opened }
 {
     let (engine, mut seats) = opened::<N, H>(alloc, plain, names)?;
     let found = put_and_expect(rt, alloc, &engine, &mut seats);

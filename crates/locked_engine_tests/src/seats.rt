@@ -1,6 +1,6 @@
 //! Seats: how many there may be, and that all are given back before an engine is closed.
 ghost use Rattle.std.specs.Prelude.{◌≡◌};
-ghost use Rattle.batch_store.specs.Batches.{entries_of};
+ghost use Rattle.batch_store.specs.Accepted.{entries_in};
 ghost use Rattle.locked_engine.specs.Opened.{NamesEngine};
 
 use crate::batches::small_setup;
@@ -74,7 +74,7 @@ fn put_sixty_twice<
 >(rt: &R, alloc: Global, plain: PlainEngine, names: Names) -> Result<(), Fail>
     requires named { NamesEngine names N.setup N.seats N.history N.name N.parts H.name H.parts }
     requires made_from { plain.setup ≡ names.setup }
-    requires opened { entries_of plain.book.list ≡ N.opened }
+    requires opened { entries_in plain.book.state ≡ N.opened }
 {
     let (engine, mut seats) = opened::<N, H>(alloc, plain, names)?;
     if let Err(fail) = put_from_both(rt, alloc, &engine, &mut seats) {
@@ -162,7 +162,7 @@ fn see_what_was_put<N: Named, H: Ledger, R: Wait + Abort>(
 ) -> Result<(), Fail>
     requires named { NamesEngine names N.setup N.seats N.history N.name N.parts H.name H.parts }
     requires made_from { plain.setup ≡ names.setup }
-    requires opened { entries_of plain.book.list ≡ N.opened }
+    requires opened { entries_in plain.book.state ≡ N.opened }
 {
     let (engine, mut seats) = opened::<N, H>(alloc, plain, names)?;
     if let Err(fail) = see_from_both(rt, alloc, &engine, &mut seats) {

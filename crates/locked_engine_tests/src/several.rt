@@ -1,6 +1,6 @@
 //! Two threads, two seats: what one has put the other reads, and a shard that is held keeps nobody from another.
 ghost use Rattle.std.specs.Prelude.{◌≡◌};
-ghost use Rattle.batch_store.specs.Batches.{entries_of};
+ghost use Rattle.batch_store.specs.Accepted.{entries_in};
 ghost use Rattle.locked_engine.specs.Opened.{NamesEngine};
 
 use crate::batches::{Cells, small_setup};
@@ -58,7 +58,7 @@ fn put_beside_a_look<
 >(rt: &R, alloc: Global, plain: PlainEngine, names: Names) -> Result<(), Fail>
     requires named { NamesEngine names N.setup N.seats N.history N.name N.parts H.name H.parts }
     requires made_from { plain.setup ≡ names.setup }
-    requires opened { entries_of plain.book.list ≡ N.opened }
+    requires opened { entries_in plain.book.state ≡ N.opened }
 {
     let (engine, mut seats) = opened::<N, H>(alloc, plain, names)?;
     let put = put_and_export(rt, alloc, &engine, &mut seats);
@@ -149,7 +149,7 @@ fn put_by_both<N: Named + Send + Sync, H: Ledger + Send + Sync, R: Threads + Wai
 ) -> Result<(), Fail>
     requires named { NamesEngine names N.setup N.seats N.history N.name N.parts H.name H.parts }
     requires made_from { plain.setup ≡ names.setup }
-    requires opened { entries_of plain.book.list ≡ N.opened }
+    requires opened { entries_in plain.book.state ≡ N.opened }
 {
     let (engine, mut seats) = opened::<N, H>(alloc, plain, names)?;
     if let Err(fail) = put_and_read(rt, alloc, &engine, &mut seats) {

@@ -1,7 +1,7 @@
 //! Look-ups of what shards show: they wait for no put and no look, a seat finds its own puts at once, and what a reader
 //! finds never grows less.
 ghost use Rattle.std.specs.Prelude.{◌≡◌};
-ghost use Rattle.batch_store.specs.Batches.{entries_of};
+ghost use Rattle.batch_store.specs.Accepted.{entries_in};
 ghost use Rattle.locked_engine.specs.Opened.{NamesEngine};
 
 use crate::batches::{Cells, small_setup};
@@ -38,7 +38,7 @@ fn put_and_look<N: Named, H: Ledger, R: Wait + Abort>(
 ) -> Result<(), Fail>
     requires named { NamesEngine names N.setup N.seats N.history N.name N.parts H.name H.parts }
     requires made_from { plain.setup ≡ names.setup }
-    requires opened { entries_of plain.book.list ≡ N.opened }
+    requires opened { entries_in plain.book.state ≡ N.opened }
 {
     let (engine, mut seats) = opened::<N, H>(alloc, plain, names)?;
     let read = read_inside_a_look(rt, alloc, &engine, &mut seats);
@@ -159,7 +159,7 @@ fn put_each_step<N: Named, H: Ledger, R: Wait + Abort>(
 ) -> Result<(), Fail>
     requires named { NamesEngine names N.setup N.seats N.history N.name N.parts H.name H.parts }
     requires made_from { plain.setup ≡ names.setup }
-    requires opened { entries_of plain.book.list ≡ N.opened }
+    requires opened { entries_in plain.book.state ≡ N.opened }
 {
     let (engine, mut seats) = opened::<N, H>(alloc, plain, names)?;
     let read = put_steps(rt, alloc, &engine, &mut seats);
@@ -217,7 +217,7 @@ fn put_and_watch<N: Named + Send + Sync, H: Ledger + Send + Sync, R: Threads + W
 ) -> Result<(), Fail>
     requires named { NamesEngine names N.setup N.seats N.history N.name N.parts H.name H.parts }
     requires made_from { plain.setup ≡ names.setup }
-    requires opened { entries_of plain.book.list ≡ N.opened }
+    requires opened { entries_in plain.book.state ≡ N.opened }
 {
     let (engine, mut seats) = opened::<N, H>(alloc, plain, names)?;
     let watched = watch_from_seats(rt, alloc, &engine, &mut seats);

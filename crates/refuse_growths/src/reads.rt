@@ -96,7 +96,7 @@ fn list_at_last(
     alloc: Global,
     engine: &PlainEngine,
 ) -> Result<Vec<Arc<Batch>>, Stop>
-    ensures { IfOk result (λ list. values list.items ≡ engine.now.book.list) }
+    ensures { IfOk result (λ list. values list.items ≡ engine.now.book.state.list) }
 {
     if let Ok(list) = engine.batches(alloc) {
         return Ok(list);

@@ -10,6 +10,7 @@ use Rattle.hyper_matrix.specs.Matrix.{matrix}
 use Rattle.layer_cascade.specs.Cascade.{content}
 use Rattle.batch_store.specs.Setups.{Setting}
 use Rattle.batch_store.specs.Batches.{Submission, batch_total, entry_of, entries_of}
+use Rattle.batch_store.specs.Accepted.{unfolded}
 use Rattle.batch_store.specs.Books.{AreAccepted}
 use Rattle.batch_store.specs.Shards.{Holding}
 use Rattle.plain_engine.specs.Standing.{shards_content}
@@ -44,6 +45,6 @@ SeatGives v saved s (export (Ok sum)) t =
     (sum ≡ matrix v.rows v.cols (shards_content xs))
 SeatGives v saved s (export (Err e)) t = t ≡ s
 SeatGives v saved s (save (Ok count)) t =
-    LooksOn s t × (t.first ≡ s.first) × (list : List Submission) × AreAccepted v list ×
+    LooksOn s t × (t.first ≡ s.first) × (list : List Submission) × AreAccepted v (unfolded list) ×
     (entries_of list ≡ t.seen) × (count ≡ length list) × saved list
 SeatGives v saved s (save (Err refusal)) t = LooksOn s t × (t.first ≡ s.first)

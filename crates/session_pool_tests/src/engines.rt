@@ -1,6 +1,6 @@
 //! Engines that are opened, serve a list of sessions by a pool, and are closed.
 ghost use Rattle.std.specs.Prelude.{◌≡◌, IfOk};
-ghost use Rattle.batch_store.specs.Batches.{entries_of};
+ghost use Rattle.batch_store.specs.Accepted.{entries_in};
 ghost use Rattle.locked_engine.specs.Opened.{NamesEngine};
 
 use batch_store::Setup;
@@ -47,7 +47,7 @@ pub fn opened<N: Named, H: Ledger>(
 ) -> Result<(Engine<N, H>, Vec<Seat<N, H>>), Fail>
     requires named { NamesEngine names N.setup N.seats N.history N.name N.parts H.name H.parts }
     requires made_from { plain.setup ≡ names.setup }
-    requires opened { entries_of plain.book.list ≡ N.opened }
+    requires opened { entries_in plain.book.state ≡ N.opened }
 {
     match Engine::<N, H>::open(alloc, plain, names) {
         Ok(opened) => Ok(opened),
@@ -168,7 +168,7 @@ fn pooled<
 ) -> Result<Outcome, Fail>
     requires named { NamesEngine names N.setup N.seats N.history N.name N.parts H.name H.parts }
     requires made_from { plain.setup ≡ names.setup }
-    requires opened { entries_of plain.book.list ≡ N.opened }
+    requires opened { entries_in plain.book.state ≡ N.opened }
 {
     let (engine, mut seats) = opened::<N, H>(alloc, plain, names)?;
     let report = match served(

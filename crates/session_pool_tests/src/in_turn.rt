@@ -1,6 +1,6 @@
 //! A session over the keeper of a seat, each read and each write of which fails in turn, and then one without faults.
 ghost use Rattle.std.specs.Prelude.{◌≡◌, ◌+◌, ◌<◌, ◌^◌};
-ghost use Rattle.batch_store.specs.Batches.{entries_of};
+ghost use Rattle.batch_store.specs.Accepted.{entries_in};
 ghost use Rattle.locked_engine.specs.Opened.{NamesEngine};
 
 use crate::engines::{closed, expect_status, opened, unopened};
@@ -135,7 +135,7 @@ fn opened_and_closed<N: Named, H: Ledger, R: Wait + Disk + Abort>(
 ) -> Result<(), Fail>
     requires named { NamesEngine names N.setup N.seats N.history N.name N.parts H.name H.parts }
     requires made_from { plain.setup ≡ names.setup }
-    requires opened { entries_of plain.book.list ≡ N.opened }
+    requires opened { entries_in plain.book.state ≡ N.opened }
 {
     let (engine, mut seats) = opened::<N, H>(alloc, plain, names)?;
     if let Err(fail) = serve_again(rt, alloc, &engine, &mut seats, case) {

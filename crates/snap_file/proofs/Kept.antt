@@ -5,6 +5,8 @@ use Rattle.std.specs.Prelude.{◌==◌}
 use Rattle.std.specs.List.{AllByRecursion, IsDistinct}
 use Rattle.std.proofs.lemmas.Bool.{or_from, or_parts}
 use Rattle.cells.specs.Bounds.{IsDimension}
+use Rattle.hyper_matrix.proofs.CountLaws.{total-empty}
+use Rattle.batch_store.proofs.BookLaws.{length-entries_of}
 use Rattle.layer_cascade.specs.Cuts.{AreCuts}
 use Rattle.batch_store.specs.declared.verdict.Entry.{Entry}
 use Rattle.batch_store.specs.Setups.{Setting, IsSetting}
@@ -184,7 +186,7 @@ dims_of r c (b ∷ bs) h = (h.0.rows_are, h.0.cols_are, dims_of r c bs h.1)
 pub readable_of : (s : Setting) (list : List Submission) → IsKept s list → IsReadable s list
 readable_of s list h = record {
   setup = setup_of s h.accepted.sound;
-  few = h.accepted.few;
+  few = omega (arith, h.accepted.few, length-entries_of list);
   fits = h.accepted.within;
   each = h.each;
   distinct = new_of [] list h.accepted.distinct (nothing_before list);
@@ -196,8 +198,9 @@ kept_of s list h = record {
     sound = setting_of s h.setup;
     distinct = distinct_of [] list h.distinct;
     dims = dims_of s.rows s.cols list h.each;
-    few = h.few;
+    few = omega (arith, h.few, length-entries_of list);
     within = h.fits;
+    based = record { adds_up = total-empty; none = λ none. refl };
   };
   each = h.each;
 }

@@ -8,6 +8,7 @@ use Rattle.hyper_matrix.specs.Counts.{Place}
 use Rattle.hyper_matrix.specs.Shared.{LiesWithin}
 use Rattle.batch_store.specs.Setups.{Setting}
 use Rattle.batch_store.specs.Batches.{Submission}
+use Rattle.batch_store.specs.Accepted.{unfolded}
 use Rattle.batch_store.specs.Books.{list_total, AreAccepted}
 
 -- each element is a byte
@@ -62,7 +63,7 @@ pub record IsBatch (rows cols : ℕ) (b : Submission) : Type 0 where
 
 -- a setup and a list that have a file: batches as a book accepts them, each with numbers that fit their fields
 pub record IsKept (s : Setting) (list : List Submission) : Type 0 where
-  pub accepted : AreAccepted s list
+  pub accepted : AreAccepted s (unfolded list)
   pub each : AllByRecursion (IsBatch s.rows s.cols) list
 
 -- The bytes are a snapshot of this setup and this list.

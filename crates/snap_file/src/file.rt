@@ -3,6 +3,7 @@
 //! Nothing is known beforehand of a real file's bytes, so what these calls do to one is shown by tests: the contracts
 //! that they rest on are those of `save_in` and `read_snapshot`.
 ghost use Rattle.std.specs.Prelude.{◌≢◌, IfErr};
+ghost use Rattle.batch_store.specs.Accepted.{unfolded};
 ghost use Rattle.batch_store.specs.Batches.{values};
 ghost use Rattle.batch_store.specs.Books.{AreAccepted};
 ghost use Rattle.snap_file.specs.declared.fault.SnapFault.{SnapFault};
@@ -42,7 +43,7 @@ pub fn save<R: Files>(
     setup: &Setup,
     batches: &[Arc<Batch>],
 ) -> Result<(), SaveFault>
-    requires { AreAccepted setup.now (values batches.now) }
+    requires { AreAccepted setup.now (unfolded (values batches.now)) }
 {
     let mut folder = Beside::new(rt, path);
     save_in(alloc, &mut folder, path, setup, batches)

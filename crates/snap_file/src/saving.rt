@@ -3,6 +3,7 @@ ghost use Rattle.std.specs.Prelude.{◌≡◌, ℕ, ◌+◌, ◌<◌, ◌^◌, L
 ghost use Rattle.std.specs.Prelude.{string_bytes};
 ghost use Rattle.byte_io.specs.Writing.{HasTaken, HasStopped};
 ghost use Rattle.file_folder.specs.Files.{Files, WhereTold, KeepsOthers, HasFile, IsReplaced};
+ghost use Rattle.batch_store.specs.Accepted.{unfolded};
 ghost use Rattle.batch_store.specs.Batches.{values};
 ghost use Rattle.batch_store.specs.Books.{AreAccepted};
 ghost use Rattle.snap_file.specs.Spelling.{file};
@@ -37,7 +38,7 @@ fn write_to<F: Folder>(
     batches: &[Arc<Batch>],
 ) -> Result<(), WriteFault>
     requires failures { F.failure_count new_file.old.folder.now + 1 < 2 ^ 64 }
-    requires accepted { AreAccepted setup.now (values batches.now) }
+    requires accepted { AreAccepted setup.now (unfolded (values batches.now)) }
     ensures same_reference { new_file.new.folder.ghost_name ≡ new_file.old.folder.ghost_name }
     ensures ok { OnOk result (HasTaken F.write_takes F.failure_count new_file.old.folder.now new_file.new.folder.now
         (file setup.now (values batches.now))) }
@@ -51,7 +52,7 @@ fn write_to<F: Folder>(
 fn write_new<F: Folder>(f: &mut F, setup: &Setup, batches: &[Arc<Batch>]) -> Result<(), WriteFault>
     requires failures { F.failure_count f.old + 1 < 2 ^ 64 }
     requires created { IsSome (F.last_created f.old) }
-    requires accepted { AreAccepted setup.now (values batches.now) }
+    requires accepted { AreAccepted setup.now (unfolded (values batches.now)) }
     ensures ok { OnOk result (HasTaken F.write_takes F.failure_count f.old f.new
         (file setup.now (values batches.now))) }
     ensures err { IfErr result (λ fault. HasStopped F.write_takes F.failure_count f.old f.new
@@ -69,7 +70,7 @@ fn make_file<F: Folder>(
     batches: &[Arc<Batch>],
 ) -> Result<(), SaveFault>
     requires failures { F.failure_count f.old + 1 < 2 ^ 64 }
-    requires accepted { AreAccepted setup.now (values batches.now) }
+    requires accepted { AreAccepted setup.now (unfolded (values batches.now)) }
     ensures made { OnOk result (WhereTold (HasFile name.now (file setup.now (values batches.now)))
         (F.files f.old) (F.files f.new)) }
     ensures kept { OnErr result (WhereTold (KeepsOthers name.now) (F.files f.old) (F.files f.new)) }
@@ -110,7 +111,7 @@ pub fn save_in<F: Folder>(
     batches: &[Arc<Batch>],
 ) -> Result<(), SaveFault>
     requires failures { F.failure_count f.old + 1 < 2 ^ 64 }
-    requires accepted { AreAccepted setup.now (values batches.now) }
+    requires accepted { AreAccepted setup.now (unfolded (values batches.now)) }
     // Where the folder tells its files, `path` holds the file of exactly this setup and list, nothing stands under the
     // other name, and every other file is as before.
     ensures saved { OnOk result (WhereTold

@@ -18,6 +18,7 @@ pub struct Snapshot {
 
 impl Model for Snapshot {
     ghost use Rattle.batch_store.specs.Batches.{values};
+    ghost use Rattle.batch_store.specs.Accepted.{unfolded};
     ghost use Rattle.batch_store.specs.Books.{AreAccepted};
     ghost use Rattle.snap_file.specs.Snapshots.{Saved, saved, coded_saved};
 
@@ -27,5 +28,5 @@ impl Model for Snapshot {
 
     ghost view = { λ a. saved a.setup (values a.batches.items) };
 
-    ghost invariant = { λ a. AreAccepted a.setup (values a.batches.items) };
+    ghost invariant = { λ a. AreAccepted a.setup (unfolded (values a.batches.items)) };
 }

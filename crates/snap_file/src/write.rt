@@ -5,6 +5,7 @@ ghost use Rattle.std.specs.Arc.{arc_value};
 ghost use Rattle.std.specs.Int.{w8, w32, w64};
 ghost use Rattle.std.specs.List.{concat};
 ghost use Rattle.hyper_matrix.specs.Counts.{total};
+ghost use Rattle.batch_store.specs.Accepted.{unfolded};
 ghost use Rattle.batch_store.specs.Batches.{values};
 ghost use Rattle.batch_store.specs.Books.{list_total, AreAccepted};
 ghost use Rattle.snap_file.specs.Spelling.{number_bytes, head_bytes, cell_bytes, batch_bytes, file};
@@ -126,7 +127,7 @@ pub fn write_snapshot<W: Sink>(
     batches: &[Arc<Batch>],
 ) -> Result<(), WriteFault>
     requires failures { W.failure_count w.old + 1 < 2 ^ 64 }
-    requires accepted { AreAccepted setup.now (values batches.now) }
+    requires accepted { AreAccepted setup.now (unfolded (values batches.now)) }
     ensures ok { OnOk result (HasTaken W.write_takes W.failure_count w.old w.new
         (file setup.now (values batches.now))) }
     ensures err { IfErr result (λ f. HasStopped W.write_takes W.failure_count w.old w.new

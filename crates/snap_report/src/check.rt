@@ -11,6 +11,7 @@ ghost use Rattle.hyper_matrix.specs.Cells.{built_of};
 ghost use Rattle.hyper_matrix.specs.Counts.{total, ewise_add};
 ghost use Rattle.hyper_matrix.specs.Matrix.{matrix};
 ghost use Rattle.batch_store.specs.Setups.{Setting};
+ghost use Rattle.batch_store.specs.Accepted.{unfolded};
 ghost use Rattle.batch_store.specs.Batches.{Submission, values};
 ghost use Rattle.batch_store.specs.Books.{list_total, AreAccepted};
 ghost use Rattle.snap_report.specs.Checks.{sum_of_batches, line_of, check_line, LeavesOutput};
@@ -61,7 +62,7 @@ fn with_batch(
 
 /// The cells of the sum of all batches, by row and then by column, each place once.
 pub fn sum_of(alloc: Global, setup: &Setup, batches: &[Arc<Batch>]) -> Result<Vec<Cell>, AllocError>
-    requires { AreAccepted setup.now (values batches.now) }
+    requires { AreAccepted setup.now (unfolded (values batches.now)) }
     ensures rises { IfOk result (λ list. Rise list.items) }
     ensures within { IfOk result (λ list. AreWithin setup.now.rows setup.now.cols list.items) }
     ensures sum { IfOk result (λ list. built_of list.items ≡ sum_of_batches (values batches.now)) }
@@ -76,7 +77,7 @@ pub fn sum_of(alloc: Global, setup: &Setup, batches: &[Arc<Batch>]) -> Result<Ve
 
 // The number of entries of the sum of all batches.
 fn entries_of(alloc: Global, setup: &Setup, batches: &[Arc<Batch>]) -> Result<u64, AllocError>
-    requires { AreAccepted setup.now (values batches.now) }
+    requires { AreAccepted setup.now (unfolded (values batches.now)) }
     ensures { IfOk result (λ entries. entries ≡ len (sum_of_batches (values batches.now))) }
 {
     let cells = sum_of(alloc, setup, batches)?;
@@ -136,7 +137,7 @@ fn write_check<W: Sink>(
     batches: &[Arc<Batch>],
 ) -> Result<(), CheckFault>
     requires failures { W.failure_count w.old + 1 < 2 ^ 64 }
-    requires accepted { AreAccepted setup.now (values batches.now) }
+    requires accepted { AreAccepted setup.now (unfolded (values batches.now)) }
     ensures ok { OnOk result (HasTaken W.write_takes W.failure_count w.old w.new
         (check_line setup.now (values batches.now))) }
     ensures output { (fault : WriteFault) → result ≡ Err (CheckFault.Output fault) →
@@ -175,10 +176,10 @@ pub fn run_check<R: Files, W: Sink>(
 ) -> Result<(), CheckFault>
     requires { W.failure_count w.old + 1 < 2 ^ 64 }
     // What was written is the line of some setup and list of batches as a book accepts them.
-    ensures ok { OnOk result ((setup : Setting) × (list : List Submission) × AreAccepted setup list
+    ensures ok { OnOk result ((setup : Setting) × (list : List Submission) × AreAccepted setup (unfolded list)
         × HasTaken W.write_takes W.failure_count w.old w.new (check_line setup list)) }
     ensures output { (fault : WriteFault) → result ≡ Err (CheckFault.Output fault) →
-        (setup : Setting) × (list : List Submission) × AreAccepted setup list
+        (setup : Setting) × (list : List Submission) × AreAccepted setup (unfolded list)
         × HasStopped W.write_takes W.failure_count w.old w.new (check_line setup list) fault.written }
     ensures unwritten { IfErr result (λ fault. LeavesOutput fault ⊎ (w.new ≡ w.old)) }
 {

@@ -3,6 +3,7 @@ ghost use Rattle.std.specs.Prelude.{◌≡◌, ◌+◌, ◌<◌, ◌^◌, ◌⊎
 ghost use Rattle.byte_io.specs.Writing.{HasTaken, HasStopped};
 ghost use Rattle.byte_io.specs.declared.fault.WriteFault.{WriteFault};
 ghost use Rattle.batch_store.specs.Setups.{Setting};
+ghost use Rattle.batch_store.specs.Accepted.{unfolded};
 ghost use Rattle.batch_store.specs.Batches.{Submission, values};
 ghost use Rattle.batch_store.specs.Books.{AreAccepted};
 ghost use Rattle.snap_report.specs.Checks.{batches_text, LeavesOutput};
@@ -26,7 +27,7 @@ fn write_export<W: Sink>(
     batches: &[Arc<Batch>],
 ) -> Result<(), CheckFault>
     requires failures { W.failure_count w.old + 1 < 2 ^ 64 }
-    requires accepted { AreAccepted setup.now (values batches.now) }
+    requires accepted { AreAccepted setup.now (unfolded (values batches.now)) }
     ensures ok { OnOk result (HasTaken W.write_takes W.failure_count w.old w.new
         (batches_text setup.now (values batches.now))) }
     ensures output { (fault : WriteFault) → result ≡ Err (CheckFault.Output fault) →
@@ -62,10 +63,10 @@ pub fn run_export<R: Files, W: Sink>(
 ) -> Result<(), CheckFault>
     requires { W.failure_count w.old + 1 < 2 ^ 64 }
     // What was written is the text of the sum of some list of batches as a book accepts them.
-    ensures ok { OnOk result ((setup : Setting) × (list : List Submission) × AreAccepted setup list
+    ensures ok { OnOk result ((setup : Setting) × (list : List Submission) × AreAccepted setup (unfolded list)
         × HasTaken W.write_takes W.failure_count w.old w.new (batches_text setup list)) }
     ensures output { (fault : WriteFault) → result ≡ Err (CheckFault.Output fault) →
-        (setup : Setting) × (list : List Submission) × AreAccepted setup list
+        (setup : Setting) × (list : List Submission) × AreAccepted setup (unfolded list)
         × HasStopped W.write_takes W.failure_count w.old w.new (batches_text setup list) fault.written }
     ensures unwritten { IfErr result (λ fault. LeavesOutput fault ⊎ (w.new ≡ w.old)) }
 {

@@ -10,6 +10,7 @@ use mathlib.Core.List.{IsPrefix}
 use Rattle.batch_store.specs.declared.verdict.Entry.{Entry}
 use Rattle.batch_store.specs.Setups.{Setting}
 use Rattle.batch_store.specs.Batches.{Submission, entries_of}
+use Rattle.batch_store.specs.Accepted.{unfolded}
 use Rattle.batch_store.specs.Books.{AreAccepted, list_total}
 use Rattle.plain_engine.specs.declared.status.Status.{Status}
 use Rattle.plain_engine.specs.Object.{status_of}
@@ -20,7 +21,8 @@ use Rattle.session_pool.specs.Saves.{IsSaved}
 
 abbrev pub EndsWith : {D Z : Type 0} → (D → List ℕ → Setting → List Submission → Type 0) → D → Option (String Z) →
     Setting → List Submission → Status → Type 0
-EndsWith saves d path v list s = AreAccepted v list × (s ≡ status_of list) × IsSaved saves d path v list
+EndsWith saves d path v list s =
+    AreAccepted v (unfolded list) × (s ≡ status_of (unfolded list)) × IsSaved saves d path v list
 
 -- The seats' shares add up to the list's total, and what they were shown and the list's entries are beginnings of one
 -- version.

@@ -1,6 +1,7 @@
 //! The server, from its settings to its last line.
 ghost use Rattle.std.specs.Prelude.{◌≡◌, ◌+◌, ◌<◌, ◌≤◌, ◌^◌, ◌↔◌, ◌⊎◌, List, length, None, Err, IfOk, IfErr, OnOk};
-ghost use Rattle.batch_store.specs.Batches.{Submission, entries_of};
+ghost use Rattle.batch_store.specs.Accepted.{entries_in};
+ghost use Rattle.batch_store.specs.Batches.{Submission};
 ghost use Rattle.locked_engine.specs.Opened.{NamesEngine};
 ghost use Rattle.socket_server.specs.Ends.{EndsWith};
 ghost use Rattle.socket_server.specs.Faults.{IsMet, IsMetServing};
@@ -112,7 +113,7 @@ fn serve_named<
     requires failures { W.failure_count out.old + 1 < 2 ^ 64 }
     requires named { NamesEngine names N.setup N.seats N.history N.name N.parts H.name H.parts }
     requires made_from { plain.setup ≡ names.setup }
-    requires opened { entries_of plain.book.list ≡ N.opened }
+    requires opened { entries_in plain.book.state ≡ N.opened }
     ensures failures { OnOk result (W.failure_count out.new ≡ W.failure_count out.old) }
     ensures ended { IfOk result (λ s. (list : List Submission)
         × EndsWith R.saves rt.now plan.saver.path names.setup list s) }

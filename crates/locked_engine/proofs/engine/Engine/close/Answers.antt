@@ -1,10 +1,9 @@
 use Rattle.std.proofs.Common.{◌≡◌, ap, sym, subst, arith}
 use mathlib.Core.List.{IsPrefix}
-use Rattle.batch_store.specs.Batches.{entries_of}
+use Rattle.batch_store.specs.Accepted.{entries_in, total_in}
 use Rattle.batch_store.specs.Books.{Register}
 use Rattle.locked_engine.proofs.ToldLaws.{shown_later}
 use Rattle.batch_store.specs.Setups.{Setting}
-use Rattle.batch_store.specs.Books.{list_total}
 use Rattle.plain_engine.specs.Standing.{Standing}
 use Rattle.locked_engine.proofs.engine.Engine.close.Goals as goal
 
@@ -20,7 +19,7 @@ returns-in-Ok-clause-seats g c =
       c.gather-first.ensures.first,
       c.audit.ensures.whole all,
       c.end-book.ensures.first,
-      ap (λ (e : Standing). list_total e.book.list) c.in-Ok.ensures.ok,
+      ap (λ (e : Standing). total_in e.book.state) c.in-Ok.ensures.ok,
     )
 
 -- and both ledgers have the book's total
@@ -54,7 +53,7 @@ returns-in-Ok-clause-shown g c =
     let all = c.end-book.result.3 in (
       all,
       shown_later c.args.seats.items _ all c.end-book.ensures.shown c.gather-first.ensures.shown,
-      subst (λ (e : Standing). IsPrefix (entries_of e.book.list) all) (sym c.in-Ok.ensures.ok)
+      subst (λ (e : Standing). IsPrefix (entries_in e.book.state) all) (sym c.in-Ok.ensures.ok)
           c.end-book.ensures.accepted,
     )
 
@@ -64,7 +63,7 @@ returns-clause-shown_apart g c = λ shards book e.
     let same_book : c.end-book.result.0 ≡ book = cc (c.in-Err.ensures.err.0, e) in (
       all,
       shown_later c.args.seats.items _ all c.end-book.ensures.shown c.gather-first.ensures.shown,
-      subst (λ (w : Register). IsPrefix (entries_of w.list) all) same_book c.end-book.ensures.accepted,
+      subst (λ (w : Register). IsPrefix (entries_in w.state) all) same_book c.end-book.ensures.accepted,
     )
 
 -- with records that agree there would be an engine
@@ -75,5 +74,5 @@ returns-clause-apart g c = λ shards book e both.
     let back = c.in-Err.ensures.err in
     let named = c.self.invariant in
     let moved = rw (← same_shards, ← same_book, back.0, back.1, ← named.0) at both in
-    let told = c.in-Err.ensures.exactly.1 moved in
+    let told = c.in-Err.ensures.exactly.1 (moved.0, c.end-book.ensures.plain, moved.1) in
     cc told
