@@ -61,7 +61,15 @@ impl<N: Named, H: Ledger> Engine<N, H> {
         let s = row % self.setup.shards();
         match self.version(rt, s) {
             Some(version) => version.cell(row, col),
-            None => self.look(rt, s, |shard| shard.get(row, col)).flatten(),
+            None => self
+                .look(
+                    rt,
+                    s,
+                    move |shard: &Shard| -> Option<u64>
+                        ensures { result ≡ get (content shard.now.layers) (row, col) }
+                    { shard.get(row, col) },
+                )
+                .flatten(),
         }
     }
 
@@ -80,7 +88,13 @@ impl<N: Named, H: Ledger> Engine<N, H> {
         match self.version(rt, s) {
             Some(version) => version.row(row),
             None => self
-                .look(rt, s, |shard| shard.row_total(row))
+                .look(
+                    rt,
+                    s,
+                    move |shard: &Shard| -> RowSum
+                        ensures { result ≡ row_sum_in shard.now row }
+                    { shard.row_total(row) },
+                )
                 .unwrap_or(NO_SUM),
         }
     }

@@ -1,0 +1,16 @@
+use Rattle.std.proofs.Common.{sym}
+use Rattle.locked_engine.proofs.shard_version.ShardVersion.of_shard.Goals as goal
+
+pub new-requires : goal.new-requires
+new-requires g c = (
+  c.args.shard.now,
+  record {
+    shard = record {
+      setup = c.requires;
+      number = sym c.number-number.ensures.value;
+      held = c.number-number.ensures.kept;
+    };
+    layers = c.in_ok-sight.ensures.layers;
+    record_len = c.in_ok-sight.ensures.record;
+  },
+)
