@@ -1,11 +1,12 @@
 #!/usr/bin/env python3
-"""Measures `hhm check` of a snapshot beside `hhm sum` of the same cells as a text.
+"""Measures `hhm check` and `hhm export` of a snapshot beside `hhm sum` of the same cells as a text.
 
     python3 bench/check.py PATH-TO-HHM [--batches N] [--cells N] [--repeat N]
 
 It writes a snapshot of so many batches, each of so many cells that are spread evenly over 2^60 by 2^60, and the text of
-all these cells batch by batch, runs both programs in turn, and prints the median time of each, their ratio, and the
-memory of `check` at its peak. The sum uses the cuts 4096,65536,1048576. Linux, and nothing but Python's own library.
+all these cells batch by batch, runs the three in turn, and prints the median time of each, their ratios, those of
+processor time too, and the memory of `check` and `export` at their peaks. The sum uses the cuts 4096,65536,1048576.
+Linux, and nothing but Python's own library.
 """
 import argparse
 import multiprocessing
@@ -62,7 +63,7 @@ def size_of(text):
 
 
 def timed(words, stdin=None):
-    """Seconds on the clock, and the peak of the memory in bytes."""
+    """Seconds on the clock, seconds of processor time, and the peak of the memory in bytes."""
     with tempfile.TemporaryFile() as output:
         start = time.perf_counter()
         process = subprocess.Popen(words, stdin=stdin, stdout=output)
@@ -71,7 +72,13 @@ def timed(words, stdin=None):
         process.returncode = status
     if status != 0:
         sys.exit(f"{' '.join(words)}: status {status}")
-    return seconds, usage.ru_maxrss * 1024
+    return seconds, usage.ru_utime + usage.ru_stime, usage.ru_maxrss * 1024
+
+
+def medians(runs):
+    """The median of the seconds and of the processor time, and the highest peak."""
+    seconds, processor, peaks = zip(*runs)
+    return statistics.median(seconds), statistics.median(processor), max(peaks)
 
 
 def main():
@@ -89,17 +96,18 @@ def main():
         writer.join()
         snapshot, text = paths(folder)
         count = size_of(text)
-        checks, sums, peaks = [], [], []
+        checks, exports, sums = [], [], []
         for _ in range(options.repeat):
-            seconds, peak = timed([program, "check", snapshot])
-            checks.append(seconds)
-            peaks.append(peak)
+            checks.append(timed([program, "check", snapshot]))
+            exports.append(timed([program, "export", snapshot]))
             with open(text, "rb") as file:
-                sums.append(timed([program, "sum", "--cuts", ",".join(map(str, CUTS))], file)[0])
-        check, total = statistics.median(checks), statistics.median(sums)
+                sums.append(timed([program, "sum", "--cuts", ",".join(map(str, CUTS))], file))
         print(f"{options.batches} batches, {count} cells")
-        print(f"check {check:.3f} s, sum {total:.3f} s, ratio {check / total:.2f}")
-        print(f"memory of check: {max(peaks) / 2**20:.0f} MiB, {max(peaks) / count:.0f} bytes a cell")
+        check, export, total = medians(checks), medians(exports), medians(sums)
+        for name, run, beside, other in (("check", check, "sum", total), ("export", export, "check", check)):
+            seconds, processor, peak = run
+            print(f"{name} {seconds:.3f} s, {beside} {other[0]:.3f} s, ratio {seconds / other[0]:.2f}, of processor time "
+                  f"{processor / other[1]:.2f}; memory {peak / 2**20:.0f} MiB, {peak / count:.0f} bytes a cell")
 
 
 if __name__ == "__main__":
