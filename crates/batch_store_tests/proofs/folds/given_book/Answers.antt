@@ -1,6 +1,5 @@
-use Rattle.std.proofs.Common.{◌≡◌, false, List, [], ◌∷◌, refl, arith, ap, ◌∙◌}
+use Rattle.std.proofs.Common.{◌≡◌, false, List, [], ◌∷◌, refl, ap, ◌∙◌}
 use Rattle.std.specs.List.{IsDistinct}
-use Rattle.std.specs.Arc.{arc_value}
 use Rattle.cells.specs.declared.cell.Cell.{Cell}
 use Rattle.hyper_matrix.specs.Counts.{total}
 use Rattle.hyper_matrix.specs.Matrix.{Matrix}
@@ -15,14 +14,14 @@ two_distinct a b apart = ((apart, tt), (tt, tt))
 
 pub with_folded-requires-clause-accepted : goal.with_folded-requires-clause-accepted
 with_folded-requires-clause-accepted g c =
-  let cells : List Cell = record { row = 0; col = 0; count = 8 } ∷ [] in record {
-  sound = c.rows.ensures.kept;
-  distinct = two_distinct _ _ refl;
-  dims = tt;
-  few = c.requires.few;
-  within = c.requires.within;
-  based = record {
-    adds_up = ap (λ (m : Matrix). total m.counts) (c.in_ok-base.ensures.ok ∙ c.in_ok-m.ensures.ok) ∙ total-built_of cells;
-    none = λ h. cc;
-  };
-}
+    let cells : List Cell = record { row = 0; col = 0; count = 8 } ∷ [] in record {
+      sound = c.rows.ensures.kept;
+      distinct = two_distinct _ _ refl;
+      dims = tt;
+      few = c.requires.few;
+      within = c.requires.within;
+      based = record {
+        adds_up = ap (λ (m : Matrix). total m.counts) (c.in_ok-base.ensures.ok ∙ c.in_ok-m.ensures.ok) ∙ total-built_of cells;
+        none = λ h. cc;
+      };
+    }
