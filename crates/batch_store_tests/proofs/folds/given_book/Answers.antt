@@ -8,6 +8,7 @@ use Rattle.batch_store.specs.declared.verdict.Entry.{Entry}
 use Rattle.batch_store.specs.Verdicts.{same_pair}
 use Rattle.batch_store_tests.proofs.folds.given_book.Goals as goal
 
+-- two entries of different pairs
 two_distinct : (a b : Entry) → same_pair a b ≡ false → IsDistinct same_pair (a ∷ b ∷ [])
 unfolding IsDistinct
 two_distinct a b apart = ((apart, tt), (tt, tt))
@@ -21,7 +22,8 @@ with_folded-requires-clause-accepted g c =
       few = c.requires.few;
       within = c.requires.within;
       based = record {
-        adds_up = ap (λ (m : Matrix). total m.counts) (c.in_ok-base.ensures.ok ∙ c.in_ok-m.ensures.ok) ∙ total-built_of cells;
+        adds_up = ap (λ (m : Matrix). total m.counts) (c.in_ok-base.ensures.ok ∙ c.in_ok-m.ensures.ok)
+            ∙ total-built_of cells;
         none = λ h. cc;
       };
     }

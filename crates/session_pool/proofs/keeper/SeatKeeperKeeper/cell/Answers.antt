@@ -6,7 +6,9 @@ use Rattle.session_pool.proofs.keeper.SeatKeeperKeeper.cell.Goals as goal
 
 pub returns-clause-gives : goal.returns-clause-gives
 returns-clause-gives g c =
-    let s = c.args.self.now in
-    (refl, gives_cell g.N.Named.setup
-    (λ (list : List Submission). IsSaved g.R.Disk.saves s.rt.now s.saver.now.path g.N.Named.setup list) s.seat.now
-    c.args.row c.args.col c.cell.result c.cell.ensures.some)
+    let s = c.args.self.now in (
+      refl,
+      gives_cell g.N.Named.setup
+          (λ (list : List Submission). IsSaved g.R.Disk.saves s.rt.now s.saver.now.path g.N.Named.setup list) s.seat.now
+          c.args.row c.args.col c.cell.result c.cell.ensures.some,
+    )
