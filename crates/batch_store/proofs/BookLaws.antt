@@ -87,7 +87,8 @@ module _ (p : Pair) (b : Entry) (client : p.client ≡ b.client) (number : p.num
       let long = length-all_entries lines in
       λ i. cond (nat_lt (same i) (long i)) (Some (same i)) None
 
-all_behind : (P : Entry → Type 0) (es fs : List Entry) → AllByRecursion P (es ++ fs) → AllByRecursion P fs
+-- what holds of entries one behind another holds of those behind
+pub all_behind : (P : Entry → Type 0) (es fs : List Entry) → AllByRecursion P (es ++ fs) → AllByRecursion P fs
 all_behind P [] fs h = h
 all_behind P (e ∷ es) fs h = all_behind P es fs h.1
 

@@ -14,6 +14,7 @@ use Rattle.batch_store.specs.Verdicts.{same_pair}
 use Rattle.batch_store.specs.Parts.{concerns, part_of, record_content, concerned}
 use Rattle.batch_store.specs.Books.{Register, AreAccepted}
 use Rattle.batch_store.specs.Shards.{Holding, holding, shard_total, part_in, amount_in, AreHeld, stands}
+use Rattle.batch_store.proofs.BookLaws.{all_behind}
 use Rattle.batch_store.proofs.PartLaws.{part_of-le}
 use Rattle.batch_store.proofs.VerdictLaws.{fresh_is, none_same, same_pair_flips}
 use Rattle.plain_engine.specs.Object.{verdict_in}
@@ -40,17 +41,12 @@ absent_there b s k (x ∷ xs) h = by (concerns s k x.matrix.counts) (absent_ther
     by true rest = neither _ _ (same_pair_flips (entry_of b) (entry_of x) ∙ h.0) rest
     by false rest = rest
 
--- what holds of entries one behind another holds of those behind
-behind : (P : Entry → Type 0) (es fs : List Entry) → AllByRecursion P (es ++ fs) → AllByRecursion P fs
-behind P [] fs h = h
-behind P (e ∷ es) fs h = behind P es fs h.1
-
 pub takes_fresh : (v : Setting) (a : Accepted) (b : Submission) (i : ℕ) (x : Holding) → IsBase a.base a.folded →
     verdict_in v a b ≡ Fresh → StandsAt v a i x → Takes v b x
 takes_fresh v a b i x based fresh h =
     let is = fresh_is v.limit v.max_batches (entries_in a) (entry_of b) fresh in
     let k = v.shards in
-    let new = behind (λ (e : Entry). same_pair e (entry_of b) ≡ false) a.folded (entries_of a.list)
+    let new = all_behind (λ (e : Entry). same_pair e (entry_of b) ≡ false) a.folded (entries_of a.list)
     (none_same (entry_of b) (entries_in a) is.new_pair) in
     let held : shard_total x ≡ part_of i k (summed a) = ap total (holds_part v a i x h) in
     let more : amount_in x b ≡ part_of i k b.matrix.counts =
