@@ -3,14 +3,13 @@ ghost use Rattle.std.specs.Prelude.{IfOk, IfSome};
 ghost use Rattle.wire_frames.specs.Frames.{HasWholeCells};
 
 use crate::hex::bytes_of;
-use crate::replies::{is_reply, split_frame};
+use crate::replies::are_replies;
 use batch_store::{Setup, SetupFault};
 use byte_io_tests::pieces;
 use bytes::Bytes;
 use mm_text::Script;
-use plain_engine::{PlainEngine, Status};
+use plain_engine::PlainEngine;
 use std::alloc::{AllocError, Global};
-use std::process::Abort;
 use std::random::RandomSource;
 use std::test::Fail;
 use wire_proto::{EncodeFault, Ended, Request, encode_request, serve_engine};
@@ -172,71 +171,71 @@ pub fn run(
 /// What fails of a link's calls: the read with this number, and writes after so many bytes.
 pub type Failing = (Option<u64>, Option<u64>);
 
-/// Serves these pieces over an engine, and compares how it ends and all that is written.
-pub fn expect_run(
-    rt: &impl Abort,
+/// How a session ended, whether all that it wrote was what is expected, and how many batches the engine has accepted
+/// then and their total.
+pub type Outcome = (Ended, bool, (u64, u64));
+
+/// Serves these pieces over an engine.
+pub fn served(
     alloc: Global,
     engine: &mut PlainEngine,
     list: Vec<Vec<u8>>,
     failing: Failing,
-    ended: Ended,
-    written: &[u8],
-) {
+    expected: &[u8],
+) -> Outcome {
     let ran = run(alloc, engine, list, failing.0, failing.1);
-    assert_eq!(rt; ran.ended, ended);
-    assert!(rt; ran.link.written() == written);
+    let status = engine.status();
+    (
+        ran.ended,
+        ran.link.written() == expected,
+        (status.batches, status.total),
+    )
 }
 
-/// Compares what an engine has accepted.
-pub fn expect_status(rt: &impl Abort, engine: &PlainEngine, batches: u64, total: u64) {
-    assert_eq!(rt; engine.status(), Status { batches, total });
-}
-
-/// Serves these bytes in one piece, and compares all that comes back.
-pub fn exchange(
-    rt: &impl Abort,
+/// Serves these bytes in one piece.
+pub fn exchanged(
     alloc: Global,
     engine: &mut PlainEngine,
     sent: &[u8],
-    ended: Ended,
     expected: &[u8],
-) -> Result<(), AllocError> {
+) -> Result<Outcome, AllocError> {
     let list = pieces(alloc, sent, sent.len())?;
-    expect_run(rt, alloc, engine, list, (None, None), ended, expected);
-    Ok(())
+    Ok(served(alloc, engine, list, (None, None), expected))
 }
 
-// Each frame that was written is read as a reply.
-fn expect_replies(rt: &impl Abort, written: &[u8]) {
-    let mut rest = written;
-    for _ in 0..written.len() {
-        let Some((reply, behind)) = split_frame(rest) else {
-            break;
-        };
-        assert!(rt; is_reply(reply));
-        rest = behind;
-    }
-    assert!(rt; rest.is_empty());
+/// Serves a table's frames in one piece.
+pub fn asked(
+    alloc: Global,
+    engine: &mut PlainEngine,
+    asks: &[Ask],
+    expected: &[u8],
+) -> Result<Outcome, EncodeFault> {
+    let sent = frames(alloc, asks)?;
+    Ok(exchanged(alloc, engine, sent.as_slice(), expected)?)
 }
 
-/// Runs a table's session over an engine, and compares all of it.
-pub fn check(
-    rt: &impl Abort,
+/// What becomes of a table's session over an engine, and whether each frame that the table expects is a reply.
+pub fn told(
     alloc: Global,
     engine: &mut PlainEngine,
     session: &Session,
-) -> Result<(), Fail> {
-    let sent = frames(alloc, session.0)?;
+) -> Result<(Outcome, bool), EncodeFault> {
     let expected = bytes_of(alloc, session.1)?;
-    expect_replies(rt, expected.as_slice());
-    exchange(
-        rt,
-        alloc,
-        engine,
-        sent.as_slice(),
-        session.2,
-        expected.as_slice(),
-    )?;
-    expect_status(rt, engine, session.3.0, session.3.1);
-    Ok(())
+    let outcome = asked(alloc, engine, session.0, expected.as_slice())?;
+    Ok((outcome, are_replies(expected.as_slice())))
+}
+
+/// The same over a new engine.
+pub fn told_anew<R: RandomSource>(
+    rt: &R,
+    alloc: Global,
+    session: &Session,
+) -> Result<(Outcome, bool), Fail> {
+    let mut engine = small_engine(rt, alloc)?;
+    Ok(told(alloc, &mut engine, session)?)
+}
+
+/// What is to become of a table's session.
+pub fn wanted(session: &Session) -> (Outcome, bool) {
+    ((session.2, true, session.3), true)
 }

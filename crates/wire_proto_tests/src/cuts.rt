@@ -1,13 +1,14 @@
 //! One session cut in every way gives the same bytes.
 
-use crate::asks::{Ask, expect_run, expect_status, frames, small_engine};
+use crate::asks::{Ask, Outcome, frames, served, small_engine};
 use crate::hex::bytes_of;
 use byte_io_tests::{halves, pieces};
-use std::alloc::Global;
-use std::process::Abort;
+use plain_engine::PlainEngine;
+use std::alloc::{AllocError, Global};
 use std::random::RandomSource;
 use std::test::Fail;
-use wire_proto::Ended;
+use test_support::{same, same_at};
+use wire_proto::{EncodeFault, Ended};
 
 /// Two puts and a query.
 pub static ASKS: &[Ask] = &[
@@ -21,59 +22,88 @@ pub const REPLIES: &str = "00000010 81 0000000000000000 0000000000000005
     00000010 81 0000000000000001 0000000000000008
     00000009 82 01 0000000000000008";
 
-// Serves these pieces over a new engine, and compares the bytes that are written and the way it ends.
-fn serve_pieces<R: RandomSource + Abort>(
-    rt: &R,
-    alloc: Global,
-    list: Vec<Vec<u8>>,
-    ended: Ended,
-    expected: &[u8],
-) -> Result<(), Fail> {
-    let mut engine = small_engine(rt, alloc)?;
-    expect_run(rt, alloc, &mut engine, list, (None, None), ended, expected);
-    expect_status(rt, &engine, 2, 8);
-    Ok(())
+// How many bytes the frames and the replies have.
+fn sizes(alloc: Global) -> Result<(usize, usize), EncodeFault> {
+    let sent = frames(alloc, ASKS)?;
+    let replies = bytes_of(alloc, REPLIES)?;
+    Ok((sent.len(), replies.len()))
 }
 
 #[test]
-fn a_session_in_pieces_of_one_size(rt: HostRuntime) -> Result<(), Fail> {
-    let alloc = rt.alloc();
+fn the_frames_have_185_bytes_and_their_replies_56(rt: HostRuntime) -> Result<(), Fail> {
+    assert!(rt; same(&rt, &sizes(rt.alloc())?, &(185, 56)));
+    Ok(())
+}
+
+// Serves these pieces over a new engine. The first bytes of the replies are expected.
+fn served_anew<R: RandomSource>(
+    rt: &R,
+    alloc: Global,
+    list: Vec<Vec<u8>>,
+    len: usize,
+) -> Result<Outcome, Fail> {
+    let mut engine = small_engine(rt, alloc)?;
+    Ok(served_front(alloc, &mut engine, list, len)?)
+}
+
+fn served_front(
+    alloc: Global,
+    engine: &mut PlainEngine,
+    list: Vec<Vec<u8>>,
+    len: usize,
+) -> Result<Outcome, AllocError> {
+    let mut expected = bytes_of(alloc, REPLIES)?;
+    expected.truncate(len);
+    Ok(served(alloc, engine, list, (None, None), expected.as_slice()))
+}
+
+// Serves the first bytes of the frames, in pieces of one size.
+fn in_pieces<R: RandomSource>(
+    rt: &R,
+    alloc: Global,
+    sizes: (usize, usize),
+    len: usize,
+) -> Result<Outcome, Fail> {
+    let mut sent = frames(alloc, ASKS)?;
+    sent.truncate(sizes.0);
+    let list = pieces(alloc, sent.as_slice(), sizes.1)?;
+    served_anew(rt, alloc, list, len)
+}
+
+// Serves the frames in two pieces.
+fn in_halves<R: RandomSource>(rt: &R, alloc: Global, at: usize) -> Result<Outcome, Fail> {
     let sent = frames(alloc, ASKS)?;
-    assert_eq!(rt; sent.len(), 185);
-    let expected = bytes_of(alloc, REPLIES)?;
-    assert_eq!(rt; expected.len(), 56);
-    for size in 1..sent.len() + 1 {
-        let list = pieces(alloc, sent.as_slice(), size)?;
-        let ended = Ended::Closed { rest: 0 };
-        serve_pieces(&rt, alloc, list, ended, expected.as_slice())?;
+    let list = halves(alloc, sent.as_slice(), at)?;
+    served_anew(rt, alloc, list, 56)
+}
+
+const WHOLE: Outcome = (Ended::Closed { rest: 0 }, true, (2, 8));
+
+#[test]
+fn a_session_in_pieces_of_one_size(rt: HostRuntime) -> Result<(), Fail> {
+    for size in 1..186usize {
+        let outcome = in_pieces(&rt, rt.alloc(), (185, size), 56)?;
+        assert!(rt; same_at(&rt, &size, &outcome, &WHOLE));
     }
     Ok(())
 }
 
 #[test]
 fn a_session_cut_at_each_byte(rt: HostRuntime) -> Result<(), Fail> {
-    let alloc = rt.alloc();
-    let sent = frames(alloc, ASKS)?;
-    let expected = bytes_of(alloc, REPLIES)?;
-    for at in 0..sent.len() {
-        let list = halves(alloc, sent.as_slice(), at)?;
-        let ended = Ended::Closed { rest: 0 };
-        serve_pieces(&rt, alloc, list, ended, expected.as_slice())?;
+    for at in 0..185usize {
+        let outcome = in_halves(&rt, rt.alloc(), at)?;
+        assert!(rt; same_at(&rt, &at, &outcome, &WHOLE));
     }
     Ok(())
 }
 
+const CUT: Outcome = (Ended::Closed { rest: 20 }, true, (2, 8));
+
 #[test]
 fn the_last_byte_of_the_last_frame_is_missing(rt: HostRuntime) -> Result<(), Fail> {
-    let alloc = rt.alloc();
-    let mut sent = frames(alloc, ASKS)?;
-    let _last = sent.pop();
-    let mut expected = bytes_of(alloc, REPLIES)?;
-    expected.truncate(42);
     for size in [1usize, 184] {
-        let list = pieces(alloc, sent.as_slice(), size)?;
-        let ended = Ended::Closed { rest: 20 };
-        serve_pieces(&rt, alloc, list, ended, expected.as_slice())?;
+        let outcome = in_pieces(&rt, rt.alloc(), (184, size), 42)?;
+        assert!(rt; same_at(&rt, &size, &outcome, &CUT));
     }
     Ok(())
 }

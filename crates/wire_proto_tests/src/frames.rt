@@ -3,8 +3,8 @@
 use crate::asks::{Ask, frame, put_request};
 use crate::hex::bytes_of;
 use std::alloc::{AllocError, Global};
-use std::process::Abort;
 use std::test::Fail;
+use test_support::{holds_at, same, same_at};
 use wire_proto::{EncodeFault, FrameFault, Frames, Request, encode_request};
 
 // What a header alone leads to: None where the frame is to be waited for, the kind of a request that is whole, or a
@@ -73,42 +73,53 @@ fn next_kind(alloc: Global, frames: &mut Frames) -> Result<Option<u8>, FrameFaul
     }
 }
 
-// Feeds bytes one by one, with no request before the last.
-fn feed_bytes(
-    rt: &impl Abort,
+// Feeds bytes in pieces of one size, and tells whether there is no request before the last.
+fn feed_pieces(
     alloc: Global,
     frames: &mut Frames,
     bytes: &[u8],
-) -> Result<(), AllocError> {
-    for byte in bytes {
-        assert_eq!(rt; next_kind(alloc, frames), Ok(None));
-        frames.feed(alloc, &[*byte])?;
+    size: usize,
+) -> Result<bool, AllocError> {
+    let mut none = true;
+    for piece in bytes.chunks(size.max(1)) {
+        none = none && next_kind(alloc, frames) == Ok(None);
+        frames.feed(alloc, piece)?;
     }
-    Ok(())
+    Ok(none)
 }
 
-// Feeds a header byte by byte. A fault stays, whatever comes behind it.
-fn check_header(
-    rt: &impl Abort,
-    alloc: Global,
-    bytes: &[u8],
-    expected: Result<Option<u8>, FrameFault>,
-) -> Result<(), AllocError> {
+/// What a header leads to.
+type Judged = Result<Option<u8>, FrameFault>;
+
+// What becomes of a header that is fed byte by byte: whether there is no request before its last, what it leads to, and
+// where that is a fault, what it leads to once more comes behind it.
+fn judged(alloc: Global, digits: &str) -> Result<(bool, Judged, Option<Judged>), AllocError> {
+    let bytes = bytes_of(alloc, digits)?;
     let mut frames = Frames::new(alloc);
-    feed_bytes(rt, alloc, &mut frames, bytes)?;
-    assert_eq!(rt; next_kind(alloc, &mut frames), expected);
-    if expected.is_err() {
-        frames.feed(alloc, &[0u8; 40])?;
-        assert_eq!(rt; next_kind(alloc, &mut frames), expected);
+    let none = feed_pieces(alloc, &mut frames, bytes.as_slice(), 1)?;
+    let first = next_kind(alloc, &mut frames);
+    if first.is_ok() {
+        return Ok((none, first, None));
     }
-    Ok(())
+    frames.feed(alloc, &[0u8; 40])?;
+    Ok((none, first, Some(next_kind(alloc, &mut frames))))
+}
+
+// A fault stays.
+fn stays(expected: Judged) -> Option<Judged> {
+    if expected.is_err() {
+        Some(expected)
+    } else {
+        None
+    }
 }
 
 #[test]
 fn headers_are_judged_at_their_fifth_byte(rt: HostRuntime) -> Result<(), Fail> {
     for (digits, expected) in HEADERS {
-        let bytes = bytes_of(rt.alloc(), *digits)?;
-        check_header(&rt, rt.alloc(), bytes.as_slice(), *expected)?;
+        let found = judged(rt.alloc(), digits)?;
+        let wanted = (true, *expected, stays(*expected));
+        assert!(rt; same_at(&rt, digits, &found, &wanted));
     }
     Ok(())
 }
@@ -127,50 +138,46 @@ fn text_of_put(request: &Option<Request>, pair: (u64, u64)) -> Option<&[u8]> {
     }
 }
 
-// Feeds the frame of this put in pieces of 64 KiB.
-fn feed_put(
-    rt: &impl Abort,
-    alloc: Global,
-    frames: &mut Frames,
-    text: &[u8],
-) -> Result<(), EncodeFault> {
-    let request = put_request(alloc, (7, u64::MAX), text)?;
-    let frame = encode_request(alloc, &request)?;
-    for piece in frame.as_slice().chunks(65_536) {
-        assert_eq!(rt; next_kind(alloc, frames), Ok(None));
-        frames.feed(alloc, piece)?;
-    }
-    Ok(())
+// The frame of a put of this text.
+fn frame_of_put(alloc: Global, pair: (u64, u64), text: &[u8]) -> Result<Vec<u8>, EncodeFault> {
+    let request = put_request(alloc, pair, text)?;
+    encode_request(alloc, &request)
 }
 
-// Feeds a put of this text, and compares it.
-fn expect_put(
-    rt: &impl Abort,
-    alloc: Global,
-    frames: &mut Frames,
-    text: &[u8],
-) -> Result<(), Fail> {
-    feed_put(rt, alloc, frames, text)?;
+// Feeds the frame of this put in pieces of 64 KiB, and tells whether there is no request before the last.
+fn feed_put(alloc: Global, frames: &mut Frames, text: &[u8]) -> Result<bool, EncodeFault> {
+    let frame = frame_of_put(alloc, (7, u64::MAX), text)?;
+    Ok(feed_pieces(alloc, frames, frame.as_slice(), 65_536)?)
+}
+
+// Whether the next request is a put of this text.
+fn is_put_of(alloc: Global, frames: &mut Frames, text: &[u8]) -> Result<bool, FrameFault> {
     let request = frames.next(alloc)?;
-    assert!(rt; text_of_put(&request, (7, u64::MAX)) == Some(text));
-    Ok(())
+    Ok(text_of_put(&request, (7, u64::MAX)) == Some(text))
+}
+
+// Whether a put comes whole, and with nothing before or behind it.
+fn comes_whole(alloc: Global, text: &[u8]) -> Result<[bool; 3], Fail> {
+    let mut frames = Frames::new(alloc);
+    let none_before = feed_put(alloc, &mut frames, text)?;
+    let is_it = is_put_of(alloc, &mut frames, text)?;
+    let none_behind = next_kind(alloc, &mut frames) == Ok(None);
+    Ok([none_before, is_it, none_behind])
 }
 
 #[test]
 fn a_longest_put_comes_whole_in_pieces(rt: HostRuntime) -> Result<(), Fail> {
     let text = vec![in rt.alloc(); 37u8; 67_108_848]?;
-    let mut frames = Frames::new(rt.alloc());
-    expect_put(&rt, rt.alloc(), &mut frames, text.as_slice())?;
-    assert_eq!(rt; next_kind(rt.alloc(), &mut frames), Ok(None));
+    let found = comes_whole(rt.alloc(), text.as_slice())?;
+    assert!(rt; same(&rt, &found, &[true; 3]));
     Ok(())
 }
 
 #[test]
 fn a_put_that_is_one_byte_longer_has_no_frame(rt: HostRuntime) -> Result<(), Fail> {
     let text = vec![in rt.alloc(); 37u8; 67_108_849]?;
-    let request = put_request(rt.alloc(), (7, 1), text.as_slice())?;
-    let fault = encode_request(rt.alloc(), &request).err();
-    assert_eq!(rt; fault, Some(EncodeFault::TooLarge));
+    let fault = frame_of_put(rt.alloc(), (7, 1), text.as_slice()).err();
+    assert!(rt; same(&rt, &fault, &Some(EncodeFault::TooLarge)));
     Ok(())
 }
 
@@ -202,13 +209,18 @@ static SPELLED: &[(Ask, &str)] = &[
     ),
 ];
 
+// Whether the frame of a request has these bytes.
+fn is_spelled(alloc: Global, ask: Ask, digits: &str) -> Result<bool, EncodeFault> {
+    let expected = bytes_of(alloc, digits)?;
+    let frame = frame(alloc, ask)?;
+    Ok(frame.as_slice() == expected.as_slice())
+}
+
 #[test]
 fn requests_are_spelled(rt: HostRuntime) -> Result<(), Fail> {
-    let alloc = rt.alloc();
     for (ask, digits) in SPELLED {
-        let expected = bytes_of(alloc, *digits)?;
-        let frame = frame(alloc, *ask)?;
-        assert!(rt; frame.as_slice() == expected.as_slice());
+        let spelled = is_spelled(rt.alloc(), *ask, digits)?;
+        assert!(rt; holds_at(&rt, digits, spelled));
     }
     Ok(())
 }

@@ -1,16 +1,16 @@
 //! Generated sessions, with bad headers, frames that end too early and cuts anywhere, are answered as a plain session
 //! answers them, byte for byte; so they are where any read fails, or a write at any byte.
 
-use crate::asks::{Failing, expect_run, expect_status, run};
+use crate::asks::{Failing, Outcome, run, served};
 use crate::drawn::{COLS, Drawn, ROWS, Stream, draw, frame_of};
 use crate::plain::{Plain, spell};
 use batch_store::Setup;
 use byte_io_tests::{pieces, push_piece};
 use plain_engine::PlainEngine;
 use std::alloc::{AllocError, Global};
-use std::process::Abort;
 use std::random::RandomSource;
 use std::test::Fail;
+use test_support::same_at;
 use wire_proto::{EncodeFault, Ended};
 
 // A place behind a frame: how many bytes were sent and replied up to there, and what was accepted.
@@ -161,31 +161,39 @@ fn cut(alloc: Global, stream: &mut Stream, all: &[u8]) -> Result<Vec<Vec<u8>>, A
     Ok(list)
 }
 
-// A session of an engine that others served before.
-fn agree_once(
-    rt: &impl Abort,
+// A session of an engine that others served before: what became of it, and what should have.
+fn outcomes(
     alloc: Global,
     engine: &mut PlainEngine,
     plain: &mut Plain,
     stream: &mut Stream,
-) -> Result<(), Fail> {
+) -> Result<(Outcome, Outcome), EncodeFault> {
     let most = stream.below(14);
     let case = draw_case(alloc, stream, plain, most)?;
     let list = cut(alloc, stream, case.sent.as_slice())?;
-    let replies = case.replies.as_slice();
-    expect_run(rt, alloc, engine, list, (None, None), case.ended, replies);
-    expect_status(rt, engine, plain.batches(), plain.total());
-    Ok(())
+    let found = served(alloc, engine, list, (None, None), case.replies.as_slice());
+    Ok((found, (case.ended, true, (plain.batches(), plain.total()))))
 }
 
-fn agree<R: RandomSource + Abort>(rt: &R, alloc: Global, setup: Setup) -> Result<(), Fail> {
+/// Where something else was found than should have been, what, and what should.
+type Difference<T> = Option<(u64, T, T)>;
+
+// The first of sixty sessions over one engine that isn't answered as it should be.
+fn difference<R: RandomSource>(
+    rt: &R,
+    alloc: Global,
+    setup: Setup,
+) -> Result<Difference<Outcome>, Fail> {
     let mut engine = PlainEngine::new(rt, alloc, setup)?;
     let mut plain = Plain::new(alloc, setup.limit(), setup.max_batches());
     let mut stream = Stream::new(setup.limit());
-    for _ in 0..60 {
-        agree_once(rt, alloc, &mut engine, &mut plain, &mut stream)?;
+    for turn in 0..60u64 {
+        let (found, wanted) = outcomes(alloc, &mut engine, &mut plain, &mut stream)?;
+        if found != wanted {
+            return Ok(Some((turn, found, wanted)));
+        }
     }
-    Ok(())
+    Ok(None)
 }
 
 /// The number of shards, the cuts, the limit and the most batches.
@@ -202,7 +210,8 @@ static LIMITS: &[Limits] = &[
 fn generated_sessions_are_answered_alike(rt: HostRuntime) -> Result<(), Fail> {
     for (shards, cuts, limit, most) in LIMITS {
         let setup = Setup::new(ROWS, COLS, cuts, *shards, *limit, *most)?;
-        agree(&rt, rt.alloc(), setup)?;
+        let found = difference(&rt, rt.alloc(), setup)?;
+        assert!(rt; same_at(&rt, shards, &found, &None));
     }
     Ok(())
 }
@@ -228,20 +237,18 @@ fn first_past(marks: &[Mark], written: usize) -> Mark {
     START
 }
 
-// What stands behind a place is served in a new session as if none had failed.
-fn go_on(
-    rt: &impl Abort,
+// Whether what stands behind a place is served in a new session as if none had failed.
+fn goes_on(
     alloc: Global,
     engine: &mut PlainEngine,
     case: &Case,
     mark: Mark,
-) -> Result<(), AllocError> {
+) -> Result<bool, AllocError> {
     let (_, sent) = cut_at(case.sent.as_slice(), mark.sent);
     let (_, replies) = cut_at(case.replies.as_slice(), mark.replied);
     let list = pieces(alloc, sent, 1_000)?;
     let ran = run(alloc, engine, list, None, None);
-    assert!(rt; ran.link.written() == replies);
-    Ok(())
+    Ok(ran.link.written() == replies)
 }
 
 // What fails, how the session ends then, how many bytes are written, and the place behind the last frame that counts.
@@ -253,85 +260,102 @@ struct Fault {
     mark: Mark,
 }
 
-// Serves a session with a fault in pieces of a size, and goes on.
-fn fail<R: RandomSource + Abort>(
-    rt: &R,
-    alloc: Global,
-    engine: &mut PlainEngine,
-    case: &Case,
-    size: usize,
-    fault: Fault,
-) -> Result<(), AllocError> {
-    let list = pieces(alloc, case.sent.as_slice(), size)?;
-    let (front, _) = cut_at(case.replies.as_slice(), fault.written);
-    expect_run(rt, alloc, engine, list, fault.failing, fault.ended, front);
-    expect_status(rt, engine, fault.mark.batches, fault.mark.total);
-    go_on(rt, alloc, engine, case, fault.mark)
-}
-
-fn fail_write<R: RandomSource + Abort>(
+// What becomes of a session with a fault in pieces of a size over a new engine, and whether it goes on behind it.
+fn failed<R: RandomSource>(
     rt: &R,
     alloc: Global,
     setup: Setup,
     case: &Case,
-    room: usize,
-) -> Result<(), AllocError> {
+    size: usize,
+    fault: Fault,
+) -> Result<(Outcome, bool), AllocError> {
     let mut engine = PlainEngine::new(rt, alloc, setup)?;
+    let list = pieces(alloc, case.sent.as_slice(), size)?;
+    let (front, _) = cut_at(case.replies.as_slice(), fault.written);
+    let outcome = served(alloc, &mut engine, list, fault.failing, front);
+    Ok((outcome, goes_on(alloc, &mut engine, case, fault.mark)?))
+}
+
+// What is to become of it.
+fn wanted(fault: Fault) -> (Outcome, bool) {
+    let accepted = (fault.mark.batches, fault.mark.total);
+    ((fault.ended, true, accepted), true)
+}
+
+// The write fails behind so many bytes.
+fn write_fault(case: &Case, room: usize) -> Fault {
     let written = room as u128;
-    let fault = Fault {
+    Fault {
         failing: (None, Some(room as u64)),
         ended: Ended::WriteFault { written },
         written: room,
         mark: first_past(case.marks.as_slice(), room),
-    };
-    fail(rt, alloc, &mut engine, case, 1_000, fault)
-}
-
-fn fail_read<R: RandomSource + Abort>(
-    rt: &R,
-    alloc: Global,
-    setup: Setup,
-    case: &Case,
-    reads: usize,
-) -> Result<(), AllocError> {
-    let mut engine = PlainEngine::new(rt, alloc, setup)?;
-    let mark = last_within(case.marks.as_slice(), reads.saturating_mul(PIECE));
-    let fault = Fault {
-        failing: (Some(reads as u64), None),
-        ended: Ended::ReadFault,
-        written: mark.replied,
-        mark,
-    };
-    fail(rt, alloc, &mut engine, case, PIECE, fault)
+    }
 }
 
 // How many bytes a read gives.
 const PIECE: usize = 13;
 
-// Draws a session, and has each write and each read of it fail.
-fn fail_anywhere<R: RandomSource + Abort>(
+// The read with this number fails.
+fn read_fault(case: &Case, reads: usize) -> Fault {
+    let mark = last_within(case.marks.as_slice(), reads.saturating_mul(PIECE));
+    Fault {
+        failing: (Some(reads as u64), None),
+        ended: Ended::ReadFault,
+        written: mark.replied,
+        mark,
+    }
+}
+
+// A session within the limits of a setup.
+fn case_of(alloc: Global, setup: Setup, seed: u64) -> Result<Case, EncodeFault> {
+    let mut plain = Plain::new(alloc, setup.limit(), setup.max_batches());
+    let mut stream = Stream::new(seed);
+    draw_case(alloc, &mut stream, &mut plain, 9)
+}
+
+// The first write of a session whose fault isn't told as it should be.
+fn write_difference<R: RandomSource>(
     rt: &R,
     alloc: Global,
     setup: Setup,
-    seed: u64,
-) -> Result<(), Fail> {
-    let mut plain = Plain::new(alloc, setup.limit(), setup.max_batches());
-    let mut stream = Stream::new(seed);
-    let case = draw_case(alloc, &mut stream, &mut plain, 9)?;
+    case: &Case,
+) -> Result<Difference<(Outcome, bool)>, AllocError> {
     for room in 0..case.replies.len() {
-        fail_write(rt, alloc, setup, &case, room)?;
+        let fault = write_fault(case, room);
+        let found = failed(rt, alloc, setup, case, 1_000, fault)?;
+        if found != wanted(fault) {
+            return Ok(Some((room as u64, found, wanted(fault))));
+        }
     }
+    Ok(None)
+}
+
+// The first such read.
+fn read_difference<R: RandomSource>(
+    rt: &R,
+    alloc: Global,
+    setup: Setup,
+    case: &Case,
+) -> Result<Difference<(Outcome, bool)>, AllocError> {
     for reads in 0..case.sent.len().div_ceil(PIECE) {
-        fail_read(rt, alloc, setup, &case, reads)?;
+        let fault = read_fault(case, reads);
+        let found = failed(rt, alloc, setup, case, PIECE, fault)?;
+        if found != wanted(fault) {
+            return Ok(Some((reads as u64, found, wanted(fault))));
+        }
     }
-    Ok(())
+    Ok(None)
 }
 
 #[test]
 fn generated_sessions_fail_anywhere(rt: HostRuntime) -> Result<(), Fail> {
     let setup = Setup::new(ROWS, COLS, &[1, 3], 2, 60, 8)?;
     for seed in 1..3u64 {
-        fail_anywhere(&rt, rt.alloc(), setup, seed)?;
+        let case = case_of(rt.alloc(), setup, seed)?;
+        let writes = write_difference(&rt, rt.alloc(), setup, &case)?;
+        let reads = read_difference(&rt, rt.alloc(), setup, &case)?;
+        assert!(rt; same_at(&rt, &seed, &(writes, reads), &(None, None)));
     }
     Ok(())
 }

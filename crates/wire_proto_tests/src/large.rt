@@ -1,7 +1,7 @@
 //! The longest text that a reply carries, and one that is a byte longer. With the checks of `rt try --test` it takes
 //! minutes (`--seconds 600`).
 
-use crate::asks::{Ask, Ran, cells_frame, exchange, frame, put_frame, run};
+use crate::asks::{Ask, Outcome, cells_frame, exchanged, frame, put_frame, run};
 use crate::drawn::push_line;
 use crate::hex::bytes_of;
 use crate::replies::text_len;
@@ -9,8 +9,8 @@ use batch_store::Setup;
 use byte_io_tests::pieces;
 use plain_engine::PlainEngine;
 use std::alloc::{AllocError, Global};
-use std::process::Abort;
 use std::test::Fail;
+use test_support::same;
 use wire_proto::{EncodeFault, Ended};
 
 // How many rows and columns there are: a number of 19 digits, as that of each column with a cell.
@@ -76,55 +76,41 @@ fn all_and_export(alloc: Global) -> Result<Vec<u8>, EncodeFault> {
     Ok(sent)
 }
 
-// Compares how long the text is, behind three replies of 21 bytes.
-fn expect_longest(rt: &impl Abort, ran: &Ran) {
-    assert_eq!(rt; ran.ended, Ended::Closed { rest: 0 });
-    let reply = ran.link.written().get(63..).unwrap_or(&[]);
-    assert_eq!(rt; text_len(reply), Some(67_108_864));
-}
-
-// Sends all cells.
-fn export_longest(
-    rt: &impl Abort,
-    alloc: Global,
-    engine: &mut PlainEngine,
-) -> Result<(), EncodeFault> {
+// Sends all cells: how the session ends, and how long the text is, behind three replies of 21 bytes.
+fn longest(alloc: Global, engine: &mut PlainEngine) -> Result<(Ended, Option<usize>), EncodeFault> {
     let sent = all_and_export(alloc)?;
     let list = pieces(alloc, sent.as_slice(), 65_536)?;
     let ran = run(alloc, engine, list, None, None);
-    expect_longest(rt, &ran);
-    Ok(())
+    let reply = ran.link.written().get(63..).unwrap_or(&[]);
+    Ok((ran.ended, text_len(reply)))
 }
 
+const REFUSED: &str = "00000010 81 0000000000000003 0000011765ab4180
+    0000000a ff 0028 0000000000000000";
+
 // Sends a count that makes the text one byte longer.
-fn export_longer(
-    rt: &impl Abort,
+fn longer(alloc: Global, engine: &mut PlainEngine) -> Result<Outcome, EncodeFault> {
+    let sent = longer_and_export(alloc)?;
+    let expected = bytes_of(alloc, REFUSED)?;
+    Ok(exchanged(alloc, engine, sent.as_slice(), expected.as_slice())?)
+}
+
+fn longest_and_longer(
     alloc: Global,
     engine: &mut PlainEngine,
-) -> Result<(), EncodeFault> {
-    let sent = longer_and_export(alloc)?;
-    let expected = bytes_of(
-        alloc,
-        "00000010 81 0000000000000003 0000011765ab4180
-         0000000a ff 0028 0000000000000000",
-    )?;
-    let ended = Ended::Closed { rest: 0 };
-    exchange(
-        rt,
-        alloc,
-        engine,
-        sent.as_slice(),
-        ended,
-        expected.as_slice(),
-    )?;
-    Ok(())
+) -> Result<((Ended, Option<usize>), Outcome), EncodeFault> {
+    let first = longest(alloc, engine)?;
+    Ok((first, longer(alloc, engine)?))
 }
+
+const CLOSED: Ended = Ended::Closed { rest: 0 };
 
 #[test]
 fn the_longest_text_is_sent_and_no_longer_one(rt: HostRuntime) -> Result<(), Fail> {
     let setup = Setup::new(MOST, MOST, &[4_096], 1, u64::MAX, 10)?;
     let mut engine = PlainEngine::new(&rt, rt.alloc(), setup)?;
-    export_longest(&rt, rt.alloc(), &mut engine)?;
-    export_longer(&rt, rt.alloc(), &mut engine)?;
+    let found = longest_and_longer(rt.alloc(), &mut engine)?;
+    let second = (CLOSED, true, (4, 0x117_65ab_4180));
+    assert!(rt; same(&rt, &found, &((CLOSED, Some(67_108_864)), second)));
     Ok(())
 }

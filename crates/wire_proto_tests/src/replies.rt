@@ -7,8 +7,9 @@ use byte_io_tests::pieces;
 use hyper_matrix::RowSum;
 use plain_engine::{PlainEngine, Status};
 use std::alloc::{AllocError, Global};
-use std::process::Abort;
+use std::random::RandomSource;
 use std::test::Fail;
+use test_support::{holds_at, same, same_at};
 use wire_proto::{EncodeFault, Reply, decode_reply};
 
 /// The first frame of some bytes, and what stands behind it, where it is whole.
@@ -78,38 +79,68 @@ static REPLIES: &[(&str, Reply<'static>)] = &[
     ),
 ];
 
-// Neither a front of these bytes nor a byte more is a reply.
-fn is_one_alone(rt: &impl Abort, mut bytes: Vec<u8>) -> Result<(), Fail> {
+// Whether no front of these bytes is a reply.
+fn has_no_reply_before(bytes: &[u8]) -> bool {
     for at in 0..bytes.len() {
-        let (front, _rest) = bytes.as_slice().split_at(at);
-        assert!(rt; !is_reply(front));
+        let (front, _rest) = bytes.split_at(at);
+        if is_reply(front) {
+            return false;
+        }
     }
+    true
+}
+
+// Whether these bytes are read as a reply.
+fn is_read(bytes: &[u8], reply: Reply) -> bool {
+    decode_reply(bytes) == Some(reply)
+}
+
+// Whether a reply is read, and neither a front of its bytes nor a byte more is one.
+fn is_read_alone(alloc: Global, digits: &str, reply: Reply) -> Result<[bool; 3], AllocError> {
+    let mut bytes = bytes_of(alloc, digits)?;
+    let read = is_read(bytes.as_slice(), reply);
+    let alone = has_no_reply_before(bytes.as_slice());
     bytes.push(0)?;
-    assert!(rt; !is_reply(bytes.as_slice()));
-    Ok(())
+    Ok([read, alone, !is_reply(bytes.as_slice())])
 }
 
 #[test]
 fn replies_are_read(rt: HostRuntime) -> Result<(), Fail> {
     for (digits, expected) in REPLIES {
-        let bytes = bytes_of(rt.alloc(), *digits)?;
-        assert_eq!(rt; decode_reply(bytes.as_slice()), Some(*expected));
-        is_one_alone(&rt, bytes)?;
+        let read = is_read_alone(rt.alloc(), digits, *expected)?;
+        assert!(rt; same_at(&rt, digits, &read, &[true; 3]));
     }
     Ok(())
 }
 
-// Each frame of some bytes is read as the next of these replies, and nothing stands behind the last.
-fn are_replies(rt: &impl Abort, written: &[u8], replies: &[Reply<'static>]) {
+/// Whether each frame of some bytes is a reply, and nothing stands behind the last.
+pub fn are_replies(written: &[u8]) -> bool {
+    let mut rest = written;
+    for _ in 0..written.len() {
+        let Some((reply, behind)) = split_frame(rest) else {
+            break;
+        };
+        if !is_reply(reply) {
+            return false;
+        }
+        rest = behind;
+    }
+    rest.is_empty()
+}
+
+// Whether each frame of some bytes is read as the next of these replies, and nothing stands behind the last.
+fn are_read(written: &[u8], replies: &[Reply<'static>]) -> bool {
     let mut rest = written;
     for expected in replies {
         let Some((reply, behind)) = split_frame(rest) else {
             break;
         };
-        assert_eq!(rt; decode_reply(reply), Some(*expected));
+        if !is_read(reply, *expected) {
+            return false;
+        }
         rest = behind;
     }
-    assert!(rt; rest.is_empty());
+    rest.is_empty()
 }
 
 static TWO_PUTS: &[Ask] = &[
@@ -149,24 +180,25 @@ static ANSWERS: &[Reply<'static>] = &[
     Reply::Stopping,
 ];
 
-// Serves frames over an engine, and compares the replies.
-fn expect_answers(
-    rt: &impl Abort,
-    alloc: Global,
-    engine: &mut PlainEngine,
-) -> Result<(), EncodeFault> {
+// Serves frames over an engine: how many bytes are written, and whether they are the replies.
+fn answers(alloc: Global, engine: &mut PlainEngine) -> Result<(usize, bool), EncodeFault> {
     let sent = frames(alloc, TWO_PUTS)?;
     let list = pieces(alloc, sent.as_slice(), 1_000)?;
     let ran = run(alloc, engine, list, None, None);
-    assert_eq!(rt; ran.link.written().len(), 132);
-    are_replies(rt, ran.link.written(), ANSWERS);
-    Ok(())
+    let written = ran.link.written();
+    Ok((written.len(), are_read(written, ANSWERS)))
+}
+
+// The same over a new engine.
+fn answers_anew<R: RandomSource>(rt: &R, alloc: Global) -> Result<(usize, bool), Fail> {
+    let mut engine = small_engine(rt, alloc)?;
+    Ok(answers(alloc, &mut engine)?)
 }
 
 #[test]
 fn the_replies_of_a_session_are_read(rt: HostRuntime) -> Result<(), Fail> {
-    let mut engine = small_engine(&rt, rt.alloc())?;
-    expect_answers(&rt, rt.alloc(), &mut engine)?;
+    let found = answers_anew(&rt, rt.alloc())?;
+    assert!(rt; same(&rt, &found, &(132, true)));
     Ok(())
 }
 
@@ -188,12 +220,16 @@ static NONE: &[&str] = &[
     "00000009 ff 29 0000000000000000",
 ];
 
+fn spells_reply(alloc: Global, digits: &str) -> Result<bool, AllocError> {
+    let bytes = bytes_of(alloc, digits)?;
+    Ok(is_reply(bytes.as_slice()))
+}
+
 #[test]
 fn other_bytes_are_no_reply(rt: HostRuntime) -> Result<(), Fail> {
-    let alloc = rt.alloc();
     for digits in NONE {
-        let bytes = bytes_of(alloc, *digits)?;
-        assert!(rt; !is_reply(bytes.as_slice()));
+        let is_one = spells_reply(rt.alloc(), digits)?;
+        assert!(rt; holds_at(&rt, digits, !is_one));
     }
     Ok(())
 }
@@ -214,11 +250,16 @@ fn with_head(alloc: Global, head: &[u8], len: usize) -> Result<Vec<u8>, AllocErr
     Ok(bytes)
 }
 
+// The length of the longest text, and whether one that is a byte longer is a reply.
+fn longest(alloc: Global) -> Result<(Option<usize>, bool), AllocError> {
+    let longest = with_head(alloc, &[4, 0, 0, 0, 0x85], 67_108_864)?;
+    let longer = with_head(alloc, &[4, 0, 0, 1, 0x85], 67_108_865)?;
+    Ok((text_len(longest.as_slice()), is_reply(longer.as_slice())))
+}
+
 #[test]
 fn a_text_is_read_up_to_the_longest_body(rt: HostRuntime) -> Result<(), Fail> {
-    let longest = with_head(rt.alloc(), &[4, 0, 0, 0, 0x85], 67_108_864)?;
-    assert_eq!(rt; text_len(longest.as_slice()), Some(67_108_864));
-    let longer = with_head(rt.alloc(), &[4, 0, 0, 1, 0x85], 67_108_865)?;
-    assert!(rt; !is_reply(longer.as_slice()));
+    let found = longest(rt.alloc())?;
+    assert!(rt; same(&rt, &found, &(Some(67_108_864), false)));
     Ok(())
 }

@@ -1,16 +1,18 @@
 //! Whole sessions, each over a new engine of three rows, three columns, a limit of 100 and at most 10 batches.
 
-use crate::asks::{Ask, Session, check, exchange, expect_status, frame, put_frame, small_engine};
+use crate::asks::{
+    Ask, Outcome, Session, exchanged, frame, put_frame, small_engine, told, told_anew, wanted,
+};
 use crate::hex::bytes_of;
 use batch_store::Setup;
 use byte_io_tests::pieces;
 use mm_text::Script;
 use plain_engine::PlainEngine;
-use std::alloc::Global;
-use std::process::Abort;
+use std::alloc::{AllocError, Global};
 use std::random::RandomSource;
 use std::test::Fail;
-use wire_proto::{Ended, serve_engine};
+use test_support::{same, same_at};
+use wire_proto::{EncodeFault, Ended, serve_engine};
 
 const FIVE: &str = "3 3 1\n1 1 5\n";
 
@@ -161,20 +163,11 @@ static SESSIONS: &[Session] = &[
     ),
 ];
 
-// Runs a session over a new engine.
-fn check_new<R: RandomSource + Abort>(
-    rt: &R,
-    alloc: Global,
-    session: &Session,
-) -> Result<(), Fail> {
-    let mut engine = small_engine(rt, alloc)?;
-    check(rt, alloc, &mut engine, session)
-}
-
 #[test]
 fn sessions_are_answered(rt: HostRuntime) -> Result<(), Fail> {
     for session in SESSIONS {
-        check_new(&rt, rt.alloc(), session)?;
+        let found = told_anew(&rt, rt.alloc(), session)?;
+        assert!(rt; same_at(&rt, &session.1, &found, &wanted(session)));
     }
     Ok(())
 }
@@ -236,36 +229,43 @@ fn refusal(alloc: Global, digits: &str) -> Result<Vec<u8>, Fail> {
     Ok(bytes)
 }
 
-// Sends a frame to a new engine, which refuses it and goes on.
-fn refuses<R: RandomSource + Abort>(
+// What becomes of this frame at a new engine that is expected to refuse it so.
+fn refused<R: RandomSource>(
     rt: &R,
     alloc: Global,
     sent: &[u8],
     digits: &str,
-) -> Result<(), Fail> {
+) -> Result<Outcome, Fail> {
     let expected = refusal(alloc, digits)?;
     let mut engine = small_engine(rt, alloc)?;
-    let end = Ended::Closed { rest: 0 };
-    exchange(rt, alloc, &mut engine, sent, end, expected.as_slice())?;
-    expect_status(rt, &engine, 0, 0);
-    Ok(())
+    Ok(exchanged(alloc, &mut engine, sent, expected.as_slice())?)
 }
+
+// It refuses it, and goes on.
+const REFUSED: Outcome = (Ended::Closed { rest: 0 }, true, (0, 0));
 
 #[test]
 fn texts_are_refused(rt: HostRuntime) -> Result<(), Fail> {
     for (ask, digits) in REFUSED_TEXTS {
         let sent = frame(rt.alloc(), *ask)?;
-        refuses(&rt, rt.alloc(), sent.as_slice(), *digits)?;
+        let found = refused(&rt, rt.alloc(), sent.as_slice(), digits)?;
+        assert!(rt; same_at(&rt, digits, &found, &REFUSED));
     }
     Ok(())
 }
 
+// A put of a line of 1,025 blanks.
+fn long_line(alloc: Global) -> Result<Vec<u8>, EncodeFault> {
+    let blanks = vec![in alloc; b' '; 1_025]?;
+    put_frame(alloc, (7, 1), blanks.as_slice())
+}
+
 #[test]
 fn a_line_of_a_put_has_at_most_1024_bytes(rt: HostRuntime) -> Result<(), Fail> {
-    let alloc = rt.alloc();
-    let blanks = vec![in alloc; b' '; 1_025]?;
-    let sent = put_frame(alloc, (7, 1), blanks.as_slice())?;
-    refuses(&rt, alloc, sent.as_slice(), "0069 0000000000000002")
+    let sent = long_line(rt.alloc())?;
+    let found = refused(&rt, rt.alloc(), sent.as_slice(), "0069 0000000000000002")?;
+    assert!(rt; same(&rt, &found, &REFUSED));
+    Ok(())
 }
 
 static ONE_BATCH: Session = (
@@ -285,29 +285,36 @@ static ONE_BATCH: Session = (
     (1, 5),
 );
 
-#[test]
-fn a_full_book_is_told_last(rt: HostRuntime) -> Result<(), Fail> {
+// What becomes of it where a book holds one batch.
+fn told_by_full_book<R: RandomSource>(rt: &R, alloc: Global) -> Result<(Outcome, bool), Fail> {
     let setup = Setup::new(3, 3, &[], 1, 100, 1)?;
-    let mut engine = PlainEngine::new(&rt, rt.alloc(), setup)?;
-    check(&rt, rt.alloc(), &mut engine, &ONE_BATCH)
+    let mut engine = PlainEngine::new(rt, alloc, setup)?;
+    Ok(told(alloc, &mut engine, &ONE_BATCH)?)
 }
 
-// Serves four bytes in as many reads, of which so many are allowed, and writes nothing.
-fn ends_after(alloc: Global, engine: &mut PlainEngine, turns: u64) -> Result<Ended, Fail> {
+#[test]
+fn a_full_book_is_told_last(rt: HostRuntime) -> Result<(), Fail> {
+    let found = told_by_full_book(&rt, rt.alloc())?;
+    assert!(rt; same(&rt, &found, &wanted(&ONE_BATCH)));
+    Ok(())
+}
+
+// Serves four bytes in as many reads, of which so many are allowed: how it ends, and how many bytes are written.
+fn ends_after(
+    alloc: Global,
+    engine: &mut PlainEngine,
+    turns: u64,
+) -> Result<(Ended, usize), AllocError> {
     let list = pieces(alloc, &[0, 0, 0, 0], 1)?;
     let mut link = Script::new(alloc, list, None, None);
     let ended = serve_engine(alloc, &mut link, engine, turns);
-    if link.written().is_empty() {
-        Ok(ended)
-    } else {
-        Err("something was written".into())
-    }
+    Ok((ended, link.written().len()))
 }
 
 #[test]
 fn turns_are_counted(rt: HostRuntime) -> Result<(), Fail> {
     let mut engine = small_engine(&rt, rt.alloc())?;
-    let ended = ends_after(rt.alloc(), &mut engine, 3)?;
-    assert_eq!(rt; ended, Ended::TooManyTurns);
+    let found = ends_after(rt.alloc(), &mut engine, 3)?;
+    assert!(rt; same(&rt, &found, &(Ended::TooManyTurns, 0)));
     Ok(())
 }

@@ -9,10 +9,10 @@ use hyper_matrix::RowSum;
 use mm_text::Script;
 use plain_engine::{PutFault, Status, ViewedSum};
 use std::alloc::{AllocError, Global};
-use std::process::Abort;
 use std::sync::Arc;
 use std::test::Fail;
-use wire_proto::{Ended, Keeper, SaveRefusal, serve};
+use test_support::same_at;
+use wire_proto::{EncodeFault, Ended, Keeper, SaveRefusal, serve};
 
 // A store that keeps nothing. It refuses each batch, and answers a save as it was told to; it has no memory to export.
 #[derive(Clone, Copy, Drop)]
@@ -132,42 +132,37 @@ static CASES: &[Case] = &[
     ),
 ];
 
-// Asks a store, and compares what comes back and how the session ends.
-fn check(
-    rt: &impl Abort,
+// How the session ends, and whether these bytes come back.
+fn served(
     alloc: Global,
     store: &mut Told,
     sent: &[u8],
     expected: &[u8],
-    ended: Ended,
-) -> Result<(), AllocError> {
+) -> Result<(Ended, bool), AllocError> {
     let list = pieces(alloc, sent, sent.len())?;
     let mut link = Script::new(alloc, list, None, None);
-    assert_eq!(rt; serve(alloc, &mut link, store, 100), ended);
-    assert!(rt; link.written() == expected);
-    Ok(())
+    let ended = serve(alloc, &mut link, store, 100);
+    Ok((ended, link.written() == expected))
+}
+
+// The same of a case.
+fn case_served(alloc: Global, store: &mut Told, case: &Case) -> Result<(Ended, bool), EncodeFault> {
+    let sent = frame(alloc, case.2)?;
+    let expected = bytes_of(alloc, case.3)?;
+    Ok(served(alloc, store, sent.as_slice(), expected.as_slice())?)
 }
 
 #[test]
 fn stores_are_answered_for(rt: HostRuntime) -> Result<(), Fail> {
-    let alloc = rt.alloc();
     let setup = small_setup()?;
-    for (refusal, saved, ask, digits, ended) in CASES {
-        let sent = frame(alloc, *ask)?;
-        let expected = bytes_of(alloc, *digits)?;
+    for case in CASES {
         let mut store = Told {
             setup,
-            refusal: *refusal,
-            saved: *saved,
+            refusal: case.0,
+            saved: case.1,
         };
-        check(
-            &rt,
-            alloc,
-            &mut store,
-            sent.as_slice(),
-            expected.as_slice(),
-            *ended,
-        )?;
+        let found = case_served(rt.alloc(), &mut store, case)?;
+        assert!(rt; same_at(&rt, &case.3, &found, &(case.4, true)));
     }
     Ok(())
 }

@@ -1,16 +1,17 @@
 //! A session over a link that moves one byte a call, and of which each call fails in turn.
 ghost use Rattle.std.specs.Prelude.{◌≡◌, ◌+◌, ◌-◌, ◌<◌, ◌≤◌, ◌^◌, OnOk};
 
-use crate::asks::{expect_status, frames, small_engine};
+use crate::asks::{Outcome, frames, small_engine};
 use crate::cuts::{ASKS, REPLIES};
-use crate::failures::again;
+use crate::failures::{AGAIN, again};
 use crate::hex::bytes_of;
 use byte_io::{Link, Once, Script, Sink, Source, Trickle};
 use byte_io_tests::pieces;
-use std::alloc::Global;
-use std::process::Abort;
+use plain_engine::PlainEngine;
+use std::alloc::{AllocError, Global};
 use std::random::RandomSource;
 use std::test::Fail;
+use test_support::{same, same_at};
 use wire_proto::{EncodeFault, Ended, serve_engine};
 
 // More reads than the session has.
@@ -33,66 +34,92 @@ fn expect_new<L: Link>(link: &L) -> Result<(), Fail>
     Ok(())
 }
 
+// How a session ended, how many calls its link had and how many of them failed, and how many bytes were written and
+// whether they are the first of the replies.
+type Slow = (Ended, (u64, u64), (u64, bool));
+
+// Serves the session over a link whose call fails.
+fn served(alloc: Global, engine: &mut PlainEngine, call: u32) -> Result<Slow, Fail> {
+    let mut once = Once::new(slow_link(alloc)?, u64::from(call));
+    expect_new(&once)?;
+    let ended = serve_engine(alloc, &mut once, engine, TURNS);
+    let calls = (once.calls(), Source::failures(&once));
+    let written = once.inner().inner().written();
+    Ok((
+        ended,
+        calls,
+        (written.len() as u64, begins(alloc, written)?),
+    ))
+}
+
+// Whether the replies begin with these bytes.
+fn begins(alloc: Global, written: &[u8]) -> Result<bool, AllocError> {
+    let replies = bytes_of(alloc, REPLIES)?;
+    Ok(replies.as_slice().starts_with(written))
+}
+
+// What became of the session, what was accepted then, and what became of one behind it over a link that doesn't fail.
+type Found = (Slow, (u64, u64), Outcome);
+
+// Serves both over an engine.
+fn served_twice(alloc: Global, engine: &mut PlainEngine, call: u32) -> Result<Found, Fail> {
+    let slow = served(alloc, engine, call)?;
+    let status = engine.status();
+    let behind = again(alloc, engine)?;
+    Ok((slow, (status.batches, status.total), behind))
+}
+
+// Serves both over a new engine.
+fn served_anew<R: RandomSource>(rt: &R, alloc: Global, call: u32) -> Result<Found, Fail> {
+    let mut engine = small_engine(rt, alloc)?;
+    served_twice(alloc, &mut engine, call)
+}
+
 #[test]
 fn a_session_byte_by_byte(rt: HostRuntime) -> Result<(), Fail> {
-    let alloc = rt.alloc();
-    let mut engine = small_engine(&rt, alloc)?;
-    let mut once = Once::new(slow_link(alloc)?, 1_000_000);
-    expect_new(&once)?;
-    let ended = serve_engine(alloc, &mut once, &mut engine, TURNS);
-    assert_eq!(&rt; ended, Ended::Closed { rest: 0 });
-    let expected = bytes_of(alloc, REPLIES)?;
-    assert!(&rt; once.inner().inner().written() == expected.as_slice());
-    assert_eq!(&rt; once.calls(), 242);
-    expect_status(&rt, &engine, 2, 8);
+    let found = served_anew(&rt, rt.alloc(), 1_000_000)?;
+    let slow = (Ended::Closed { rest: 0 }, (242, 0), (56, true));
+    assert!(rt; same(&rt, &found, &(slow, (2, 8), AGAIN)));
     Ok(())
 }
 
-/// How a session ends whose call with this number fails, how many bytes are written, and how many batches accepted.
-///
-/// The frames have 82, 82 and 21 bytes, their replies 21, 21 and 14, and each reply is written before more is read; the
-/// last read gives none.
-fn failing(call: u64) -> (Ended, u64, u64) {
-    let write = |written: u64| Ended::WriteFault {
+// How a session ends behind so many bytes.
+fn write_fault(written: u64) -> Ended {
+    Ended::WriteFault {
         written: u128::from(written),
-    };
-    match call {
-        0..=81 => (Ended::ReadFault, 0, 0),
-        82..=102 => (write(call - 82), call - 82, 1),
-        103..=184 => (Ended::ReadFault, 21, 1),
-        185..=205 => (write(call - 164), call - 164, 2),
-        206..=226 => (Ended::ReadFault, 42, 2),
-        227..=240 => (write(call - 185), call - 185, 2),
-        241 => (Ended::ReadFault, 56, 2),
-        _ => (Ended::Closed { rest: 0 }, 56, 2),
     }
 }
 
-// Serves the session over a link whose call fails: it ends at that call, and makes no further one.
-fn expect_failing<R: RandomSource + Abort>(rt: &R, alloc: Global, call: u32) -> Result<(), Fail> {
-    let mut engine = small_engine(rt, alloc)?;
-    let mut once = Once::new(slow_link(alloc)?, u64::from(call));
-    expect_new(&once)?;
-    let ended = serve_engine(alloc, &mut once, &mut engine, TURNS);
-    let (wanted, written, batches) = failing(u64::from(call));
-    assert_eq!(rt; ended, wanted);
-    assert_eq!(rt; once.calls(), u64::from(call.min(241)) + 1);
-    assert_eq!(rt; Source::failures(&once), u64::from(call < 242));
-    assert_eq!(rt; once.inner().inner().written().len() as u64, written);
-    assert_eq!(rt; engine.status().batches, batches);
-    let expected = bytes_of(alloc, REPLIES)?;
-    assert!(rt;
-        expected
-            .as_slice()
-            .starts_with(once.inner().inner().written())
-    );
-    again(rt, alloc, &mut engine, expected.as_slice())
+/// How a session ends whose call with this number fails, how many bytes are written, and what is accepted.
+///
+/// The frames have 82, 82 and 21 bytes, their replies 21, 21 and 14, and each reply is written before more is read; the
+/// last read gives none.
+fn failing(call: u64) -> (Ended, u64, (u64, u64)) {
+    match call {
+        0..=81 => (Ended::ReadFault, 0, (0, 0)),
+        82..=102 => (write_fault(call - 82), call - 82, (1, 5)),
+        103..=184 => (Ended::ReadFault, 21, (1, 5)),
+        185..=205 => (write_fault(call - 164), call - 164, (2, 8)),
+        206..=226 => (Ended::ReadFault, 42, (2, 8)),
+        227..=240 => (write_fault(call - 185), call - 185, (2, 8)),
+        241 => (Ended::ReadFault, 56, (2, 8)),
+        _ => (Ended::Closed { rest: 0 }, 56, (2, 8)),
+    }
+}
+
+// A session whose call with this number fails ends at that call, and makes no further one.
+fn wanted(call: u32) -> Found {
+    let call = u64::from(call);
+    let end = failing(call);
+    let calls = (call.min(241) + 1, u64::from(call < 242));
+    ((end.0, calls, (end.1, true)), end.2, AGAIN)
 }
 
 #[test]
 fn each_call_fails_in_turn(rt: HostRuntime) -> Result<(), Fail> {
-    for call in 0..=242 {
-        expect_failing(&rt, rt.alloc(), call)?;
+    for call in 0..=242u32 {
+        let found = served_anew(&rt, rt.alloc(), call)?;
+        assert!(rt; same_at(&rt, &call, &found, &wanted(call)));
     }
     Ok(())
 }
