@@ -4,7 +4,7 @@ ghost use Rattle.std.specs.Prelude.{◌≡◌, ◌+◌, ◌<◌, ◌^◌, OnOk};
 ghost use Rattle.batch_store.specs.Accepted.{entries_in};
 ghost use Rattle.locked_engine.specs.Opened.{NamesEngine};
 
-use crate::engines::{closed, expect_status, opened, unopened};
+use crate::engines::{accepted_by, closed, opened, unopened};
 use byte_io::{Link, Once, Script, Sink, Source, Trickle};
 use byte_io_tests::pieces;
 use locked_engine::{Engine, Named, Names, Seat};
@@ -12,11 +12,11 @@ use plain_engine::PlainEngine;
 use session_pool::{Disk, Saver, SeatKeeper};
 use std::alloc::{AllocError, Global};
 use std::marker::Brand;
-use std::process::Abort;
 use std::random::RandomSource;
 use std::sync::Wait;
 use std::sync::ledger::Ledger;
 use std::test::Fail;
+use test_support::same_at;
 use wire_proto::{Ended, serve};
 
 // A Put of client 7, number 1, with one count of 5 at row 0 and column 0, and what it is answered.
@@ -129,7 +129,7 @@ fn failed_write(taken: u64, accepted: (u64, u64)) -> End {
 const STEP: u64 = 8;
 
 // The frames have 456 bytes, which are 57 reads, and the replies are 39 writes: this call is the read that gives none.
-const LAST: u32 = 96;
+const LAST: u64 = 96;
 
 // How the session ends whose call with this number fails. A frame is answered once it was read to its end, whatever
 // came behind it, and its reply is written before more is read.
@@ -205,56 +205,77 @@ fn serve_by<N: Named, H: Ledger, R: Wait + Disk, L: Link>(
     Ok(serve(alloc, link, &mut keeper, 1 << 40))
 }
 
-// The call with this number fails: the session ends there, and makes no further call.
-fn serve_failing<N: Named, H: Ledger, R: Wait + Disk + Abort>(
+// How many bytes were taken, where they are the first of the replies.
+fn taken_of(alloc: Global, written: &[u8]) -> Result<Option<u64>, AllocError> {
+    let replies = joined(alloc, true)?;
+    let begins = replies.as_slice().starts_with(written);
+    Ok(begins.then_some(written.len() as u64))
+}
+
+// How a session ended, how many calls its link had and how many of them failed, and how many bytes of the replies it
+// took.
+type Outcome = (Ended, (u64, u64), Option<u64>);
+
+// The call with this number fails.
+fn serve_failing<N: Named, H: Ledger, R: Wait + Disk>(
     rt: &R,
     alloc: Global,
     engine: &Engine<N, H>,
     seat: &mut Seat<N, H>,
     call: u32,
-) -> Result<(), Fail> {
+) -> Result<Outcome, Fail> {
     let mut once = Once::new(Trickle::new(link(alloc)?, STEP as usize), u64::from(call));
     let ended = serve_by(rt, alloc, engine, seat, &mut once)?;
-    let end = end_at(u64::from(call));
-    assert_eq!(rt; ended, end.ended);
-    assert_eq!(rt; once.calls(), u64::from(call.min(LAST)) + 1);
-    assert_eq!(rt; Source::failures(&once), u64::from(call <= LAST));
-    let replies = joined(alloc, true)?;
-    assert!(rt; replies.get(..end.taken as usize) == Some(once.inner().inner().written()));
-    let status = engine.status(seat);
-    assert_eq!(rt; (status.batches, status.total), end.accepted);
-    Ok(())
+    let calls = (once.calls(), Source::failures(&once));
+    let taken = taken_of(alloc, once.inner().inner().written())?;
+    Ok((ended, calls, taken))
 }
 
+// The session ends at the call that fails, and makes no further call.
+fn wanted(call: u64) -> (Outcome, (u64, u64)) {
+    let end = end_at(call);
+    let calls = (call.min(LAST) + 1, u64::from(call <= LAST));
+    ((end.ended, calls, Some(end.taken)), end.accepted)
+}
+
+// How a session ended, and how many bytes of the replies were taken.
+type Whole = (Ended, Option<u64>);
+
+// All 277 bytes of the replies.
+const WHOLE: Whole = (Ended::Closed { rest: 0 }, Some(277));
+
 // The session without a failure, in one read, whatever was accepted before.
-fn serve_whole<N: Named, H: Ledger, R: Wait + Disk + Abort>(
+fn serve_whole<N: Named, H: Ledger, R: Wait + Disk>(
     rt: &R,
     alloc: Global,
     engine: &Engine<N, H>,
     seat: &mut Seat<N, H>,
-) -> Result<(), Fail> {
+) -> Result<Whole, Fail> {
     let mut script = link(alloc)?;
     let ended = serve_by(rt, alloc, engine, seat, &mut script)?;
-    assert_eq!(rt; ended, Ended::Closed { rest: 0 });
-    let replies = joined(alloc, true)?;
-    assert!(rt; script.written() == replies.as_slice());
-    Ok(())
+    Ok((ended, taken_of(alloc, script.written())?))
 }
 
-fn serve_twice<N: Named, H: Ledger, R: Wait + Disk + Abort>(
+// What became of the session and what was accepted then, and what became of the one behind it, where one was asked for.
+type Twice = ((Outcome, (u64, u64)), Option<Whole>);
+
+fn serve_twice<N: Named, H: Ledger, R: Wait + Disk>(
     rt: &R,
     alloc: Global,
     engine: &Engine<N, H>,
     seats: &mut [Seat<N, H>],
     call: u32,
     again: bool,
-) -> Result<(), Fail> {
+) -> Result<Twice, Fail> {
     let seat = seats.first_mut().ok_or("no seat")?;
-    serve_failing(rt, alloc, engine, seat, call)?;
+    let outcome = serve_failing(rt, alloc, engine, seat, call)?;
+    let status = engine.status(seat);
+    let first = (outcome, (status.batches, status.total));
     if again {
-        serve_whole(rt, alloc, engine, seat)?;
+        Ok((first, Some(serve_whole(rt, alloc, engine, seat)?)))
+    } else {
+        Ok((first, None))
     }
-    Ok(())
 }
 
 // The totals of both shards together.
@@ -264,41 +285,40 @@ fn total_of_shards(closed: &PlainEngine) -> Option<u64> {
     first.checked_add(second)
 }
 
-fn opened_and_closed<N: Named, H: Ledger, R: Wait + Disk + Abort>(
+// Both sessions, and what the engine has accepted once it is closed, in its book and in its shards.
+type Found = (Twice, (u64, u64), Option<u64>);
+
+fn opened_and_closed<N: Named, H: Ledger, R: Wait + Disk>(
     rt: &R,
     alloc: Global,
     plain: PlainEngine,
     names: Names,
     call: u32,
     again: bool,
-) -> Result<(), Fail>
+) -> Result<Found, Fail>
     requires named { NamesEngine names N.setup N.seats N.history N.name N.parts H.name H.parts }
     requires made_from { plain.setup ≡ names.setup }
     requires opened { entries_in plain.book.state ≡ N.opened }
 {
     let (engine, mut seats) = opened::<N, H>(alloc, plain, names)?;
-    if let Err(fail) = serve_twice(rt, alloc, &engine, &mut seats, call, again) {
-        engine.end(rt);
-        return Err(fail);
-    }
-    let closed = closed(rt, alloc, engine, seats)?;
-    let accepted = if again {
-        (3, 10)
-    } else {
-        end_at(u64::from(call)).accepted
+    let found = match serve_twice(rt, alloc, &engine, &mut seats, call, again) {
+        Ok(found) => found,
+        Err(fail) => {
+            engine.end(rt);
+            return Err(fail);
+        }
     };
-    expect_status(rt, &closed, accepted);
-    assert_eq!(rt; total_of_shards(&closed), Some(accepted.1));
-    Ok(())
+    let closed = closed(rt, alloc, engine, seats)?;
+    Ok((found, accepted_by(&closed), total_of_shards(&closed)))
 }
 
 // The session over a new engine, and again where asked for; then the engine is closed.
-fn over_a_new_engine<R: Wait + Disk + Abort + RandomSource>(
+fn over_a_new_engine<R: Wait + Disk + RandomSource>(
     rt: &R,
     alloc: Global,
     call: u32,
     again: bool,
-) -> Result<(), Fail> {
+) -> Result<Found, Fail> {
     let (plain, names) = unopened(rt, alloc, 2)?;
     opened_and_closed::<Brand, Brand, R>(rt, alloc, plain, names, call, again)
 }
@@ -306,7 +326,17 @@ fn over_a_new_engine<R: Wait + Disk + Abort + RandomSource>(
 #[test]
 fn each_call_fails_in_turn(rt: HostRuntime) -> Result<(), Fail> {
     for call in 0..=97u32 {
-        over_a_new_engine(&rt, rt.alloc(), call, false)?;
+        let found = over_a_new_engine(&rt, rt.alloc(), call, false)?;
+        let first = wanted(u64::from(call));
+        let accepted = first.1;
+        assert!(rt;
+            same_at(
+                &rt,
+                &call,
+                &found,
+                &((first, None), accepted, Some(accepted.1))
+            )
+        );
     }
     Ok(())
 }
@@ -314,7 +344,9 @@ fn each_call_fails_in_turn(rt: HostRuntime) -> Result<(), Fail> {
 #[test]
 fn a_session_behind_a_failed_one_gets_all_replies(rt: HostRuntime) -> Result<(), Fail> {
     for call in 0..=97u32 {
-        over_a_new_engine(&rt, rt.alloc(), call, true)?;
+        let found = over_a_new_engine(&rt, rt.alloc(), call, true)?;
+        let both = (wanted(u64::from(call)), Some(WHOLE));
+        assert!(rt; same_at(&rt, &call, &found, &(both, (3, 10), Some(10))));
     }
     Ok(())
 }

@@ -11,7 +11,6 @@ use plain_engine::PlainEngine;
 use session_pool::{Disk, Gate, PoolFault, PoolReport, Saver, Session, run_pool};
 use std::alloc::Global;
 use std::marker::Brand;
-use std::process::Abort;
 use std::random::RandomSource;
 use std::sync::Wait;
 use std::sync::ledger::Ledger;
@@ -35,8 +34,7 @@ pub fn unopened(
     Ok((plain, names))
 }
 
-/// What a pool did over these sessions, or why it did nothing, and the engine of one thread once all seats were given
-/// back.
+/// What a pool did over sessions, or why it did nothing, and the engine of one thread once all seats were given back.
 pub type Outcome = (Result<PoolReport, PoolFault>, PlainEngine);
 
 /// The engine of several threads that has these names, and its seats.
@@ -200,38 +198,37 @@ pub fn pool_over<G: Gate<R> + Sync, R: Threads + Wait + Disk + RandomSource + Sy
     pooled::<Brand, Brand, G, R>(rt, alloc, plain, names, workers, gate, saver, &sessions)
 }
 
-/// Serves sessions over these links by a pool with all of an engine's seats and without snapshots, and compares how
-/// many were served, and the number of batches that are accepted then and their total.
-pub fn expect_pool<G: Gate<R> + Sync, R: Threads + Wait + Disk + RandomSource + Abort + Sync>(
+/// What a pool did over sessions, or why it did nothing, and the number of batches that are accepted then and their
+/// total.
+pub type Found = (Result<PoolReport, PoolFault>, (u64, u64));
+
+/// Serves sessions over these links by a pool with the first `workers` of an engine's seats and without snapshots.
+pub fn found_over<G: Gate<R> + Sync, R: Threads + Wait + Disk + RandomSource + Sync>(
     rt: &R,
     alloc: Global,
+    seats: usize,
     workers: usize,
     gate: &G,
     links: Vec<Script>,
-    count: u64,
-    accepted: (u64, u64),
-) -> Result<(), Fail> {
+) -> Result<Found, Fail> {
     let saver = Saver::new(None);
-    let outcome = pool_over(rt, alloc, workers, workers, gate, &saver, links)?;
-    expect_served(rt, &outcome, workers as u64, count, accepted);
-    Ok(())
+    let outcome = pool_over(rt, alloc, seats, workers, gate, &saver, links)?;
+    Ok(found_of(&outcome))
+}
+
+/// The plain values of an outcome.
+pub fn found_of(outcome: &Outcome) -> Found {
+    (outcome.0, accepted_by(&outcome.1))
 }
 
 /// A pool started so many workers, which served so many sessions, and the engine has accepted this many batches of this
 /// total.
-pub fn expect_served(
-    rt: &impl Abort,
-    outcome: &Outcome,
-    started: u64,
-    served: u64,
-    accepted: (u64, u64),
-) {
-    assert_eq!(rt; outcome.0, Ok(PoolReport { started, served }));
-    expect_status(rt, &outcome.1, accepted);
+pub fn served_by(started: u64, served: u64, accepted: (u64, u64)) -> Found {
+    (Ok(PoolReport { started, served }), accepted)
 }
 
 /// The number of accepted batches and their total.
-pub fn expect_status(rt: &impl Abort, closed: &PlainEngine, accepted: (u64, u64)) {
+pub fn accepted_by(closed: &PlainEngine) -> (u64, u64) {
     let status = closed.status();
-    assert_eq!(rt; (status.batches, status.total), accepted);
+    (status.batches, status.total)
 }

@@ -3,7 +3,7 @@ ghost use Rattle.std.specs.Prelude.{◌≡◌, ◌+◌, ◌<◌, ◌^◌};
 ghost use Rattle.batch_store.specs.Accepted.{entries_in};
 ghost use Rattle.locked_engine.specs.Opened.{NamesEngine};
 
-use crate::engines::{closed, expect_status, opened, unopened};
+use crate::engines::{accepted_by, closed, opened, unopened};
 use crate::frames::{REPLIES, two_puts_and_a_cell};
 use crate::gates::end_after;
 use byte_io::Script;
@@ -13,11 +13,11 @@ use plain_engine::PlainEngine;
 use session_pool::{Disk, Saver, SeatKeeper};
 use std::alloc::{AllocError, Global};
 use std::marker::Brand;
-use std::process::Abort;
 use std::random::RandomSource;
 use std::sync::Wait;
 use std::sync::ledger::Ledger;
 use std::test::Fail;
+use test_support::same_at;
 use wire_proto::{Ended, serve};
 
 // What fails of a session's calls, how it ends, how many bytes of the replies are taken, and what is accepted then.
@@ -94,80 +94,102 @@ fn serve_link<N: Named, H: Ledger, R: Wait + Disk>(
     serve(alloc, link, &mut keeper, 1 << 40)
 }
 
-// Serves a session of a case, and compares its end and the bytes that its link took.
-fn serve_case<N: Named, H: Ledger, R: Wait + Disk + Abort>(
+// How a session ended, whether the bytes that its link took are those of the replies, and what is accepted then.
+type Outcome = (Ended, bool, (u64, u64));
+
+// What is to become of a case.
+fn wanted(case: &Case) -> Outcome {
+    (case.ended, true, case.accepted)
+}
+
+// Serves a session of a case.
+fn serve_case<N: Named, H: Ledger, R: Wait + Disk>(
     rt: &R,
     alloc: Global,
     engine: &Engine<N, H>,
     seat: &mut Seat<N, H>,
     case: &Case,
-) -> Result<(), AllocError> {
+) -> Result<Outcome, AllocError> {
     let pieces = pieces_of(alloc, case.by_byte)?;
     let mut link = Script::new(alloc, pieces, case.fail_read, case.fail_write);
     let ended = serve_link(rt, alloc, engine, seat, &mut link);
-    assert_eq!(rt; ended, case.ended);
-    assert!(rt; REPLIES.get(..case.taken) == Some(link.written()));
-    Ok(())
+    let status = engine.status(seat);
+    Ok((
+        ended,
+        REPLIES.get(..case.taken) == Some(link.written()),
+        (status.batches, status.total),
+    ))
 }
 
 // A session of a case, and then one that doesn't fail.
-fn serve_again<N: Named, H: Ledger, R: Wait + Disk + Abort>(
+fn serve_again<N: Named, H: Ledger, R: Wait + Disk>(
     rt: &R,
     alloc: Global,
     engine: &Engine<N, H>,
     seats: &mut [Seat<N, H>],
     case: &Case,
-) -> Result<(), Fail> {
+) -> Result<[Outcome; 2], Fail> {
     let seat = seats.first_mut().ok_or("no seat")?;
-    serve_case(rt, alloc, engine, seat, case)?;
-    let status = engine.status(seat);
-    assert_eq!(rt; (status.batches, status.total), case.accepted);
-    serve_case(rt, alloc, engine, seat, &WHOLE)?;
-    Ok(())
+    let first = serve_case(rt, alloc, engine, seat, case)?;
+    let second = serve_case(rt, alloc, engine, seat, &WHOLE)?;
+    Ok([first, second])
 }
 
-fn opened_and_closed<N: Named, H: Ledger, R: Wait + Disk + Abort>(
+// The outcomes of both sessions, and what the engine has accepted once it is closed.
+type Found = ([Outcome; 2], (u64, u64));
+
+fn opened_and_closed<N: Named, H: Ledger, R: Wait + Disk>(
     rt: &R,
     alloc: Global,
     plain: PlainEngine,
     names: Names,
     case: &Case,
-) -> Result<(), Fail>
+) -> Result<Found, Fail>
     requires named { NamesEngine names N.setup N.seats N.history N.name N.parts H.name H.parts }
     requires made_from { plain.setup ≡ names.setup }
     requires opened { entries_in plain.book.state ≡ N.opened }
 {
     let (engine, mut seats) = opened::<N, H>(alloc, plain, names)?;
-    if let Err(fail) = serve_again(rt, alloc, &engine, &mut seats, case) {
-        engine.end(rt);
-        return Err(fail);
-    }
+    let found = match serve_again(rt, alloc, &engine, &mut seats, case) {
+        Ok(found) => found,
+        Err(fail) => {
+            engine.end(rt);
+            return Err(fail);
+        }
+    };
     let closed = closed(rt, alloc, engine, seats)?;
-    expect_status(rt, &closed, WHOLE.accepted);
-    Ok(())
+    Ok((found, accepted_by(&closed)))
 }
 
-fn over_a_new_engine<R: Wait + Disk + Abort + RandomSource>(
+fn over_a_new_engine<R: Wait + Disk + RandomSource>(
     rt: &R,
     alloc: Global,
     case: &Case,
-) -> Result<(), Fail> {
+) -> Result<Found, Fail> {
     let (plain, names) = unopened(rt, alloc, 1)?;
     opened_and_closed::<Brand, Brand, R>(rt, alloc, plain, names, case)
 }
 
+fn wanted_of_both(case: &Case) -> Found {
+    ([wanted(case), wanted(&WHOLE)], WHOLE.accepted)
+}
+
 #[test]
 fn each_write_fails_in_turn(rt: HostRuntime) -> Result<(), Fail> {
-    for room in 0..57 {
-        over_a_new_engine(&rt, rt.alloc(), &failing_write(room))?;
+    for room in 0..57u64 {
+        let case = failing_write(room);
+        let found = over_a_new_engine(&rt, rt.alloc(), &case)?;
+        assert!(rt; same_at(&rt, &room, &found, &wanted_of_both(&case)));
     }
     Ok(())
 }
 
 #[test]
 fn each_read_fails_in_turn(rt: HostRuntime) -> Result<(), Fail> {
-    for read in 0..186 {
-        over_a_new_engine(&rt, rt.alloc(), &failing_read(read))?;
+    for read in 0..186u64 {
+        let case = failing_read(read);
+        let found = over_a_new_engine(&rt, rt.alloc(), &case)?;
+        assert!(rt; same_at(&rt, &read, &found, &wanted_of_both(&case)));
     }
     Ok(())
 }
