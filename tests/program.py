@@ -7,6 +7,7 @@ What is wanted was worked out by hand from docs/FORMATS.md, and never comes from
 line for each case that fails and at the end `N passed, M failed`; the status is 1 where one fails. Linux, and nothing
 but Python's own library.
 """
+import itertools
 import os
 import resource
 import signal
@@ -161,14 +162,26 @@ def fields(*values):
     return b"".join(field(value) for value in values)
 
 
-def snapshot(batches, total, rows=3, cols=3, cuts=(2, 4), shards=2, limit=100, most=10, count=None):
-    """The bytes of a snapshot. A batch is its client, its number and its cells; a cell is a row, a column, a count."""
-    head = b"HHMSNAP\n" + field(1, 4) + fields(rows, cols) + field(len(cuts), 1) + fields(*cuts) + field(shards, 1)
-    head += fields(limit, most, len(batches) if count is None else count, total)
+def snapshot(batches, total, rows=3, cols=3, cuts=(2, 4), shards=2, limit=100, most=10, count=None, past=None):
+    """The bytes of a snapshot: of version 1, or of version 2 where `past` has the folded entries and the base's cells.
+
+    A batch is its client, its number and its cells; a cell is a row, a column, a count. A folded entry is its client,
+    its number, its number of cells and its total.
+    """
+    version = 1 if past is None else 2
+    head = b"HHMSNAP\n" + field(version, 4) + fields(rows, cols) + field(len(cuts), 1) + fields(*cuts)
+    head += field(shards, 1) + fields(limit, most, len(batches) if count is None else count, total)
+    if past is not None:
+        folded, base = past
+        head += fields(len(folded), *itertools.chain(*folded)) + fields(len(base), *itertools.chain(*base))
     return head + b"".join(
         fields(client, number, len(cells)) + b"".join(fields(*cell) for cell in cells)
         for client, number, cells in batches
     )
+
+
+# Nothing is folded.
+NONE = ([], [])
 
 
 ONE = [(7, 1, [(0, 0, 5)])]
@@ -196,8 +209,20 @@ SNAPSHOTS = [
     ),
 ]
 
-# The snapshot of which each bit is flipped by itself: 1,584 bits.
-FLIPPED = snapshot([(7, 1, [(0, 0, 5)]), (7, 3, [(0, 1, 0), (2, 2, 4)])], 9)
+# Of version 2: the same with nothing folded, one folded batch alone, and one behind which another stands.
+SNAPSHOTS += [
+    (snapshot(ONE, 5, past=NONE), "rows 3 cols 3 shards 2 batches 1 total 5 entries 1"),
+    (snapshot(TWO, 12, past=NONE), "rows 3 cols 3 shards 2 batches 2 total 12 entries 3"),
+    (snapshot([], 5, past=([(7, 1, 1, 5)], [(0, 0, 5)])), "rows 3 cols 3 shards 2 batches 1 total 5 entries 1"),
+    (snapshot([], 0, past=([(9, 1, 0, 0)], [])), "rows 3 cols 3 shards 2 batches 1 total 0 entries 0"),
+    (
+        snapshot(ONE, 14, past=([(7, 2, 2, 5), (8, 1, 1, 4)], [(0, 0, 7), (2, 1, 2)])),
+        "rows 3 cols 3 shards 2 batches 3 total 14 entries 2",
+    ),
+]
+
+# The snapshot of which each bit is flipped by itself: 1,712 bits.
+FLIPPED = snapshot([(7, 1, [(0, 0, 5)]), (7, 3, [(0, 1, 0), (2, 2, 4)])], 9, past=NONE)
 
 # How many bits of each of its fields leave a snapshot, of another setup or of other batches. The format has no sum of
 # check, so a number may be any other that its judgement lets pass. Worked out by hand: rows and columns must stay
@@ -208,7 +233,7 @@ UNNOTICED = {
     "rows": 58, "cols": 58, "cut": 1 + 39, "shards": 5, "limit": 64, "most": 20,
     "client": 64 + 64, "number": 63 + 63, "row": 2 + 2 + 1, "column": 2 + 1 + 1,
 }  # fmt: skip
-assert sum(UNNOTICED.values()) == 508 and 8 * len(FLIPPED) == 1_584  # as README.md says
+assert sum(UNNOTICED.values()) == 508 and 8 * len(FLIPPED) == 1_712  # as README.md says
 
 # Bytes that are no snapshot, and the fault that is told of them.
 NO_SNAPSHOTS = [
@@ -217,7 +242,9 @@ NO_SNAPSHOTS = [
     (snapshot(ONE, 5)[:-1], "Truncated"),
     (snapshot(ONE, 5) + b"\0", "ExtraBytes"),
     (snapshot(ONE, 5).replace(b"HHMSNAP\n", b"HHMSNAP\r"), "BadMark"),
-    (b"HHMSNAP\n" + field(2, 4), "BadVersion"),
+    (b"HHMSNAP\n" + field(2, 4), "Truncated"),
+    (b"HHMSNAP\n" + field(3, 4), "BadVersion"),
+    (b"HHMSNAP\n" + field(0, 4), "BadVersion"),
     (snapshot(ONE, 5, rows=0), "BadHead"),
     (snapshot(ONE, 5, cuts=(4, 4)), "BadHead"),
     (snapshot(ONE, 5, limit=4), "BadHead"),
@@ -231,6 +258,29 @@ NO_SNAPSHOTS = [
     (snapshot([(7, 1, [(0, 0, 2), (0, 0, 3)])], 5), "OutOfOrder"),
     (snapshot(ONE + ONE, 10), "RepeatedNumber"),
     (snapshot([(7, 1, [])], 0, count=2), "Truncated"),
+]
+
+# One folded batch of total 5, and its base.
+FIVE = ([(7, 1, 1, 5)], [(0, 0, 5)])
+
+# The same of version 2: of the folded entries, of the base, and of the batches behind them.
+NO_SNAPSHOTS += [
+    (snapshot(ONE, 5, past=NONE)[:-1], "Truncated"),
+    (snapshot(ONE, 5, past=NONE) + b"\0", "ExtraBytes"),
+    (snapshot([], 5, past=FIVE) + b"\0", "ExtraBytes"),
+    (snapshot([], 5, past=FIVE, most=1, count=1), "BadHead"),
+    (snapshot([], 5, past=([(7, 1, 1, 3), (7, 1, 1, 2)], [(0, 0, 5)])), "RepeatedNumber"),
+    (snapshot(ONE, 10, past=FIVE), "RepeatedNumber"),
+    (snapshot([], 4, past=FIVE), "TotalDiffers"),
+    (snapshot([], 6, past=FIVE), "TotalDiffers"),
+    (snapshot([], 5, past=([(7, 1, 1, 5)], [(0, 0, 4)])), "TotalDiffers"),
+    (snapshot([], 50, past=([(7, 1, 1, 5)], [(0, 0, 6)])), "TotalDiffers"),
+    (snapshot([], 5, past=([(7, 1, 1, 5)], [])), "TotalDiffers"),
+    (snapshot([], 5, past=([], [(0, 0, 5)])), "BadBatch"),
+    (snapshot([], 5, past=([], [(0, 0, 5)]))[:-24], "BadBatch"),
+    (snapshot([], 5, past=([(7, 1, 1, 5)], [(3, 0, 5)])), "BadBatch"),
+    (snapshot([], 5, past=([(7, 1, 1, 5)], [(0, 3, 5)])), "BadBatch"),
+    (snapshot([], 5, past=([(7, 1, 2, 5)], [(0, 1, 2), (0, 1, 3)])), "OutOfOrder"),
 ]
 
 # Command lines that are not read.
@@ -247,6 +297,9 @@ NO_COMMANDS = [
     ["export"],
     ["export", "a", "b"],
     ["export", "--cuts", "1", "a"],
+    ["fold"],
+    ["fold", "a", "b"],
+    ["fold", "--cuts", "1", "a"],
 ]
 
 
@@ -411,8 +464,9 @@ def snapshots(program):
             checked("check of /dev/null", "/dev/null", "file: OpenFailed", 4),
         ]:
             yield case.name, run(program, case)
-            case = case._replace(name=case.name.replace("check", "export"), words=["export", *case.words[1:]])
-            yield case.name, run(program, case)
+            for word in ("export", "fold"):
+                again = case._replace(name=case.name.replace("check", word), words=[word, *case.words[1:]])
+                yield again.name, run(program, again)
         if os.getuid() != 0:
             os.chmod(path, 0)
             case = checked("check without permission", path, "file: OpenFailed", 4)
@@ -444,6 +498,62 @@ def exports(program):
             yield "export with room for 50 bytes", run(program, case, stdout=file, preexec_fn=lambda: leave_room(50))
 
 
+def folded_file(program, path, held, line, wanted):
+    """What is wrong with folding a snapshot: the line that is written, and the bytes that it leaves."""
+    with open(path, "wb") as file:
+        file.write(held)
+    return run(program, Case("", ["fold", path], output=line)) + unlike(path, wanted)
+
+
+# A snapshot, the line of its folding, and the snapshot that this leaves.
+FOLDS = [
+    (snapshot(ONE, 5), "folded 1 total 5", snapshot([], 5, past=FIVE)),
+    (snapshot(ONE, 5, past=NONE), "folded 1 total 5", snapshot([], 5, past=FIVE)),
+    (snapshot([], 5, past=FIVE), "folded 1 total 5", snapshot([], 5, past=FIVE)),
+    (snapshot([], 0), "folded 0 total 0", snapshot([], 0, past=NONE)),
+    (
+        snapshot(TWO, 12),
+        "folded 2 total 12",
+        snapshot([], 12, past=([(7, 1, 2, 5), (8, 1, 2, 7)], [(0, 0, 8), (0, 2, 4), (2, 1, 0)])),
+    ),
+    (
+        snapshot(TWO, 17, past=([(8, 2, 1, 5)], [(0, 0, 5)])),
+        "folded 3 total 17",
+        snapshot([], 17, past=([(8, 2, 1, 5), (7, 1, 2, 5), (8, 1, 2, 7)], [(0, 0, 13), (0, 2, 4), (2, 1, 0)])),
+    ),
+]  # fmt: skip
+
+
+def folds(program):
+    """Snapshots that are folded, and what is left where the new file or the line of it is not taken."""
+    with tempfile.TemporaryDirectory() as folder:
+        path = os.path.join(folder, "file")
+        for held, line, wanted in FOLDS:
+            yield f"fold: {line}, {len(held)} bytes", folded_file(program, path, held, line + "\n", wanted)
+        folded = snapshot([], 5, past=FIVE)
+        wrong = []
+        for end in range(len(folded)):
+            with open(path, "wb") as file:
+                file.write(folded[:end])
+            wrong += run(program, checked(f"front of {end} bytes", path, "snapshot: Truncated", 3))
+        yield "each front of a folded snapshot", wrong
+        with open(path, "wb") as file:
+            file.write(snapshot(ONE, 5))
+        case = checked("fold with room for 50 bytes", path, "file: Write", 4, "fold")
+        yield case.name, run(program, case, preexec_fn=lambda: leave_room(50)) + unlike(path, snapshot(ONE, 5))
+        case = checked("fold on a closed output", path, "output failed after 0 bytes", 4, "fold")
+        with tempfile.TemporaryFile() as output:
+            wrong = run(program, case, stdout=output, preexec_fn=lambda: os.close(1))
+        yield case.name, wrong + unlike(path, folded)
+
+
+def unlike(path, wanted):
+    """What is wrong with the bytes of a file."""
+    with open(path, "rb") as file:
+        found = file.read()
+    return [] if found == wanted else [f"{path} has {found.hex()} in place of {wanted.hex()}"]
+
+
 class FirstFault(Exception):
     """The first fault of a snapshot's bytes."""
 
@@ -457,6 +567,9 @@ class Snapshot:
     def __init__(self, held):
         self.held, self.at, self.fields = held, 0, []
         self.head()
+        self.sum, self.places, self.pairs, self.folded = 0, {}, set(), 0
+        if self.version == 2:
+            self.past()
         self.batches()
         if self.sum != self.total:
             raise FirstFault("TotalDiffers")
@@ -480,25 +593,40 @@ class Snapshot:
             return self.take(name, size, lambda value: least <= value <= most, "BadHead")
 
         self.take("mark", 8, lambda value: field(value) == b"HHMSNAP\n", "BadMark")
-        self.take("version", 4, lambda value: value == 1, "BadVersion")
+        self.version = self.take("version", 4, lambda value: value in (1, 2), "BadVersion")
         self.rows, self.cols = setting("rows", 1, SIZE), setting("cols", 1, SIZE)
         cut = 0
         for _ in range(setting("cuts", 0, 7, 1)):
             cut = setting("cut", cut + 1, 2**40)
         self.shards = setting("shards", 1, 64, 1)
         limit = setting("limit", 1, MOST)
-        self.count = setting("batches", 0, setting("most", 1, 1_000_000))
+        self.most = setting("most", 1, 1_000_000)
+        self.count = setting("batches", 0, self.most)
         self.total = setting("total", 0, limit)
 
-    def batches(self):
-        self.sum, self.places, pairs = 0, {}, set()
-        for _ in range(self.count):
-            client = self.take("client", 8, lambda _: True)
-            number = self.take("number", 8, lambda value: (client, value) not in pairs, "RepeatedNumber")
-            pairs.add((client, number))
-            self.cells(self.take("entries", 8, lambda _: True))
+    def pair(self):
+        client = self.take("client", 8, lambda _: True)
+        number = self.take("number", 8, lambda value: (client, value) not in self.pairs, "RepeatedNumber")
+        self.pairs.add((client, number))
 
-    def cells(self, count):
+    def past(self):
+        self.folded = self.take("folded", 8, lambda value: value + self.count <= self.most, "BadHead")
+        totals = 0
+        for _ in range(self.folded):
+            self.pair()
+            self.take("folded cells", 8, lambda _: True)
+            left = self.total - totals
+            totals += self.take("folded total", 8, lambda value, left=left: value <= left, "TotalDiffers")
+        self.cells(self.take("base", 8, lambda value: self.folded or value == 0, "BadBatch"), totals)
+        if self.sum != totals:
+            raise FirstFault("TotalDiffers")
+
+    def batches(self):
+        for _ in range(self.count):
+            self.pair()
+            self.cells(self.take("entries", 8, lambda _: True), self.total)
+
+    def cells(self, count, most):
         before = (-1, -1)
         for _ in range(count):
             row = self.take("row", 8, lambda value: value < self.rows, "BadBatch")
@@ -506,7 +634,7 @@ class Snapshot:
             if (row, col) <= before:
                 raise FirstFault("OutOfOrder")
             before = row, col
-            count = self.take("count", 8, lambda value: self.sum + value <= self.total, "TotalDiffers")
+            count = self.take("count", 8, lambda value: self.sum + value <= most, "TotalDiffers")
             self.places[before] = self.places.get(before, 0) + count
             self.sum += count
 
@@ -518,7 +646,7 @@ class Snapshot:
     def line(self):
         return (
             f"rows {self.rows} cols {self.cols} shards {self.shards} "
-            f"batches {self.count} total {self.total} entries {len(self.places)}"
+            f"batches {self.folded + self.count} total {self.total} entries {len(self.places)}"
         )
 
 
@@ -556,6 +684,7 @@ def the_example(program):
 
 DEVICES = [
     a_folder_as_input, an_output_that_fails, an_input_that_stays_open, a_limit_of_memory, snapshots, exports,
+    folds,
     flipped_bits,
     the_example,
 ]  # fmt: skip

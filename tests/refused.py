@@ -25,7 +25,7 @@ from typing import Callable, NamedTuple
 
 HERE = os.path.dirname(os.path.abspath(__file__))
 sys.path.insert(0, HERE)
-from program import BANNER, snapshot  # noqa: E402
+from program import BANNER, NONE, snapshot  # noqa: E402
 from server import SMALL, accepted, put_frame, refused, text  # noqa: E402
 
 EIO, EINTR = 5, 4
@@ -187,7 +187,7 @@ REPLIES = [
     struct.pack(">IBQ", 8, 0x86, 2),
 ]
 STOPPING = struct.pack(">IB", 0, 0x87)
-SAVED = snapshot([(7, 1, [(0, 0, 5)]), (8, 1, [(0, 0, 3)])], 8)
+SAVED = snapshot([(7, 1, [(0, 0, 5)]), (8, 1, [(0, 0, 3)])], 8, past=NONE)
 # One growth is refused, so the second time is the last at which anything may be.
 TRIES = 3
 

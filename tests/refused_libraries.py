@@ -116,10 +116,10 @@ SCENARIOS = {
         Step([], ["stop", "none"]),
     ],
     "snapshot": [
-        Step([["read refused"]], ["read batches 1"]),
-        Step([["write refused behind bytes 0", "written bytes 0, whole false"]], ["written bytes 126, whole true"]),
+        Step([["read refused"]], ["read folded 1 batches 1"]),
+        Step([["write refused behind bytes 0", "written bytes 0, whole false"]], ["written bytes 198, whole true"]),
         Step([["save refused: memory"]], ["saved"]),
-        Step([["load refused"]], ["loaded batches 1"]),
+        Step([["load refused"]], ["loaded folded 1 batches 1"]),
     ],
 }
 

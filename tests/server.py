@@ -378,6 +378,58 @@ def snapshots_outlive_a_kill():
     check("another setup", (run.stderr, run.returncode), ("hhm: settings: SnapshotDiffers\n", 2))
 
 
+def program(*words):
+    """What the program writes and says of these words, and its status."""
+    run = subprocess.run([PROGRAM, *words], capture_output=True, text=True, timeout=WAIT)
+    return run.stdout, run.stderr, run.returncode
+
+
+# What is asked of a server whose history is folded, and of the same before: cells, rows, an export, a status, and each
+# of two batches again; then a number for another batch, and a total that passes the limit.
+QUESTIONS = [
+    struct.pack(">IBQQ", 16, 2, 0, 0), struct.pack(">IBQQ", 16, 2, 1, 2), struct.pack(">IBQQ", 16, 2, 2, 2),
+    struct.pack(">IBQ", 8, 3, 0), struct.pack(">IBQ", 8, 3, 2), struct.pack(">IB", 0, 4), struct.pack(">IB", 0, 5),
+    put_frame(7, 1, text(5)), put_frame(8, 1, BANNER + b"3 3 3\n1 1 3\n2 3 0\n3 1 4\n"),
+    put_frame(7, 1, text(6)), put_frame(9, 9, text(89)),
+]  # fmt: skip
+
+
+def answers_stay_when_folded():
+    """A server that starts from a folded snapshot answers as the one that saved it, byte for byte, and goes on."""
+    path = os.path.join(FOLDER, "folded.snap")
+    words = [*SMALL, "--snapshot", path]
+    with Server(words) as server:
+        server.talk([put_frame(7, 1, text(5)), QUESTIONS[8]])
+        before = server.talk([b"".join(QUESTIONS)])
+        server.stop("before the folding", 2, 12)
+    repeats = accepted(0, 5) + accepted(1, 12) + refused(30) + refused(31, 12)
+    check("answers of batches that are kept whole", before.endswith(repeats), True)
+    sum_text = (BANNER + b"3 3 3\n1 1 8\n2 3 0\n3 1 4\n").decode()
+    check("export of a snapshot", program("export", path), (sum_text, "", 0))
+    unfolded = program("check", path)
+    for time in ["once", "again"]:
+        check(f"fold {time}", program("fold", path), ("folded 2 total 12\n", "", 0))
+        check(f"check when folded {time}", program("check", path), unfolded)
+    # The head has 78 bytes, each entry 32, each cell of the base 24.
+    check("bytes of a folded snapshot", os.path.getsize(path), 78 + 8 + 2 * 32 + 8 + 3 * 24)
+    with Server(words) as server:
+        check("answers of folded batches", server.talk([b"".join(QUESTIONS)]), before)
+        with server.client(9) as hhm:
+            check("a batch behind folded ones", hhm.put(1, [(0, 0, 2), (2, 2, 1)]), (2, 15))
+            check("saved with folded ones", hhm.save(), 3)
+            check("status with folded ones", hhm.status(), Status(3, 15))
+        check("answers of folded batches again", server.talk(QUESTIONS[7:9]), accepted(0, 5) + accepted(1, 12))
+        server.stop("behind folded batches", 3, 15)
+    check("check behind folded ones", program("check", path),
+          ("rows 3 cols 3 shards 2 batches 3 total 15 entries 4\n", "", 0))
+    check("fold all", program("fold", path), ("folded 3 total 15\n", "", 0))
+    with Server(words) as server:
+        check("all are known again", server.talk([QUESTIONS[7], QUESTIONS[8]]), accepted(0, 5) + accepted(1, 12))
+        with server.client(9) as hhm:
+            check("the last one too", hhm.put(1, [(0, 0, 2), (2, 2, 1)]), (2, 15))
+        server.stop("all folded", 3, 15)
+
+
 def saves_are_whole(kills):
     """A kill during saves leaves a file that is whole: the one before, or a later one."""
     path = os.path.join(FOLDER, "torn.snap")
@@ -680,6 +732,7 @@ def main():
         lost_replies_count_once()
         a_pair_is_for_one_batch()
         snapshots_outlive_a_kill()
+        answers_stay_when_folded()
         saves_are_whole(50 if is_long else 5)
         for mounted in [False, True]:
             for is_freed in [False, True]:

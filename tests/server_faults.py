@@ -132,7 +132,7 @@ def saves_fail(kind, fail):
             check(f"{kind}: saved", asked(link, SAVE, 13), struct.pack(">IBQ", 8, 0x86, 1))
             with open(path, "rb") as file:
                 before = file.read()
-            check(f"{kind}: the file", before, program.snapshot([(7, 1, [(0, 0, 5)])], 5))
+            check(f"{kind}: the file", before, program.snapshot([(7, 1, [(0, 0, 5)])], 5, past=program.NONE))
             fail(path, at.process)
             check(f"{kind}: put more", asked(link, put_frame(8, 1, text(3)), 21), accepted(1, 8))
             check(f"{kind}: not saved", asked(link, SAVE, 15), refused(42))
@@ -174,7 +174,7 @@ def refuse_calls(*numbers):
 
 def no_sync_is_made():
     """A file that can't be synced isn't renamed. Tried where calls may be refused."""
-    path, before = in_folder("Sync.snap"), program.snapshot([(7, 1, [(0, 0, 5)])], 5)
+    path, before = in_folder("Sync.snap"), program.snapshot([(7, 1, [(0, 0, 5)])], 5, past=program.NONE)
     fsync = 74
     tried = subprocess.run(["true"], preexec_fn=lambda: refuse_calls(fsync) or os._exit(1))
     if platform.machine() != "x86_64" or tried.returncode != 0:
@@ -206,7 +206,8 @@ def saves_beside(name, leave, is_kept):
         with at.link() as link:
             check(f"{name}: put", asked(link, put_frame(7, 1, text(5)), 21), accepted(0, 5))
             check(f"{name}: saved", asked(link, SAVE, 13), struct.pack(">IBQ", 8, 0x86, 1))
-            check(f"{name}: the file", server.content(path), program.snapshot([(7, 1, [(0, 0, 5)])], 5))
+            saved = program.snapshot([(7, 1, [(0, 0, 5)])], 5, past=program.NONE)
+            check(f"{name}: the file", server.content(path), saved)
             check(f"{name}: it is a plain one", stat.S_ISREG(os.lstat(path).st_mode), True)
             check(f"{name}: all files", sorted(os.listdir(folder)), ["other", "snap"] if is_kept else ["snap"])
             if is_kept:
@@ -268,7 +269,7 @@ def save_over(name, before, after, user=None, mask=0o022, groups=()):
         path = os.path.join(folder, "snap")
         os.chmod(folder, 0o777)
         if before is not None:
-            write(path, program.snapshot([], 0))
+            write(path, program.snapshot([], 0, past=program.NONE))
             if os.getuid() == 0:
                 os.chown(path, *before[:2])
             os.chmod(path, before[2])
@@ -314,7 +315,7 @@ def owner_and_mode_are_kept():
 def a_link_as_a_snapshot_is_replaced():
     """What a link leads to is read and stays, and the save takes the link's place, with the owner and mode of that."""
     path, held = in_folder("link.snap"), in_folder("led to")
-    before = program.snapshot([(7, 1, [(0, 0, 5)])], 5)
+    before = program.snapshot([(7, 1, [(0, 0, 5)])], 5, past=program.NONE)
     write(held, before)
     os.chmod(held, 0o640)
     os.symlink(held, path)
@@ -326,14 +327,14 @@ def a_link_as_a_snapshot_is_replaced():
     check("a link: what it led to", server.content(held), before)
     check("a link: a plain file now", stat.S_ISREG(os.lstat(path).st_mode), True)
     check("a link: the mode", belongs(path)[2], oct(0o640))
-    after = program.snapshot([(7, 1, [(0, 0, 5)]), (8, 1, [(0, 0, 3)])], 8)
+    after = program.snapshot([(7, 1, [(0, 0, 5)]), (8, 1, [(0, 0, 3)])], 8, past=program.NONE)
     check("a link: the file", server.content(path), after)
 
 
 def flipped_bits_are_told_or_not():
     """A flipped bit of a setup is another setup; one of a client's number isn't noticed, and its batch counts again."""
     path = in_folder("flipped.snap")
-    held = program.snapshot([(7, 1, [(0, 0, 5)])], 5)
+    held = program.snapshot([(7, 1, [(0, 0, 5)])], 5, past=program.NONE)
     for name, place, bit in [("rows", 19, 1 << 4), ("shards", 45, 1 << 0), ("most batches", 61, 1 << 4)]:
         other = bytearray(held)
         other[place] ^= bit
@@ -341,8 +342,8 @@ def flipped_bits_are_told_or_not():
         check(f"another setup: {name}", run(["--unix", in_folder("unused"), *SMALL, "--snapshot", path]),
               ("", "hhm: settings: SnapshotDiffers\n", 2))
     other = bytearray(held)
-    other[85] ^= 1
-    check("a flipped client", bytes(other), program.snapshot([(6, 1, [(0, 0, 5)])], 5))
+    other[101] ^= 1
+    check("a flipped client", bytes(other), program.snapshot([(6, 1, [(0, 0, 5)])], 5, past=program.NONE))
     write(path, other)
     with Server([*SMALL, "--snapshot", path], tcp=False) as at:
         with at.link() as link:
@@ -359,7 +360,8 @@ def two_servers_overwrite_each_other():
             with at.link(unix) as link:
                 check("two servers: put", asked(link, put_frame(client, 1, text(5)), 21), accepted(0, 5))
                 check("two servers: save", asked(link, SAVE, 13), struct.pack(">IBQ", 8, 0x86, 1))
-            check("two servers: the file", server.content(path), program.snapshot([(client, 1, [(0, 0, 5)])], 5))
+            saved = program.snapshot([(client, 1, [(0, 0, 5)])], 5, past=program.NONE)
+            check("two servers: the file", server.content(path), saved)
 
 
 def no_output_is_taken():
@@ -392,7 +394,7 @@ def the_last_line_is_not_taken():
     check("the last line", (error, status), (f"hhm: output failed after {len(line)} bytes\n", 4))
     check("the path is gone", os.path.exists(unix), False)
     with open(path, "rb") as file:
-        check("the snapshot", file.read(), program.snapshot([(7, 1, [(0, 0, 5)])], 5))
+        check("the snapshot", file.read(), program.snapshot([(7, 1, [(0, 0, 5)])], 5, past=program.NONE))
 
 
 def memory_is_refused():
@@ -528,7 +530,7 @@ def ends_soon(at, name, path):
     if os.path.exists(path):
         with open(path, "rb") as file:
             saved = file.read()
-    check(f"{name}: the snapshot", saved, program.snapshot([(7, 1, [(0, 0, 5)])], 5))
+    check(f"{name}: the snapshot", saved, program.snapshot([(7, 1, [(0, 0, 5)])], 5, past=program.NONE))
 
 
 def replace_by_file(path):

@@ -8,9 +8,11 @@ use Rattle.mm_sum.specs.declared.fault.SumFault.TheVariants.{BadCuts, Text, SumT
 use Rattle.hhm.specs.declared.numbers.ListFault.{ListFault}
 use Rattle.hhm.specs.declared.numbers.ListFault.TheVariants as list
 use Rattle.hhm.specs.declared.report.Fault.{Fault}
-use Rattle.hhm.specs.declared.report.Fault.TheVariants.{BadNumber, Setup, Sum, Check}
+use Rattle.hhm.specs.declared.report.Fault.TheVariants.{BadNumber, Setup, Sum, Check, Fold}
 use Rattle.snap_report.specs.declared.fault.CheckFault.{CheckFault}
 use Rattle.snap_report.specs.declared.fault.CheckFault.TheVariants as check
+use Rattle.snap_report.specs.declared.fault.FoldFault.{FoldFault}
+use Rattle.snap_report.specs.declared.fault.FoldFault.TheVariants as fold
 use Rattle.snap_file.specs.declared.fault.FileFault.{FileFault}
 use Rattle.snap_file.specs.declared.fault.FileFault.TheVariants as file
 use Rattle.snap_file.specs.declared.fault.SnapFault.{SnapFault}
@@ -46,8 +48,15 @@ check_status (check.File fault) = file_status fault
 check_status check.Memory = 5
 check_status (check.Output fault) = 4
 
+abbrev pub fold_status : FoldFault → ℕ
+fold_status (fold.File fault) = file_status fault
+fold_status fold.Memory = 5
+fold_status (fold.Save fault) = 4
+fold_status (fold.Output fault) = 4
+
 abbrev pub fault_status : Fault → ℕ
 fault_status BadNumber = 2
 fault_status (Setup fault) = 2
 fault_status (Sum fault) = sum_status fault
 fault_status (Check fault) = check_status fault
+fault_status (Fold fault) = fold_status fault

@@ -53,6 +53,27 @@ one line on standard error:
   hhm: output failed after N bytes status 4
   hhm: memory                      status 5";
 
+const FOLD_HELP: &str = "\
+Reads the snapshot in the file PATH to its end, folds all its batches into one
+matrix, saves it under PATH, and writes one line to standard output:
+
+  folded F total T
+
+F is how many batches are folded then, and T their total. A server that starts
+from the file answers as before: cells, rows, exports, its status, and batches
+that are sent again, with their first replies. Of each batch only its client, its
+number, its number of cells and its total are kept. Fold while no server uses
+the file: one that saves later replaces it.
+
+A fault is one line on standard error. Where the output failed, the file is
+saved already; else it is as it was:
+
+  hhm: file: NotFound, OpenFailed  status 4
+  hhm: snapshot: KIND              status 3 (KIND Read: 4)
+  hhm: file: Create, Write, Sync, Rename  status 4
+  hhm: output failed after N bytes status 4
+  hhm: memory                      status 5";
+
 const CUTS_HELP: &str =
     "The cuts of the layers, rising, each 1 to 1099511627776, at most 7, with commas between; or none";
 
@@ -90,11 +111,23 @@ fn export_command<'a>(alloc: Global) -> Result<Command<'a>, AllocError> {
         .arg(path)
 }
 
+fn fold_command<'a>(alloc: Global) -> Result<Command<'a>, AllocError> {
+    let path = Arg::new(alloc, "path")
+        .value_name("PATH")
+        .required(true)
+        .help("The snapshot's file");
+    Command::new(alloc, "fold")
+        .about("Fold the batches of a snapshot into one matrix, and save it again")
+        .after_help(FOLD_HELP)
+        .arg(path)
+}
+
 /// The command line of the program.
 pub fn command<'a>(alloc: Global) -> Result<Command<'a>, AllocError> {
     let sum = sum_command(alloc)?;
     let check = check_command(alloc)?;
     let export = export_command(alloc)?;
+    let fold = fold_command(alloc)?;
     let serve = serve_command(alloc)?;
     Command::new(alloc, "hhm")
         .bin_name("hhm")?
@@ -105,5 +138,6 @@ pub fn command<'a>(alloc: Global) -> Result<Command<'a>, AllocError> {
         .subcommand(sum)?
         .subcommand(check)?
         .subcommand(export)?
+        .subcommand(fold)?
         .subcommand(serve)
 }

@@ -20,7 +20,7 @@ use byte_io::{Counted, write_all};
 use clap::error::ErrorKind;
 use clap::{ArgMatches, Error};
 use mm_sum::run_sum;
-use snap_report::{run_check, run_export};
+use snap_report::{run_check, run_export, run_fold};
 use socket_server::{ServerFault, Settings, run_server};
 use std::alloc::AllocError;
 use std::process::ExitCode;
@@ -95,6 +95,10 @@ fn run_matches(rt: &HostRuntime, matches: &ArgMatches) -> Result<Outcome, Fault>
     if let Some(export) = matches.subcommand_matches("export") {
         let path = export.get_str("path").unwrap_or("");
         run_export(rt, rt.alloc(), path, &mut Counted::new(rt.stdout()))?;
+    }
+    if let Some(fold) = matches.subcommand_matches("fold") {
+        let path = fold.get_str("path").unwrap_or("");
+        run_fold(rt, rt.alloc(), path, &mut Counted::new(rt.stdout()))?;
     }
     Ok(Outcome::Ended(ExitCode::SUCCESS))
 }

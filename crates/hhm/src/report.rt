@@ -2,7 +2,7 @@
 ghost use Rattle.std.specs.Prelude.{◌≡◌};
 ghost use Rattle.hhm.specs.Reports.{fault_of_list, fault_status};
 ghost use Rattle.mm_sum.specs.declared.fault.SumFault.TheVariants.{Memory, Output};
-ghost use Rattle.hhm.specs.declared.report.Fault.TheVariants.{Setup, Sum, Check};
+ghost use Rattle.hhm.specs.declared.report.Fault.TheVariants.{Setup, Sum, Check, Fold};
 
 use crate::numbers::ListFault;
 use batch_store::SetupFault;
@@ -10,7 +10,7 @@ use byte_io::WriteFault;
 use mm_sum::SumFault;
 use mm_text::{MmFault, MmKind};
 use snap_file::{FileFault, SnapFault};
-use snap_report::CheckFault;
+use snap_report::{CheckFault, FoldFault};
 use std::alloc::AllocError;
 use std::process::ExitCode;
 use thiserror::Error;
@@ -30,6 +30,9 @@ pub enum Fault {
     /// `check` wrote no line, or `export` no text, or not all of it.
     #[error(transparent)]
     Check(CheckFault),
+    /// `fold` saved no snapshot, or didn't tell it.
+    #[error(transparent)]
+    Fold(FoldFault),
 }
 
 impl From<SumFault> for Fault {
@@ -53,6 +56,14 @@ impl From<CheckFault> for Fault {
 
     fn from(fault: CheckFault) -> Fault {
         Fault::Check(fault)
+    }
+}
+
+impl From<FoldFault> for Fault {
+    ghost from_gives = { λ fault e. e ≡ Fold fault };
+
+    fn from(fault: FoldFault) -> Fault {
+        Fault::Fold(fault)
     }
 }
 
@@ -109,6 +120,12 @@ impl Fault {
             Fault::Check(CheckFault::File(_)) => 4,
             Fault::Check(CheckFault::Memory) => 5,
             Fault::Check(CheckFault::Output(_)) => 4,
+            Fault::Fold(FoldFault::File(FileFault::Snap(SnapFault::Read))) => 4,
+            Fault::Fold(FoldFault::File(FileFault::Snap(_))) => 3,
+            Fault::Fold(FoldFault::File(_)) => 4,
+            Fault::Fold(FoldFault::Memory) => 5,
+            Fault::Fold(FoldFault::Save(_)) => 4,
+            Fault::Fold(FoldFault::Output(_)) => 4,
         }
     }
 

@@ -1,20 +1,19 @@
 -- The batches that aren't folded, as a list.
-use Rattle.std.proofs.Common.{◌≡◌, List, [], ◌∷◌, ◌++◌, refl, sym, ◌∙◌, ap, subst, arith, length-append}
+use Rattle.std.proofs.Common.{◌≡◌, List, [], ◌∷◌, ◌++◌, length, drop, refl, sym, ◌∙◌, ap, subst, arith, length-append}
 use Rattle.std.specs.Prelude.{Result, Ok, Err, IfOk}
-use Rattle.std.specs.List.{IsDistinct}
 use Rattle.hyper_matrix.proofs.CountLaws.{total-empty}
 use Rattle.batch_store.specs.declared.verdict.Entry.{Entry}
 use Rattle.batch_store.specs.Setups.{Setting}
 use Rattle.batch_store.specs.Accepted.{Accepted, unfolded, entries_in}
 use Rattle.batch_store.specs.Batches.{Submission, entries_of}
-use Rattle.batch_store.specs.Books.{Register, AreAccepted}
-use Rattle.batch_store.specs.Verdicts.{same_pair}
+use Rattle.batch_store.specs.Books.{Register, Listing, AreAccepted, accepted_in, listed_in}
 use Rattle.batch_store.proofs.VerdictLaws.{total_of-append}
+use Rattle.plain_engine.proofs.WorldLaws.{distinct_behind}
+use Rattle.locked_engine.specs.Opened.{SharePast}
 
-distinct_behind : (es fs : List Entry) → IsDistinct same_pair (es ++ fs) → IsDistinct same_pair fs
-unfolding IsDistinct
-distinct_behind [] fs h = h
-distinct_behind (e ∷ es) fs h = distinct_behind es fs h.1
+drop_front : (es fs : List Entry) → drop (length es) (es ++ fs) ≡ fs
+drop_front [] fs = refl
+drop_front (e ∷ es) fs = drop_front es fs
 
 -- without the folded ones the others are accepted
 accepted_rest : (v : Setting) (a : Accepted) → AreAccepted v a → AreAccepted v (unfolded a.list)
@@ -36,9 +35,38 @@ module _ {T E : Type 0} (list : T → List Submission) (w : Register) where
       subst (λ (l : List Submission). AreAccepted v (unfolded l)) (sym is)
       (accepted_rest v w.state (subst (λ (s : Setting). AreAccepted s w.state) setup held))
 
-  -- where nothing is folded it has all entries
-  pub all_listed : (seen : List Entry) (res : Result T E) → IfOk res (λ (x : T). list x ≡ w.state.list) →
-      w.state.folded ≡ [] → seen ≡ entries_in w.state → IfOk res (λ (x : T). entries_in (unfolded (list x)) ≡ seen)
-  all_listed seen (Err e) is none shown = tt
-  all_listed seen (Ok x) is none shown =
-      ap entries_of is ∙ ap (λ (es : List Entry). es ++ entries_of w.state.list) (sym none) ∙ sym shown
+  -- it has the entries behind the folded ones
+  pub behind_listed : (opened : Accepted) (seen : List Entry) (res : Result T E) →
+      IfOk res (λ (x : T). list x ≡ w.state.list) → SharePast w.state opened → seen ≡ entries_in w.state →
+      IfOk res (λ (x : T). entries_of (list x) ≡ drop (length opened.folded) seen)
+  behind_listed opened seen (Err e) is past shown = tt
+  behind_listed opened seen (Ok x) is past shown =
+      ap entries_of is ∙ sym (drop_front w.state.folded (entries_of w.state.list))
+      ∙ (λ i. drop (length (past.folded i)) (sym shown i))
+
+-- the list of all that a book has accepted, in the words of the call
+module _ {E : Type 0} (w : Register) (v : Setting) (setup : w.setup ≡ v) where
+  pub all_accepted : (res : Result Listing E) → IfOk res (λ (x : Listing). x ≡ listed_in w.setup w.state) →
+      AreAccepted w.setup w.state → IfOk res (λ (x : Listing). AreAccepted v (accepted_in x))
+  all_accepted (Err e) is held = tt
+  all_accepted (Ok x) is held =
+      subst (λ (l : Listing). AreAccepted v (accepted_in l)) (sym is)
+      (subst (λ (s : Setting). AreAccepted s w.state) setup held)
+
+  pub all_sized : (res : Result Listing E) → IfOk res (λ (x : Listing). x ≡ listed_in w.setup w.state) →
+      IfOk res (λ (x : Listing). x ≡ listed_in v (accepted_in x))
+  all_sized (Err e) is = tt
+  all_sized (Ok x) is = is ∙ (λ i. listed_in (setup i) w.state) ∙ ap (λ (l : Listing). listed_in v (accepted_in l))
+      (sym is)
+
+  pub all_past : (opened : Accepted) (res : Result Listing E) →
+      IfOk res (λ (x : Listing). x ≡ listed_in w.setup w.state) → SharePast w.state opened →
+      IfOk res (λ (x : Listing). SharePast (accepted_in x) opened)
+  all_past opened (Err e) is past = tt
+  all_past opened (Ok x) is past = subst (λ (l : Listing). SharePast (accepted_in l) opened) (sym is) past
+
+  pub all_listed : (seen : List Entry) (res : Result Listing E) →
+      IfOk res (λ (x : Listing). x ≡ listed_in w.setup w.state) → seen ≡ entries_in w.state →
+      IfOk res (λ (x : Listing). entries_in (accepted_in x) ≡ seen)
+  all_listed seen (Err e) is shown = tt
+  all_listed seen (Ok x) is shown = ap (λ (l : Listing). entries_in (accepted_in l)) is ∙ sym shown

@@ -4,10 +4,12 @@
 --     opened_seats    the seats of an engine that was just opened, in order of their numbers: the first has all that
 --                     was accepted before, the others have nothing; each was shown this version
 --     firsts          the seats' shares of the first ledger, added up
+--     SharePast a b   the same batches are folded in both, into the same base
 use Rattle.std.specs.Prelude.{◌≡◌, ℕ, ◌+◌, ◌==◌, if◌then◌else◌, zero, suc, List, [], ◌∷◌, ◌++◌, sum_by}
 use Rattle.logbook.specs.Pages.{Book}
 use Rattle.batch_store.specs.Setups.{Setting}
 use Rattle.batch_store.specs.declared.verdict.Entry.{Entry}
+use Rattle.batch_store.specs.Accepted.{Accepted}
 use Rattle.locked_engine.specs.Views.{NamesView, SeatView, seat_view}
 
 pub record NamesEngine (names : NamesView) (setup : Setting) (seats : ℕ) (history : Book)
@@ -29,3 +31,7 @@ opened_seats shown total (suc n) = opened_seats shown total n ++ opened_seat sho
 
 abbrev pub firsts : List SeatView → ℕ
 firsts seats = sum_by (λ (s : SeatView). s.first) seats
+
+pub record SharePast (a b : Accepted) : Type 0 where
+  pub base : a.base ≡ b.base
+  pub folded : a.folded ≡ b.folded

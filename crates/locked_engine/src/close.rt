@@ -4,7 +4,7 @@ ghost use mathlib.Core.List.{IsPrefix};
 ghost use Rattle.batch_store.specs.declared.verdict.Entry.{Entry};
 ghost use Rattle.batch_store.specs.Accepted.{entries_in, total_in};
 ghost use Rattle.plain_engine.specs.Standing.{AreTogether, HaveSetup, IsWhole, shards_total};
-ghost use Rattle.locked_engine.specs.Opened.{firsts};
+ghost use Rattle.locked_engine.specs.Opened.{firsts, SharePast};
 ghost use Rattle.locked_engine.specs.Told.{AreShown};
 
 use crate::engine::Engine;
@@ -31,8 +31,8 @@ pub enum CloseFault<N: Named, H: Ledger> {
         engine: Engine<N, H>,
         seats: Vec<Seat<N, H>>,
     },
-    /// Some shard's base isn't the part of the book's, or its record isn't, in order, the book's batches that concern
-    /// it. The totals agree all the same. Puts alone never lead to it.
+    /// Some shard's base isn't the book's cut to its rows, or its record isn't, in order, the book's batches that aren't
+    /// folded and concern it. The totals agree all the same. Puts alone never lead to it.
     RecordsDiffer {
         shards: Vec<Shard>,
         book: Book,
@@ -63,12 +63,13 @@ impl<N: Named, H: Ledger> Engine<N, H> {
         // The shards' totals add up to exactly the accepted total, within the limit, and so do the seats' first shares.
         ensures setup { IfOk result (λ e. e.setup ≡ N.setup) }
         ensures whole { IfOk result IsWhole }
+        ensures past { IfOk result (λ e. SharePast e.book.state N.opened) }
         ensures seats { IfOk result (λ e. firsts seats.items ≡ total_in e.book.state) }
         ensures differ { (shards : _) (book : _) → result ≡ Err (CloseFault.RecordsDiffer shards book) →
             (shards_total shards.items ≡ total_in book.state) × (total_in book.state ≤ N.setup.limit)
             × (firsts seats.items ≡ total_in book.state) }
-        // Some shard isn't at its place, or its base isn't the part of the book's, or its record isn't the book's
-        // batches that concern it.
+        // Some shard isn't at its place, or its base isn't the book's cut to its rows, or its record isn't the book's
+        // batches that aren't folded and concern it.
         ensures apart { (shards : _) (book : _) → result ≡ Err (CloseFault.RecordsDiffer shards book) →
             ¬ ((length shards.items ≡ N.setup.shards) × AreTogether N.setup.shards book.state 0 shards.items) }
 

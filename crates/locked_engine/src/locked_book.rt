@@ -1,22 +1,23 @@
 //! What stands behind the book's lock.
 ghost use Rattle.std.specs.Prelude.{◌≡◌, ◌+◌, ◌≤◌, ◌<◌, [], IfOk, IfErr, OnOk, OnErr, Ok, Some};
-ghost use Rattle.std.specs.Prelude.{drop};
+ghost use Rattle.std.specs.Prelude.{drop, length};
 ghost use Rattle.std.specs.Bool.{OnTrue};
 ghost use mathlib.Core.List.{IsPrefix};
 ghost use Rattle.std.specs.Arc.{arc_value};
 ghost use Rattle.batch_store.specs.Accepted.{unfolded, entries_in, count_in, total_in, with_batch};
-ghost use Rattle.batch_store.specs.Batches.{batch_total, entry_of as summary_of, values};
-ghost use Rattle.batch_store.specs.Books.{AreAccepted, verdict_on};
+ghost use Rattle.batch_store.specs.Batches.{batch_total, entry_of as summary_of, entries_of, values};
+ghost use Rattle.batch_store.specs.Books.{AreAccepted, accepted_in, listed_in, verdict_on};
 ghost use Rattle.batch_store.specs.Verdicts.{kept};
 ghost use Rattle.batch_store.specs.declared.verdict.Verdict.TheVariants.{Fresh};
 ghost use Rattle.locked_engine.specs.Told.{Answers, IsTold, answer_of};
+ghost use Rattle.locked_engine.specs.Opened.{SharePast};
 ghost use Rattle.locked_engine.specs.Versions.{IsVersion};
 
 use crate::fault::NotAdmitted;
 use crate::history::HistoryWord;
 use crate::names::Named;
 use crate::version::{NextPlace, NextVersion, Version, VersionWriter, entry_of};
-use batch_store::{Batch, Book, Kept, Verdict};
+use batch_store::{Batch, Book, BookList, Kept, Verdict};
 use crossbeam_utils::rule::Unruled;
 use left_right::Absorb;
 use plain_engine::PutFault;
@@ -26,7 +27,8 @@ use std::sync::ledger::{Ledger, Share};
 use std::sync::{Arc, Wait, ledger};
 
 /// The book with the numbers of both ledgers, each of which is its total, beside what shows its entries to readers, who
-/// are shown no others. None of its batches is folded.
+/// are shown no others. The same batches are folded as when the engine was
+/// opened.
 ///
 /// Contracts see the book. It isn't Drop, since the writer isn't: `end` takes that out.
 pub struct LockedBook<N: Named, H: Ledger>
@@ -50,6 +52,7 @@ where
     ghost use Rattle.std.specs.Prelude.{◌≡◌, [], drop, IfSome};
     ghost use Rattle.batch_store.specs.Accepted.{entries_in, total_in};
     ghost use Rattle.batch_store.specs.Books.{Register, coded_register};
+    ghost use Rattle.locked_engine.specs.Opened.{SharePast};
 
     ghost Value = { Register };
 
@@ -57,7 +60,7 @@ where
 
     ghost view = { λ d. d.book };
 
-    ghost invariant = { λ d. (d.book.setup ≡ N.setup) × (d.book.state.folded ≡ [])
+    ghost invariant = { λ d. (d.book.setup ≡ N.setup) × SharePast d.book.state N.opened
         × (d.first.total ≡ total_in d.book.state) × (d.second.total ≡ total_in d.book.state)
         × (d.version ≡ entries_in d.book.state)
         × IfSome d.writer (λ w. (w.desk.shown.value ≡ entries_in d.book.state) × (drop w.behind w.log.items ≡ [])) };
@@ -142,7 +145,7 @@ where
         writer: VersionWriter<N>,
     ) -> LockedBook<N, H>
         requires setup { book.setup ≡ N.setup }
-        requires plain { book.state.folded ≡ [] }
+        requires past { SharePast book.state N.opened }
         requires first { first.total ≡ total_in book.state }
         requires second { second.total ≡ total_in book.state }
         requires version { version ≡ entries_in book.state }
@@ -169,7 +172,7 @@ where
     ) -> (Book, ledger::Book<N>, ledger::Book<H>, Version<N>)
         ensures book { result.0 ≡ self }
         ensures setup { result.0.setup ≡ N.setup }
-        ensures plain { result.0.state.folded ≡ [] }
+        ensures past { SharePast result.0.state N.opened }
         ensures first { result.1.total ≡ total_in result.0.state }
         ensures second { result.2.total ≡ total_in result.0.state }
         ensures shown { IsPrefix seen result.3 }
@@ -223,7 +226,7 @@ where
         fresh(self.book.look(b))
     }
 
-    /// The book's batches in order. The seat is shown their entries.
+    /// The book's batches that aren't folded, in order. The seat is shown the entries of all.
     ///
     /// # Errors
     ///
@@ -231,12 +234,30 @@ where
     pub fn list(&self, alloc: Global, seen: &mut Version<N>) -> Result<Vec<Arc<Batch>>, AllocError>
         ensures later { IsPrefix seen.old seen.new }
         ensures list { IfOk result (λ list. AreAccepted N.setup (unfolded (values list.items))) }
-        ensures shown { IfOk result (λ list. entries_in (unfolded (values list.items)) ≡ seen.new) }
+        ensures shown { IfOk result (λ list. entries_of (values list.items) ≡ drop (length N.opened.folded) seen.new) }
     {
         if !self.show(seen) {
             return Err(AllocError);
         }
         self.book.list(alloc)
+    }
+
+    /// All that the book has accepted. The seat is shown the entries.
+    ///
+    /// # Errors
+    ///
+    /// A growth was refused, or the seat was shown more.
+    pub fn book_list(&self, alloc: Global, seen: &mut Version<N>) -> Result<BookList, AllocError>
+        ensures later { IsPrefix seen.old seen.new }
+        ensures list { IfOk result (λ list. AreAccepted N.setup (accepted_in list)) }
+        ensures dims { IfOk result (λ list. list ≡ listed_in N.setup (accepted_in list)) }
+        ensures past { IfOk result (λ list. SharePast (accepted_in list) N.opened) }
+        ensures shown { IfOk result (λ list. entries_in (accepted_in list) ≡ seen.new) }
+    {
+        if !self.show(seen) {
+            return Err(AllocError);
+        }
+        self.book.book_list(alloc)
     }
 
     /// Accepts a fresh batch, and deposits its total in both ledgers: in the first for good, in the second until the

@@ -1,20 +1,21 @@
 //! What one shard answers under its lock, and what the book does.
-ghost use Rattle.std.specs.Prelude.{◌≡◌, ◌⊎◌, ◌<◌, ◌≤◌, ◌%◌, None, Some, IfOk, IfSome};
+ghost use Rattle.std.specs.Prelude.{◌≡◌, ◌⊎◌, ◌<◌, ◌≤◌, ◌%◌, None, Some, IfOk, IfSome, drop, length};
 ghost use Rattle.std.specs.Fn.{FnOnceReturnsAt};
 ghost use Rattle.std.specs.FinMap.{get};
 ghost use Rattle.layer_cascade.specs.Cascade.{content};
 ghost use mathlib.Core.List.{IsPrefix};
 ghost use Rattle.batch_store.specs.Accepted.{unfolded, entries_in};
-ghost use Rattle.batch_store.specs.Batches.{values};
-ghost use Rattle.batch_store.specs.Books.{AreAccepted};
+ghost use Rattle.batch_store.specs.Batches.{entries_of, values};
+ghost use Rattle.batch_store.specs.Books.{AreAccepted, accepted_in, listed_in};
 ghost use Rattle.batch_store.specs.Shards.{Holding};
+ghost use Rattle.locked_engine.specs.Opened.{SharePast};
 ghost use Rattle.locked_engine.specs.Moments.{IsShardOf, no_sum, row_sum_in};
 ghost use Rattle.locked_engine.specs.Versions.{IsVersion, version_status};
 
 use crate::engine::Engine;
 use crate::names::Named;
 use crate::seat::Seat;
-use batch_store::{Batch, Shard};
+use batch_store::{Batch, BookList, Shard};
 use hyper_matrix::RowSum;
 use plain_engine::Status;
 use std::alloc::{AllocError, Global};
@@ -99,8 +100,8 @@ impl<N: Named, H: Ledger> Engine<N, H> {
         }
     }
 
-    /// The accepted batches in order, in a list that shares them, as the book has them under its lock: one growth, and
-    /// no copy of a batch. The seat is shown their entries.
+    /// The accepted batches that aren't folded, in order, in a list that shares them, as the book has them under its
+    /// lock: one growth, and no copy of a batch. The seat is shown the entries of all, the folded ones first.
     ///
     /// # Errors
     ///
@@ -115,10 +116,37 @@ impl<N: Named, H: Ledger> Engine<N, H> {
         ensures first { seat.new.first ≡ seat.old.first }
         ensures later { IsPrefix seat.old.seen seat.new.seen }
         ensures list { IfOk result (λ list. AreAccepted N.setup (unfolded (values list.items))) }
-        ensures shown { IfOk result (λ list. entries_in (unfolded (values list.items)) ≡ seat.new.seen) }
+        ensures shown { IfOk result (λ list. entries_of (values list.items) ≡ drop (length N.opened.folded) seat.new.seen) }
     {
         let locked = self.book.lock(rt);
         let list = locked.list(alloc, &mut seat.seen);
+        let _ = MutexGuard::unlock(locked);
+        list
+    }
+
+    /// All that was accepted, as the book has it under its lock: the base, the entries of the folded batches and the
+    /// batches behind them, in a list that shares the base and the batches. Two growths, of 32 bytes for each folded
+    /// batch and a pointer for each other. The seat is shown the entries.
+    ///
+    /// # Errors
+    ///
+    /// A growth was refused, or the seat was shown more than the book has, to which puts alone never lead.
+    pub fn book_list<R: Wait>(
+        &self,
+        rt: &R,
+        alloc: Global,
+        seat: &mut Seat<N, H>,
+    ) -> Result<BookList, AllocError>
+        ensures number { seat.new.number ≡ seat.old.number }
+        ensures first { seat.new.first ≡ seat.old.first }
+        ensures later { IsPrefix seat.old.seen seat.new.seen }
+        ensures list { IfOk result (λ list. AreAccepted N.setup (accepted_in list)) }
+        ensures dims { IfOk result (λ list. list ≡ listed_in N.setup (accepted_in list)) }
+        ensures past { IfOk result (λ list. SharePast (accepted_in list) N.opened) }
+        ensures shown { IfOk result (λ list. entries_in (accepted_in list) ≡ seat.new.seen) }
+    {
+        let locked = self.book.lock(rt);
+        let list = locked.book_list(alloc, &mut seat.seen);
         let _ = MutexGuard::unlock(locked);
         list
     }

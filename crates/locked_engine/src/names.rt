@@ -1,6 +1,7 @@
 //! What an engine is named by.
 ghost use Rattle.std.specs.Prelude.{◌≡◌, ℕ, ◌+◌, ◌≤◌, ◌<◌, IfOk, ◌↔◌, [], List};
 ghost use Rattle.batch_store.specs.Setups.{Setting, setting};
+ghost use Rattle.batch_store.specs.Accepted.{unfolded, entries_in};
 ghost use Rattle.locked_engine.specs.Versions.{IsVersion, version_status};
 
 use crate::fault::OpenFault;
@@ -12,15 +13,15 @@ use std::alloc::Global;
 use std::marker::{Brand, Model};
 use std::sync::ledger::{Blank, Ledger};
 
-/// Which engine it is: the first of its two ledgers, its setup and its number of seats, the entries with which it was
-/// opened, and the history of those that it accepts from then on. It has no functions: what it names exists in proofs
+/// Which engine it is: the first of its two ledgers, its setup and its number of seats, what had been accepted when it
+/// was opened, and the history of the entries that it accepts from then on. It has no functions: what it names exists in proofs
 /// alone.
 ///
 /// Whoever opens an engine takes `Brand` for it, and for the second ledger, and tells in the call's proof which names
 /// are meant. A function over an engine takes them as type parameters.
 pub trait Named: Ledger {
     ghost use Rattle.logbook.specs.Pages.{Book};
-    ghost use Rattle.batch_store.specs.declared.verdict.Entry.{Entry};
+    ghost use Rattle.batch_store.specs.Accepted.{Accepted};
 
     ghost setup: { Setting };
 
@@ -28,7 +29,7 @@ pub trait Named: Ledger {
 
     ghost history: { Book };
 
-    ghost opened: { List Entry };
+    ghost opened: { Accepted };
 }
 
 impl Named for Brand {
@@ -38,7 +39,7 @@ impl Named for Brand {
 
     ghost history = { record { number = 0; log_name = 0; cells_name = 0 } };
 
-    ghost opened = { [] };
+    ghost opened = { unfolded [] };
 }
 
 /// The most seats.
@@ -118,9 +119,9 @@ impl Names {
     // What a seat is shown first: the entries with which the engine is opened.
     pub(crate) fn version<N: Named>(&self, status: Status) -> Version<N>
         requires history { self.now.history ≡ N.history }
-        requires status { status ≡ version_status N.opened }
-        requires legal { IsVersion N.setup N.opened }
-        ensures { result ≡ N.opened }
+        requires status { status ≡ version_status (entries_in N.opened) }
+        requires legal { IsVersion N.setup (entries_in N.opened) }
+        ensures { result ≡ entries_in N.opened }
     {
         Version::begin(&self.history, status)
     }

@@ -23,8 +23,8 @@ impl<N: Named, H: Ledger> Engine<N, H> {
     /// first seat's share starts with all that was accepted, the others' with nothing. It grows two places and a
     /// version for each shard, a place for each seat, and what shows readers the status.
     ///
-    /// N and H name `names`, which were made from `plain`, and N the entries of the batches of `plain`: whoever calls
-    /// with `Brand` for both picks them so. Each seat is shown these entries.
+    /// N and H name `names`, which were made from `plain`, and N what `plain` has accepted: whoever calls with `Brand` for
+    /// both picks them so. Each seat is shown the entries of that. Nothing is folded while the engine is open.
     ///
     /// # Errors
     ///
@@ -36,7 +36,7 @@ impl<N: Named, H: Ledger> Engine<N, H> {
     ) -> Result<(Engine<N, H>, Vec<Seat<N, H>>), (PlainEngine, Names, AllocError)>
         requires named { NamesEngine names N.setup N.seats N.history N.name N.parts H.name H.parts }
         requires made_from { plain.setup ≡ names.setup }
-        requires opened { entries_in plain.book.state ≡ N.opened }
+        requires opened { plain.book.state ≡ N.opened }
         ensures seats { IfOk result (λ r. r.1.items ≡
             opened_seats (entries_in plain.book.state) (total_in plain.book.state) N.seats) }
         ensures err { IfErr result (λ r. (r.0 ≡ plain) × (r.1 ≡ names)) }

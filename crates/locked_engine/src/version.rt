@@ -3,6 +3,7 @@ ghost use Rattle.std.specs.Prelude.{◌≡◌, ◌≤◌, ◌++◌, ◌∷◌, [
 ghost use Rattle.std.specs.Bool.{OnTrue};
 ghost use mathlib.Core.List.{IsPrefix};
 ghost use Rattle.batch_store.specs.declared.verdict.Verdict.TheVariants.{Fresh};
+ghost use Rattle.batch_store.specs.Accepted.{entries_in};
 ghost use Rattle.batch_store.specs.Batches.{entry_of as summary_of};
 ghost use Rattle.locked_engine.specs.Versions.{IsVersion, version_status, entry_verdict};
 
@@ -35,6 +36,7 @@ impl<N: Named> Model for Version<N> {
     ghost use Rattle.std.specs.Prelude.{◌≡◌, ◌++◌, List, length};
     ghost use Rattle.std.specs.Coded.{coded_list};
     ghost use Rattle.batch_store.specs.declared.verdict.Entry.{Entry};
+    ghost use Rattle.batch_store.specs.Accepted.{entries_in};
     ghost use Rattle.batch_store.specs.Verdicts.{coded_entry};
     ghost use Rattle.locked_engine.specs.Versions.{IsVersion, version_status};
 
@@ -42,19 +44,19 @@ impl<N: Named> Model for Version<N> {
 
     ghost coded = { coded_list coded_entry };
 
-    ghost view = { λ a. N.opened ++ a.seen.log };
+    ghost view = { λ a. entries_in N.opened ++ a.seen.log };
 
-    ghost invariant = { λ a. (a.status ≡ version_status (N.opened ++ a.seen.log)) × (a.added ≡ length a.seen.log)
-        × (a.seen.book ≡ N.history) × IsVersion N.setup (N.opened ++ a.seen.log) };
+    ghost invariant = { λ a. (a.status ≡ version_status (entries_in N.opened ++ a.seen.log)) × (a.added ≡ length a.seen.log)
+        × (a.seen.book ≡ N.history) × IsVersion N.setup (entries_in N.opened ++ a.seen.log) };
 }
 
 impl<N: Named> Version<N> {
     /// The version of an engine that is just opened, of this status.
     pub fn begin(opened: &NewHistory, status: Status) -> Version<N>
         requires history { opened.now.seen.book ≡ N.history }
-        requires status { status ≡ version_status N.opened }
-        requires legal { IsVersion N.setup N.opened }
-        ensures { result ≡ N.opened }
+        requires status { status ≡ version_status (entries_in N.opened) }
+        requires legal { IsVersion N.setup (entries_in N.opened) }
+        ensures { result ≡ entries_in N.opened }
     {
         Version {
             status,

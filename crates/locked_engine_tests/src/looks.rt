@@ -43,7 +43,7 @@ fn put_and_look<N: Named, H: Ledger, R: Wait + Abort>(
 ) -> Result<(), Fail>
     requires named { NamesEngine names N.setup N.seats N.history N.name N.parts H.name H.parts }
     requires made_from { plain.setup ≡ names.setup }
-    requires opened { entries_in plain.book.state ≡ N.opened }
+    requires opened { plain.book.state ≡ N.opened }
 {
     let (engine, mut seats) = opened::<N, H>(alloc, plain, names)?;
     let found = put_and_expect(rt, alloc, &engine, &mut seats);

@@ -74,7 +74,7 @@ fn put_sixty_twice<
 >(rt: &R, alloc: Global, plain: PlainEngine, names: Names) -> Result<(), Fail>
     requires named { NamesEngine names N.setup N.seats N.history N.name N.parts H.name H.parts }
     requires made_from { plain.setup ≡ names.setup }
-    requires opened { entries_in plain.book.state ≡ N.opened }
+    requires opened { plain.book.state ≡ N.opened }
 {
     let (engine, mut seats) = opened::<N, H>(alloc, plain, names)?;
     if let Err(fail) = put_from_both(rt, alloc, &engine, &mut seats) {
@@ -162,7 +162,7 @@ fn see_what_was_put<N: Named, H: Ledger, R: Wait + Abort>(
 ) -> Result<(), Fail>
     requires named { NamesEngine names N.setup N.seats N.history N.name N.parts H.name H.parts }
     requires made_from { plain.setup ≡ names.setup }
-    requires opened { entries_in plain.book.state ≡ N.opened }
+    requires opened { plain.book.state ≡ N.opened }
 {
     let (engine, mut seats) = opened::<N, H>(alloc, plain, names)?;
     if let Err(fail) = see_from_both(rt, alloc, &engine, &mut seats) {

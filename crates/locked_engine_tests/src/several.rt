@@ -58,7 +58,7 @@ fn put_beside_a_look<
 >(rt: &R, alloc: Global, plain: PlainEngine, names: Names) -> Result<(), Fail>
     requires named { NamesEngine names N.setup N.seats N.history N.name N.parts H.name H.parts }
     requires made_from { plain.setup ≡ names.setup }
-    requires opened { entries_in plain.book.state ≡ N.opened }
+    requires opened { plain.book.state ≡ N.opened }
 {
     let (engine, mut seats) = opened::<N, H>(alloc, plain, names)?;
     let put = put_and_export(rt, alloc, &engine, &mut seats);
@@ -149,7 +149,7 @@ fn put_by_both<N: Named + Send + Sync, H: Ledger + Send + Sync, R: Threads + Wai
 ) -> Result<(), Fail>
     requires named { NamesEngine names N.setup N.seats N.history N.name N.parts H.name H.parts }
     requires made_from { plain.setup ≡ names.setup }
-    requires opened { entries_in plain.book.state ≡ N.opened }
+    requires opened { plain.book.state ≡ N.opened }
 {
     let (engine, mut seats) = opened::<N, H>(alloc, plain, names)?;
     if let Err(fail) = put_and_read(rt, alloc, &engine, &mut seats) {

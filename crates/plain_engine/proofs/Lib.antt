@@ -5,6 +5,7 @@ pub mod StandLaws
 pub mod ViewLaws
 pub mod SameLaws
 pub mod PutLaws
+pub mod FoldingLaws
 pub mod LookLaws
 pub mod LoadLaws
 mod WalkLaws

@@ -8,7 +8,7 @@ use Rattle.batch_store.specs.Setups.{Setting}
 use Rattle.batch_store.specs.Batches.{Submission}
 use Rattle.batch_store.specs.Parts.{concerns, concerned}
 use Rattle.batch_store.specs.declared.verdict.Verdict.TheVariants.{Fresh}
-use Rattle.batch_store.specs.Accepted.{unfolded}
+use Rattle.batch_store.specs.Accepted.{Accepted, with_batch}
 use Rattle.plain_engine.specs.Object.{verdict_in}
 use Rattle.plain_engine.specs.World.{Part, World, Event, part_for, parts_for, record_at, append_at, Delivers, Admits}
 use Rattle.plain_engine.specs.World.{RunsLocked, FindsFree, AllFollow, Starts, world, deliveries}
@@ -91,7 +91,7 @@ waits_one s b k (suc m) h = elim (cases_lt s m) [
 record KeepsOrder (v : Setting) (w : World) : Type 0 where
   count : length w.records ≡ v.shards
   few : (s : ℕ) → s < v.shards → length (waiting s w.flight) ≤ 1
-  follow : (s : ℕ) → s < v.shards → record_at w.records s ++ waiting s w.flight ≡ concerned s v.shards w.book
+  follow : (s : ℕ) → s < v.shards → record_at w.records s ++ waiting s w.flight ≡ concerned s v.shards w.book.list
 
 order-start : (v : Setting) (w : World) → Starts v w → KeepsOrder v w
 order-start v w st = record {
@@ -118,8 +118,8 @@ order-admit v w b u free a inv =
           ap (λ bs. record_at w.records s ++ bs) (waiting-append s w.flight more)
           ∙ sym (append_assoc (record_at w.records s) (waiting s w.flight) (waiting s more))
           ∙ ap (λ bs. bs ++ waiting s more) (inv.follow s below)
-          ∙ ap (λ bs. concerned s k w.book ++ bs) (waits_one s b k k below)
-          ∙ sym (filter-append (λ (x : Submission). concerns s k x.matrix.counts) w.book (b ∷ []));
+          ∙ ap (λ bs. concerned s k w.book.list ++ bs) (waits_one s b k k below)
+          ∙ sym (filter-append (λ (x : Submission). concerns s k x.matrix.counts) w.book.list (b ∷ []));
     })
   where
     one : (s : ℕ) → s < v.shards → (x : Bool) → concerns s v.shards b.matrix.counts ≡ x →
@@ -153,7 +153,7 @@ order-deliver v w b s u d inv =
     split t = ap (waiting t) d.was ∙ waiting-append t d.before (part_for b s ∷ d.behind)
 
     at : (t : ℕ) → t < v.shards → (x : Bool) → eqb s t ≡ x → (length (waiting t (d.before ++ d.behind)) ≤ 1) ×
-        (record_at (append_at w.records s b) t ++ waiting t (d.before ++ d.behind) ≡ concerned t v.shards w.book)
+        (record_at (append_at w.records s b) t ++ waiting t (d.before ++ d.behind) ≡ concerned t v.shards w.book.list)
     at t below true is =
         let same : s ≡ t = same_number s t is in
         let now : waiting t w.flight ≡ waiting t d.before ++ b ∷ waiting t d.behind = split t
@@ -190,13 +190,13 @@ order-run v (Deliver b s ∷ es) w u run inv = order-run v es run.0 u run.1.1 (o
 
 -- with nothing in flight each record follows the book
 pub run_follows : (v : Setting) (w : World) (es : List Event) (u : World) → Starts v w → RunsLocked v w es u →
-    u.flight ≡ [] → AllFollow v.shards u.records u.book
+    u.flight ≡ [] → AllFollow v.shards u.records u.book.list
 run_follows v w es u st run none = λ s below.
     sym (ap (λ (ps : List Part). record_at u.records s ++ waiting s ps) none ∙ append-nil (record_at u.records s))
     ∙ (order-run v es w u run (order-start v w st)).follow s below
 
 -- the parts of one batch delivered in turn
-deliver-all : (v : Setting) (book : List Submission) (records : List (List Submission)) (ps : List Part) →
+deliver-all : (v : Setting) (book : Accepted) (records : List (List Submission)) (ps : List Part) →
     (u : World) × (RunsLocked v (world book records ps) (deliveries ps) u × (u.book ≡ book) × (u.flight ≡ []))
 deliver-all v book records [] = (world book records [], (refl, refl, refl))
 deliver-all v book records (p ∷ ps) =
@@ -212,17 +212,17 @@ deliver-all v book records (p ∷ ps) =
 
 -- a batch that is put alone: its admission and the deliveries of its parts are a locked run, which ends with nothing in
 -- flight
-pub put_is_run : (v : Setting) (w : World) (b : Submission) → Starts v w → verdict_in v (unfolded w.book) b ≡ Fresh
+pub put_is_run : (v : Setting) (w : World) (b : Submission) → Starts v w → verdict_in v w.book b ≡ Fresh
     → (u : World) × (RunsLocked v w (Admit b ∷ deliveries (parts_for b v.shards v.shards)) u ×
-    (u.book ≡ w.book ++ b ∷ []) × (u.flight ≡ []))
+    (u.book ≡ with_batch w.book b) × (u.flight ≡ []))
 put_is_run v w b st fresh =
     let k = v.shards in
     let ps = parts_for b k k in
-    let next = world (w.book ++ b ∷ []) w.records ps in
-    let rest = deliver-all v (w.book ++ b ∷ []) w.records ps in
+    let next = world (with_batch w.book b) w.records ps in
+    let rest = deliver-all v (with_batch w.book b) w.records ps in
     let admit : Admits v w b next = record {
       fresh = fresh;
-      now = ap (λ (fl : List Part). world (w.book ++ b ∷ []) w.records (fl ++ ps)) (sym st.flight);
+      now = ap (λ (fl : List Part). world (with_batch w.book b) w.records (fl ++ ps)) (sym st.flight);
     } in
     let free : FindsFree k b w.flight = subst (FindsFree k b) (sym st.flight) tt in
     (rest.0, ((next, ((free, admit), rest.1.0)), rest.1.1, rest.1.2))

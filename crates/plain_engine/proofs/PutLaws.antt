@@ -127,6 +127,7 @@ module _ (v : Setting) (a : Accepted) (b : Submission) where
       let rest : map bare_shard ys ≡ map (shard_after b) xs = cc in
       (stands_after i x y h.0 held.0 first, stand_after (i + 1) xs ys h.1 held.1 rest)
 
+module _ (v : Setting) (a : Accepted) where
   stands_same : (i : ℕ) (x y : Holding) → StandsAt v a i x → bare_shard y ≡ bare_shard x → StandsAt v a i y
   stands_same i x y h same = record {
     number = ap (λ (z : Holding). z.number) same ∙ h.number;
@@ -147,7 +148,7 @@ module _ (v : Setting) (a : Accepted) (b : Submission) where
       let rest : map bare_shard ys ≡ map bare_shard xs = cc in
       (stands_same i x y h.0 first, stand_same (i + 1) xs ys h.1 rest)
 
-length-alike : {A B C : Type 0} (f : A → C) (g : B → C) (xs : List A) (ys : List B) → map f xs ≡ map g ys →
+pub length-alike : {A B C : Type 0} (f : A → C) (g : B → C) (xs : List A) (ys : List B) → map f xs ≡ map g ys →
     length xs ≡ length ys
 length-alike f g [] [] h = refl
 length-alike f g [] (y ∷ ys) h = absurd cc
@@ -161,21 +162,19 @@ module _ (v : Setting) (book after : Register) (xs ys : List Holding) (keeps : K
   keeps_after b accepted more held is = record {
     of_setup = setup ∙ keeps.of_setup;
     accepted = subst (λ (w : Setting). AreAccepted w after.state) (setup ∙ keeps.of_setup) accepted;
-    plain = ap (λ (a : Accepted). a.folded) more ∙ keeps.plain;
     count = length-alike bare_shard (shard_after b) ys xs is ∙ keeps.count;
     stand = subst (λ (a : Accepted). Stand v a 0 ys) (sym more)
         (stand_after v book.state b 0 xs ys keeps.stand held is);
   }
 
-  pub keeps_same : (b : Submission) → after.state ≡ book.state → map bare_shard ys ≡ map bare_shard xs →
+  pub keeps_same : after.state ≡ book.state → map bare_shard ys ≡ map bare_shard xs →
       KeepsEngine v after ys
-  keeps_same b same is = record {
+  keeps_same same is = record {
     of_setup = setup ∙ keeps.of_setup;
     accepted = subst (AreAccepted v) (sym same) keeps.accepted;
-    plain = ap (λ (a : Accepted). a.folded) same ∙ keeps.plain;
     count = length-alike bare_shard bare_shard ys xs is ∙ keeps.count;
     stand = subst (λ (a : Accepted). Stand v a 0 ys) (sym same)
-        (stand_same v book.state b 0 xs ys keeps.stand is);
+        (stand_same v book.state 0 xs ys keeps.stand is);
   }
 
 -- a list that was written back whole

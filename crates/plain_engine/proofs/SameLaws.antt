@@ -4,7 +4,7 @@ use Rattle.std.proofs.Common.{◌+◌, ◌-◌, None, drop, Some, sym, ◌∙◌
 use Rattle.std.specs.Prelude.{slice_get}
 use Rattle.std.proofs.lemmas.List.Elements.{filter-append}
 use Rattle.std.specs.FinMap.{entries}
-use Rattle.hyper_matrix.specs.Counts.{built}
+use Rattle.hyper_matrix.specs.Counts.{Counts, built}
 use Rattle.hyper_matrix.specs.Matrix.{Matrix}
 use Rattle.hyper_matrix.proofs.PartLaws.{built-entries}
 use Rattle.std.proofs.lemmas.Bool.{le-ltb}
@@ -72,10 +72,13 @@ module _ (s k : ℕ) (list : List Submission) (i : ℕ) (b : Submission) (at : s
       so_far ∙ sym (concerned_more ∙ ap (λ (x : Bool). concerned s k (take i list) ++ cond x (b ∷ []) []) other
       ∙ append-nil (concerned s k (take i list)))
 
--- matrices of the same dimensions and cells are the same
+-- maps of the same entries are the same, and so are matrices of the same dimensions
+pub same_counts_by_entries : (a b : Counts) → entries a ≡ entries b → a ≡ b
+same_counts_by_entries a b cells = sym (built-entries a) ∙ ap built cells ∙ built-entries b
+
 pub same_matrices : (a b : Matrix) → a.rows ≡ b.rows → a.cols ≡ b.cols → entries a.counts ≡ entries b.counts → a ≡ b
 same_matrices a b rows cols cells =
-    let counts : a.counts ≡ b.counts = sym (built-entries a.counts) ∙ ap built cells ∙ built-entries b.counts in
+    let counts = same_counts_by_entries a.counts b.counts cells in
     λ i. record { rows = rows i; cols = cols i; counts = counts i }
 
 pub within_list : {A : Type 0} (xs : List A) (n : ℕ) (x : A) → slice_get xs n ≡ Some x → n < length xs

@@ -8,7 +8,7 @@ use Rattle.hyper_matrix.proofs.CountLaws.{ewise_add-empty, ewise_add_assoc, part
 use Rattle.layer_cascade.specs.Cascade.{content}
 use Rattle.layer_cascade.proofs.CascadeLaws.{empty-ewise_add}
 use Rattle.batch_store.specs.Setups.{Setting}
-use Rattle.batch_store.specs.Accepted.{Accepted, accepted, unfolded, summed}
+use Rattle.batch_store.specs.Accepted.{Accepted, unfolded, summed}
 use Rattle.batch_store.specs.Parts.{record_content, concerned}
 use Rattle.batch_store.specs.Books.{Register}
 use Rattle.batch_store.specs.Shards.{Holding, AreHeld}
@@ -102,7 +102,6 @@ whole v book xs e keeps view =
     let sums = contents_whole v a xs (omega (arith, keeps.accepted.sound.shards.0)) keeps.count keeps.stand in
     subst IsWhole view (record {
       keeps = keeps;
-      state = λ j. accepted (keeps.accepted.based.none keeps.plain j) (keeps.plain j) a.list;
       totals = sym (total-shards_content xs) ∙ ap total sums ∙ total-summed a keeps.accepted.based;
       sums = sums;
     })
@@ -118,21 +117,6 @@ take_here zero (y ∷ ys) x here is = ap (λ (n : ℕ). take n (y ∷ ys)) {x = 
     ∙ ap (λ z. z ∷ []) (sym is)
 take_here (suc i) (y ∷ ys) x here is = ap (λ (n : ℕ). take n (y ∷ ys)) {x = suc i + 1} {y = suc (i + 1)} (omega arith)
     ∙ ap (λ zs. y ∷ zs) (take_here i ys x (omega arith) is)
-
--- ---- a shard without a base, where nothing is folded
-module _ (n : ℕ) (m shared : Matrix) (r c : ℕ) (base all : Counts) (i k : ℕ) (counted : n ≡ len m.counts)
-    (here : m ≡ shared) (told : shared ≡ matrix r c base) (plain : all ≡ empty) where
-  base_counted : n ≡ len base
-  base_counted = counted ∙ ap (λ (x : Matrix). len x.counts) (here ∙ told)
-
-  pub no_base : n ≤ 0 → base ≡ part all i k
-  no_base none = empty_of_len base (omega (arith, base_counted, none))
-      ∙ sym (ap (λ (x : Counts). part x i k) plain ∙ part-empty i k)
-
-  pub some_base : 0 < n → base ≡ part all i k → ⊥
-  some_base some is =
-      let nothing : base ≡ empty = is ∙ ap (λ (x : Counts). part x i k) plain ∙ part-empty i k in
-      omega (arith, base_counted, some, ap len nothing, len-empty place_cmp ℕ)
 
 -- the shard at place i, where those from it on belong together
 pub based_here : (k : ℕ) (a : Accepted) (i : ℕ) (xs : List Holding) (x : Holding) → i < length xs → x ≡ get_or xs i x →

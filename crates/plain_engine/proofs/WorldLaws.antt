@@ -5,9 +5,7 @@ use Rattle.std.specs.List.{IsDistinct, AllByRecursion}
 use Rattle.std.proofs.lemmas.List.{map-append}
 use Rattle.std.proofs.lemmas.Bool.{cases_lt}
 use Rattle.std.proofs.lemmas.Bool.Decides.{nat_tests}
-use Rattle.std.specs.FinMap.{empty}
 use Rattle.hyper_matrix.specs.Counts.{Counts, ewise_add, part, parts}
-use Rattle.layer_cascade.specs.Cascade.{content}
 use Rattle.hyper_matrix.proofs.CountLaws.{ewise_add-empty, ewise_add_comm, ewise_add_assoc, parts_whole}
 use Rattle.layer_cascade.proofs.CascadeLaws.{empty-ewise_add}
 use Rattle.batch_store.specs.declared.verdict.Entry.{Entry}
@@ -15,13 +13,13 @@ use Rattle.batch_store.specs.declared.verdict.Verdict.TheVariants.{Fresh}
 use Rattle.batch_store.specs.Setups.{Setting}
 use Rattle.batch_store.specs.Batches.{Submission, entry_of, entries_of}
 use Rattle.batch_store.specs.Verdicts.{same_pair}
-use Rattle.batch_store.specs.Accepted.{unfolded, list_sum}
-use Rattle.batch_store.specs.Parts.{concerns, parts_of, record_content, concerned}
+use Rattle.batch_store.specs.Accepted.{Accepted, entries_in, with_batch, summed}
+use Rattle.batch_store.specs.Parts.{concerns, record_content, concerned}
 use Rattle.batch_store.specs.Books.{AreDistinct}
 use Rattle.batch_store.proofs.VerdictLaws.{fresh_is, none_same, distinct_push}
-use Rattle.batch_store.proofs.PartLaws.{record_content-concerned}
 use Rattle.batch_store.proofs.ShardLaws.{record_content-push}
-use Rattle.batch_store.proofs.SumLaws.{list_sum-push, content-parts}
+use Rattle.batch_store.proofs.BookLaws.{entries-with}
+use Rattle.batch_store.proofs.SumLaws.{summed-with, record-whole}
 use Rattle.plain_engine.specs.Object.{verdict_in}
 use Rattle.plain_engine.specs.World.{Part, World, Event, part_for, parts_for, record_at, append_at, Delivers, Admits}
 use Rattle.plain_engine.specs.World.{Runs, AllFollow, Starts, records_content, flight_content}
@@ -57,59 +55,61 @@ flight_content-parts_for b k (suc n) = by (concerns n k b.matrix.counts) refl (f
         ∙ ap (ewise_add (parts b.matrix.counts n k)) (sym (part-unconcerned n k b.matrix.counts is))
 
 -- a batch more in record s adds its part
-records_content-append_at : (i k : ℕ) (rs : List (List Submission)) (s : ℕ) (b : Submission) → s < length rs →
-    records_content i k (append_at rs s b) ≡ ewise_add (records_content i k rs) (part b.matrix.counts (i + s) k)
-records_content-append_at i k [] s b h = absurd (omega arith)
-records_content-append_at i k (r ∷ rs) zero b h =
-    let rest = records_content (i + 1) k rs in
+records_content-append_at : (i k : ℕ) (base : Counts) (rs : List (List Submission)) (s : ℕ) (b : Submission) →
+    s < length rs →
+    records_content i k base (append_at rs s b) ≡ ewise_add (records_content i k base rs) (part b.matrix.counts (i + s) k)
+records_content-append_at i k base [] s b h = absurd (omega arith)
+records_content-append_at i k base (r ∷ rs) zero b h =
+    let rest = records_content (i + 1) k base rs in
     let m = part b.matrix.counts i k in
-    let own = record_content i k empty r in
-    ap (λ (c : Counts). ewise_add c rest) (record_content-push i k empty r b)
+    let own = record_content i k (part base i k) r in
+    ap (λ (c : Counts). ewise_add c rest) (record_content-push i k (part base i k) r b)
     ∙ ewise_add_assoc own m rest ∙ ap (ewise_add own) (ewise_add_comm m rest) ∙ sym (ewise_add_assoc own rest m)
     ∙ ap (λ (n : ℕ). ewise_add (ewise_add own rest) (part b.matrix.counts n k)) {x = i} {y = i + 0} (omega arith)
-records_content-append_at i k (r ∷ rs) (suc s) b h =
-    let own = record_content i k empty r in
-    ap (ewise_add own) (records_content-append_at (i + 1) k rs s b (omega arith))
-    ∙ sym (ewise_add_assoc own (records_content (i + 1) k rs) (part b.matrix.counts ((i + 1) + s) k))
-    ∙ ap (λ (n : ℕ). ewise_add (ewise_add own (records_content (i + 1) k rs)) (part b.matrix.counts n k))
-    {x = (i + 1) + s} {y = i + suc s} (omega arith)
+records_content-append_at i k base (r ∷ rs) (suc s) b h =
+    let own = record_content i k (part base i k) r in
+    let rest = records_content (i + 1) k base rs in
+    ap (ewise_add own) (records_content-append_at (i + 1) k base rs s b (omega arith))
+    ∙ sym (ewise_add_assoc own rest (part b.matrix.counts ((i + 1) + s) k))
+    ∙ ap (λ (n : ℕ). ewise_add (ewise_add own rest) (part b.matrix.counts n k)) {x = (i + 1) + s} {y = i + suc s}
+    (omega arith)
 
 pub length-append_at : (rs : List (List Submission)) (s : ℕ) (b : Submission) → length (append_at rs s b) ≡ length rs
 length-append_at [] s b = refl
 length-append_at (r ∷ rs) zero b = refl
 length-append_at (r ∷ rs) (suc s) b = ap suc (length-append_at rs s b)
 
--- records that follow a list have its parts
-records_content-follow : (i k : ℕ) (rs : List (List Submission)) (list : List Submission) →
-    ((s : ℕ) → s < length rs → record_at rs s ≡ concerned (i + s) k list)
-    → ewise_add (parts (list_sum list) i k) (records_content i k rs) ≡ parts (list_sum list) (i + length rs) k
-records_content-follow i k [] list h =
-    ewise_add-empty (parts (list_sum list) i k) ∙ ap (λ (n : ℕ). parts (list_sum list) n k) {x = i} {y = i + 0}
-    (omega arith)
-records_content-follow i k (r ∷ rs) list h =
-    let m = list_sum list in
-    let here : record_content i k empty r ≡ part m i k =
-    ap (record_content i k empty) (h 0 (omega arith) ∙ ap (λ (n : ℕ). concerned n k list) {x = i + 0} {y = i}
-    (omega arith)) ∙ record_content-concerned i k empty list
-    ∙ empty-ewise_add (content (parts_of i k list)) ∙ content-parts i k list in
-    let next : (s : ℕ) → s < length rs → record_at rs s ≡ concerned ((i + 1) + s) k list =
-    λ s below. h (suc s) (omega arith) ∙ ap (λ (n : ℕ). concerned n k list) {x = i + suc s} {y = (i + 1) + s}
+-- records that follow what was accepted have its parts
+records_content-follow : (i k : ℕ) (rs : List (List Submission)) (a : Accepted) →
+    ((s : ℕ) → s < length rs → record_at rs s ≡ concerned (i + s) k a.list)
+    → ewise_add (parts (summed a) i k) (records_content i k a.base rs) ≡ parts (summed a) (i + length rs) k
+records_content-follow i k [] a h =
+    ewise_add-empty (parts (summed a) i k) ∙ ap (λ (n : ℕ). parts (summed a) n k) {x = i} {y = i + 0} (omega arith)
+records_content-follow i k (r ∷ rs) a h =
+    let m = summed a in
+    let own = record_content i k (part a.base i k) r in
+    let here : own ≡ part m i k =
+    ap (record_content i k (part a.base i k)) (h 0 (omega arith) ∙ ap (λ (n : ℕ). concerned n k a.list) {x = i + 0}
+    {y = i} (omega arith)) ∙ record-whole i k a in
+    let next : (s : ℕ) → s < length rs → record_at rs s ≡ concerned ((i + 1) + s) k a.list =
+    λ s below. h (suc s) (omega arith) ∙ ap (λ (n : ℕ). concerned n k a.list) {x = i + suc s} {y = (i + 1) + s}
     (omega arith) in
-    sym (ewise_add_assoc (parts m i k) (record_content i k empty r) (records_content (i + 1) k rs))
-    ∙ ap (λ (c : Counts). ewise_add (ewise_add (parts m i k) c) (records_content (i + 1) k rs)) here
-    ∙ ap (λ (n : ℕ). ewise_add (parts m n k) (records_content (i + 1) k rs)) {x = suc i} {y = i + 1} (omega arith)
-    ∙ records_content-follow (i + 1) k rs list next
+    sym (ewise_add_assoc (parts m i k) own (records_content (i + 1) k a.base rs))
+    ∙ ap (λ (c : Counts). ewise_add (ewise_add (parts m i k) c) (records_content (i + 1) k a.base rs)) here
+    ∙ ap (λ (n : ℕ). ewise_add (parts m n k) (records_content (i + 1) k a.base rs)) {x = suc i} {y = i + 1}
+    (omega arith)
+    ∙ records_content-follow (i + 1) k rs a next
     ∙ ap (λ (n : ℕ). parts m n k) {x = (i + 1) + length rs} {y = i + suc (length rs)} (omega arith)
 
-pub records_content-whole : (k : ℕ) (rs : List (List Submission)) (list : List Submission) → 0 < k → length rs ≡ k →
-    AllFollow k rs list → records_content 0 k rs ≡ list_sum list
-records_content-whole k rs list pos count follow =
-    let at : (s : ℕ) → s < length rs → record_at rs s ≡ concerned (0 + s) k list = λ s below. follow s (omega arith)
-    ∙ ap (λ (n : ℕ). concerned n k list) {x = s} {y = 0 + s} (omega arith) in
-    sym (empty-ewise_add (records_content 0 k rs))
-    ∙ records_content-follow 0 k rs list at
-    ∙ ap (λ (n : ℕ). parts (list_sum list) n k) {x = 0 + length rs} {y = k} (omega arith)
-    ∙ parts_whole (list_sum list) k pos
+pub records_content-whole : (k : ℕ) (rs : List (List Submission)) (a : Accepted) → 0 < k → length rs ≡ k →
+    AllFollow k rs a.list → records_content 0 k a.base rs ≡ summed a
+records_content-whole k rs a pos count follow =
+    let at : (s : ℕ) → s < length rs → record_at rs s ≡ concerned (0 + s) k a.list = λ s below. follow s (omega arith)
+    ∙ ap (λ (n : ℕ). concerned n k a.list) {x = s} {y = 0 + s} (omega arith) in
+    sym (empty-ewise_add (records_content 0 k a.base rs))
+    ∙ records_content-follow 0 k rs a at
+    ∙ ap (λ (n : ℕ). parts (summed a) n k) {x = 0 + length rs} {y = k} (omega arith)
+    ∙ parts_whole (summed a) k pos
 
 -- each part in flight is for one of n shards
 abbrev AreBelow : ℕ → List Part → Type 0
@@ -140,7 +140,7 @@ below-parts_for b k n (suc m) h = by (concerns m k b.matrix.counts) (below-parts
 pub record Agrees (v : Setting) (w : World) : Type 0 where
   pub count : length w.records ≡ v.shards
   pub below : AreBelow v.shards w.flight
-  pub sums : list_sum w.book ≡ ewise_add (records_content 0 v.shards w.records) (flight_content v.shards w.flight)
+  pub sums : summed w.book ≡ ewise_add (records_content 0 v.shards w.book.base w.records) (flight_content v.shards w.flight)
 
 agrees-start : (v : Setting) (w : World) → Starts v w → Agrees v w
 agrees-start v w st = record {
@@ -148,8 +148,8 @@ agrees-start v w st = record {
   below = subst (AreBelow v.shards) (sym st.flight) tt;
   sums =
       sym (records_content-whole v.shards w.records w.book st.some st.count st.follow)
-      ∙ sym (ewise_add-empty (records_content 0 v.shards w.records))
-      ∙ ap (λ (ps : List Part). ewise_add (records_content 0 v.shards w.records) (flight_content v.shards ps))
+      ∙ sym (ewise_add-empty (records_content 0 v.shards w.book.base w.records))
+      ∙ ap (λ (ps : List Part). ewise_add (records_content 0 v.shards w.book.base w.records) (flight_content v.shards ps))
       (sym st.flight);
 }
 
@@ -157,7 +157,7 @@ agrees-admit : (v : Setting) (w : World) (b : Submission) (u : World) → 0 < v.
     Agrees v u
 agrees-admit v w b u pos a inv =
     let k = v.shards in
-    let rs = records_content 0 k w.records in
+    let rs = records_content 0 k w.book.base w.records in
     let fl = flight_content k w.flight in
     let m = b.matrix.counts in
     let own : flight_content k (parts_for b k k) ≡ m = flight_content-parts_for b k k ∙ parts_whole m k pos in
@@ -165,7 +165,7 @@ agrees-admit v w b u pos a inv =
       count = inv.count;
       below = below-append k w.flight (parts_for b k k) inv.below (below-parts_for b k k k (omega arith));
       sums =
-          list_sum-push w.book b ∙ ap (λ (c : Counts). ewise_add c m) inv.sums ∙ ewise_add_assoc rs fl m
+          summed-with w.book b ∙ ap (λ (c : Counts). ewise_add c m) inv.sums ∙ ewise_add_assoc rs fl m
           ∙ ap (ewise_add rs) (ap (ewise_add fl) (sym own) ∙ sym (flight_content-append k w.flight (parts_for b k k)));
     })
 
@@ -173,15 +173,15 @@ agrees-deliver : (v : Setting) (w : World) (b : Submission) (s : ℕ) (u : World
     Agrees v u
 agrees-deliver v w b s u d inv =
     let k = v.shards in
-    let rs = records_content 0 k w.records in
+    let rs = records_content 0 k w.book.base w.records in
     let m = part b.matrix.counts s k in
     let fst = flight_content k d.before in
     let snd = flight_content k d.behind in
     let there = below-split k d.before (part_for b s) d.behind (subst (AreBelow k) d.was inv.below) in
     let flight : flight_content k w.flight ≡ ewise_add fst (ewise_add m snd) = ap (flight_content k) d.was
     ∙ flight_content-append k d.before (part_for b s ∷ d.behind) in
-    let grown : records_content 0 k (append_at w.records s b) ≡ ewise_add rs m =
-    records_content-append_at 0 k w.records s b (omega (arith, there.0, inv.count))
+    let grown : records_content 0 k w.book.base (append_at w.records s b) ≡ ewise_add rs m =
+    records_content-append_at 0 k w.book.base w.records s b (omega (arith, there.0, inv.count))
     ∙ ap (λ (n : ℕ). ewise_add rs (part b.matrix.counts n k)) {x = 0 + s} {y = s} (omega arith) in
     subst (λ (x : World). Agrees v x) (sym d.now) (record {
       count = length-append_at w.records s b ∙ inv.count;
@@ -189,7 +189,7 @@ agrees-deliver v w b s u d inv =
       sums =
           inv.sums ∙ ap (ewise_add rs) flight ∙ move_middle rs m fst snd
           ∙ ap (λ (c : Counts). ewise_add c (ewise_add fst snd)) (sym grown)
-          ∙ ap (ewise_add (records_content 0 k (append_at w.records s b)))
+          ∙ ap (ewise_add (records_content 0 k w.book.base (append_at w.records s b)))
           (sym (flight_content-append k d.before d.behind));
     })
 
@@ -204,9 +204,9 @@ pub run_agrees : (v : Setting) (w : World) (es : List Event) (u : World) → Sta
 run_agrees v w es u st run = agrees-run v es w u st.some run (agrees-start v w st)
 
 pub run_lands : (v : Setting) (w : World) (es : List Event) (u : World) → Starts v w → Runs v w es u → u.flight ≡ [] →
-    records_content 0 v.shards u.records ≡ list_sum u.book
+    records_content 0 v.shards u.book.base u.records ≡ summed u.book
 run_lands v w es u st run none =
-    let rs = records_content 0 v.shards u.records in
+    let rs = records_content 0 v.shards u.book.base u.records in
     sym ((run_agrees v w es u st run).sums ∙ ap (λ (ps : List Part). ewise_add rs (flight_content v.shards ps)) none
     ∙ ewise_add-empty rs)
 
@@ -281,14 +281,19 @@ counted_distinct (x ∷ xs) h =
     let rest : (c n : ℕ) → pair_count c n xs ≤ 1 = λ c n. omega (arith, h c n) in
     (counted_none x xs own, counted_distinct xs rest)
 
--- the list after a fresh batch has distinct pairs
-pub distinct-fresh : (v : Setting) (list : List Submission) (b : Submission) → AreDistinct list →
-    verdict_in v (unfolded list) b ≡ Fresh → AreDistinct (list ++ b ∷ [])
-distinct-fresh v list b h fresh =
-    subst (IsDistinct same_pair) (sym (map-append entry_of list (b ∷ [])))
-    (distinct_push (entries_of list) (entry_of b) h
-    (none_same (entry_of b) (entries_of list) (fresh_is v.limit v.max_batches (entries_of list) (entry_of b)
-    fresh).new_pair))
+-- what was accepted has distinct pairs behind a fresh batch too
+pub distinct-fresh : (v : Setting) (a : Accepted) (b : Submission) → IsDistinct same_pair (entries_in a) →
+    verdict_in v a b ≡ Fresh → IsDistinct same_pair (entries_in (with_batch a b))
+distinct-fresh v a b h fresh =
+    subst (IsDistinct same_pair) (sym (entries-with a b))
+    (distinct_push (entries_in a) (entry_of b) h
+    (none_same (entry_of b) (entries_in a) (fresh_is v.limit v.max_batches (entries_in a) (entry_of b) fresh).new_pair))
+
+-- so have those that aren't folded
+pub distinct_behind : (es fs : List Entry) → IsDistinct same_pair (es ++ fs) → IsDistinct same_pair fs
+unfolding IsDistinct
+distinct_behind [] fs h = h
+distinct_behind (e ∷ es) fs h = distinct_behind es fs h.1
 
 -- the parts of one batch are for different shards
 parts_none : (c n s : ℕ) (b : Submission) (k m : ℕ) → m ≤ s → flight_count c n s (parts_for b k m) ≡ 0
@@ -352,11 +357,12 @@ append_counted c n (r ∷ rs) (suc s) (suc t) b =
     shift : (s t : ℕ) → eqb (suc s) (suc t) ≡ eqb s t
     shift s t = grind (arith, nat_tests)
 
--- no pair stands more often in a record and in flight for its shard than in the book, where it stands once at most
+-- no pair stands more often in a record and in flight for its shard than in the book's batches, where it stands once at
+-- most
 pub record AreCounted (w : World) : Type 0 where
-  pub distinct : AreDistinct w.book
+  pub distinct : IsDistinct same_pair (entries_in w.book)
   pub counted : (c n s : ℕ) → pair_count c n (record_at w.records s) + flight_count c n s w.flight ≤ pair_count c n
-      w.book
+      w.book.list
 
 filter_counted : (c n s k : ℕ) (list : List Submission) → pair_count c n (concerned s k list) ≤ pair_count c n list
 filter_counted c n s k [] = omega arith
@@ -378,7 +384,7 @@ counted-start v w st = record {
   counted = λ c n s.
       let none : flight_count c n s w.flight ≡ 0 = ap (flight_count c n s) st.flight in
       elim (cases_lt s v.shards) [
-        | inl below ↦ omega (arith, ap (pair_count c n) (st.follow s below), filter_counted c n s v.shards w.book, none)
+        | inl below ↦ omega (arith, ap (pair_count c n) (st.follow s below), filter_counted c n s v.shards w.book.list, none)
         | inr above ↦ omega (arith, ap (pair_count c n) (past_all w.records s (omega (arith, st.count, above))), none)
       ];
 }
@@ -390,7 +396,7 @@ counted-admit v w b u a inv =
       counted = λ c n s. omega (
         arith,
         inv.counted c n s,
-        count-append c n w.book (b ∷ []),
+        count-append c n w.book.list (b ∷ []),
         flight-append c n s w.flight (parts_for b v.shards v.shards),
         parts_once c n s b v.shards v.shards,
       );
@@ -423,5 +429,5 @@ run_distinct v w es u s st run =
     counted_distinct (record_at u.records s) (λ c n. omega (
       arith,
       inv.counted c n s,
-      distinct_counted c n u.book inv.distinct,
+      distinct_counted c n u.book.list (distinct_behind u.book.folded (entries_of u.book.list) inv.distinct),
     ))

@@ -5,3 +5,4 @@ pub mod Standing
 pub mod Views
 pub mod Puts
 pub mod Loads
+pub mod Folds

@@ -3,7 +3,7 @@
 --     StandsAt        a shard stands at its place: its number, its setup, its base, which is the part of the book's, its
 --                     record, which follows the batches that aren't folded, and its layers, which add up to the base
 --                     and the parts of the record's batches
---     KeepsEngine     there is a shard at each place, and nothing is folded
+--     KeepsEngine     there is a shard at each place
 --     IsWhole         what follows for callers: also the shards' totals and contents add up to those of the book
 --     bare            an engine but for the free places, which no answer depends on
 use Rattle.std.specs.Prelude.{◌≡◌, ℕ, ◌+◌, List, [], ◌∷◌, length, map, replicate, refl}
@@ -12,7 +12,7 @@ use Rattle.std.specs.FinMap.{empty}
 use Rattle.hyper_matrix.specs.Counts.{Counts, ewise_add, part}
 use Rattle.layer_cascade.specs.Cascade.{content}
 use Rattle.batch_store.specs.Setups.{Setting, coded_setting}
-use Rattle.batch_store.specs.Accepted.{Accepted, unfolded, total_in, summed}
+use Rattle.batch_store.specs.Accepted.{Accepted, total_in, summed}
 use Rattle.batch_store.specs.Parts.{record_content}
 use Rattle.batch_store.specs.Books.{Register, register, coded_register, AreAccepted}
 use Rattle.batch_store.specs.Shards.{Holding, holding, coded_holding, shard_total}
@@ -47,7 +47,6 @@ Stand v a i (x ∷ xs) = StandsAt v a i x × Stand v a (i + 1) xs
 pub record KeepsEngine (v : Setting) (book : Register) (shards : List Holding) : Type 0 where
   pub of_setup : book.setup ≡ v
   pub accepted : AreAccepted v book.state
-  pub plain : book.state.folded ≡ []
   pub count : length shards ≡ v.shards
   pub stand : Stand v book.state 0 shards
 
@@ -63,7 +62,6 @@ shards_content (x ∷ xs) = ewise_add (content x.layers) (shards_content xs)
 
 pub record IsWhole (e : Standing) : Type 0 where
   pub keeps : KeepsEngine e.setup e.book e.shards
-  pub state : e.book.state ≡ unfolded e.book.state.list
   pub totals : shards_total e.shards ≡ total_in e.book.state
   pub sums : shards_content e.shards ≡ summed e.book.state
 

@@ -1,21 +1,23 @@
 -- The core as a world of events, for any interleaving of several puts.
---     World           the accepted list, a record for each shard, and the parts in flight: admitted, not yet delivered
+--     World           what was accepted, a record for each shard, and the parts in flight: admitted, not yet delivered.
+--                     Beside its record a shard has its part of the base, which no event changes
 --     Event           Admit(b): the book takes b in; Deliver(b, s): shard s takes in its part of b
 --     Steps           an event is lawful in a world, and leaves another
 --     Runs            lawful events one after another
---     Starts          where a run may start: nothing in flight, and each record follows the accepted list
+--     Starts          where a run may start: nothing in flight, and each record follows the batches that aren't folded
 --     StepsLocked     a step where, besides, an Admit finds no part in flight for a shard that its batch concerns
 --     RunsLocked      such steps one after another
---     held_in         what a world holds: the contents of its records, and the parts in flight
+--     held_in         what a world holds: the contents of its records, their bases included, and the parts in flight
 use Rattle.std.specs.Prelude.{◌≡◌, ℕ, zero, suc, ◌+◌, ◌<◌, false, if◌then◌else◌, List, [], ◌∷◌, ◌++◌, length}
 use Rattle.std.specs.FinMap.{empty}
+use Rattle.std.specs.List.{IsDistinct}
 use Rattle.hyper_matrix.specs.Counts.{Counts, ewise_add, part}
 use Rattle.batch_store.specs.declared.verdict.Verdict.TheVariants.{Fresh}
 use Rattle.batch_store.specs.Setups.{Setting}
-use Rattle.batch_store.specs.Accepted.{unfolded}
+use Rattle.batch_store.specs.Accepted.{Accepted, entries_in, with_batch}
 use Rattle.batch_store.specs.Batches.{Submission}
 use Rattle.batch_store.specs.Parts.{concerns, record_content}
-use Rattle.batch_store.specs.Books.{AreDistinct}
+use Rattle.batch_store.specs.Verdicts.{same_pair}
 use Rattle.plain_engine.specs.Object.{verdict_in}
 use Rattle.plain_engine.specs.Records.{Follows}
 
@@ -25,11 +27,11 @@ pub record Part : Type 0 where
   pub shard : ℕ
 
 pub record World : Type 0 where
-  pub book : List Submission
+  pub book : Accepted
   pub records : List (List Submission)
   pub flight : List Part
 
-abbrev pub world : List Submission → List (List Submission) → List Part → World
+abbrev pub world : Accepted → List (List Submission) → List Part → World
 world book records flight = record { book = book; records = records; flight = flight }
 
 pub data Event : Type 0 where
@@ -65,8 +67,8 @@ pub record Delivers (w : World) (b : Submission) (s : ℕ) (u : World) : Type 0 
 
 -- a batch that the book calls fresh stands at its end, and its parts are in flight
 pub record Admits (v : Setting) (w : World) (b : Submission) (u : World) : Type 0 where
-  pub fresh : verdict_in v (unfolded w.book) b ≡ Fresh
-  pub now : u ≡ world (w.book ++ b ∷ []) w.records (w.flight ++ parts_for b v.shards v.shards)
+  pub fresh : verdict_in v w.book b ≡ Fresh
+  pub now : u ≡ world (with_batch w.book b) w.records (w.flight ++ parts_for b v.shards v.shards)
 
 abbrev pub Steps : Setting → World → Event → World → Type 0
 Steps v w (Admit b) u = Admits v w b u
@@ -95,15 +97,16 @@ AllFollow k records list = (s : ℕ) → s < k → Follows s k (record_at record
 
 pub record Starts (v : Setting) (w : World) : Type 0 where
   pub some : 0 < v.shards
-  pub distinct : AreDistinct w.book
+  pub distinct : IsDistinct same_pair (entries_in w.book)
   pub count : length w.records ≡ v.shards
   pub flight : w.flight ≡ []
-  pub follow : AllFollow v.shards w.records w.book
+  pub follow : AllFollow v.shards w.records w.book.list
 
--- the contents of records, of which the first is that of shard i of k
-abbrev pub records_content : ℕ → ℕ → List (List Submission) → Counts
-records_content i k [] = empty
-records_content i k (r ∷ rs) = ewise_add (record_content i k empty r) (records_content (i + 1) k rs)
+-- the contents of records over this base, of which the first is that of shard i of k
+abbrev pub records_content : ℕ → ℕ → Counts → List (List Submission) → Counts
+records_content i k base [] = empty
+records_content i k base (r ∷ rs) =
+    ewise_add (record_content i k (part base i k) r) (records_content (i + 1) k base rs)
 
 -- the sum of the parts in flight, for k shards
 abbrev pub flight_content : ℕ → List Part → Counts
@@ -111,7 +114,7 @@ flight_content k [] = empty
 flight_content k (p ∷ ps) = ewise_add (part p.batch.matrix.counts p.shard k) (flight_content k ps)
 
 abbrev pub held_in : ℕ → World → Counts
-held_in k w = ewise_add (records_content 0 k w.records) (flight_content k w.flight)
+held_in k w = ewise_add (records_content 0 k w.book.base w.records) (flight_content k w.flight)
 
 -- the delivery of each of these parts
 abbrev pub deliveries : List Part → List Event

@@ -28,9 +28,9 @@ use std::sync::Arc;
 /// follows from the accepted list alone, as the object of one thread gives it (specs/Object.antt).
 #[derive(Drop)]
 pub struct PlainEngine {
-    setup: Setup,
-    book: Book,
-    shards: Vec<Shard>,
+    pub(crate) setup: Setup,
+    pub(crate) book: Book,
+    pub(crate) shards: Vec<Shard>,
 }
 
 impl Model for PlainEngine {

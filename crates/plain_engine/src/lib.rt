@@ -13,6 +13,7 @@
 mod engine;
 mod export;
 mod fault;
+mod fold;
 mod load;
 mod parts;
 mod put;

@@ -1,20 +1,19 @@
 //! An engine from its parts: `PlainEngine::parts` the other way round, for parts that went through other hands.
-ghost use Rattle.std.specs.Prelude.{◌≡◌, ◌<◌, ◌↔◌, [], IfOk, IfErr, IsOk, IsTrue, true, length};
-ghost use Rattle.std.specs.FinMap.{empty};
+ghost use Rattle.std.specs.Prelude.{◌≡◌, ◌<◌, ◌↔◌, IfOk, IfErr, IsOk, IsTrue, true, length};
 ghost use Rattle.plain_engine.specs.Standing.{standing, HaveSetup, AreTogether, Stand};
 
 use crate::engine::PlainEngine;
-use crate::same::record_follows;
+use crate::same::{is_part, record_follows};
 use batch_store::{Book, Setup, Shard};
 
-/// An engine of a book and its shards, which were made with this setup. It takes no memory: it reads the book once for
-/// each shard, and each batch that concerns the shard cell by cell.
+/// An engine of a book and its shards, which were made with this setup. It takes no memory: it reads the book and its base
+/// once for each shard, and each batch that concerns the shard cell by cell.
 ///
 /// # Errors
 ///
-/// There isn't a shard for each number below the setup's shards, a batch is folded, a shard's number isn't its place or
-/// its base isn't the part of the book's, or some record isn't, in order, the book's batches that concern its shard,
-/// compared by client, number and matrix, cell by cell.
+/// There isn't a shard for each number below the setup's shards, a shard's number isn't its place, its base isn't the
+/// book's cut to its rows, or its record isn't, in order, the book's batches that aren't folded and concern it, compared
+/// by client, number and matrix, cell by cell.
 /// Book and shards are handed back as they were.
 pub fn join_parts(
     setup: Setup,
@@ -26,10 +25,9 @@ pub fn join_parts(
     ensures ok { IfOk result (λ e. e ≡ standing setup book shards.items) }
     ensures err { IfErr result (λ r. (r.0 ≡ book) × (r.1 ≡ shards)) }
     ensures exactly { IsOk result ↔
-        ((length shards.items ≡ setup.shards) × (book.state.folded ≡ [])
-        × AreTogether setup.shards book.state 0 shards.items) }
+        ((length shards.items ≡ setup.shards) × AreTogether setup.shards book.state 0 shards.items) }
 {
-    if shards.len() as u64 != setup.shards() || book.folded() > 0 {
+    if shards.len() as u64 != setup.shards() {
         return Err((book, shards));
     }
     if !are_together(&setup, &book, &shards) {
@@ -40,10 +38,9 @@ pub fn join_parts(
     Ok(PlainEngine::of_parts(setup, book, shards))
 }
 
-// Whether each shard has its place for its number and no base, and its record follows the book.
+// Whether each shard has its place for its number and its part of the base, and its record follows the book.
 fn are_together(setup: &Setup, book: &Book, shards: &[Shard]) -> bool
     requires made { HaveSetup setup.now shards.now }
-    requires plain { book.now.state.base ≡ empty }
     ensures stand { result ≡ true → Stand setup.now book.now.state 0 shards.now }
     ensures exactly { IsTrue result ↔ AreTogether setup.now.shards book.now.state 0 shards.now }
 {
@@ -53,7 +50,7 @@ fn are_together(setup: &Setup, book: &Book, shards: &[Shard]) -> bool
         if shard.number() != place {
             return false;
         }
-        if shard.base().entries() > 0 {
+        if !is_part(shard.base(), book.base(), place, k) {
             return false;
         }
         if !record_follows(shard, book, place, k) {

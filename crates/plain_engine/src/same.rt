@@ -1,8 +1,9 @@
-//! Whether two batches are the same, and whether a record holds the batches of the book that it should.
+//! Whether two batches are the same, and whether a shard has the base and the record that follow from the book.
 //!
 //! Two batches are compared by client, number and matrix, cell by cell. No call takes memory.
 ghost use Rattle.std.specs.Prelude.{◌≡◌, ◌<◌, ◌↔◌, IsTrue};
 ghost use Rattle.std.specs.FinMap.{entries};
+ghost use Rattle.hyper_matrix.specs.Counts.{part};
 ghost use Rattle.plain_engine.specs.Records.{Follows};
 
 use batch_store::{Batch, Book, Shard};
@@ -40,6 +41,27 @@ pub fn same_batch(a: &Batch, b: &Batch) -> bool
     ensures { IsTrue result ↔ (a.now ≡ b.now) }
 {
     a.client == b.client && a.number == b.number && same_matrix(&a.matrix, &b.matrix)
+}
+
+/// Whether a matrix has exactly the cells of another that lie in shard s of k.
+pub fn is_part(own: &Hyper, whole: &Hyper, s: u64, k: u64) -> bool
+    requires { 0 < k }
+    ensures { IsTrue result ↔ (own.now.counts ≡ part whole.now.counts s k) }
+{
+    let mut others = own.iter();
+    'cells: for cell in whole.iter() {
+        if cell.row % k == s {
+            match others.next() {
+                Some(other) => {
+                    if other != cell {
+                        return false;
+                    }
+                }
+                None => return false,
+            }
+        }
+    }
+    others.next().is_none()
 }
 
 /// Whether a shard's record is, in order, the book's batches that concern shard s of k and aren't folded.

@@ -38,8 +38,8 @@ pub fn expect_row(
     assert!(rt; same(rt, &(sum.entries, sum.total), &(entries, total)));
 }
 
-// The number of a shard, its total, and the number of batches in its record.
-fn sizes(engine: &PlainEngine, s: u64) -> Option<(u64, u64, u64)> {
+/// The number of a shard, its total, and the number of batches in its record.
+pub fn sizes(engine: &PlainEngine, s: u64) -> Option<(u64, u64, u64)> {
     let shard = engine.shard(s)?;
     Some((shard.number(), shard.total(), shard.record_len()))
 }

@@ -8,6 +8,8 @@ mod batches;
 #[cfg(test)]
 mod expected;
 #[cfg(test)]
+mod folds;
+#[cfg(test)]
 mod loads;
 #[cfg(test)]
 mod lookups;

@@ -12,11 +12,11 @@ use std::sync::Arc;
 use std::test::Fail;
 use test_support::same;
 
-// The client, the number and the cells of each batch of a list.
-type Batches = &'static [(u64, u64, Cells)];
+/// The client, the number and the cells of each batch of a list.
+pub type Batches = &'static [(u64, u64, Cells)];
 
-// The batches of a table.
-fn list_of(alloc: Global, setup: &Setup, table: Batches) -> Result<Vec<Arc<Batch>>, Fail>
+/// The batches of a table.
+pub fn list_of(alloc: Global, setup: &Setup, table: Batches) -> Result<Vec<Arc<Batch>>, Fail>
     ensures { IfOk result (λ list. HaveDims setup.now.rows setup.now.cols (values list.items)) }
 {
     let mut list = Vec::new(alloc);

@@ -13,14 +13,16 @@ use std::random::RandomSource;
 use std::test::Fail;
 use test_support::same;
 
-fn book_of(engine: PlainEngine) -> Book
+/// The book of an engine.
+pub fn book_of(engine: PlainEngine) -> Book
     ensures { result.setup ≡ engine.setup }
 {
     let (_, book, _) = engine.parts();
     book
 }
 
-fn shards_of(engine: PlainEngine) -> Vec<Shard>
+/// The shards of an engine.
+pub fn shards_of(engine: PlainEngine) -> Vec<Shard>
     ensures { HaveSetup engine.setup result.items }
 {
     let (_, _, shards) = engine.parts();
@@ -54,9 +56,10 @@ fn made_shards<R: RandomSource + Abort + Eprint>(
 }
 
 /// What a book and shards make: the status of an engine, or the lengths of the book and of the shards handed back.
-type Joined = Result<Status, (u64, usize)>;
+pub type Joined = Result<Status, (u64, usize)>;
 
-fn joined(setup: Setup, book: Book, shards: Vec<Shard>) -> Joined
+/// Joins a book and shards of this setup.
+pub fn joined(setup: Setup, book: Book, shards: Vec<Shard>) -> Joined
     requires book { book.setup ≡ setup }
     requires shards { HaveSetup setup shards.items }
 {

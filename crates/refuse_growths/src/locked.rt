@@ -41,7 +41,7 @@ fn run_named<N: Named, H: Ledger, R: Wait + Print>(
 ) -> Result<(), Stop>
     requires named { NamesEngine names N.setup N.seats N.history N.name N.parts H.name H.parts }
     requires made_from { plain.setup ≡ names.setup }
-    requires opened { entries_in plain.book.state ≡ N.opened }
+    requires opened { plain.book.state ≡ N.opened }
     requires rows { (arc_value b.now).matrix.rows ≡ N.setup.rows }
     requires cols { (arc_value b.now).matrix.cols ≡ N.setup.cols }
 {
@@ -64,7 +64,7 @@ fn open_at_last<N: Named, H: Ledger, R: Wait + Print>(
 ) -> Result<Opened<N, H>, Stop>
     requires named { NamesEngine names N.setup N.seats N.history N.name N.parts H.name H.parts }
     requires made_from { plain.setup ≡ names.setup }
-    requires opened { entries_in plain.book.state ≡ N.opened }
+    requires opened { plain.book.state ≡ N.opened }
 {
     match Engine::<N, H>::open(alloc, plain, names) {
         Ok(opened) => Ok(opened),
@@ -83,7 +83,7 @@ fn open_again<N: Named, H: Ledger>(
 ) -> Result<Opened<N, H>, Stop>
     requires named { NamesEngine names N.setup N.seats N.history N.name N.parts H.name H.parts }
     requires made_from { plain.setup ≡ names.setup }
-    requires opened { entries_in plain.book.state ≡ N.opened }
+    requires opened { plain.book.state ≡ N.opened }
 {
     match Engine::<N, H>::open(alloc, plain, names) {
         Ok(opened) => Ok(opened),

@@ -11,13 +11,18 @@ use std::alloc::Global;
 use std::rt::Files;
 use std::{fs, io};
 
-/// Three rows, three columns, cuts 2 and 4, 2 shards, a limit of 100 and at most 10 batches; 1 batch, total 5. Then
-/// client 7, number 1, 1 cell: row 0, column 0, count 5.
-static BYTES: &[u8] = b"HHMSNAP\n\0\0\0\x01\
+/// Three rows, three columns, cuts 2 and 4, 2 shards, a limit of 100 and at most 10 batches; 2 batches, total 12, 1 of
+/// them folded: client 8, number 1, 1 cell, total 7. The base: 1 cell, row 1, column 2, count 7. Then client 7, number
+/// 1, 1 cell: row 0, column 0, count 5.
+static BYTES: &[u8] = b"HHMSNAP\n\0\0\0\x02\
 \0\0\0\0\0\0\0\x03\0\0\0\0\0\0\0\x03\
 \x02\0\0\0\0\0\0\0\x02\0\0\0\0\0\0\0\x04\
 \x02\0\0\0\0\0\0\0\x64\0\0\0\0\0\0\0\x0a\
-\0\0\0\0\0\0\0\x01\0\0\0\0\0\0\0\x05\
+\0\0\0\0\0\0\0\x01\0\0\0\0\0\0\0\x0c\
+\0\0\0\0\0\0\0\x01\
+\0\0\0\0\0\0\0\x08\0\0\0\0\0\0\0\x01\0\0\0\0\0\0\0\x01\0\0\0\0\0\0\0\x07\
+\0\0\0\0\0\0\0\x01\
+\0\0\0\0\0\0\0\x01\0\0\0\0\0\0\0\x02\0\0\0\0\0\0\0\x07\
 \0\0\0\0\0\0\0\x07\0\0\0\0\0\0\0\x01\0\0\0\0\0\0\0\x01\
 \0\0\0\0\0\0\0\0\0\0\0\0\0\0\0\0\0\0\0\0\0\0\0\x05";
 
@@ -36,7 +41,11 @@ pub fn run(rt: &(impl Files + Print), alloc: Global) -> Result<(), Stop> {
 }
 
 fn run_example(rt: &(impl Files + Print), alloc: Global, snapshot: &Snapshot) -> Result<(), Stop> {
-    println!(rt; "read batches {}", snapshot.batches.len())?;
+    println!(rt;
+        "read folded {} batches {}",
+        snapshot.list.folded.len(),
+        snapshot.list.batches.len()
+    )?;
     write_at_last(rt, alloc, snapshot)?;
     save_at_last(rt, alloc, snapshot)?;
     load_at_last(rt, alloc)?;
@@ -70,8 +79,8 @@ fn written(link: &mut Script, snapshot: &Snapshot) -> Result<(), WriteFault>
     requires { link.old.failures + 1 < 2 ^ 64 }
 {
     // Any use of it tells what it keeps.
-    let batches = &snapshot.batches;
-    write_snapshot(link, &snapshot.setup, batches)
+    let list = &snapshot.list;
+    write_snapshot(link, &snapshot.setup, list)
 }
 
 // Writes a snapshot to a link that keeps it in memory, and where that was refused to another.
@@ -97,8 +106,8 @@ fn show_link(rt: &impl Print, link: &Script) -> io::Result<()> {
 
 fn saved(rt: &(impl Files + Print), alloc: Global, snapshot: &Snapshot) -> Result<(), SaveFault> {
     // Any use of it tells what it keeps.
-    let batches = &snapshot.batches;
-    save(rt, alloc, PATH, &snapshot.setup, batches)
+    let list = &snapshot.list;
+    save(rt, alloc, PATH, &snapshot.setup, list)
 }
 
 fn save_at_last(rt: &(impl Files + Print), alloc: Global, snapshot: &Snapshot) -> Result<(), Stop> {
@@ -112,10 +121,10 @@ fn save_at_last(rt: &(impl Files + Print), alloc: Global, snapshot: &Snapshot) -
     Ok(())
 }
 
-// How many batches are loaded.
-fn loaded(rt: &impl Files, alloc: Global) -> Result<usize, FileFault> {
+// How many batches are loaded, and how many behind the folded ones.
+fn loaded(rt: &impl Files, alloc: Global) -> Result<(usize, usize), FileFault> {
     let snapshot = load(rt, alloc, PATH, MAX_BYTES)?;
-    Ok(snapshot.batches.len())
+    Ok((snapshot.list.folded.len(), snapshot.list.batches.len()))
 }
 
 fn load_at_last(rt: &(impl Files + Print), alloc: Global) -> Result<(), Stop> {
@@ -125,7 +134,7 @@ fn load_at_last(rt: &(impl Files + Print), alloc: Global) -> Result<(), Stop> {
         answer = loaded(rt, alloc);
     }
     match answer {
-        Ok(batches) => println!(rt; "loaded batches {batches}")?,
+        Ok((folded, batches)) => println!(rt; "loaded folded {folded} batches {batches}")?,
         Err(_) => return Err(Stop::Fault),
     }
     Ok(())

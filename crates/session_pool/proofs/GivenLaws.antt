@@ -1,19 +1,41 @@
 -- What a keeper over a seat gives.
-use Rattle.std.proofs.Common.{◌≡◌, ◌%◌, ℕ, List, Option, Some, None, refl}
-use Rattle.std.specs.Prelude.{IfSome}
+use Rattle.std.proofs.Common.{◌≡◌, ◌%◌, ℕ, List, Option, Some, None, refl, sym, subst}
+use Rattle.std.specs.Prelude.{IfSome, IfOk, Result, Ok, Err, String, string_bytes}
+use mathlib.Core.List.{IsPrefix}
 use Rattle.std.specs.FinMap.{get}
 use Rattle.layer_cascade.specs.Cascade.{content}
 use Rattle.batch_store.specs.Setups.{Setting}
-use Rattle.batch_store.specs.Batches.{Submission}
+use Rattle.batch_store.specs.Accepted.{Accepted, entries_in, count_in}
+use Rattle.batch_store.specs.Books.{AreAccepted}
 use Rattle.batch_store.specs.Shards.{Holding}
 use Rattle.locked_engine.specs.Moments.{IsShardOf}
 use Rattle.locked_engine.specs.Views.{SeatView}
-use Rattle.wire_proto.specs.Keeping.{cell}
+use Rattle.locked_engine.specs.Opened.{SharePast}
+use Rattle.wire_proto.specs.Keeping.{cell, save}
+use Rattle.wire_proto.specs.declared.keeper.SaveRefusal.{SaveRefusal}
+use Rattle.session_pool.specs.Saves.{IsSaved}
 use Rattle.session_pool.specs.Seats.{SeatGives}
 
 -- a cell is what a shard of its row held, and leaves the seat
-pub gives_cell : (v : Setting) (saved : List Submission → Type 0) (s : SeatView) (r c : ℕ) (o : Option ℕ) →
+pub gives_cell : (v : Setting) (saved : Accepted → Type 0) (s : SeatView) (r c : ℕ) (o : Option ℕ) →
     IfSome o (λ n. (x : Holding) × IsShardOf v (r % v.shards) x × (get (content x.layers) (r, c) ≡ Some n)) →
     SeatGives v saved s (cell r c o) s
 gives_cell v saved s r c None h = refl
 gives_cell v saved s r c (Some n) h = (refl, h.0, h.1, h.2)
+
+-- a save shows the seat the entries of what was saved
+pub gives_save : (v : Setting) (opened : Accepted) (saved : Accepted → Type 0) (s t : SeatView)
+    (r : Result ℕ SaveRefusal) → t.number ≡ s.number → IsPrefix s.seen t.seen → t.first ≡ s.first →
+    IfOk r (λ n. (a : Accepted) × AreAccepted v a × (entries_in a ≡ t.seen) × SharePast a opened
+    × (n ≡ count_in a) × saved a) → SeatGives v saved s (save r) t
+gives_save v opened saved s t (Err e) number later first h = ((number, later), first)
+gives_save v opened saved s t (Ok n) number later first h =
+    ((number, later), first, h.0, h.1, h.2, h.4, h.5)
+
+-- what a disk has answered as saved, in the words of the saver
+pub is_saved : {D Z : Type 0} (saves : D → List ℕ → Setting → Accepted → Type 0) (d : D) (o : Option (String Z))
+    (path : String Z) (bytes : List ℕ) (w v : Setting) (a : Accepted) → o ≡ Some path → bytes ≡ string_bytes path →
+    w ≡ v → saves d bytes w a → IsSaved saves d o v a
+is_saved saves d o path bytes w v a there told same h =
+    subst (λ (p : Option (String _)). IsSaved saves d p v a) (sym there)
+    (subst (λ (b : List ℕ). saves d b v a) told (subst (λ (x : Setting). saves d bytes x a) same h))

@@ -2,15 +2,15 @@
 --     LooksOn s t         the same seat, whose version t has grown out of that of s
 --     SeatGives v saved s e t
 --                         the engine of this setup may answer this call; the seat is s before and t after; saved says
---                         of a list that a disk has answered that it was saved
+--                         of what was accepted that a disk has answered that it was saved
 use Rattle.std.specs.Prelude.{◌≡◌, ◌⊎◌, ℕ, ◌+◌, ◌%◌, List, length, Some, None, Ok, Err}
 use Rattle.std.specs.FinMap.{get}
 use mathlib.Core.List.{IsPrefix}
 use Rattle.hyper_matrix.specs.Matrix.{matrix}
 use Rattle.layer_cascade.specs.Cascade.{content}
 use Rattle.batch_store.specs.Setups.{Setting}
-use Rattle.batch_store.specs.Batches.{Submission, batch_total, entry_of, entries_of}
-use Rattle.batch_store.specs.Accepted.{unfolded}
+use Rattle.batch_store.specs.Batches.{batch_total, entry_of}
+use Rattle.batch_store.specs.Accepted.{Accepted, entries_in, count_in}
 use Rattle.batch_store.specs.Books.{AreAccepted}
 use Rattle.batch_store.specs.Shards.{Holding}
 use Rattle.plain_engine.specs.Standing.{shards_content}
@@ -27,7 +27,7 @@ LooksOn s t = (t.number ≡ s.number) × IsPrefix s.seen t.seen
 -- the batch, whose total is added to the seat's share where the put was the first; a saved list has just its entries.
 -- A cell, a row and the parts of an export are what a shard of the row's number showed under its lock at a moment of
 -- the call; they leave the seat as it is.
-abbrev pub SeatGives : Setting → (List Submission → Type 0) → SeatView → Event → SeatView → Type 0
+abbrev pub SeatGives : Setting → (Accepted → Type 0) → SeatView → Event → SeatView → Type 0
 SeatGives v saved s (put batch (Ok kept)) t =
     LooksOn s t × ((t.first ≡ s.first + batch_total batch) ⊎ (t.first ≡ s.first)) ×
     IsTold v (entry_of batch) t.seen (Ok kept)
@@ -45,6 +45,6 @@ SeatGives v saved s (export (Ok sum)) t =
     (sum ≡ matrix v.rows v.cols (shards_content xs))
 SeatGives v saved s (export (Err e)) t = t ≡ s
 SeatGives v saved s (save (Ok count)) t =
-    LooksOn s t × (t.first ≡ s.first) × (list : List Submission) × AreAccepted v (unfolded list) ×
-    (entries_of list ≡ t.seen) × (count ≡ length list) × saved list
+    LooksOn s t × (t.first ≡ s.first) × (a : Accepted) × AreAccepted v a × (entries_in a ≡ t.seen) ×
+    (count ≡ count_in a) × saved a
 SeatGives v saved s (save (Err refusal)) t = LooksOn s t × (t.first ≡ s.first)

@@ -147,7 +147,7 @@ fn opened_and_closed<N: Named, H: Ledger, R: Wait + Disk>(
 ) -> Result<Found, Fail>
     requires named { NamesEngine names N.setup N.seats N.history N.name N.parts H.name H.parts }
     requires made_from { plain.setup ≡ names.setup }
-    requires opened { entries_in plain.book.state ≡ N.opened }
+    requires opened { plain.book.state ≡ N.opened }
 {
     let (engine, mut seats) = opened::<N, H>(alloc, plain, names)?;
     let found = match serve_again(rt, alloc, &engine, &mut seats, case) {

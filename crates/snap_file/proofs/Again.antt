@@ -11,7 +11,7 @@ use Rattle.hyper_matrix.specs.Counts.{Place, count_sum}
 use Rattle.hyper_matrix.specs.Shared.{LiesWithin}
 use Rattle.batch_store.specs.Setups.{Setting}
 use Rattle.snap_file.proofs.Kept.{IsSetup, CutsFrom}
-use Rattle.snap_file.specs.Spelling.{number_bytes, mark, version, head_bytes, cell_bytes, cells_bytes}
+use Rattle.snap_file.specs.Spelling.{number_bytes, mark, old_version, version, head_bytes, cell_bytes, cells_bytes}
 use Rattle.snap_file.specs.Table.{give, outside, is_below, head, cuts_behind, Tally, cells_behind}
 use Rattle.snap_file.specs.declared.head.Head.{Head}
 use Rattle.snap_file.specs.declared.fault.SnapFault.TheVariants.{BadMark, BadVersion, BadHead, BadBatch, OutOfOrder}
@@ -32,19 +32,20 @@ skips_cuts least done (cut ∷ cuts) h =
     (flat_map (number_bytes w64) cuts)) (append_assoc done (cut ∷ []) cuts)
     (skips_cuts (cut + 1) (done ++ cut ∷ []) cuts h.2)))
 
-abbrev pub head_of : Setting → ℕ → ℕ → Head
-head_of s batches total_all = record { setup = s; batches = batches; total = total_all }
+abbrev pub head_of : ℕ → Setting → ℕ → ℕ → Head
+head_of v s batches total_all = record { setup = s; version = v; batches = batches; total = total_all }
 
-pub skips_head : (s : Setting) (batches total_all : ℕ) → IsSetup s → batches ≤ s.max_batches → total_all ≤ s.limit →
-    Skips head (head_of s batches total_all) (head_bytes s batches total_all)
+pub skips_head : (v : ℕ) (s : Setting) (batches total_all : ℕ) → old_version ≤ v → v ≤ version → IsSetup s →
+    batches ≤ s.max_batches → total_all ≤ s.limit →
+    Skips head (head_of v s batches total_all) (head_bytes v s batches total_all)
 unfolding head
-skips_head s batches total_all h few fits =
+skips_head v s batches total_all low high h few fits =
     let few_cuts = h.few_cuts in let shards = h.shards.1 in let limit = h.limit.1 in let most = h.batches.1 in
-    let x = head_of s batches total_all in
+    let x = head_of v s batches total_all in
     let r = h.rows.1 in let c = h.cols.1 in
     skips_number w64 (2 ^ 64) wide64 mark _ x _ (omega arith) (skips_test (outside mark mark mark) BadMark _ x _ refl
-    (skips_number w32 (2 ^ 32) wide32 version _ x _ (omega arith)
-    (skips_test (outside version version version) BadVersion _ x _ refl
+    (skips_number w32 (2 ^ 32) wide32 v _ x _ (omega arith)
+    (skips_test (outside old_version version v) BadVersion _ x _ (inside old_version version v low high)
     (skips_number w64 (2 ^ 64) wide64 s.rows _ x _ (omega arith)
     (skips_test (outside 1 (2 ^ 60) s.rows) BadHead _ x _ (inside 1 (2 ^ 60) s.rows h.rows.0 h.rows.1)
     (skips_number w64 (2 ^ 64) wide64 s.cols _ x _ (omega arith)
@@ -106,18 +107,18 @@ cell_joined e l =
     (number_bytes w64 e.1 ++ []) l
     ∙ ap (λ (x : List ℕ). number_bytes w64 e.0.1 ++ x) (append_assoc (number_bytes w64 e.1) [] l))
 
-pub skips_cells : (h : Head) (es : List (Place × ℕ)) (tally : Tally) → h.setup.rows ≤ 2 ^ 60 → h.setup.cols ≤ 2 ^ 60 →
-    h.total < 2 ^ 64 →
+pub skips_cells : (h : Head) (top : ℕ) (es : List (Place × ℕ)) (tally : Tally) → h.setup.rows ≤ 2 ^ 60 →
+    h.setup.cols ≤ 2 ^ 60 → top < 2 ^ 64 →
     AllByRecursion (LiesWithin h.setup.rows h.setup.cols) es → RiseFrom tally.least_row tally.least_col es →
-    tally.counted + count_sum es ≤ h.total →
-    Skips (cells_behind h (length es) tally) (tally_after tally es) (cells_bytes es)
+    tally.counted + count_sum es ≤ top →
+    Skips (cells_behind h top (length es) tally) (tally_after tally es) (cells_bytes es)
 unfolding cells_behind
-skips_cells h [] tally rows cols most inner rise fits = skips_give tally
-skips_cells h (e ∷ es) tally rows cols most inner rise fits =
+skips_cells h top [] tally rows cols most inner rise fits = skips_give tally
+skips_cells h top (e ∷ es) tally rows cols most inner rise fits =
     let y = tally_after tally (e ∷ es) in
     let in_row = inner.0.0 in let in_col = inner.0.1 in
-    let rest = skips_cells h es (tally_with tally e) rows cols most inner.1 rise.1 (omega arith) in
-    let step : Skips (cells_behind h (suc (length es)) tally) y
+    let rest = skips_cells h top es (tally_with tally e) rows cols most inner.1 rise.1 (omega arith) in
+    let step : Skips (cells_behind h top (suc (length es)) tally) y
     (number_bytes w64 e.0.0 ++ (number_bytes w64 e.0.1 ++ (number_bytes w64 e.1 ++ cells_bytes es))) =
     skips_number w64 (2 ^ 64) wide64 e.0.0 _ y _ (omega arith)
     (skips_test (nat_le h.setup.rows e.0.0) BadBatch _ y _ (lt-leb h.setup.rows e.0.0 in_row)
@@ -125,7 +126,7 @@ skips_cells h (e ∷ es) tally rows cols most inner rise fits =
     (skips_test (nat_le h.setup.cols e.0.1) BadBatch _ y _ (lt-leb h.setup.cols e.0.1 in_col)
     (skips_test (is_below e.0.0 e.0.1 tally.least_row tally.least_col) OutOfOrder _ y _ rise.0
     (skips_number w64 (2 ^ 64) wide64 e.1 _ y _ (omega arith)
-    (skips_test (nat_lt h.total (tally.counted + e.1)) TotalDiffers _ y _
-    (le-ltb h.total (tally.counted + e.1) (omega arith)) rest)))))) in
-    subst (λ (l : List ℕ). Skips (cells_behind h (suc (length es)) tally) y l)
+    (skips_test (nat_lt top (tally.counted + e.1)) TotalDiffers _ y _
+    (le-ltb top (tally.counted + e.1) (omega arith)) rest)))))) in
+    subst (λ (l : List ℕ). Skips (cells_behind h top (suc (length es)) tally) y l)
     (sym (cell_joined e (cells_bytes es))) step

@@ -1,18 +1,18 @@
 -- What is read behind the head: where its faults show.
 use Rattle.std.proofs.Common.{◌≡◌, ℕ, zero, suc, ◌+◌, ◌<◌, ◌≤◌, Bool, true, false, not, List, [], ◌∷◌, length}
 use Rattle.std.proofs.Common.{take, drop, Result, Ok, refl, sym, ◌∙◌, arith, inl, inr}
-use Rattle.std.specs.Prelude.{◌==◌, ◌≢◌}
+use Rattle.std.specs.Prelude.{◌==◌, ◌≢◌, nat_lt}
 use Rattle.std.specs.Int.{Width, w64, byte_len, from_be_bytes}
 use Rattle.std.proofs.lemmas.Bool.{cases_lt, le-ltb}
 use Rattle.snap_file.specs.Table.{Input, Fault, Contents, Reading, fault_at, number, refuse_if, Tally, cells_behind}
-use Rattle.snap_file.specs.Table.{Progress, batch, batches_behind, end, contents_of}
+use Rattle.snap_file.specs.Table.{Progress, entry, entries_behind, base, batch, batches_behind, end, contents_of, ending}
+use Rattle.snap_file.specs.Table.{rest_of}
 use Rattle.snap_file.specs.Outcomes.{ShowsBehind, IsBehindHead}
 use Rattle.snap_file.specs.declared.head.Head.{Head}
 use Rattle.snap_file.specs.declared.fault.SnapFault.{SnapFault}
 use Rattle.snap_file.specs.declared.fault.SnapFault.TheVariants.{BadMark, BadVersion, BadHead, BadBatch, OutOfOrder}
 use Rattle.snap_file.specs.declared.fault.SnapFault.TheVariants.{RepeatedNumber, TotalDiffers, Truncated, ExtraBytes}
 use Rattle.snap_file.proofs.Steady.{place_same, kind_same, number_short, refused_at, goes_on, end_more}
-use Rattle.snap_file.proofs.ListLemmas.{ending}
 
 abbrev outcome : Type 0
 outcome = Result Contents Fault
@@ -123,28 +123,28 @@ behind_field w k wide each = record {
 field : (w : Width) (k : ℕ → Reading) → 0 < byte_len w → ((n : ℕ) → IsFromHere (k n)) → IsFromHere (number w k)
 field w k wide each = from_here _ (behind_field w k wide each)
 
-pub behind_cells : (h : Head) (n : ℕ) (tally : Tally) (k : Tally → Reading) → ((t : Tally) → IsBehindHead (k t)) →
-    IsBehindHead (cells_behind h n tally k)
+pub behind_cells : (h : Head) (top n : ℕ) (tally : Tally) (k : Tally → Reading) →
+    ((t : Tally) → IsBehindHead (k t)) → IsBehindHead (cells_behind h top n tally k)
 unfolding cells_behind
-behind_cells h zero tally k each = each tally
-behind_cells h (suc n) tally k each =
+behind_cells h top zero tally k each = each tally
+behind_cells h top (suc n) tally k each =
     behind_field w64 _ (omega arith) (λ row. tested _ BadBatch _ bad_batch
     (field w64 _ (omega arith) (λ col. tested _ BadBatch _ bad_batch (tested _ OutOfOrder _ out_of_order
     (field w64 _ (omega arith) (λ count. tested _ TotalDiffers _ differs
-    (from_here _ (behind_cells h n _ k each))))))))
+    (from_here _ (behind_cells h top n _ k each))))))))
 
 -- a batch whose pair was read
-pub behind_pair : (h : Head) (n : ℕ → Tally) (k : Tally → Reading) → ((t : Tally) → IsBehindHead (k t)) →
-    IsBehindHead (number w64 (λ entry_count. cells_behind h entry_count (n entry_count) k))
-behind_pair h n k each =
-    behind_field w64 _ (omega arith) (λ entry_count. from_here _ (behind_cells h entry_count _ k each))
+pub behind_pair : (h : Head) (top : ℕ) (n : ℕ → Tally) (k : Tally → Reading) → ((t : Tally) → IsBehindHead (k t)) →
+    IsBehindHead (number w64 (λ entry_count. cells_behind h top entry_count (n entry_count) k))
+behind_pair h top n k each =
+    behind_field w64 _ (omega arith) (λ entry_count. from_here _ (behind_cells h top entry_count _ k each))
 
 behind_batch : (h : Head) (p : Progress) (k : Progress → Reading) → ((q : Progress) → IsBehindHead (k q)) →
     IsBehindHead (batch h p k)
 unfolding batch
 behind_batch h p k each =
     behind_field w64 _ (omega arith) (λ client. field w64 _ (omega arith) (λ batch_number.
-    tested _ RepeatedNumber _ repeated (from_here _ (behind_pair h _ _ (λ t. each _)))))
+    tested _ RepeatedNumber _ repeated (from_here _ (behind_pair h h.total _ _ (λ t. each _)))))
 
 pub behind_batches : (h : Head) (n : ℕ) (p : Progress) (k : Progress → Reading) →
     ((q : Progress) → IsBehindHead (k q)) → IsBehindHead (batches_behind h n p k)
@@ -166,17 +166,55 @@ ended c at (x ∷ rest) kind shown e =
     farther at shown kind (same_kind ExtraBytes kind (kind_same ExtraBytes kind (at + 1) shown same) extra)
     (omega arith)
 
-last_test : (test : Bool) (c : Contents) → IsBehindHead (refuse_if test TotalDiffers (λ _. end c))
-last_test true c = record {
+pub behind_end : (c : Contents) → IsBehindHead (end c)
+behind_end c = record { shows = λ input kind shown e. ended c input.at input.rest kind shown e }
+
+-- a sum is judged, and what follows is behind the head
+pub behind_sum : (test : Bool) (left : Reading) → IsBehindHead left →
+    IsBehindHead (refuse_if test TotalDiffers (λ _. left))
+behind_sum true left b = record {
   shows = λ input kind shown e.
-      let same = sym (refused_at (λ _. end c) true TotalDiffers input refl) ∙ e in
+      let same = sym (refused_at (λ _. left) true TotalDiffers input refl) ∙ e in
       here input.at shown kind (kind_same TotalDiffers kind input.at shown same)
       (place_same TotalDiffers kind input.at shown same);
 }
-last_test false c = record {
-  shows = λ input kind shown e. ended c input.at input.rest kind shown
-      (sym (goes_on (λ _. end c) false TotalDiffers input refl) ∙ e);
+behind_sum false left b = record {
+  shows = λ input kind shown e. b.shows input kind shown
+      (sym (goes_on (λ _. left) false TotalDiffers input refl) ∙ e);
 }
 
 pub behind_ending : (h : Head) (p : Progress) → IsBehindHead (ending h p)
-behind_ending h p = last_test (not (p.counted == h.total)) (contents_of h p)
+behind_ending h p = behind_sum (not (p.counted == h.total)) _ (behind_end (contents_of h p))
+
+-- ---- what is folded
+
+-- an entry whose pair was read
+pub behind_numbers : (h : Head) (counted : ℕ) (k : ℕ → ℕ → Reading) → ((m n : ℕ) → IsBehindHead (k m n)) →
+    IsBehindHead (number w64 (λ cells. number w64 (λ total.
+    refuse_if (nat_lt h.total (counted + total)) TotalDiffers (λ _. k cells total))))
+behind_numbers h counted k each =
+    behind_field w64 _ (omega arith) (λ cells. field w64 _ (omega arith) (λ total.
+    tested _ TotalDiffers _ differs (from_here _ (each cells total))))
+
+behind_entry : (h : Head) (p : Progress) (k : Progress → Reading) → ((q : Progress) → IsBehindHead (k q)) →
+    IsBehindHead (entry h p k)
+unfolding entry
+behind_entry h p k each =
+    behind_field w64 _ (omega arith) (λ client. field w64 _ (omega arith) (λ batch_number.
+    tested _ RepeatedNumber _ repeated (from_here _ (behind_numbers h p.counted _ (λ m n. each _)))))
+
+pub behind_entries : (h : Head) (n : ℕ) (p : Progress) (k : Progress → Reading) →
+    ((q : Progress) → IsBehindHead (k q)) → IsBehindHead (entries_behind h n p k)
+unfolding entries_behind
+behind_entries h zero p k each = each p
+behind_entries h (suc n) p k each = behind_entry h p _ (λ q. behind_entries h n q k each)
+
+pub behind_base : (h : Head) (p : Progress) (k : Progress → Reading) → ((q : Progress) → IsBehindHead (k q)) →
+    IsBehindHead (base h p k)
+unfolding base
+behind_base h p k each =
+    behind_field w64 _ (omega arith) (λ entry_count. tested _ BadBatch _ bad_batch
+    (from_here _ (behind_cells h p.counted entry_count _ _ (λ t. behind_sum _ _ (each _)))))
+
+pub behind_rest : (h : Head) (p : Progress) → IsBehindHead (rest_of h p)
+behind_rest h p = behind_batches h h.batches p (ending h) (λ q. behind_ending h q)

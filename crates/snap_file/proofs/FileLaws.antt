@@ -4,11 +4,11 @@ use Rattle.std.proofs.Common.{arith, inl, inr}
 use Rattle.std.proofs.lemmas.List.{append-nil}
 use Rattle.std.proofs.lemmas.Bool.{cases_lt}
 use Rattle.batch_store.specs.Setups.{Setting}
-use Rattle.snap_file.specs.Spelling.{IsBytes, IsKept, IsSnapshot, file}
-use Rattle.snap_file.specs.Table.{Contents, Fault, fault_at, end, reading_of}
+use Rattle.snap_file.specs.Spelling.{IsBytes, IsSnapshot}
+use Rattle.snap_file.specs.Table.{Contents, Fault, fault_at, contents, end, reading_of}
 use Rattle.snap_file.specs.Outcomes.{Turn, FaultAt, FirstFaultAt, moment}
 use Rattle.snap_file.specs.Outcomes.Turn.{at_limit, in_field}
-use Rattle.batch_store.specs.Batches.{Submission}
+use Rattle.batch_store.specs.Accepted.{Accepted}
 use Rattle.snap_file.specs.declared.fault.SnapFault.{SnapFault}
 use Rattle.snap_file.specs.declared.fault.SnapFault.TheVariants.{TooLong}
 use Rattle.snap_file.proofs.Kept.{readable_of, kept_of}
@@ -18,17 +18,11 @@ use Rattle.snap_file.proofs.Spelled.{file_read, ended}
 abbrev outcome : Type 0
 outcome = Result Contents Fault
 
-abbrev pub contents : Setting → List Submission → Contents
-contents s list = record { setup = s; batches = list }
-
-pub read_again : (s : Setting) (list : List Submission) → IsKept s list →
-    reading_of (file s list) ≡ Ok (contents s list)
+pub snapshot_read : (m : ℕ) (bytes : List ℕ) (s : Setting) (a : Accepted) → IsSnapshot m bytes s a →
+    reading_of bytes ≡ Ok (contents s a)
 unfolding end
-read_again s list kept = ap reading_of (sym (append-nil (file s list))) ∙ file_again s list [] (readable_of s list kept)
-
-pub snapshot_read : (m : ℕ) (bytes : List ℕ) (s : Setting) (list : List Submission) → IsSnapshot m bytes s list →
-    reading_of bytes ≡ Ok (contents s list)
-snapshot_read m bytes s list is = ap reading_of is.spelled ∙ read_again s list is.kept
+snapshot_read m bytes s a is = ap reading_of (sym (append-nil bytes)) ∙
+    file_again bytes s a [] (readable_of s a is.kept) is.spelled
 
 apart : (v : Contents) (f : Fault) → ◌≡◌ {A = outcome} (Ok v) (Err f) → ⊥
 apart v f e = absurd cc
@@ -38,31 +32,29 @@ pub no_fault : (m : ℕ) (bytes : List ℕ) (v : Contents) → reading_of bytes 
 no_fault m bytes v e short at_limit p k f = let h = f.longer in omega arith
 no_fault m bytes v e short in_field p k f = apart v (record { kind = k; place = p }) (sym e ∙ f)
 
-pub never_both : (m : ℕ) (bytes : List ℕ) (s : Setting) (list : List Submission) (p : ℕ) (k : SnapFault) →
-    IsSnapshot m bytes s list → FirstFaultAt m bytes p k → ⊥
-never_both m bytes s list p k is f = no_fault m bytes (contents s list)
-    (snapshot_read m bytes s list is) is.fits f.turn p k f.stands
+pub never_both : (m : ℕ) (bytes : List ℕ) (s : Setting) (a : Accepted) (p : ℕ) (k : SnapFault) →
+    IsSnapshot m bytes s a → FirstFaultAt m bytes p k → ⊥
+never_both m bytes s a p k is f = no_fault m bytes (contents s a)
+    (snapshot_read m bytes s a is) is.fits f.turn p k f.stands
 
-pub one_contents : (m : ℕ) (bytes : List ℕ) (s t : Setting) (xs ys : List Submission) → IsSnapshot m bytes s xs →
-    IsSnapshot m bytes t ys → (s ≡ t) × (xs ≡ ys)
-one_contents m bytes s t xs ys a b =
-    let both : ◌≡◌ {A = outcome} (Ok (contents s xs)) (Ok (contents t ys)) = sym (snapshot_read m bytes s xs a) ∙
-    snapshot_read m bytes t ys b in
-    let same : contents s xs ≡ contents t ys = cc in
-    (ap (λ (c : Contents). c.setup) same, ap (λ (c : Contents). c.batches) same)
+pub one_contents : (m : ℕ) (bytes : List ℕ) (s t : Setting) (a b : Accepted) → IsSnapshot m bytes s a →
+    IsSnapshot m bytes t b → (s ≡ t) × (a ≡ b)
+one_contents m bytes s t a b x y =
+    let both : ◌≡◌ {A = outcome} (Ok (contents s a)) (Ok (contents t b)) = sym (snapshot_read m bytes s a x) ∙
+    snapshot_read m bytes t b y in
+    let same : contents s a ≡ contents t b = cc in
+    (ap (λ (c : Contents). c.setup) same, ap (λ (c : Contents). c.state) same)
 
-pub no_prefix : (m n : ℕ) (bytes more : List ℕ) (s t : Setting) (xs ys : List Submission) → IsSnapshot m bytes s xs →
-    IsSnapshot n (bytes ++ more) t ys → more ≡ []
-no_prefix m n bytes more s t xs ys a b =
-    let long : reading_of (bytes ++ more) ≡ Ok (contents t ys) = snapshot_read n (bytes ++ more) t ys b in
-    let same : bytes ++ more ≡ file s xs ++ more = ap (λ (l : List ℕ). l ++ more) a.spelled in
-    (ended (contents s xs) (contents t ys) (length (file s xs)) more
-    (sym (file_again s xs more (readable_of s xs a.kept)) ∙ ap reading_of (sym same) ∙ long)).0
+pub no_prefix : (m n : ℕ) (bytes more : List ℕ) (s t : Setting) (a b : Accepted) → IsSnapshot m bytes s a →
+    IsSnapshot n (bytes ++ more) t b → more ≡ []
+no_prefix m n bytes more s t a b x y =
+    (ended (contents s a) (contents t b) (length bytes) more
+    (sym (file_again bytes s a more (readable_of s a x.kept) x.spelled) ∙ snapshot_read n (bytes ++ more) t b y)).0
 
 -- ---- every list of bytes
 
 abbrev pub IsSomeSnapshot : ℕ → List ℕ → Type 0
-IsSomeSnapshot m bytes = (s : Setting) × (list : List Submission) × IsSnapshot m bytes s list
+IsSomeSnapshot m bytes = (s : Setting) × (a : Accepted) × IsSnapshot m bytes s a
 
 abbrev pub HasFirstFault : ℕ → List ℕ → Type 0
 HasFirstFault m bytes = (place : ℕ) × (kind : SnapFault) × FirstFaultAt m bytes place kind
@@ -105,8 +97,8 @@ told m bytes (Ok v) fits e = elim (cases_lt m (length bytes)) [
   | inl long ↦ inr (m + 1, TooLong, first_at_limit m bytes long (λ f h. absurd (apart v f (sym e ∙ h))))
   | inr short ↦ let r = file_read v bytes fits e in inl (
     v.setup,
-    v.batches,
-    record { fits = short; kept = kept_of v.setup v.batches r.kept; spelled = r.spelled },
+    v.state,
+    record { fits = short; kept = kept_of v.setup v.state r.kept; spelled = r.spelled },
   )
 ]
 told m bytes (Err f) fits e = elim (cases_lt m (length bytes)) [

@@ -17,6 +17,7 @@ pub mod EndLemmas
 pub mod StayLemmas
 pub mod RunLemmas
 pub mod ListLemmas
+pub mod PastLemmas
 pub mod BehindLemmas
 pub mod MemoryLaws
 pub mod StartLemmas

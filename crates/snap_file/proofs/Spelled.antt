@@ -1,32 +1,41 @@
 -- What is read was spelled so: the head, cells, batches, and the whole file.
-use Rattle.std.proofs.Common.{◌≡◌, ℕ, zero, suc, ◌+◌, ◌-◌, ◌^◌, ◌<◌, ◌≤◌, Bool, true, false, cond, List, [], ◌∷◌, ◌++◌}
-use Rattle.std.proofs.Common.{length, map, flat_map, Result, Ok, Err, refl, sym, ap, subst, ◌∙◌, append_assoc, arith}
-use Rattle.std.specs.Prelude.{◌==◌}
+use Rattle.std.proofs.Common.{◌≡◌, ℕ, zero, suc, ◌+◌, ◌-◌, ◌^◌, ◌<◌, ◌≤◌, ◌⊎◌, Bool, true, false, cond, not, List, []}
+use Rattle.std.proofs.Common.{◌∷◌, ◌++◌, length, map, flat_map, Result, Ok, Err, refl, sym, ap, subst, ◌∙◌}
+use Rattle.std.proofs.Common.{append_assoc, arith, inl, inr}
+use Rattle.std.specs.Prelude.{◌==◌, ◌&&◌}
 use Rattle.std.specs.List.{AllByRecursion}
 use Rattle.std.specs.Int.{w8, w32, w64}
-use Rattle.std.specs.FinMap.{entries, len, len-entries}
+use Rattle.std.specs.FinMap.{empty, entries, len, len-entries, len-empty, empty_of_len}
 use Rattle.std.proofs.lemmas.List.{append-nil}
-use Rattle.std.proofs.lemmas.Bool.{ltb-false, leb-false}
+use Rattle.std.proofs.lemmas.Bool.{cases_lt, ltb-false, leb-false}
 use Rattle.std.proofs.lemmas.Bool.Decides.{nat_tests}
-use Rattle.hyper_matrix.specs.Counts.{Place, Counts, count_sum, total, built}
+use Rattle.hyper_matrix.specs.Counts.{Place, place_cmp, Counts, count_sum, total, built}
 use Rattle.hyper_matrix.specs.Shared.{LiesWithin}
 use Rattle.hyper_matrix.specs.Matrix.{matrix}
-use Rattle.hyper_matrix.specs.Cells.{entry_of}
-use Rattle.batch_store.specs.Setups.{Setting}
-use Rattle.snap_file.proofs.Kept.{IsSetup, CutsFrom, AreNew, IsReadable}
-use Rattle.snap_file.specs.Spelling.{IsBytes, number_bytes, mark, version, head_bytes, cells_bytes, batch_bytes, file}
-use Rattle.snap_file.specs.Spelling.{stands_in, IsBatch}
-use Rattle.snap_file.specs.Table.{Fault, Contents, Reading, head, cuts_behind, Tally, cells_behind, Progress, no_cells}
-use Rattle.snap_file.specs.Table.{with_batch, batch, batches_behind, end, nothing_yet, reading_of}
-use Rattle.batch_store.specs.Batches.{Submission}
+use Rattle.hyper_matrix.specs.Cells.{entry_of, built_of}
+use Rattle.hyper_matrix.proofs.CountLaws.{total-empty}
+use Rattle.batch_store.specs.declared.verdict.Entry.{Entry}
+use Rattle.batch_store.specs.Accepted.{Accepted, accepted, unfolded, entries_in, total_in, IsBase}
+use Rattle.batch_store.specs.Batches.{Submission, entries_of}
 use Rattle.batch_store.specs.Books.{list_total}
+use Rattle.batch_store.specs.Setups.{Setting}
+use Rattle.batch_store.specs.Verdicts.{total_of_entries}
+use Rattle.batch_store.proofs.BookLaws.{entries-with}
+use Rattle.snap_file.proofs.Kept.{IsSetup, CutsFrom, AreNew, IsReadable, total_parts}
+use Rattle.snap_file.specs.Spelling.{IsBytes, number_bytes, mark, old_version, version, head_bytes, cells_bytes}
+use Rattle.snap_file.specs.Spelling.{matrix_bytes, batch_bytes, entry_bytes, past_bytes, stands_in, IsBatch, IsEntry}
+use Rattle.snap_file.specs.Spelling.{IsSpelled}
+use Rattle.snap_file.specs.Table.{Fault, Contents, Reading, head, cuts_behind, Tally, cells_behind, Progress, no_cells}
+use Rattle.snap_file.specs.Table.{with_entry, entry, entries_behind, base, folded_past, past, with_cells, batch}
+use Rattle.snap_file.specs.Table.{batches_behind, end, nothing_yet, contents, reading_of}
 use Rattle.snap_file.specs.declared.head.Head.{Head}
 use Rattle.snap_file.specs.declared.fault.SnapFault.TheVariants.{ExtraBytes}
 use Rattle.snap_file.proofs.Fields.{field_then, passed, passed_then, within, one_value, same_number, wide8, wide32}
 use Rattle.snap_file.proofs.Fields.{wide64}
-use Rattle.snap_file.proofs.Again.{cell_of, tally_with, tally_after, RiseFrom, cell_joined}
+use Rattle.snap_file.proofs.Again.{cell_of, tally_with, tally_after, cells_after, counted_after, RiseFrom, cell_joined}
 use Rattle.snap_file.proofs.Order.{entries-built, entries_again, sorted_rising}
-use Rattle.snap_file.proofs.Whole.{total_is, read_as, progress_with, progress_after}
+use Rattle.snap_file.proofs.Whole.{total_is, read_as, progress_with, progress_after, progress_none, progress_more}
+use Rattle.snap_file.proofs.Whole.{entries_after, entries_none, entries_more, based_on, past_none, past_some}
 
 -- These bytes stand in front of the rest, and what follows them gives the same.
 pub record Came {A : Type 0} (k : A → Reading) (v : Contents) (rest : List ℕ) (x : A) (bytes : List ℕ) : Type 0 where
@@ -100,7 +109,9 @@ pub record HeadRead (k : Head → Reading) (v : Contents) (rest : List ℕ) : Ty
   pub setup : IsSetup h.setup
   pub few : h.batches ≤ h.setup.max_batches
   pub fits : h.total ≤ h.setup.limit
-  pub came : Came k v rest h (head_bytes h.setup h.batches h.total)
+  pub low : old_version ≤ h.version
+  pub high : h.version ≤ version
+  pub came : Came k v rest h (head_bytes h.version h.setup h.batches h.total)
 
 head_read : (k : Head → Reading) (v : Contents) (at : ℕ) (rest : List ℕ) → IsBytes rest →
     head k (record { at = at; rest = rest }) ≡ Ok v → HeadRead k v rest
@@ -135,7 +146,7 @@ head_read k v at rest fits e =
       limit = f7.value;
       max_batches = f8.value;
     } in
-    let h : Head = record { setup = s; batches = f9.value; total = f10.value } in
+    let h : Head = record { setup = s; version = f2.value; batches = f9.value; total = f10.value } in
     record {
       h = h;
       setup = record {
@@ -149,11 +160,12 @@ head_read k v at rest fits e =
       };
       few = (within 0 f8.value f9.value t9.0).1;
       fits = (within 0 f7.value f10.value t10.0).1;
+      low = (within old_version version f2.value t2.0).0;
+      high = (within old_version version f2.value t2.0).1;
       came =
           came_behind k v rest (number_bytes w64 mark) f1.left h _
           (subst (λ (n : ℕ). rest ≡ number_bytes w64 n ++ f1.left) (one_value mark f1.value t1.0) f1.parts)
-          (came_behind k v f1.left (number_bytes w32 version) f2.left h _
-          (subst (λ (n : ℕ). f1.left ≡ number_bytes w32 n ++ f2.left) (one_value version f2.value t2.0) f2.parts)
+          (came_behind k v f1.left (number_bytes w32 f2.value) f2.left h _ f2.parts
           (came_behind k v f2.left (number_bytes w64 f3.value) f3.left h _ f3.parts
           (came_behind k v f3.left (number_bytes w64 f4.value) f4.left h _ f4.parts
           (came_behind k v f4.left (number_bytes w8 (length c.cuts)) f5.left h _
@@ -167,20 +179,20 @@ head_read k v at rest fits e =
           (came_here k v f10.at f10.left h f10.fits t10.1)))))))))));
     })))))))))))))))))))))
 
-pub record CellsRead (k : Tally → Reading) (v : Contents) (rest : List ℕ) (h : Head) (n : ℕ)
+pub record CellsRead (k : Tally → Reading) (v : Contents) (rest : List ℕ) (h : Head) (top n : ℕ)
     (tally : Tally) : Type 0 where
   pub es : List (Place × ℕ)
   pub count : length es ≡ n
   pub inner : AllByRecursion (LiesWithin h.setup.rows h.setup.cols) es
   pub rise : RiseFrom tally.least_row tally.least_col es
-  pub fits : tally.counted + count_sum es ≤ h.total
+  pub fits : tally.counted + count_sum es ≤ top
   pub came : Came k v rest (tally_after tally es) (cells_bytes es)
 
-cells_read : (h : Head) (n : ℕ) (tally : Tally) (k : Tally → Reading) (v : Contents) (at : ℕ) (rest : List ℕ) →
-    IsBytes rest → tally.counted ≤ h.total →
-    cells_behind h n tally k (record { at = at; rest = rest }) ≡ Ok v → CellsRead k v rest h n tally
+cells_read : (h : Head) (top n : ℕ) (tally : Tally) (k : Tally → Reading) (v : Contents) (at : ℕ) (rest : List ℕ) →
+    IsBytes rest → tally.counted ≤ top →
+    cells_behind h top n tally k (record { at = at; rest = rest }) ≡ Ok v → CellsRead k v rest h top n tally
 unfolding cells_behind
-cells_read h zero tally k v at rest fits below e = record {
+cells_read h top zero tally k v at rest fits below e = record {
   es = [];
   count = refl;
   inner = tt;
@@ -188,7 +200,7 @@ cells_read h zero tally k v at rest fits below e = record {
   fits = omega arith;
   came = came_here k v at rest tally fits e;
 }
-cells_read h (suc n) tally k v at rest fits below e =
+cells_read h top (suc n) tally k v at rest fits below e =
     field_then w64 (2 ^ 64) wide64 _ v at rest fits e (λ f1.
     passed_then _ _ _ v _ f1.goes (λ t1.
     field_then w64 (2 ^ 64) wide64 _ v f1.at f1.left f1.fits t1.1 (λ f2.
@@ -197,14 +209,14 @@ cells_read h (suc n) tally k v at rest fits below e =
     field_then w64 (2 ^ 64) wide64 _ v f2.at f2.left f2.fits t3.1 (λ f3.
     passed_then _ _ _ v _ f3.goes (λ t4.
     let entry : Place × ℕ = ((f1.value, f2.value), f3.value) in
-    let room = ltb-false h.total (tally.counted + f3.value) t4.0 in
-    let more = cells_read h n (tally_with tally entry) k v f3.at f3.left f3.fits room t4.1 in
+    let room = ltb-false top (tally.counted + f3.value) t4.0 in
+    let more = cells_read h top n (tally_with tally entry) k v f3.at f3.left f3.fits room t4.1 in
     record {
       es = entry ∷ more.es;
       count = ap (λ (i : ℕ). suc i) more.count;
       inner = ((leb-false h.setup.rows f1.value t1.0, leb-false h.setup.cols f2.value t2.0), more.inner);
       rise = (t3.0, more.rise);
-      fits = moved tally.counted f3.value (count_sum more.es) h.total more.fits;
+      fits = moved tally.counted f3.value (count_sum more.es) top more.fits;
       came = subst (λ (l : List ℕ). Came k v rest (tally_after tally (entry ∷ more.es)) l)
           (sym (cell_joined entry (cells_bytes more.es)))
           (came_behind k v rest (number_bytes w64 f1.value) f1.left _ _ f1.parts
@@ -212,15 +224,232 @@ cells_read h (suc n) tally k v at rest fits below e =
           (came_behind k v f2.left (number_bytes w64 f3.value) f3.left _ _ f3.parts more.came)));
     })))))))
 
-cells_then : {P : Type 0} (h : Head) (n : ℕ) (tally : Tally) (k : Tally → Reading) (v : Contents) (at : ℕ)
-    (rest : List ℕ) → IsBytes rest → tally.counted ≤ h.total →
-    cells_behind h n tally k (record { at = at; rest = rest }) ≡ Ok v → (CellsRead k v rest h n tally → P) → P
-cells_then h n tally k v at rest fits below e f = f (cells_read h n tally k v at rest fits below e)
+cells_then : {P : Type 0} (h : Head) (top n : ℕ) (tally : Tally) (k : Tally → Reading) (v : Contents) (at : ℕ)
+    (rest : List ℕ) → IsBytes rest → tally.counted ≤ top →
+    cells_behind h top n tally k (record { at = at; rest = rest }) ≡ Ok v → (CellsRead k v rest h top n tally → P) → P
+cells_then h top n tally k v at rest fits below e f = f (cells_read h top n tally k v at rest fits below e)
+
+-- cells that rise are the entries of what they build
+entries_are : (es : List (Place × ℕ)) → RiseFrom 0 0 es → entries (built (map entry_of (map cell_of es))) ≡ es
+entries_are es rise = ap (λ (l : List (Place × ℕ)). entries (built l)) (entries_again es) ∙
+    entries-built es (sorted_rising 0 0 es rise)
+
+-- ---- what is folded
+
+pub record EntryRead (k : Progress → Reading) (v : Contents) (rest : List ℕ) (h : Head) (p : Progress) : Type 0 where
+  pub e : Entry
+  pub is : IsEntry e
+  pub new : stands_in e.client e.number p.state.folded ≡ false
+  pub fits : p.counted + e.total ≤ h.total
+  pub came : Came k v rest (with_entry p e) (entry_bytes e)
+
+entry_read : (h : Head) (p : Progress) (k : Progress → Reading) (v : Contents) (at : ℕ) (rest : List ℕ) →
+    IsBytes rest → entry h p k (record { at = at; rest = rest }) ≡ Ok v → EntryRead k v rest h p
+unfolding entry
+entry_read h p k v at rest fits e =
+    field_then w64 (2 ^ 64) wide64 _ v at rest fits e (λ f1.
+    field_then w64 (2 ^ 64) wide64 _ v f1.at f1.left f1.fits f1.goes (λ f2.
+    passed_then _ _ _ v _ f2.goes (λ t2.
+    field_then w64 (2 ^ 64) wide64 _ v f2.at f2.left f2.fits t2.1 (λ f3.
+    field_then w64 (2 ^ 64) wide64 _ v f3.at f3.left f3.fits f3.goes (λ f4.
+    passed_then _ _ _ v _ f4.goes (λ t4.
+    let one : Entry = record { client = f1.value; number = f2.value; cells = f3.value; total = f4.value } in
+    let y = with_entry p one in
+    record {
+      e = one;
+      is = record { client = f1.below; number = f2.below; cells = f3.below; total = f4.below };
+      new = t2.0;
+      fits = ltb-false h.total (p.counted + f4.value) t4.0;
+      came =
+          came_behind k v rest (number_bytes w64 f1.value) f1.left y _ f1.parts
+          (came_behind k v f1.left (number_bytes w64 f2.value) f2.left y _ f2.parts
+          (came_behind k v f2.left (number_bytes w64 f3.value) f3.left y _ f3.parts
+          (came_behind k v f3.left (number_bytes w64 f4.value) f4.left y [] f4.parts
+          (came_here k v f4.at f4.left y f4.fits t4.1))));
+    }))))))
+
+pub record EntriesRead (k : Progress → Reading) (v : Contents) (rest : List ℕ) (h : Head) (n : ℕ)
+    (p : Progress) : Type 0 where
+  pub es : List Entry
+  pub count : length es ≡ n
+  pub each : AllByRecursion IsEntry es
+  pub new : AreNew p.state.folded es
+  pub fits : p.counted + total_of_entries es ≤ h.total
+  pub came : Came k v rest (entries_after p es) (flat_map entry_bytes es)
+
+entries_read : (h : Head) (n : ℕ) (p : Progress) (k : Progress → Reading) (v : Contents) (at : ℕ) (rest : List ℕ) →
+    IsBytes rest → p.counted ≤ h.total →
+    entries_behind h n p k (record { at = at; rest = rest }) ≡ Ok v → EntriesRead k v rest h n p
+unfolding entries_behind
+entries_read h zero p k v at rest fits below e = record {
+  es = [];
+  count = refl;
+  each = tt;
+  new = tt;
+  fits = omega arith;
+  came = subst (λ (x : Progress). Came k v rest x []) (entries_none p) (came_here k v at rest p fits e);
+}
+entries_read h (suc n) p k v at rest fits below e =
+    let one = entry_read h p _ v at rest fits e in
+    let room = one.fits in
+    let x = one.e in
+    let more = entries_read h n (with_entry p x) k v one.came.at one.came.left one.came.fits room one.came.goes in
+    let more_fits = more.fits in
+    record {
+      es = x ∷ more.es;
+      count = ap (λ (i : ℕ). suc i) more.count;
+      each = (one.is, more.each);
+      new = (one.new, more.new);
+      fits = omega arith;
+      came = came_behind k v rest (entry_bytes x) one.came.left (entries_after p (x ∷ more.es))
+          (flat_map entry_bytes more.es) one.came.parts
+          (subst (λ (y : Progress). Came k v one.came.left y (flat_map entry_bytes more.es))
+          (entries_more p x more.es) more.came);
+    }
+
+pub record BaseRead (k : Progress → Reading) (v : Contents) (rest : List ℕ) (h : Head) (p : Progress) : Type 0 where
+  pub m : Counts
+  pub few : len m < 2 ^ 64
+  pub inner : AllByRecursion (LiesWithin h.setup.rows h.setup.cols) (entries m)
+  pub sum : total m ≡ p.counted
+  pub none : p.state.folded ≡ [] → m ≡ empty
+  pub came : Came k v rest (based_on p m) (matrix_bytes m)
+
+unfounded : (folded : List Entry) (n : ℕ) → ((length folded == 0) && not (n == 0)) ≡ false → folded ≡ [] → n ≡ 0
+unfounded [] n e h = grind (arith, nat_tests)
+unfounded (x ∷ xs) n e h = absurd cc
+
+base_read : (h : Head) (p : Progress) (k : Progress → Reading) (v : Contents) (at : ℕ) (rest : List ℕ) →
+    IsBytes rest → base h p k (record { at = at; rest = rest }) ≡ Ok v → BaseRead k v rest h p
+unfolding base
+base_read h p k v at rest fits e =
+    field_then w64 (2 ^ 64) wide64 _ v at rest fits e (λ f1.
+    passed_then _ _ _ v _ f1.goes (λ t1.
+    cells_then h p.counted f1.value (no_cells 0) _ v f1.at f1.left f1.fits (omega arith) t1.1 (λ c.
+    passed_then _ _ _ v _ c.came.goes (λ t2.
+    let t = tally_after (no_cells 0) c.es in
+    let m : Counts = built_of t.cells in
+    let cells_are : built_of t.cells ≡ built (map entry_of (map cell_of c.es)) = ap built_of
+    (cells_after c.es (no_cells 0)) in
+    let same : entries m ≡ c.es = ap entries cells_are ∙ entries_are c.es c.rise in
+    let len_is : len m ≡ f1.value = len-entries m ∙ ap length same ∙ c.count in
+    let sum_is : total m ≡ count_sum c.es = sym (total_is m) ∙ ap count_sum same in
+    let counted : t.counted ≡ p.counted = same_number t.counted p.counted t2.0 in
+    let counted_is = counted_after c.es (no_cells 0) in
+    record {
+      m = m;
+      few = equal_lt (len m) f1.value (2 ^ 64) len_is f1.below;
+      inner = subst (AllByRecursion (LiesWithin h.setup.rows h.setup.cols)) (sym same) c.inner;
+      sum = sum_met (total m) (count_sum c.es) t.counted p.counted sum_is counted_is counted;
+      none = λ none. empty_of_len m (len_is ∙ unfounded p.state.folded f1.value t1.0 none);
+      came =
+          came_behind k v rest (number_bytes w64 (len m)) f1.left (based_on p m) _
+          (subst (λ (n : ℕ). rest ≡ number_bytes w64 n ++ f1.left) (sym len_is) f1.parts)
+          (came_behind k v f1.left (cells_bytes (entries m)) c.came.left (based_on p m) []
+          (subst (λ (l : List (Place × ℕ)). f1.left ≡ cells_bytes l ++ c.came.left) (sym same) c.came.parts)
+          (came_here k v c.came.at c.came.left (based_on p m) c.came.fits t2.1));
+    }))))
+  where
+    sum_met : (a b c d : ℕ) → a ≡ b → c ≡ 0 + b → c ≡ d → a ≡ d
+    sum_met a b c d x y z = omega arith
+
+pub record PastRead (k : Progress → Reading) (v : Contents) (rest : List ℕ) (h : Head) : Type 0 where
+  pub m : Counts
+  pub es : List Entry
+  pub few : length es ≤ h.setup.max_batches - h.batches
+  pub each : AllByRecursion IsEntry es
+  pub new : AreNew [] es
+  pub fits : total_of_entries es ≤ h.total
+  pub few_cells : len m < 2 ^ 64
+  pub inner : AllByRecursion (LiesWithin h.setup.rows h.setup.cols) (entries m)
+  pub based : IsBase m es
+  pub bytes : List ℕ
+  pub spelled : ((h.version ≡ version) × (bytes ≡ past_bytes m es)) ⊎
+      ((h.version ≡ old_version) × (m ≡ empty) × (es ≡ []) × (bytes ≡ []))
+  pub p : Progress
+  pub state_is : p.state ≡ accepted m es []
+  pub counted_is : p.counted ≡ total_of_entries es
+  pub came : Came k v rest p bytes
+
+folded_read : (h : Head) (k : Progress → Reading) (v : Contents) (at : ℕ) (rest : List ℕ) → IsBytes rest →
+    h.version ≡ version → folded_past h k (record { at = at; rest = rest }) ≡ Ok v → PastRead k v rest h
+unfolding folded_past
+folded_read h k v at rest fits is e =
+    field_then w64 (2 ^ 64) wide64 _ v at rest fits e (λ f1.
+    passed_then _ _ _ v _ f1.goes (λ t1.
+    let all = entries_read h f1.value nothing_yet _ v f1.at f1.left f1.fits (omega arith) t1.1 in
+    let q = entries_after nothing_yet all.es in
+    let b = base_read h q k v all.came.at all.came.left all.came.fits all.came.goes in
+    record {
+      m = b.m;
+      es = all.es;
+      few = equal_le (length all.es) f1.value (h.setup.max_batches - h.batches) all.count
+          ((within 0 (h.setup.max_batches - h.batches) f1.value t1.0).1);
+      each = all.each;
+      new = all.new;
+      fits = from_zero (total_of_entries all.es) h.total all.fits;
+      few_cells = b.few;
+      inner = b.inner;
+      based = record { adds_up = b.sum ∙ zero_plus (total_of_entries all.es); none = b.none };
+      bytes = past_bytes b.m all.es;
+      spelled = inl (is, refl);
+      p = based_on q b.m;
+      state_is = refl;
+      counted_is = zero_plus (total_of_entries all.es);
+      came =
+          came_behind k v rest (number_bytes w64 (length all.es)) f1.left (based_on q b.m) _
+          (subst (λ (n : ℕ). rest ≡ number_bytes w64 n ++ f1.left) (sym all.count) f1.parts)
+          (came_behind k v f1.left (flat_map entry_bytes all.es) all.came.left (based_on q b.m) (matrix_bytes b.m)
+          all.came.parts b.came);
+    }))
+  where
+    from_zero : (a b : ℕ) → 0 + a ≤ b → a ≤ b
+    from_zero a b h = omega arith
+
+    zero_plus : (a : ℕ) → 0 + a ≡ a
+    zero_plus a = omega arith
+
+either_version : (v : ℕ) → old_version ≤ v → v ≤ version → (v ≡ version) ⊎ (v ≡ old_version)
+either_version v low high = elim (cases_lt v version) [ inl lt ↦ inr (omega arith) | inr le ↦ inl (omega arith) ]
+
+past_read : (h : Head) (k : Progress → Reading) (v : Contents) (at : ℕ) (rest : List ℕ) → IsBytes rest →
+    (h.version ≡ version) ⊎ (h.version ≡ old_version) → past h k (record { at = at; rest = rest }) ≡ Ok v →
+    PastRead k v rest h
+past_read h k v at rest fits (inl is) e =
+    folded_read h k v at rest fits is
+    (sym (ap (λ (r : Reading). r (record { at = at; rest = rest })) (past_some h k is)) ∙ e)
+past_read h k v at rest fits (inr is) e = record {
+  m = empty;
+  es = [];
+  few = omega arith;
+  each = tt;
+  new = tt;
+  fits = omega arith;
+  few_cells = omega (arith, len-empty place_cmp ℕ);
+  inner = subst (AllByRecursion (LiesWithin h.setup.rows h.setup.cols)) (sym no_entries) tt;
+  based = record { adds_up = total-empty; none = λ none. refl };
+  bytes = [];
+  spelled = inr (is, refl, refl, refl);
+  p = nothing_yet;
+  state_is = refl;
+  counted_is = refl;
+  came = came_here k v at rest nothing_yet fits
+      (sym (ap (λ (r : Reading). r (record { at = at; rest = rest })) (past_none h k is)) ∙ e);
+}
+  where
+    none : (es : List (Place × ℕ)) → length es ≡ 0 → es ≡ []
+    none [] h = refl
+    none (x ∷ xs) h = absurd (omega arith)
+
+    no_entries : ◌≡◌ {A = List (Place × ℕ)} (entries (empty {R = place_cmp})) []
+    no_entries = none (entries (empty {R = place_cmp})) (sym (len-entries (empty {R = place_cmp})) ∙ len-empty place_cmp ℕ)
+
+-- ---- batches
 
 pub record BatchRead (k : Progress → Reading) (v : Contents) (rest : List ℕ) (h : Head) (p : Progress) : Type 0 where
   pub b : Submission
   pub is : IsBatch h.setup.rows h.setup.cols b
-  pub new : stands_in b.client b.number p.batches ≡ false
+  pub new : stands_in b.client b.number (entries_in p.state) ≡ false
   pub fits : p.counted + total b.matrix.counts ≤ h.total
   pub came : Came k v rest (progress_with p b) (batch_bytes b)
 
@@ -233,28 +462,27 @@ batch_read h p k v at rest fits below e =
     field_then w64 (2 ^ 64) wide64 _ v f1.at f1.left f1.fits f1.goes (λ f2.
     passed_then _ _ _ v _ f2.goes (λ t2.
     field_then w64 (2 ^ 64) wide64 _ v f2.at f2.left f2.fits t2.1 (λ f3.
-    cells_then h f3.value (no_cells p.counted) _ v f3.at f3.left f3.fits below f3.goes (λ c.
+    cells_then h h.total f3.value (no_cells p.counted) _ v f3.at f3.left f3.fits below f3.goes (λ c.
     let counts : Counts = built (map entry_of (map cell_of c.es)) in
     let b : Submission = record {
       client = f1.value;
       number = f2.value;
       matrix = matrix h.setup.rows h.setup.cols counts;
     } in
-    let entries_are : entries counts ≡ c.es = ap (λ (l : List (Place × ℕ)). entries (built l)) (entries_again c.es) ∙
-    entries-built c.es (sorted_rising 0 0 c.es c.rise) in
-    let len_is : len counts ≡ f3.value = len-entries counts ∙ ap length entries_are ∙ c.count in
-    let total_are : total counts ≡ count_sum c.es = sym (total_is counts) ∙ ap count_sum entries_are in
+    let same : entries counts ≡ c.es = entries_are c.es c.rise in
+    let len_is : len counts ≡ f3.value = len-entries counts ∙ ap length same ∙ c.count in
+    let total_are : total counts ≡ count_sum c.es = sym (total_is counts) ∙ ap count_sum same in
     let is : IsBatch h.setup.rows h.setup.cols b = record {
       client = f1.below;
       number = f2.below;
       rows_are = refl;
       cols_are = refl;
       few = equal_lt (len counts) f3.value (2 ^ 64) len_is f3.below;
-      within = subst (AllByRecursion (LiesWithin h.setup.rows h.setup.cols)) (sym entries_are) c.inner;
+      within = subst (AllByRecursion (LiesWithin h.setup.rows h.setup.cols)) (sym same) c.inner;
     } in
-    let y_is : with_batch h p f1.value f2.value (tally_after (no_cells p.counted) c.es) ≡ progress_with p b =
-    ap (λ (l : List (Place × ℕ)). with_batch h p f1.value f2.value (tally_after (no_cells p.counted) l))
-    (sym entries_are) ∙ read_as h p b is in
+    let y_is : with_cells h p f1.value f2.value (tally_after (no_cells p.counted) c.es) ≡ progress_with p b =
+    ap (λ (l : List (Place × ℕ)). with_cells h p f1.value f2.value (tally_after (no_cells p.counted) l))
+    (sym same) ∙ read_as h p b is in
     record {
       b = b;
       is = is;
@@ -266,7 +494,7 @@ batch_read h p k v at rest fits below e =
           (came_behind k v f2.left (number_bytes w64 (len counts)) f3.left (progress_with p b) _
           (subst (λ (n : ℕ). f2.left ≡ number_bytes w64 n ++ f3.left) (sym len_is) f3.parts)
           (came_behind k v f3.left (cells_bytes (entries counts)) c.came.left (progress_with p b) []
-          (subst (λ (l : List (Place × ℕ)). f3.left ≡ cells_bytes l ++ c.came.left) (sym entries_are) c.came.parts)
+          (subst (λ (l : List (Place × ℕ)). f3.left ≡ cells_bytes l ++ c.came.left) (sym same) c.came.parts)
           (came_here k v c.came.at c.came.left (progress_with p b) c.came.fits
           (subst (λ (x : Progress). k x (record { at = c.came.at; rest = c.came.left }) ≡ Ok v) y_is c.came.goes)))));
     })))))
@@ -276,7 +504,7 @@ pub record BatchesRead (k : Progress → Reading) (v : Contents) (rest : List �
   pub list : List Submission
   pub count : length list ≡ n
   pub each : AllByRecursion (IsBatch h.setup.rows h.setup.cols) list
-  pub new : AreNew p.batches list
+  pub new : AreNew (entries_in p.state) (entries_of list)
   pub fits : p.counted + list_total list ≤ h.total
   pub came : Came k v rest (progress_after p list) (flat_map batch_bytes list)
 
@@ -290,11 +518,7 @@ batches_read h zero p k v at rest fits below e = record {
   each = tt;
   new = tt;
   fits = omega arith;
-  came = subst (λ (x : Progress). Came k v rest x [])
-      (ap (λ (l : List Submission). let y : Progress = record { batches = l; counted = p.counted } in y)
-      (sym (append-nil p.batches))
-      ∙ ap (λ (n : ℕ). let y : Progress = record { batches = p.batches ++ []; counted = n } in y) (omega arith))
-      (came_here k v at rest p fits e);
+  came = subst (λ (x : Progress). Came k v rest x []) (progress_none p) (came_here k v at rest p fits e);
 }
 batches_read h (suc n) p k v at rest fits below e =
     let one = batch_read h p _ v at rest fits below e in
@@ -307,18 +531,15 @@ batches_read h (suc n) p k v at rest fits below e =
       list = b ∷ more.list;
       count = ap (λ (i : ℕ). suc i) more.count;
       each = (one.is, more.each);
-      new = (one.new, more.new);
+      new = (
+        one.new,
+        subst (λ (l : List Entry). AreNew l (entries_of more.list)) (entries-with p.state b) more.new,
+      );
       fits = omega arith;
       came = came_behind k v rest (batch_bytes b) one.came.left (progress_after p (b ∷ more.list))
           (flat_map batch_bytes more.list) one.came.parts
           (subst (λ (x : Progress). Came k v one.came.left x (flat_map batch_bytes more.list))
-          (ap (λ (l : List Submission). let y : Progress = record {
-            batches = l;
-            counted = q.counted + list_total more.list;
-          } in y) (append_assoc p.batches (b ∷ []) more.list)
-          ∙ ap (λ (n : ℕ). let y : Progress = record { batches = p.batches ++ b ∷ more.list; counted = n } in y)
-          (omega arith))
-          more.came);
+          (progress_more p b more.list) more.came);
     }
 
 nothing_left : (l : List ℕ) → (length l == 0) ≡ true → l ≡ []
@@ -337,35 +558,68 @@ ended c v at rest e =
     (nothing_left rest h.0, h.1)
 
 pub record FileRead (v : Contents) (bytes : List ℕ) : Type 0 where
-  pub kept : IsReadable v.setup v.batches
-  pub spelled : bytes ≡ file v.setup v.batches
+  pub kept : IsReadable v.setup v.state
+  pub spelled : IsSpelled bytes v.setup v.state
+
+-- the parts of a file in the one version or the other
+spelled_of : (h : Head) (m : Counts) (es : List Entry) (list : List Submission) (bytes middle : List ℕ) →
+    bytes ≡ head_bytes h.version h.setup h.batches h.total ++ (middle ++ flat_map batch_bytes list) →
+    h.batches ≡ length list → h.total ≡ total_in (accepted m es list) →
+    ((h.version ≡ version) × (middle ≡ past_bytes m es)) ⊎
+    ((h.version ≡ old_version) × (m ≡ empty) × (es ≡ []) × (middle ≡ [])) →
+    IsSpelled bytes h.setup (accepted m es list)
+spelled_of h m es list bytes middle parts batches total_is (inl new) =
+    inl (parts ∙ (λ i. head_bytes (new.0 i) h.setup (batches i) (total_is i) ++
+    (new.1 i ++ flat_map batch_bytes list)))
+spelled_of h m es list bytes middle parts batches total_is (inr old) =
+    let nothing : accepted m es list ≡ unfolded list = (λ i. accepted (old.1 i) (old.2 i) list) in
+    let sum : h.total ≡ list_total list = total_is ∙ ap total_in nothing in
+    inr (
+      nothing,
+      parts ∙ (λ i. head_bytes (old.0 i) h.setup (batches i) (sum i) ++
+          (old.3 i ++ flat_map batch_bytes list)),
+    )
 
 pub file_read : (v : Contents) (bytes : List ℕ) → IsBytes bytes → reading_of bytes ≡ Ok v → FileRead v bytes
 unfolding reading_of
 file_read v bytes fits e =
     let first = head_read _ v 0 bytes fits e in
     let h = first.h in
-    let all = batches_read h h.batches nothing_yet _ v first.came.at first.came.left first.came.fits
-    (omega arith) first.came.goes in
+    let past_is = past_read h _ v first.came.at first.came.left first.came.fits
+    (either_version h.version first.low first.high) first.came.goes in
+    let p = past_is.p in
+    let counted = past_is.counted_is in let below = past_is.fits in
+    let all = batches_read h h.batches p _ v past_is.came.at past_is.came.left past_is.came.fits
+    (omega arith) past_is.came.goes in
     let met = passed _ _ _ v _ all.came.goes in
     let last = ended _ v _ _ met.1 in
-    let t : 0 + list_total all.list ≡ h.total = same_number (0 + list_total all.list) h.total met.0 in
-    let total_met : list_total all.list ≡ h.total = omega arith in
-    let c : Contents = record { setup = h.setup; batches = all.list } in
-    let few = first.few in let limit = first.fits in let count = all.count in
-    let kept : IsReadable h.setup all.list = record {
+    let t : p.counted + list_total all.list ≡ h.total =
+    same_number (p.counted + list_total all.list) h.total met.0 in
+    let a = accepted past_is.m past_is.es all.list in
+    let total_is : h.total ≡ total_in a = let parts = total_parts a in omega arith in
+    let c : Contents = contents h.setup a in
+    let few = first.few in let limit = first.fits in let count = all.count in let folded = past_is.few in
+    let kept : IsReadable h.setup a = record {
       setup = first.setup;
       few = omega arith;
       fits = omega arith;
       each = all.each;
-      distinct = all.new;
+      folded = past_is.each;
+      distinct = past_is.new;
+      behind = subst (λ (l : List Entry). AreNew l (entries_of all.list))
+          (ap entries_in past_is.state_is ∙ append-nil past_is.es) all.new;
+      few_cells = past_is.few_cells;
+      within = past_is.inner;
+      based = past_is.based;
     } in
-    let head_is : head_bytes h.setup h.batches h.total ≡ head_bytes h.setup (length all.list) (list_total all.list) =
-    ap (λ (n : ℕ). head_bytes h.setup n h.total) (sym all.count) ∙
-    ap (head_bytes h.setup (length all.list)) (sym total_met) in
-    let spelled : bytes ≡ file h.setup all.list =
-    first.came.parts ∙ ap (λ (l : List ℕ). head_bytes h.setup h.batches h.total ++ l)
+    let parts : bytes ≡ head_bytes h.version h.setup h.batches h.total ++
+    (past_is.bytes ++ flat_map batch_bytes all.list) =
+    first.came.parts ∙ ap (λ (l : List ℕ). head_bytes h.version h.setup h.batches h.total ++ l)
+    (past_is.came.parts ∙ ap (λ (l : List ℕ). past_is.bytes ++ l)
     (all.came.parts ∙ ap (λ (l : List ℕ). flat_map batch_bytes all.list ++ l) last.0 ∙
-    append-nil (flat_map batch_bytes all.list))
-    ∙ ap (λ (l : List ℕ). l ++ flat_map batch_bytes all.list) head_is in
-    subst (λ (x : Contents). FileRead x bytes) last.1 (record { kept = kept; spelled = spelled })
+    append-nil (flat_map batch_bytes all.list))) in
+    let spelled : IsSpelled bytes h.setup a =
+    spelled_of h past_is.m past_is.es all.list bytes past_is.bytes parts (sym all.count) total_is past_is.spelled in
+    let same : c ≡ v = ap (λ (x : Accepted). contents h.setup (accepted x.base x.folded (x.list ++ all.list)))
+    (sym past_is.state_is) ∙ last.1 in
+    subst (λ (x : Contents). FileRead x bytes) same (record { kept = kept; spelled = spelled })

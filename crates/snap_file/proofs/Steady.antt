@@ -1,13 +1,15 @@
 -- A fault that shows within the bytes stays the first, whatever follows the place where it shows.
-use Rattle.std.proofs.Common.{◌≡◌, ℕ, zero, suc, ◌+◌, ◌<◌, ◌≤◌, Bool, true, false, eqb, ltb, List, [], ◌∷◌, ◌++◌}
+use Rattle.std.proofs.Common.{◌≡◌, ℕ, zero, suc, ◌+◌, ◌<◌, ◌≤◌, Bool, true, false, cond, eqb, ltb, List, [], ◌∷◌, ◌++◌}
 use Rattle.std.proofs.Common.{length, take, drop, Result, Ok, refl, sym, ap, ◌∙◌, append_assoc, length-append, arith}
 use Rattle.std.proofs.Common.{inl, inr}
 use Rattle.std.proofs.lemmas.Bool.{cases_lt, lt-ltb, le-ltb, ne_eqb}
 use Rattle.std.proofs.lemmas.List.{take-append-drop, length-drop, take_at, drop_at, length-take-le}
+use Rattle.std.specs.Prelude.{◌==◌}
 use Rattle.std.specs.Int.{Width, byte_len, from_be_bytes}
 use Rattle.snap_file.specs.Table.{Input, Fault, Contents, Reading, fault_at, number, refuse_if, head, cuts_behind}
-use Rattle.snap_file.specs.Table.{Tally, cells_behind, Progress, batch, batches_behind, end, body, nothing_yet}
-use Rattle.snap_file.specs.Table.{reading_of}
+use Rattle.snap_file.specs.Table.{Tally, cells_behind, Progress, entry, entries_behind, base, folded_past, past, batch}
+use Rattle.snap_file.specs.Table.{batches_behind, end, body, nothing_yet, reading_of}
+use Rattle.snap_file.specs.Spelling.{old_version}
 use Rattle.snap_file.specs.declared.head.Head.{Head}
 use Rattle.snap_file.specs.declared.fault.SnapFault.{SnapFault}
 use Rattle.snap_file.specs.declared.fault.SnapFault.TheVariants.{Truncated, ExtraBytes}
@@ -136,21 +138,56 @@ steady_head k each =
     (steady_number _ _ (λ batches. steady_test _ _ _
     (steady_number _ _ (λ total. steady_test _ _ _ (each _)))))))))))))))))))))
 
-steady_cells : (h : Head) (n : ℕ) (tally : Tally) (k : Tally → Reading) → ((t : Tally) → IsSteady (k t)) →
-    IsSteady (cells_behind h n tally k)
+steady_cells : (h : Head) (top n : ℕ) (tally : Tally) (k : Tally → Reading) → ((t : Tally) → IsSteady (k t)) →
+    IsSteady (cells_behind h top n tally k)
 unfolding cells_behind
-steady_cells h zero tally k each = each tally
-steady_cells h (suc n) tally k each =
+steady_cells h top zero tally k each = each tally
+steady_cells h top (suc n) tally k each =
     steady_number _ _ (λ row. steady_test _ _ _
     (steady_number _ _ (λ col. steady_test _ _ _ (steady_test _ _ _
-    (steady_number _ _ (λ count. steady_test _ _ _ (steady_cells h n _ k each)))))))
+    (steady_number _ _ (λ count. steady_test _ _ _ (steady_cells h top n _ k each)))))))
+
+steady_entry : (h : Head) (p : Progress) (k : Progress → Reading) → ((q : Progress) → IsSteady (k q)) →
+    IsSteady (entry h p k)
+unfolding entry
+steady_entry h p k each =
+    steady_number _ _ (λ client. steady_number _ _ (λ batch_number. steady_test _ _ _
+    (steady_number _ _ (λ cells. steady_number _ _ (λ total. steady_test _ _ _ (each _))))))
+
+steady_entries : (h : Head) (n : ℕ) (p : Progress) (k : Progress → Reading) → ((q : Progress) → IsSteady (k q)) →
+    IsSteady (entries_behind h n p k)
+unfolding entries_behind
+steady_entries h zero p k each = each p
+steady_entries h (suc n) p k each = steady_entry h p _ (λ q. steady_entries h n q k each)
+
+steady_base : (h : Head) (p : Progress) (k : Progress → Reading) → ((q : Progress) → IsSteady (k q)) →
+    IsSteady (base h p k)
+unfolding base
+steady_base h p k each =
+    steady_number _ _ (λ entry_count. steady_test _ _ _
+    (steady_cells h p.counted entry_count _ _ (λ t. steady_test _ _ _ (each _))))
+
+steady_folded : (h : Head) (k : Progress → Reading) → ((q : Progress) → IsSteady (k q)) → IsSteady (folded_past h k)
+unfolding folded_past
+steady_folded h k each =
+    steady_number _ _ (λ folded. steady_test _ _ _
+    (steady_entries h folded nothing_yet _ (λ q. steady_base h q k each)))
+
+steady_choice : (test : Bool) (a b : Reading) → IsSteady a → IsSteady b → IsSteady (cond test a b)
+steady_choice true a b s t = s
+steady_choice false a b s t = t
+
+steady_past : (h : Head) (k : Progress → Reading) → ((q : Progress) → IsSteady (k q)) → IsSteady (past h k)
+unfolding past
+steady_past h k each = steady_choice (h.version == old_version) (k nothing_yet) (folded_past h k)
+    (each nothing_yet) (steady_folded h k each)
 
 steady_batch : (h : Head) (p : Progress) (k : Progress → Reading) → ((q : Progress) → IsSteady (k q)) →
     IsSteady (batch h p k)
 unfolding batch
 steady_batch h p k each =
     steady_number _ _ (λ client. steady_number _ _ (λ batch_number. steady_test _ _ _
-    (steady_number _ _ (λ entry_count. steady_cells h entry_count _ _ (λ t. each _)))))
+    (steady_number _ _ (λ entry_count. steady_cells h h.total entry_count _ _ (λ t. each _)))))
 
 steady_batches : (h : Head) (n : ℕ) (p : Progress) (k : Progress → Reading) → ((q : Progress) → IsSteady (k q)) →
     IsSteady (batches_behind h n p k)
@@ -178,7 +215,8 @@ steady_end c = record { shows = shows }
         record { front = x ∷ []; behind = rest; parts = refl; place_is = p; stays = λ more. end_more c at x more ∙ f }
 
 steady_whole : IsSteady (head body)
-steady_whole = steady_head _ (λ h. steady_batches h h.batches nothing_yet _ (λ p. steady_test _ _ _ (steady_end _)))
+steady_whole = steady_head _ (λ h. steady_past h _ (λ p. steady_batches h h.batches p _
+    (λ q. steady_test _ _ _ (steady_end _))))
 
 pub steady : (bytes : List ℕ) (kind : SnapFault) (place : ℕ) → reading_of bytes ≡ fault_at kind place →
     place ≤ length bytes →

@@ -1,6 +1,6 @@
 -- A file on its way: what is pending handed on, more appended, and a stop.
 use Rattle.std.proofs.Common.{◌≡◌, ℕ, ◌+◌, ◌*◌, ◌^◌, ◌<◌, ◌≤◌, List, [], ◌∷◌, ◌++◌, length, flat_map, refl, sym, ap}
-use Rattle.std.proofs.Common.{subst, ◌∙◌, append_assoc, length-append, arith}
+use Rattle.std.proofs.Common.{drop, get_or, drop-cons, add-one, subst, ◌∙◌, append_assoc, length-append, arith}
 use Rattle.std.proofs.lemmas.List.{append-nil}
 use Rattle.byte_io.specs.Streams.{Answer}
 use Rattle.byte_io.specs.Writing.{HasTaken, HasStopped}
@@ -9,7 +9,8 @@ use Rattle.cells.specs.declared.cell.Cell.{Cell}
 use Rattle.hyper_matrix.specs.Counts.{Place}
 use Rattle.hyper_matrix.specs.Cells.{entry_of}
 use Rattle.batch_store.specs.Batches.{Submission}
-use Rattle.snap_file.specs.Spelling.{cell_bytes, cells_bytes, batch_bytes}
+use Rattle.batch_store.specs.declared.verdict.Entry.{Entry}
+use Rattle.snap_file.specs.Spelling.{cell_bytes, cells_bytes, batch_bytes, entry_bytes}
 use Rattle.snap_file.specs.Writing.{IsWriting, WriterState}
 
 pub writing_handed_on : {S : Type 0} (step : S → List ℕ → Answer → S → Type 0) (failures : S → ℕ) (s m t : S)
@@ -87,11 +88,28 @@ cell_next step failures s t all writer given cell rest left a e =
     (append_assoc (cell_bytes (entry_of cell)) (cells_bytes rest) left)
     (subst (λ (l : List (Place × ℕ)). IsWriting step failures s t all writer (cells_bytes l ++ left)) e a)
 
-pub count_begun : (old room taken pending taken1 pending1 taken2 pending2 taken3 pending3 n : ℕ) →
-    taken + pending ≡ old → taken1 ≡ taken → pending1 ≡ pending + 8 → taken2 ≡ taken1 → pending2 ≡ pending1 + 8 →
-    taken3 ≡ taken2 → pending3 ≡ pending2 + 8 →
-    n < 2 ^ 64 → taken3 + pending3 + 24 * n ≤ old + 2 ^ 70
-count_begun old room taken pending taken1 pending1 taken2 pending2 taken3 pending3 n a b c d e f g h = omega arith
+pub count_begun : (old taken pending taken1 pending1 n : ℕ) →
+    taken + pending ≡ old → taken1 ≡ taken → pending1 ≡ pending + 8 →
+    n < 2 ^ 64 → taken1 + pending1 + 24 * n ≤ old + 2 ^ 69
+count_begun old taken pending taken1 pending1 n a b c h = omega arith
+
+-- the entry of one folded batch more
+pub entry_left : {S : Type 0} (step : S → List ℕ → Answer → S → Type 0) (failures : S → ℕ) (s t : S) (all : List ℕ)
+    (writer : WriterState) (es : List Entry) (i : ℕ) (d : Entry) (left : List ℕ) → i < length es → d ≡ get_or es i d →
+    IsWriting step failures s t all writer (flat_map entry_bytes (drop i es) ++ left) →
+    IsWriting step failures s t all writer (entry_bytes d ++ (flat_map entry_bytes (drop (i + 1) es) ++ left))
+entry_left step failures s t all writer es i d left h is a =
+    let parts : drop i es ≡ d ∷ drop (i + 1) es = drop-cons es i d h ∙ rw (← is, add-one) refl in
+    subst (λ (l : List ℕ). IsWriting step failures s t all writer l)
+    (append_assoc (entry_bytes d) (flat_map entry_bytes (drop (i + 1) es)) left)
+    (subst (λ (l : List Entry). IsWriting step failures s t all writer (flat_map entry_bytes l ++ left)) parts a)
+
+-- the bytes of what is left, in front of others
+pub apart : {S : Type 0} (step : S → List ℕ → Answer → S → Type 0) (failures : S → ℕ) (s t : S) (all : List ℕ)
+    (writer : WriterState) (x y left : List ℕ) → IsWriting step failures s t all writer ((x ++ y) ++ left) →
+    IsWriting step failures s t all writer (x ++ (y ++ left))
+apart step failures s t all writer x y left a =
+    subst (λ (l : List ℕ). IsWriting step failures s t all writer l) (append_assoc x y left) a
 
 pub batches_next : (list : List Submission) (b : Submission) →
     flat_map batch_bytes (b ∷ list) ≡ batch_bytes b ++ flat_map batch_bytes list

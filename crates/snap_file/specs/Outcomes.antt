@@ -6,7 +6,7 @@ use Rattle.byte_io.specs.declared.fault.DeviceFault.{DeviceFault}
 use Rattle.batch_store.specs.Setups.{Setting}
 use Rattle.snap_file.specs.Spelling.{IsBytes, IsSnapshot}
 use Rattle.snap_file.specs.Table.{Input, Reading, fault_at, reading_of}
-use Rattle.batch_store.specs.Batches.{Submission}
+use Rattle.batch_store.specs.Accepted.{Accepted}
 use Rattle.snap_file.specs.declared.fault.SnapFault.{SnapFault}
 use Rattle.snap_file.specs.declared.fault.SnapFault.TheVariants.{Read, Memory, BadMark, BadVersion, BadHead}
 use Rattle.snap_file.specs.declared.fault.SnapFault.TheVariants.{TotalDiffers, Truncated, TooLong}
@@ -57,8 +57,9 @@ pub record IsReadFault (max_bytes : ℕ) (bytes : List ℕ) (failed : Type 0) : 
 abbrev pub IsOfBytes : SnapFault → Type 0
 IsOfBytes kind = (kind ≢ Read) × (kind ≢ Memory)
 
--- A fault that shows at `shown` is none of the head's, and shows behind this place; at the place itself only where the
--- total differs, since memory for the last batch is taken before that is judged.
+-- A fault that shows at `shown` is none of the head's, the number of folded batches included, and shows behind this
+-- place; at the place itself only where a total differs, since memory for the last cells of the base or of the last
+-- batch is taken before that is judged.
 pub record ShowsBehind (place shown : ℕ) (kind : SnapFault) : Type 0 where
   pub no_mark : kind ≢ BadMark
   pub no_version : kind ≢ BadVersion
@@ -167,10 +168,10 @@ pub record Stops {S : Type 0} (gives : S → Result (List ℕ) DeviceFault → S
 
 -- The source gave a snapshot of these contents, and ended.
 pub record ReadsSnapshot {S : Type 0} (gives : S → Result (List ℕ) DeviceFault → S → Type 0) (failures : S → ℕ)
-    (ended : Type 0) (max_bytes : ℕ) (s t : S) (setup : Setting) (list : List Submission) : Type 0 where
+    (ended : Type 0) (max_bytes : ℕ) (s t : S) (setup : Setting) (state : Accepted) : Type 0 where
   pub answers : List (Result (List ℕ) DeviceFault)
   pub calls : Calls gives s answers t
   pub few : length answers ≤ max_bytes + 2
   pub at_end : ended
   pub none_failed : failures t ≡ failures s
-  pub snapshot : IsSnapshot max_bytes (bytes_of_calls answers) setup list
+  pub snapshot : IsSnapshot max_bytes (bytes_of_calls answers) setup state

@@ -1,15 +1,17 @@
--- The one spelling of a setup and a list of batches. Numbers are unsigned, the highest byte first.
-use Rattle.std.specs.Prelude.{◌≡◌, ℕ, ◌<◌, ◌≤◌, ◌^◌, List, [], ◌∷◌, ◌++◌, length, flat_map, Bool, slice_index, ◌&&◌}
-use Rattle.std.specs.Prelude.{◌==◌}
+-- The spellings of a setup and of what was accepted: one in version 2, which is written, and, where nothing is folded,
+-- one in version 1. Numbers are unsigned, the highest byte first.
+use Rattle.std.specs.Prelude.{◌≡◌, ℕ, ◌<◌, ◌≤◌, ◌^◌, ◌⊎◌, List, [], ◌∷◌, ◌++◌, length, flat_map, Bool, slice_index}
+use Rattle.std.specs.Prelude.{◌&&◌, ◌==◌}
 use Rattle.std.specs.List.{concat, AllByRecursion, list_any}
 use Rattle.std.specs.Int.{Width, w8, w32, w64, to_be_bytes}
 use Rattle.std.specs.FinMap.{entries, len}
-use Rattle.hyper_matrix.specs.Counts.{Place}
+use Rattle.hyper_matrix.specs.Counts.{Place, Counts}
 use Rattle.hyper_matrix.specs.Shared.{LiesWithin}
 use Rattle.batch_store.specs.Setups.{Setting}
 use Rattle.batch_store.specs.Batches.{Submission}
-use Rattle.batch_store.specs.Accepted.{unfolded}
+use Rattle.batch_store.specs.Accepted.{Accepted, unfolded, total_in}
 use Rattle.batch_store.specs.Books.{list_total, AreAccepted}
+use Rattle.batch_store.specs.declared.verdict.Entry.{Entry}
 
 -- each element is a byte
 abbrev pub IsBytes : List ℕ → Type 0
@@ -23,12 +25,17 @@ number_bytes w n = to_be_bytes w n
 abbrev pub mark : ℕ
 mark = 0x48484d534e41500a
 
-abbrev pub version : ℕ
-version = 1
+-- the version of files in which nothing is folded, and that of those that are written
+abbrev pub old_version : ℕ
+old_version = 1
 
-abbrev pub head_bytes : Setting → ℕ → ℕ → List ℕ
-head_bytes s batches total_all = concat (
-    number_bytes w64 mark ∷ number_bytes w32 version
+abbrev pub version : ℕ
+version = 2
+
+-- the head of a file of this version, with the number of batches that are not folded and the total of all
+abbrev pub head_bytes : ℕ → Setting → ℕ → ℕ → List ℕ
+head_bytes v s batches total_all = concat (
+    number_bytes w64 mark ∷ number_bytes w32 v
     ∷ number_bytes w64 s.rows ∷ number_bytes w64 s.cols
     ∷ number_bytes w8 (length s.cuts) ∷ flat_map (number_bytes w64) s.cuts
     ∷ number_bytes w8 s.shards ∷ number_bytes w64 s.limit ∷ number_bytes w64 s.max_batches
@@ -40,17 +47,38 @@ cell_bytes e = concat (number_bytes w64 e.0.0 ∷ number_bytes w64 e.0.1 ∷ num
 abbrev pub cells_bytes : List (Place × ℕ) → List ℕ
 cells_bytes cells = flat_map cell_bytes cells
 
+-- the cells of a matrix, behind their number
+abbrev pub matrix_bytes : Counts → List ℕ
+matrix_bytes m = concat (number_bytes w64 (len m) ∷ cells_bytes (entries m) ∷ [])
+
 abbrev pub batch_bytes : Submission → List ℕ
-batch_bytes b = concat (number_bytes w64 b.client ∷ number_bytes w64 b.number ∷ number_bytes w64 (len b.matrix.counts)
-    ∷ cells_bytes (entries b.matrix.counts) ∷ [])
+batch_bytes b = number_bytes w64 b.client ++ (number_bytes w64 b.number ++ matrix_bytes b.matrix.counts)
 
--- the file
-abbrev pub file : Setting → List Submission → List ℕ
-file s list = head_bytes s (length list) (list_total list) ++ flat_map batch_bytes list
+-- the entry of a folded batch
+abbrev pub entry_bytes : Entry → List ℕ
+entry_bytes e = concat (number_bytes w64 e.client ∷ number_bytes w64 e.number ∷ number_bytes w64 e.cells
+    ∷ number_bytes w64 e.total ∷ [])
 
--- whether one of these batches has this client and this number
-abbrev pub stands_in : ℕ → ℕ → List Submission → Bool
-stands_in client number list = list_any (λ b. (b.client == client) && (b.number == number)) list
+-- the entries of the folded batches, behind their number, and the matrix that they were folded into
+abbrev pub past_bytes : Counts → List Entry → List ℕ
+past_bytes base folded = number_bytes w64 (length folded) ++ (flat_map entry_bytes folded ++ matrix_bytes base)
+
+-- the file of version 1, in which nothing is folded
+abbrev pub file1 : Setting → List Submission → List ℕ
+file1 s list = head_bytes old_version s (length list) (list_total list) ++ flat_map batch_bytes list
+
+-- the file of version 2
+abbrev pub file2 : Setting → Accepted → List ℕ
+file2 s a = head_bytes version s (length a.list) (total_in a) ++
+    (past_bytes a.base a.folded ++ flat_map batch_bytes a.list)
+
+-- the file as it is written
+abbrev pub file : Setting → Accepted → List ℕ
+file s a = file2 s a
+
+-- whether one of these entries has this client and this number
+abbrev pub stands_in : ℕ → ℕ → List Entry → Bool
+stands_in client number es = list_any (λ e. (e.client == client) && (e.number == number)) es
 
 -- a batch as it can stand in a file of these dimensions
 pub record IsBatch (rows cols : ℕ) (b : Submission) : Type 0 where
@@ -61,13 +89,28 @@ pub record IsBatch (rows cols : ℕ) (b : Submission) : Type 0 where
   pub few : len b.matrix.counts < 2 ^ 64
   pub within : AllByRecursion (LiesWithin rows cols) (entries b.matrix.counts)
 
--- a setup and a list that have a file: batches as a book accepts them, each with numbers that fit their fields
-pub record IsKept (s : Setting) (list : List Submission) : Type 0 where
-  pub accepted : AreAccepted s (unfolded list)
-  pub each : AllByRecursion (IsBatch s.rows s.cols) list
+-- an entry each of whose numbers fits its field
+pub record IsEntry (e : Entry) : Type 0 where
+  pub client : e.client < 2 ^ 64
+  pub number : e.number < 2 ^ 64
+  pub cells : e.cells < 2 ^ 64
+  pub total : e.total < 2 ^ 64
 
--- The bytes are a snapshot of this setup and this list.
-pub record IsSnapshot (max_bytes : ℕ) (bytes : List ℕ) (s : Setting) (list : List Submission) : Type 0 where
+-- A setup, and what a book of it accepts, that have a file: each number fits its field, and each cell lies within the
+-- dimensions.
+pub record IsKept (s : Setting) (a : Accepted) : Type 0 where
+  pub accepted : AreAccepted s a
+  pub each : AllByRecursion (IsBatch s.rows s.cols) a.list
+  pub folded : AllByRecursion IsEntry a.folded
+  pub few : len a.base < 2 ^ 64
+  pub within : AllByRecursion (LiesWithin s.rows s.cols) (entries a.base)
+
+-- the bytes are a file of this setup and of what was accepted, in the one version or the other
+abbrev pub IsSpelled : List ℕ → Setting → Accepted → Type 0
+IsSpelled bytes s a = (bytes ≡ file2 s a) ⊎ ((a ≡ unfolded a.list) × (bytes ≡ file1 s a.list))
+
+-- The bytes are a snapshot of this setup and of what was accepted.
+pub record IsSnapshot (max_bytes : ℕ) (bytes : List ℕ) (s : Setting) (a : Accepted) : Type 0 where
   pub fits : length bytes ≤ max_bytes
-  pub kept : IsKept s list
-  pub spelled : bytes ≡ file s list
+  pub kept : IsKept s a
+  pub spelled : IsSpelled bytes s a

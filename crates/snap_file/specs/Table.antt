@@ -10,8 +10,10 @@ use Rattle.cells.specs.declared.cell.Cell.{Cell}
 use Rattle.hyper_matrix.specs.Matrix.{matrix}
 use Rattle.hyper_matrix.specs.Cells.{built_of}
 use Rattle.batch_store.specs.Setups.{Setting}
-use Rattle.snap_file.specs.Spelling.{mark, version, stands_in}
-use Rattle.batch_store.specs.Batches.{Submission}
+use Rattle.batch_store.specs.Accepted.{Accepted, accepted, unfolded, entries_in, with_batch}
+use Rattle.batch_store.specs.Batches.{submission}
+use Rattle.batch_store.specs.declared.verdict.Entry.{Entry}
+use Rattle.snap_file.specs.Spelling.{mark, old_version, version, stands_in}
 use Rattle.snap_file.specs.declared.head.Head.{Head}
 use Rattle.snap_file.specs.declared.fault.SnapFault.{SnapFault}
 use Rattle.snap_file.specs.declared.fault.SnapFault.TheVariants.{BadMark, BadVersion, BadHead, BadBatch, OutOfOrder}
@@ -29,7 +31,7 @@ pub record Fault : Type 0 where
 
 pub record Contents : Type 0 where
   pub setup : Setting
-  pub batches : List Submission
+  pub state : Accepted
 
 abbrev pub Reading : Type 0
 Reading = Input → Result Contents Fault
@@ -84,7 +86,7 @@ cuts_behind (suc n) least cuts = do
 unfoldable pub head : Part Head
 head = do
   _ ← field_in w64 mark mark BadMark
-  _ ← field_in w32 version version BadVersion
+  file_version ← field_in w32 old_version version BadVersion
   rows ← field_in w64 1 (2 ^ 60) BadHead
   cols ← field_in w64 1 (2 ^ 60) BadHead
   cut_count ← field_in w8 0 7 BadHead
@@ -96,52 +98,100 @@ head = do
   total ← field_in w64 0 limit BadHead
   give (record {
     setup = record { rows = rows; cols = cols; cuts = cuts; shards = shards; limit = limit; max_batches = max_batches };
+    version = file_version;
     batches = batches;
     total = total;
   })
 
--- the cells of a batch that were read, the least place that the next one may have, and the sum of all counts in the
--- file so far
+-- the cells of a matrix that were read, the least place that the next one may have, and the sum of all counts so far
 pub record Tally : Type 0 where
   pub cells : List Cell
   pub least_row : ℕ
   pub least_col : ℕ
   pub counted : ℕ
 
--- n more cells, behind those that were read; total is the head's
-unfoldable pub cells_behind : Head → ℕ → Tally → Part Tally
-cells_behind h zero tally = give tally
-cells_behind h (suc n) tally = do
+-- n more cells, behind those that were read; all counts together may come to `most`
+unfoldable pub cells_behind : Head → ℕ → ℕ → Tally → Part Tally
+cells_behind h most zero tally = give tally
+cells_behind h most (suc n) tally = do
   row ← number w64
   _ ← refuse_if (nat_le h.setup.rows row) BadBatch
   col ← number w64
   _ ← refuse_if (nat_le h.setup.cols col) BadBatch
   _ ← refuse_if (is_below row col tally.least_row tally.least_col) OutOfOrder
   count ← number w64
-  _ ← refuse_if (nat_lt h.total (tally.counted + count)) TotalDiffers
-  cells_behind h n (record {
+  _ ← refuse_if (nat_lt most (tally.counted + count)) TotalDiffers
+  cells_behind h most n (record {
     cells = tally.cells ++ (record { row = row; col = col; count = count }) ∷ [];
     least_row = row;
     least_col = col + 1;
     counted = tally.counted + count;
   })
 
--- the batches that were read, and the sum of all counts so far
+-- what was read behind the head, and the sum of all counts so far; where a batch is folded, its total
 pub record Progress : Type 0 where
-  pub batches : List Submission
+  pub state : Accepted
   pub counted : ℕ
+
+abbrev pub nothing_yet : Progress
+nothing_yet = record { state = unfolded []; counted = 0 }
 
 abbrev pub no_cells : ℕ → Tally
 no_cells counted = record { cells = []; least_row = 0; least_col = 0; counted = counted }
 
--- the batch of these cells
-abbrev pub with_batch : Head → Progress → ℕ → ℕ → Tally → Progress
-with_batch h p client batch_number tally = record {
-  batches = p.batches ++ (record {
-    client = client;
-    number = batch_number;
-    matrix = matrix h.setup.rows h.setup.cols (built_of tally.cells);
-  }) ∷ [];
+-- with the entry of one folded batch more
+abbrev pub with_entry : Progress → Entry → Progress
+with_entry p e = record {
+  state = accepted p.state.base (p.state.folded ++ e ∷ []) p.state.list;
+  counted = p.counted + e.total;
+}
+
+-- the entry of a folded batch
+unfoldable pub entry : Head → Progress → Part Progress
+entry h p = do
+  client ← number w64
+  batch_number ← number w64
+  _ ← refuse_if (stands_in client batch_number p.state.folded) RepeatedNumber
+  cells ← number w64
+  total ← number w64
+  _ ← refuse_if (nat_lt h.total (p.counted + total)) TotalDiffers
+  give (with_entry p (record { client = client; number = batch_number; cells = cells; total = total }))
+
+unfoldable pub entries_behind : Head → ℕ → Progress → Part Progress
+entries_behind h zero p = give p
+entries_behind h (suc n) p = do
+  next ← entry h p
+  entries_behind h n next
+
+-- with this base
+abbrev pub with_base : Progress → List Cell → Progress
+with_base p cells = record { state = accepted (built_of cells) p.state.folded p.state.list; counted = p.counted }
+
+-- the matrix that the batches were folded into; it has no cell where nothing is folded, and their total
+unfoldable pub base : Head → Progress → Part Progress
+base h p = do
+  entry_count ← number w64
+  _ ← refuse_if ((length p.state.folded == 0) && not (entry_count == 0)) BadBatch
+  tally ← cells_behind h p.counted entry_count (no_cells 0)
+  _ ← refuse_if (not (tally.counted == p.counted)) TotalDiffers
+  give (with_base p tally.cells)
+
+-- what is folded: how many batches, their entries, and their sum
+unfoldable pub folded_past : Head → Part Progress
+folded_past h = do
+  folded ← field_in w64 0 (h.setup.max_batches - h.batches) BadHead
+  p ← entries_behind h folded nothing_yet
+  base h p
+
+-- the same in either version: in the first nothing is folded
+unfoldable pub past : Head → Part Progress
+past h k = if h.version == old_version then k nothing_yet else folded_past h k
+
+-- with the batch of these cells
+abbrev pub with_cells : Head → Progress → ℕ → ℕ → Tally → Progress
+with_cells h p client batch_number tally = record {
+  state = with_batch p.state
+      (submission client batch_number (matrix h.setup.rows h.setup.cols (built_of tally.cells)));
   counted = tally.counted;
 }
 
@@ -149,10 +199,10 @@ unfoldable pub batch : Head → Progress → Part Progress
 batch h p = do
   client ← number w64
   batch_number ← number w64
-  _ ← refuse_if (stands_in client batch_number p.batches) RepeatedNumber
+  _ ← refuse_if (stands_in client batch_number (entries_in p.state)) RepeatedNumber
   entry_count ← number w64
-  tally ← cells_behind h entry_count (no_cells p.counted)
-  give (with_batch h p client batch_number tally)
+  tally ← cells_behind h h.total entry_count (no_cells p.counted)
+  give (with_cells h p client batch_number tally)
 
 unfoldable pub batches_behind : Head → ℕ → Progress → Part Progress
 batches_behind h zero p = give p
@@ -164,19 +214,23 @@ batches_behind h (suc n) p = do
 unfoldable pub end : Contents → Reading
 end contents input = if length input.rest == 0 then Ok contents else fault_at ExtraBytes (input.at + 1)
 
-abbrev pub nothing_yet : Progress
-nothing_yet = record { batches = []; counted = 0 }
-
-abbrev pub contents : Setting → List Submission → Contents
-contents s list = record { setup = s; batches = list }
+abbrev pub contents : Setting → Accepted → Contents
+contents s a = record { setup = s; state = a }
 
 abbrev pub contents_of : Head → Progress → Contents
-contents_of h p = record { setup = h.setup; batches = p.batches }
+contents_of h p = contents h.setup p.state
+
+-- what follows the batches
+abbrev pub ending : Head → Progress → Reading
+ending h p = refuse_if (not (p.counted == h.total)) TotalDiffers (λ _. end (contents_of h p))
+
+-- the batches that aren't folded, and the end
+abbrev pub rest_of : Head → Progress → Reading
+rest_of h p = batches_behind h h.batches p (ending h)
 
 -- the whole file
 abbrev pub body : Head → Reading
-body h = batches_behind h h.batches nothing_yet (λ p. refuse_if (not (p.counted == h.total)) TotalDiffers
-    (λ _. end (contents_of h p)))
+body h = past h (rest_of h)
 
 abbrev pub whole : Reading
 whole = head body

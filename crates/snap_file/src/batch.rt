@@ -1,28 +1,22 @@
-//! Reads the batches of a file.
+//! Reads the batches of a file that aren't folded.
 //!
-//! The cells of a batch stand in order, each once. So they go into the batch's matrix a run at a time, without a sort
-//! and without a list of them all: the memory is that of the matrix and of one run. The pairs of client and number are
-//! kept in a tree, whose time no choice of pairs can spoil.
-ghost use Rattle.std.specs.Prelude.{◌≡◌, ℕ, ◌+◌, ◌<◌, ◌≤◌, ◌^◌, List, [], ◌∷◌, ◌++◌, false, IfOk, OnOk, IfErr, Result};
+//! The pairs of client and number are kept in a tree, whose time no choice of pairs can spoil.
+ghost use Rattle.std.specs.Prelude.{◌≡◌, ℕ, ◌+◌, ◌<◌, ◌≤◌, ◌^◌, ◌||◌, List, [], ◌∷◌, ◌++◌, false, IfOk, OnOk, IfErr};
 ghost use Rattle.std.specs.BTreeSet.{BTreeSet};
-ghost use Rattle.cells.specs.Sums.{cell_total};
-ghost use Rattle.hyper_matrix.specs.Counts.{total, ewise_add};
-ghost use Rattle.hyper_matrix.specs.Cells.{built_of};
-ghost use Rattle.hyper_matrix.specs.Matrix.{matrix};
-ghost use Rattle.batch_store.specs.Batches.{Submission, submission, values};
+ghost use Rattle.batch_store.specs.Accepted.{accepted};
+ghost use Rattle.batch_store.specs.Batches.{submission, values, entries_of};
+ghost use Rattle.batch_store.specs.declared.verdict.Entry.{Entry};
 ghost use Rattle.snap_file.specs.Spelling.{stands_in};
-ghost use Rattle.snap_file.specs.Table.{Reading, Tally, Progress, no_cells, cells_behind, batch, batches_behind, body};
-ghost use Rattle.snap_file.specs.Table.{end, contents, nothing_yet};
+ghost use Rattle.snap_file.specs.Table.{Reading, Progress, batch, rest_of, end, contents};
 ghost use Rattle.snap_file.specs.Outcomes.{HasJudged, IsBehindHead, Stops};
-ghost use Rattle.snap_file.specs.Tallies.{IsRun};
-ghost use Rattle.snap_file.specs.Lists.{HasPairs, progress_of};
+ghost use Rattle.snap_file.specs.Lists.{HasPairs, progress_in, progress_of};
 ghost use Rattle.snap_file.specs.declared.fault.SnapFault.{SnapFault};
 
+use crate::entries::read_entries;
 use crate::fault::SnapFault;
-use crate::head::Head;
-use crate::limits::BLOCK_CELLS;
+use crate::past::{Front, Past, has_pair, note_pair};
 use crate::reader::{ByteReader, refuse};
-use crate::tally::{CellTally, read_cells};
+use crate::tally::CellTally;
 use batch_store::Batch;
 use byte_io::Source;
 use hyper_matrix::Hyper;
@@ -36,77 +30,6 @@ pub struct BatchList {
     pub batches: Vec<Arc<Batch>>,
     pub pairs: BTreeSet<(u64, u64)>,
     pub tally: CellTally,
-}
-
-// A matrix with a run of cells added, of which each stands behind the cells that it has.
-fn with_run(alloc: Global, m: Hyper, tally: &CellTally) -> Result<Hyper, SnapFault>
-    requires run { IsRun m.rows m.cols tally.now.cells.items tally.now.least_row tally.now.least_col }
-    requires fits { total m.counts + cell_total tally.now.cells.items < 2 ^ 64 }
-    ensures ok { IfOk result (λ sum. sum ≡ record m { counts = ewise_add m.counts (built_of tally.now.cells.items) }) }
-    ensures err { IfErr result (λ f. f ≡ SnapFault.Memory) }
-{
-    match m.into_sum_with_cells(alloc, &tally.cells) {
-        Ok(sum) => Ok(sum),
-        Err(_) => Err(SnapFault::Memory),
-    }
-}
-
-/// Reads the cells of a batch into a matrix, at most `BLOCK_CELLS` at a time.
-fn read_entries<R: Source>(
-    alloc: Global,
-    reader: &mut ByteReader,
-    r: &mut R,
-    head: &Head,
-    tally: &mut CellTally,
-    count: u64,
-) -> Result<Hyper, SnapFault>
-    requires failures { R.failure_count r.old + 1 < 2 ^ 64 }
-    requires counted { tally.old.counted ≤ head.now.total }
-    ensures counted { OnOk result (tally.new.counted ≤ head.now.total) }
-    ensures ok { IfOk result (λ m. (s : R) (max_bytes : ℕ) (k : Tally → Reading) →
-        HasJudged R.read_gives R.failure_count max_bytes s r.old reader.old
-        (cells_behind head.now count (no_cells tally.old.counted) k) →
-        (t : Tally) × (m ≡ matrix head.now.setup.rows head.now.setup.cols (built_of t.cells)) ×
-        (t.counted ≡ tally.new.counted)
-        × HasJudged R.read_gives R.failure_count max_bytes s r.new reader.new (k t)) }
-    ensures err { IfErr result (λ f. (s : R) (max_bytes : ℕ) (k : Tally → Reading) →
-        ((t : Tally) → IsBehindHead (k t)) →
-        HasJudged R.read_gives R.failure_count max_bytes s r.old reader.old
-        (cells_behind head.now count (no_cells tally.old.counted) k) →
-        Stops R.read_gives R.failure_count (R.at_end r.new) max_bytes s r.new f) }
-    ensures no_failure { OnOk result (R.failure_count r.new ≡ R.failure_count r.old) }
-{
-    // It bounds the sum of the counts.
-    let _most = head.total;
-    let mut m = Hyper::new(alloc, head.setup.rows(), head.setup.cols());
-    tally.least_row = 0;
-    tally.least_col = 0;
-    let mut left = count;
-    'runs: while left > 0 {
-        let run = left.min(BLOCK_CELLS);
-        tally.cells.clear();
-        read_cells(reader, r, head, tally, run)?;
-        m = with_run(alloc, m, tally)?;
-        left -= run;
-    }
-    Ok(m)
-}
-
-// Notes a pair, and tells whether it was there.
-fn note_pair(pairs: &mut BTreeSet<(u64, u64)>, client: u64, number: u64) -> Result<bool, SnapFault>
-    ensures told { IfOk result (λ repeated. (list : List Submission) → HasPairs pairs.old list →
-        (repeated ≡ stands_in client number list)) }
-    ensures noted { OnOk result ((list : List Submission) (b : Submission) → HasPairs pairs.old list →
-        b.client ≡ client → b.number ≡ number →
-        HasPairs pairs.new (list ++ b ∷ [])) }
-    // Only a new pair takes memory.
-    ensures err { IfErr result (λ f. (f ≡ SnapFault.Memory) × ((list : List Submission) → HasPairs pairs.old list →
-        (stands_in client number list ≡ false))) }
-{
-    match pairs.insert((client, number)) {
-        Ok(added) => Ok(!added),
-        Err(_) => Err(SnapFault::Memory),
-    }
 }
 
 // Appends a batch.
@@ -138,69 +61,96 @@ fn push_batch(
     }
 }
 
+// Notes the pair of a batch, and tells whether it is a folded one's or was there.
+fn note_batch(
+    past: &Past,
+    pairs: &mut BTreeSet<(u64, u64)>,
+    client: u64,
+    number: u64,
+) -> Result<bool, SnapFault>
+    requires { HasPairs past.now.pairs past.now.folded.items }
+    ensures told { IfOk result (λ repeated. (es : List Entry) → HasPairs pairs.old es →
+        (repeated ≡ stands_in client number (past.now.folded.items ++ es))) }
+    ensures noted { IfOk result (λ repeated. repeated ≡ false → (es : List Entry) (e : Entry) →
+        HasPairs pairs.old es → e.client ≡ client → e.number ≡ number → HasPairs pairs.new (es ++ e ∷ [])) }
+    // A folded pair takes no memory.
+    ensures err { IfErr result (λ f. (f ≡ SnapFault.Memory) × ((es : List Entry) → HasPairs pairs.old es →
+        (stands_in client number (past.now.folded.items ++ es) ≡ false))) }
+{
+    if has_pair(&past.pairs, client, number) {
+        return Ok(true);
+    }
+    note_pair(pairs, client, number)
+}
+
 /// Reads one more batch.
 fn read_batch<R: Source>(
     alloc: Global,
     reader: &mut ByteReader,
     r: &mut R,
-    head: &Head,
+    front: &Front,
     list: &mut BatchList,
 ) -> Result<(), SnapFault>
     requires failures { R.failure_count r.old + 1 < 2 ^ 64 }
-    requires counted { list.old.tally.counted ≤ head.now.total }
-    requires pairs { HasPairs list.old.pairs (values list.old.batches.items) }
-    ensures counted { OnOk result (list.new.tally.counted ≤ head.now.total) }
-    ensures pairs { OnOk result (HasPairs list.new.pairs (values list.new.batches.items)) }
+    requires counted { list.old.tally.counted ≤ front.now.head.total }
+    requires folded { HasPairs front.now.past.pairs front.now.past.folded.items }
+    requires pairs { HasPairs list.old.pairs (entries_of (values list.old.batches.items)) }
+    ensures counted { OnOk result (list.new.tally.counted ≤ front.now.head.total) }
+    ensures pairs { OnOk result (HasPairs list.new.pairs (entries_of (values list.new.batches.items))) }
     ensures ok { OnOk result ((s : R) (max_bytes : ℕ) (k : Progress → Reading) →
-        HasJudged R.read_gives R.failure_count max_bytes s r.old reader.old (batch head.now (progress_of list.old) k) →
-        HasJudged R.read_gives R.failure_count max_bytes s r.new reader.new (k (progress_of list.new))) }
+        HasJudged R.read_gives R.failure_count max_bytes s r.old reader.old
+        (batch front.now.head (progress_of front.now.past list.old) k) →
+        HasJudged R.read_gives R.failure_count max_bytes s r.new reader.new
+        (k (progress_of front.now.past list.new))) }
     ensures err { IfErr result (λ f. (s : R) (max_bytes : ℕ) (k : Progress → Reading) →
         ((p : Progress) → IsBehindHead (k p)) →
-        HasJudged R.read_gives R.failure_count max_bytes s r.old reader.old (batch head.now (progress_of list.old) k) →
+        HasJudged R.read_gives R.failure_count max_bytes s r.old reader.old
+        (batch front.now.head (progress_of front.now.past list.old) k) →
         Stops R.read_gives R.failure_count (R.at_end r.new) max_bytes s r.new f) }
     ensures no_failure { OnOk result (R.failure_count r.new ≡ R.failure_count r.old) }
 {
     let client = reader.next_u64(r)?;
     let number = reader.next_u64(r)?;
-    let repeated = note_pair(&mut list.pairs, client, number)?;
+    let repeated = note_batch(&front.past, &mut list.pairs, client, number)?;
     refuse(repeated, SnapFault::RepeatedNumber)?;
     let count = reader.next_u64(r)?;
-    let matrix = read_entries(alloc, reader, r, head, &mut list.tally, count)?;
+    let most = front.head.total;
+    let matrix = read_entries(alloc, reader, r, &front.head, most, &mut list.tally, count)?;
     push_batch(alloc, &mut list.batches, client, number, matrix)?;
     Ok(())
 }
 
-/// Reads all batches, whose counts together are to be the head's total.
+/// Reads all batches that aren't folded; their counts and the folded totals together are to be the head's total.
 pub fn read_batches<R: Source>(
     alloc: Global,
     reader: &mut ByteReader,
     r: &mut R,
-    head: &Head,
+    front: &Front,
 ) -> Result<Vec<Arc<Batch>>, SnapFault>
-    requires { R.failure_count r.old + 1 < 2 ^ 64 }
+    requires failures { R.failure_count r.old + 1 < 2 ^ 64 }
+    requires counted { front.now.past.counted ≤ front.now.head.total }
+    requires folded { HasPairs front.now.past.pairs front.now.past.folded.items }
     ensures ok { IfOk result (λ list. (s : R) (max_bytes : ℕ) →
-        HasJudged R.read_gives R.failure_count max_bytes s r.old reader.old (body head.now) →
+        HasJudged R.read_gives R.failure_count max_bytes s r.old reader.old
+        (rest_of front.now.head (progress_in front.now.past)) →
         HasJudged R.read_gives R.failure_count max_bytes s r.new reader.new
-        (end (contents head.now.setup (values list.items)))) }
+        (end (contents front.now.head.setup
+        (accepted front.now.past.base.counts front.now.past.folded.items (values list.items))))) }
     ensures err { IfErr result (λ f. (s : R) (max_bytes : ℕ) →
-        HasJudged R.read_gives R.failure_count max_bytes s r.old reader.old (body head.now) →
+        HasJudged R.read_gives R.failure_count max_bytes s r.old reader.old
+        (rest_of front.now.head (progress_in front.now.past)) →
         Stops R.read_gives R.failure_count (R.at_end r.new) max_bytes s r.new f) }
     ensures no_failure { OnOk result (R.failure_count r.new ≡ R.failure_count r.old) }
 {
     let mut list = BatchList {
         batches: Vec::new(alloc),
         pairs: BTreeSet::new(alloc),
-        tally: CellTally {
-            cells: Vec::new(alloc),
-            least_row: 0,
-            least_col: 0,
-            counted: 0,
-        },
+        tally: CellTally::new(alloc, front.past.counted),
     };
-    'batches: for _i in 0..head.batches {
-        read_batch(alloc, reader, r, head, &mut list)?;
+    'batches: for _i in 0..front.head.batches {
+        read_batch(alloc, reader, r, front, &mut list)?;
     }
-    let differs = list.tally.counted != head.total;
+    let differs = list.tally.counted != front.head.total;
     refuse(differs, SnapFault::TotalDiffers)?;
     Ok(list.batches)
 }

@@ -3,9 +3,8 @@
 //! Nothing is known beforehand of a real file's bytes, so what these calls do to one is shown by tests: the contracts
 //! that they rest on are those of `save_in` and `read_snapshot`.
 ghost use Rattle.std.specs.Prelude.{◌≢◌, IfErr};
-ghost use Rattle.batch_store.specs.Accepted.{unfolded};
-ghost use Rattle.batch_store.specs.Batches.{values};
-ghost use Rattle.batch_store.specs.Books.{AreAccepted};
+ghost use Rattle.batch_store.specs.Books.{AreAccepted, accepted_in};
+ghost use Rattle.snap_file.specs.Snapshots.{HasBase};
 ghost use Rattle.snap_file.specs.declared.fault.SnapFault.{SnapFault};
 ghost use Rattle.snap_file.specs.declared.fault.FileFault.{FileFault};
 
@@ -14,11 +13,10 @@ use crate::fault::{FileFault, SaveFault};
 use crate::read::read_snapshot;
 use crate::saving::save_in;
 use crate::snapshot::Snapshot;
-use batch_store::{Batch, Setup};
+use batch_store::{BookList, Setup};
 use byte_io::Counted;
 use std::alloc::Global;
 use std::rt::Files;
-use std::sync::Arc;
 use std::{fs, io};
 
 /// Saves a snapshot under `path`: writes it to a file whose name has `.new` behind it, syncs that, and renames it to
@@ -30,7 +28,8 @@ use std::{fs, io};
 /// owner and group as far as the process may give them: without the group, the group's members may no more than all
 /// others. Two that save under one path at the same time write over each other.
 ///
-/// The list is one that a book keeps: no client and number twice, the setup's dimensions, and within both limits.
+/// The list is one that a book of the setup hands out: no client and number twice, the setup's dimensions, and within
+/// both limits.
 ///
 /// # Errors
 ///
@@ -41,12 +40,13 @@ pub fn save<R: Files>(
     alloc: Global,
     path: &str,
     setup: &Setup,
-    batches: &[Arc<Batch>],
+    list: &BookList,
 ) -> Result<(), SaveFault>
-    requires { AreAccepted setup.now (unfolded (values batches.now)) }
+    requires accepted { AreAccepted setup.now (accepted_in list.now) }
+    requires based { HasBase setup.now list.now }
 {
     let mut folder = Beside::new(rt, path);
-    save_in(alloc, &mut folder, path, setup, batches)
+    save_in(alloc, &mut folder, path, setup, list)
 }
 
 /// Loads the snapshot under `path`, of at most `max_bytes` bytes, as `read_snapshot` reads it.

@@ -7,17 +7,19 @@ ghost use Rattle.snap_file.specs.Table.{Reading, head, cuts_behind};
 ghost use Rattle.snap_file.specs.Outcomes.{HasJudged, Stops};
 
 use crate::fault::SnapFault;
-use crate::limits::{MARK, VERSION};
+use crate::limits::{MARK, OLD_VERSION, VERSION};
 use crate::reader::ByteReader;
 use batch_store::{MAX_BATCHES, MAX_SHARDS, Setup};
 use byte_io::Source;
 use cells::MAX_DIMENSION;
 use layer_cascade::{MAX_CUT, MAX_CUTS};
 
-/// What the head of a file says: the setup, how many batches follow, and the sum of all their counts.
+/// What the head of a file says: the setup, its version, how many batches stand in it that aren't folded, and the total
+/// of all batches.
 #[derive(Drop)]
 pub struct Head {
     pub setup: Setup,
+    pub version: u32,
     pub batches: u64,
     pub total: u64,
 }
@@ -77,6 +79,7 @@ fn read_cuts<R: Source>(
 /// Reads the head.
 pub fn read_head<R: Source>(reader: &mut ByteReader, r: &mut R) -> Result<Head, SnapFault>
     requires failures { R.failure_count r.old + 1 < 2 ^ 64 }
+    ensures few { IfOk result (λ h. h.batches ≤ h.setup.max_batches) }
     ensures ok { IfOk result (λ h. (s : R) (max_bytes : ℕ) (k : Head → Reading) →
         HasJudged R.read_gives R.failure_count max_bytes s r.old reader.old (head k) →
         HasJudged R.read_gives R.failure_count max_bytes s r.new reader.new (k h)) }
@@ -86,7 +89,7 @@ pub fn read_head<R: Source>(reader: &mut ByteReader, r: &mut R) -> Result<Head, 
     ensures no_failure { OnOk result (R.failure_count r.new ≡ R.failure_count r.old) }
 {
     let _mark = reader.next_u64_in(r, MARK, MARK, SnapFault::BadMark)?;
-    let _version = reader.next_u32_in(r, VERSION, VERSION, SnapFault::BadVersion)?;
+    let version = reader.next_u32_in(r, OLD_VERSION, VERSION, SnapFault::BadVersion)?;
     let rows = reader.next_u64_in(r, 1, MAX_DIMENSION, SnapFault::BadHead)?;
     let cols = reader.next_u64_in(r, 1, MAX_DIMENSION, SnapFault::BadHead)?;
     let cut_count = reader.next_u8_in(r, 0, MAX_CUTS as u8, SnapFault::BadHead)?;
@@ -107,6 +110,7 @@ pub fn read_head<R: Source>(reader: &mut ByteReader, r: &mut R) -> Result<Head, 
     );
     Ok(Head {
         setup,
+        version,
         batches,
         total,
     })

@@ -1,10 +1,10 @@
 //! Laws of the definitions.
 ghost use Rattle.std.specs.Prelude.{◌≡◌, ◌≢◌, ℕ, ◌+◌, ◌<◌, ◌≤◌, ◌⊎◌, List, [], ◌++◌, length};
 ghost use Rattle.byte_io.specs.Streams.{Answer, bytes_of_calls};
+ghost use Rattle.batch_store.specs.Accepted.{Accepted};
 ghost use Rattle.batch_store.specs.Setups.{Setting};
 ghost use Rattle.snap_file.specs.Spelling.{IsBytes, IsSnapshot};
 ghost use Rattle.snap_file.specs.Outcomes.{FirstFaultAt, IsMemoryFault};
-ghost use Rattle.batch_store.specs.Batches.{Submission};
 ghost use Rattle.snap_file.specs.declared.fault.SnapFault.{SnapFault};
 
 /// Bytes have one first fault at most, at one place.
@@ -13,29 +13,30 @@ pub fn one_first_fault()
         FirstFaultAt max_bytes bytes p j → FirstFaultAt max_bytes bytes q k → (p ≡ q) × (j ≡ k) }
 {}
 
-/// Bytes are a snapshot of one setup and one list of batches at most.
+/// Bytes are a snapshot of one setup and one accepted state at most: in whichever versions they are read, equal bytes
+/// mean the same.
 pub fn one_snapshot_spelled()
-    ensures { (max_bytes : ℕ) (bytes : List ℕ) (s t : Setting) (xs ys : List Submission) →
-        IsSnapshot max_bytes bytes s xs → IsSnapshot max_bytes bytes t ys → (s ≡ t) × (xs ≡ ys) }
+    ensures { (max_bytes : ℕ) (bytes : List ℕ) (s t : Setting) (a b : Accepted) →
+        IsSnapshot max_bytes bytes s a → IsSnapshot max_bytes bytes t b → (s ≡ t) × (a ≡ b) }
 {}
 
 /// A snapshot has no fault.
 pub fn snapshot_or_faulty()
-    ensures { (max_bytes : ℕ) (bytes : List ℕ) (s : Setting) (list : List Submission) (place : ℕ) (kind : SnapFault) →
-        IsSnapshot max_bytes bytes s list → FirstFaultAt max_bytes bytes place kind → ⊥ }
+    ensures { (max_bytes : ℕ) (bytes : List ℕ) (s : Setting) (a : Accepted) (place : ℕ) (kind : SnapFault) →
+        IsSnapshot max_bytes bytes s a → FirstFaultAt max_bytes bytes place kind → ⊥ }
 {}
 
 /// Bytes are a snapshot, or have a first fault.
 pub fn every_file_is_a_snapshot_or_has_a_fault()
     ensures { (max_bytes : ℕ) (bytes : List ℕ) → IsBytes bytes →
-        ((s : Setting) × (list : List Submission) × IsSnapshot max_bytes bytes s list)
+        ((s : Setting) × (a : Accepted) × IsSnapshot max_bytes bytes s a)
         ⊎ ((place : ℕ) × (kind : SnapFault) × FirstFaultAt max_bytes bytes place kind) }
 {}
 
 /// No snapshot is a proper front of another, whatever the limits.
 pub fn no_snapshot_begins_another()
-    ensures { (m n : ℕ) (bytes more : List ℕ) (s t : Setting) (xs ys : List Submission) →
-        IsSnapshot m bytes s xs → IsSnapshot n (bytes ++ more) t ys → more ≡ [] }
+    ensures { (m n : ℕ) (bytes more : List ℕ) (s t : Setting) (a b : Accepted) →
+        IsSnapshot m bytes s a → IsSnapshot n (bytes ++ more) t b → more ≡ [] }
 {}
 
 /// A fault that shows within the bytes stays the first, however they go on.

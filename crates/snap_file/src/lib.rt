@@ -1,15 +1,17 @@
-//! Snapshot files: a setup and a list of batches as bytes, and back.
+//! Snapshot files: a setup and what a book of it accepted as bytes, and back.
 #![tactic(auto)]
 
 mod access;
 mod batch;
 mod beside;
+mod entries;
 mod fault;
 mod file;
 mod head;
 mod laws;
 mod limits;
 mod new_file;
+mod past;
 mod read;
 mod reader;
 mod saving;

@@ -3,8 +3,11 @@
 /// The first eight bytes of each file: HHMSNAP and LF.
 pub const MARK: u64 = 0x4848_4d53_4e41_500a;
 
-/// The version of the format.
-pub const VERSION: u32 = 1;
+/// The version of files in which nothing is folded. They are read, and none is written.
+pub const OLD_VERSION: u32 = 1;
 
-/// The most cells that are read before they go into the batch's matrix.
+/// The version of the files that are written.
+pub const VERSION: u32 = 2;
+
+/// The most cells that are read before they go into a matrix.
 pub const BLOCK_CELLS: u64 = 4_096;

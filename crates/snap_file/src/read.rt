@@ -1,14 +1,20 @@
 //! Reads snapshots.
 ghost use Rattle.std.specs.Prelude.{◌≡◌, ◌+◌, ◌<◌, ◌^◌, IfOk, IfErr};
+ghost use Rattle.std.specs.Arc.{arc_value};
+ghost use Rattle.batch_store.specs.Books.{accepted_in};
+ghost use Rattle.snap_file.specs.declared.fault.SnapFault.{SnapFault};
 ghost use Rattle.snap_file.specs.Outcomes.{ReadsSnapshot, Stops};
 
 use crate::batch::read_batches;
 use crate::fault::SnapFault;
-use crate::head::read_head;
+use crate::past::{Front, Past, read_front};
 use crate::reader::ByteReader;
 use crate::snapshot::Snapshot;
+use batch_store::BookList;
 use byte_io::Source;
+use hyper_matrix::Hyper;
 use std::alloc::{AllocError, Global};
+use std::sync::Arc;
 
 impl From<AllocError> for SnapFault {
     ghost use Rattle.std.specs.Prelude.{◌≡◌};
@@ -21,10 +27,22 @@ impl From<AllocError> for SnapFault {
     }
 }
 
-/// Reads a snapshot from `r` to its end, of at most `max_bytes` bytes, in at most `max_bytes + 2` reads.
+// Makes a matrix ready to be shared.
+fn share(alloc: Global, m: Hyper) -> Result<Arc<Hyper>, SnapFault>
+    ensures ok { IfOk result (λ shared. arc_value shared ≡ m) }
+    ensures err { IfErr result (λ f. f ≡ SnapFault.Memory) }
+{
+    match Arc::new(alloc, m) {
+        Ok(shared) => Ok(shared),
+        Err(_) => Err(SnapFault::Memory),
+    }
+}
+
+/// Reads a snapshot of either version from `r` to its end, of at most `max_bytes` bytes, in at most `max_bytes + 2`
+/// reads.
 ///
 /// Takes time in proportion to the bytes, and for each batch in the logarithm of their number. The memory is that of
-/// the batches, 64 KiB that are read at once, one run of at most 4,096 cells, and a place in a tree for each pair of
+/// the list, 64 KiB that are read at once, one run of at most 4,096 cells, and a place in a tree for each pair of
 /// client and number: nothing is reserved by a number that the file declares. `r` must have failed less than 2^64 - 1
 /// times before.
 ///
@@ -41,20 +59,28 @@ pub fn read_snapshot<R: Source>(
     max_bytes: u64,
 ) -> Result<Snapshot, SnapFault>
     requires { R.failure_count r.old + 1 < 2 ^ 64 }
-    // The source ended, and what it gave is the file of exactly this setup and list.
+    // The source ended, and what it gave is a file of exactly this setup and list.
     ensures ok { IfOk result (λ snapshot.
         ReadsSnapshot R.read_gives R.failure_count
-        (R.at_end r.new) max_bytes r.old r.new snapshot.setup snapshot.list) }
+        (R.at_end r.new) max_bytes r.old r.new snapshot.setup (accepted_in snapshot.list)) }
     // What it gave has this first fault; or a read failed; or memory was refused, and up to there no fault shows.
     ensures err { IfErr result (λ fault.
         Stops R.read_gives R.failure_count (R.at_end r.new) max_bytes r.old r.new fault) }
 {
     let mut reader = ByteReader::new(alloc, max_bytes)?;
-    let head = read_head(&mut reader, r)?;
+    let head = read_front(alloc, &mut reader, r)?;
     let batches = read_batches(alloc, &mut reader, r, &head)?;
+    let Front { head, past } = head;
+    let Past { base, folded, .. } = past;
+    let base = share(alloc, base)?;
     reader.expect_end(r)?;
+    let list = BookList {
+        base,
+        folded,
+        batches,
+    };
     Ok(Snapshot {
         setup: head.setup,
-        batches,
+        list,
     })
 }

@@ -451,7 +451,7 @@ impl ByteReader {
         ensures ok { OnOk result ((s : R) (max_bytes : ℕ) (contents : Contents) →
             HasJudged R.read_gives R.failure_count max_bytes s r.old self.old (end contents) →
             ReadsSnapshot R.read_gives R.failure_count
-            (R.at_end r.new) max_bytes s r.new contents.setup contents.batches) }
+            (R.at_end r.new) max_bytes s r.new contents.setup contents.state) }
         ensures err { IfErr result (λ f. (s : R) (max_bytes : ℕ) (contents : Contents) →
             HasJudged R.read_gives R.failure_count max_bytes s r.old self.old (end contents) →
             Stops R.read_gives R.failure_count (R.at_end r.new) max_bytes s r.new f) }

@@ -3,20 +3,18 @@ ghost use Rattle.std.specs.Prelude.{◌≡◌, ℕ, ◌+◌, ◌<◌, ◌^◌, L
 ghost use Rattle.std.specs.Prelude.{string_bytes};
 ghost use Rattle.byte_io.specs.Writing.{HasTaken, HasStopped};
 ghost use Rattle.file_folder.specs.Files.{Files, WhereTold, KeepsOthers, HasFile, IsReplaced};
-ghost use Rattle.batch_store.specs.Accepted.{unfolded};
-ghost use Rattle.batch_store.specs.Batches.{values};
-ghost use Rattle.batch_store.specs.Books.{AreAccepted};
+ghost use Rattle.batch_store.specs.Books.{AreAccepted, accepted_in};
+ghost use Rattle.snap_file.specs.Snapshots.{HasBase};
 ghost use Rattle.snap_file.specs.Spelling.{file};
 ghost use Rattle.snap_file.specs.Saving.{unfinished, SaysWhy};
 
 use crate::fault::SaveFault;
 use crate::new_file::NewFile;
 use crate::write::write_snapshot;
-use batch_store::{Batch, Setup};
+use batch_store::{BookList, Setup};
 use byte_io::WriteFault;
 use file_folder::Folder;
 use std::alloc::{AllocError, Global};
-use std::sync::Arc;
 
 /// What is written stands under the path with this behind it, until it is whole.
 pub const UNFINISHED: &str = ".new";
@@ -35,31 +33,33 @@ fn unfinished(alloc: Global, path: &str) -> Result<String, AllocError>
 fn write_to<F: Folder>(
     new_file: &mut NewFile<'_, F>,
     setup: &Setup,
-    batches: &[Arc<Batch>],
+    list: &BookList,
 ) -> Result<(), WriteFault>
     requires failures { F.failure_count new_file.old.folder.now + 1 < 2 ^ 64 }
-    requires accepted { AreAccepted setup.now (unfolded (values batches.now)) }
+    requires accepted { AreAccepted setup.now (accepted_in list.now) }
+    requires based { HasBase setup.now list.now }
     ensures same_reference { new_file.new.folder.ghost_name ≡ new_file.old.folder.ghost_name }
     ensures ok { OnOk result (HasTaken F.write_takes F.failure_count new_file.old.folder.now new_file.new.folder.now
-        (file setup.now (values batches.now))) }
+        (file setup.now (accepted_in list.now))) }
     ensures err { IfErr result (λ f. HasStopped F.write_takes F.failure_count new_file.old.folder.now new_file.new.folder.now
-        (file setup.now (values batches.now)) f.written) }
+        (file setup.now (accepted_in list.now)) f.written) }
 {
-    write_snapshot(new_file, setup, batches)
+    write_snapshot(new_file, setup, list)
 }
 
 // Writes a snapshot to the file that a folder last created, which is empty.
-fn write_new<F: Folder>(f: &mut F, setup: &Setup, batches: &[Arc<Batch>]) -> Result<(), WriteFault>
+fn write_new<F: Folder>(f: &mut F, setup: &Setup, list: &BookList) -> Result<(), WriteFault>
     requires failures { F.failure_count f.old + 1 < 2 ^ 64 }
     requires created { IsSome (F.last_created f.old) }
-    requires accepted { AreAccepted setup.now (unfolded (values batches.now)) }
+    requires accepted { AreAccepted setup.now (accepted_in list.now) }
+    requires based { HasBase setup.now list.now }
     ensures ok { OnOk result (HasTaken F.write_takes F.failure_count f.old f.new
-        (file setup.now (values batches.now))) }
+        (file setup.now (accepted_in list.now))) }
     ensures err { IfErr result (λ fault. HasStopped F.write_takes F.failure_count f.old f.new
-        (file setup.now (values batches.now)) fault.written) }
+        (file setup.now (accepted_in list.now)) fault.written) }
 {
     let mut new_file = NewFile::new(f);
-    write_to(&mut new_file, setup, batches)
+    write_to(&mut new_file, setup, list)
 }
 
 // Makes a file of a snapshot, and syncs it.
@@ -67,21 +67,22 @@ fn make_file<F: Folder>(
     f: &mut F,
     name: &str,
     setup: &Setup,
-    batches: &[Arc<Batch>],
+    list: &BookList,
 ) -> Result<(), SaveFault>
     requires failures { F.failure_count f.old + 1 < 2 ^ 64 }
-    requires accepted { AreAccepted setup.now (unfolded (values batches.now)) }
-    ensures made { OnOk result (WhereTold (HasFile name.now (file setup.now (values batches.now)))
+    requires accepted { AreAccepted setup.now (accepted_in list.now) }
+    requires based { HasBase setup.now list.now }
+    ensures made { OnOk result (WhereTold (HasFile name.now (file setup.now (accepted_in list.now)))
         (F.files f.old) (F.files f.new)) }
     ensures kept { OnErr result (WhereTold (KeepsOthers name.now) (F.files f.old) (F.files f.new)) }
     ensures why { IfErr result (λ fault. SaysWhy F.write_takes F.failure_count f.old f.new
-        (file setup.now (values batches.now)) fault) }
+        (file setup.now (accepted_in list.now)) fault) }
     ensures no_failure { OnOk result (F.failure_count f.new ≡ F.failure_count f.old) }
 {
     if f.create(name).is_err() {
         return Err(SaveFault::Create);
     }
-    if let Err(fault) = write_new(f, setup, batches) {
+    if let Err(fault) = write_new(f, setup, list) {
         return Err(SaveFault::Write(fault));
     }
     match f.sync() {
@@ -93,8 +94,8 @@ fn make_file<F: Folder>(
 /// Saves a snapshot under `path` in a folder: writes it to a file whose name has `.new` behind it, syncs that, and
 /// renames it to `path`. What stood under the other name is written over.
 ///
-/// The list is one that a book keeps: no client and number twice, the setup's dimensions, and within both limits. The
-/// folder must have failed less than 2^64 - 1 times before. Takes memory for the name alone, and time in proportion to
+/// The list is one that a book of the setup hands out: no client and number twice, the setup's dimensions, and within
+/// both limits. The folder must have failed less than 2^64 - 1 times before. Takes memory for the name alone, and time in proportion to
 /// the bytes.
 ///
 /// # Errors
@@ -108,26 +109,27 @@ pub fn save_in<F: Folder>(
     f: &mut F,
     path: &str,
     setup: &Setup,
-    batches: &[Arc<Batch>],
+    list: &BookList,
 ) -> Result<(), SaveFault>
     requires failures { F.failure_count f.old + 1 < 2 ^ 64 }
-    requires accepted { AreAccepted setup.now (unfolded (values batches.now)) }
+    requires accepted { AreAccepted setup.now (accepted_in list.now) }
+    requires based { HasBase setup.now list.now }
     // Where the folder tells its files, `path` holds the file of exactly this setup and list, nothing stands under the
     // other name, and every other file is as before.
     ensures saved { OnOk result (WhereTold
-        (IsReplaced path.now (unfinished path.now) (file setup.now (values batches.now)))
+        (IsReplaced path.now (unfinished path.now) (file setup.now (accepted_in list.now)))
         (F.files f.old) (F.files f.new)) }
     // Where it tells its files, every file but the one under the other name is as before.
     ensures kept { OnErr result (WhereTold (KeepsOthers (unfinished path.now)) (F.files f.old) (F.files f.new)) }
     // Over every folder, a fault is told only where the folder failed in this call, or a write took nothing.
     ensures why { IfErr result (λ fault. SaysWhy F.write_takes F.failure_count f.old f.new
-        (file setup.now (values batches.now)) fault) }
+        (file setup.now (accepted_in list.now)) fault) }
     ensures no_failure { OnOk result (F.failure_count f.new ≡ F.failure_count f.old) }
 {
     let Ok(name) = unfinished(alloc, path) else {
         return Err(SaveFault::Memory);
     };
-    make_file(f, name.as_str(), setup, batches)?;
+    make_file(f, name.as_str(), setup, list)?;
     match f.rename(name.as_str(), path) {
         Ok(()) => Ok(()),
         Err(_) => Err(SaveFault::Rename),

@@ -1,32 +1,29 @@
 //! A snapshot in memory.
 
-use batch_store::{Batch, Setup};
+use batch_store::{BookList, Setup};
 use std::marker::Model;
-use std::sync::Arc;
 
-/// A setup and a list of batches, as a book accepts them: no client and number stands twice, each batch has the setup's
-/// dimensions, and both limits hold. So an engine is made of it unless memory is refused.
+/// A setup and a list of what a book of it accepted: no client and number stands twice, folded or not, each matrix has
+/// the setup's dimensions, both limits hold, and the base is of the folded batches. So an engine is made of it unless
+/// memory is refused.
 ///
-/// Contracts see the setup and the list of batches in order.
+/// Contracts see the setup and the list.
 #[derive(Drop)]
 pub struct Snapshot {
     /// Dimensions, cuts, shards and limits.
     pub setup: Setup,
-    /// The batches, in order of acceptance.
-    pub batches: Vec<Arc<Batch>>,
+    /// The folded batches and those behind them, in order of acceptance.
+    pub list: BookList,
 }
 
 impl Model for Snapshot {
-    ghost use Rattle.batch_store.specs.Batches.{values};
-    ghost use Rattle.batch_store.specs.Accepted.{unfolded};
-    ghost use Rattle.batch_store.specs.Books.{AreAccepted};
-    ghost use Rattle.snap_file.specs.Snapshots.{Saved, saved, coded_saved};
+    ghost use Rattle.snap_file.specs.Snapshots.{Saved, saved, coded_saved, IsSaved};
 
     ghost Value = { Saved };
 
     ghost coded = { coded_saved };
 
-    ghost view = { λ a. saved a.setup (values a.batches.items) };
+    ghost view = { λ a. saved a.setup a.list };
 
-    ghost invariant = { λ a. AreAccepted a.setup (unfolded (values a.batches.items)) };
+    ghost invariant = { λ a. IsSaved a.setup a.list };
 }

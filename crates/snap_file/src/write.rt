@@ -1,22 +1,25 @@
 //! Writes snapshots.
 ghost use Rattle.std.specs.Prelude.{◌≡◌, ℕ, ◌+◌, ◌*◌, ◌<◌, ◌≤◌, ◌^◌, List, [], ◌∷◌, ◌++◌, length, flat_map, map, IfOk};
 ghost use Rattle.std.specs.Prelude.{OnOk, IfErr};
-ghost use Rattle.std.specs.Arc.{arc_value};
 ghost use Rattle.std.specs.Int.{w8, w32, w64};
 ghost use Rattle.std.specs.List.{concat};
 ghost use Rattle.hyper_matrix.specs.Counts.{total};
-ghost use Rattle.batch_store.specs.Accepted.{unfolded};
+ghost use Rattle.batch_store.specs.Accepted.{accepted};
 ghost use Rattle.batch_store.specs.Batches.{values};
-ghost use Rattle.batch_store.specs.Books.{list_total, AreAccepted};
-ghost use Rattle.snap_file.specs.Spelling.{number_bytes, head_bytes, cell_bytes, batch_bytes, file};
+ghost use Rattle.batch_store.specs.Books.{list_total, AreAccepted, accepted_in};
+ghost use Rattle.batch_store.specs.Verdicts.{total_of_entries};
+ghost use Rattle.snap_file.specs.Snapshots.{HasBase};
+ghost use Rattle.snap_file.specs.Spelling.{number_bytes, version, head_bytes, cell_bytes, matrix_bytes, batch_bytes};
+ghost use Rattle.snap_file.specs.Spelling.{entry_bytes, past_bytes, file};
 ghost use Rattle.snap_file.specs.Writing.{IsWriting};
 ghost use Rattle.byte_io.specs.Writing.{HasTaken, HasStopped};
 
 use crate::limits::{MARK, VERSION};
 use crate::writer::ByteWriter;
-use batch_store::{Batch, Setup};
+use batch_store::{Batch, BookList, Entry, Setup};
 use byte_io::{Sink, WriteFault};
 use cells::Cell;
+use hyper_matrix::Hyper;
 use std::sync::Arc;
 
 // The total that a batch keeps.
@@ -54,7 +57,7 @@ fn push_cuts(writer: &mut ByteWriter, cuts: &[u64])
 fn push_head(writer: &mut ByteWriter, setup: &Setup, batches: u64, total: u64)
     requires empty { writer.old.pending ≡ [] }
     ensures taken { writer.new.taken ≡ writer.old.taken }
-    ensures pending { writer.new.pending ≡ head_bytes setup.now batches total }
+    ensures pending { writer.new.pending ≡ head_bytes version setup.now batches total }
     ensures length { length writer.new.pending ≤ 118 }
 {
     writer.push_u64(MARK);
@@ -93,10 +96,32 @@ fn write_cell<W: Sink>(writer: &mut ByteWriter, w: &mut W, cell: Cell) -> Result
     Ok(())
 }
 
+/// Appends the cells of a matrix, behind their number.
+fn write_matrix<W: Sink>(writer: &mut ByteWriter, w: &mut W, m: &Hyper) -> Result<(), WriteFault>
+    requires failures { W.failure_count w.old + 1 < 2 ^ 64 }
+    requires countable { writer.old.taken + length writer.old.pending < 2 ^ 125 }
+    ensures count { OnOk result (writer.new.taken + length writer.new.pending ≤ writer.old.taken +
+        length writer.old.pending + 2 ^ 69) }
+    ensures ok { OnOk result ((s : W) (all left : List ℕ) →
+        IsWriting W.write_takes W.failure_count s w.old all writer.old (matrix_bytes m.now.counts ++ left) →
+        IsWriting W.write_takes W.failure_count s w.new all writer.new left) }
+    ensures err { IfErr result (λ f. (s : W) (all left : List ℕ) →
+        IsWriting W.write_takes W.failure_count s w.old all writer.old (matrix_bytes m.now.counts ++ left) →
+        HasStopped W.write_takes W.failure_count s w.new all f.written) }
+    ensures failures { OnOk result (W.failure_count w.new ≡ W.failure_count w.old) }
+{
+    writer.make_room(w)?;
+    writer.push_u64(m.entries());
+    for cell in m.iter() {
+        write_cell(writer, w, cell)?;
+    }
+    Ok(())
+}
+
 /// Appends a batch.
 fn write_batch<W: Sink>(writer: &mut ByteWriter, w: &mut W, batch: &Batch) -> Result<(), WriteFault>
     requires failures { W.failure_count w.old + 1 < 2 ^ 64 }
-    requires countable { writer.old.taken + length writer.old.pending < 2 ^ 125 }
+    requires countable { writer.old.taken + length writer.old.pending < 2 ^ 124 }
     ensures count { OnOk result (writer.new.taken + length writer.new.pending ≤ writer.old.taken +
         length writer.old.pending + 2 ^ 70) }
     ensures ok { OnOk result ((s : W) (all left : List ℕ) →
@@ -110,33 +135,125 @@ fn write_batch<W: Sink>(writer: &mut ByteWriter, w: &mut W, batch: &Batch) -> Re
     writer.make_room(w)?;
     writer.push_u64(batch.client);
     writer.push_u64(batch.number);
-    writer.push_u64(batch.matrix.entries());
-    for cell in batch.matrix.iter() {
-        write_cell(writer, w, cell)?;
+    write_matrix(writer, w, &batch.matrix)?;
+    Ok(())
+}
+
+/// Appends the entry of a folded batch.
+fn write_entry<W: Sink>(writer: &mut ByteWriter, w: &mut W, entry: Entry) -> Result<(), WriteFault>
+    requires failures { W.failure_count w.old + 1 < 2 ^ 64 }
+    requires countable { writer.old.taken + length writer.old.pending < 2 ^ 126 }
+    ensures count { OnOk result (writer.new.taken + length writer.new.pending ≡
+        writer.old.taken + length writer.old.pending + 32) }
+    ensures ok { OnOk result ((s : W) (all left : List ℕ) →
+        IsWriting W.write_takes W.failure_count s w.old all writer.old (entry_bytes entry ++ left) →
+        IsWriting W.write_takes W.failure_count s w.new all writer.new left) }
+    ensures err { IfErr result (λ f. (s : W) (all left : List ℕ) →
+        IsWriting W.write_takes W.failure_count s w.old all writer.old left →
+        HasStopped W.write_takes W.failure_count s w.new all f.written) }
+    ensures failures { OnOk result (W.failure_count w.new ≡ W.failure_count w.old) }
+{
+    writer.make_room(w)?;
+    writer.push_u64(entry.client);
+    writer.push_u64(entry.number);
+    writer.push_u64(entry.cells);
+    writer.push_u64(entry.total);
+    Ok(())
+}
+
+/// Appends the entries of the folded batches.
+fn write_folded<W: Sink>(
+    writer: &mut ByteWriter,
+    w: &mut W,
+    folded: &[Entry],
+) -> Result<(), WriteFault>
+    requires failures { W.failure_count w.old + 1 < 2 ^ 64 }
+    requires countable { writer.old.taken + length writer.old.pending < 2 ^ 120 }
+    requires few { length folded.now ≤ 2 ^ 64 }
+    ensures count { OnOk result (writer.new.taken + length writer.new.pending ≤ writer.old.taken +
+        length writer.old.pending + 2 ^ 70) }
+    ensures ok { OnOk result ((s : W) (all left : List ℕ) →
+        IsWriting W.write_takes W.failure_count s w.old all writer.old (flat_map entry_bytes folded.now ++ left) →
+        IsWriting W.write_takes W.failure_count s w.new all writer.new left) }
+    ensures err { IfErr result (λ f. (s : W) (all left : List ℕ) →
+        IsWriting W.write_takes W.failure_count s w.old all writer.old (flat_map entry_bytes folded.now ++ left) →
+        HasStopped W.write_takes W.failure_count s w.new all f.written) }
+    ensures failures { OnOk result (W.failure_count w.new ≡ W.failure_count w.old) }
+{
+    for entry in folded {
+        write_entry(writer, w, *entry)?;
     }
     Ok(())
 }
 
-/// Writes the snapshot of a setup and a list of batches.
-///
-/// At an Err `written` counts from the first byte of the file. Takes time in proportion to the bytes and no memory, and
-/// does not flush.
-pub fn write_snapshot<W: Sink>(
+/// Appends what is folded: the entries of the batches behind their number, and their sum.
+fn write_past<W: Sink>(
+    writer: &mut ByteWriter,
+    w: &mut W,
+    base: &Hyper,
+    folded: &[Entry],
+) -> Result<(), WriteFault>
+    requires failures { W.failure_count w.old + 1 < 2 ^ 64 }
+    requires countable { writer.old.taken + length writer.old.pending < 2 ^ 100 }
+    requires few { length folded.now ≤ 2 ^ 64 }
+    ensures count { OnOk result (writer.new.taken + length writer.new.pending ≤ writer.old.taken +
+        length writer.old.pending + 2 ^ 72) }
+    ensures ok { OnOk result ((s : W) (all left : List ℕ) →
+        IsWriting W.write_takes W.failure_count s w.old all writer.old
+        (past_bytes base.now.counts folded.now ++ left) →
+        IsWriting W.write_takes W.failure_count s w.new all writer.new left) }
+    ensures err { IfErr result (λ f. (s : W) (all left : List ℕ) →
+        IsWriting W.write_takes W.failure_count s w.old all writer.old
+        (past_bytes base.now.counts folded.now ++ left) →
+        HasStopped W.write_takes W.failure_count s w.new all f.written) }
+    ensures failures { OnOk result (W.failure_count w.new ≡ W.failure_count w.old) }
+{
+    writer.make_room(w)?;
+    writer.push_u64(folded.len() as u64);
+    write_folded(writer, w, folded)?;
+    write_matrix(writer, w, base)?;
+    Ok(())
+}
+
+/// Writes the file of a setup and of what was accepted, of which the folded totals are the base's.
+fn write_parts<W: Sink>(
     w: &mut W,
     setup: &Setup,
+    base: &Hyper,
+    folded: &[Entry],
     batches: &[Arc<Batch>],
 ) -> Result<(), WriteFault>
     requires failures { W.failure_count w.old + 1 < 2 ^ 64 }
-    requires accepted { AreAccepted setup.now (unfolded (values batches.now)) }
+    requires accepted { AreAccepted setup.now (accepted base.now.counts folded.now (values batches.now)) }
     ensures ok { OnOk result (HasTaken W.write_takes W.failure_count w.old w.new
-        (file setup.now (values batches.now))) }
+        (file setup.now (accepted base.now.counts folded.now (values batches.now)))) }
     ensures err { IfErr result (λ f. HasStopped W.write_takes W.failure_count w.old w.new
-        (file setup.now (values batches.now)) f.written) }
+        (file setup.now (accepted base.now.counts folded.now (values batches.now))) f.written) }
 {
     let mut writer = ByteWriter::new();
-    push_head(&mut writer, setup, batches.len() as u64, total_of(batches));
+    // The limit bounds the total.
+    let _limit = setup.limit();
+    let total = base.total() + total_of(batches);
+    push_head(&mut writer, setup, batches.len() as u64, total);
+    write_past(&mut writer, w, base, folded)?;
     for batch in batches {
         write_batch(&mut writer, w, batch)?;
     }
     writer.finish(w)
+}
+
+/// Writes the snapshot of a setup and a list, in version 2.
+///
+/// The list is one that a book of the setup hands out. At an Err `written` counts from the first byte of the file.
+/// Takes time in proportion to the bytes and no memory, copies no cell, and does not flush.
+pub fn write_snapshot<W: Sink>(w: &mut W, setup: &Setup, list: &BookList) -> Result<(), WriteFault>
+    requires failures { W.failure_count w.old + 1 < 2 ^ 64 }
+    requires accepted { AreAccepted setup.now (accepted_in list.now) }
+    requires based { HasBase setup.now list.now }
+    ensures ok { OnOk result (HasTaken W.write_takes W.failure_count w.old w.new
+        (file setup.now (accepted_in list.now))) }
+    ensures err { IfErr result (λ f. HasStopped W.write_takes W.failure_count w.old w.new
+        (file setup.now (accepted_in list.now)) f.written) }
+{
+    write_parts(w, setup, &list.base, &list.folded, &list.batches)
 }

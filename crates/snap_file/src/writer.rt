@@ -112,11 +112,11 @@ impl ByteWriter {
         Ok(())
     }
 
-    /// Hands on what is pending, unless there is room for a cell or the front of a batch, 24 bytes.
+    /// Hands on what is pending, unless there is room for 32 bytes: a cell, a folded batch's entry, or the front of a batch.
     pub fn make_room<W: Sink>(&mut self, w: &mut W) -> Result<(), WriteFault>
         requires failures { W.failure_count w.old + 1 < 2 ^ 64 }
         requires countable { self.old.taken + length self.old.pending < 2 ^ 127 }
-        ensures room { OnOk result (length self.new.pending + 24 ≤ 16384) }
+        ensures room { OnOk result (length self.new.pending + 32 ≤ 16384) }
         ensures count { OnOk result (self.new.taken + length self.new.pending ≡
             self.old.taken + length self.old.pending) }
         ensures ok { OnOk result ((s : W) (all left : List ℕ) →
@@ -127,7 +127,7 @@ impl ByteWriter {
             HasStopped W.write_takes W.failure_count s w.new all f.written) }
         ensures failures { OnOk result (W.failure_count w.new ≡ W.failure_count w.old) }
     {
-        if self.buffer.remaining_capacity() < 24 {
+        if self.buffer.remaining_capacity() < 32 {
             return self.flush(w);
         }
         Ok(())

@@ -1,6 +1,8 @@
 //! The worked example: read, written again, and each way in which it can be damaged.
 
-use crate::bytes::{MAX_BYTES, ONE, TWO, fault, fault_within, read};
+use crate::bytes::{
+    BOTH, FOLDED, MAX_BYTES, NEW_ONE, NEW_TWO, ONE, TWO, fault, fault_within, followed, moved, read,
+};
 use batch_store::{Batch, Setup};
 use byte_io::Script;
 use snap_file::{SnapFault, Snapshot, write_snapshot};
@@ -24,8 +26,8 @@ fn changed(alloc: Global, bytes: &[u8], at: usize, with: &[u8]) -> Result<Vec<u8
 fn written(alloc: Global, snapshot: &Snapshot) -> Result<Script, Fail> {
     let mut script = Script::new(alloc, Vec::new(alloc), None, None);
     // Any call on it tells what it keeps.
-    let batches = &snapshot.batches;
-    write_snapshot(&mut script, &snapshot.setup, batches)?;
+    let list = &snapshot.list;
+    write_snapshot(&mut script, &snapshot.setup, list)?;
     Ok(script)
 }
 
@@ -61,45 +63,64 @@ fn an_example_is_read(rt: HostRuntime) -> Result<(), Fail> {
     assert!(rt; same(&rt, &ONE.len(), &126));
     let snapshot = read(rt.alloc(), ONE, ONE.len(), MAX_BYTES)?;
     expect_setup(&rt, &snapshot.setup);
-    assert!(rt; same(&rt, &snapshot.batches.len(), &1));
-    expect_batch(&rt, &snapshot.batches[0], (7, 1, 5), &[(0, 0, 5)]);
+    assert!(rt; same(&rt, &snapshot.list.batches.len(), &1));
+    expect_batch(&rt, &snapshot.list.batches[0], (7, 1, 5), &[(0, 0, 5)]);
     Ok(())
 }
 
 #[test]
 fn two_batches_are_read(rt: HostRuntime) -> Result<(), Fail> {
     let snapshot = read(rt.alloc(), TWO, 1, MAX_BYTES)?;
-    assert!(rt; same(&rt, &snapshot.batches.len(), &2));
+    assert!(rt; same(&rt, &snapshot.list.batches.len(), &2));
     expect_batch(
         &rt,
-        &snapshot.batches[0],
+        &snapshot.list.batches[0],
         (7, 1, 5),
         &[(0, 0, 5), (2, 1, 0)],
     );
-    expect_batch(&rt, &snapshot.batches[1], (8, 1, 3), &[(0, 0, 3)]);
+    expect_batch(&rt, &snapshot.list.batches[1], (8, 1, 3), &[(0, 0, 3)]);
     Ok(())
 }
 
-// Whether bytes that are read come out of a write again.
-fn come_again(alloc: Global, bytes: &[u8]) -> Result<bool, Fail> {
+// Whether bytes that are read are written as these.
+fn come_as(alloc: Global, bytes: &[u8], expected: &[u8]) -> Result<bool, Fail> {
     let snapshot = read(alloc, bytes, 7, MAX_BYTES)?;
-    Ok(written(alloc, &snapshot)?.written() == bytes)
+    Ok(written(alloc, &snapshot)?.written() == expected)
 }
 
 #[test]
-fn what_is_read_is_written_again(rt: HostRuntime) -> Result<(), Fail> {
-    for bytes in [ONE, TWO] {
-        assert!(rt; come_again(rt.alloc(), bytes)?);
+fn what_is_read_is_written_in_version_two(rt: HostRuntime) -> Result<(), Fail> {
+    assert!(rt; same(&rt, &(NEW_ONE.len(), FOLDED.len()), &(142, 150)));
+    for (bytes, expected) in [(ONE, NEW_ONE), (TWO, NEW_TWO)] {
+        assert!(rt; come_as(rt.alloc(), bytes, expected)?);
+    }
+    for bytes in [NEW_ONE, NEW_TWO, FOLDED, BOTH] {
+        assert!(rt; come_as(rt.alloc(), bytes, bytes)?);
     }
     Ok(())
 }
 
-// Where bytes are changed in `ONE`, to what, and the fault.
+// The last byte of the version of `ONE`, and the fault. In version 2 its first batch would be the folded batches.
+static VERSIONS: &[(&[u8], SnapFault)] = &[
+    (b"\0", SnapFault::BadVersion),
+    (b"\x02", SnapFault::Truncated),
+    (b"\x03", SnapFault::BadVersion),
+];
+
+#[test]
+fn versions_are_judged(rt: HostRuntime) -> Result<(), Fail> {
+    for (with, expected) in VERSIONS {
+        let bytes = changed(rt.alloc(), ONE, 11, with)?;
+        assert!(rt; same_at(&rt, &with, &fault(rt.alloc(), &bytes), &Some(*expected)));
+    }
+    Ok(())
+}
+
+// Where bytes are changed in `ONE`, to what, and the fault, which is the same in version 2.
 static DAMAGES: &[(usize, &[u8], SnapFault)] = &[
     (0, b"h", SnapFault::BadMark),
     (7, b"\r", SnapFault::BadMark),
-    (11, b"\x02", SnapFault::BadVersion),
-    (11, b"\0", SnapFault::BadVersion),
+    (8, b"\x01", SnapFault::BadVersion),
     // The count, below and above the head's total.
     (125, b"\x06", SnapFault::TotalDiffers),
     (125, b"\x04", SnapFault::TotalDiffers),
@@ -115,28 +136,19 @@ fn damages_are_found(rt: HostRuntime) -> Result<(), Fail> {
     for (at, with, expected) in DAMAGES {
         let bytes = changed(rt.alloc(), ONE, *at, with)?;
         assert!(rt; same_at(&rt, &at, &fault(rt.alloc(), &bytes), &Some(*expected)));
+        let bytes = changed(rt.alloc(), NEW_ONE, moved(*at), with)?;
+        assert!(rt; same_at(&rt, &at, &fault(rt.alloc(), &bytes), &Some(*expected)));
     }
     Ok(())
 }
 
-// The bytes with others behind them.
-fn followed(alloc: Global, bytes: &[u8], more: &[u8]) -> Result<Vec<u8>, AllocError> {
-    let mut copy = Vec::new(alloc);
-    copy.extend_from_slice(bytes)?;
-    copy.extend_from_slice(more)?;
-    Ok(copy)
-}
-
 #[test]
 fn bytes_behind_the_end_are_found(rt: HostRuntime) -> Result<(), Fail> {
-    let bytes = followed(rt.alloc(), ONE, b"\0")?;
-    assert!(rt;
-        same(
-            &rt,
-            &fault(rt.alloc(), &bytes),
-            &Some(SnapFault::ExtraBytes)
-        )
-    );
+    for front in [ONE, NEW_ONE, FOLDED, BOTH] {
+        let bytes = followed(rt.alloc(), front, b"\0")?;
+        let found = fault(rt.alloc(), &bytes);
+        assert!(rt; same_at(&rt, &front.len(), &found, &Some(SnapFault::ExtraBytes)));
+    }
     Ok(())
 }
 
@@ -178,17 +190,24 @@ static REPEATS: &[(usize, usize, SnapFault)] = &[
     (69, 78, SnapFault::RepeatedNumber),
 ];
 
-// The fault of `ONE` with 2 at a place, and all from another on twice.
-fn fault_of_repeat(alloc: Global, at: usize, from: usize) -> Result<Option<SnapFault>, AllocError> {
-    let bytes = changed(alloc, ONE, at, b"\x02")?;
-    let twice = followed(alloc, &bytes, ONE.get(from..).unwrap_or(&[]))?;
+// The fault of bytes with 2 at a place, and all from another on twice.
+fn fault_of_repeat(
+    alloc: Global,
+    bytes: &[u8],
+    at: usize,
+    from: usize,
+) -> Result<Option<SnapFault>, AllocError> {
+    let front = changed(alloc, bytes, at, b"\x02")?;
+    let twice = followed(alloc, &front, bytes.get(from..).unwrap_or(&[]))?;
     Ok(fault(alloc, &twice))
 }
 
 #[test]
 fn repeats_are_found(rt: HostRuntime) -> Result<(), Fail> {
     for (at, from, expected) in REPEATS {
-        let found = fault_of_repeat(rt.alloc(), *at, *from)?;
+        let found = fault_of_repeat(rt.alloc(), ONE, *at, *from)?;
+        assert!(rt; same_at(&rt, at, &found, &Some(*expected)));
+        let found = fault_of_repeat(rt.alloc(), NEW_ONE, moved(*at), moved(*from))?;
         assert!(rt; same_at(&rt, at, &found, &Some(*expected)));
     }
     Ok(())

@@ -1,6 +1,6 @@
 //! Reads and writes that fail in mid-stream.
 
-use crate::bytes::{MAX_BYTES, ONE, TWO, read, source};
+use crate::bytes::{BOTH, FOLDED, MAX_BYTES, NEW_ONE, NEW_TWO, ONE, TWO, read, source};
 use byte_io::{Script, Source, WriteFault};
 use snap_file::{SnapFault, Snapshot, read_snapshot, write_snapshot};
 use std::alloc::{AllocError, Global};
@@ -21,7 +21,7 @@ fn fault_failing(
 
 #[test]
 fn each_read_fails_in_turn(rt: HostRuntime) -> Result<(), Fail> {
-    for bytes in [ONE, TWO] {
+    for bytes in [ONE, TWO, NEW_ONE, BOTH] {
         // One byte a read, and one read more at the end.
         for failing in 0..=bytes.len() as u64 {
             let found = fault_failing(rt.alloc(), bytes, failing)?;
@@ -33,7 +33,7 @@ fn each_read_fails_in_turn(rt: HostRuntime) -> Result<(), Fail> {
 
 #[test]
 fn no_read_follows_the_end(rt: HostRuntime) -> Result<(), Fail> {
-    for bytes in [ONE, TWO] {
+    for bytes in [ONE, TWO, NEW_ONE, BOTH] {
         let found = fault_failing(rt.alloc(), bytes, bytes.len() as u64 + 1)?;
         assert!(rt; same(&rt, &found, &(None, 0)));
     }
@@ -44,8 +44,8 @@ fn no_read_follows_the_end(rt: HostRuntime) -> Result<(), Fail> {
 fn stops_at(alloc: Global, snapshot: &Snapshot, bytes: &[u8], room: usize) -> bool {
     let mut script = Script::new(alloc, Vec::new(alloc), None, Some(room as u64));
     // Any use of it tells what it keeps.
-    let batches = &snapshot.batches;
-    let answer = write_snapshot(&mut script, &snapshot.setup, batches);
+    let list = &snapshot.list;
+    let answer = write_snapshot(&mut script, &snapshot.setup, list);
     let fault = WriteFault {
         written: room as u128,
     };
@@ -54,7 +54,7 @@ fn stops_at(alloc: Global, snapshot: &Snapshot, bytes: &[u8], room: usize) -> bo
 
 #[test]
 fn each_write_fails_in_turn(rt: HostRuntime) -> Result<(), Fail> {
-    for bytes in [ONE, TWO] {
+    for bytes in [NEW_ONE, NEW_TWO, FOLDED, BOTH] {
         let snapshot = read(rt.alloc(), bytes, bytes.len(), MAX_BYTES)?;
         for room in 0..bytes.len() {
             assert!(rt; holds_at(&rt, &room, stops_at(rt.alloc(), &snapshot, bytes, room)));

@@ -1,13 +1,13 @@
 //! Each field of a file at its bounds, and one past them: eight bytes in place of others in the worked example.
 
-use crate::bytes::{ONE, TWO, fault};
+use crate::bytes::{NEW_ONE, NEW_TWO, ONE, TWO, fault, fault_with, moved};
 use snap_file::SnapFault;
 use std::alloc::{AllocError, Global};
 use std::process::Abort;
 use std::test::Fail;
 use test_support::same_at;
 
-// Where a field of eight bytes stands in `ONE`, its value, and the fault.
+// Where a field of eight bytes stands in `ONE`, its value, and the fault, which is the same in version 2.
 static FIELDS: &[(usize, u64, Option<SnapFault>)] = &[
     // Rows: at least 1 and at most 2^60. The one cell stands in row 0.
     (12, 0, Some(SnapFault::BadHead)),
@@ -101,23 +101,6 @@ static PAIRS: &[(u64, u64, Option<SnapFault>)] = &[
     (1, 7, None),
 ];
 
-// The bytes with these numbers in place of the fields from `at` on.
-fn with_fields(
-    alloc: Global,
-    bytes: &[u8],
-    at: usize,
-    values: &[u64],
-) -> Result<Vec<u8>, AllocError> {
-    let mut copy = Vec::new(alloc);
-    copy.extend_from_slice(&bytes[..at.min(bytes.len())])?;
-    for value in values {
-        copy.extend_from_slice(&value.to_be_bytes())?;
-    }
-    let rest = copy.len().min(bytes.len());
-    copy.extend_from_slice(&bytes[rest..])?;
-    Ok(copy)
-}
-
 // The bytes with another one at `at`.
 fn with_byte(alloc: Global, bytes: &[u8], at: usize, value: u8) -> Result<Vec<u8>, AllocError> {
     let mut copy = Vec::from_slice(alloc, bytes)?;
@@ -127,21 +110,12 @@ fn with_byte(alloc: Global, bytes: &[u8], at: usize, value: u8) -> Result<Vec<u8
     Ok(copy)
 }
 
-// The fault of the bytes with these numbers in place of the fields from `at` on.
-fn fault_with(
-    alloc: Global,
-    bytes: &[u8],
-    at: usize,
-    values: &[u64],
-) -> Result<Option<SnapFault>, AllocError> {
-    let bytes = with_fields(alloc, bytes, at, values)?;
-    Ok(fault(alloc, &bytes))
-}
-
 #[test]
 fn fields_are_judged_at_their_bounds(rt: HostRuntime) -> Result<(), Fail> {
     for (at, value, expected) in FIELDS {
         let found = fault_with(rt.alloc(), ONE, *at, &[*value])?;
+        assert!(rt; same_at(&rt, &(value, at), &found, expected));
+        let found = fault_with(rt.alloc(), NEW_ONE, moved(*at), &[*value])?;
         assert!(rt; same_at(&rt, &(value, at), &found, expected));
     }
     Ok(())
@@ -152,6 +126,8 @@ fn bytes_are_judged_at_their_bounds(rt: HostRuntime) -> Result<(), Fail> {
     for (at, value, expected) in BYTES {
         let bytes = with_byte(rt.alloc(), ONE, *at, *value)?;
         assert!(rt; same_at(&rt, &(value, at), &fault(rt.alloc(), &bytes), expected));
+        let bytes = with_byte(rt.alloc(), NEW_ONE, moved(*at), *value)?;
+        assert!(rt; same_at(&rt, &(value, at), &fault(rt.alloc(), &bytes), expected));
     }
     Ok(())
 }
@@ -161,6 +137,8 @@ fn cells_stand_in_order(rt: HostRuntime) -> Result<(), Fail> {
     for (row, col, expected) in ORDERS {
         let found = fault_with(rt.alloc(), TWO, 126, &[*row, *col])?;
         assert!(rt; same_at(&rt, &(row, col), &found, expected));
+        let found = fault_with(rt.alloc(), NEW_TWO, moved(126), &[*row, *col])?;
+        assert!(rt; same_at(&rt, &(row, col), &found, expected));
     }
     Ok(())
 }
@@ -169,6 +147,8 @@ fn cells_stand_in_order(rt: HostRuntime) -> Result<(), Fail> {
 fn pairs_stand_once(rt: HostRuntime) -> Result<(), Fail> {
     for (client, number, expected) in PAIRS {
         let found = fault_with(rt.alloc(), TWO, 150, &[*client, *number])?;
+        assert!(rt; same_at(&rt, &(client, number), &found, expected));
+        let found = fault_with(rt.alloc(), NEW_TWO, moved(150), &[*client, *number])?;
         assert!(rt; same_at(&rt, &(client, number), &found, expected));
     }
     Ok(())

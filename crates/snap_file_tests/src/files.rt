@@ -1,6 +1,6 @@
 //! Real files, in a folder of their own below the system's one for temporary files.
 
-use crate::bytes::{MAX_BYTES, ONE, TWO, read};
+use crate::bytes::{FOLDED, MAX_BYTES, NEW_ONE, NEW_TWO, ONE, TWO, read};
 use snap_file::{FileFault, SaveFault, SnapFault, Snapshot, load, save};
 use std::fs::Permissions;
 use std::os::unix::fs::{MetadataExt, PermissionsExt, symlink};
@@ -11,14 +11,20 @@ use test_support::same;
 
 fn saved(rt: &HostRuntime, path: &str, snapshot: &Snapshot) -> Result<(), SaveFault> {
     // Any use of it tells what it keeps.
-    let batches = &snapshot.batches;
-    save(rt, rt.alloc(), path, &snapshot.setup, batches)
+    let list = &snapshot.list;
+    save(rt, rt.alloc(), path, &snapshot.setup, list)
 }
 
-// How many batches a file has.
+// How many batches a file has, folded ones too.
 fn loaded_batches(rt: &HostRuntime, path: &str) -> Result<usize, FileFault> {
     let snapshot = load(rt, rt.alloc(), path, MAX_BYTES)?;
-    Ok(snapshot.batches.len())
+    Ok(
+        snapshot
+            .list
+            .folded
+            .len()
+            .saturating_add(snapshot.list.batches.len()),
+    )
 }
 
 // Whether a file has these bytes.
@@ -46,9 +52,9 @@ fn save_read(rt: &HostRuntime, path: &str, bytes: &[u8]) -> Result<(), Fail> {
 #[test]
 fn what_is_saved_is_loaded(rt: HostRuntime) -> Result<(), Fail> {
     let path = "/tmp/hhm_snap_file_saved";
-    for (bytes, batches) in [(TWO, 2), (ONE, 1)] {
+    for (bytes, saved, batches) in [(TWO, NEW_TWO, 2), (FOLDED, FOLDED, 1), (ONE, NEW_ONE, 1)] {
         save_read(&rt, path, bytes)?;
-        assert!(rt; is_whole(&rt, path, bytes, batches)?);
+        assert!(rt; is_whole(&rt, path, saved, batches)?);
     }
     fs::remove_file(&rt, path)?;
     Ok(())
@@ -120,7 +126,7 @@ fn a_link_beside_is_not_followed(rt: HostRuntime) -> Result<(), Fail> {
     let (path, other) = ("/tmp/hhm_snap_file_linked", "/tmp/hhm_snap_file_other");
     let answer = saved_beside_link(&rt, path, other, &snapshot)?;
     assert!(rt; same(&rt, &answer, &Ok(())));
-    assert!(rt; holds(&rt, path, ONE)? && holds(&rt, other, b"as it was")?);
+    assert!(rt; holds(&rt, path, NEW_ONE)? && holds(&rt, other, b"as it was")?);
     assert!(rt; fs::symlink_metadata(&rt, path)?.is_file());
     fs::remove_file(&rt, path)?;
     fs::remove_file(&rt, other)?;

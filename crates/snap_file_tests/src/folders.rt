@@ -1,7 +1,7 @@
 //! Saves in a folder in memory, each of whose calls fails in turn.
 ghost use Rattle.std.specs.Prelude.{◌≡◌, ◌+◌, ◌<◌, ◌^◌, IfOk};
 
-use crate::bytes::{MAX_BYTES, ONE, read};
+use crate::bytes::{MAX_BYTES, NEW_ONE, ONE, read};
 use byte_io::{DeviceFault, WriteFault};
 use snap_file::{Folder, MemoryFolder, SaveFault, Snapshot, save_in};
 use std::alloc::{AllocError, Global};
@@ -33,8 +33,8 @@ fn saved(alloc: Global, folder: &mut MemoryFolder, snapshot: &Snapshot) -> Resul
     requires { folder.old.failures + 1 < 2 ^ 64 }
 {
     // Any use of it tells what it keeps.
-    let batches = &snapshot.batches;
-    save_in(alloc, folder, "a", &snapshot.setup, batches)
+    let list = &snapshot.list;
+    save_in(alloc, folder, "a", &snapshot.setup, list)
 }
 
 // Whether a file has these bytes.
@@ -78,8 +78,8 @@ fn each_call_fails_in_turn(rt: HostRuntime) -> Result<(), Fail> {
     for (call, fault) in FAULTS {
         expect_save(&rt, rt.alloc(), &snapshot, Some(call), Err(fault), b"old")?;
     }
-    expect_save(&rt, rt.alloc(), &snapshot, Some(4), Ok(()), ONE)?;
-    expect_save(&rt, rt.alloc(), &snapshot, None, Ok(()), ONE)?;
+    expect_save(&rt, rt.alloc(), &snapshot, Some(4), Ok(()), NEW_ONE)?;
+    expect_save(&rt, rt.alloc(), &snapshot, None, Ok(()), NEW_ONE)?;
     Ok(())
 }
 
@@ -88,7 +88,7 @@ fn what_was_left_over_is_written_over(rt: HostRuntime) -> Result<(), Fail> {
     let snapshot = read(rt.alloc(), ONE, ONE.len(), MAX_BYTES)?;
     let mut f = folder(rt.alloc(), &[("a.new", b"left over"), ("a", b"old")], None)?;
     assert!(rt; same(&rt, &saved(rt.alloc(), &mut f, &snapshot), &Ok(())));
-    assert!(rt; holds(&f, "a", ONE));
+    assert!(rt; holds(&f, "a", NEW_ONE));
     assert!(rt; f.file("a.new").is_none());
     Ok(())
 }

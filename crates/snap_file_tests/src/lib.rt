@@ -1,5 +1,5 @@
-//! Snapshots as bytes and as files: a worked example, each of its prefixes, each field at its bounds and past them, a
-//! script that fails at each read and each write, and real files.
+//! Snapshots as bytes and as files: worked examples in either version, each of their prefixes, each field at its bounds
+//! and past them, what is folded, a script that fails at each read and each write, and real files.
 //!
 //! The bytes were worked out by hand from the format, not taken from a run.
 #![tactic(auto)]
@@ -16,6 +16,8 @@ mod failing;
 mod fields;
 #[cfg(test)]
 mod files;
+#[cfg(test)]
+mod folded;
 #[cfg(test)]
 mod folders;
 #[cfg(test)]

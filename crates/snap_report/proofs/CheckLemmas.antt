@@ -1,47 +1,48 @@
 -- Batches added up one after the other.
-use Rattle.std.proofs.Common.{◌≡◌, ℕ, zero, suc, ◌+◌, ◌<◌, ◌≤◌, ◌^◌, List, [], ◌∷◌, ◌++◌, length, take, get_or, map}
-use Rattle.std.proofs.Common.{sym, ap, ◌∙◌, arith}
+use Rattle.std.proofs.Common.{◌≡◌, ℕ, zero, suc, ◌+◌, ◌<◌, ◌^◌, List, [], ◌∷◌, ◌++◌, length, take, get_or, sym}
+use Rattle.std.proofs.Common.{ap, ◌∙◌, arith, Result, Ok, Err, OnOk}
 use Rattle.std.proofs.lemmas.List.{take_more, map-append}
+use Rattle.std.specs.FinMap.{empty}
 use Rattle.std.specs.declared.sync.Arc.{Arc}
 use Rattle.std.specs.Arc.{arc_value}
-use Rattle.hyper_rows.proofs.CountLaws.{total-ewise_add, total-empty, ewise_add-empty}
 use Rattle.hyper_matrix.specs.Counts.{Counts, ewise_add, total}
-use Rattle.layer_cascade.specs.Cascade.{content}
-use Rattle.layer_cascade.proofs.LayerLemmas.{content-append}
+use Rattle.hyper_matrix.proofs.CountLaws.{total-ewise_add, ewise_add-empty, ewise_add_assoc}
+use Rattle.layer_cascade.proofs.CascadeLaws.{empty-ewise_add}
+use Rattle.batch_store.specs.Accepted.{list_sum}
 use Rattle.batch_store.specs.Batches.{Submission, values}
 use Rattle.batch_store.specs.Books.{list_total, HaveDims}
+use Rattle.batch_store.proofs.SumLaws.{list_sum-push, total-list_sum}
 use Rattle.snap_file.proofs.BatchLemmas.{total_more, total_fits}
-use Rattle.snap_report.specs.Checks.{sum_of_batches}
 
-abbrev counts_of : Submission → Counts
-counts_of b = b.matrix.counts
+-- a base and some batches added up
+abbrev pub sum_of : Counts → List Submission → Counts
+sum_of base list = ewise_add base (list_sum list)
 
-pub sum_push : (list : List Submission) (b : Submission) → sum_of_batches (list ++ b ∷ []) ≡
-    ewise_add (sum_of_batches list) b.matrix.counts
-sum_push list b =
-    ap content (map-append counts_of list (b ∷ [])) ∙ content-append (map counts_of list) (b.matrix.counts ∷ [])
-    ∙ ap (λ (x : Counts). ewise_add (sum_of_batches list) x) (ewise_add-empty b.matrix.counts)
+sum_push : (base : Counts) (list : List Submission) (b : Submission) → sum_of base (list ++ b ∷ []) ≡
+    ewise_add (sum_of base list) b.matrix.counts
+sum_push base list b = ap (ewise_add base) (list_sum-push list b)
+    ∙ sym (ewise_add_assoc base (list_sum list) b.matrix.counts)
 
-pub total_sum : (list : List Submission) → total (sum_of_batches list) ≡ list_total list
-total_sum [] = total-empty
-total_sum (b ∷ bs) = total-ewise_add b.matrix.counts (sum_of_batches bs) ∙
-    ap (λ (n : ℕ). total b.matrix.counts + n) (total_sum bs)
+pub sum_begun : (base none layers : Counts) → layers ≡ ewise_add none base → none ≡ empty → layers ≡ sum_of base []
+sum_begun base none layers is nothing = is ∙ ap (λ (x : Counts). ewise_add x base) nothing
+    ∙ empty-ewise_add base ∙ sym (ewise_add-empty base)
 
-module _ {Z : Type 0} (bs : List (Arc Submission Z)) (i : ℕ) (d : Arc Submission Z) (b : Submission) (h : i < length bs)
-    (is : d ≡ get_or bs i d) (at : b ≡ arc_value d) where
-  taken_more : values (take (i + 1) bs) ≡ values (take i bs) ++ b ∷ []
+module _ {Z : Type 0} (base : Counts) (bs : List (Arc Submission Z)) (i : ℕ) (d : Arc Submission Z) (b : Submission)
+    (h : i < length bs) (is : d ≡ get_or bs i d) (at : b ≡ arc_value d) where
+  pub taken_more : values (take (i + 1) bs) ≡ values (take i bs) ++ b ∷ []
   taken_more = ap values (take_more bs i d h) ∙ map-append arc_value (take i bs) (get_or bs i d ∷ []) ∙
       ap (λ (x : Submission). values (take i bs) ++ x ∷ []) (ap arc_value (sym is) ∙ sym at)
 
-  pub sum_more : (before after : Counts) → before ≡ sum_of_batches (values (take i bs)) →
-      after ≡ ewise_add before b.matrix.counts → after ≡ sum_of_batches (values (take (i + 1) bs))
+  pub sum_more : (before after : Counts) → before ≡ sum_of base (values (take i bs)) →
+      after ≡ ewise_add before b.matrix.counts → after ≡ sum_of base (values (take (i + 1) bs))
   sum_more before after e f = f ∙ ap (λ (x : Counts). ewise_add x b.matrix.counts) e ∙
-      sym (ap sum_of_batches taken_more ∙ sum_push (values (take i bs)) b)
+      sym (ap (sum_of base) taken_more ∙ sum_push base (values (take i bs)) b)
 
-  pub sum_fits : (before : Counts) (limit : ℕ) → before ≡ sum_of_batches (values (take i bs)) →
-      list_total (values bs) ≤ limit → limit < 2 ^ 64 → total before + total b.matrix.counts < 2 ^ 64
-  sum_fits before limit e within most =
-      let t = ap total e ∙ total_sum (values (take i bs)) in
+  pub sum_fits : (before : Counts) → before ≡ sum_of base (values (take i bs)) →
+      total base + list_total (values bs) < 2 ^ 64 → total before + total b.matrix.counts < 2 ^ 64
+  sum_fits before e within =
+      let t = ap total e ∙ total-ewise_add base (list_sum (values (take i bs))) in
+      let sum = total-list_sum (values (take i bs)) in
       let more = total_more bs i d b h is at in
       let all = total_fits bs (i + 1) in
       omega arith
@@ -60,3 +61,7 @@ dims_at r c bs i d b h lt is at =
     let same : b ≡ arc_value (get_or bs i d) = at ∙ ap arc_value is in
     let x = dims_of r c bs i d h lt in
     (ap (λ (y : Submission). y.matrix.rows) same ∙ x.0, ap (λ (y : Submission). y.matrix.cols) same ∙ x.1)
+
+pub on_ok_map : {T E : Type 0} (r : Result T E) (P Q : Type 0) → (P → Q) → OnOk r P → OnOk r Q
+on_ok_map (Ok x) P Q f h = f h
+on_ok_map (Err e) P Q f h = tt

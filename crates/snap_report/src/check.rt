@@ -1,5 +1,5 @@
 //! `check`: reads a snapshot, and writes one line that says what it holds.
-ghost use Rattle.std.specs.Prelude.{◌≡◌, ℕ, ◌+◌, ◌<◌, ◌≤◌, ◌^◌, ◌⊎◌, ◌++◌, List, Err, decimal, length, OnOk, IfOk};
+ghost use Rattle.std.specs.Prelude.{◌≡◌, ℕ, ◌+◌, ◌<◌, ◌≤◌, ◌^◌, ◌⊎◌, ◌++◌, List, [], Err, decimal, length, OnOk, IfOk};
 ghost use Rattle.std.specs.Prelude.{IfErr};
 ghost use Rattle.std.specs.FinMap.{len, empty};
 ghost use Rattle.arrayvec.specs.ArrayString.{array_string_len};
@@ -11,17 +11,19 @@ ghost use Rattle.hyper_matrix.specs.Cells.{built_of};
 ghost use Rattle.hyper_matrix.specs.Counts.{total, ewise_add};
 ghost use Rattle.hyper_matrix.specs.Matrix.{matrix};
 ghost use Rattle.batch_store.specs.Setups.{Setting};
-ghost use Rattle.batch_store.specs.Accepted.{unfolded};
-ghost use Rattle.batch_store.specs.Batches.{Submission, values};
-ghost use Rattle.batch_store.specs.Books.{list_total, AreAccepted};
-ghost use Rattle.snap_report.specs.Checks.{sum_of_batches, line_of, check_line, LeavesOutput};
+ghost use Rattle.batch_store.specs.Accepted.{Accepted, accepted, summed};
+ghost use Rattle.batch_store.specs.Batches.{values};
+ghost use Rattle.batch_store.specs.Books.{list_total, AreAccepted, HaveDims, accepted_in};
+ghost use Rattle.snap_file.specs.Snapshots.{HasBase};
+ghost use Rattle.snap_report.specs.Checks.{line_of, check_line, LeavesOutput};
 
 use crate::fault::CheckFault;
 use crate::limits::{CHECK_CUTS, SNAPSHOT_BYTES};
 use arrayvec::ArrayString;
-use batch_store::{Batch, Setup};
+use batch_store::{Batch, BookList, Entry, Setup};
 use byte_io::{Sink, write_all};
 use cells::Cell;
+use hyper_matrix::Hyper;
 use layer_cascade::CascadeFault;
 use pending_layers::PendingLayers;
 use snap_file::load;
@@ -30,7 +32,7 @@ use std::rt::Files;
 use std::sync::Arc;
 
 // More than the bytes of the longest line: six numbers of at most 20 digits, and 44 more.
-const LINE_CAPACITY: usize = 256;
+pub(crate) const LINE_CAPACITY: usize = 256;
 
 // Empty layers in the dimensions of a setup.
 fn empty_layers(alloc: Global, setup: &Setup) -> Result<PendingLayers, AllocError>
@@ -60,14 +62,23 @@ fn with_batch(
     Ok(after)
 }
 
-/// The cells of the sum of all batches, by row and then by column, each place once.
-pub fn sum_of(alloc: Global, setup: &Setup, batches: &[Arc<Batch>]) -> Result<Vec<Cell>, AllocError>
-    requires { AreAccepted setup.now (unfolded (values batches.now)) }
+/// The cells of the sum of a base and of all batches, by row and then by column, each place once.
+pub fn sum_of(
+    alloc: Global,
+    setup: &Setup,
+    base: &Hyper,
+    batches: &[Arc<Batch>],
+) -> Result<Vec<Cell>, AllocError>
+    requires based { (base.now.rows ≡ setup.now.rows) × (base.now.cols ≡ setup.now.cols) }
+    requires dims { HaveDims setup.now.rows setup.now.cols (values batches.now) }
+    requires fits { total base.now.counts + list_total (values batches.now) < 2 ^ 64 }
     ensures rises { IfOk result (λ list. Rise list.items) }
     ensures within { IfOk result (λ list. AreWithin setup.now.rows setup.now.cols list.items) }
-    ensures sum { IfOk result (λ list. built_of list.items ≡ sum_of_batches (values batches.now)) }
+    ensures sum { IfOk result (λ list.
+        built_of list.items ≡ summed (accepted base.now.counts [] (values batches.now))) }
 {
-    let mut layers = empty_layers(alloc, setup)?;
+    let empty = empty_layers(alloc, setup)?;
+    let mut layers = empty.add(alloc, base)?;
     for batch in batches {
         layers = with_batch(alloc, layers, batch)?;
     }
@@ -75,12 +86,20 @@ pub fn sum_of(alloc: Global, setup: &Setup, batches: &[Arc<Batch>]) -> Result<Ve
     Ok(cells)
 }
 
-// The number of entries of the sum of all batches.
-fn entries_of(alloc: Global, setup: &Setup, batches: &[Arc<Batch>]) -> Result<u64, AllocError>
-    requires { AreAccepted setup.now (unfolded (values batches.now)) }
-    ensures { IfOk result (λ entries. entries ≡ len (sum_of_batches (values batches.now))) }
+// The number of entries of the sum of a base and of all batches.
+fn entries_of(
+    alloc: Global,
+    setup: &Setup,
+    base: &Hyper,
+    batches: &[Arc<Batch>],
+) -> Result<u64, AllocError>
+    requires based { (base.now.rows ≡ setup.now.rows) × (base.now.cols ≡ setup.now.cols) }
+    requires dims { HaveDims setup.now.rows setup.now.cols (values batches.now) }
+    requires fits { total base.now.counts + list_total (values batches.now) < 2 ^ 64 }
+    ensures { IfOk result (λ entries.
+        entries ≡ len (summed (accepted base.now.counts [] (values batches.now)))) }
 {
-    let cells = sum_of(alloc, setup, batches)?;
+    let cells = sum_of(alloc, setup, base, batches)?;
     Ok(cells.len() as u64)
 }
 
@@ -104,7 +123,7 @@ fn total_of(batches: &[Arc<Batch>]) -> u64
 }
 
 // Appends a word and a number.
-fn push_number(line: &mut ArrayString<LINE_CAPACITY>, word: &str, n: u64)
+pub(crate) fn push_number(line: &mut ArrayString<LINE_CAPACITY>, word: &str, n: u64)
     requires room { array_string_len line.old + length word.now + 20 ≤ 256 }
     ensures bytes { line.new.bytes ≡ line.old.bytes ++ (word.now ++ decimal n) }
     ensures short { array_string_len line.new ≤ array_string_len line.old + length word.now + 20 }
@@ -129,39 +148,65 @@ fn line_of(setup: &Setup, batches: u64, total: u64, entries: u64) -> ArrayString
     line
 }
 
-// Writes the line of a setup and a list of batches.
-fn write_check<W: Sink>(
+// Writes the line of a setup and of what was accepted.
+fn write_parts<W: Sink>(
     alloc: Global,
     w: &mut W,
     setup: &Setup,
+    base: &Hyper,
+    folded: &[Entry],
     batches: &[Arc<Batch>],
 ) -> Result<(), CheckFault>
     requires failures { W.failure_count w.old + 1 < 2 ^ 64 }
-    requires accepted { AreAccepted setup.now (unfolded (values batches.now)) }
+    requires accepted { AreAccepted setup.now (accepted base.now.counts folded.now (values batches.now)) }
+    requires based { (base.now.rows ≡ setup.now.rows) × (base.now.cols ≡ setup.now.cols) }
     ensures ok { OnOk result (HasTaken W.write_takes W.failure_count w.old w.new
-        (check_line setup.now (values batches.now))) }
+        (check_line setup.now (accepted base.now.counts folded.now (values batches.now)))) }
     ensures output { (fault : WriteFault) → result ≡ Err (CheckFault.Output fault) →
-        HasStopped W.write_takes W.failure_count w.old w.new (check_line setup.now (values batches.now)) fault.written }
+        HasStopped W.write_takes W.failure_count w.old w.new
+        (check_line setup.now (accepted base.now.counts folded.now (values batches.now))) fault.written }
     ensures unwritten { IfErr result (λ fault. LeavesOutput fault ⊎ (w.new ≡ w.old)) }
 {
-    // The limit bounds the total.
-    let _limit = setup.limit();
-    let entries = match entries_of(alloc, setup, batches) {
+    // The limits bound the total and the number of batches.
+    let _limits = (setup.limit(), setup.max_batches());
+    let entries = match entries_of(alloc, setup, base, batches) {
         Ok(entries) => entries,
         Err(_) => return Err(CheckFault::Memory),
     };
-    let line = line_of(setup, batches.len() as u64, total_of(batches), entries);
+    let count = folded.len() as u64 + batches.len() as u64;
+    let total = base.total() + total_of(batches);
+    let line = line_of(setup, count, total, entries);
     match write_all(w, line.as_str().as_bytes()) {
         Ok(()) => Ok(()),
         Err(fault) => Err(CheckFault::Output(fault)),
     }
 }
 
-/// Reads the snapshot under `path`, and writes the line `rows R cols C shards K batches B total T entries E`, where E
-/// is the number of cells of the sum of all batches.
+// Writes the line of a setup and a list.
+fn write_check<W: Sink>(
+    alloc: Global,
+    w: &mut W,
+    setup: &Setup,
+    list: &BookList,
+) -> Result<(), CheckFault>
+    requires failures { W.failure_count w.old + 1 < 2 ^ 64 }
+    requires accepted { AreAccepted setup.now (accepted_in list.now) }
+    requires based { HasBase setup.now list.now }
+    ensures ok { OnOk result (HasTaken W.write_takes W.failure_count w.old w.new
+        (check_line setup.now (accepted_in list.now))) }
+    ensures output { (fault : WriteFault) → result ≡ Err (CheckFault.Output fault) →
+        HasStopped W.write_takes W.failure_count w.old w.new (check_line setup.now (accepted_in list.now))
+        fault.written }
+    ensures unwritten { IfErr result (λ fault. LeavesOutput fault ⊎ (w.new ≡ w.old)) }
+{
+    write_parts(alloc, w, setup, &list.base, &list.folded, &list.batches)
+}
+
+/// Reads the snapshot under `path`, and writes the line `rows R cols C shards K batches B total T entries E`, where B
+/// and T count folded batches too, and E is the number of cells of the sum of all.
 ///
-/// Takes the memory of the batches, of layers with the cuts 4,096, 65,536 and 1,048,576, and of a list of at most 2^21
-/// cells that wait before them, or of one batch that has more; and at the end of one list of all cells in these layers
+/// Takes the memory of the list, of layers with the cuts 4,096, 65,536 and 1,048,576, and of a list of at most 2^21
+/// cells that wait before them, or as many as the base or one batch has; and at the end of one list of all cells in these layers
 /// and that list: 24 bytes each, and as much again while it is sorted.
 ///
 /// # Errors
@@ -175,14 +220,14 @@ pub fn run_check<R: Files, W: Sink>(
     w: &mut W,
 ) -> Result<(), CheckFault>
     requires { W.failure_count w.old + 1 < 2 ^ 64 }
-    // What was written is the line of some setup and list of batches as a book accepts them.
-    ensures ok { OnOk result ((setup : Setting) × (list : List Submission) × AreAccepted setup (unfolded list)
-        × HasTaken W.write_takes W.failure_count w.old w.new (check_line setup list)) }
+    // What was written is the line of some setup and of what a book of it may have accepted.
+    ensures ok { OnOk result ((setup : Setting) × (a : Accepted) × AreAccepted setup a
+        × HasTaken W.write_takes W.failure_count w.old w.new (check_line setup a)) }
     ensures output { (fault : WriteFault) → result ≡ Err (CheckFault.Output fault) →
-        (setup : Setting) × (list : List Submission) × AreAccepted setup (unfolded list)
-        × HasStopped W.write_takes W.failure_count w.old w.new (check_line setup list) fault.written }
+        (setup : Setting) × (a : Accepted) × AreAccepted setup a
+        × HasStopped W.write_takes W.failure_count w.old w.new (check_line setup a) fault.written }
     ensures unwritten { IfErr result (λ fault. LeavesOutput fault ⊎ (w.new ≡ w.old)) }
 {
     let snapshot = load(rt, alloc, path, SNAPSHOT_BYTES)?;
-    write_check(alloc, w, &snapshot.setup, &snapshot.batches)
+    write_check(alloc, w, &snapshot.setup, &snapshot.list)
 }

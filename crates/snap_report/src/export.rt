@@ -1,41 +1,47 @@
 //! `export`: reads a snapshot, and writes the canonical text of the sum of its batches.
-ghost use Rattle.std.specs.Prelude.{◌≡◌, ◌+◌, ◌<◌, ◌^◌, ◌⊎◌, List, Err, OnOk, IfErr};
+ghost use Rattle.std.specs.Prelude.{◌≡◌, ◌+◌, ◌<◌, ◌^◌, ◌⊎◌, List, [], Err, OnOk, IfErr};
 ghost use Rattle.byte_io.specs.Writing.{HasTaken, HasStopped};
 ghost use Rattle.byte_io.specs.declared.fault.WriteFault.{WriteFault};
 ghost use Rattle.batch_store.specs.Setups.{Setting};
-ghost use Rattle.batch_store.specs.Accepted.{unfolded};
-ghost use Rattle.batch_store.specs.Batches.{Submission, values};
-ghost use Rattle.batch_store.specs.Books.{AreAccepted};
-ghost use Rattle.snap_report.specs.Checks.{batches_text, LeavesOutput};
+ghost use Rattle.hyper_matrix.specs.Counts.{total};
+ghost use Rattle.batch_store.specs.Accepted.{Accepted, accepted};
+ghost use Rattle.batch_store.specs.Batches.{values};
+ghost use Rattle.batch_store.specs.Books.{list_total, AreAccepted, HaveDims, accepted_in};
+ghost use Rattle.snap_file.specs.Snapshots.{HasBase};
+ghost use Rattle.snap_report.specs.Checks.{accepted_text, LeavesOutput};
 
 use crate::check::sum_of;
 use crate::fault::CheckFault;
 use crate::limits::SNAPSHOT_BYTES;
-use batch_store::{Batch, Setup};
+use batch_store::{Batch, BookList, Setup};
 use byte_io::Sink;
+use hyper_matrix::Hyper;
 use mm_text::write_matrix;
 use snap_file::load;
 use std::alloc::Global;
 use std::rt::Files;
 use std::sync::Arc;
 
-// Writes the text of the sum of a list of batches.
-fn write_export<W: Sink>(
+// Writes the text of the sum of a base and of all batches.
+fn write_sum<W: Sink>(
     alloc: Global,
     w: &mut W,
     setup: &Setup,
+    base: &Hyper,
     batches: &[Arc<Batch>],
 ) -> Result<(), CheckFault>
     requires failures { W.failure_count w.old + 1 < 2 ^ 64 }
-    requires accepted { AreAccepted setup.now (unfolded (values batches.now)) }
+    requires based { (base.now.rows ≡ setup.now.rows) × (base.now.cols ≡ setup.now.cols) }
+    requires dims { HaveDims setup.now.rows setup.now.cols (values batches.now) }
+    requires fits { total base.now.counts + list_total (values batches.now) < 2 ^ 64 }
     ensures ok { OnOk result (HasTaken W.write_takes W.failure_count w.old w.new
-        (batches_text setup.now (values batches.now))) }
+        (accepted_text setup.now (accepted base.now.counts [] (values batches.now)))) }
     ensures output { (fault : WriteFault) → result ≡ Err (CheckFault.Output fault) →
         HasStopped W.write_takes W.failure_count w.old w.new
-        (batches_text setup.now (values batches.now)) fault.written }
+        (accepted_text setup.now (accepted base.now.counts [] (values batches.now))) fault.written }
     ensures unwritten { IfErr result (λ fault. LeavesOutput fault ⊎ (w.new ≡ w.old)) }
 {
-    let cells = match sum_of(alloc, setup, batches) {
+    let cells = match sum_of(alloc, setup, base, batches) {
         Ok(cells) => cells,
         Err(_) => return Err(CheckFault::Memory),
     };
@@ -45,7 +51,27 @@ fn write_export<W: Sink>(
     }
 }
 
-/// Reads the snapshot under `path`, and writes the canonical text of the sum of its batches: a Matrix Market text in
+// Writes the text of the sum of a list.
+fn write_export<W: Sink>(
+    alloc: Global,
+    w: &mut W,
+    setup: &Setup,
+    list: &BookList,
+) -> Result<(), CheckFault>
+    requires failures { W.failure_count w.old + 1 < 2 ^ 64 }
+    requires accepted { AreAccepted setup.now (accepted_in list.now) }
+    requires based { HasBase setup.now list.now }
+    ensures ok { OnOk result (HasTaken W.write_takes W.failure_count w.old w.new
+        (accepted_text setup.now (accepted_in list.now))) }
+    ensures output { (fault : WriteFault) → result ≡ Err (CheckFault.Output fault) →
+        HasStopped W.write_takes W.failure_count w.old w.new
+        (accepted_text setup.now (accepted_in list.now)) fault.written }
+    ensures unwritten { IfErr result (λ fault. LeavesOutput fault ⊎ (w.new ≡ w.old)) }
+{
+    write_sum(alloc, w, setup, &list.base, &list.batches)
+}
+
+/// Reads the snapshot under `path`, and writes the canonical text of the sum of its batches, folded ones too: a Matrix Market text in
 /// the dimensions of its setup, with the cells by row and then by column.
 ///
 /// Takes the memory of `run_check`, and its time and that of the text's bytes. `w` is not flushed.
@@ -62,14 +88,14 @@ pub fn run_export<R: Files, W: Sink>(
     w: &mut W,
 ) -> Result<(), CheckFault>
     requires { W.failure_count w.old + 1 < 2 ^ 64 }
-    // What was written is the text of the sum of some list of batches as a book accepts them.
-    ensures ok { OnOk result ((setup : Setting) × (list : List Submission) × AreAccepted setup (unfolded list)
-        × HasTaken W.write_takes W.failure_count w.old w.new (batches_text setup list)) }
+    // What was written is the text of the sum of what a book of some setup may have accepted.
+    ensures ok { OnOk result ((setup : Setting) × (a : Accepted) × AreAccepted setup a
+        × HasTaken W.write_takes W.failure_count w.old w.new (accepted_text setup a)) }
     ensures output { (fault : WriteFault) → result ≡ Err (CheckFault.Output fault) →
-        (setup : Setting) × (list : List Submission) × AreAccepted setup (unfolded list)
-        × HasStopped W.write_takes W.failure_count w.old w.new (batches_text setup list) fault.written }
+        (setup : Setting) × (a : Accepted) × AreAccepted setup a
+        × HasStopped W.write_takes W.failure_count w.old w.new (accepted_text setup a) fault.written }
     ensures unwritten { IfErr result (λ fault. LeavesOutput fault ⊎ (w.new ≡ w.old)) }
 {
     let snapshot = load(rt, alloc, path, SNAPSHOT_BYTES)?;
-    write_export(alloc, w, &snapshot.setup, &snapshot.batches)
+    write_export(alloc, w, &snapshot.setup, &snapshot.list)
 }

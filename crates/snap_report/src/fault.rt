@@ -1,7 +1,8 @@
-//! Why no line, and no text, is written of a snapshot.
+//! Why no line, and no text, is written of a snapshot, or why it isn't folded.
 
 use byte_io::WriteFault;
-use snap_file::FileFault;
+use snap_file::{FileFault, SaveFault};
+use std::alloc::AllocError;
 use thiserror::Error;
 
 /// Why the line of a snapshot, or the text of its sum, was not written.
@@ -29,5 +30,61 @@ impl From<FileFault> for CheckFault {
             FileFault::Memory => CheckFault::Memory,
             fault => CheckFault::File(fault),
         }
+    }
+}
+
+/// Why a snapshot was not folded, or that not told.
+#[derive(Clone, Copy, Debug, PartialEq, Eq, Error)]
+pub enum FoldFault {
+    /// The file could not be opened or read, or is no snapshot. The fault is never want of memory.
+    #[error(transparent)]
+    File(FileFault),
+    /// There was no memory: for the batches, for their sum, or for the name of the new file.
+    #[error("memory")]
+    Memory,
+    /// The file could not be saved, and is as it was. The fault is never want of memory.
+    #[error(transparent)]
+    Save(SaveFault),
+    /// The sink failed, or took nothing of what it was offered. The file is saved.
+    #[error(transparent)]
+    Output(WriteFault),
+}
+
+impl From<FileFault> for FoldFault {
+    ghost use Rattle.std.specs.Prelude.{◌≡◌};
+    ghost use Rattle.snap_report.specs.Folds.{fold_fault_of_file};
+
+    ghost from_gives = { λ fault e. e ≡ fold_fault_of_file fault };
+
+    fn from(fault: FileFault) -> FoldFault {
+        match fault {
+            FileFault::Memory => FoldFault::Memory,
+            fault => FoldFault::File(fault),
+        }
+    }
+}
+
+impl From<SaveFault> for FoldFault {
+    ghost use Rattle.std.specs.Prelude.{◌≡◌};
+    ghost use Rattle.snap_report.specs.Folds.{fold_fault_of_save};
+
+    ghost from_gives = { λ fault e. e ≡ fold_fault_of_save fault };
+
+    fn from(fault: SaveFault) -> FoldFault {
+        match fault {
+            SaveFault::Memory => FoldFault::Memory,
+            fault => FoldFault::Save(fault),
+        }
+    }
+}
+
+impl From<AllocError> for FoldFault {
+    ghost use Rattle.std.specs.Prelude.{◌≡◌};
+    ghost use Rattle.snap_report.specs.declared.fault.FoldFault.TheVariants.{Memory};
+
+    ghost from_gives = { λ _ fault. fault ≡ Memory };
+
+    fn from(_error: AllocError) -> FoldFault {
+        FoldFault::Memory
     }
 }

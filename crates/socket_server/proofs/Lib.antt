@@ -1,2 +1,3 @@
 mod SeatLaws
 mod FaultLaws
+mod StartLaws

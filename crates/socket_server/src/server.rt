@@ -1,7 +1,7 @@
 //! The server, from its settings to its last line.
-ghost use Rattle.std.specs.Prelude.{◌≡◌, ◌+◌, ◌<◌, ◌≤◌, ◌^◌, ◌↔◌, ◌⊎◌, List, length, None, Err, IfOk, IfErr, OnOk};
+ghost use Rattle.std.specs.Prelude.{◌≡◌, ◌+◌, ◌<◌, ◌≤◌, ◌^◌, ◌↔◌, ◌⊎◌, length, None, Err, IfOk, IfErr, OnOk};
 ghost use Rattle.batch_store.specs.Accepted.{entries_in};
-ghost use Rattle.batch_store.specs.Batches.{Submission};
+ghost use Rattle.batch_store.specs.Accepted.{Accepted};
 ghost use Rattle.locked_engine.specs.Opened.{NamesEngine};
 ghost use Rattle.socket_server.specs.Ends.{EndsWith};
 ghost use Rattle.socket_server.specs.Faults.{IsMet, IsMetServing};
@@ -47,8 +47,8 @@ fn serve_open<
     saver: &Saver,
 ) -> Result<Status, ServerFault>
     requires seats { length seats.items ≡ N.seats }
-    ensures ended { IfOk result (λ s. (list : List Submission)
-        × EndsWith R.saves rt.now saver.now.path N.setup list s) }
+    ensures ended { IfOk result (λ s. (a : Accepted)
+        × EndsWith R.saves rt.now saver.now.path N.setup a s) }
     ensures met { IfErr result IsMetServing }
 {
     if let Err(fault) = serve_listeners(
@@ -80,8 +80,8 @@ fn serve_bound<
     saver: &Saver,
 ) -> Result<Status, ServerFault>
     requires seats { length seats.items ≡ N.seats }
-    ensures ended { IfOk result (λ s. (list : List Submission)
-        × EndsWith R.saves rt.now saver.now.path N.setup list s) }
+    ensures ended { IfOk result (λ s. (a : Accepted)
+        × EndsWith R.saves rt.now saver.now.path N.setup a s) }
     ensures met { IfErr result IsMetServing }
 {
     let outcome = serve_open(rt, alloc, engine, seats, &listeners, saver);
@@ -113,10 +113,10 @@ fn serve_named<
     requires failures { W.failure_count out.old + 1 < 2 ^ 64 }
     requires named { NamesEngine names N.setup N.seats N.history N.name N.parts H.name H.parts }
     requires made_from { plain.setup ≡ names.setup }
-    requires opened { entries_in plain.book.state ≡ N.opened }
+    requires opened { plain.book.state ≡ N.opened }
     ensures failures { OnOk result (W.failure_count out.new ≡ W.failure_count out.old) }
-    ensures ended { IfOk result (λ s. (list : List Submission)
-        × EndsWith R.saves rt.now plan.saver.path names.setup list s) }
+    ensures ended { IfOk result (λ s. (a : Accepted)
+        × EndsWith R.saves rt.now plan.saver.path names.setup a s) }
     ensures met { IfErr result IsMetServing }
 {
     let Ok((engine, seats)) = Engine::<N, H>::open(alloc, plain, names) else {
@@ -155,8 +155,8 @@ fn serve_plan<
 ) -> Result<Status, ServerFault>
     requires failures { W.failure_count out.old + 1 < 2 ^ 64 }
     requires workers { (1 ≤ workers) × (workers ≤ 32) }
-    ensures ended { IfOk result (λ s. (list : List Submission)
-        × EndsWith R.saves rt.now plan.saver.path plain.setup list s) }
+    ensures ended { IfOk result (λ s. (a : Accepted)
+        × EndsWith R.saves rt.now plan.saver.path plain.setup a s) }
     ensures met { IfErr result IsMetServing }
 {
     let Ok(names) = Names::new(rt, alloc, &plain, workers as usize) else {
@@ -197,10 +197,10 @@ fn serve_settings<
 >(rt: &R, alloc: Global, settings: Settings, out: &mut W) -> Result<Status, ServerFault>
     requires failures { W.failure_count out.old + 1 < 2 ^ 64 }
     requires workers { (1 ≤ settings.workers) × (settings.workers ≤ 32) }
-    ensures started { IfOk result (λ s. (list : List Submission)
-        × StartsFrom R.loads rt.now settings.snapshot settings.setup list) }
-    ensures ended { IfOk result (λ s. (list : List Submission)
-        × EndsWith R.saves rt.now settings.snapshot settings.setup list s) }
+    ensures started { IfOk result (λ s. (a : Accepted)
+        × StartsFrom R.loads rt.now settings.snapshot settings.setup a) }
+    ensures ended { IfOk result (λ s. (a : Accepted)
+        × EndsWith R.saves rt.now settings.snapshot settings.setup a s) }
     ensures met { IfErr result IsMet }
     ensures told { IfErr result (λ f. IsLoadTold R.loads rt.now settings.snapshot settings.setup f) }
 {
@@ -257,10 +257,10 @@ pub fn run_server<
         ↔ ((1 ≤ settings.workers) × (settings.workers ≤ 32) × (settings.tcp ≡ None) × (settings.unix ≡ None)) }
     ensures others { IfErr result (λ f. (f ≡ ServerFault.BadWorkers) ⊎ (f ≡ ServerFault.NoAddress) ⊎ IsMet f) }
     ensures told { IfErr result (λ f. IsLoadTold R.loads rt.now settings.snapshot settings.setup f) }
-    ensures started { IfOk result (λ s. (list : List Submission)
-        × StartsFrom R.loads rt.now settings.snapshot settings.setup list) }
-    ensures ended { IfOk result (λ s. (list : List Submission)
-        × EndsWith R.saves rt.now settings.snapshot settings.setup list s) }
+    ensures started { IfOk result (λ s. (a : Accepted)
+        × StartsFrom R.loads rt.now settings.snapshot settings.setup a) }
+    ensures ended { IfOk result (λ s. (a : Accepted)
+        × EndsWith R.saves rt.now settings.snapshot settings.setup a s) }
 {
     settings.judge()?;
     serve_settings(rt, alloc, settings, out)

@@ -121,7 +121,7 @@ fn batches_over_tcp_are_answered_and_saved(rt: HostRuntime) -> Result<(), Fail> 
 // How many batches were saved.
 fn saved_batches(rt: &impl Files, alloc: Global, path: &str) -> Result<usize, Fail> {
     let saved: Snapshot = snap_file::load(rt, alloc, path, 1 << 20).map_err(|_| "load")?;
-    Ok(saved.batches.len())
+    Ok(saved.list.batches.len())
 }
 
 // Whether a first server over a Unix socket answers two puts and a save.

@@ -1,5 +1,4 @@
 use Rattle.std.proofs.Common.{◌+◌}
-use Rattle.batch_store.specs.Accepted.{entries_in}
 use Rattle.locked_engine_tests.proofs.seats.a_status_shows_what_was_answered.Given as goal
 
 -- the engine that these names name
@@ -11,7 +10,7 @@ ghosts-see_what_was_put-N-Named g a = record {
   setup = a.names.setup;
   seats = a.names.seats;
   history = a.names.history;
-  opened = entries_in a.plain.book.state;
+  opened = a.plain.book.state;
 }
 
 abbrev pub ghosts-see_what_was_put-H-Ledger : goal.ghosts-see_what_was_put-H-Ledger

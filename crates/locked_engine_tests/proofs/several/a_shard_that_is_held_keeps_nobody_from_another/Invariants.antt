@@ -1,5 +1,4 @@
 use Rattle.std.proofs.Common.{◌+◌}
-use Rattle.batch_store.specs.Accepted.{entries_in}
 use Rattle.locked_engine_tests.proofs.several.a_shard_that_is_held_keeps_nobody_from_another.Given as goal
 
 -- the engine that these names name
@@ -11,7 +10,7 @@ ghosts-put_beside_a_look-N-Named g a = record {
   setup = a.names.setup;
   seats = a.names.seats;
   history = a.names.history;
-  opened = entries_in a.plain.book.state;
+  opened = a.plain.book.state;
 }
 
 abbrev pub ghosts-put_beside_a_look-H-Ledger : goal.ghosts-put_beside_a_look-H-Ledger

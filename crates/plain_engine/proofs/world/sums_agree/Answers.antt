@@ -8,7 +8,7 @@ use Rattle.plain_engine.proofs.world.sums_agree.Goals as goal
 
 pub returns-clause-cells : goal.returns-clause-cells
 returns-clause-cells c = λ v w es u q st run. ap (λ m. get m q) (run_agrees v w es u st run).sums
-    ∙ get-ewise_add (records_content 0 v.shards u.records) (flight_content v.shards u.flight) q
+    ∙ get-ewise_add (records_content 0 v.shards u.book.base u.records) (flight_content v.shards u.flight) q
 
 pub returns-clause-sums : goal.returns-clause-sums
 returns-clause-sums c = λ v w es u st run. (run_agrees v w es u st run).sums

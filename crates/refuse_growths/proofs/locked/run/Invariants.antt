@@ -1,5 +1,4 @@
 use Rattle.std.proofs.Common.{◌+◌}
-use Rattle.batch_store.specs.Accepted.{entries_in}
 use Rattle.refuse_growths.proofs.locked.run.Given as goal
 
 -- the engine that these names name
@@ -11,7 +10,7 @@ ghosts-run_named-N-Named g a = record {
   setup = a.names.setup;
   seats = a.names.seats;
   history = a.names.history;
-  opened = entries_in a.plain.book.state;
+  opened = a.plain.book.state;
 }
 
 abbrev pub ghosts-run_named-H-Ledger : goal.ghosts-run_named-H-Ledger

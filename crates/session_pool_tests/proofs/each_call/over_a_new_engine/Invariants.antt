@@ -1,5 +1,4 @@
 use Rattle.std.proofs.Common.{◌+◌}
-use Rattle.batch_store.specs.Accepted.{entries_in}
 use Rattle.session_pool_tests.proofs.each_call.over_a_new_engine.Given as goal
 
 -- the engine that these names name
@@ -11,7 +10,7 @@ ghosts-opened_and_closed-N-Named g a = record {
   setup = a.names.setup;
   seats = a.names.seats;
   history = a.names.history;
-  opened = entries_in a.plain.book.state;
+  opened = a.plain.book.state;
 }
 
 abbrev pub ghosts-opened_and_closed-H-Ledger : goal.ghosts-opened_and_closed-H-Ledger

@@ -1,10 +1,9 @@
 use Rattle.std.proofs.Common.{sym, subst, ◌∙◌, arith}
 use Rattle.std.proofs.lemmas.Result.{err_from_is_err_and}
-use Rattle.batch_store.specs.Batches.{values}
+use Rattle.batch_store.specs.Batches.{values, entries_of}
 use Rattle.snap_file.specs.Table.{Progress, batch}
 use Rattle.snap_file.specs.Outcomes.{IsOfBytes, HasJudged}
 use Rattle.snap_file.specs.declared.fault.SnapFault.TheVariants.{RepeatedNumber}
-use Rattle.snap_file.specs.Lists.{progress_of}
 use Rattle.snap_file.proofs.StopLemmas.{stops_refused, stops_memory, read_passed}
 use Rattle.snap_file.proofs.ListLemmas.{progress_is}
 use Rattle.snap_file.proofs.BehindLemmas.{behind_pair}
@@ -34,8 +33,8 @@ returns-in_err-repeated-clause-err g c =
     (g.R.Source.at_end c.next_u64-2.new.r) m s c.next_u64-2.new.r c.next_u64-2.new.self _
     (read_passed {S = g.row.R.Denot} g.R.Source.read_gives g.R.Source.failure_count m s c.next_u64-2.new.r
     c.next_u64-2.new.self _ RepeatedNumber _ (c.in_ok-number.ensures.ok s m _ (c.in_ok-client.ensures.ok s m _ h))
-    (c.in_err-repeated.ensures.err.1 (values c.args.list.now.batches.items) c.requires.pairs))
-    (behind_pair c.args.head.now _ _ (λ t. b _)))
+    (c.in_err-repeated.ensures.err.1 (entries_of (values c.args.list.now.batches.items)) c.requires.pairs))
+    (behind_pair c.args.front.now.head c.args.front.now.head.total _ _ (λ t. b _)))
 
 pub returns-in_err-refuse-clause-err : goal.returns-in_err-refuse-clause-err
 unfolding batch
@@ -45,7 +44,7 @@ returns-in_err-refuse-clause-err g c =
     stops_refused {S = g.row.R.Denot} g.R.Source.read_gives g.R.Source.failure_count
     (g.R.Source.at_end c.next_u64-2.new.r) m s c.next_u64-2.new.r c.next_u64-2.new.self _ RepeatedNumber _
     (c.in_ok-number.ensures.ok s m _ (c.in_ok-client.ensures.ok s m _ h))
-    (sym (c.in_ok-repeated.ensures.told (values c.args.list.now.batches.items) c.requires.pairs) ∙
+    (sym (c.in_ok-repeated.ensures.told (entries_of (values c.args.list.now.batches.items)) c.requires.pairs) ∙
     c.in_err-refuse.ensures.err.1) judged)
 
 pub returns-in_err-count-clause-err : goal.returns-in_err-count-clause-err
@@ -56,7 +55,7 @@ returns-in_err-count-clause-err g c =
     c.in_err-count.ensures.err s m _
     (read_passed {S = g.row.R.Denot} g.R.Source.read_gives g.R.Source.failure_count m s c.next_u64-2.new.r
     c.next_u64-2.new.self _ RepeatedNumber _ (c.in_ok-number.ensures.ok s m _ (c.in_ok-client.ensures.ok s m _ h))
-    (sym (c.in_ok-repeated.ensures.told (values c.args.list.now.batches.items) c.requires.pairs) ∙
+    (sym (c.in_ok-repeated.ensures.told (entries_of (values c.args.list.now.batches.items)) c.requires.pairs) ∙
     c.in_ok-refuse.ensures.ok)))
 
 pub returns-in_err-matrix-clause-err : goal.returns-in_err-matrix-clause-err
@@ -67,7 +66,7 @@ returns-in_err-matrix-clause-err g c =
     c.in_err-matrix.ensures.err s m _ (λ t. b _) (c.in_ok-count.ensures.ok s m _
     (read_passed {S = g.row.R.Denot} g.R.Source.read_gives g.R.Source.failure_count m s c.next_u64-2.new.r
     c.next_u64-2.new.self _ RepeatedNumber _ (c.in_ok-number.ensures.ok s m _ (c.in_ok-client.ensures.ok s m _ h))
-    (sym (c.in_ok-repeated.ensures.told (values c.args.list.now.batches.items) c.requires.pairs) ∙
+    (sym (c.in_ok-repeated.ensures.told (entries_of (values c.args.list.now.batches.items)) c.requires.pairs) ∙
     c.in_ok-refuse.ensures.ok))))
 
 pub returns-in_err-push_batch-clause-err : goal.returns-in_err-push_batch-clause-err
@@ -80,7 +79,7 @@ returns-in_err-push_batch-clause-err g c =
     (c.in_ok-matrix.ensures.ok s m _ (c.in_ok-count.ensures.ok s m _
     (read_passed {S = g.row.R.Denot} g.R.Source.read_gives g.R.Source.failure_count m s c.next_u64-2.new.r
     c.next_u64-2.new.self _ RepeatedNumber _ (c.in_ok-number.ensures.ok s m _ (c.in_ok-client.ensures.ok s m _ h))
-    (sym (c.in_ok-repeated.ensures.told (values c.args.list.now.batches.items) c.requires.pairs) ∙
+    (sym (c.in_ok-repeated.ensures.told (entries_of (values c.args.list.now.batches.items)) c.requires.pairs) ∙
     c.in_ok-refuse.ensures.ok)))).3 (b _))
 
 pub returns-clause-ok : goal.returns-clause-ok
@@ -89,10 +88,10 @@ returns-clause-ok g c = λ s m k h.
     let x = c.in_ok-matrix.ensures.ok s m _ (c.in_ok-count.ensures.ok s m _
     (read_passed {S = g.row.R.Denot} g.R.Source.read_gives g.R.Source.failure_count m s c.next_u64-2.new.r
     c.next_u64-2.new.self _ RepeatedNumber _ (c.in_ok-number.ensures.ok s m _ (c.in_ok-client.ensures.ok s m _ h))
-    (sym (c.in_ok-repeated.ensures.told (values c.args.list.now.batches.items) c.requires.pairs) ∙
+    (sym (c.in_ok-repeated.ensures.told (entries_of (values c.args.list.now.batches.items)) c.requires.pairs) ∙
     c.in_ok-refuse.ensures.ok))) in
-    let is = progress_is c.args.head.now
-    (progress_of c.args.list.now) c.in_ok-client.client c.in_ok-number.number x.0 c.in_ok-matrix.matrix
+    let is = progress_is c.args.front.now.head c.args.front.now.past.base.counts c.args.front.now.past.folded.items
+    (values c.args.list.now.batches.items) c.args.list.now.tally.counted c.in_ok-client.client c.in_ok-number.number x.0 c.in_ok-matrix.matrix
     (values c.push_batch.new.batches.items) c.read_entries.new.tally.counted x.1 x.2 c.in_ok-push_batch.ensures.ok in
     subst (λ (q : Progress). HasJudged {S = g.row.R.Denot} g.R.Source.read_gives g.R.Source.failure_count m s
     c.read_entries.new.r c.read_entries.new.reader (k q)) is x.3

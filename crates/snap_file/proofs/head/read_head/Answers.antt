@@ -13,7 +13,7 @@ next_u32_in-requires-clause-failures g c =
 
 pub next_u64_in-requires-2-clause-failures : goal.next_u64_in-requires-2-clause-failures
 next_u64_in-requires-2-clause-failures g c =
-    omega (arith, c.requires.failures, c.in_ok-_mark.ensures.no_failure, c.in_ok-_version.ensures.no_failure)
+    omega (arith, c.requires.failures, c.in_ok-_mark.ensures.no_failure, c.in_ok-version.ensures.no_failure)
 
 pub next_u64_in-requires-3-clause-failures : goal.next_u64_in-requires-3-clause-failures
 next_u64_in-requires-3-clause-failures g c =
@@ -21,7 +21,7 @@ next_u64_in-requires-3-clause-failures g c =
       arith,
       c.requires.failures,
       c.in_ok-_mark.ensures.no_failure,
-      c.in_ok-_version.ensures.no_failure,
+      c.in_ok-version.ensures.no_failure,
       c.in_ok-rows.ensures.no_failure,
     )
 
@@ -31,7 +31,7 @@ next_u8_in-requires-clause-failures g c =
       arith,
       c.requires.failures,
       c.in_ok-_mark.ensures.no_failure,
-      c.in_ok-_version.ensures.no_failure,
+      c.in_ok-version.ensures.no_failure,
       c.in_ok-rows.ensures.no_failure,
       c.in_ok-cols.ensures.no_failure,
     )
@@ -42,7 +42,7 @@ read_cuts-requires-clause-failures g c =
       arith,
       c.requires.failures,
       c.in_ok-_mark.ensures.no_failure,
-      c.in_ok-_version.ensures.no_failure,
+      c.in_ok-version.ensures.no_failure,
       c.in_ok-rows.ensures.no_failure,
       c.in_ok-cols.ensures.no_failure,
       c.in_ok-cut_count.ensures.no_failure,
@@ -54,7 +54,7 @@ next_u8_in-requires-2-clause-failures g c =
       arith,
       c.requires.failures,
       c.in_ok-_mark.ensures.no_failure,
-      c.in_ok-_version.ensures.no_failure,
+      c.in_ok-version.ensures.no_failure,
       c.in_ok-rows.ensures.no_failure,
       c.in_ok-cols.ensures.no_failure,
       c.in_ok-cut_count.ensures.no_failure,
@@ -67,7 +67,7 @@ next_u64_in-requires-4-clause-failures g c =
       arith,
       c.requires.failures,
       c.in_ok-_mark.ensures.no_failure,
-      c.in_ok-_version.ensures.no_failure,
+      c.in_ok-version.ensures.no_failure,
       c.in_ok-rows.ensures.no_failure,
       c.in_ok-cols.ensures.no_failure,
       c.in_ok-cut_count.ensures.no_failure,
@@ -81,7 +81,7 @@ next_u64_in-requires-5-clause-failures g c =
       arith,
       c.requires.failures,
       c.in_ok-_mark.ensures.no_failure,
-      c.in_ok-_version.ensures.no_failure,
+      c.in_ok-version.ensures.no_failure,
       c.in_ok-rows.ensures.no_failure,
       c.in_ok-cols.ensures.no_failure,
       c.in_ok-cut_count.ensures.no_failure,
@@ -96,7 +96,7 @@ next_u64_in-requires-6-clause-failures g c =
       arith,
       c.requires.failures,
       c.in_ok-_mark.ensures.no_failure,
-      c.in_ok-_version.ensures.no_failure,
+      c.in_ok-version.ensures.no_failure,
       c.in_ok-rows.ensures.no_failure,
       c.in_ok-cols.ensures.no_failure,
       c.in_ok-cut_count.ensures.no_failure,
@@ -112,7 +112,7 @@ next_u64_in-requires-7-clause-failures g c =
       arith,
       c.requires.failures,
       c.in_ok-_mark.ensures.no_failure,
-      c.in_ok-_version.ensures.no_failure,
+      c.in_ok-version.ensures.no_failure,
       c.in_ok-rows.ensures.no_failure,
       c.in_ok-cols.ensures.no_failure,
       c.in_ok-cut_count.ensures.no_failure,
@@ -129,19 +129,19 @@ returns-in_err-_mark-clause-err g c =
     let p = err_from_is_err_and c.from_residual.result c.from_residual.ensures.1 in rw (p.1, p.2) (λ s m k h.
     c.in_err-_mark.ensures.err s m _ h)
 
-pub returns-in_err-_version-clause-err : goal.returns-in_err-_version-clause-err
+pub returns-in_err-version-clause-err : goal.returns-in_err-version-clause-err
 unfolding head
-returns-in_err-_version-clause-err g c =
-    let p = err_from_is_err_and c.from_residual-in_err-_version.result c.from_residual-in_err-_version.ensures.1 in
+returns-in_err-version-clause-err g c =
+    let p = err_from_is_err_and c.from_residual-in_err-version.result c.from_residual-in_err-version.ensures.1 in
     rw (p.1, p.2) (λ s m k h.
-    c.in_err-_version.ensures.err s m _ (c.in_ok-_mark.ensures.ok s m _ h))
+    c.in_err-version.ensures.err s m _ (c.in_ok-_mark.ensures.ok s m _ h))
 
 pub returns-in_err-rows-clause-err : goal.returns-in_err-rows-clause-err
 unfolding head
 returns-in_err-rows-clause-err g c =
     let p = err_from_is_err_and c.from_residual-in_err-rows.result c.from_residual-in_err-rows.ensures.1 in
     rw (p.1, p.2) (λ s m k h.
-    c.in_err-rows.ensures.err s m _ (c.in_ok-_version.ensures.ok s m _ (c.in_ok-_mark.ensures.ok s m _ h)))
+    c.in_err-rows.ensures.err s m _ (c.in_ok-version.ensures.ok s m _ (c.in_ok-_mark.ensures.ok s m _ h)))
 
 pub returns-in_err-cols-clause-err : goal.returns-in_err-cols-clause-err
 unfolding head
@@ -149,7 +149,7 @@ returns-in_err-cols-clause-err g c =
     let p = err_from_is_err_and c.from_residual-in_err-cols.result c.from_residual-in_err-cols.ensures.1 in
     rw (p.1, p.2) (λ s m k h.
     c.in_err-cols.ensures.err s m _ (c.in_ok-rows.ensures.ok s m _
-    (c.in_ok-_version.ensures.ok s m _ (c.in_ok-_mark.ensures.ok s m _ h))))
+    (c.in_ok-version.ensures.ok s m _ (c.in_ok-_mark.ensures.ok s m _ h))))
 
 pub returns-in_err-cut_count-clause-err : goal.returns-in_err-cut_count-clause-err
 unfolding head
@@ -157,7 +157,7 @@ returns-in_err-cut_count-clause-err g c =
     let p = err_from_is_err_and c.from_residual-in_err-cut_count.result c.from_residual-in_err-cut_count.ensures.1 in
     rw (p.1, p.2) (λ s m k h.
     c.in_err-cut_count.ensures.err s m _ (c.in_ok-cols.ensures.ok s m _
-    (c.in_ok-rows.ensures.ok s m _ (c.in_ok-_version.ensures.ok s m _ (c.in_ok-_mark.ensures.ok s m _ h)))))
+    (c.in_ok-rows.ensures.ok s m _ (c.in_ok-version.ensures.ok s m _ (c.in_ok-_mark.ensures.ok s m _ h)))))
 
 pub returns-in_err-cuts-clause-err : goal.returns-in_err-cuts-clause-err
 unfolding head
@@ -166,7 +166,7 @@ returns-in_err-cuts-clause-err g c =
     rw (p.1, p.2) (λ s m k h.
     c.in_err-cuts.ensures.err s m _ (c.in_ok-cut_count.ensures.ok s m _
     (c.in_ok-cols.ensures.ok s m _ (c.in_ok-rows.ensures.ok s m _
-    (c.in_ok-_version.ensures.ok s m _ (c.in_ok-_mark.ensures.ok s m _ h))))))
+    (c.in_ok-version.ensures.ok s m _ (c.in_ok-_mark.ensures.ok s m _ h))))))
 
 pub returns-in_err-shards-clause-err : goal.returns-in_err-shards-clause-err
 unfolding head
@@ -175,7 +175,7 @@ returns-in_err-shards-clause-err g c =
     rw (p.1, p.2) (λ s m k h.
     c.in_err-shards.ensures.err s m _ (c.in_ok-cuts.ensures.ok s m _
     (c.in_ok-cut_count.ensures.ok s m _ (c.in_ok-cols.ensures.ok s m _
-    (c.in_ok-rows.ensures.ok s m _ (c.in_ok-_version.ensures.ok s m _ (c.in_ok-_mark.ensures.ok s m _ h)))))))
+    (c.in_ok-rows.ensures.ok s m _ (c.in_ok-version.ensures.ok s m _ (c.in_ok-_mark.ensures.ok s m _ h)))))))
 
 pub returns-in_err-limit-clause-err : goal.returns-in_err-limit-clause-err
 unfolding head
@@ -185,7 +185,7 @@ returns-in_err-limit-clause-err g c =
     c.in_err-limit.ensures.err s m _ (c.in_ok-shards.ensures.ok s m _
     (c.in_ok-cuts.ensures.ok s m _ (c.in_ok-cut_count.ensures.ok s m _
     (c.in_ok-cols.ensures.ok s m _ (c.in_ok-rows.ensures.ok s m _
-    (c.in_ok-_version.ensures.ok s m _ (c.in_ok-_mark.ensures.ok s m _ h))))))))
+    (c.in_ok-version.ensures.ok s m _ (c.in_ok-_mark.ensures.ok s m _ h))))))))
 
 pub returns-in_err-max_batches-clause-err : goal.returns-in_err-max_batches-clause-err
 unfolding head
@@ -195,7 +195,7 @@ returns-in_err-max_batches-clause-err g c =
     c.in_err-max_batches.ensures.err s m _ (c.in_ok-limit.ensures.ok s m _
     (c.in_ok-shards.ensures.ok s m _ (c.in_ok-cuts.ensures.ok s m _
     (c.in_ok-cut_count.ensures.ok s m _ (c.in_ok-cols.ensures.ok s m _
-    (c.in_ok-rows.ensures.ok s m _ (c.in_ok-_version.ensures.ok s m _ (c.in_ok-_mark.ensures.ok s m _ h)))))))))
+    (c.in_ok-rows.ensures.ok s m _ (c.in_ok-version.ensures.ok s m _ (c.in_ok-_mark.ensures.ok s m _ h)))))))))
 
 pub returns-in_err-batches-clause-err : goal.returns-in_err-batches-clause-err
 unfolding head
@@ -206,7 +206,7 @@ returns-in_err-batches-clause-err g c =
     (c.in_ok-limit.ensures.ok s m _ (c.in_ok-shards.ensures.ok s m _
     (c.in_ok-cuts.ensures.ok s m _ (c.in_ok-cut_count.ensures.ok s m _
     (c.in_ok-cols.ensures.ok s m _ (c.in_ok-rows.ensures.ok s m _
-    (c.in_ok-_version.ensures.ok s m _ (c.in_ok-_mark.ensures.ok s m _ h))))))))))
+    (c.in_ok-version.ensures.ok s m _ (c.in_ok-_mark.ensures.ok s m _ h))))))))))
 
 pub returns-in_err-total-clause-err : goal.returns-in_err-total-clause-err
 unfolding head
@@ -217,17 +217,22 @@ returns-in_err-total-clause-err g c =
     (c.in_ok-max_batches.ensures.ok s m _ (c.in_ok-limit.ensures.ok s m _
     (c.in_ok-shards.ensures.ok s m _ (c.in_ok-cuts.ensures.ok s m _
     (c.in_ok-cut_count.ensures.ok s m _ (c.in_ok-cols.ensures.ok s m _
-    (c.in_ok-rows.ensures.ok s m _ (c.in_ok-_version.ensures.ok s m _ (c.in_ok-_mark.ensures.ok s m _ h)))))))))))
+    (c.in_ok-rows.ensures.ok s m _ (c.in_ok-version.ensures.ok s m _ (c.in_ok-_mark.ensures.ok s m _ h)))))))))))
 
 pub returns-clause-ok : goal.returns-clause-ok
 unfolding head
 returns-clause-ok g c = λ s m k h.
     subst (λ (x : Setting). HasJudged {S = g.row.R.Denot} g.R.Source.read_gives g.R.Source.failure_count m s
     c.next_u64_in-7.new.r c.next_u64_in-7.new.self
-    (k (let y : Head = record { setup = x; batches = c.in_ok-batches.batches; total = c.in_ok-total.total } in y)))
+    (k (let y : Head = record {
+      setup = x;
+      version = c.in_ok-version.version;
+      batches = c.in_ok-batches.batches;
+      total = c.in_ok-total.total;
+    } in y)))
     (sym c.setup_of-setup.ensures)
     (c.in_ok-total.ensures.ok s m _ (c.in_ok-batches.ensures.ok s m _
     (c.in_ok-max_batches.ensures.ok s m _ (c.in_ok-limit.ensures.ok s m _
     (c.in_ok-shards.ensures.ok s m _ (c.in_ok-cuts.ensures.ok s m _
     (c.in_ok-cut_count.ensures.ok s m _ (c.in_ok-cols.ensures.ok s m _
-    (c.in_ok-rows.ensures.ok s m _ (c.in_ok-_version.ensures.ok s m _ (c.in_ok-_mark.ensures.ok s m _ h)))))))))))
+    (c.in_ok-rows.ensures.ok s m _ (c.in_ok-version.ensures.ok s m _ (c.in_ok-_mark.ensures.ok s m _ h)))))))))))

@@ -127,14 +127,14 @@ returns-in-Err-clause-err g c = λ s m n done k b h.
     (ap (λ (x : ℕ). nat_le x c.in_ok-row.row) (sym c.rows.ensures.value) ∙ c.in_ok-refuse.ensures.ok)))
     (ap (λ (x : ℕ). nat_le x c.in_ok-col.col) (sym c.cols.ensures.value) ∙ c.in_ok-refuse-2.ensures.ok))
     (sym c.stands_before-early.ensures ∙ c.in_ok-refuse-3.ensures.ok)))
-    (sym c.passes-over.ensures ∙ c.in_ok-refuse-4.ensures.ok)) (behind_cells c.args.head.now n _ k b)
+    (sym c.passes-over.ensures ∙ c.in_ok-refuse-4.ensures.ok)) (behind_cells c.args.head.now c.args.most n _ k b)
 
 pub returns-in-Ok-clause-ok : goal.returns-in-Ok-clause-ok
 unfolding cells_behind
 returns-in-Ok-clause-ok g c = λ s m n done k h.
     subst (λ (l : List Cell). HasJudged {S = g.row.R.Denot} g.R.Source.read_gives g.R.Source.failure_count m s
     c.next_u64-3.new.r c.next_u64-3.new.self
-    (cells_behind c.args.head.now n (let y : Tally = record {
+    (cells_behind c.args.head.now c.args.most n (let y : Tally = record {
       cells = l;
       least_row = c.in_ok-row.row;
       least_col = c.in_ok-col.col + 1;

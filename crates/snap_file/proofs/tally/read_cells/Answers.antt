@@ -12,7 +12,7 @@ returns-in_err-read_cell-clause-err g c =
     let next : c.args.count - c.loop-i.i ≡ suc (c.args.count - (c.loop-i.i + 1)) = omega (arith, c.loop-i-test.true) in
     c.in_err-read_cell.ensures.err s m (c.args.count - (c.loop-i.i + 1)) done k b
     (subst (λ (n : ℕ). HasJudged {S = g.row.R.Denot} g.R.Source.read_gives g.R.Source.failure_count m s c.loop-i.r
-    c.loop-i.reader (cells_behind c.args.head.now n (tally_of done c.loop-i.tally) k)) next
+    c.loop-i.reader (cells_behind c.args.head.now c.args.most n (tally_of done c.loop-i.tally) k)) next
     (c.loop-i.invariant.read s m done k h)))
 
 pub loop-i-init : goal.loop-i-init
@@ -35,7 +35,7 @@ loop-i-preserved g c =
       failures = c.in_ok-read_cell.ensures.no_failure ∙ old.failures;
       read = λ s m done k h. c.in_ok-read_cell.ensures.ok s m (c.args.count - (c.loop-i.i + 1)) done k
           (subst (λ (n : ℕ). HasJudged {S = g.row.R.Denot} g.R.Source.read_gives g.R.Source.failure_count m s c.loop-i.r
-          c.loop-i.reader (cells_behind c.args.head.now n (tally_of done c.loop-i.tally) k)) next
+          c.loop-i.reader (cells_behind c.args.head.now c.args.most n (tally_of done c.loop-i.tally) k)) next
           (old.read s m done k h));
     }
 
@@ -44,5 +44,5 @@ unfolding cells_behind
 returns-clause-ok g c = λ s m done k h.
     let none : c.args.count - c.loop-i.i ≡ 0 = omega (arith, c.loop-i-test.false) in
     subst (λ (n : ℕ). HasJudged {S = g.row.R.Denot} g.R.Source.read_gives g.R.Source.failure_count m s c.loop-i.r
-    c.loop-i.reader (cells_behind c.args.head.now n (tally_of done c.loop-i.tally) k)) none
+    c.loop-i.reader (cells_behind c.args.head.now c.args.most n (tally_of done c.loop-i.tally) k)) none
     (c.loop-i.invariant.read s m done k h)

@@ -1,33 +1,24 @@
-use Rattle.std.proofs.Common.{◌≡◌, ℕ, List, subst, ap, ◌∙◌}
-use Rattle.byte_io.specs.Writing.{HasTaken, HasStopped}
-use Rattle.byte_io.specs.declared.fault.WriteFault.{WriteFault}
-use Rattle.mm_text.specs.Canonical.{canonical}
-use Rattle.snap_report.specs.Checks.{batches_text, sum_of_batches}
+use Rattle.std.proofs.Common.{◌≡◌, ℕ, ap, sym, ◌∙◌, arith}
+use Rattle.hyper_matrix.specs.Counts.{total}
+use Rattle.hyper_matrix.specs.Matrix.{Matrix}
 use Rattle.batch_store.specs.Batches.{values}
-use Rattle.mm_laws.proofs.CellsBuilt.{text_of_list}
+use Rattle.batch_store.specs.Books.{Listing, list_total, accepted_in}
+use Rattle.snap_file.proofs.Kept.{total_parts}
 use Rattle.snap_report.proofs.export.write_export.Goals as goal
 
--- the text that was written is that of the sum
-pub returns-in-Ok-write_matrix-clause-ok : goal.returns-in-Ok-write_matrix-clause-ok
-returns-in-Ok-write_matrix-clause-ok g c =
-    subst (HasTaken g.W.Sink.write_takes g.W.Sink.failure_count c.args.w.now c.write_matrix.new.w)
-    (ap (λ n. canonical n c.cols.result c.deref.result.now) c.rows.ensures.value
-    ∙ ap (λ n. canonical c.args.setup.now.rows n c.deref.result.now) c.cols.ensures.value
-    ∙ ap (canonical c.args.setup.now.rows c.args.setup.now.cols) c.deref.ensures.value
-    ∙ text_of_list c.args.setup.now.rows c.args.setup.now.cols c.in-Ok.cells.items _ c.in-Ok.ensures.rises
-    c.in-Ok.ensures.sum)
-    c.in-Ok-write_matrix.ensures.ok
-
-pub returns-clause-output : goal.returns-clause-output
-returns-clause-output g c fault is =
-    let same : c.in-Err-write_matrix.fault ≡ fault = cc in
-    subst (λ (f : WriteFault). HasStopped g.W.Sink.write_takes g.W.Sink.failure_count c.args.w.now
-    c.write_matrix.new.w (batches_text c.args.setup.now (values c.args.batches.now)) f.written) same
-    (subst (λ (text : List ℕ). HasStopped g.W.Sink.write_takes g.W.Sink.failure_count c.args.w.now
-    c.write_matrix.new.w text c.in-Err-write_matrix.fault.written)
-    (ap (λ n. canonical n c.cols.result c.deref.result.now) c.rows.ensures.value
-    ∙ ap (λ n. canonical c.args.setup.now.rows n c.deref.result.now) c.cols.ensures.value
-    ∙ ap (canonical c.args.setup.now.rows c.args.setup.now.cols) c.deref.ensures.value
-    ∙ text_of_list c.args.setup.now.rows c.args.setup.now.cols c.in-Ok.cells.items _ c.in-Ok.ensures.rises
-    c.in-Ok.ensures.sum)
-    c.in-Err-write_matrix.ensures.err)
+pub write_sum-requires-clause-fits : goal.write_sum-requires-clause-fits
+write_sum-requires-clause-fits g c =
+    let list = c.args.list.now in
+    let base : total c.deref.result.now.counts ≡ total list.base.counts = ap (λ (m : Matrix). total m.counts)
+    c.deref.ensures ∙ ap (λ (v : Listing). total v.base.counts) c.list.view_is in
+    let batches : list_total (values c.deref-2.result.now) ≡ list_total list.list =
+    ap (λ l. list_total (values l)) c.deref-2.ensures.value ∙ ap (λ (v : Listing). list_total v.list) c.list.view_is in
+    omega (
+      arith,
+      base,
+      batches,
+      total_parts (accepted_in list),
+      c.requires.accepted.within,
+      c.requires.accepted.sound.fits,
+      c.requires.accepted.based.adds_up,
+    )

@@ -74,5 +74,5 @@ returns-clause-apart g c = λ shards book e both.
     let back = c.in-Err.ensures.err in
     let named = c.self.invariant in
     let moved = rw (← same_shards, ← same_book, back.0, back.1, ← named.0) at both in
-    let told = c.in-Err.ensures.exactly.1 (moved.0, c.end-book.ensures.plain, moved.1) in
+    let told = c.in-Err.ensures.exactly.1 moved in
     cc told

@@ -2,10 +2,10 @@ use Rattle.std.proofs.Common.{◌∙◌, sym, ap}
 use Rattle.batch_store.specs.Accepted.{entries_in}
 use Rattle.batch_store.specs.Batches.{values}
 use Rattle.batch_store.specs.Books.{Register}
-use Rattle.locked_engine.proofs.ListedLaws.{rest_listed, all_listed}
+use Rattle.locked_engine.proofs.ListedLaws.{rest_listed, behind_listed}
 use Rattle.locked_engine.proofs.locked_book.LockedBook.list.Goals as goal
 
--- the batches that aren't folded, which are all
+-- the batches that aren't folded
 pub returns-clause-list : goal.returns-clause-list
 returns-clause-list g c =
     let told = c.list.ensures in
@@ -14,6 +14,6 @@ returns-clause-list g c =
 
 pub returns-clause-shown : goal.returns-clause-shown
 returns-clause-shown g c =
-    all_listed (λ list. values list.items) c.self.inside.book c.show.new.seen c.list.result c.list.ensures.list
+    behind_listed (λ list. values list.items) c.self.inside.book g.N.Named.opened c.show.new.seen c.list.result c.list.ensures.list
     c.self.invariant.1
     (c.if-not-show.ensures.shown ∙ sym (ap (λ (w : Register). entries_in w.state) c.self.view_is))

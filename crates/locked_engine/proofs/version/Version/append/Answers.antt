@@ -3,6 +3,7 @@ use Rattle.batch_store.specs.declared.verdict.Entry.{Entry}
 use Rattle.batch_store.specs.declared.verdict.Verdict.TheVariants.{Fresh}
 use Rattle.locked_engine.specs.Versions.{entry_verdict}
 use Rattle.locked_engine.proofs.AddLaws.{adds_moves, added_at, more_is_version, more_status}
+use Rattle.batch_store.specs.Accepted.{entries_in}
 use Rattle.locked_engine.proofs.version.Version.append.Goals as goal
 
 pub compare_exchange-found-requires : goal.compare_exchange-found-requires
@@ -24,7 +25,7 @@ compare_exchange-found-requires g c =
 pub invariant_of-result : goal.invariant_of-result
 invariant_of-result g c =
     let v = g.N.Named.setup in
-    let opened = g.N.Named.opened in
+    let opened = entries_in g.N.Named.opened in
     let old = c.self.inside.seen.log in
     let now = c.compare_exchange-found.new.seen.log in
     let e = c.args.entry in

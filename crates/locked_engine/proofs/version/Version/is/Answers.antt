@@ -2,12 +2,13 @@ use Rattle.std.proofs.Common.{◌≡◌, ap, subst, arith, length, length-append
 use mathlib.Core.List.{IsPrefix}
 use Rattle.batch_store.specs.declared.verdict.Entry.{Entry}
 use Rattle.locked_engine.proofs.PrefixLaws.{prefix_whole}
+use Rattle.batch_store.specs.Accepted.{entries_in}
 use Rattle.locked_engine.proofs.version.Version.is.Goals as goal
 
 -- two beginnings of one list that are as long as each other
 pub returns : goal.returns
 returns g c =
-    let opened = g.N.Named.opened in
+    let opened = entries_in g.N.Named.opened in
     let mine = c.args.self.now in
     let other = c.args.other.now in
     let same : length mine ≡ length other = omega (

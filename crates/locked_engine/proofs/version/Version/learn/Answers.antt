@@ -2,6 +2,7 @@ use Rattle.std.proofs.Common.{◌≤◌, ap, subst, arith, length, List}
 use mathlib.Core.List.{IsPrefix}
 use Rattle.batch_store.specs.declared.verdict.Entry.{Entry}
 use Rattle.locked_engine.proofs.PrefixLaws.{prefix_shorter, prefix_behind}
+use Rattle.batch_store.specs.Accepted.{entries_in}
 use Rattle.locked_engine.proofs.version.Version.learn.Goals as goal
 
 -- both began one history, so the shorter begins the longer
@@ -14,7 +15,7 @@ returns-then-self-other-clause-later g c =
     c.learn.ensures.2 in
     let less : length mine ≤ length theirs = omega (arith, c.self.invariant.1, c.other.invariant.1) in
     rw (c.drop.view_is, c.again.ensures, ← c.self.view_is, ← c.other.view_is)
-    (prefix_behind g.N.Named.opened mine theirs (prefix_shorter mine theirs both this c.learn.ensures.3 less))
+    (prefix_behind (entries_in g.N.Named.opened) mine theirs (prefix_shorter mine theirs both this c.learn.ensures.3 less))
 
 pub returns-clause-no_less : goal.returns-clause-no_less
 returns-clause-no_less g c =
@@ -25,4 +26,4 @@ returns-clause-no_less g c =
     c.learn.ensures.2 in
     let less : length theirs ≤ length mine = omega (arith, c.self.invariant.1, c.other.invariant.1) in
     rw (← c.self.view_is, ← c.other.view_is)
-    (prefix_behind g.N.Named.opened theirs mine (prefix_shorter theirs mine both c.learn.ensures.3 this less))
+    (prefix_behind (entries_in g.N.Named.opened) theirs mine (prefix_shorter theirs mine both c.learn.ensures.3 this less))

@@ -42,7 +42,7 @@ invariant_of-self c =
           (omega (arith, kept.count, inv.count, c.self.inside.shards.ok)))) kept
       | in-Err w ↦
           let e = w.in-Err.ensures in
-          let kept : KeepsEngine v after ys = keeps_same v book after xs ys inv e.setup b e.same_state (e.same_shards
+          let kept : KeepsEngine v after ys = keeps_same v book after xs ys inv e.setup e.same_state (e.same_shards
           ∙ ap (map bare_shard) value) in
           subst (KeepsEngine v after) (sym (written c.self.inside.shards.len ys (drop (length ys) xs)
           (omega (arith, kept.count, inv.count, c.self.inside.shards.ok)))) kept

@@ -1,5 +1,5 @@
-use Rattle.std.proofs.Common.{List, refl}
-use Rattle.batch_store.specs.Batches.{Submission}
+use Rattle.std.proofs.Common.{refl}
+use Rattle.batch_store.specs.Accepted.{Accepted}
 use Rattle.session_pool.specs.Saves.{IsSaved}
 use Rattle.session_pool.proofs.GivenLaws.{gives_cell}
 use Rattle.session_pool.proofs.keeper.SeatKeeperKeeper.cell.Goals as goal
@@ -9,6 +9,6 @@ returns-clause-gives g c =
     let s = c.args.self.now in (
       refl,
       gives_cell g.N.Named.setup
-          (λ (list : List Submission). IsSaved g.R.Disk.saves s.rt.now s.saver.now.path g.N.Named.setup list) s.seat.now
+          (λ (a : Accepted). IsSaved g.R.Disk.saves s.rt.now s.saver.now.path g.N.Named.setup a) s.seat.now
           c.args.row c.args.col c.cell.result c.cell.ensures.some,
     )

@@ -1,0 +1,15 @@
+use Rattle.std.proofs.Common.{refl}
+use Rattle.batch_store.specs.Accepted.{Accepted}
+use Rattle.session_pool.specs.Saves.{IsSaved}
+use Rattle.session_pool.proofs.GivenLaws.{gives_save}
+use Rattle.session_pool.proofs.keeper.SeatKeeperKeeper.save.Goals as goal
+
+pub returns-clause-gives : goal.returns-clause-gives
+returns-clause-gives g c =
+    let s = c.args.self.now in
+    let e = c.save.ensures in (
+      refl,
+      gives_save g.N.Named.setup g.N.Named.opened
+          (λ (a : Accepted). IsSaved g.R.Disk.saves s.rt.now s.saver.now.path g.N.Named.setup a) s.seat.now
+          c.save.new.seat c.save.result e.number e.later e.first e.saved,
+    )

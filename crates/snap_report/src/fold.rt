@@ -1,0 +1,151 @@
+//! `fold`: reads a snapshot, folds all its batches, and saves it again.
+ghost use Rattle.std.specs.Prelude.{◌≡◌, ◌+◌, ◌<◌, ◌^◌, ◌⊎◌, ◌++◌, [], Err, OnOk, IfOk, IfErr};
+ghost use Rattle.byte_io.specs.Writing.{HasTaken, HasStopped};
+ghost use Rattle.byte_io.specs.declared.fault.WriteFault.{WriteFault};
+ghost use Rattle.hyper_matrix.specs.Counts.{total};
+ghost use Rattle.hyper_matrix.specs.Matrix.{matrix};
+ghost use Rattle.batch_store.specs.Setups.{Setting};
+ghost use Rattle.batch_store.specs.Accepted.{Accepted, accepted, count_in, total_in, summed, folded_into};
+ghost use Rattle.batch_store.specs.Batches.{entries_of, values};
+ghost use Rattle.batch_store.specs.Books.{AreAccepted, HaveDims, list_total, accepted_in};
+ghost use Rattle.snap_file.specs.Snapshots.{HasBase};
+ghost use Rattle.snap_report.specs.Folds.{fold_line, LeavesLine};
+
+use crate::check::{LINE_CAPACITY, push_number, sum_of};
+use crate::fault::FoldFault;
+use crate::limits::SNAPSHOT_BYTES;
+use arrayvec::ArrayString;
+use batch_store::{Batch, BookList, Entry, Setup};
+use byte_io::{Sink, write_all};
+use hyper_matrix::Hyper;
+use snap_file::{load, save};
+use std::alloc::{AllocError, Global};
+use std::rt::Files;
+use std::sync::Arc;
+
+// The sum of a base and of batches.
+fn matrix_of(
+    alloc: Global,
+    setup: &Setup,
+    base: &Hyper,
+    batches: &[Arc<Batch>],
+) -> Result<Hyper, AllocError>
+    requires based { (base.now.rows ≡ setup.now.rows) × (base.now.cols ≡ setup.now.cols) }
+    requires dims { HaveDims setup.now.rows setup.now.cols (values batches.now) }
+    requires fits { total base.now.counts + list_total (values batches.now) < 2 ^ 64 }
+    ensures { IfOk result (λ sum. sum ≡ matrix setup.now.rows setup.now.cols
+        (summed (accepted base.now.counts [] (values batches.now)))) }
+{
+    let cells = sum_of(alloc, setup, base, batches)?;
+    match Hyper::build_list(alloc, setup.rows(), setup.cols(), cells) {
+        Ok(sum) => Ok(sum),
+        Err(_) => Err(AllocError),
+    }
+}
+
+// The entries of folded batches, and behind them those of others.
+fn with_entries(folded: Vec<Entry>, batches: &[Arc<Batch>]) -> Result<Vec<Entry>, AllocError>
+    ensures { IfOk result (λ list. list.items ≡ folded.items ++ entries_of (values batches.now)) }
+{
+    let mut list = folded;
+    list.reserve(batches.len())?;
+    'batches: for batch in batches {
+        list.push(batch.entry())?;
+    }
+    Ok(list)
+}
+
+// A list with all its batches folded.
+fn folded(alloc: Global, setup: &Setup, list: BookList) -> Result<BookList, AllocError>
+    requires accepted { AreAccepted setup.now (accepted_in list) }
+    requires based { HasBase setup.now list }
+    ensures state { IfOk result (λ l.
+        accepted_in l ≡ folded_into (summed (accepted_in list)) (accepted_in list)) }
+    ensures based { IfOk result (λ l. HasBase setup.now l) }
+{
+    // It bounds the total.
+    let _limit = setup.limit();
+    let sum = matrix_of(alloc, setup, &list.base, &list.batches)?;
+    let base = Arc::new(alloc, sum)?;
+    let BookList {
+        base: _,
+        folded,
+        batches,
+    } = list;
+    let folded = with_entries(folded, &batches)?;
+    Ok(BookList {
+        base,
+        folded,
+        batches: Vec::new(alloc),
+    })
+}
+
+// The line of so many folded batches with this total.
+fn line_of(batches: u64, total: u64) -> ArrayString<LINE_CAPACITY>
+    ensures { result.bytes ≡ fold_line batches total }
+{
+    let mut line = ArrayString::new();
+    push_number(&mut line, "folded ", batches);
+    push_number(&mut line, " total ", total);
+    line.push_str("\n");
+    line
+}
+
+// Folds the snapshot under `path`, and answers how many batches are folded then, and their total.
+fn fold_file<R: Files>(rt: &R, alloc: Global, path: &str) -> Result<(u64, u64), FoldFault>
+    ensures ok { IfOk result (λ r. (setup : Setting) × (a : Accepted) × AreAccepted setup a
+        × (r.0 ≡ count_in a) × (r.1 ≡ total_in a)) }
+    ensures unwritten { IfErr result (λ fault. LeavesLine fault → ⊥) }
+{
+    let snapshot = load(rt, alloc, path, SNAPSHOT_BYTES)?;
+    let setup = snapshot.setup;
+    let list = folded(alloc, &setup, snapshot.list)?;
+    save(rt, alloc, path, &setup, &list)?;
+    Ok((list.folded.len() as u64, list.base.total()))
+}
+
+// Writes the line of so many folded batches with this total.
+fn write_line<W: Sink>(w: &mut W, batches: u64, total: u64) -> Result<(), FoldFault>
+    requires { W.failure_count w.old + 1 < 2 ^ 64 }
+    ensures ok { OnOk result (HasTaken W.write_takes W.failure_count w.old w.new (fold_line batches total)) }
+    ensures output { (fault : WriteFault) → result ≡ Err (FoldFault.Output fault) →
+        HasStopped W.write_takes W.failure_count w.old w.new (fold_line batches total) fault.written }
+    ensures line { IfErr result LeavesLine }
+{
+    let line = line_of(batches, total);
+    match write_all(w, line.as_str().as_bytes()) {
+        Ok(()) => Ok(()),
+        Err(fault) => Err(FoldFault::Output(fault)),
+    }
+}
+
+/// Reads the snapshot under `path`, folds all its batches into its base, saves it under `path`, and writes the line
+/// `folded F total T`: how many batches are folded now, and their total. What an engine that is started from it answers
+/// stays as it was, repeats included; the cells of each batch are gone.
+///
+/// Takes the memory of `run_check`, and that of the sum beside the batches, some 40 bytes for each of its cells. It is
+/// meant for a file that no server uses: one that saves later replaces what was folded.
+///
+/// # Errors
+///
+/// `File` where there is no such file, where it can't be opened or read, or where it is no snapshot; `Memory`; `Save`
+/// where the file could not be written, and is as it was; and `Output` where the line could not be written whole: the
+/// file is saved then.
+pub fn run_fold<R: Files, W: Sink>(
+    rt: &R,
+    alloc: Global,
+    path: &str,
+    w: &mut W,
+) -> Result<(), FoldFault>
+    requires { W.failure_count w.old + 1 < 2 ^ 64 }
+    // What was written is the line of what some setup's book accepts.
+    ensures ok { OnOk result ((setup : Setting) × (a : Accepted) × AreAccepted setup a
+        × HasTaken W.write_takes W.failure_count w.old w.new (fold_line (count_in a) (total_in a))) }
+    ensures output { (fault : WriteFault) → result ≡ Err (FoldFault.Output fault) →
+        (setup : Setting) × (a : Accepted) × AreAccepted setup a
+        × HasStopped W.write_takes W.failure_count w.old w.new (fold_line (count_in a) (total_in a)) fault.written }
+    ensures unwritten { IfErr result (λ fault. LeavesLine fault ⊎ (w.new ≡ w.old)) }
+{
+    let (batches, total) = fold_file(rt, alloc, path)?;
+    write_line(w, batches, total)
+}

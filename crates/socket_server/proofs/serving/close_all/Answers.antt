@@ -1,0 +1,25 @@
+use Rattle.std.proofs.Common.{subst}
+use Rattle.batch_store.specs.Setups.{Setting}
+use Rattle.batch_store.specs.Books.{AreAccepted}
+use Rattle.session_pool.specs.Saves.{IsSaved}
+use Rattle.socket_server.proofs.serving.close_all.Goals as goal
+
+-- what the engine of one thread has accepted was saved, and the seats agree with it
+pub returns-in_ok-save_plain-in-Ok-clause-ended : goal.returns-in_ok-save_plain-in-Ok-clause-ended
+returns-in_ok-save_plain-in-Ok-clause-ended g c =
+    let a = c.in-Ok.plain.book.state in
+    let told = c.in-Ok.ensures in (
+      a,
+      record {
+        shares = told.seats;
+        version = told.shown.0;
+        shown = told.shown.1;
+        accepted = told.shown.2;
+      },
+      (
+        subst (λ (v : Setting). AreAccepted v a) told.setup told.whole.keeps.accepted,
+        c.status.ensures,
+        subst (λ (v : Setting). IsSaved g.R.Disk.saves c.args.rt.now c.args.saver.now.path v a) told.setup
+            c.in_ok-save_plain-in-Ok.ensures.saved,
+      ),
+    )
