@@ -388,7 +388,7 @@ class Book:
     def file(self, length):
         """The snapshot of the first batches."""
         batches = [(7, number, [(0, 0, self.counts[number])]) for number in range(length)]
-        return program.snapshot(batches, self.total(length), limit=10**6, most=10**4)
+        return program.snapshot(batches, self.total(length), limit=10**6, most=10**4, past=program.NONE)
 
 
 def put_until_killed(at, book, seed):
