@@ -55,6 +55,18 @@ KEPT = "put kept 0 9"
 EXPORT = Step([["export refused"]], ["export of entries 2", *CELLS])
 LIST = Step([["list refused"]], ["list of batches 1"])
 
+
+def listed(folded, batches, base):
+    """A list of all that was accepted, folded or not, and the total of its base."""
+    return Step([["book list refused"]], [f"listed folded {folded} batches {batches} base total {base}"])
+
+
+def folded_engine(batches, behind, *totals):
+    """What an engine holds that has folded batches: its shards' records begin anew, over what they held."""
+    first, *shards = engine(behind, *totals)
+    return [first.replace(f"batches {behind}", f"batches {batches}"), *shards]
+
+
 # A session of the puts of two batches, of total 5 and 3 at one place, and of a query of that place.
 REPLIES = [accepted(0, 5), accepted(1, 8), bytes.fromhex("000000098201") + (8).to_bytes(8, "big")]
 
@@ -94,6 +106,15 @@ SCENARIOS = {
         LIST,
         Step([["load refused"]], ALL),
     ],
+    "folding": [
+        listed(0, 1, 0),
+        Step([["fold refused, folded 0", *ALL]], ["folded 1", *folded_engine(1, 0, 5, 4)]),
+        Step([["put refused", *folded_engine(1, 0, 5, 4)]], ["put kept 1 18", *folded_engine(2, 1, 10, 8)]),
+        # The folded batch is known again, and that takes no memory.
+        Step([], [KEPT]),
+        listed(1, 1, 9),
+        Step([["load refused"]], ["loaded folded 1", *folded_engine(2, 1, 10, 8)]),
+    ],
     "book": [
         Step([["prepare refused", "shard 0 batches 0 total 0"]], ["shard 0 batches 1 total 5"]),
         Step([["reserve refused", "book of batches 0 total 0"]], ["admitted 0 9", "book of batches 1 total 9"]),
@@ -105,6 +126,7 @@ SCENARIOS = {
         Step([], [KEPT]),
         EXPORT,
         LIST,
+        listed(0, 1, 0),
         Step([], reads(1, 5, 4)),
         Step([["close refused, seats 2"]], ALL),
     ],

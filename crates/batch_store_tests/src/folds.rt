@@ -295,12 +295,16 @@ fn ask_all(
     Ok(())
 }
 
+// Folds two batches, and asks for a table of others.
+fn ask_folded<R: RandomSource + Abort + Eprint>(rt: &R, alloc: Global) -> Result<(), Fail> {
+    let setup = small_setup()?;
+    let book = folded_after(rt, alloc, &setup, TWO)?;
+    ask_all(rt, alloc, &setup, &book, ASKED)
+}
+
 #[test]
 fn folded_batches_are_known(rt: HostRuntime) -> Result<(), Fail> {
-    let setup = small_setup()?;
-    let book = folded_after(&rt, rt.alloc(), &setup, TWO)?;
-    ask_all(&rt, rt.alloc(), &setup, &book, ASKED)?;
-    Ok(())
+    ask_folded(&rt, rt.alloc())
 }
 
 // A book with those two folded, made of their entries and their base.
@@ -320,12 +324,16 @@ fn given_book(rt: &impl RandomSource, alloc: Global, setup: &Setup) -> Result<Bo
     Ok(book)
 }
 
+// The same of a book that is made of what is folded.
+fn ask_given<R: RandomSource + Abort + Eprint>(rt: &R, alloc: Global) -> Result<(), Fail> {
+    let setup = small_setup()?;
+    let book = given_book(rt, alloc, &setup)?;
+    ask_all(rt, alloc, &setup, &book, ASKED)
+}
+
 #[test]
 fn a_book_of_folded_batches_answers_as_one_that_folded_them(rt: HostRuntime) -> Result<(), Fail> {
-    let setup = small_setup()?;
-    let book = given_book(&rt, rt.alloc(), &setup)?;
-    ask_all(&rt, rt.alloc(), &setup, &book, ASKED)?;
-    Ok(())
+    ask_given(&rt, rt.alloc())
 }
 
 // What is put behind those two, and then folded with them.
@@ -422,20 +430,34 @@ fn behind_two() -> (Told, Size, Size) {
     (behind, folded, (4, 3, 100, (1, 10, Some(10))))
 }
 
+fn behind_folded<R: RandomSource + Abort + Eprint>(
+    rt: &R,
+    alloc: Global,
+) -> Result<(Told, Size, Size), Fail> {
+    let setup = small_setup()?;
+    let mut book = folded_after(rt, alloc, &setup, TWO)?;
+    one_more(rt, alloc, &setup, &mut book)
+}
+
 #[test]
 fn a_folded_book_takes_more_and_folds_again(rt: HostRuntime) -> Result<(), Fail> {
-    let setup = small_setup()?;
-    let mut book = folded_after(&rt, rt.alloc(), &setup, TWO)?;
-    let found = one_more(&rt, rt.alloc(), &setup, &mut book)?;
+    let found = behind_folded(&rt, rt.alloc())?;
     assert!(rt; same(&rt, &found, &behind_two()));
     Ok(())
 }
 
+fn behind_given<R: RandomSource + Abort + Eprint>(
+    rt: &R,
+    alloc: Global,
+) -> Result<(Told, Size, Size), Fail> {
+    let setup = small_setup()?;
+    let mut book = given_book(rt, alloc, &setup)?;
+    one_more(rt, alloc, &setup, &mut book)
+}
+
 #[test]
 fn a_book_of_folded_batches_takes_more_and_folds_again(rt: HostRuntime) -> Result<(), Fail> {
-    let setup = small_setup()?;
-    let mut book = given_book(&rt, rt.alloc(), &setup)?;
-    let found = one_more(&rt, rt.alloc(), &setup, &mut book)?;
+    let found = behind_given(&rt, rt.alloc())?;
     assert!(rt; same(&rt, &found, &behind_two()));
     Ok(())
 }
@@ -466,12 +488,18 @@ static FULL: &[Put] = &[
     (7, 1, "3 3 1\n1 1 101\n", NumberReused),
 ];
 
+// How large a full book is once it was folded and all those were put.
+fn full_size<R: RandomSource + Abort + Eprint>(rt: &R, alloc: Global) -> Result<Size, Fail> {
+    let setup = Setup::new(3, 3, &[2, 4], 2, 100, 1)?;
+    let mut book = folded_after(rt, alloc, &setup, ONE)?;
+    put_all(rt, alloc, &setup, &mut book, FULL)?;
+    Ok(size(&book))
+}
+
 #[test]
 fn a_full_book_stays_full_when_it_is_folded(rt: HostRuntime) -> Result<(), Fail> {
-    let setup = Setup::new(3, 3, &[2, 4], 2, 100, 1)?;
-    let mut book = folded_after(&rt, rt.alloc(), &setup, ONE)?;
-    put_all(&rt, rt.alloc(), &setup, &mut book, FULL)?;
-    assert!(rt; same(&rt, &size(&book), &(1, 1, 5, (1, 5, Some(5)))));
+    let found = full_size(&rt, rt.alloc())?;
+    assert!(rt; same(&rt, &found, &(1, 1, 5, (1, 5, Some(5)))));
     Ok(())
 }
 
@@ -626,6 +654,12 @@ fn rebased(
     Ok(([before, after, behind], seen(alloc, shard)?))
 }
 
+fn rebased_five<R: RandomSource + Abort + Eprint>(rt: &R, alloc: Global) -> Result<Rebased, Fail> {
+    let setup = small_setup()?;
+    let mut shard = shard_after(rt, alloc, &setup, FIVE)?;
+    rebased(rt, alloc, &setup, &mut shard)
+}
+
 #[test]
 fn a_shard_is_rebased_to_what_it_holds(rt: HostRuntime) -> Result<(), Fail> {
     let one = [None, Some(1), Some(0), Some(0), None];
@@ -639,9 +673,7 @@ fn a_shard_is_rebased_to_what_it_holds(rt: HostRuntime) -> Result<(), Fail> {
         [(before, one), (after, one), (behind, two)],
         (2, 11, Some(7)),
     );
-    let setup = small_setup()?;
-    let mut shard = shard_after(&rt, rt.alloc(), &setup, FIVE)?;
-    let found = rebased(&rt, rt.alloc(), &setup, &mut shard)?;
+    let found = rebased_five(&rt, rt.alloc())?;
     assert!(rt; same(&rt, &found, &want));
     Ok(())
 }

@@ -113,13 +113,21 @@ fn held(shard: &Shard, pairs: [(u64, u64); 3]) -> [bool; 3] {
     ]
 }
 
+// The number of the shard that took those in, its size, and which batches it has.
+fn behind_steps<R: RandomSource + Abort + Eprint>(
+    rt: &R,
+    alloc: Global,
+) -> Result<(u64, (u64, u64), [bool; 3]), Fail> {
+    let setup = small_setup()?;
+    let shard = shard_after(rt, alloc, &setup, STEPS)?;
+    let held = held(&shard, [(7, 1), (9, 1), (7, 2)]);
+    Ok((shard.number(), size(&shard), held))
+}
+
 #[test]
 fn a_shard_takes_each_batch_once(rt: HostRuntime) -> Result<(), Fail> {
-    let setup = small_setup()?;
-    let shard = shard_after(&rt, rt.alloc(), &setup, STEPS)?;
-    let found = (size(&shard), held(&shard, [(7, 1), (9, 1), (7, 2)]));
-    assert!(rt; same(&rt, &found, &((100, 3), [true, true, false])));
-    assert!(rt; same(&rt, &shard.number(), &0));
+    let found = behind_steps(&rt, rt.alloc())?;
+    assert!(rt; same(&rt, &found, &(0, (100, 3), [true, true, false])));
     Ok(())
 }
 
@@ -149,13 +157,21 @@ fn own_and_others(shard: &Shard) -> (Looked, Looked) {
     ((own, row(shard, 0)), (others, row(shard, 1)))
 }
 
+fn looked_up<R: RandomSource + Abort + Eprint>(
+    rt: &R,
+    alloc: Global,
+) -> Result<(Looked, Looked), Fail> {
+    let setup = small_setup()?;
+    let shard = shard_after(rt, alloc, &setup, STEPS)?;
+    Ok(own_and_others(&shard))
+}
+
 #[test]
 fn a_shard_has_its_own_rows(rt: HostRuntime) -> Result<(), Fail> {
-    let setup = small_setup()?;
-    let shard = shard_after(&rt, rt.alloc(), &setup, STEPS)?;
     let own = ([Some(60), Some(0), Some(40)], (2, 60));
     let others = ([None, None, None], (0, 0));
-    assert!(rt; same(&rt, &own_and_others(&shard), &(own, others)));
+    let found = looked_up(&rt, rt.alloc())?;
+    assert!(rt; same(&rt, &found, &(own, others)));
     Ok(())
 }
 
@@ -186,11 +202,19 @@ fn given_up_and_taken(
     Ok((amount, before, is_held, size(shard)))
 }
 
+// The same of a new shard.
+fn prepared<R: RandomSource + Abort + Eprint>(
+    rt: &R,
+    alloc: Global,
+) -> Result<(Option<u64>, (u64, u64), bool, (u64, u64)), Fail> {
+    let setup = small_setup()?;
+    let mut shard = shard_after(rt, alloc, &setup, &[])?;
+    given_up_and_taken(rt, alloc, &setup, &mut shard)
+}
+
 #[test]
 fn what_is_prepared_may_be_dropped(rt: HostRuntime) -> Result<(), Fail> {
-    let setup = small_setup()?;
-    let mut shard = Shard::new(&rt, rt.alloc(), &setup, 0)?;
-    let found = given_up_and_taken(&rt, rt.alloc(), &setup, &mut shard)?;
+    let found = prepared(&rt, rt.alloc())?;
     assert!(rt; same(&rt, &found, &(Some(5), (0, 0), false, (5, 1))));
     Ok(())
 }

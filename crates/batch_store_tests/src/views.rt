@@ -9,6 +9,7 @@ use hyper_matrix::Hyper;
 use std::alloc::{AllocError, Global};
 use std::io::Eprint;
 use std::process::Abort;
+use std::random::RandomSource;
 use std::test::Fail;
 use test_support::same;
 
@@ -49,12 +50,21 @@ fn seen_behind(
     Ok((view.record_len(), summed(alloc, &view)?))
 }
 
+// What a view of the batch of 5 shows then, and the size of the shard.
+fn seen_and_held<R: RandomSource + Abort + Eprint>(
+    rt: &R,
+    alloc: Global,
+) -> Result<((u64, (u64, u64)), (u64, u64)), Fail> {
+    let setup = small_setup()?;
+    let mut shard = shard_after(rt, alloc, &setup, FIVE)?;
+    let seen = seen_behind(rt, alloc, &setup, &mut shard)?;
+    Ok((seen, shards::size(&shard)))
+}
+
 #[test]
 fn a_view_stays_as_it_was(rt: HostRuntime) -> Result<(), Fail> {
-    let setup = small_setup()?;
-    let mut shard = shard_after(&rt, rt.alloc(), &setup, FIVE)?;
-    let seen = seen_behind(&rt, rt.alloc(), &setup, &mut shard)?;
-    assert!(rt; same(&rt, &(seen, shards::size(&shard)), &((1, (1, 5)), (8, 2))));
+    let found = seen_and_held(&rt, rt.alloc())?;
+    assert!(rt; same(&rt, &found, &((1, (1, 5)), (8, 2))));
     Ok(())
 }
 
@@ -81,12 +91,20 @@ pub fn layer_sizes(shard: &Shard) -> [Option<u64>; 5] {
     sizes
 }
 
+// How many entries the layers have behind the ten, and what a view shows then.
+type Ten = ([Option<u64>; 5], (u64, (u64, u64)));
+
+fn behind_ten<R: RandomSource + Abort + Eprint>(rt: &R, alloc: Global) -> Result<Ten, Fail> {
+    let setup = Setup::new(3, 10, &[2, 4], 1, 100, 10)?;
+    let shard = shard_after(rt, alloc, &setup, TEN)?;
+    let seen = seen(alloc, &shard)?;
+    Ok((layer_sizes(&shard), seen))
+}
+
 #[test]
 fn ten_cells_cascade(rt: HostRuntime) -> Result<(), Fail> {
-    let setup = Setup::new(3, 10, &[2, 4], 1, 100, 10)?;
-    let shard = shard_after(&rt, rt.alloc(), &setup, TEN)?;
     let sizes = [None, Some(1), Some(3), Some(6), None];
-    assert!(rt; same(&rt, &layer_sizes(&shard), &sizes));
-    assert!(rt; same(&rt, &seen(rt.alloc(), &shard)?, &(10, (10, 10))));
+    let found = behind_ten(&rt, rt.alloc())?;
+    assert!(rt; same(&rt, &found, &(sizes, (10, (10, 10)))));
     Ok(())
 }

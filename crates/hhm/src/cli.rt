@@ -27,6 +27,8 @@ one line on standard error:
   hhm: output failed after N bytes status 4
   hhm: memory                      status 5";
 
+const CHECK_ABOUT: &str = "Read a snapshot, and say in one line what it holds";
+
 const CHECK_HELP: &str = "\
 Reads the snapshot in the file PATH to its end, and writes one line to standard
 output, where E is the number of cells of the sum of all batches:
@@ -40,6 +42,9 @@ A fault is one line on standard error:
   hhm: output failed after N bytes status 4
   hhm: memory                      status 5";
 
+const EXPORT_ABOUT: &str =
+    "Read a snapshot, and write the canonical text of the sum of its batches";
+
 const EXPORT_HELP: &str = "\
 Reads the snapshot in the file PATH to its end, and writes the sum of all its
 batches to standard output: a Matrix Market text (matrix coordinate integer
@@ -52,6 +57,8 @@ one line on standard error:
   hhm: snapshot: KIND              status 3 (KIND Read: 4)
   hhm: output failed after N bytes status 4
   hhm: memory                      status 5";
+
+const FOLD_ABOUT: &str = "Fold the batches of a snapshot into one matrix, and save it again";
 
 const FOLD_HELP: &str = "\
 Reads the snapshot in the file PATH to its end, folds all its batches into one
@@ -89,55 +96,55 @@ fn sum_command<'a>(alloc: Global) -> Result<Command<'a>, AllocError> {
         .arg(cuts)
 }
 
-fn check_command<'a>(alloc: Global) -> Result<Command<'a>, AllocError> {
+// A word that reads the snapshot in a file.
+fn snapshot_command<'a>(
+    alloc: Global,
+    name: &'a str,
+    about: &'a str,
+    help: &'a str,
+) -> Result<Command<'a>, AllocError> {
     let path = Arg::new(alloc, "path")
         .value_name("PATH")
         .required(true)
         .help("The snapshot's file");
-    Command::new(alloc, "check")
-        .about("Read a snapshot, and say in one line what it holds")
-        .after_help(CHECK_HELP)
+    Command::new(alloc, name)
+        .about(about)
+        .after_help(help)
         .arg(path)
 }
 
-fn export_command<'a>(alloc: Global) -> Result<Command<'a>, AllocError> {
-    let path = Arg::new(alloc, "path")
-        .value_name("PATH")
-        .required(true)
-        .help("The snapshot's file");
-    Command::new(alloc, "export")
-        .about("Read a snapshot, and write the canonical text of the sum of its batches")
-        .after_help(EXPORT_HELP)
-        .arg(path)
+// The program without a word.
+fn program<'a>(alloc: Global) -> Result<Command<'a>, AllocError> {
+    let program = Command::new(alloc, "hhm").bin_name("hhm")?;
+    Ok(
+        program
+            .version("0.1.0")
+            .about(ABOUT)
+            .subcommand_required(true)
+            .arg_required_else_help(true),
+    )
 }
 
-fn fold_command<'a>(alloc: Global) -> Result<Command<'a>, AllocError> {
-    let path = Arg::new(alloc, "path")
-        .value_name("PATH")
-        .required(true)
-        .help("The snapshot's file");
-    Command::new(alloc, "fold")
-        .about("Fold the batches of a snapshot into one matrix, and save it again")
-        .after_help(FOLD_HELP)
-        .arg(path)
+// The program with one word more, if there was memory for it.
+fn with<'a>(
+    program: Command<'a>,
+    word: Result<Command<'a>, AllocError>,
+) -> Result<Command<'a>, AllocError> {
+    program.subcommand(word?)
 }
 
 /// The command line of the program.
 pub fn command<'a>(alloc: Global) -> Result<Command<'a>, AllocError> {
-    let sum = sum_command(alloc)?;
-    let check = check_command(alloc)?;
-    let export = export_command(alloc)?;
-    let fold = fold_command(alloc)?;
-    let serve = serve_command(alloc)?;
-    Command::new(alloc, "hhm")
-        .bin_name("hhm")?
-        .version("0.1.0")
-        .about(ABOUT)
-        .subcommand_required(true)
-        .arg_required_else_help(true)
-        .subcommand(sum)?
-        .subcommand(check)?
-        .subcommand(export)?
-        .subcommand(fold)?
-        .subcommand(serve)
+    let hhm = program(alloc)?;
+    let hhm = with(hhm, sum_command(alloc))?;
+    let hhm = with(
+        hhm,
+        snapshot_command(alloc, "check", CHECK_ABOUT, CHECK_HELP),
+    )?;
+    let hhm = with(
+        hhm,
+        snapshot_command(alloc, "export", EXPORT_ABOUT, EXPORT_HELP),
+    )?;
+    let hhm = with(hhm, snapshot_command(alloc, "fold", FOLD_ABOUT, FOLD_HELP))?;
+    with(hhm, serve_command(alloc))
 }

@@ -31,6 +31,18 @@ pub fn unopened<R: RandomSource>(
     ensures { IfOk result (λ r. r.0.setup ≡ r.1.setup) }
 {
     let plain = PlainEngine::new(rt, alloc, setup)?;
+    with_names(rt, alloc, plain, seats)
+}
+
+/// An engine of one thread, and names for one of several that goes on with what it has, with so many seats.
+pub fn with_names<R: RandomSource>(
+    rt: &R,
+    alloc: Global,
+    plain: PlainEngine,
+    seats: usize,
+) -> Result<(PlainEngine, Names), Fail>
+    ensures { IfOk result (λ r. r.0.setup ≡ r.1.setup) }
+{
     match Names::new(rt, alloc, &plain, seats) {
         Ok(names) => Ok((plain, names)),
         Err(OpenFault::Memory) => Err("no memory for names".into()),

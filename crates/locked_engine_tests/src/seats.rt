@@ -119,7 +119,38 @@ fn put_at_once<N: Named + Send + Sync, H: Ledger + Send + Sync, R: Threads + Wai
     )
 }
 
-// Closes an engine without its second seat, and then with it.
+// Closes an engine without one of its seats: it is handed back with the others.
+fn not_without_all<N: Named, H: Ledger, R: Wait>(
+    rt: &R,
+    alloc: Global,
+    engine: Engine<N, H>,
+    seats: Vec<Seat<N, H>>,
+) -> Result<(Engine<N, H>, Vec<Seat<N, H>>), Fail> {
+    match engine.close(rt, alloc, seats) {
+        Err(CloseFault::SeatsMissing { engine, seats }) => Ok((engine, seats)),
+        Err(fault) => Err(not_closed(rt, fault)),
+        Ok(_) => Err("a seat is missing".into()),
+    }
+}
+
+// Gives a seat back and closes an engine. The total that was accepted.
+fn closed_with<N: Named, H: Ledger, R: Wait>(
+    rt: &R,
+    alloc: Global,
+    engine: Engine<N, H>,
+    seats: Vec<Seat<N, H>>,
+    seat: Seat<N, H>,
+) -> Result<u64, Fail> {
+    let mut seats = seats;
+    if seats.push(seat).is_err() {
+        engine.end(rt);
+        return Err("no memory for a seat".into());
+    }
+    let closed = closed(rt, alloc, engine, seats)?;
+    Ok(closed.status().total)
+}
+
+// Closes an engine without its last seat, and then with it.
 fn close_at_last<N: Named, H: Ledger, R: Wait + Abort>(
     rt: &R,
     alloc: Global,
@@ -127,21 +158,14 @@ fn close_at_last<N: Named, H: Ledger, R: Wait + Abort>(
     seats: Vec<Seat<N, H>>,
 ) -> Result<(), Fail> {
     let mut seats = seats;
-    let second = seats.pop();
-    let (engine, mut seats) = match engine.close(rt, alloc, seats) {
-        Err(CloseFault::SeatsMissing { engine, seats }) => (engine, seats),
-        Err(fault) => return Err(not_closed(rt, fault)),
-        Ok(_) => return Err("a seat is missing".into()),
+    let Some(last) = seats.pop() else {
+        engine.end(rt);
+        return Err("no seat".into());
     };
-    assert_eq!(rt; seats.len(), 1);
-    if let Some(second) = second {
-        if seats.push(second).is_err() {
-            engine.end(rt);
-            return Err("no memory for a seat".into());
-        }
-    }
-    let closed = closed(rt, alloc, engine, seats)?;
-    assert_eq!(rt; closed.status().total, 60);
+    let (engine, seats) = not_without_all(rt, alloc, engine, seats)?;
+    let others = seats.len();
+    let total = closed_with(rt, alloc, engine, seats, last)?;
+    assert!(rt; (others, total) == (1, 60));
     Ok(())
 }
 

@@ -77,7 +77,37 @@ static BEHIND_TWO: &[Step] = &[
 ];
 
 // What stands after a table was put, folded, another put, and all folded again.
-type Story = (Size, Size, Size, [Answer; 2]);
+type Story = ((Size, Size), (Size, [Answer; 2]));
+
+// Puts the second table, and tells what stood before and what stands then.
+fn put_behind<R: Abort + Eprint>(
+    rt: &R,
+    alloc: Global,
+    setup: &Setup,
+    engine: &mut PlainEngine,
+) -> Result<(Size, Size), Fail>
+    requires { engine.old.setup ≡ setup.now }
+    ensures { engine.new.setup ≡ setup.now }
+{
+    let once = size(alloc, engine)?;
+    put_all(rt, alloc, setup, engine, BEHIND_TWO)?;
+    let behind = size(alloc, engine)?;
+    Ok((once, behind))
+}
+
+// What stands once all is folded, and what the last batch and another in its name are answered then.
+fn asked_again(
+    alloc: Global,
+    setup: &Setup,
+    engine: &mut PlainEngine,
+) -> Result<(Size, [Answer; 2]), Fail>
+    requires { engine.old.setup ≡ setup.now }
+{
+    let twice = size(alloc, engine)?;
+    let repeat = put(alloc, setup, engine, (9, 1), &[(0, 0, 2), (1, 2, 0)])?;
+    let other = put(alloc, setup, engine, (9, 1), &[(0, 0, 2)])?;
+    Ok((twice, [repeat, other]))
+}
 
 fn told<R: RandomSource + Abort + Eprint>(
     rt: &R,
@@ -85,24 +115,18 @@ fn told<R: RandomSource + Abort + Eprint>(
     setup: Setup,
 ) -> Result<Story, Fail> {
     let mut engine = folded_after(rt, alloc, setup, TWO)?;
-    let once = size(alloc, &engine)?;
-    put_all(rt, alloc, &setup, &mut engine, BEHIND_TWO)?;
-    let behind = size(alloc, &engine)?;
+    let before = put_behind(rt, alloc, &setup, &mut engine)?;
     let mut engine = folded(alloc, engine)?;
-    let twice = size(alloc, &engine)?;
-    let repeat = put(alloc, &setup, &mut engine, (9, 1), &[(0, 0, 2), (1, 2, 0)])?;
-    let other = put(alloc, &setup, &mut engine, (9, 1), &[(0, 0, 2)])?;
-    Ok((once, behind, twice, [repeat, other]))
+    let after = asked_again(alloc, &setup, &mut engine)?;
+    Ok((before, after))
 }
 
 #[test]
 fn folded_batches_are_known_again(rt: HostRuntime) -> Result<(), Fail> {
     let found = told(&rt, rt.alloc(), small_setup()?)?;
     let expected: Story = (
-        (2, 2, 8, 0),
-        (3, 2, 10, 1),
-        (3, 3, 10, 0),
-        [Ok((2, 10)), Err(NumberReused)],
+        ((2, 2, 8, 0), (3, 2, 10, 1)),
+        ((3, 3, 10, 0), [Ok((2, 10)), Err(NumberReused)]),
     );
     assert!(rt; same(&rt, &found, &expected));
     Ok(())

@@ -29,7 +29,7 @@ fn run_example(
     requires shard { shard.old.setup ≡ setup.now }
     requires book { book.old.setup ≡ setup.now }
 {
-    let b = batch(alloc, setup)?;
+    let b = batch(alloc, setup, 1)?;
     take_in(rt, alloc, shard, &b)?;
     admit(rt, book, b)?;
     show_list(rt, alloc, book)?;

@@ -27,12 +27,12 @@ static CELLS: [Cell; 2] = [
     },
 ];
 
-/// The batch that client 7 numbers 1: 5 at row 0 and column 0, and 4 at row 1 and column 0.
-pub fn batch(alloc: Global, setup: &Setup) -> Result<Arc<Batch>, Stop>
+/// The batch that client 7 gives this number: 5 at row 0 and column 0, and 4 at row 1 and column 0.
+pub fn batch(alloc: Global, setup: &Setup, number: u64) -> Result<Arc<Batch>, Stop>
     ensures rows { IfOk result (λ b. (arc_value b).matrix.rows ≡ setup.now.rows) }
     ensures cols { IfOk result (λ b. (arc_value b).matrix.cols ≡ setup.now.cols) }
 {
-    match Batch::from_cells(alloc, setup, 7, 1, &CELLS) {
+    match Batch::from_cells(alloc, setup, 7, number, &CELLS) {
         Ok(batch) => Ok(batch),
         Err(CellsFault::Memory) => Err(Stop::SetUp),
         Err(_) => Err(Stop::Fault),

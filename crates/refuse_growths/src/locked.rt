@@ -24,7 +24,7 @@ type Opened<N, H> = (Engine<N, H>, Vec<Seat<N, H>>);
 pub fn run<R: Wait + Print + RandomSource>(rt: &R, alloc: Global) -> Result<(), Stop> {
     let setup = small_setup()?;
     let plain = PlainEngine::new(rt, alloc, setup)?;
-    let b = batch(alloc, &setup)?;
+    let b = batch(alloc, &setup, 1)?;
     // Names take no memory.
     match Names::new(rt, alloc, &plain, 2) {
         Ok(names) => run_named::<Brand, Brand, R>(rt, alloc, plain, names, &b),

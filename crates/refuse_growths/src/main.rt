@@ -8,6 +8,7 @@
 
 mod book;
 mod examples;
+mod folding;
 mod frames;
 mod locked;
 mod plain;
@@ -28,7 +29,7 @@ use std::{env, io};
 
 /// The scenarios, in the order in which they are run.
 static NAMES: &[&str] = &[
-    "plain", "reads", "book", "locked", "frames", "session", "snapshot",
+    "plain", "reads", "folding", "book", "locked", "frames", "session", "snapshot",
 ];
 
 fn main(rt: HostRuntime) -> ExitCode {
@@ -90,6 +91,7 @@ fn run<R: Wait + Print + RandomSource + Files>(
     match name {
         "plain" => plain::run(rt, alloc),
         "reads" => reads::run(rt, alloc),
+        "folding" => folding::run(rt, alloc),
         "book" => book::run(rt, alloc),
         "locked" => locked::run(rt, alloc),
         "frames" => frames::run(rt, alloc),

@@ -5,7 +5,7 @@ ghost use Rattle.std.specs.Arc.{arc_value};
 use crate::examples::{batch, small_setup};
 use crate::show::{show_engine, show_put};
 use crate::stop::Stop;
-use batch_store::{Batch, Kept};
+use batch_store::{Batch, Kept, Setup};
 use plain_engine::{PlainEngine, PutFault};
 use std::alloc::{AllocError, Global};
 use std::random::RandomSource;
@@ -15,16 +15,26 @@ use std::sync::Arc;
 pub fn run(rt: &(impl RandomSource + Print), alloc: Global) -> Result<(), Stop> {
     let setup = small_setup()?;
     let mut engine = PlainEngine::new(rt, alloc, setup)?;
-    let b = batch(alloc, &setup)?;
-    put_at_last(rt, alloc, &mut engine, &b)?;
-    let repeat = put(alloc, &mut engine, &b)?;
-    show_put(rt, &repeat)?;
-    show_reads(rt, &engine)?;
-    Ok(())
+    run_example(rt, alloc, &setup, &mut engine)
 }
 
-// Puts a batch of the engine's dimensions.
-fn put(
+fn run_example(
+    rt: &impl Print,
+    alloc: Global,
+    setup: &Setup,
+    engine: &mut PlainEngine,
+) -> Result<(), Stop>
+    requires { engine.old.setup ≡ setup.now }
+{
+    let b = batch(alloc, setup, 1)?;
+    put_at_last(rt, alloc, engine, &b)?;
+    let repeat = put(alloc, engine, &b)?;
+    show_put(rt, &repeat)?;
+    show_reads(rt, engine)
+}
+
+/// Puts a batch of the engine's dimensions, which is shared.
+pub fn put(
     alloc: Global,
     engine: &mut PlainEngine,
     b: &Arc<Batch>,
@@ -37,8 +47,8 @@ fn put(
     Ok(engine.put(alloc, shared))
 }
 
-// Puts a batch, and again where memory was refused, and tells what stands after each.
-fn put_at_last(
+/// Puts a batch, and again where memory was refused, and tells what stands after each.
+pub fn put_at_last(
     rt: &impl Print,
     alloc: Global,
     engine: &mut PlainEngine,

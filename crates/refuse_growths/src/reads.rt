@@ -16,16 +16,23 @@ use std::sync::Arc;
 /// Reads all that an engine of one batch tells for memory, and loads what it lists.
 pub fn run(rt: &(impl RandomSource + Print), alloc: Global) -> Result<(), Stop> {
     let engine = engine_of_one(rt, alloc)?;
-    show_view(rt, alloc, &engine)?;
-    show_export(rt, alloc, &engine)?;
-    show_load(rt, alloc, &engine)?;
-    Ok(())
+    show_reads(rt, alloc, &engine)
+}
+
+fn show_reads(
+    rt: &(impl RandomSource + Print),
+    alloc: Global,
+    engine: &PlainEngine,
+) -> Result<(), Stop> {
+    show_view(rt, alloc, engine)?;
+    show_export(rt, alloc, engine)?;
+    show_load(rt, alloc, engine)
 }
 
 // An engine of one batch.
 fn engine_of_one(rt: &impl RandomSource, alloc: Global) -> Result<PlainEngine, Stop> {
     let setup = small_setup()?;
-    let b = batch(alloc, &setup)?;
+    let b = batch(alloc, &setup, 1)?;
     let mut engine = PlainEngine::new(rt, alloc, setup)?;
     match engine.put(alloc, b) {
         Ok(_) => Ok(engine),

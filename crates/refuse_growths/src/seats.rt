@@ -2,9 +2,9 @@
 ghost use Rattle.std.specs.Prelude.{◌≡◌};
 ghost use Rattle.std.specs.Arc.{arc_value};
 
-use crate::show::{show_cells, show_put};
+use crate::show::{show_book_list, show_cells, show_put};
 use crate::stop::Stop;
-use batch_store::{Batch, Kept};
+use batch_store::{Batch, BookList, Kept};
 use hyper_matrix::Hyper;
 use locked_engine::{Engine, Named, PutFault, Seat};
 use std::alloc::{AllocError, Global};
@@ -31,6 +31,7 @@ pub fn show_seats<N: Named, H: Ledger, R: Wait + Print>(
     show_put(rt, &repeat)?;
     show_export(rt, alloc, engine)?;
     show_list(rt, alloc, engine, second)?;
+    show_all(rt, alloc, engine, second)?;
     show_status(rt, engine, second)?;
     Ok(())
 }
@@ -147,5 +148,30 @@ fn show_list<N: Named, H: Ledger, R: Wait + Print>(
 ) -> Result<(), Stop> {
     let list = list_at_last(rt, alloc, engine, seat)?;
     println!(rt; "list of batches {}", list.len())?;
+    Ok(())
+}
+
+fn all_at_last<N: Named, H: Ledger, R: Wait + Print>(
+    rt: &R,
+    alloc: Global,
+    engine: &Engine<N, H>,
+    seat: &mut Seat<N, H>,
+) -> Result<BookList, Stop> {
+    if let Ok(list) = engine.book_list(rt, alloc, seat) {
+        return Ok(list);
+    }
+    println!(rt; "book list refused")?;
+    Ok(engine.book_list(rt, alloc, seat)?)
+}
+
+// All that was accepted, folded or not.
+fn show_all<N: Named, H: Ledger, R: Wait + Print>(
+    rt: &R,
+    alloc: Global,
+    engine: &Engine<N, H>,
+    seat: &mut Seat<N, H>,
+) -> Result<(), Stop> {
+    let list = all_at_last(rt, alloc, engine, seat)?;
+    show_book_list(rt, &list)?;
     Ok(())
 }

@@ -24,10 +24,14 @@ const TURNS: u64 = 100;
 pub fn run(rt: &(impl RandomSource + Print), alloc: Global) -> Result<(), Stop> {
     let setup = small_setup()?;
     let mut engine = PlainEngine::new(rt, alloc, setup)?;
+    run_example(rt, alloc, &mut engine)
+}
+
+fn run_example(rt: &impl Print, alloc: Global, engine: &mut PlainEngine) -> Result<(), Stop> {
     let first = pieces(alloc, SENT, 60)?;
     let second = pieces(alloc, SENT, 60)?;
     let third = pieces(alloc, SENT, 60)?;
-    serve_all(rt, alloc, &mut engine, first, second, third)
+    serve_all(rt, alloc, engine, first, second, third)
 }
 
 // Serves the first two of these, and where memory was refused in one of them the third, which is answered as if nothing

@@ -1,6 +1,6 @@
 //! Tells what engines hold and answer.
 
-use batch_store::{Kept, Shard};
+use batch_store::{BookList, Kept, Shard};
 use hyper_matrix::Hyper;
 use plain_engine::{PlainEngine, PutFault};
 use std::io;
@@ -30,6 +30,12 @@ pub fn show_put(rt: &impl Print, answer: &Result<Kept, PutFault>) -> io::Result<
         Err(PutFault::Memory) => println!(rt; "put refused"),
         Err(_) => println!(rt; "put fault"),
     }
+}
+
+/// How many batches a list has folded, how many behind them, and the total of its base.
+pub fn show_book_list(rt: &impl Print, list: &BookList) -> io::Result<()> {
+    let (folded, batches, total) = (list.folded.len(), list.batches.len(), list.base.total());
+    println!(rt; "listed folded {folded} batches {batches} base total {total}")
 }
 
 /// Each cell of a matrix.

@@ -1,0 +1,136 @@
+//! An engine whose first batches are folded: what its seats are answered, what they list, and what it closes to.
+ghost use Rattle.std.specs.Prelude.{◌≡◌, IfOk};
+ghost use Rattle.batch_store.specs.Accepted.{entries_in};
+ghost use Rattle.locked_engine.specs.Opened.{NamesEngine};
+
+use crate::batches::{Cells, batch, small_setup};
+use crate::expected::{expect_closed, expect_count, expect_counts, expect_export, expect_status};
+use crate::opened::{Step, closed, opened, put_all, two_seats, with_names};
+use batch_store::Setup;
+use locked_engine::PutFault::{NumberReused, OverTotal};
+use locked_engine::{Engine, Named, Names, Seat};
+use plain_engine::PlainEngine;
+use std::alloc::{AllocError, Global};
+use std::marker::Brand;
+use std::process::Abort;
+use std::random::RandomSource;
+use std::sync::Wait;
+use std::sync::ledger::Ledger;
+use std::test::Fail;
+
+const NINE: Cells = &[(0, 0, 5), (1, 0, 4)];
+
+const THREE: Cells = &[(0, 0, 3)];
+
+const TWO: Cells = &[(1, 0, 1), (2, 2, 1)];
+
+// Puts a batch that is accepted.
+fn accept(
+    alloc: Global,
+    plain: &mut PlainEngine,
+    setup: &Setup,
+    client: u64,
+    cells: Cells,
+) -> Result<(), Fail>
+    requires setup { plain.old.setup ≡ setup.now }
+    ensures setup { plain.new.setup ≡ plain.old.setup }
+{
+    let b = batch(alloc, setup, client, 1, cells)?;
+    match plain.put(alloc, b) {
+        Ok(_) => Ok(()),
+        Err(_) => Err("put".into()),
+    }
+}
+
+// An engine of one thread that has folded two batches: the one of client 7 of total 9, and that of client 8 of total 3.
+fn folded_two<R: RandomSource>(rt: &R, alloc: Global) -> Result<PlainEngine, Fail> {
+    let setup = small_setup()?;
+    let mut plain = PlainEngine::new(rt, alloc, setup)?;
+    accept(alloc, &mut plain, &setup, 7, NINE)?;
+    accept(alloc, &mut plain, &setup, 8, THREE)?;
+    match plain.fold(alloc) {
+        Ok(folded) => Ok(folded),
+        Err(_) => Err("fold".into()),
+    }
+}
+
+#[test]
+fn folded_batches_are_known_to_each_seat(rt: HostRuntime) -> Result<(), Fail> {
+    let plain = folded_two(&rt, rt.alloc())?;
+    let (plain, names) = with_names(&rt, rt.alloc(), plain, 2)?;
+    go_on::<Brand, Brand, _>(&rt, rt.alloc(), plain, names)
+}
+
+// Folded batches keep the replies that they had, a new one takes the next place, and the total goes on.
+static FIRST: &[Step] = &[
+    (7, 1, NINE, Ok((0, 9))),
+    (8, 1, TWO, Err(NumberReused)),
+    (9, 1, TWO, Ok((2, 14))),
+];
+
+static SECOND: &[Step] = &[
+    (8, 1, THREE, Ok((1, 12))),
+    (9, 1, TWO, Ok((2, 14))),
+    (9, 2, &[(0, 1, 87)], Err(OverTotal { accepted: 14 })),
+];
+
+static SUM: Cells = &[(0, 0, 8), (1, 0, 5), (2, 2, 1)];
+
+static COUNTS: &[(u64, u64, Option<u64>)] = &[
+    (0, 0, Some(8)),
+    (1, 0, Some(5)),
+    (2, 2, Some(1)),
+    (0, 1, None),
+];
+
+fn go_on<N: Named, H: Ledger, R: Wait + Abort>(
+    rt: &R,
+    alloc: Global,
+    plain: PlainEngine,
+    names: Names,
+) -> Result<(), Fail>
+    requires named { NamesEngine names N.setup N.seats N.history N.name N.parts H.name H.parts }
+    requires made_from { plain.setup ≡ names.setup }
+    requires opened { plain.book.state ≡ N.opened }
+{
+    let (engine, mut seats) = opened::<N, H>(alloc, plain, names)?;
+    if let Err(fail) = put_from_both(rt, alloc, &engine, &mut seats) {
+        engine.end(rt);
+        return Err(fail);
+    }
+    let closed = closed(rt, alloc, engine, seats)?;
+    assert!(rt; closed.folded() == 2);
+    // Each record begins behind what was folded.
+    expect_closed(rt, &closed, (3, 14), &[(0, 9, 1), (1, 5, 1)]);
+    Ok(())
+}
+
+fn put_from_both<N: Named, H: Ledger, R: Wait + Abort>(
+    rt: &R,
+    alloc: Global,
+    engine: &Engine<N, H>,
+    seats: &mut [Seat<N, H>],
+) -> Result<(), Fail> {
+    let (first, second) = two_seats(seats)?;
+    expect_status(rt, engine, first, 2, 12);
+    put_all(rt, alloc, engine, first, FIRST)?;
+    put_all(rt, alloc, engine, second, SECOND)?;
+    expect_status(rt, engine, first, 3, 14);
+    expect_counts(rt, engine, COUNTS);
+    expect_export(rt, alloc, engine, SUM)?;
+    expect_count(rt, alloc, engine, second, 1)?;
+    expect_all(rt, alloc, engine, second)?;
+    Ok(())
+}
+
+// The list of all that was accepted: two folded batches over a base of their total, and one behind them.
+fn expect_all<N: Named, H: Ledger, R: Wait + Abort>(
+    rt: &R,
+    alloc: Global,
+    engine: &Engine<N, H>,
+    seat: &mut Seat<N, H>,
+) -> Result<(), AllocError> {
+    let list = engine.book_list(rt, alloc, seat)?;
+    assert!(rt; list.folded.len() == 2 && list.batches.len() == 1 && list.base.total() == 12);
+    Ok(())
+}
