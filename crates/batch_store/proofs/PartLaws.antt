@@ -8,8 +8,8 @@ use Rattle.hyper_rows.specs.Parts.{part_entries}
 use Rattle.hyper_matrix.specs.Counts.{Place, Counts, count_sum, total, built, ewise_add, part, parts, in_part}
 use Rattle.hyper_matrix.proofs.CountLaws.{parts_whole, total-ewise_add, total-empty}
 use Rattle.hyper_matrix.proofs.PartLaws.{entries-part, built-entries, total-part, total-entries, part_sum-le}
-use Rattle.layer_cascade.proofs.CascadeLaws.{empty-ewise_add}
-use Rattle.layer_cascade.specs.Cascade.{content}
+use Rattle.layer_compaction.proofs.LayerLemmas.{empty-ewise_add}
+use Rattle.layer_compaction.specs.Shared.{content}
 use Rattle.batch_store.specs.Batches.{Submission, entries_of}
 use Rattle.batch_store.specs.Accepted.{Accepted, IsBase, total_in}
 use Rattle.batch_store.specs.Books.{list_total}

@@ -12,9 +12,11 @@ use Rattle.std.proofs.lemmas.List.{map-append}
 use Rattle.hyper_matrix.specs.Counts.{Counts, place_cmp, ewise_add, total, part}
 use Rattle.hyper_matrix.specs.Matrix.{Matrix, matrix}
 use Rattle.hyper_matrix.proofs.CountLaws.{ewise_add_assoc, ewise_add-empty, total-ewise_add, total-empty}
-use Rattle.layer_cascade.specs.Cascade.{content, cascade, KeepsCuts}
+use Rattle.layer_compaction.specs.Shared.{content}
+use Rattle.layer_cascade.specs.Cascade.{cascade, KeepsCuts}
 use Rattle.layer_cascade.specs.Layering.{Layering, layering, no_layers}
-use Rattle.layer_cascade.proofs.CascadeLaws.{content-cascade, cuts-cascade, length-cascade, empty-ewise_add}
+use Rattle.layer_cascade.proofs.CascadeLaws.{content-cascade, cuts-cascade, length-cascade}
+use Rattle.layer_compaction.proofs.LayerLemmas.{empty-ewise_add}
 use Rattle.batch_store.specs.declared.pair.Pair.{Pair}
 use Rattle.batch_store.specs.declared.verdict.Entry.{Entry}
 use Rattle.batch_store.specs.Setups.{Setting, IsSetting}

@@ -5,8 +5,8 @@ use Rattle.std.specs.FinMap.{empty, get, get-empty}
 use Rattle.hyper_matrix.specs.Counts.{Place, place_cmp, Counts, plus, total, ewise_add, part, in_part}
 use Rattle.hyper_matrix.proofs.CountLaws.{same_counts, get-part, get-ewise_add, ewise_add-empty, ewise_add_comm}
 use Rattle.hyper_matrix.proofs.CountLaws.{ewise_add_assoc, total-empty, total-ewise_add}
-use Rattle.layer_cascade.specs.Cascade.{content}
-use Rattle.layer_cascade.proofs.CascadeLaws.{empty-ewise_add}
+use Rattle.layer_compaction.specs.Shared.{content}
+use Rattle.layer_compaction.proofs.LayerLemmas.{empty-ewise_add}
 use Rattle.batch_store.specs.declared.verdict.Entry.{Entry}
 use Rattle.batch_store.specs.Batches.{Submission, entries_of}
 use Rattle.batch_store.specs.Accepted.{Accepted, IsBase, list_sum, summed, total_in, entries_in, with_batch, folded_into}

@@ -13,7 +13,7 @@ use Rattle.std.specs.Prelude.{ℕ, ◌+◌, Bool, List, [], ◌∷◌, map, filt
 use Rattle.std.specs.List.{list_any}
 use Rattle.std.specs.FinMap.{entries}
 use Rattle.hyper_matrix.specs.Counts.{Place, Counts, ewise_add, total, part, parts, in_part}
-use Rattle.layer_cascade.specs.Cascade.{content}
+use Rattle.layer_compaction.specs.Shared.{content}
 use Rattle.batch_store.specs.Batches.{Submission}
 use Rattle.batch_store.specs.Accepted.{Accepted}
 

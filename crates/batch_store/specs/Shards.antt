@@ -20,7 +20,8 @@ use Rattle.std.specs.declared.sync.Arc.{Arc}
 use Rattle.std.specs.declared.alloc.Global.{Global}
 use Rattle.hyper_matrix.specs.Counts.{Counts, coded_counts, total, part}
 use Rattle.hyper_matrix.specs.Matrix.{Matrix, matrix}
-use Rattle.layer_cascade.specs.Cascade.{content, cascade, KeepsCuts}
+use Rattle.layer_compaction.specs.Shared.{content}
+use Rattle.layer_cascade.specs.Cascade.{cascade, KeepsCuts}
 use Rattle.layer_cascade.specs.Layering.{Layering, layering, coded_layering}
 use Rattle.batch_store.specs.declared.pair.Pair.{Pair}
 use Rattle.batch_store.specs.Setups.{Setting, coded_setting, IsSetting}

@@ -3,7 +3,7 @@ ghost use Rattle.std.specs.Prelude.{◌≡◌, IfOk};
 ghost use Rattle.std.specs.FinMap.{get as get_count, len};
 ghost use Rattle.hyper_matrix.specs.Counts.{total as total_of};
 ghost use Rattle.hyper_matrix.specs.RowOf.{row_of};
-ghost use Rattle.layer_cascade.specs.Cascade.{content};
+ghost use Rattle.layer_compaction.specs.Shared.{content};
 
 use crate::view::ShardView;
 use hyper_matrix::RowSum;

@@ -5,15 +5,14 @@ use Rattle.std.specs.FinMap.{empty, len, len-empty}
 use Rattle.std.proofs.lemmas.Bool.{leb-true, leb-false, le-leb}
 use Rattle.hyper_matrix.specs.Counts.{Counts, place_cmp, ewise_add}
 use Rattle.hyper_matrix.proofs.CountLaws.{ewise_add_comm, ewise_add_assoc, ewise_add-empty}
-use Rattle.layer_cascade.specs.Cascade.{content, cascade, cascades, KeepsCuts, with_first, CanHold, EndsAt}
+use Rattle.layer_compaction.specs.Shared.{content}
+use Rattle.layer_compaction.proofs.LayerLemmas.{empty-ewise_add}
+use Rattle.layer_cascade.specs.Cascade.{cascade, cascades, KeepsCuts, with_first, CanHold, EndsAt}
 use Rattle.layer_cascade.specs.Cascade.{layers_after, CascadesTo}
 
 -- m added to the first of two is m added to their sum
 moved : (m a b : Counts) → ewise_add (ewise_add m a) b ≡ ewise_add (ewise_add a b) m
 moved m a b = ewise_add_assoc m a b ∙ ewise_add_comm m (ewise_add a b)
-
-pub empty-ewise_add : (m : Counts) → ewise_add empty m ≡ m
-empty-ewise_add m = ewise_add_comm empty m ∙ ewise_add-empty m
 
 pub content-cascade : (layers : List Counts) (cuts : List ℕ) (m : Counts) → length layers ≡ length cuts + 1 →
     content (cascade layers cuts m) ≡ ewise_add (content layers) m

@@ -1,20 +1,23 @@
 -- Layers that are made keep what layers are to keep: the empty ones, and those after an addition.
-use Rattle.std.proofs.Common.{◌≡◌, ℕ, zero, suc, ◌+◌, ◌<◌, ◌^◌, List, [], ◌∷◌, ◌++◌, length, drop, replicate, sym, ◌∙◌}
-use Rattle.std.proofs.Common.{ap, subst, refl, arith}
+use Rattle.std.proofs.Common.{◌≡◌, ℕ, zero, suc, ◌+◌, ◌<◌, ◌^◌, List, [], ◌∷◌, ◌++◌, length, drop, replicate, get_or, sym, ◌∙◌}
+use Rattle.std.proofs.Common.{ap, subst, refl, arith, Some, slice_get}
+use Rattle.std.proofs.Math.ListN.{set}
+use Rattle.std.proofs.lemmas.Option.{none-some, same_Some}
 use Rattle.std.specs.FinMap.{empty, len-empty}
 use Rattle.std.proofs.lemmas.List.{map-append, length-replicate, drop-map}
 use Rattle.cells.specs.Bounds.{IsDimension}
 use Rattle.hyper_matrix.specs.Counts.{Counts, place_cmp, ewise_add, total}
 use Rattle.hyper_matrix.specs.Matrix.{Matrix, matrix}
 use Rattle.hyper_matrix.proofs.CountLaws.{ewise_add-empty, total-ewise_add, total-empty}
-use Rattle.layer_cascade.specs.Cascade.{content, cascade, with_first, KeepsCuts, EndsAt, layers_after}
+use Rattle.layer_compaction.specs.Shared.{content, values, all_counts, HaveDims}
+use Rattle.layer_cascade.specs.Cascade.{cascade, with_first, KeepsCuts, EndsAt, layers_after}
 use Rattle.layer_cascade.specs.Cuts.{AreCuts}
 use Rattle.layer_cascade.specs.Layering.{Layering, layering, no_layers, IsLayering}
 use Rattle.std.specs.declared.sync.Arc.{Arc}
 use Rattle.std.specs.Arc.{arc_value}
-use Rattle.layer_cascade.specs.Shared.{values, all_counts, HaveDims, KeepsLayers}
+use Rattle.layer_cascade.specs.Stored.{KeepsLayers}
 use Rattle.layer_cascade.proofs.CascadeLaws.{content-cascade, cuts-cascade, length-cascade, layers_after-cascade}
-use Rattle.layer_cascade.proofs.LayerLemmas.{dims-append, dims-replicate, dims-drop}
+use Rattle.layer_compaction.proofs.LayerLemmas.{dims-append, dims-replicate, dims-drop, layer_dims}
 
 pub counts-replicate : (n : ℕ) (m : Matrix) → all_counts (replicate n m) ≡ replicate n m.counts
 counts-replicate zero m = refl
@@ -136,3 +139,21 @@ module _ {Z : Type 0} (r c : ℕ) (cuts cuts' cuts-2 : List ℕ) (layers layers-
       same
       (rows ∙ sym (ap (λ (w : Layering). w.rows) view)) (cols ∙ sym (ap (λ (w : Layering). w.cols) view))
       (omega (arith, ap (λ (w : Layering). total (content w.layers)) view)) empty_one
+
+-- a layer that is read behind a reference has the dimensions that contracts see
+pub seen_dims : {Z : Type 0} (layers items : List (Arc Matrix Z)) (i : ℕ) (item : Arc Matrix Z) (x : Matrix) (r c : ℕ)
+    (cuts : List ℕ) (v : Layering) → items ≡ layers → i < length items → item ≡ get_or items i item →
+    x ≡ arc_value item → HaveDims r c (values layers) → layering r c cuts (all_counts (values layers)) ≡ v →
+    (x.rows ≡ v.rows) × (x.cols ≡ v.cols)
+seen_dims layers items i item x r c cuts v read h at is dims view =
+    let there = layer_dims items i item x h at is r c (subst (λ s. HaveDims r c (values s)) (sym read) dims) in
+    (there.0 ∙ ap (λ (w : Layering). w.rows) view, there.1 ∙ ap (λ (w : Layering). w.cols) view)
+
+-- a layer in the place of one that holds the same
+pub exchanged : {Z : Type 0} (layers : List (Arc Matrix Z)) (i : ℕ) (new : Arc Matrix Z) (m : Matrix) →
+    slice_get (values layers) i ≡ Some m → arc_value new ≡ m → values (set layers i new) ≡ values layers
+exchanged [] i new m at same = absurd (none-some m at)
+exchanged (x ∷ layers) zero new m at same =
+    ap (λ (v : Matrix). v ∷ values layers) (same ∙ sym (same_Some (arc_value x) m at))
+exchanged (x ∷ layers) (suc i) new m at same =
+    ap (λ (l : List Matrix). arc_value x ∷ l) (exchanged layers i new m at same)

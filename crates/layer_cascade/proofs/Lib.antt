@@ -1,13 +1,5 @@
 pub mod CascadeLaws
 pub mod CutLemmas
-pub mod LayerLemmas
 pub mod KeptLemmas
-pub mod RowLemmas
-pub mod RowEntryLemmas
-pub mod RunLemmas
-pub mod KeptRunLemmas
-pub mod CountedLemmas
 pub mod StepLemmas
-pub mod PairLemmas
-pub mod WalkLemmas
-pub mod WithoutLemmas
+pub mod RowEntryLemmas

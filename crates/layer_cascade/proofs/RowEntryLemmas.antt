@@ -17,13 +17,12 @@ use Rattle.hyper_matrix.proofs.RowOfLaws.{get-row_of, get-row_of_here, row_of-ew
 use Rattle.hyper_matrix.specs.RowOf.{row_of, IsFree, IsFirst, HasNoneFrom}
 use Rattle.hyper_matrix.specs.declared.row_sum.Entry.{Entry}
 use Rattle.hyper_matrix.specs.Matrix.{Matrix}
-use Rattle.layer_cascade.specs.Cascade.{content}
+use Rattle.layer_compaction.specs.Shared.{content, values, all_counts}
 use Rattle.layer_cascade.specs.Columns.{HasColumns}
-use Rattle.layer_cascade.specs.Shared.{values, all_counts}
-use Rattle.layer_cascade.proofs.CascadeLaws.{empty-ewise_add}
-use Rattle.layer_cascade.proofs.LayerLemmas.{sum_more}
-use Rattle.layer_cascade.proofs.RowLemmas.{get-kept, none_kept, row_of-empty}
-use Rattle.layer_cascade.proofs.RunLemmas.{len-add_at}
+use Rattle.layer_compaction.proofs.LayerLemmas.{empty-ewise_add}
+use Rattle.layer_compaction.proofs.LayerLemmas.{sum_more}
+use Rattle.layer_compaction.proofs.RowLemmas.{get-kept, none_kept, row_of-empty}
+use Rattle.layer_compaction.proofs.RunLemmas.{len-add_at}
 
 -- the entries of row r before column `from`
 pub row_before : Counts → ℕ → ℕ → Counts

@@ -1,14 +1,16 @@
 -- A matrix that is carried from layer to layer, and what it is with the next layer.
-use Rattle.std.proofs.Common.{◌≡◌, ℕ, suc, ◌+◌, ◌<◌, ◌^◌, List, length, take, get_or, sym, ◌∙◌, ap, arith}
+use Rattle.std.proofs.Common.{◌≡◌, ℕ, suc, ◌+◌, ◌<◌, ◌^◌, List, length, take, get_or, sym, ◌∙◌, ap}
+use Rattle.std.proofs.Common.{inl, inr, arith}
 use Rattle.std.specs.declared.sync.Arc.{Arc}
 use Rattle.std.specs.Arc.{arc_value}
+use Rattle.std.specs.FinMap.{len}
 use Rattle.hyper_matrix.specs.Counts.{Counts, ewise_add, total}
 use Rattle.hyper_matrix.specs.Matrix.{Matrix, matrix}
 use Rattle.hyper_matrix.proofs.CountLaws.{ewise_add_assoc, ewise_add-empty, total-ewise_add}
-use Rattle.layer_cascade.specs.Cascade.{content, with_first}
-use Rattle.layer_cascade.specs.Shared.{values, all_counts, HaveDims}
-use Rattle.layer_cascade.specs.Steps.{joined}
-use Rattle.layer_cascade.proofs.LayerLemmas.{sum_more, more_fits, layer_dims}
+use Rattle.layer_compaction.specs.Shared.{content, values, all_counts, HaveDims}
+use Rattle.layer_cascade.specs.Cascade.{with_first, CanHold}
+use Rattle.layer_compaction.specs.Steps.{joined}
+use Rattle.layer_compaction.proofs.LayerLemmas.{sum_more, more_fits, layer_dims}
 
 -- nothing was met yet
 pub carried_first : (layers : List Counts) (sum m : Matrix) → sum ≡ m →
@@ -58,3 +60,9 @@ module _ {Z : Type 0} (layers : List (Arc Matrix Z)) (j : ℕ) (item : Arc Matri
     total-ewise_add m.counts (content (take j (all_counts (values layers)))),
     more_fits layers j item x h at is,
   )
+
+-- a place that isn't the last, and where there is too much
+pub not_here : (layers : List Counts) (cuts : List ℕ) (m : Counts) (j : ℕ) → length layers ≡ length cuts + 1 →
+    j < length cuts → get_or cuts j 0 < len (with_first layers m j) → CanHold layers cuts m j → ⊥
+not_here layers cuts m j k h more (inl last) = absurd (omega arith)
+not_here layers cuts m j k h more (inr fits) = absurd (omega arith)

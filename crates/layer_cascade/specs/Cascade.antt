@@ -1,7 +1,6 @@
 -- The cascade: layers of matrices with cuts, the first cut for the first layer and none for the last.
 -- A matrix is added to the first layer; a layer that then has more entries than its cut is added to the next, and is
 -- empty from then on.
---     content       the sum of all layers
 --     CascadesTo    what the layers are once a matrix was added, told by the place where the cascade ends
 --     cascade       the same, as a function
 --     cascades      a list of matrices added one after another
@@ -11,10 +10,7 @@ use Rattle.std.specs.Prelude.{◌≡◌, ℕ, suc, ◌<◌, ◌≤◌, ◌⊎◌
 use Rattle.std.specs.Prelude.{slice_index, if◌then◌else◌, nat_le}
 use Rattle.std.specs.FinMap.{empty, len}
 use Rattle.hyper_matrix.specs.Counts.{Counts, ewise_add}
-
-abbrev pub content : List Counts → Counts
-content [] = empty
-content (layer ∷ layers) = ewise_add layer (content layers)
+use Rattle.layer_compaction.specs.Shared.{content}
 
 -- m and the layers at places 0 to j together
 abbrev pub with_first : List Counts → Counts → ℕ → Counts

@@ -5,7 +5,8 @@ use Rattle.std.specs.Coded.{Coded, code_by, coded×, coded_ℕ, coded_list}
 use Rattle.std.specs.FinMap.{empty, len}
 use Rattle.cells.specs.Bounds.{IsDimension}
 use Rattle.hyper_matrix.specs.Counts.{Counts, coded_counts, total}
-use Rattle.layer_cascade.specs.Cascade.{content, KeepsCuts}
+use Rattle.layer_compaction.specs.Shared.{content}
+use Rattle.layer_cascade.specs.Cascade.{KeepsCuts}
 use Rattle.layer_cascade.specs.Cuts.{AreCuts}
 
 pub record Layering : Type 0 where

@@ -1,7 +1,5 @@
 pub mod Cascade
 pub mod Cuts
 pub mod Layering
-pub mod Shared
+pub mod Stored
 pub mod Columns
-pub mod Runs
-pub mod Steps

@@ -7,12 +7,11 @@ ghost use Rattle.std.specs.Prelude.{◌≡◌, ℕ, suc, ◌+◌, ◌<◌, ◌^�
 ghost use Rattle.std.specs.Arc.{arc_value};
 ghost use Rattle.hyper_matrix.specs.Counts.{total};
 ghost use Rattle.hyper_matrix.specs.Matrix.{matrix};
-ghost use Rattle.layer_cascade.specs.Cascade.{content, with_first, EndsAt};
-ghost use Rattle.layer_cascade.specs.Shared.{values, all_counts, HaveDims};
+ghost use Rattle.layer_compaction.specs.Shared.{content, values, all_counts, HaveDims};
+ghost use Rattle.layer_cascade.specs.Cascade.{with_first, EndsAt};
 
-use crate::layer::{Layer, Step};
-use crate::limits::FILTERED_AT_ONCE;
 use hyper_matrix::Hyper;
+use layer_compaction::{FILTERED_AT_ONCE, Layer, Step};
 use std::alloc::{AllocError, Global};
 use std::sync::Arc;
 

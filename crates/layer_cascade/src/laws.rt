@@ -4,7 +4,8 @@
 //! the last.
 ghost use Rattle.std.specs.Prelude.{◌≡◌, ℕ, ◌+◌, List, length, ◌↔◌};
 ghost use Rattle.hyper_matrix.specs.Counts.{Counts, ewise_add};
-ghost use Rattle.layer_cascade.specs.Cascade.{cascade, cascades, content, KeepsCuts, CascadesTo};
+ghost use Rattle.layer_cascade.specs.Cascade.{cascade, cascades, KeepsCuts, CascadesTo};
+ghost use Rattle.layer_compaction.specs.Shared.{content};
 
 /// What the layers hold together grows by exactly what is added.
 pub fn cascades_add()

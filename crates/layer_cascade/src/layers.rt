@@ -10,29 +10,27 @@
 //! commit it is to exchange pointers. A look-up asks each matrix of each layer and puts the answers together; only
 //! `Layers::sum` builds the sum. Most of these matrices have no entry at the place, so beside most stands a filter of
 //! their places, which mostly says so from one word.
-ghost use Rattle.std.specs.Prelude.{◌≡◌, ℕ, ◌+◌, ◌<◌, ◌≤◌, ◌^◌, ◌⊎◌, ◌↔◌, IfOk, OnOk, IfSome, length};
+ghost use Rattle.std.specs.Prelude.{◌≡◌, ℕ, ◌+◌, ◌<◌, ◌≤◌, ◌^◌, ◌⊎◌, ◌↔◌, IfOk, OnOk, length};
 ghost use Rattle.std.specs.FinMap.{get, len};
 ghost use Rattle.cells.specs.Bounds.{IsDimension, AreWithin};
 ghost use Rattle.hyper_matrix.specs.Cells.{built_of};
 ghost use Rattle.hyper_matrix.specs.Counts.{ewise_add, total};
 ghost use Rattle.hyper_matrix.specs.Matrix.{matrix};
 ghost use Rattle.merged_cells.specs.Within.{LieWithin};
-ghost use Rattle.layer_cascade.specs.Cascade.{cascade, content};
+ghost use Rattle.layer_cascade.specs.Cascade.{cascade};
+ghost use Rattle.layer_compaction.specs.Shared.{content};
 ghost use Rattle.layer_cascade.specs.Cuts.{AreCuts};
 ghost use Rattle.hyper_matrix.specs.RowOf.{row_of};
 ghost use Rattle.layer_cascade.specs.Layering.{IsLayering, no_layers, entries_of_layer};
 
 use crate::addition::{cascade_end, layers_after, push_copies, push_layers};
+use crate::compaction::{compacted, exchange};
 use crate::cuts::are_cuts;
 use crate::fault::CascadeFault;
-use crate::filters::first_unfiltered;
-use crate::layer::Layer;
-use crate::lists::{add_runs, entries_bound, push_cells_of};
-use crate::lookup::plus;
-use crate::pairs::due_pair;
 use crate::row_entries::columns_with_layer;
 use cells::Cell;
 use hyper_matrix::{Hyper, RowSum};
+use layer_compaction::{Layer, plus};
 use merged_cells::Sources;
 use std::alloc::{AllocError, Global};
 use std::marker::Model;
@@ -55,7 +53,8 @@ pub struct Layers {
 
 impl Model for Layers {
     ghost use Rattle.layer_cascade.specs.Layering.{Layering, layering, coded_layering};
-    ghost use Rattle.layer_cascade.specs.Shared.{values, all_counts, KeepsLayers};
+    ghost use Rattle.layer_compaction.specs.Shared.{values, all_counts};
+    ghost use Rattle.layer_cascade.specs.Stored.{KeepsLayers};
     ghost use Rattle.std.specs.Arc.{arc_value, arc_slice_items};
 
     ghost Value = { Layering };
@@ -105,42 +104,6 @@ fn empty_layers(alloc: Global, rows: u64, cols: u64, cuts: &[u64]) -> Result<Lay
         empty,
         layers,
     })
-}
-
-// The place, counted from 0, of the first layer behind layer 1 in which two neighbouring matrices are to be added up.
-fn due_layer(layers: &[Arc<Layer>]) -> Option<usize>
-    ensures { IfSome result (λ place. place < length layers.now) }
-{
-    for place in 1..layers.len() {
-        if due_pair(layers[place].runs()).is_some() {
-            return Some(place);
-        }
-    }
-    None
-}
-
-// The place, counted from 0, of the first layer behind layer 1 in which a matrix is to get its filter.
-fn bare_layer(layers: &[Arc<Layer>]) -> Option<usize>
-    ensures { IfSome result (λ place. place < length layers.now) }
-{
-    for place in 1..layers.len() {
-        if first_unfiltered(layers[place].runs()).is_some() {
-            return Some(place);
-        }
-    }
-    None
-}
-
-// The place, counted from 0, of the first layer behind layer 1 and before the last in which places are to be counted.
-fn uncounted_layer(layers: &[Arc<Layer>], cuts: &[u64]) -> Option<usize>
-    ensures { IfSome result (λ place. place < length layers.now) }
-{
-    for place in 1..cuts.len().min(layers.len()) {
-        if layers[place].is_to_count(cuts[place]) {
-            return Some(place);
-        }
-    }
-    None
 }
 
 impl Layers {
@@ -257,47 +220,10 @@ impl Layers {
         ensures { self.new ≡ self.old }
     {
         if let Some(layer) = self.layers[0].gathered(alloc)? {
-            self.layers[0] = Arc::new(alloc, layer)?;
+            exchange(&mut self.layers, 0, alloc, layer)?;
         }
-        self.gather_deeper(alloc)
-    }
-
-    // Counts the places of one matrix more of the first deeper layer in which they are to be counted.
-    fn count_deeper(&mut self, alloc: Global) -> Result<(), AllocError>
-        ensures { self.new ≡ self.old }
-    {
-        let Some(place) = uncounted_layer(&self.layers, &self.cuts) else {
-            return Ok(());
-        };
-        let layer = self.layers[place].counted_on(alloc, 1)?;
-        self.layers[place] = Arc::new(alloc, layer)?;
-        Ok(())
-    }
-
-    // Makes the filter of one matrix of the first deeper layer that has one to be filtered. Where none has, places are
-    // counted.
-    fn filter_deeper(&mut self, alloc: Global) -> Result<(), AllocError>
-        ensures { self.new ≡ self.old }
-    {
-        let Some(place) = bare_layer(&self.layers) else {
-            return self.count_deeper(alloc);
-        };
-        if let Some(layer) = self.layers[place].filtered(alloc)? {
-            self.layers[place] = Arc::new(alloc, layer)?;
-        }
-        Ok(())
-    }
-
-    // Adds up two neighbouring matrices of the first deeper layer that has two to add up. Where none has, a filter is
-    // made.
-    fn gather_deeper(&mut self, alloc: Global) -> Result<(), AllocError>
-        ensures { self.new ≡ self.old }
-    {
-        let Some(place) = due_layer(&self.layers) else {
-            return self.filter_deeper(alloc);
-        };
-        if let Some(layer) = self.layers[place].paired(alloc)? {
-            self.layers[place] = Arc::new(alloc, layer)?;
+        if let Some((place, layer)) = compacted(&self.layers, &self.cuts, alloc)? {
+            exchange(&mut self.layers, place, alloc, layer)?;
         }
         Ok(())
     }
@@ -323,7 +249,7 @@ impl Layers {
     pub(crate) fn listed_cells(&self) -> u64 {
         let mut cells = 0u64;
         for layer in &self.layers {
-            cells = cells.saturating_add(entries_bound(layer.runs()));
+            cells = cells.saturating_add(layer.listed_cells());
         }
         cells
     }
@@ -343,7 +269,7 @@ impl Layers {
     {
         out.reserve_exact(self.listed_cells() as usize)?;
         'layers: for layer in &self.layers {
-            push_cells_of(out, layer.runs())?;
+            layer.push_cells(out)?;
         }
         Ok(())
     }
@@ -355,7 +281,7 @@ impl Layers {
             OnOk result (LieWithin self.now.rows self.now.cols sources.new) }
     {
         'layers: for layer in &self.layers {
-            add_runs(sources, layer.runs())?;
+            layer.add_to(sources)?;
         }
         Ok(())
     }

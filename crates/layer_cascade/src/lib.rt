@@ -14,26 +14,19 @@
 #![tactic(auto)]
 
 mod addition;
+mod compaction;
 mod cuts;
 mod fault;
-mod filters;
 mod laws;
-mod layer;
 mod layers;
 mod limits;
-mod lists;
-mod lookup;
-mod pairs;
 mod row_entries;
-mod runs;
 mod view;
 mod view_reads;
-mod walk;
 
 pub use cuts::are_cuts;
 pub use fault::CascadeFault;
 pub use laws::{cascades_add, cascades_add_all, cascades_end_once, cascades_keep_cuts};
 pub use layers::{Layers, Plan};
 pub use limits::{MAX_CUT, MAX_CUTS};
-pub use lists::merged;
 pub use view::LayerView;

@@ -6,13 +6,12 @@
 ghost use Rattle.std.specs.Prelude.{◌≡◌, ℕ, is_some};
 ghost use Rattle.std.specs.FinMap.{get};
 ghost use Rattle.hyper_matrix.specs.Counts.{ewise_add};
-ghost use Rattle.layer_cascade.specs.Cascade.{content};
+ghost use Rattle.layer_compaction.specs.Shared.{content, values, all_counts};
 ghost use Rattle.layer_cascade.specs.Columns.{HasColumns};
-ghost use Rattle.layer_cascade.specs.Shared.{values, all_counts};
 
-use crate::layer::Layer;
 use filtered_matrix::FilteredMatrix;
 use hyper_matrix::Hyper;
+use layer_compaction::Layer;
 use std::sync::Arc;
 
 // Whether one of these runs has an entry at a place. Behind the first that has one, none is asked.

@@ -6,7 +6,7 @@ ghost use Rattle.std.specs.Prelude.{◌≡◌, IfOk, OnOk};
 ghost use Rattle.hyper_matrix.specs.Counts.{ewise_add};
 ghost use Rattle.hyper_matrix.specs.Matrix.{matrix};
 ghost use Rattle.merged_cells.specs.Within.{LieWithin};
-ghost use Rattle.layer_cascade.specs.Cascade.{content};
+ghost use Rattle.layer_compaction.specs.Shared.{content};
 ghost use Rattle.layer_cascade.specs.Layering.{IsLayering};
 
 use crate::layers::Layers;

@@ -1,7 +1,7 @@
 //! Additions as the tests make them, where the dimensions are equal and the totals fit.
 ghost use Rattle.std.specs.Prelude.{◌≡◌, ◌+◌, ◌<◌, ◌^◌, true};
 ghost use Rattle.hyper_matrix.specs.Counts.{total};
-ghost use Rattle.layer_cascade.specs.Cascade.{content};
+ghost use Rattle.layer_compaction.specs.Shared.{content};
 
 use hyper_matrix::Hyper;
 use layer_cascade::{Layers, Plan};

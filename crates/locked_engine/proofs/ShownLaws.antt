@@ -10,7 +10,8 @@ use Rattle.hyper_rows.specs.declared.search.RowSum.{RowSum}
 use Rattle.hyper_matrix.specs.Counts.{total}
 use Rattle.hyper_matrix.specs.RowOf.{row_of}
 use Rattle.layer_cascade.specs.Layering.{Layering}
-use Rattle.layer_cascade.specs.Cascade.{content, cascade}
+use Rattle.layer_compaction.specs.Shared.{content}
+use Rattle.layer_cascade.specs.Cascade.{cascade}
 use Rattle.batch_store.specs.Setups.{Setting}
 use Rattle.batch_store.specs.Accepted.{Accepted}
 use Rattle.batch_store.specs.Batches.{Submission}

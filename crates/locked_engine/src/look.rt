@@ -2,7 +2,7 @@
 ghost use Rattle.std.specs.Prelude.{◌≡◌, ◌⊎◌, ◌<◌, ◌≤◌, ◌%◌, None, Some, IfOk, IfSome, drop, length};
 ghost use Rattle.std.specs.Fn.{FnOnceReturnsAt};
 ghost use Rattle.std.specs.FinMap.{get};
-ghost use Rattle.layer_cascade.specs.Cascade.{content};
+ghost use Rattle.layer_compaction.specs.Shared.{content};
 ghost use mathlib.Core.List.{IsPrefix};
 ghost use Rattle.batch_store.specs.Accepted.{unfolded, entries_in};
 ghost use Rattle.batch_store.specs.Batches.{entries_of, values};

@@ -2,7 +2,7 @@
 ghost use Rattle.std.specs.Prelude.{◌≡◌, IfOk, IfSome, Some};
 ghost use Rattle.std.specs.Arc.{arc_value};
 ghost use Rattle.std.specs.FinMap.{get};
-ghost use Rattle.layer_cascade.specs.Cascade.{content};
+ghost use Rattle.layer_compaction.specs.Shared.{content};
 ghost use Rattle.batch_store.specs.Shards.{Holding, IsReady};
 ghost use Rattle.locked_engine.specs.Moments.{IsShardOf, row_sum_in};
 ghost use Rattle.locked_engine.specs.Shown.{IsSightOf, IsOf, IsNext, shown};

@@ -8,7 +8,7 @@ use Rattle.hyper_matrix.specs.Counts.{Counts, ewise_add, total}
 use Rattle.hyper_matrix.specs.Matrix.{Matrix, matrix}
 use Rattle.hyper_matrix.proofs.BuiltOfLaws.{total-built_of, built_of-none}
 use Rattle.hyper_matrix.proofs.CountLaws.{ewise_add_assoc, ewise_add-empty, total-ewise_add}
-use Rattle.layer_cascade.specs.Cascade.{content}
+use Rattle.layer_compaction.specs.Shared.{content}
 use Rattle.layer_cascade.specs.Layering.{Layering}
 use Rattle.pending_layers.specs.Pending.{with_pending, KeepsPending}
 

@@ -5,7 +5,7 @@ use Rattle.cells.specs.declared.cell.Cell.{Cell}
 use Rattle.hyper_matrix.specs.Cells.{built_of, cell_total}
 use Rattle.hyper_matrix.specs.Counts.{ewise_add, total}
 use Rattle.hyper_matrix.specs.Matrix.{Matrix, matrix}
-use Rattle.layer_cascade.specs.Cascade.{content}
+use Rattle.layer_compaction.specs.Shared.{content}
 use Rattle.layer_cascade.specs.Layering.{Layering}
 
 -- the matrix that layers and the cells of a list add up to

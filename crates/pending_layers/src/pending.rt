@@ -15,13 +15,14 @@ ghost use Rattle.cells.specs.Order.{Rise};
 ghost use Rattle.hyper_matrix.specs.Cells.{built_of, cell_total};
 ghost use Rattle.hyper_matrix.specs.Counts.{ewise_add, total};
 ghost use Rattle.hyper_matrix.specs.Matrix.{matrix};
-ghost use Rattle.layer_cascade.specs.Cascade.{content};
+ghost use Rattle.layer_compaction.specs.Shared.{content};
 ghost use Rattle.layer_cascade.specs.Cuts.{AreCuts};
 
 use crate::limits::{FIRST_DUE, LEAST_PENDING, MAX_PENDING, SPARED_SHARE};
 use cells::{Cell, into_summed, rises, total_of};
 use hyper_matrix::Hyper;
-use layer_cascade::{CascadeFault, Layers, merged};
+use layer_cascade::{CascadeFault, Layers};
+use layer_compaction::merged;
 use std::alloc::{AllocError, Global};
 use std::marker::Model;
 

@@ -8,7 +8,7 @@ use Rattle.hyper_matrix.specs.Counts.{Place, Counts, part, in_part}
 use Rattle.hyper_matrix.specs.RowOf.{row_of}
 use Rattle.hyper_matrix.proofs.CountLaws.{same_counts, get-part}
 use Rattle.hyper_matrix.proofs.RowOfLaws.{get-row_of}
-use Rattle.layer_cascade.specs.Cascade.{content}
+use Rattle.layer_compaction.specs.Shared.{content}
 use Rattle.batch_store.specs.Setups.{Setting}
 use Rattle.batch_store.specs.Accepted.{Accepted, summed}
 use Rattle.batch_store.specs.Shards.{Holding}

@@ -4,7 +4,8 @@ use Rattle.std.proofs.Common.{take, refl, sym, ◌∙◌, ap, subst, arith, appe
 use Rattle.std.specs.List.{AllByRecursion}
 use Rattle.std.proofs.lemmas.List.Elements.{filter-append}
 use Rattle.hyper_matrix.specs.Counts.{total}
-use Rattle.layer_cascade.specs.Cascade.{content, cascade}
+use Rattle.layer_compaction.specs.Shared.{content}
+use Rattle.layer_cascade.specs.Cascade.{cascade}
 use Rattle.batch_store.specs.declared.verdict.Entry.{Entry}
 use Rattle.batch_store.specs.declared.verdict.Verdict.TheVariants.{Fresh}
 use Rattle.batch_store.specs.Setups.{Setting}

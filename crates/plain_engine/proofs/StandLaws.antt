@@ -5,8 +5,8 @@ use Rattle.std.specs.FinMap.{empty, len, len-empty, empty_of_len}
 use Rattle.hyper_matrix.specs.Counts.{Counts, place_cmp, total, ewise_add, part, parts}
 use Rattle.hyper_matrix.specs.Matrix.{Matrix, matrix}
 use Rattle.hyper_matrix.proofs.CountLaws.{ewise_add-empty, ewise_add_assoc, parts_whole, total-empty, total-ewise_add}
-use Rattle.layer_cascade.specs.Cascade.{content}
-use Rattle.layer_cascade.proofs.CascadeLaws.{empty-ewise_add}
+use Rattle.layer_compaction.specs.Shared.{content}
+use Rattle.layer_compaction.proofs.LayerLemmas.{empty-ewise_add}
 use Rattle.batch_store.specs.Setups.{Setting}
 use Rattle.batch_store.specs.Accepted.{Accepted, unfolded, summed}
 use Rattle.batch_store.specs.Parts.{record_content, concerned}

@@ -5,8 +5,8 @@ use Rattle.std.proofs.lemmas.List.{take_more}
 use Rattle.hyper_matrix.specs.Counts.{ewise_add}
 use Rattle.hyper_matrix.specs.Matrix.{Matrix, matrix}
 use Rattle.hyper_matrix.proofs.CountLaws.{ewise_add_assoc, ewise_add-empty}
-use Rattle.layer_cascade.specs.Cascade.{content}
-use Rattle.layer_cascade.proofs.CascadeLaws.{empty-ewise_add}
+use Rattle.layer_compaction.specs.Shared.{content}
+use Rattle.layer_compaction.proofs.LayerLemmas.{empty-ewise_add}
 use Rattle.batch_store.specs.Setups.{Setting}
 use Rattle.batch_store.specs.Shards.{Holding, Sight, layering_of}
 use Rattle.plain_engine.specs.Standing.{HaveSetup, shards_content}

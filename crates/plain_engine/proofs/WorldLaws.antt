@@ -7,7 +7,7 @@ use Rattle.std.proofs.lemmas.Bool.{cases_lt}
 use Rattle.std.proofs.lemmas.Bool.Decides.{nat_tests}
 use Rattle.hyper_matrix.specs.Counts.{Counts, ewise_add, part, parts}
 use Rattle.hyper_matrix.proofs.CountLaws.{ewise_add-empty, ewise_add_comm, ewise_add_assoc, parts_whole}
-use Rattle.layer_cascade.proofs.CascadeLaws.{empty-ewise_add}
+use Rattle.layer_compaction.proofs.LayerLemmas.{empty-ewise_add}
 use Rattle.batch_store.specs.declared.verdict.Entry.{Entry}
 use Rattle.batch_store.specs.declared.verdict.Verdict.TheVariants.{Fresh}
 use Rattle.batch_store.specs.Setups.{Setting}

@@ -5,7 +5,7 @@
 --                         their sum for its base, and an empty record
 use Rattle.std.specs.Prelude.{◌≡◌, List, [], ◌∷◌}
 use Rattle.hyper_matrix.specs.Counts.{Counts, part}
-use Rattle.layer_cascade.specs.Cascade.{content}
+use Rattle.layer_compaction.specs.Shared.{content}
 use Rattle.batch_store.specs.Setups.{Setting}
 use Rattle.batch_store.specs.Shards.{Holding, holding}
 

@@ -3,7 +3,7 @@ use Rattle.std.proofs.Common.{◌≡◌, ◌%◌, ℕ, List, Option, Some, None,
 use Rattle.std.specs.Prelude.{IfSome, IfOk, Result, Ok, Err, String, string_bytes}
 use mathlib.Core.List.{IsPrefix}
 use Rattle.std.specs.FinMap.{get}
-use Rattle.layer_cascade.specs.Cascade.{content}
+use Rattle.layer_compaction.specs.Shared.{content}
 use Rattle.batch_store.specs.Setups.{Setting}
 use Rattle.batch_store.specs.Accepted.{Accepted, entries_in, count_in}
 use Rattle.batch_store.specs.Books.{AreAccepted}

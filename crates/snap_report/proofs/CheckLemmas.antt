@@ -7,7 +7,7 @@ use Rattle.std.specs.declared.sync.Arc.{Arc}
 use Rattle.std.specs.Arc.{arc_value}
 use Rattle.hyper_matrix.specs.Counts.{Counts, ewise_add, total}
 use Rattle.hyper_matrix.proofs.CountLaws.{total-ewise_add, ewise_add-empty, ewise_add_assoc}
-use Rattle.layer_cascade.proofs.CascadeLaws.{empty-ewise_add}
+use Rattle.layer_compaction.proofs.LayerLemmas.{empty-ewise_add}
 use Rattle.batch_store.specs.Accepted.{list_sum}
 use Rattle.batch_store.specs.Batches.{Submission, values}
 use Rattle.batch_store.specs.Books.{list_total, HaveDims}

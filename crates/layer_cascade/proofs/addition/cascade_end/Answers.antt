@@ -1,9 +1,10 @@
 use Rattle.std.proofs.Common.{length, inl, inr, ap, subst, ◌∙◌, arith, below_more}
 use Rattle.std.specs.FinMap.{len}
 use Rattle.hyper_matrix.specs.Matrix.{Matrix}
-use Rattle.layer_cascade.specs.Shared.{values, all_counts}
-use Rattle.layer_cascade.specs.Steps.{Takes}
-use Rattle.layer_cascade.proofs.LayerLemmas.{length-counts, not_here}
+use Rattle.layer_compaction.specs.Shared.{values, all_counts}
+use Rattle.layer_compaction.specs.Steps.{Takes}
+use Rattle.layer_compaction.proofs.LayerLemmas.{length-counts}
+use Rattle.layer_cascade.proofs.StepLemmas.{not_here}
 use Rattle.layer_cascade.proofs.StepLemmas.{carried_at, carried_first, carried_next, with_layer, meets_rows, meets_cols}
 use Rattle.layer_cascade.proofs.StepLemmas.{meets_fits}
 use Rattle.layer_cascade.proofs.addition.cascade_end.Goals as goal

@@ -1,8 +1,8 @@
 use Rattle.std.proofs.Common.{◌≡◌, ℕ, ◌<◌, take}
 use Rattle.hyper_matrix.specs.Counts.{ewise_add}
 use Rattle.hyper_matrix.specs.Matrix.{matrix}
-use Rattle.layer_cascade.specs.Cascade.{content, CanHold}
-use Rattle.layer_cascade.specs.Shared.{values, all_counts}
+use Rattle.layer_compaction.specs.Shared.{content, values, all_counts}
+use Rattle.layer_cascade.specs.Cascade.{CanHold}
 use Rattle.layer_cascade.proofs.addition.cascade_end.Given as goal
 
 abbrev pub invariant-places : goal.invariant-places

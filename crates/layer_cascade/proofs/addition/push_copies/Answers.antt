@@ -1,4 +1,4 @@
-use Rattle.layer_cascade.proofs.LayerLemmas.{pushed_copy}
+use Rattle.layer_compaction.proofs.LayerLemmas.{pushed_copy}
 use Rattle.layer_cascade.proofs.addition.push_copies.Goals as goal
 
 pub copies-preserved : goal.copies-preserved

@@ -1,5 +1,5 @@
 use Rattle.std.proofs.Common.{◌≡◌, ◌++◌, replicate}
-use Rattle.layer_cascade.specs.Shared.{values}
+use Rattle.layer_compaction.specs.Shared.{values}
 use Rattle.std.specs.Arc.{arc_value}
 use Rattle.layer_cascade.proofs.addition.push_copies.Given as goal
 

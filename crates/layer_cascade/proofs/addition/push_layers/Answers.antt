@@ -1,6 +1,6 @@
 use Rattle.std.proofs.Common.{ap, ◌∙◌, arith}
 use Rattle.std.specs.Arc.{arc_value}
-use Rattle.layer_cascade.proofs.LayerLemmas.{pushed_layer}
+use Rattle.layer_compaction.proofs.LayerLemmas.{pushed_layer}
 use Rattle.layer_cascade.proofs.addition.push_layers.Goals as goal
 
 pub layers-preserved : goal.layers-preserved

@@ -1,5 +1,5 @@
 use Rattle.std.proofs.Common.{◌≡◌, ◌++◌, take}
-use Rattle.layer_cascade.specs.Shared.{values}
+use Rattle.layer_compaction.specs.Shared.{values}
 use Rattle.layer_cascade.proofs.addition.push_layers.Given as goal
 
 abbrev pub invariant-layers : goal.invariant-layers

@@ -1,6 +1,6 @@
 use Rattle.std.proofs.Common.{◌+◌, ◌++◌, length, replicate, ap, ◌∙◌}
 use Rattle.std.specs.Arc.{arc_value}
-use Rattle.layer_cascade.specs.Shared.{values}
+use Rattle.layer_compaction.specs.Shared.{values}
 use Rattle.layer_cascade.proofs.KeptLemmas.{first_layers, keeps_first}
 use Rattle.layer_cascade.proofs.layers.empty_layers.Goals as goal
 

@@ -2,11 +2,10 @@ use Rattle.std.proofs.Common.{◌+◌, take, sym, ap, subst, ◌∙◌, arith}
 use Rattle.std.proofs.lemmas.List.{take_all}
 use Rattle.hyper_matrix.specs.Counts.{Counts, ewise_add}
 use Rattle.hyper_matrix.proofs.CountLaws.{ewise_add-empty, ewise_add_assoc, ewise_add_comm}
-use Rattle.layer_cascade.specs.Cascade.{content}
+use Rattle.layer_compaction.specs.Shared.{content, values, all_counts}
 use Rattle.layer_cascade.specs.Columns.{HasColumns}
-use Rattle.layer_cascade.specs.Shared.{values, all_counts}
-use Rattle.layer_cascade.proofs.LayerLemmas.{sum_more, layer_dims, length-counts}
-use Rattle.layer_cascade.proofs.RunLemmas.{counts-take}
+use Rattle.layer_compaction.proofs.LayerLemmas.{sum_more, layer_dims, length-counts}
+use Rattle.layer_compaction.proofs.RunLemmas.{counts-take}
 use Rattle.layer_cascade.proofs.row_entries.columns_with_layer.Goals as goal
 
 pub runs-init : goal.runs-init

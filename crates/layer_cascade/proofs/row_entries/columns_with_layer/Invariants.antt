@@ -1,8 +1,7 @@
 use Rattle.std.proofs.Common.{take}
 use Rattle.hyper_matrix.specs.Counts.{ewise_add}
-use Rattle.layer_cascade.specs.Cascade.{content}
+use Rattle.layer_compaction.specs.Shared.{content, values, all_counts}
 use Rattle.layer_cascade.specs.Columns.{HasColumns}
-use Rattle.layer_cascade.specs.Shared.{values, all_counts}
 use Rattle.layer_cascade.proofs.row_entries.columns_with_layer.Given as goal
 
 abbrev pub invariant-runs : goal.invariant-runs

@@ -1,8 +1,7 @@
 use Rattle.std.proofs.Common.{◌≡◌, ℕ, ◌+◌, ◌^◌, cond, is_some, sym, ap, ◌∙◌, arith}
 use Rattle.std.specs.FinMap.{get}
 use Rattle.hyper_matrix.specs.Counts.{Place, ewise_add}
-use Rattle.layer_cascade.specs.Cascade.{content}
-use Rattle.layer_cascade.specs.Shared.{values, all_counts}
+use Rattle.layer_compaction.specs.Shared.{content, values, all_counts}
 use Rattle.layer_cascade.proofs.RowEntryLemmas.{with_none, with_all, with_next, alone_counted, none_of_both, none_wide}
 use Rattle.layer_cascade.proofs.RowEntryLemmas.{columns_few, none_of_two, some_of_first, some_of_second, one_at_most}
 use Rattle.layer_cascade.proofs.row_entries.columns_with_run.Goals as goal

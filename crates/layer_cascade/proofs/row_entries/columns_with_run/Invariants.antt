@@ -2,8 +2,7 @@ use Rattle.std.proofs.Common.{◌≡◌, ◌+◌, ◌-◌, ◌≤◌, ◌^◌}
 use Rattle.std.specs.FinMap.{len}
 use Rattle.hyper_matrix.specs.Counts.{ewise_add}
 use Rattle.hyper_matrix.specs.RowOf.{row_of}
-use Rattle.layer_cascade.specs.Cascade.{content}
-use Rattle.layer_cascade.specs.Shared.{values, all_counts}
+use Rattle.layer_compaction.specs.Shared.{content, values, all_counts}
 use Rattle.layer_cascade.proofs.RowEntryLemmas.{row_before}
 use Rattle.layer_cascade.proofs.row_entries.columns_with_run.Given as goal
 

@@ -6,9 +6,10 @@ use Rattle.hyper_matrix.specs.Counts.{ewise_add, total}
 use Rattle.hyper_matrix.specs.Matrix.{Matrix, matrix}
 use Rattle.hyper_matrix.proofs.BuiltOfLaws.{total-built_of}
 use Rattle.hyper_matrix.proofs.CountLaws.{total-empty}
-use Rattle.layer_cascade.specs.Cascade.{content}
+use Rattle.layer_compaction.specs.Shared.{content}
 use Rattle.layer_cascade.specs.Layering.{Layering}
-use Rattle.layer_cascade.proofs.CascadeLaws.{content-cascade, empty-ewise_add}
+use Rattle.layer_cascade.proofs.CascadeLaws.{content-cascade}
+use Rattle.layer_compaction.proofs.LayerLemmas.{empty-ewise_add}
 use Rattle.pending_layers.proofs.pending.with_places.Goals as goal
 
 pub into_sum_with_cells-requires-clause-fits : goal.into_sum_with_cells-requires-clause-fits

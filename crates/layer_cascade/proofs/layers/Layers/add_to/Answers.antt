@@ -2,9 +2,9 @@ use Rattle.std.proofs.Common.{take, sym, ap, ◌∙◌, subst, arith}
 use Rattle.hyper_matrix.specs.Counts.{ewise_add}
 use Rattle.hyper_matrix.proofs.CountLaws.{ewise_add_assoc, ewise_add-empty}
 use Rattle.merged_cells.specs.Within.{LieWithin}
-use Rattle.layer_cascade.specs.Cascade.{content}
-use Rattle.layer_cascade.specs.Shared.{values, all_counts}
-use Rattle.layer_cascade.proofs.LayerLemmas.{sum_more, seen_dims}
+use Rattle.layer_compaction.specs.Shared.{content, values, all_counts}
+use Rattle.layer_compaction.proofs.LayerLemmas.{sum_more}
+use Rattle.layer_cascade.proofs.KeptLemmas.{seen_dims}
 use Rattle.layer_cascade.proofs.layers.Layers.add_to.Goals as goal
 
 pub layers-init : goal.layers-init
@@ -20,12 +20,12 @@ layers-preserved c =
     let before = c.args.sources.now in
     let done = content (take c.layers.layer-index (all_counts (values items))) in
     let old = c.layers.sources in
-    let new = c.add_runs.new.sources in
+    let new = c.add_to.new.sources in
     let dims = seen_dims c.self.inside.layers.items items c.layers.layer-index c.layer-item.result here _ _ _ _
     c.deref-layer-items.ensures.value (omega arith) c.layer-item.is c.deref.ensures c.self.invariant.dims
     c.self.view_is in
     record {
-      told = c.in_ok-add_runs.ensures.sum ∙ ap (ewise_add old) (sym c.runs.ensures.sum)
+      told = c.in_ok-add_to.ensures.sum
           ∙ ap (λ b. ewise_add b here.counts) c.layers.invariant.told
           ∙ ewise_add_assoc before done here.counts
           ∙ ap (ewise_add before)
@@ -34,7 +34,7 @@ layers-preserved c =
       within = λ all.
           subst (λ n. LieWithin n c.args.self.now.cols new) dims.0
           (subst (λ n. LieWithin here.rows n new) dims.1
-          (c.in_ok-add_runs.ensures.within here.rows here.cols c.runs.ensures.dims
+          (c.in_ok-add_to.ensures.within
           (subst (λ n. LieWithin here.rows n old) (sym dims.1)
           (subst (λ n. LieWithin n c.args.self.now.cols old) (sym dims.0) (c.layers.invariant.within all)))));
     }

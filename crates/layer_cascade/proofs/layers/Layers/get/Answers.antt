@@ -3,10 +3,10 @@ use Rattle.std.specs.FinMap.{get, get-empty}
 use Rattle.hyper_matrix.specs.Counts.{Place, place_cmp, plus, total}
 use Rattle.hyper_matrix.proofs.CountLaws.{get-ewise_add}
 use Rattle.std.specs.Prelude.{unwrap_or}
-use Rattle.layer_cascade.specs.Cascade.{content}
-use Rattle.layer_cascade.specs.Shared.{values, all_counts}
-use Rattle.layer_cascade.proofs.LayerLemmas.{sum_more, more_fits, seen_dims}
-use Rattle.layer_cascade.proofs.RowLemmas.{count_below}
+use Rattle.layer_compaction.specs.Shared.{content, values, all_counts}
+use Rattle.layer_compaction.proofs.LayerLemmas.{sum_more, more_fits}
+use Rattle.layer_cascade.proofs.KeptLemmas.{seen_dims}
+use Rattle.layer_compaction.proofs.RowLemmas.{count_below}
 use Rattle.layer_cascade.proofs.layers.Layers.get.Goals as goal
 
 pub counts-init : goal.counts-init

@@ -3,9 +3,9 @@ use Rattle.cells.specs.Bounds.{AreWithin}
 use Rattle.hyper_matrix.specs.Cells.{built_of}
 use Rattle.hyper_matrix.specs.Counts.{ewise_add}
 use Rattle.hyper_matrix.proofs.CountLaws.{ewise_add_assoc, ewise_add-empty}
-use Rattle.layer_cascade.specs.Cascade.{content}
-use Rattle.layer_cascade.specs.Shared.{values, all_counts}
-use Rattle.layer_cascade.proofs.LayerLemmas.{sum_more, seen_dims}
+use Rattle.layer_compaction.specs.Shared.{content, values, all_counts}
+use Rattle.layer_compaction.proofs.LayerLemmas.{sum_more}
+use Rattle.layer_cascade.proofs.KeptLemmas.{seen_dims}
 use Rattle.layer_cascade.proofs.layers.Layers.push_cells.Goals as goal
 
 pub layers-init : goal.layers-init
@@ -21,12 +21,12 @@ layers-preserved c =
     let before = built_of c.args.out.now.items in
     let done = content (take c.layers.layer-index (all_counts (values items))) in
     let old = c.layers.out.items in
-    let new = c.push_cells_of.new.out.items in
+    let new = c.push_cells.new.out.items in
     let dims = seen_dims c.self.inside.layers.items items c.layers.layer-index c.layer-item.result here _ _ _ _
     c.deref-layer-items.ensures.value (omega arith) c.layer-item.is c.deref.ensures c.self.invariant.dims
     c.self.view_is in
     record {
-      told = c.in_ok-push_cells_of.ensures.sum ∙ ap (ewise_add (built_of old)) (sym c.runs.ensures.sum)
+      told = c.in_ok-push_cells.ensures.sum
           ∙ ap (λ b. ewise_add b here.counts) c.layers.invariant.told
           ∙ ewise_add_assoc before done here.counts
           ∙ ap (ewise_add before)
@@ -35,7 +35,7 @@ layers-preserved c =
       within = λ all.
           subst (λ n. AreWithin n c.args.self.now.cols new) dims.0
           (subst (λ n. AreWithin here.rows n new) dims.1
-          (c.in_ok-push_cells_of.ensures.within here.rows here.cols c.runs.ensures.dims
+          (c.in_ok-push_cells.ensures.within
           (subst (λ n. AreWithin here.rows n old) (sym dims.1)
           (subst (λ n. AreWithin n c.args.self.now.cols old) (sym dims.0) (c.layers.invariant.within all)))));
     }

@@ -2,8 +2,7 @@ use Rattle.std.proofs.Common.{◌≡◌, take}
 use Rattle.cells.specs.Bounds.{AreWithin}
 use Rattle.hyper_matrix.specs.Cells.{built_of}
 use Rattle.hyper_matrix.specs.Counts.{ewise_add}
-use Rattle.layer_cascade.specs.Cascade.{content}
-use Rattle.layer_cascade.specs.Shared.{values, all_counts}
+use Rattle.layer_compaction.specs.Shared.{content, values, all_counts}
 use Rattle.layer_cascade.proofs.layers.Layers.push_cells.Given as goal
 
 abbrev pub invariant-layers : goal.invariant-layers

@@ -1,11 +1,11 @@
 use Rattle.std.proofs.Common.{◌+◌, take, sym, ap, ◌∙◌, arith}
 use Rattle.hyper_matrix.specs.Counts.{total}
 use Rattle.hyper_matrix.proofs.CountLaws.{total-ewise_add, total-empty}
-use Rattle.layer_cascade.specs.Cascade.{content}
+use Rattle.layer_compaction.specs.Shared.{content, values, all_counts}
 use Rattle.hyper_matrix.specs.RowOf.{row_of}
-use Rattle.layer_cascade.specs.Shared.{values, all_counts}
-use Rattle.layer_cascade.proofs.LayerLemmas.{sum_more, more_fits, seen_dims}
-use Rattle.layer_cascade.proofs.RowLemmas.{row_of-empty, row_of-ewise_add, row_fits}
+use Rattle.layer_compaction.proofs.LayerLemmas.{sum_more, more_fits}
+use Rattle.layer_cascade.proofs.KeptLemmas.{seen_dims}
+use Rattle.layer_compaction.proofs.RowLemmas.{row_of-empty, row_of-ewise_add, row_fits}
 use Rattle.layer_cascade.proofs.layers.Layers.row_counts.Goals as goal
 
 pub rows-init : goal.rows-init

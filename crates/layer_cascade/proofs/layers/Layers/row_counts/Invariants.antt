@@ -1,8 +1,7 @@
 use Rattle.std.proofs.Common.{◌≡◌, ◌≤◌, take}
 use Rattle.hyper_matrix.specs.Counts.{total}
-use Rattle.layer_cascade.specs.Cascade.{content}
+use Rattle.layer_compaction.specs.Shared.{content, values, all_counts}
 use Rattle.hyper_matrix.specs.RowOf.{row_of}
-use Rattle.layer_cascade.specs.Shared.{values, all_counts}
 use Rattle.layer_cascade.proofs.layers.Layers.row_counts.Given as goal
 
 abbrev pub invariant-rows : goal.invariant-rows

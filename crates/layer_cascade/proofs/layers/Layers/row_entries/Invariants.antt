@@ -1,7 +1,6 @@
 use Rattle.std.proofs.Common.{◌≤◌, length, drop}
-use Rattle.layer_cascade.specs.Cascade.{content}
+use Rattle.layer_compaction.specs.Shared.{content, values, all_counts}
 use Rattle.layer_cascade.specs.Columns.{HasColumns}
-use Rattle.layer_cascade.specs.Shared.{values, all_counts}
 use Rattle.layer_cascade.proofs.layers.Layers.row_entries.Given as goal
 
 abbrev pub invariant-layers : goal.invariant-layers

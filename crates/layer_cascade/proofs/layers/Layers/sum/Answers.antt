@@ -1,9 +1,8 @@
 use Rattle.std.proofs.Common.{take, ap, arith}
 use Rattle.hyper_matrix.specs.Counts.{total}
 use Rattle.hyper_matrix.specs.Matrix.{Matrix, matrix}
-use Rattle.layer_cascade.specs.Cascade.{content}
-use Rattle.layer_cascade.specs.Shared.{values, all_counts}
-use Rattle.layer_cascade.proofs.LayerLemmas.{sum_more, more_fits, sum_at}
+use Rattle.layer_compaction.specs.Shared.{content, values, all_counts}
+use Rattle.layer_compaction.proofs.LayerLemmas.{sum_more, more_fits, sum_at}
 use Rattle.layer_cascade.proofs.layers.Layers.sum.Goals as goal
 
 pub added-requires-clause-fits : goal.added-requires-clause-fits

@@ -1,9 +1,8 @@
 use Rattle.std.proofs.Common.{◌+◌, take, ap, sym, ◌∙◌, arith}
 use Rattle.hyper_matrix.specs.Counts.{total}
 use Rattle.hyper_matrix.proofs.CountLaws.{total-empty}
-use Rattle.layer_cascade.specs.Cascade.{content}
-use Rattle.layer_cascade.specs.Shared.{values, all_counts}
-use Rattle.layer_cascade.proofs.LayerLemmas.{total_more, more_fits}
+use Rattle.layer_compaction.specs.Shared.{content, values, all_counts}
+use Rattle.layer_compaction.proofs.LayerLemmas.{total_more, more_fits}
 use Rattle.layer_cascade.proofs.layers.Layers.total.Goals as goal
 
 pub totals-init : goal.totals-init

@@ -1,7 +1,6 @@
 use Rattle.std.proofs.Common.{◌≡◌, take}
 use Rattle.hyper_matrix.specs.Counts.{total}
-use Rattle.layer_cascade.specs.Cascade.{content}
-use Rattle.layer_cascade.specs.Shared.{values, all_counts}
+use Rattle.layer_compaction.specs.Shared.{content, values, all_counts}
 use Rattle.layer_cascade.proofs.layers.Layers.total.Given as goal
 
 abbrev pub invariant-totals : goal.invariant-totals

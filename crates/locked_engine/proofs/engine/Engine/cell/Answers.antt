@@ -1,7 +1,7 @@
 use Rattle.std.proofs.Common.{◌≡◌, ◌%◌, ap, subst, ◌∙◌, ℕ, Some}
 use Rattle.std.specs.Prelude.{IfSome}
 use Rattle.std.specs.FinMap.{get}
-use Rattle.layer_cascade.specs.Cascade.{content}
+use Rattle.layer_compaction.specs.Shared.{content}
 use Rattle.batch_store.specs.Setups.{Setting}
 use Rattle.batch_store.specs.Shards.{Holding}
 use Rattle.locked_engine.specs.Moments.{IsShardOf}

@@ -2,7 +2,7 @@ use Rattle.std.proofs.Common.{ap, sym, subst, ◌∙◌, arith}
 use Rattle.cells.specs.Bounds.{AreWithin}
 use Rattle.hyper_matrix.specs.Cells.{built_of}
 use Rattle.hyper_matrix.specs.Matrix.{Matrix}
-use Rattle.layer_cascade.proofs.RunLemmas.{listed_more}
+use Rattle.layer_compaction.proofs.RunLemmas.{listed_more}
 use Rattle.pending_layers.proofs.PendingLemmas.{total_kept, more_matrix, keeps_more}
 use Rattle.pending_layers.proofs.pending.PendingLayers.add.Goals as goal
 

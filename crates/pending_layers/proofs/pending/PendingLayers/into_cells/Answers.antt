@@ -5,7 +5,7 @@ use Rattle.hyper_matrix.specs.Matrix.{Matrix}
 use Rattle.hyper_matrix.proofs.BuiltOfLaws.{built_of-same, total-built_of}
 use Rattle.hyper_matrix.proofs.CountLaws.{ewise_add_comm, total-ewise_add}
 use Rattle.cells.specs.Bounds.{AreWithin}
-use Rattle.layer_cascade.specs.Cascade.{content}
+use Rattle.layer_compaction.specs.Shared.{content}
 use Rattle.pending_layers.proofs.PendingLemmas.{total_fits}
 use Rattle.pending_layers.proofs.pending.PendingLayers.into_cells.Goals as goal
 

@@ -3,7 +3,7 @@ use Rattle.hyper_matrix.specs.Counts.{total}
 use Rattle.hyper_matrix.specs.Cells.{cell_total}
 use Rattle.hyper_matrix.specs.Matrix.{matrix}
 use Rattle.hyper_matrix.proofs.CountLaws.{total-empty}
-use Rattle.layer_cascade.specs.Cascade.{content}
+use Rattle.layer_compaction.specs.Shared.{content}
 use Rattle.layer_cascade.specs.Layering.{Layering}
 use Rattle.layer_cascade.proofs.KeptLemmas.{content-no_layers}
 use Rattle.pending_layers.proofs.PendingLemmas.{none_waits}

@@ -3,7 +3,7 @@ use Rattle.cells.specs.Bounds.{AreWithin}
 use Rattle.hyper_matrix.specs.Cells.{cell_total}
 use Rattle.hyper_matrix.specs.Counts.{ewise_add, total}
 use Rattle.hyper_matrix.proofs.BuiltOfLaws.{built_of-same, total-built_of}
-use Rattle.layer_cascade.specs.Cascade.{content}
+use Rattle.layer_compaction.specs.Shared.{content}
 use Rattle.pending_layers.proofs.PendingLemmas.{same_matrix, keeps_same, all_added}
 use Rattle.pending_layers.proofs.pending.PendingLayers.settled.Goals as goal
 

@@ -2,7 +2,7 @@ use Rattle.std.proofs.Common.{sym, ap, ◌∙◌, subst, arith}
 use Rattle.hyper_matrix.specs.Counts.{ewise_add}
 use Rattle.hyper_matrix.specs.Matrix.{Matrix}
 use Rattle.merged_cells.specs.Within.{LieWithin}
-use Rattle.layer_cascade.specs.Cascade.{content}
+use Rattle.layer_compaction.specs.Shared.{content}
 use Rattle.plain_engine.specs.Views.{HaveSize}
 use Rattle.plain_engine.proofs.ViewLaws.{sights_more, size_at}
 use Rattle.plain_engine.proofs.WalkLaws.{none_within}

@@ -1,0 +1,86 @@
+//! What is compacted next in layers, and how a layer takes the place of one that holds the same.
+//!
+//! Layer 1 is compacted by itself. Of the layers behind it each call here finds the first in which something is due, and
+//! tells it as that layer's place, from 0, and the layer that is to stand there.
+ghost use Rattle.std.specs.Prelude.{◌≡◌, IfOk, IfSome, OnOk, Some, slice_get};
+ghost use Rattle.layer_compaction.specs.Shared.{values};
+
+use layer_compaction::Layer;
+use std::alloc::{AllocError, Global};
+use std::sync::Arc;
+
+/// A place, and a layer that holds the same as the one there.
+type Exchange = (usize, Layer);
+
+// Two neighbouring matrices are added up.
+fn first_paired(layers: &[Arc<Layer>], alloc: Global) -> Result<Option<Exchange>, AllocError>
+    ensures { IfOk result (λ next. IfSome next (λ n. slice_get (values layers.now) n.0 ≡ Some n.1)) }
+{
+    for place in 1..layers.len() {
+        if let Some(layer) = layers[place].paired(alloc)? {
+            return Ok(Some((place, layer)));
+        }
+    }
+    Ok(None)
+}
+
+// A matrix gets its filter.
+fn first_filtered(layers: &[Arc<Layer>], alloc: Global) -> Result<Option<Exchange>, AllocError>
+    ensures { IfOk result (λ next. IfSome next (λ n. slice_get (values layers.now) n.0 ≡ Some n.1)) }
+{
+    for place in 1..layers.len() {
+        if let Some(layer) = layers[place].filtered(alloc)? {
+            return Ok(Some((place, layer)));
+        }
+    }
+    Ok(None)
+}
+
+// The places of one matrix more are counted, before a layer passes its cut.
+fn first_counted(
+    layers: &[Arc<Layer>],
+    cuts: &[u64],
+    alloc: Global,
+) -> Result<Option<Exchange>, AllocError>
+    ensures { IfOk result (λ next. IfSome next (λ n. slice_get (values layers.now) n.0 ≡ Some n.1)) }
+{
+    for place in 1..cuts.len().min(layers.len()) {
+        if layers[place].is_to_count(cuts[place]) {
+            let layer = layers[place].counted_on(alloc, 1)?;
+            return Ok(Some((place, layer)));
+        }
+    }
+    Ok(None)
+}
+
+/// What is due next behind layer 1: first two matrices to be added up, then a filter to be made, then places to be
+/// counted.
+pub fn compacted(
+    layers: &[Arc<Layer>],
+    cuts: &[u64],
+    alloc: Global,
+) -> Result<Option<Exchange>, AllocError>
+    ensures { IfOk result (λ next. IfSome next (λ n. slice_get (values layers.now) n.0 ≡ Some n.1)) }
+{
+    if let Some(next) = first_paired(layers, alloc)? {
+        return Ok(Some(next));
+    }
+    if let Some(next) = first_filtered(layers, alloc)? {
+        return Ok(Some(next));
+    }
+    first_counted(layers, cuts, alloc)
+}
+
+/// Puts a layer in the place of one that holds the same.
+pub fn exchange(
+    layers: &mut [Arc<Layer>],
+    place: usize,
+    alloc: Global,
+    layer: Layer,
+) -> Result<(), AllocError>
+    requires { slice_get (values layers.old) place ≡ Some layer }
+    ensures { values layers.new ≡ values layers.old }
+{
+    layers[place] = Arc::new(alloc, layer)?;
+    Ok(())
+}

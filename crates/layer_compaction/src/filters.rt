@@ -1,0 +1,55 @@
+//! Which matrices have a filter of their places beside them, and where one is made.
+//!
+//! A look-up asks every run of every layer, and most have no entry at the place: a filter mostly answers that from one
+//! word, where a bisection reads several that no cache holds. A run that is soon added up with others, or whose filter
+//! would hold up an addition, goes without one, and may get it later. Only time rests on which have one.
+ghost use Rattle.std.specs.Prelude.{◌≡◌, ◌<◌, length, IfOk, IfSome};
+ghost use Rattle.layer_compaction.specs.Shared.{values};
+
+use crate::limits::FEWEST_FILTERED;
+use crate::runs::push_runs;
+use filtered_matrix::FilteredMatrix;
+use hyper_matrix::Hyper;
+use std::alloc::{AllocError, Global};
+use std::sync::Arc;
+
+/// The matrix with a filter, where it has from `FEWEST_FILTERED` to `most` entries, and else without one.
+pub fn filtered_to(alloc: Global, m: Hyper, most: u64) -> Result<FilteredMatrix, AllocError>
+    ensures { IfOk result (λ filtered. filtered ≡ m) }
+{
+    let entries = m.entries();
+    if entries < FEWEST_FILTERED || entries > most {
+        return Ok(FilteredMatrix::new(alloc, m));
+    }
+    FilteredMatrix::with_filter(alloc, m)
+}
+
+/// The place of the first run without a filter that has `FEWEST_FILTERED` entries or more.
+pub fn first_unfiltered(runs: &[Arc<FilteredMatrix>]) -> Option<usize>
+    ensures { IfSome result (λ place. place < length runs.now) }
+{
+    for place in 0..runs.len() {
+        let run = &runs[place];
+        if !run.has_filter() && run.matrix().entries() >= FEWEST_FILTERED {
+            return Some(place);
+        }
+    }
+    None
+}
+
+/// The runs with a filter beside the one at a place, a copy that shares its blocks. All others are shared.
+pub fn with_filter_at(
+    runs: &[Arc<FilteredMatrix>],
+    place: usize,
+    alloc: Global,
+) -> Result<Vec<Arc<FilteredMatrix>>, AllocError>
+    requires { place < length runs.now }
+    ensures { IfOk result (λ after. values after.items ≡ values runs.now) }
+{
+    let mut after = Vec::with_capacity(alloc, runs.len())?;
+    push_runs(&mut after, runs)?;
+    let copy = after[place].matrix().copy(alloc)?;
+    let filtered = FilteredMatrix::with_filter(alloc, copy)?;
+    after[place] = Arc::new(alloc, filtered)?;
+    Ok(after)
+}

@@ -1,0 +1,373 @@
+//! One layer: matrices side by side, which are added up only where it has to be known what they hold together.
+//!
+//! A small matrix that is added at once to a larger one is copied there with every block that it touches, and so is
+//! each one after it. Here it is put beside the others, which costs a pointer for each of them, as long as their
+//! entries together are no more than the cut: those of the sum can't be more. Then all are added up once, or all but a
+//! large first one, unless they are few; and the places are counted: whether the layer keeps them or they go on, their
+//! sum isn't built. What was counted stays known as long as the same runs stand in front.
+ghost use Rattle.std.specs.Prelude.{◌≡◌, ℕ, ◌+◌, ◌<◌, ◌≤◌, ◌^◌, ◌⊎◌, IfOk, OnOk, IfSome};
+ghost use Rattle.std.specs.FinMap.{empty, get, len};
+ghost use Rattle.cells.specs.Bounds.{IsDimension, AreWithin};
+ghost use Rattle.hyper_matrix.specs.Cells.{built_of};
+ghost use Rattle.hyper_matrix.specs.Counts.{ewise_add, total};
+ghost use Rattle.hyper_matrix.specs.Matrix.{matrix};
+ghost use Rattle.hyper_matrix.specs.RowOf.{row_of};
+ghost use Rattle.merged_cells.specs.Within.{LieWithin};
+ghost use Rattle.layer_compaction.specs.Shared.{content, values, all_counts, HaveDims};
+ghost use Rattle.layer_compaction.specs.Runs.{CountsPlaces};
+ghost use Rattle.layer_compaction.specs.Steps.{joined, Takes};
+
+use crate::filters::{filtered_to, first_unfiltered, with_filter_at};
+use crate::limits::{GATHERED_RUNS, KEPT_RUNS, MAX_COUNTED, MAX_LISTED, MAX_RUNS};
+use crate::lists::{add_runs, entries_bound, push_cells_of};
+use crate::pairs::{due_pair, kept_in_front, with_pair_added, with_rest_added};
+use crate::runs::{
+    added_to_runs, count_in, entries_in, places_to, push_runs, row_counts_in, sum_of_runs,
+};
+use cells::Cell;
+use filtered_matrix::FilteredMatrix;
+use hyper_matrix::Hyper;
+use merged_cells::Sources;
+use std::alloc::{AllocError, Global};
+use std::marker::Model;
+use std::sync::Arc;
+
+/// What one layer holds: the sum of its runs, at most `MAX_RUNS`.
+///
+/// Contracts see it as that sum, a matrix.
+#[derive(Drop)]
+pub struct Layer {
+    rows: u64,
+    cols: u64,
+    // The total of all runs.
+    total: u64,
+    // At least the number of entries of the sum: that number as it was counted last, and the entries of the runs that
+    // were put beside the others since.
+    most: u64,
+    // Of how many runs in front the places are counted, and the entries of their sum, which what is put behind them
+    // doesn't change.
+    counted: usize,
+    places: u64,
+    runs: Vec<Arc<FilteredMatrix>>,
+}
+
+impl Model for Layer {
+    ghost use Rattle.hyper_matrix.specs.Matrix.{Matrix, matrix, coded_matrix};
+    ghost use Rattle.layer_compaction.specs.Shared.{content, values, all_counts};
+    ghost use Rattle.layer_compaction.specs.Runs.{KeepsRuns, CountsPlaces};
+
+    ghost Value = { Matrix };
+
+    ghost coded = { coded_matrix };
+
+    ghost view = { λ a. matrix a.rows a.cols (content (all_counts (values a.runs.items))) };
+
+    ghost invariant = { λ a.
+        KeepsRuns a.rows a.cols a.total a.most (values a.runs.items)
+        × CountsPlaces a.counted a.places (values a.runs.items) };
+}
+
+/// What an addition comes to at one layer.
+#[derive(Drop)]
+pub enum Step {
+    /// It ends: the layer holds what was carried to it too.
+    Ends(Layer),
+    /// Both together have more entries than the cut. They go to the next layer, side by side.
+    Carries(Layer),
+}
+
+impl Layer {
+    /// The layer that holds nothing. It takes no memory.
+    pub fn new(alloc: Global, rows: u64, cols: u64) -> Layer
+        requires rows { IsDimension rows }
+        requires cols { IsDimension cols }
+        ensures { result ≡ matrix rows cols empty }
+    {
+        Layer {
+            rows,
+            cols,
+            total: 0,
+            most: 0,
+            counted: 0,
+            places: 0,
+            runs: Vec::new(alloc),
+        }
+    }
+
+    /// The layer of one matrix, which gets a filter where it has from `FEWEST_FILTERED` entries to `most_filtered`.
+    pub fn of(alloc: Global, m: Hyper, most_filtered: u64) -> Result<Layer, AllocError>
+        ensures { IfOk result (λ layer. layer ≡ m) }
+    {
+        let (rows, cols) = m.dims();
+        let (total, most) = (m.total(), m.entries());
+        let filtered = filtered_to(alloc, m, most_filtered)?;
+        let run = Arc::new(alloc, filtered)?;
+        let mut runs = Vec::with_capacity(alloc, 1)?;
+        runs.push(run)?;
+        Ok(Layer {
+            rows,
+            cols,
+            total,
+            most,
+            counted: 1,
+            places: most,
+            runs,
+        })
+    }
+
+    /// The sum of all counts. Constant time.
+    pub fn total(&self) -> u64
+        ensures value { result ≡ total self.now.counts }
+        ensures fits { total self.now.counts < 2 ^ 64 }
+    {
+        self.total
+    }
+
+    /// A bound of the entries of the sum, which may be less than the entries of all runs together. Constant time.
+    pub fn most_entries(&self) -> u64
+        ensures { len self.now.counts ≤ result }
+    {
+        self.most
+    }
+
+    /// The number of entries: constant time where all runs are counted. Else each cell of those that aren't takes a
+    /// look-up in each earlier run, and beside a single one a step for each cell of both.
+    pub fn entries(&self) -> u64
+        ensures { result ≡ len self.now.counts }
+    {
+        // It fits 64 bits, so the entries do.
+        let _bound = self.most;
+        entries_in(&self.runs, self.counted, self.places)
+    }
+
+    /// The count at a place, or None where no run has an entry: a bisection in each run.
+    pub fn get(&self, row: u64, col: u64) -> Option<u64>
+        ensures value { result ≡ get self.now.counts (row, col) }
+        ensures outside { (self.now.rows ≤ row) ⊎ (self.now.cols ≤ col) → result ≡ None }
+    {
+        count_in(&self.runs, row, col)
+    }
+
+    /// The sum of the counts of a row.
+    pub fn row_counts(&self, row: u64) -> u64
+        ensures value { result ≡ total (row_of self.now.counts row) }
+        ensures outside { self.now.rows ≤ row → result ≡ 0 }
+    {
+        row_counts_in(&self.runs, row)
+    }
+
+    /// The matrices side by side, whose sum the layer is.
+    pub fn runs(&self) -> &[Arc<FilteredMatrix>]
+        ensures sum { self.now.counts ≡ content (all_counts (values result.now)) }
+        ensures dims { HaveDims self.now.rows self.now.cols (values result.now) }
+    {
+        self.runs.as_slice()
+    }
+
+    /// How many cells all runs have together, up to 2^64 - 1: a place in several of them counts in each. A step for each
+    /// run.
+    pub fn listed_cells(&self) -> u64 {
+        entries_bound(&self.runs)
+    }
+
+    /// Appends the cells of all runs to a list, those of each run by row and then by column. Room for all is made at
+    /// once and exactly, 24 bytes for each.
+    pub fn push_cells(&self, out: &mut Vec<Cell>) -> Result<(), AllocError>
+        ensures sum { OnOk result (built_of out.new.items ≡ ewise_add (built_of out.old.items) self.now.counts) }
+        ensures within { AreWithin self.now.rows self.now.cols out.old.items →
+            OnOk result (AreWithin self.now.rows self.now.cols out.new.items) }
+    {
+        push_cells_of(out, &self.runs)
+    }
+
+    /// Adds all runs to the matrices whose cells are to be merged.
+    pub fn add_to<'a>(&'a self, sources: &mut Sources<'a>) -> Result<(), AllocError>
+        ensures sum { OnOk result (sources.new ≡ ewise_add sources.old self.now.counts) }
+        ensures within { LieWithin self.now.rows self.now.cols sources.old →
+            OnOk result (LieWithin self.now.rows self.now.cols sources.new) }
+    {
+        add_runs(sources, &self.runs)
+    }
+
+    /// The sum of a matrix and all runs. It shares blocks with them.
+    pub fn added(&self, alloc: Global, m: Hyper) -> Result<Hyper, AllocError>
+        requires rows { m.rows ≡ self.now.rows }
+        requires cols { m.cols ≡ self.now.cols }
+        requires fits { total m.counts + total self.now.counts < 2 ^ 64 }
+        ensures { IfOk result (λ sum. sum ≡ joined self.now m) }
+    {
+        let sum = added_to_runs(alloc, m, &self.runs)?;
+        Ok(sum)
+    }
+
+    /// The sum of all runs, which shares blocks with them.
+    pub fn sum(&self, alloc: Global) -> Result<Hyper, AllocError>
+        ensures { IfOk result (λ m. m ≡ self.now) }
+    {
+        let none = Hyper::new(alloc, self.rows, self.cols);
+        let sum = self.added(alloc, none)?;
+        Ok(sum)
+    }
+
+    // The runs of both side by side, those of this layer first. More entries than 64 bits can count would need more
+    // memory than there is, and stand for a want of it.
+    fn beside(&self, alloc: Global, m: Layer) -> Result<Layer, AllocError>
+        requires rows { m.rows ≡ self.now.rows }
+        requires cols { m.cols ≡ self.now.cols }
+        requires fits { total m.counts + total self.now.counts < 2 ^ 64 }
+        ensures { IfOk result (λ layer. layer ≡ joined self.now m) }
+    {
+        if self.runs.is_empty() {
+            return Ok(m);
+        }
+        let total = m.total + self.total;
+        let Some(most) = m.most.checked_add(self.most) else {
+            return Err(AllocError);
+        };
+        let mut runs = Vec::with_capacity(alloc, self.runs.len() + m.runs.len())?;
+        push_runs(&mut runs, &self.runs)?;
+        push_runs(&mut runs, &m.runs)?;
+        Ok(Layer {
+            rows: self.rows,
+            cols: self.cols,
+            total,
+            most,
+            counted: self.counted,
+            places: self.places,
+            runs,
+        })
+    }
+
+    // The same layer with other runs, whose sum is the same, or with more of them counted.
+    fn with_runs(&self, runs: Vec<Arc<FilteredMatrix>>, counted: usize, places: u64) -> Layer
+        requires content { content (all_counts (values runs.items)) ≡ self.now.counts }
+        requires dims { HaveDims self.now.rows self.now.cols (values runs.items) }
+        requires counts { CountsPlaces counted places (values runs.items) }
+        ensures { result ≡ self.now }
+    {
+        let bound = places.saturating_add(entries_bound(&runs[counted..]));
+        let most = bound.min(self.most);
+        Layer {
+            rows: self.rows,
+            cols: self.cols,
+            total: self.total,
+            most,
+            counted,
+            places,
+            runs,
+        }
+    }
+
+    // The same layer in one or two runs (`kept_in_front`), or as it is, where it has at most `KEPT_RUNS` that may be
+    // large together: to walk through so few takes less time than to add them up.
+    fn settled(self, alloc: Global) -> Result<Layer, AllocError>
+        ensures { IfOk result (λ layer. layer ≡ self) }
+    {
+        let stays = self.runs.len() <= KEPT_RUNS && self.most > MAX_LISTED;
+        let kept = kept_in_front(&self.runs);
+        if stays || self.runs.len() <= kept + 1 {
+            return Ok(self);
+        }
+        let runs = with_rest_added(&self.runs, kept, alloc, self.rows, self.cols)?;
+        Ok(self.with_runs(runs, 0, 0))
+    }
+
+    /// The same layer with the places of so many more of its runs counted, or of all where there are fewer. Where none
+    /// is counted, two are: the first takes no time. The runs are shared.
+    pub fn counted_on(&self, alloc: Global, more: usize) -> Result<Layer, AllocError>
+        ensures { IfOk result (λ layer. layer ≡ self.now) }
+    {
+        // It fits 64 bits, so the entries do.
+        let _bound = self.most;
+        let until = self
+            .counted
+            .saturating_add(more)
+            .max(2)
+            .min(self.runs.len());
+        let places = places_to(alloc, &self.runs, self.counted, self.places, until)?;
+        let mut runs = Vec::with_capacity(alloc, self.runs.len())?;
+        push_runs(&mut runs, &self.runs)?;
+        Ok(self.with_runs(runs, until, places))
+    }
+
+    /// Takes in what is carried to this layer, if both together have at most the cut of entries. That is judged
+    /// exactly: by a bound of the entries, and where that is more than the cut, or there are more than `MAX_RUNS` runs,
+    /// by a count of the places. At most `KEPT_RUNS` runs of more than `MAX_LISTED` entries are counted as they are,
+    /// from where the last count ended; else all runs but a large first one are added up before.
+    pub fn taking(&self, alloc: Global, m: Layer, cut: u64) -> Result<Step, AllocError>
+        requires rows { m.rows ≡ self.now.rows }
+        requires cols { m.cols ≡ self.now.cols }
+        requires fits { total m.counts + total self.now.counts < 2 ^ 64 }
+        ensures { IfOk result (λ step. Takes self.now m cut step) }
+    {
+        let layer = self.beside(alloc, m)?;
+        if layer.runs.len() <= MAX_RUNS && layer.most_entries() <= cut {
+            return Ok(Step::Ends(layer));
+        }
+        let layer = layer.settled(alloc)?;
+        let layer = layer.counted_on(alloc, layer.runs.len())?;
+        if layer.entries() > cut {
+            return Ok(Step::Carries(layer));
+        }
+        Ok(Step::Ends(layer))
+    }
+
+    /// Whether places are to be counted before this layer passes its cut: not all runs are counted, and the bound is
+    /// more than three quarters of the cut, and at most `MAX_COUNTED`. Constant time.
+    pub fn is_to_count(&self, cut: u64) -> bool {
+        self.counted < self.runs.len() && self.most > cut - cut / 4 && self.most <= MAX_COUNTED
+    }
+
+    /// The same layer with its runs added up, where they are `GATHERED_RUNS` or more.
+    pub fn gathered(&self, alloc: Global) -> Result<Option<Layer>, AllocError>
+        ensures { IfOk result (λ gathered. IfSome gathered (λ layer. layer ≡ self.now)) }
+    {
+        if self.runs.len() < GATHERED_RUNS {
+            return Ok(None);
+        }
+        let sum = self.sum(alloc)?;
+        let layer = Layer::of(alloc, sum, u64::MAX)?;
+        Ok(Some(layer))
+    }
+
+    /// The same layer with two neighbouring runs added up, where two are to be (`due_pair`). The others are shared.
+    pub fn paired(&self, alloc: Global) -> Result<Option<Layer>, AllocError>
+        ensures { IfOk result (λ paired. IfSome paired (λ layer. layer ≡ self.now)) }
+    {
+        let Some(place) = due_pair(&self.runs) else {
+            return Ok(None);
+        };
+        let runs = with_pair_added(&self.runs, place, alloc, self.rows, self.cols)?;
+        if place < self.counted {
+            return Ok(Some(self.with_runs(runs, 0, 0)));
+        }
+        Ok(Some(self.with_runs(runs, self.counted, self.places)))
+    }
+
+    /// The same layer with a filter beside a run that has none and is to have one (`first_unfiltered`). The others are
+    /// shared.
+    pub fn filtered(&self, alloc: Global) -> Result<Option<Layer>, AllocError>
+        ensures { IfOk result (λ filtered. IfSome filtered (λ layer. layer ≡ self.now)) }
+    {
+        let Some(place) = first_unfiltered(&self.runs) else {
+            return Ok(None);
+        };
+        let runs = with_filter_at(&self.runs, place, alloc)?;
+        Ok(Some(self.with_runs(runs, self.counted, self.places)))
+    }
+
+    /// Takes in what is carried to this layer, whatever it has: the last layer has no cut. More than `MAX_RUNS` runs
+    /// are added up.
+    pub fn taking_any(&self, alloc: Global, m: Layer) -> Result<Layer, AllocError>
+        requires rows { m.rows ≡ self.now.rows }
+        requires cols { m.cols ≡ self.now.cols }
+        requires fits { total m.counts + total self.now.counts < 2 ^ 64 }
+        ensures { IfOk result (λ layer. layer ≡ joined self.now m) }
+    {
+        let layer = self.beside(alloc, m)?;
+        if layer.runs.len() <= MAX_RUNS {
+            return Ok(layer);
+        }
+        layer.settled(alloc)
+    }
+}

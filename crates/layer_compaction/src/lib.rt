@@ -1,0 +1,24 @@
+//! A layer of a hierarchical hypersparse matrix: matrices side by side, and when they are compacted.
+//!
+//! A matrix that comes to a layer is put beside the others as a run, as a log-structured merge tree does with sorted
+//! runs (O'Neil, Cheng, Gawlick and O'Neil, 1996, "The Log-Structured Merge-Tree"): that takes the time of a pointer.
+//! Runs are compacted, that is added up into one, where there are many of them, where two neighbours are of like size,
+//! or where it has to be known how many places they have together. Each may have a filter of its places beside it.
+//!
+//! Contracts see a layer as the sum of its runs alone: which of them are added up, counted or filtered, and when, is a
+//! matter of time and memory (`limits`).
+#![tactic(auto)]
+
+mod filters;
+mod layer;
+mod limits;
+mod lists;
+mod lookup;
+mod pairs;
+mod runs;
+mod walk;
+
+pub use layer::{Layer, Step};
+pub use limits::FILTERED_AT_ONCE;
+pub use lists::merged;
+pub use lookup::plus;

@@ -1,0 +1,47 @@
+//! What a layer may have, and when its matrices are added up, counted and given filters.
+
+/// The most matrices that a layer holds side by side. A look-up asks each, so there are few; a merge of so many at once
+/// moves each of their cells five times at most.
+pub const MAX_RUNS: usize = 32;
+
+/// The most matrices that go on as they are where a layer passes its cut with more than `MAX_LISTED` entries. Their
+/// places are counted by walks through all of them.
+pub const KEPT_RUNS: usize = 16;
+
+/// The fewest runs that `Layer::gathered` adds up.
+pub const GATHERED_RUNS: usize = 8;
+
+/// The most entries of two runs together that `Layer::paired` adds up: about a millisecond.
+pub const MAX_PAIRED: u64 = 28_000;
+
+/// The most entries of a layer, as its bound tells them, whose places are counted before it passes its cut.
+pub const MAX_COUNTED: u64 = 1 << 17;
+
+/// The fewest entries of a matrix that gets a filter of its places. A bisection in fewer is short, and so small a
+/// matrix is soon added up with others. Only time rests on it.
+pub const FEWEST_FILTERED: u64 = 256;
+
+/// The most entries of a matrix that gets its filter when it is put into the first layer: a filter takes some
+/// nanoseconds for each entry, and the addition waits for it. A matrix with more gets it later, by `Layer::filtered`.
+/// Only time rests on it.
+pub const FILTERED_AT_ONCE: u64 = 1 << 15;
+
+/// Two matrices side by side are added up where the earlier one has fewer entries than so many times the later one. So
+/// a cell is written anew with matrices that are not much smaller than its own, and a layer ends with few matrices.
+pub const PAIR_RATIO: u64 = 3;
+
+/// Where the matrices before another have, for each of them, more than so many times its entries, each of its cells is
+/// looked up in them, and else all are walked through, to tell how many places are new: a look-up takes as long as so
+/// many steps.
+pub const WALKED_RATIO: u64 = 16;
+
+/// The most cells of more than two matrices that are added up by a list of all. So many are sorted in a few passes.
+pub const MAX_LISTED: u64 = 16_384;
+
+/// Entries of all matrices of a layer together: with no more, what may pass its cut becomes one matrix. With more, a
+/// large first matrix stays beside the sum of the others.
+pub const FEWEST_KEPT: u64 = 2_048;
+
+/// The most entries that an addition adds up by one list of all. The list and the memory of its sort take 24 bytes each
+/// for an entry: some 100 MB.
+pub const LONGEST_LIST: u64 = 1 << 21;

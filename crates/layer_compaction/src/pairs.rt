@@ -1,0 +1,111 @@
+//! Two runs of a layer that stand side by side, added up while the others stay as they are.
+//!
+//! Done again and again, it leaves few runs, each several times as large as the next, in the manner of a binary
+//! counter.
+ghost use Rattle.std.specs.Prelude.{◌≡◌, ◌+◌, ◌<◌, ◌≤◌, ◌^◌, length, take, IfOk, IfSome};
+ghost use Rattle.cells.specs.Bounds.{IsDimension};
+ghost use Rattle.hyper_matrix.specs.Counts.{total};
+ghost use Rattle.layer_compaction.specs.Shared.{content, values, all_counts, HaveDims};
+
+use crate::filters::filtered_to;
+use crate::limits::{FEWEST_KEPT, MAX_PAIRED, PAIR_RATIO};
+use crate::lists::entries_bound;
+use crate::runs::{added_to_runs, push_runs, sum_of_runs};
+use filtered_matrix::FilteredMatrix;
+use hyper_matrix::Hyper;
+use std::alloc::{AllocError, Global};
+use std::sync::Arc;
+
+/// The place of the first run that is to be added up with the next one: it has fewer than `PAIR_RATIO` times as many
+/// entries, and together they have at most `MAX_PAIRED`. Only time rests on which it is.
+pub fn due_pair(runs: &[Arc<FilteredMatrix>]) -> Option<usize>
+    ensures { IfSome result (λ place. place + 1 < length runs.now) }
+{
+    for next in 1..runs.len() {
+        let place = next - 1;
+        let (earlier, later) = (
+            runs[place].matrix().entries(),
+            runs[next].matrix().entries(),
+        );
+        let is_alike = earlier < later.saturating_mul(PAIR_RATIO);
+        if is_alike && earlier.saturating_add(later) <= MAX_PAIRED {
+            return Some(place);
+        }
+    }
+    None
+}
+
+/// The runs with the one at a place and the next added up, in their stead, with a filter where the sum isn't too small
+/// for one. All others are shared.
+pub fn with_pair_added(
+    runs: &[Arc<FilteredMatrix>],
+    place: usize,
+    alloc: Global,
+    rows: u64,
+    cols: u64,
+) -> Result<Vec<Arc<FilteredMatrix>>, AllocError>
+    requires place { place + 1 < length runs.now }
+    requires rows { IsDimension rows }
+    requires cols { IsDimension cols }
+    requires dims { HaveDims rows cols (values runs.now) }
+    requires fits { total (content (all_counts (values runs.now))) < 2 ^ 64 }
+    ensures content { IfOk result (λ after.
+        content (all_counts (values after.items)) ≡ content (all_counts (values runs.now))) }
+    ensures dims { IfOk result (λ after. HaveDims rows cols (values after.items)) }
+    ensures before { IfOk result (λ after. take place (values after.items) ≡ take place (values runs.now)) }
+{
+    let (before, from) = runs.split_at(place);
+    let (pair, behind) = from.split_at(2);
+    let sum = sum_of_runs(pair, alloc, rows, cols)?;
+    let filtered = filtered_to(alloc, sum, u64::MAX)?;
+    let mut after = Vec::with_capacity(alloc, runs.len() - 1)?;
+    push_runs(&mut after, before)?;
+    let run = Arc::new(alloc, filtered)?;
+    after.push(run)?;
+    push_runs(&mut after, behind)?;
+    Ok(after)
+}
+
+/// How many runs in front stay as they are where runs are added up: the first, if it has at least a third of what all
+/// others have together and all have more than `FEWEST_KEPT`, and else none. Only time rests on it.
+pub fn kept_in_front(runs: &[Arc<FilteredMatrix>]) -> usize
+    ensures { result ≤ length runs.now }
+{
+    let Some((first, rest)) = runs.split_first() else {
+        return 0;
+    };
+    let others = entries_bound(rest);
+    let entries = first.matrix().entries();
+    if entries < others / 3 || entries.saturating_add(others) <= FEWEST_KEPT {
+        return 0;
+    }
+    1
+}
+
+/// The first runs, which are shared, and all others added up into one, without a filter: an addition waits for it.
+pub fn with_rest_added(
+    runs: &[Arc<FilteredMatrix>],
+    kept: usize,
+    alloc: Global,
+    rows: u64,
+    cols: u64,
+) -> Result<Vec<Arc<FilteredMatrix>>, AllocError>
+    requires kept { kept ≤ length runs.now }
+    requires rows { IsDimension rows }
+    requires cols { IsDimension cols }
+    requires dims { HaveDims rows cols (values runs.now) }
+    requires fits { total (content (all_counts (values runs.now))) < 2 ^ 64 }
+    ensures content { IfOk result (λ after.
+        content (all_counts (values after.items)) ≡ content (all_counts (values runs.now))) }
+    ensures dims { IfOk result (λ after. HaveDims rows cols (values after.items)) }
+{
+    let (front, rest) = runs.split_at(kept);
+    let none = Hyper::new(alloc, rows, cols);
+    let sum = added_to_runs(alloc, none, rest)?;
+    let mut after = Vec::with_capacity(alloc, kept + 1)?;
+    push_runs(&mut after, front)?;
+    let bare = FilteredMatrix::new(alloc, sum);
+    let run = Arc::new(alloc, bare)?;
+    after.push(run)?;
+    Ok(after)
+}

@@ -1,0 +1,225 @@
+//! The runs of a layer: matrices of the same dimensions side by side, each shared and never changed. They stand for
+//! their sum, which is built only where it has to be known what they hold together.
+ghost use Rattle.std.specs.Prelude.{◌≡◌, ℕ, ◌+◌, ◌<◌, ◌≤◌, ◌^◌, ◌⊎◌, ◌++◌, length, IfOk, OnOk};
+ghost use Rattle.std.specs.Arc.{arc_value};
+ghost use Rattle.std.specs.FinMap.{get, len, entries};
+ghost use Rattle.cells.specs.Bounds.{IsDimension};
+ghost use Rattle.hyper_matrix.specs.Counts.{ewise_add, total};
+ghost use Rattle.hyper_matrix.specs.Matrix.{matrix};
+ghost use Rattle.hyper_matrix.specs.RowOf.{row_of};
+ghost use Rattle.layer_compaction.specs.Shared.{content, values, all_counts, HaveDims};
+ghost use Rattle.layer_compaction.specs.Runs.{count_new, CountsPlaces};
+
+use crate::limits::{LONGEST_LIST, MAX_LISTED, WALKED_RATIO};
+use crate::lists::{entries_bound, sum_by_list};
+use crate::lookup::plus;
+use crate::walk::{keep_new, new_beside};
+use filtered_matrix::FilteredMatrix;
+use hyper_matrix::Hyper;
+use std::alloc::{AllocError, Global};
+use std::sync::Arc;
+
+/// Appends runs that share their matrices with these.
+pub fn push_runs(
+    out: &mut Vec<Arc<FilteredMatrix>>,
+    runs: &[Arc<FilteredMatrix>],
+) -> Result<(), AllocError>
+    ensures { OnOk result (values out.new.items ≡ values out.old.items ++ values runs.now) }
+{
+    'runs: for run in runs {
+        let copy = Arc::try_clone(run)?;
+        out.push(copy)?;
+    }
+    Ok(())
+}
+
+/// The sum of runs: that of the first half and that of the second, added. So a cell is written as often as the runs can
+/// be halved, and not once for each run. More than two runs that are short together are added up by a list of their
+/// cells.
+pub fn sum_of_runs(
+    runs: &[Arc<FilteredMatrix>],
+    alloc: Global,
+    rows: u64,
+    cols: u64,
+) -> Result<Hyper, AllocError>
+    requires rows { IsDimension rows }
+    requires cols { IsDimension cols }
+    requires dims { HaveDims rows cols (values runs.now) }
+    requires fits { total (content (all_counts (values runs.now))) < 2 ^ 64 }
+    ensures { IfOk result (λ m. m ≡ matrix rows cols (content (all_counts (values runs.now)))) }
+{
+    match runs {
+        [] => Ok(Hyper::new(alloc, rows, cols)),
+        [run] => {
+            let only = run.matrix().copy(alloc)?;
+            Ok(only)
+        }
+        // A list of so few cells is sorted in a few passes. Two runs are merged in less time.
+        _ if runs.len() > 2 && entries_bound(runs) <= MAX_LISTED => {
+            let none = Hyper::new(alloc, rows, cols);
+            let listed = sum_by_list(alloc, none, runs)?;
+            Ok(listed)
+        }
+        _ => {
+            let (left, right) = runs.split_at(runs.len() / 2);
+            let sum = sum_of_runs(left, alloc, rows, cols)?;
+            let rest = sum_of_runs(right, alloc, rows, cols)?;
+            let whole = sum.into_sum(alloc, rest)?;
+            Ok(whole)
+        }
+    }
+}
+
+/// The sum of a matrix and runs. Where the first run is the larger part, all others are added up with the matrix, and
+/// the sum to that run, whose blocks it shares but for those that it touches. Else one list of cells is merged.
+pub fn added_to_runs(
+    alloc: Global,
+    m: Hyper,
+    runs: &[Arc<FilteredMatrix>],
+) -> Result<Hyper, AllocError>
+    requires dims { HaveDims m.rows m.cols (values runs.now) }
+    requires fits { total m.counts + total (content (all_counts (values runs.now))) < 2 ^ 64 }
+    ensures { IfOk result (λ s. s ≡ record m { counts = ewise_add m.counts (content (all_counts (values runs.now))) }) }
+{
+    let Some((first, rest)) = runs.split_first() else {
+        return Ok(m);
+    };
+    let front = first.matrix();
+    let behind = entries_bound(rest);
+    let all = m
+        .entries()
+        .saturating_add(front.entries().saturating_add(behind));
+    // Many are merged in one list. Where the first run has more than those behind it, the sum may share its blocks.
+    if MAX_LISTED < all && all <= LONGEST_LIST && front.entries() <= behind {
+        let merged = sum_by_list(alloc, m, runs)?;
+        return Ok(merged);
+    }
+    let (rows, cols) = m.dims();
+    let others = sum_of_runs(rest, alloc, rows, cols)?;
+    let others = m.into_sum(alloc, others)?;
+    let sum = others.ewise_add(alloc, front)?;
+    Ok(sum)
+}
+
+/// The count at a place of the runs' sum, or None where no run has an entry.
+pub fn count_in(runs: &[Arc<FilteredMatrix>], row: u64, col: u64) -> Option<u64>
+    requires { total (content (all_counts (values runs.now))) < 2 ^ 64 }
+    ensures value { result ≡ get (content (all_counts (values runs.now))) (row, col) }
+    ensures outside { (rows : ℕ) (cols : ℕ) → HaveDims rows cols (values runs.now) →
+        (rows ≤ row) ⊎ (cols ≤ col) → result ≡ None }
+{
+    let mut count = None;
+    'counts: for run in runs {
+        count = plus(count, run.get(row, col));
+    }
+    count
+}
+
+/// The sum of the counts of a row in all runs.
+pub fn row_counts_in(runs: &[Arc<FilteredMatrix>], row: u64) -> u64
+    requires { total (content (all_counts (values runs.now))) < 2 ^ 64 }
+    ensures value { result ≡ total (row_of (content (all_counts (values runs.now))) row) }
+    ensures outside { (rows : ℕ) (cols : ℕ) → HaveDims rows cols (values runs.now) → rows ≤ row → result ≡ 0 }
+{
+    let mut sum = 0;
+    'rows: for run in runs {
+        sum += run.matrix().row_total(row).total;
+    }
+    sum
+}
+
+/// How many entries a matrix has at places where none of these runs has one. Beside one run, of which it has no small
+/// part, both are walked through; else each of its cells is looked up in each run.
+pub fn new_entries(before: &[Arc<FilteredMatrix>], m: &Hyper) -> u64
+    requires { total (content (all_counts (values before.now))) < 2 ^ 64 }
+    ensures { result ≡ count_new (content (all_counts (values before.now))) (entries m.now.counts) }
+{
+    match before {
+        [] => m.entries(),
+        [run] if run.matrix().entries() / WALKED_RATIO <= m.entries() => new_beside(
+            run.matrix(),
+            m,
+        ),
+        _ => new_by_look_ups(before, m),
+    }
+}
+
+// As `new_entries`, where each cell is looked up.
+fn new_by_look_ups(before: &[Arc<FilteredMatrix>], m: &Hyper) -> u64
+    requires { total (content (all_counts (values before.now))) < 2 ^ 64 }
+    ensures { result ≡ count_new (content (all_counts (values before.now))) (entries m.now.counts) }
+{
+    // They fit 64 bits, so the new ones do.
+    let _bound = m.entries();
+    let mut new = 0;
+    'cells: for cell in m.iter() {
+        if count_in(before, cell.row, cell.col).is_none() {
+            new += 1;
+        }
+    }
+    new
+}
+
+/// As `new_entries`. Beside several runs, of which it has no small part, each is walked through with a list of the
+/// matrix's cells, which keeps those that are new: a look-up in each run would take longer.
+///
+/// The list takes 24 bytes for each cell of the matrix.
+pub fn new_by_walks(
+    alloc: Global,
+    before: &[Arc<FilteredMatrix>],
+    m: &Hyper,
+) -> Result<u64, AllocError>
+    requires { total (content (all_counts (values before.now))) < 2 ^ 64 }
+    ensures { IfOk result (λ new. new ≡ count_new (content (all_counts (values before.now))) (entries m.now.counts)) }
+{
+    let ratio = WALKED_RATIO.saturating_mul(before.len() as u64);
+    if before.len() <= 1 || entries_bound(before) / ratio > m.entries() {
+        return Ok(new_entries(before, m));
+    }
+    let mut cells = Vec::new(alloc);
+    m.push_cells(&mut cells)?;
+    'runs: for run in before {
+        let kept = keep_new(&mut cells, run.matrix());
+        cells.truncate(kept);
+    }
+    Ok(cells.len() as u64)
+}
+
+/// The number of entries of the sum of the first `until` runs, of which `places` are those of the first `counted`
+/// together. Takes the time and memory of `new_by_walks` for each run between.
+pub fn places_to(
+    alloc: Global,
+    runs: &[Arc<FilteredMatrix>],
+    counted: usize,
+    places: u64,
+    until: usize,
+) -> Result<u64, AllocError>
+    requires counts { CountsPlaces counted places (values runs.now) }
+    requires order { counted ≤ until }
+    requires within { until ≤ length runs.now }
+    requires fits { total (content (all_counts (values runs.now))) < 2 ^ 64 }
+    requires few { len (content (all_counts (values runs.now))) < 2 ^ 64 }
+    ensures { IfOk result (λ all. CountsPlaces until all (values runs.now)) }
+{
+    let mut places = places;
+    'runs: for i in counted..until {
+        places += new_by_walks(alloc, &runs[..i], runs[i].matrix())?;
+    }
+    Ok(places)
+}
+
+/// The number of entries of the runs' sum, which isn't built: `places`, those of the first `counted` runs together, and
+/// those of each run behind them that no earlier run has. The first run takes constant time, and the second a step for
+/// each cell of both. Each cell of the third and those behind it takes a look-up in each earlier run.
+pub fn entries_in(runs: &[Arc<FilteredMatrix>], counted: usize, places: u64) -> u64
+    requires counts { CountsPlaces counted places (values runs.now) }
+    requires fits { total (content (all_counts (values runs.now))) < 2 ^ 64 }
+    requires few { len (content (all_counts (values runs.now))) < 2 ^ 64 }
+    ensures { result ≡ len (content (all_counts (values runs.now))) }
+{
+    let mut entries = places;
+    'runs: for i in counted..runs.len() {
+        entries += new_entries(&runs[..i], runs[i].matrix());
+    }
+    entries
+}
