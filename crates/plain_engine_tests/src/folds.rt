@@ -197,7 +197,13 @@ fn of_nothing<R: RandomSource + Abort + Eprint>(
     setup: Setup,
 ) -> Result<(Size, Listed), Fail> {
     let engine = folded_after(rt, alloc, setup, &[])?;
-    Ok((size(alloc, &engine)?, listed(alloc, &engine)?))
+    Ok(size_and_list(alloc, &engine)?)
+}
+
+fn size_and_list(alloc: Global, engine: &PlainEngine) -> Result<(Size, Listed), AllocError> {
+    let size = size(alloc, engine)?;
+    let listed = listed(alloc, engine)?;
+    Ok((size, listed))
 }
 
 #[test]

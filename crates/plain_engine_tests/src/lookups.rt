@@ -39,42 +39,58 @@ static PLACES: &[(u64, u64, Option<u64>)] = &[
     (u64::MAX, u64::MAX, None),
 ];
 
+fn expect_cells<R: RandomSource + Abort + Eprint>(rt: &R, alloc: Global) -> Result<(), Fail> {
+    let engine = small_engine_of(rt, alloc, THREE)?;
+    expect_counts(rt, &engine, PLACES);
+    Ok(())
+}
+
 #[test]
 fn cells_are_those_of_the_sum(rt: HostRuntime) -> Result<(), Fail> {
-    let engine = small_engine_of(&rt, rt.alloc(), THREE)?;
-    expect_counts(&rt, &engine, PLACES);
-    Ok(())
+    expect_cells(&rt, rt.alloc())
 }
 
 static ROWS: &[(u64, u64, u64)] = &[(0, 2, 10), (1, 2, 4), (2, 1, 1), (3, 0, 0), (4, 0, 0)];
 
-#[test]
-fn rows_are_those_of_the_sum(rt: HostRuntime) -> Result<(), Fail> {
-    let engine = small_engine_of(&rt, rt.alloc(), THREE)?;
+fn expect_rows<R: RandomSource + Abort + Eprint>(rt: &R, alloc: Global) -> Result<(), Fail> {
+    let engine = small_engine_of(rt, alloc, THREE)?;
     for (row, entries, total) in ROWS {
-        expect_row(&rt, &engine, *row, *entries, *total);
+        expect_row(rt, &engine, *row, *entries, *total);
     }
     Ok(())
 }
 
 #[test]
-fn an_export_is_the_sum(rt: HostRuntime) -> Result<(), Fail> {
-    let engine = small_engine_of(&rt, rt.alloc(), THREE)?;
-    let has = exports(rt.alloc(), &engine, SUM)?;
+fn rows_are_those_of_the_sum(rt: HostRuntime) -> Result<(), Fail> {
+    expect_rows(&rt, rt.alloc())
+}
+
+fn expect_export<R: RandomSource + Abort + Eprint>(rt: &R, alloc: Global) -> Result<(), Fail> {
+    let engine = small_engine_of(rt, alloc, THREE)?;
+    let has = exports(alloc, &engine, SUM)?;
     assert!(rt; has);
     Ok(())
 }
 
 #[test]
-fn shards_have_their_batches(rt: HostRuntime) -> Result<(), Fail> {
-    let engine = small_engine_of(&rt, rt.alloc(), THREE)?;
+fn an_export_is_the_sum(rt: HostRuntime) -> Result<(), Fail> {
+    expect_export(&rt, rt.alloc())
+}
+
+fn expect_both_shards<R: RandomSource + Abort + Eprint>(rt: &R, alloc: Global) -> Result<(), Fail> {
+    let engine = small_engine_of(rt, alloc, THREE)?;
     // The first batch has a stored zero in row 1.
-    expect_shards(&rt, &engine, &[(0, 11, 3), (1, 4, 2)]);
-    expect_no_shard(&rt, &engine, 2);
-    expect_no_shard(&rt, &engine, u64::MAX);
+    expect_shards(rt, &engine, &[(0, 11, 3), (1, 4, 2)]);
+    expect_no_shard(rt, &engine, 2);
+    expect_no_shard(rt, &engine, u64::MAX);
     let setup = engine.setup();
-    assert!(rt; same(&rt, &(setup.shards(), setup.limit()), &(2, 100)));
+    assert!(rt; same(rt, &(setup.shards(), setup.limit()), &(2, 100)));
     Ok(())
+}
+
+#[test]
+fn shards_have_their_batches(rt: HostRuntime) -> Result<(), Fail> {
+    expect_both_shards(&rt, rt.alloc())
 }
 
 // Ten batches, each with one cell of its own.
@@ -130,18 +146,22 @@ fn engine_of_ten<R: RandomSource + Abort + Eprint>(
     engine_of(rt, alloc, setup, TEN)
 }
 
-#[test]
-fn layers_keep_their_cuts(rt: HostRuntime) -> Result<(), Fail> {
-    let engine = engine_of_ten(&rt, rt.alloc())?;
+fn expect_cuts_kept<R: RandomSource + Abort + Eprint>(rt: &R, alloc: Global) -> Result<(), Fail> {
+    let engine = engine_of_ten(rt, alloc)?;
     assert!(rt;
         same(
-            &rt,
+            rt,
             &layers(&engine),
             &Some([Some(1), Some(3), Some(6), None])
         )
     );
-    expect_first_view(&rt, rt.alloc(), &engine, (10, 10, 10))?;
+    expect_first_view(rt, alloc, &engine, (10, 10, 10))?;
     Ok(())
+}
+
+#[test]
+fn layers_keep_their_cuts(rt: HostRuntime) -> Result<(), Fail> {
+    expect_cuts_kept(&rt, rt.alloc())
 }
 
 static FIRST: &[Step] = &[(7, 1, &[(0, 0, 5)], Ok((0, 5)))];
@@ -163,11 +183,15 @@ fn expect_view_of_first(
     Ok(())
 }
 
+fn expect_view_stays<R: RandomSource + Abort + Eprint>(rt: &R, alloc: Global) -> Result<(), Fail> {
+    let setup = small_setup()?;
+    let mut engine = engine_of(rt, alloc, setup, FIRST)?;
+    expect_view_of_first(rt, alloc, &setup, &mut engine)?;
+    expect_shards(rt, &engine, &[(0, 8, 2)]);
+    Ok(())
+}
+
 #[test]
 fn a_view_stays_as_it_was(rt: HostRuntime) -> Result<(), Fail> {
-    let setup = small_setup()?;
-    let mut engine = engine_of(&rt, rt.alloc(), setup, FIRST)?;
-    expect_view_of_first(&rt, rt.alloc(), &setup, &mut engine)?;
-    expect_shards(&rt, &engine, &[(0, 8, 2)]);
-    Ok(())
+    expect_view_stays(&rt, rt.alloc())
 }

@@ -113,12 +113,16 @@ static REPEATS: &[Step] = &[
     (7, 2, &[(0, 0, 6)], Ok((2, 14))),
 ];
 
+fn expect_repeats<R: RandomSource + Abort + Eprint>(rt: &R, alloc: Global) -> Result<(), Fail> {
+    let engine = small_engine_of(rt, alloc, REPEATS)?;
+    expect_status(rt, &engine, 3, 14);
+    expect_counts(rt, &engine, &[(0, 0, Some(14))]);
+    Ok(())
+}
+
 #[test]
 fn repeats_are_answered_their_replies(rt: HostRuntime) -> Result<(), Fail> {
-    let engine = small_engine_of(&rt, rt.alloc(), REPEATS)?;
-    expect_status(&rt, &engine, 3, 14);
-    expect_counts(&rt, &engine, &[(0, 0, Some(14))]);
-    Ok(())
+    expect_repeats(&rt, rt.alloc())
 }
 
 // With a limit of 100.
@@ -131,11 +135,15 @@ static WITHIN_100: &[Step] = &[
     (9, 2, &[(2, 2, 1)], Err(OverTotal { accepted: 100 })),
 ];
 
+fn expect_limit<R: RandomSource + Abort + Eprint>(rt: &R, alloc: Global) -> Result<(), Fail> {
+    let engine = small_engine_of(rt, alloc, WITHIN_100)?;
+    expect_status(rt, &engine, 3, 100);
+    Ok(())
+}
+
 #[test]
 fn the_limit_is_kept_exactly(rt: HostRuntime) -> Result<(), Fail> {
-    let engine = small_engine_of(&rt, rt.alloc(), WITHIN_100)?;
-    expect_status(&rt, &engine, 3, 100);
-    Ok(())
+    expect_limit(&rt, rt.alloc())
 }
 
 // With at most one batch.
@@ -162,22 +170,30 @@ fn listed(
     Ok((batches.len(), first_of(&batches)))
 }
 
+fn expect_full_book<R: RandomSource + Abort + Eprint>(rt: &R, alloc: Global) -> Result<(), Fail> {
+    let engine = small_engine_within(rt, alloc, 100, 1, AT_MOST_ONE)?;
+    let found = listed(alloc, &engine)?;
+    assert!(rt; same(rt, &found, &(1, Some((7, 1, 5)))));
+    Ok(())
+}
+
 #[test]
 fn a_full_book_knows_its_batches(rt: HostRuntime) -> Result<(), Fail> {
-    let engine = small_engine_within(&rt, rt.alloc(), 100, 1, AT_MOST_ONE)?;
-    let found = listed(rt.alloc(), &engine)?;
-    assert!(rt; same(&rt, &found, &(1, Some((7, 1, 5)))));
-    Ok(())
+    expect_full_book(&rt, rt.alloc())
 }
 
 static EMPTY: &[Step] = &[(9, 1, &[], Ok((0, 0))), (9, 1, &[], Ok((0, 0)))];
 
+fn expect_empty_batch<R: RandomSource + Abort + Eprint>(rt: &R, alloc: Global) -> Result<(), Fail> {
+    let engine = small_engine_of(rt, alloc, EMPTY)?;
+    expect_status(rt, &engine, 1, 0);
+    expect_shards(rt, &engine, &[(0, 0, 0), (1, 0, 0)]);
+    Ok(())
+}
+
 #[test]
 fn an_empty_batch_concerns_no_shard(rt: HostRuntime) -> Result<(), Fail> {
-    let engine = small_engine_of(&rt, rt.alloc(), EMPTY)?;
-    expect_status(&rt, &engine, 1, 0);
-    expect_shards(&rt, &engine, &[(0, 0, 0), (1, 0, 0)]);
-    Ok(())
+    expect_empty_batch(&rt, rt.alloc())
 }
 
 // Two counts of 2^63 and one less, with the greatest limit.
@@ -198,10 +214,17 @@ static GREATEST: &[Step] = &[
     (7, 4, &[(0, 0, 0)], Ok((1, u64::MAX))),
 ];
 
+fn expect_greatest_total<R: RandomSource + Abort + Eprint>(
+    rt: &R,
+    alloc: Global,
+) -> Result<(), Fail> {
+    let engine = small_engine_within(rt, alloc, u64::MAX, 10, GREATEST)?;
+    let total = exported_total(alloc, &engine)?;
+    assert!(rt; same(rt, &total, &u64::MAX));
+    Ok(())
+}
+
 #[test]
 fn the_greatest_total_is_taken(rt: HostRuntime) -> Result<(), Fail> {
-    let engine = small_engine_within(&rt, rt.alloc(), u64::MAX, 10, GREATEST)?;
-    let total = exported_total(rt.alloc(), &engine)?;
-    assert!(rt; same(&rt, &total, &u64::MAX));
-    Ok(())
+    expect_greatest_total(&rt, rt.alloc())
 }

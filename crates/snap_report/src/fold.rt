@@ -1,13 +1,14 @@
 //! `fold`: reads a snapshot, folds all its batches, and saves it again.
-ghost use Rattle.std.specs.Prelude.{◌≡◌, ◌+◌, ◌<◌, ◌^◌, ◌⊎◌, ◌++◌, [], Err, OnOk, IfOk, IfErr};
+ghost use Rattle.std.specs.Prelude.{◌≡◌, ◌+◌, ◌<◌, ◌^◌, ◌⊎◌, ◌++◌, Err, OnOk, IfOk, IfErr};
+ghost use Rattle.std.specs.Arc.{arc_value};
 ghost use Rattle.byte_io.specs.Writing.{HasTaken, HasStopped};
 ghost use Rattle.byte_io.specs.declared.fault.WriteFault.{WriteFault};
-ghost use Rattle.hyper_matrix.specs.Counts.{total};
+ghost use Rattle.hyper_matrix.specs.Cells.{built_of};
 ghost use Rattle.hyper_matrix.specs.Matrix.{matrix};
 ghost use Rattle.batch_store.specs.Setups.{Setting};
-ghost use Rattle.batch_store.specs.Accepted.{Accepted, accepted, count_in, total_in, summed, folded_into};
+ghost use Rattle.batch_store.specs.Accepted.{Accepted, count_in, total_in, summed, folded_into};
 ghost use Rattle.batch_store.specs.Batches.{entries_of, values};
-ghost use Rattle.batch_store.specs.Books.{AreAccepted, HaveDims, list_total, accepted_in};
+ghost use Rattle.batch_store.specs.Books.{AreAccepted, accepted_in};
 ghost use Rattle.snap_file.specs.Snapshots.{HasBase};
 ghost use Rattle.snap_report.specs.Folds.{fold_line, LeavesLine};
 
@@ -17,28 +18,20 @@ use crate::limits::SNAPSHOT_BYTES;
 use arrayvec::ArrayString;
 use batch_store::{Batch, BookList, Entry, Setup};
 use byte_io::{Sink, write_all};
+use cells::Cell;
 use hyper_matrix::Hyper;
 use snap_file::{load, save};
 use std::alloc::{AllocError, Global};
 use std::rt::Files;
 use std::sync::Arc;
 
-// The sum of a base and of batches.
-fn matrix_of(
-    alloc: Global,
-    setup: &Setup,
-    base: &Hyper,
-    batches: &[Arc<Batch>],
-) -> Result<Hyper, AllocError>
-    requires based { (base.now.rows ≡ setup.now.rows) × (base.now.cols ≡ setup.now.cols) }
-    requires dims { HaveDims setup.now.rows setup.now.cols (values batches.now) }
-    requires fits { total base.now.counts + list_total (values batches.now) < 2 ^ 64 }
-    ensures { IfOk result (λ sum. sum ≡ matrix setup.now.rows setup.now.cols
-        (summed (accepted base.now.counts [] (values batches.now)))) }
+// The matrix of these cells.
+fn base_of(alloc: Global, setup: &Setup, cells: Vec<Cell>) -> Result<Arc<Hyper>, AllocError>
+    ensures { IfOk result (λ base.
+        arc_value base ≡ matrix setup.now.rows setup.now.cols (built_of cells.items)) }
 {
-    let cells = sum_of(alloc, setup, base, batches)?;
     match Hyper::build_list(alloc, setup.rows(), setup.cols(), cells) {
-        Ok(sum) => Ok(sum),
+        Ok(sum) => Ok(Arc::new(alloc, sum)?),
         Err(_) => Err(AllocError),
     }
 }
@@ -55,6 +48,18 @@ fn with_entries(folded: Vec<Entry>, batches: &[Arc<Batch>]) -> Result<Vec<Entry>
     Ok(list)
 }
 
+// The entries of all batches of a list, folded or not. Their cells are let go of.
+fn all_entries(list: BookList) -> Result<Vec<Entry>, AllocError>
+    ensures { IfOk result (λ entries. entries.items ≡ list.folded ++ entries_of list.list) }
+{
+    let BookList {
+        base: _,
+        folded,
+        batches,
+    } = list;
+    with_entries(folded, &batches)
+}
+
 // A list with all its batches folded.
 fn folded(alloc: Global, setup: &Setup, list: BookList) -> Result<BookList, AllocError>
     requires accepted { AreAccepted setup.now (accepted_in list) }
@@ -65,14 +70,10 @@ fn folded(alloc: Global, setup: &Setup, list: BookList) -> Result<BookList, Allo
 {
     // It bounds the total.
     let _limit = setup.limit();
-    let sum = matrix_of(alloc, setup, &list.base, &list.batches)?;
-    let base = Arc::new(alloc, sum)?;
-    let BookList {
-        base: _,
-        folded,
-        batches,
-    } = list;
-    let folded = with_entries(folded, &batches)?;
+    let cells = sum_of(alloc, setup, &list.base, &list.batches)?;
+    // The batches go before their sum takes memory.
+    let folded = all_entries(list)?;
+    let base = base_of(alloc, setup, cells)?;
     Ok(BookList {
         base,
         folded,
@@ -123,8 +124,8 @@ fn write_line<W: Sink>(w: &mut W, batches: u64, total: u64) -> Result<(), FoldFa
 /// `folded F total T`: how many batches are folded now, and their total. What an engine that is started from it answers
 /// stays as it was, repeats included; the cells of each batch are gone.
 ///
-/// Takes the memory of `run_check`, and that of the sum beside the batches, some 40 bytes for each of its cells. It is
-/// meant for a file that no server uses: one that saves later replaces what was folded.
+/// Takes the memory of `run_check`: the batches are let go of before their sum is built. It is meant for a file that no
+/// server uses: one that saves later replaces what was folded.
 ///
 /// # Errors
 ///
