@@ -4,10 +4,11 @@
     python3 bench/fold.py PATH-TO-HHM [--batches N] [--cells N] [--entries N] [--base N] [--repeat N]
 
 It folds a snapshot of so many batches, each of so many cells spread evenly over 2^60 by 2^60, and checks it before and
-after, in turn. Then it starts a server from a folded snapshot of so many batches over a base of one cell, and from one
-of a single batch over a base of so many cells: the seconds until it listens, those of `hhm check` of that file, and the
-memory that the server has in use then, beyond that of one without a snapshot. Medians. Linux, and nothing but Python's
-own library.
+after, in turn; where the folder for temporary files (TMPDIR) lies on a disk, folding waits for that. Then it starts a
+server from a folded snapshot of so many batches over a base of one cell, and from those of a single batch over a base
+of so many cells, one and four to a row: the seconds until it listens, those of `hhm check` of that file, and the memory
+that the server has in use then, beyond that of one without a snapshot. Medians. Linux, and nothing but Python's own
+library.
 """
 import argparse
 import os
@@ -17,6 +18,7 @@ import struct
 import sys
 import tempfile
 import time
+from itertools import islice
 
 from check import CUTS, SIZE, medians, paths, timed, write_inputs
 from serve import Server
@@ -25,10 +27,22 @@ from serve import Server
 PIECE = 100_000
 
 
-def write_folded(path, entries, cells):
-    """Writes a snapshot of so many folded batches over a base of so many cells, all counts 1 but the last."""
+def cells_in_order(cells, in_row):
+    """So many places, spread evenly over rows that have so many each."""
+    spread = random.Random(2)
+    rows, cols = SIZE // (cells // in_row), SIZE // in_row
+    for start in range(0, cells, in_row):
+        row = start // in_row * rows + spread.randrange(rows)
+        for place in range(in_row):
+            yield row, place * cols + spread.randrange(cols)
+
+
+def write_folded(path, entries, cells, in_row=1):
+    """Writes a snapshot of so many folded batches over a base of so many cells. Each count is 1, but that of a single
+    cell.
+    """
     total = max(entries, cells)
-    spread, step = random.Random(2), SIZE // cells
+    places = cells_in_order(cells, in_row)
     with open(path, "wb") as file:
         file.write(b"HHMSNAP\n" + struct.pack(f">IQQB{len(CUTS)}Q", 2, SIZE, SIZE, len(CUTS), *CUTS))
         file.write(struct.pack(">BQQQQ", 8, 2**64 - 1, 1_000_000, 0, total))
@@ -37,10 +51,8 @@ def write_folded(path, entries, cells):
             some = range(start, min(start + PIECE, entries))
             file.write(b"".join(struct.pack(">QQQQ", 7, it, 1, total if entries == 1 else 1) for it in some))
         file.write(struct.pack(">Q", cells))
-        for start in range(0, cells, PIECE):
-            rows = (it * step + spread.randrange(step) for it in range(start, min(start + PIECE, cells)))
-            some = [(row, spread.randrange(SIZE), total if cells == 1 else 1) for row in rows]
-            file.write(b"".join(struct.pack(">QQQ", *cell) for cell in some))
+        while some := list(islice(places, PIECE)):
+            file.write(b"".join(struct.pack(">QQQ", *it, total if cells == 1 else 1) for it in some))
 
 
 def in_a_process(write, *words):
@@ -83,10 +95,10 @@ def started(words):
         return time.perf_counter() - start, server.memory_at_start
 
 
-def measure_start(program, folder, entries, cells, repeat):
-    """Starts from a folded snapshot, and from one without anything."""
+def measure_start(program, folder, entries, cells, in_row, repeat):
+    """Starts from a folded snapshot, and without one."""
     path = os.path.join(folder, "folded")
-    in_a_process(write_folded, path, entries, cells)
+    in_a_process(write_folded, path, entries, cells, in_row)
     words = [program, "serve", "--tcp", "127.0.0.1:0", "--rows", str(SIZE), "--cols", str(SIZE),
              "--cuts", ",".join(map(str, CUTS)), "--max-batches", "1000000"]  # fmt: skip
     checks, starts, bare = [], [], []
@@ -97,7 +109,8 @@ def measure_start(program, folder, entries, cells, repeat):
     seconds, memory = (statistics.median(it) for it in zip(*starts))
     memory -= statistics.median(bare)
     most = max(entries, cells)
-    print(f"{entries:,} entries, {cells:,} base cells: start {seconds:.3f} s, check {statistics.median(checks):.3f} s; "
+    print(f"{entries:,} entries, {cells:,} base cells, {in_row} to a row: start {seconds:.3f} s, "
+          f"check {statistics.median(checks):.3f} s; "
           f"memory {memory / 2**20:.0f} MiB, {memory / most:.0f} bytes each", flush=True)
     # A server that stops saves again: the snapshot is the same, and may go.
     os.remove(path)
@@ -115,8 +128,9 @@ def main():
     program = os.path.abspath(options.program)
     with tempfile.TemporaryDirectory() as folder:
         measure_fold(program, folder, options.batches, options.cells, options.repeat)
-        measure_start(program, folder, options.entries, 1, options.repeat)
-        measure_start(program, folder, 1, options.base, options.repeat)
+        measure_start(program, folder, options.entries, 1, 1, options.repeat)
+        for in_row in (1, 4):
+            measure_start(program, folder, 1, options.base, in_row, options.repeat)
 
 
 if __name__ == "__main__":
