@@ -120,16 +120,23 @@ fn saved_beside_link(
     Ok(saved(rt, path, snapshot))
 }
 
+// Whether the saved file holds the snapshot, the other is as it was, and the first is no link. Both are removed.
+fn left_beside_link(rt: &HostRuntime, path: &str, other: &str) -> io::Result<[bool; 3]> {
+    let holds_one = holds(rt, path, NEW_ONE)?;
+    let is_as_before = holds(rt, other, b"as it was")?;
+    let is_file = fs::symlink_metadata(rt, path)?.is_file();
+    fs::remove_file(rt, path)?;
+    fs::remove_file(rt, other)?;
+    Ok([holds_one, is_as_before, is_file])
+}
+
 #[test]
 fn a_link_beside_is_not_followed(rt: HostRuntime) -> Result<(), Fail> {
     let snapshot = read(rt.alloc(), ONE, ONE.len(), MAX_BYTES)?;
     let (path, other) = ("/tmp/hhm_snap_file_linked", "/tmp/hhm_snap_file_other");
     let answer = saved_beside_link(&rt, path, other, &snapshot)?;
-    assert!(rt; same(&rt, &answer, &Ok(())));
-    assert!(rt; holds(&rt, path, NEW_ONE)? && holds(&rt, other, b"as it was")?);
-    assert!(rt; fs::symlink_metadata(&rt, path)?.is_file());
-    fs::remove_file(&rt, path)?;
-    fs::remove_file(&rt, other)?;
+    let left = left_beside_link(&rt, path, other)?;
+    assert!(rt; same(&rt, &(answer, left), &(Ok(()), [true; 3])));
     Ok(())
 }
 
