@@ -11,6 +11,7 @@ use locked_engine::PutFault::{NumberReused, OverTotal};
 use locked_engine::{Engine, Named, Names, Seat};
 use plain_engine::PlainEngine;
 use std::alloc::{AllocError, Global};
+use std::io::Eprint;
 use std::marker::Brand;
 use std::process::Abort;
 use std::random::RandomSource;
@@ -83,7 +84,7 @@ static COUNTS: &[(u64, u64, Option<u64>)] = &[
     (0, 1, None),
 ];
 
-fn go_on<N: Named, H: Ledger, R: Wait + Abort>(
+fn go_on<N: Named, H: Ledger, R: Wait + Abort + Eprint>(
     rt: &R,
     alloc: Global,
     plain: PlainEngine,
@@ -105,7 +106,7 @@ fn go_on<N: Named, H: Ledger, R: Wait + Abort>(
     Ok(())
 }
 
-fn put_from_both<N: Named, H: Ledger, R: Wait + Abort>(
+fn put_from_both<N: Named, H: Ledger, R: Wait + Abort + Eprint>(
     rt: &R,
     alloc: Global,
     engine: &Engine<N, H>,
@@ -124,7 +125,7 @@ fn put_from_both<N: Named, H: Ledger, R: Wait + Abort>(
 }
 
 // The list of all that was accepted: two folded batches over a base of their total, and one behind them.
-fn expect_all<N: Named, H: Ledger, R: Wait + Abort>(
+fn expect_all<N: Named, H: Ledger, R: Wait + Abort + Eprint>(
     rt: &R,
     alloc: Global,
     engine: &Engine<N, H>,

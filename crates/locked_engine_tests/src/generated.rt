@@ -13,6 +13,7 @@ use locked_engine::{Engine, Named, Names, PutFault, Seat};
 use plain_engine::PlainEngine;
 use std::alloc::{AllocError, Global};
 use std::collections::BTreeMap;
+use std::io::Eprint;
 use std::marker::Brand;
 use std::process::Abort;
 use std::sync::atomic::{AtomicU64, Ordering};
@@ -21,6 +22,7 @@ use std::sync::{Arc, Wait};
 use std::test::Fail;
 use std::thread;
 use std::thread::Threads;
+use test_support::same;
 
 const ROWS: u64 = 60;
 
@@ -498,17 +500,17 @@ fn total_in(cells: &Counts, s: u64) -> u64 {
 }
 
 // Compares a shard's record, in order, and its total.
-fn agree_on_shard(rt: &impl Abort, shard: &Shard, model: &Model, s: u64) {
+fn agree_on_shard(rt: &(impl Abort + Eprint), shard: &Shard, model: &Model, s: u64) {
     let mut next = 0u64;
     for line in &model.list {
         if concerns(&line.cells, s) {
             let pair = shard.at(next).map(|b| (b.client, b.number));
-            assert_eq!(rt; pair, Some((line.draw.client, line.draw.number)));
+            assert!(rt; same(rt, &pair, &Some((line.draw.client, line.draw.number))));
             next = next.wrapping_add(1);
         }
     }
-    assert_eq!(rt; shard.record_len(), next);
-    assert_eq!(rt; shard.total(), total_in(&model.sum, s));
+    assert!(rt; same(rt, &shard.record_len(), &next));
+    assert!(rt; same(rt, &shard.total(), &total_in(&model.sum, s)));
 }
 
 // How many batches were answered to somebody.
@@ -538,7 +540,7 @@ fn answer_counts(lines: &[Line]) -> (usize, usize) {
 
 // Each answer is one that the model allows.
 fn expect_allowed(
-    rt: &impl Abort,
+    rt: &(impl Abort + Eprint),
     alloc: Global,
     lines: &[Line],
     model: &Model,
@@ -552,31 +554,34 @@ fn expect_allowed(
 // Each answer is one that the model allows, and each accepted batch was answered to somebody. There were repeats, and
 // the limit was reached.
 fn agree_on_answers(
-    rt: &impl Abort,
+    rt: &(impl Abort + Eprint),
     alloc: Global,
     lines: &[Line],
     model: &Model,
 ) -> Result<(), AllocError> {
     expect_allowed(rt, alloc, lines, model)?;
-    assert_eq!(rt; told_count(alloc, lines)?, model.list.len());
+    assert!(rt; same(rt, &told_count(alloc, lines)?, &model.list.len()));
     let (accepted, refused) = answer_counts(lines);
     assert!(rt; accepted > model.list.len() && refused > 0);
     Ok(())
 }
 
 // Compares how many batches an engine has accepted, and their total.
-fn agree_on_status(rt: &impl Abort, closed: &PlainEngine, model: &Model) {
+fn agree_on_status(rt: &(impl Abort + Eprint), closed: &PlainEngine, model: &Model) {
     let status = closed.status();
-    assert_eq!(rt;
-        (status.batches as usize, status.total),
-        (model.list.len(), model.total)
+    assert!(rt;
+        same(
+            rt,
+            &(status.batches as usize, status.total),
+            &(model.list.len(), model.total)
+        )
     );
     assert!(rt; model.total <= LIMIT);
 }
 
 // Compares the sum of all shards.
 fn agree_on_sum(
-    rt: &impl Abort,
+    rt: &(impl Abort + Eprint),
     alloc: Global,
     closed: &PlainEngine,
     model: &Model,
@@ -587,7 +592,11 @@ fn agree_on_sum(
     Ok(())
 }
 
-fn agree_on_shards(rt: &impl Abort, closed: &PlainEngine, model: &Model) -> Result<(), Fail> {
+fn agree_on_shards(
+    rt: &(impl Abort + Eprint),
+    closed: &PlainEngine,
+    model: &Model,
+) -> Result<(), Fail> {
     for s in 0..SHARDS {
         let shard = closed.shard(s).ok_or("no shard")?;
         agree_on_shard(rt, shard, model, s);
@@ -597,7 +606,7 @@ fn agree_on_shards(rt: &impl Abort, closed: &PlainEngine, model: &Model) -> Resu
 
 // Compares all that an engine has with the model of its batches.
 fn agree_with(
-    rt: &impl Abort,
+    rt: &(impl Abort + Eprint),
     alloc: Global,
     closed: &PlainEngine,
     model: &Model,
@@ -611,7 +620,7 @@ fn agree_with(
 
 // Takes a model of an engine's batches. None of them is one that nobody put, and no pair stands twice.
 fn take_batches(
-    rt: &impl Abort,
+    rt: &(impl Abort + Eprint),
     alloc: Global,
     closed: &PlainEngine,
     model: &mut Model,
@@ -621,7 +630,12 @@ fn take_batches(
     Ok(())
 }
 
-fn agree(rt: &impl Abort, alloc: Global, closed: &PlainEngine, lines: &[Line]) -> Result<(), Fail> {
+fn agree(
+    rt: &(impl Abort + Eprint),
+    alloc: Global,
+    closed: &PlainEngine,
+    lines: &[Line],
+) -> Result<(), Fail> {
     let mut model = Model::new(alloc);
     take_batches(rt, alloc, closed, &mut model)?;
     agree_with(rt, alloc, closed, &model, lines)
@@ -635,12 +649,11 @@ fn threads_agree_with_a_plain_model(rt: HostRuntime) -> Result<(), Fail> {
     put_at_once::<Brand, Brand, _>(&rt, rt.alloc(), plain, names)
 }
 
-fn put_at_once<N: Named + Send + Sync, H: Ledger + Send + Sync, R: Threads + Wait + Abort + Sync>(
-    rt: &R,
-    alloc: Global,
-    plain: PlainEngine,
-    names: Names,
-) -> Result<(), Fail>
+fn put_at_once<
+    N: Named + Send + Sync,
+    H: Ledger + Send + Sync,
+    R: Threads + Wait + Abort + Eprint + Sync,
+>(rt: &R, alloc: Global, plain: PlainEngine, names: Names) -> Result<(), Fail>
     requires named { NamesEngine names N.setup N.seats N.history N.name N.parts H.name H.parts }
     requires made_from { plain.setup ≡ names.setup }
     requires opened { plain.book.state ≡ N.opened }
@@ -658,7 +671,11 @@ fn put_at_once<N: Named + Send + Sync, H: Ledger + Send + Sync, R: Threads + Wai
 }
 
 // Puts and reads from these seats at once: the seats again, and what the puts were answered.
-fn put_from_all<N: Named + Send + Sync, H: Ledger + Send + Sync, R: Threads + Wait + Abort + Sync>(
+fn put_from_all<
+    N: Named + Send + Sync,
+    H: Ledger + Send + Sync,
+    R: Threads + Wait + Abort + Eprint + Sync,
+>(
     rt: &R,
     alloc: Global,
     engine: &Engine<N, H>,
@@ -671,7 +688,7 @@ fn put_from_all<N: Named + Send + Sync, H: Ledger + Send + Sync, R: Threads + Wa
 
 // Takes back all seats, and what the writers were answered.
 fn leave_all<N: Named, H: Ledger>(
-    rt: &impl Abort,
+    rt: &(impl Abort + Eprint),
     alloc: Global,
     writers: Vec<Writer<N, H>>,
     readers: Vec<Reader<N, H>>,
@@ -685,7 +702,7 @@ fn leave_all<N: Named, H: Ledger>(
 
 // Takes back the seats of all writers, which have put all, and what they were answered.
 fn leave_writers<N: Named, H: Ledger>(
-    rt: &impl Abort,
+    rt: &(impl Abort + Eprint),
     writers: Vec<Writer<N, H>>,
     seats: &mut Vec<Seat<N, H>>,
     lines: &mut Vec<Line>,
@@ -700,7 +717,7 @@ fn leave_writers<N: Named, H: Ledger>(
 
 // Takes back the seats of all readers, which have found nothing that doesn't fit.
 fn leave_readers<N: Named, H: Ledger>(
-    rt: &impl Abort,
+    rt: &(impl Abort + Eprint),
     readers: Vec<Reader<N, H>>,
     seats: &mut Vec<Seat<N, H>>,
 ) -> Result<(), AllocError> {

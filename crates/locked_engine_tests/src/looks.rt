@@ -9,11 +9,13 @@ use batch_store::Shard;
 use locked_engine::{Engine, Named, Names, Seat};
 use plain_engine::PlainEngine;
 use std::alloc::Global;
+use std::io::Eprint;
 use std::marker::Brand;
 use std::process::Abort;
 use std::sync::Wait;
 use std::sync::ledger::Ledger;
 use std::test::Fail;
+use test_support::same_at;
 
 // A batch of both shards of the small setup, and one that concerns the second alone.
 static PUTS: &[Step] = &[
@@ -35,7 +37,7 @@ fn a_look_finds_what_the_shard_holds(rt: HostRuntime) -> Result<(), Fail> {
     put_and_look::<Brand, Brand, _>(&rt, rt.alloc(), plain, names)
 }
 
-fn put_and_look<N: Named, H: Ledger, R: Wait + Abort>(
+fn put_and_look<N: Named, H: Ledger, R: Wait + Abort + Eprint>(
     rt: &R,
     alloc: Global,
     plain: PlainEngine,
@@ -51,7 +53,7 @@ fn put_and_look<N: Named, H: Ledger, R: Wait + Abort>(
     found
 }
 
-fn put_and_expect<N: Named, H: Ledger, R: Wait + Abort>(
+fn put_and_expect<N: Named, H: Ledger, R: Wait + Abort + Eprint>(
     rt: &R,
     alloc: Global,
     engine: &Engine<N, H>,
@@ -61,7 +63,7 @@ fn put_and_expect<N: Named, H: Ledger, R: Wait + Abort>(
     expect_shards(rt, engine)
 }
 
-fn expect_shards<N: Named, H: Ledger, R: Wait + Abort>(
+fn expect_shards<N: Named, H: Ledger, R: Wait + Abort + Eprint>(
     rt: &R,
     engine: &Engine<N, H>,
 ) -> Result<(), Fail> {
@@ -76,7 +78,7 @@ fn expect_shards<N: Named, H: Ledger, R: Wait + Abort>(
                 && has_batches(shard, batches)
                 && has_cells(shard, cells)
         });
-        assert_eq!(rt; found, Some(true), "shard {number}");
+        assert!(rt; same_at(rt, &number, &found, &Some(true)));
     }
     Ok(())
 }

@@ -9,11 +9,13 @@ use batch_store::{Batch, Setup};
 use locked_engine::{CloseFault, Engine, Named, Names, OpenFault, PutFault, Seat};
 use plain_engine::PlainEngine;
 use std::alloc::{AllocError, Global};
+use std::io::Eprint;
 use std::process::Abort;
 use std::random::RandomSource;
 use std::sync::ledger::Ledger;
 use std::sync::{Arc, Wait};
 use std::test::Fail;
+use test_support::same;
 
 /// The place and the total of a kept reply, or why there is none.
 pub type Answer = Result<(u64, u64), PutFault>;
@@ -138,7 +140,7 @@ pub fn put<N: Named, H: Ledger, R: Wait>(
 }
 
 /// Puts the batches of a table, and compares each answer.
-pub fn put_all<N: Named, H: Ledger, R: Wait + Abort>(
+pub fn put_all<N: Named, H: Ledger, R: Wait + Abort + Eprint>(
     rt: &R,
     alloc: Global,
     engine: &Engine<N, H>,
@@ -147,7 +149,7 @@ pub fn put_all<N: Named, H: Ledger, R: Wait + Abort>(
 ) -> Result<(), Fail> {
     for (client, number, cells, expected) in steps {
         let answer = put(rt, alloc, engine, seat, (*client, *number), cells)?;
-        assert_eq!(rt; answer, *expected);
+        assert!(rt; same(rt, &answer, expected));
     }
     Ok(())
 }

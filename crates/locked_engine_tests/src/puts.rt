@@ -10,6 +10,7 @@ use locked_engine::PutFault::{BookFull, NumberReused, OverTotal};
 use locked_engine::{Engine, Named, Names, Seat};
 use plain_engine::PlainEngine;
 use std::alloc::Global;
+use std::io::Eprint;
 use std::marker::Brand;
 use std::process::Abort;
 use std::sync::Wait;
@@ -87,7 +88,7 @@ fn puts_are_answered_as_by_one_thread(rt: HostRuntime) -> Result<(), Fail> {
     Ok(())
 }
 
-fn put_case<N: Named, H: Ledger, R: Wait + Abort>(
+fn put_case<N: Named, H: Ledger, R: Wait + Abort + Eprint>(
     rt: &R,
     alloc: Global,
     plain: PlainEngine,
@@ -109,7 +110,7 @@ fn put_case<N: Named, H: Ledger, R: Wait + Abort>(
 }
 
 // Puts the batches of a case from the first seat.
-fn put_steps<N: Named, H: Ledger, R: Wait + Abort>(
+fn put_steps<N: Named, H: Ledger, R: Wait + Abort + Eprint>(
     rt: &R,
     alloc: Global,
     engine: &Engine<N, H>,

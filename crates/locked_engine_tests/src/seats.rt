@@ -9,6 +9,7 @@ use locked_engine::PutFault::OverTotal;
 use locked_engine::{CloseFault, Engine, Named, Names, OpenFault, Seat};
 use plain_engine::PlainEngine;
 use std::alloc::Global;
+use std::io::Eprint;
 use std::marker::Brand;
 use std::process::Abort;
 use std::random::RandomSource;
@@ -17,6 +18,7 @@ use std::sync::ledger::Ledger;
 use std::test::Fail;
 use std::thread;
 use std::thread::Threads;
+use test_support::same;
 
 static BAD: &[usize] = &[0, 33, 64, usize::MAX];
 
@@ -32,7 +34,7 @@ fn names_fault(
     Names::new(rt, alloc, plain, seats).err()
 }
 
-fn expect_faults<R: RandomSource + Abort>(
+fn expect_faults<R: RandomSource + Abort + Eprint>(
     rt: &R,
     alloc: Global,
     plain: &PlainEngine,
@@ -40,7 +42,7 @@ fn expect_faults<R: RandomSource + Abort>(
     fault: Option<OpenFault>,
 ) {
     for seats in list {
-        assert_eq!(rt; names_fault(rt, alloc, plain, *seats), fault);
+        assert!(rt; same(rt, &names_fault(rt, alloc, plain, *seats), &fault));
     }
 }
 
@@ -70,7 +72,7 @@ const REFUSED: Answer = Err(OverTotal { accepted: 60 });
 fn put_sixty_twice<
     N: Named + Send + Sync,
     H: Ledger + Send + Sync,
-    R: Threads + Wait + Abort + Sync,
+    R: Threads + Wait + Abort + Eprint + Sync,
 >(rt: &R, alloc: Global, plain: PlainEngine, names: Names) -> Result<(), Fail>
     requires named { NamesEngine names N.setup N.seats N.history N.name N.parts H.name H.parts }
     requires made_from { plain.setup ≡ names.setup }
@@ -84,12 +86,11 @@ fn put_sixty_twice<
     close_at_last(rt, alloc, engine, seats)
 }
 
-fn put_from_both<N: Named + Send + Sync, H: Ledger + Send + Sync, R: Threads + Wait + Abort + Sync>(
-    rt: &R,
-    alloc: Global,
-    engine: &Engine<N, H>,
-    seats: &mut [Seat<N, H>],
-) -> Result<(), Fail> {
+fn put_from_both<
+    N: Named + Send + Sync,
+    H: Ledger + Send + Sync,
+    R: Threads + Wait + Abort + Eprint + Sync,
+>(rt: &R, alloc: Global, engine: &Engine<N, H>, seats: &mut [Seat<N, H>]) -> Result<(), Fail> {
     assert!(rt; engine.seat_count() == 2 && seats.len() == 2);
     let (first, second) = two_seats(seats)?;
     assert!(rt; first.number() == 0 && second.number() == 1);
@@ -98,7 +99,7 @@ fn put_from_both<N: Named + Send + Sync, H: Ledger + Send + Sync, R: Threads + W
     Ok(())
 }
 
-fn expect_one_accepted(rt: &impl Abort, a: Option<Answer>, b: Option<Answer>) {
+fn expect_one_accepted(rt: &(impl Abort + Eprint), a: Option<Answer>, b: Option<Answer>) {
     let one = a == Some(ACCEPTED) && b == Some(REFUSED);
     let other = a == Some(REFUSED) && b == Some(ACCEPTED);
     assert!(rt; one || other);
@@ -151,7 +152,7 @@ fn closed_with<N: Named, H: Ledger, R: Wait>(
 }
 
 // Closes an engine without its last seat, and then with it.
-fn close_at_last<N: Named, H: Ledger, R: Wait + Abort>(
+fn close_at_last<N: Named, H: Ledger, R: Wait + Abort + Eprint>(
     rt: &R,
     alloc: Global,
     engine: Engine<N, H>,
@@ -178,7 +179,7 @@ fn a_status_shows_what_was_answered(rt: HostRuntime) -> Result<(), Fail> {
 static FIVE: &[(u64, u64, u64)] = &[(0, 0, 5)];
 
 // What one seat has put the other's status shows, once it was answered, also while a shard's lock is held.
-fn see_what_was_put<N: Named, H: Ledger, R: Wait + Abort>(
+fn see_what_was_put<N: Named, H: Ledger, R: Wait + Abort + Eprint>(
     rt: &R,
     alloc: Global,
     plain: PlainEngine,
@@ -194,11 +195,11 @@ fn see_what_was_put<N: Named, H: Ledger, R: Wait + Abort>(
         return Err(fail);
     }
     let closed = closed(rt, alloc, engine, seats)?;
-    assert_eq!(rt; closed.status().total, 5);
+    assert!(rt; same(rt, &closed.status().total, &5));
     Ok(())
 }
 
-fn see_from_both<N: Named, H: Ledger, R: Wait + Abort>(
+fn see_from_both<N: Named, H: Ledger, R: Wait + Abort + Eprint>(
     rt: &R,
     alloc: Global,
     engine: &Engine<N, H>,
@@ -206,17 +207,17 @@ fn see_from_both<N: Named, H: Ledger, R: Wait + Abort>(
 ) -> Result<(), Fail> {
     let (first, second) = two_seats(seats)?;
     let answer = put(rt, alloc, engine, first, (7, 1), FIVE)?;
-    assert_eq!(rt; answer, Ok((0, 5)));
+    assert!(rt; same(rt, &answer, &Ok((0, 5))));
     let status = engine.status(first);
-    assert_eq!(rt; (status.batches, status.total), (1, 5));
+    assert!(rt; same(rt, &(status.batches, status.total), &(1, 5)));
     let status = engine.status(second);
-    assert_eq!(rt; (status.batches, status.total), (1, 5));
+    assert!(rt; same(rt, &(status.batches, status.total), &(1, 5)));
     let answer = put(rt, alloc, engine, second, (7, 1), FIVE)?;
-    assert_eq!(rt; answer, Ok((0, 5)));
+    assert!(rt; same(rt, &answer, &Ok((0, 5))));
     let held = engine.look(rt, 0, |_shard| engine.status(second));
     let Some(status) = held else {
         return Err("no shard 0".into());
     };
-    assert_eq!(rt; (status.batches, status.total), (1, 5));
+    assert!(rt; same(rt, &(status.batches, status.total), &(1, 5)));
     Ok(())
 }

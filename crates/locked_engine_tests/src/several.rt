@@ -10,6 +10,7 @@ use batch_store::Batch;
 use locked_engine::{Engine, Named, Names, Seat};
 use plain_engine::PlainEngine;
 use std::alloc::Global;
+use std::io::Eprint;
 use std::marker::Brand;
 use std::process::Abort;
 use std::sync::atomic::{AtomicU64, Ordering};
@@ -19,6 +20,7 @@ use std::test::Fail;
 use std::thread;
 use std::thread::Threads;
 use std::time::{Clock, Duration};
+use test_support::same;
 
 // The most turns that a thread waits, each a sleep of one millisecond.
 const MAX_TURNS: u64 = 10_000;
@@ -54,7 +56,7 @@ fn a_shard_that_is_held_keeps_nobody_from_another(rt: HostRuntime) -> Result<(),
 fn put_beside_a_look<
     N: Named + Send + Sync,
     H: Ledger + Send + Sync,
-    R: Threads + Wait + Abort + Clock + Sync,
+    R: Threads + Wait + Abort + Eprint + Clock + Sync,
 >(rt: &R, alloc: Global, plain: PlainEngine, names: Names) -> Result<(), Fail>
     requires named { NamesEngine names N.setup N.seats N.history N.name N.parts H.name H.parts }
     requires made_from { plain.setup ≡ names.setup }
@@ -69,11 +71,11 @@ fn put_beside_a_look<
 fn put_and_export<
     N: Named + Send + Sync,
     H: Ledger + Send + Sync,
-    R: Threads + Wait + Abort + Clock + Sync,
+    R: Threads + Wait + Abort + Eprint + Clock + Sync,
 >(rt: &R, alloc: Global, engine: &Engine<N, H>, seats: &mut [Seat<N, H>]) -> Result<(), Fail> {
     let seat = seats.last_mut().ok_or("no seat")?;
     let (looked, answer) = look_and_put(rt, alloc, engine, seat);
-    assert_eq!(rt; (looked, answer), (Some(true), Some(Ok((0, 4)))));
+    assert!(rt; same(rt, &(looked, answer), &(Some(true), Some(Ok((0, 4))))));
     expect_export(rt, alloc, engine, IN_SHARD_1)?;
     Ok(())
 }
@@ -132,7 +134,7 @@ fn seats_read_what_was_put(rt: HostRuntime) -> Result<(), Fail> {
 }
 
 // These are the two batches, each with its cells.
-fn expect_both(rt: &impl Abort, alloc: Global, list: &[Arc<Batch>]) -> Result<(), Fail> {
+fn expect_both(rt: &(impl Abort + Eprint), alloc: Global, list: &[Arc<Batch>]) -> Result<(), Fail> {
     let [first, second] = list else {
         return Err("not two batches".into());
     };
@@ -141,12 +143,11 @@ fn expect_both(rt: &impl Abort, alloc: Global, list: &[Arc<Batch>]) -> Result<()
     Ok(())
 }
 
-fn put_by_both<N: Named + Send + Sync, H: Ledger + Send + Sync, R: Threads + Wait + Abort + Sync>(
-    rt: &R,
-    alloc: Global,
-    plain: PlainEngine,
-    names: Names,
-) -> Result<(), Fail>
+fn put_by_both<
+    N: Named + Send + Sync,
+    H: Ledger + Send + Sync,
+    R: Threads + Wait + Abort + Eprint + Sync,
+>(rt: &R, alloc: Global, plain: PlainEngine, names: Names) -> Result<(), Fail>
     requires named { NamesEngine names N.setup N.seats N.history N.name N.parts H.name H.parts }
     requires made_from { plain.setup ≡ names.setup }
     requires opened { plain.book.state ≡ N.opened }
@@ -160,17 +161,20 @@ fn put_by_both<N: Named + Send + Sync, H: Ledger + Send + Sync, R: Threads + Wai
     expect_listed(rt, alloc, &closed)
 }
 
-fn expect_listed(rt: &impl Abort, alloc: Global, closed: &PlainEngine) -> Result<(), Fail> {
+fn expect_listed(
+    rt: &(impl Abort + Eprint),
+    alloc: Global,
+    closed: &PlainEngine,
+) -> Result<(), Fail> {
     let list = closed.batches(alloc)?;
     expect_both(rt, alloc, &list)
 }
 
-fn put_and_read<N: Named + Send + Sync, H: Ledger + Send + Sync, R: Threads + Wait + Abort + Sync>(
-    rt: &R,
-    alloc: Global,
-    engine: &Engine<N, H>,
-    seats: &mut [Seat<N, H>],
-) -> Result<(), Fail> {
+fn put_and_read<
+    N: Named + Send + Sync,
+    H: Ledger + Send + Sync,
+    R: Threads + Wait + Abort + Eprint + Sync,
+>(rt: &R, alloc: Global, engine: &Engine<N, H>, seats: &mut [Seat<N, H>]) -> Result<(), Fail> {
     let (first, second) = two_seats(seats)?;
     put_first(rt, alloc, engine, first)?;
     put_second(rt, alloc, engine, second);
@@ -178,7 +182,7 @@ fn put_and_read<N: Named + Send + Sync, H: Ledger + Send + Sync, R: Threads + Wa
     read_both(rt, alloc, engine, second)
 }
 
-fn put_first<N: Named, H: Ledger, R: Wait + Abort>(
+fn put_first<N: Named, H: Ledger, R: Wait + Abort + Eprint>(
     rt: &R,
     alloc: Global,
     engine: &Engine<N, H>,
@@ -191,18 +195,17 @@ fn put_first<N: Named, H: Ledger, R: Wait + Abort>(
 }
 
 // Puts the second batch from a thread of its own.
-fn put_second<N: Named + Send + Sync, H: Ledger + Send + Sync, R: Threads + Wait + Abort + Sync>(
-    rt: &R,
-    alloc: Global,
-    engine: &Engine<N, H>,
-    seat: &mut Seat<N, H>,
-) {
+fn put_second<
+    N: Named + Send + Sync,
+    H: Ledger + Send + Sync,
+    R: Threads + Wait + Abort + Eprint + Sync,
+>(rt: &R, alloc: Global, engine: &Engine<N, H>, seat: &mut Seat<N, H>) {
     let (answer, ()) = thread::join(
         rt,
         || put(rt, alloc, engine, seat, (8, 1), SECOND).ok(),
         || {},
     );
-    assert_eq!(rt; answer, Some(Ok((1, 12))));
+    assert!(rt; same(rt, &answer, &Some(Ok((1, 12)))));
 }
 
 static COUNTS: &[(u64, u64, Option<u64>)] = &[
@@ -213,7 +216,7 @@ static COUNTS: &[(u64, u64, Option<u64>)] = &[
 ];
 
 // What a seat reads of the two batches.
-fn read_both<N: Named, H: Ledger, R: Wait + Abort>(
+fn read_both<N: Named, H: Ledger, R: Wait + Abort + Eprint>(
     rt: &R,
     alloc: Global,
     engine: &Engine<N, H>,
@@ -227,7 +230,7 @@ fn read_both<N: Named, H: Ledger, R: Wait + Abort>(
     list_both(rt, alloc, engine, seat)
 }
 
-fn list_both<N: Named, H: Ledger, R: Wait + Abort>(
+fn list_both<N: Named, H: Ledger, R: Wait + Abort + Eprint>(
     rt: &R,
     alloc: Global,
     engine: &Engine<N, H>,

@@ -12,6 +12,7 @@ use hyper_matrix::RowSum;
 use locked_engine::{Engine, Named, Names, Seat};
 use plain_engine::PlainEngine;
 use std::alloc::{AllocError, Global};
+use std::io::Eprint;
 use std::marker::Brand;
 use std::process::Abort;
 use std::sync::Wait;
@@ -20,6 +21,7 @@ use std::sync::ledger::Ledger;
 use std::test::Fail;
 use std::thread;
 use std::thread::Threads;
+use test_support::same;
 
 // Cells of both shards of the small setup.
 static BOTH: Cells = &[(0, 0, 5), (0, 1, 3), (1, 0, 4)];
@@ -30,7 +32,7 @@ fn look_ups_are_answered_while_a_shard_is_held(rt: HostRuntime) -> Result<(), Fa
     put_and_look::<Brand, Brand, _>(&rt, rt.alloc(), plain, names)
 }
 
-fn put_and_look<N: Named, H: Ledger, R: Wait + Abort>(
+fn put_and_look<N: Named, H: Ledger, R: Wait + Abort + Eprint>(
     rt: &R,
     alloc: Global,
     plain: PlainEngine,
@@ -47,7 +49,7 @@ fn put_and_look<N: Named, H: Ledger, R: Wait + Abort>(
 }
 
 // Reads a shard inside a look at it, of which any call that takes the shard's lock would never end.
-fn read_inside_a_look<N: Named, H: Ledger, R: Wait + Abort>(
+fn read_inside_a_look<N: Named, H: Ledger, R: Wait + Abort + Eprint>(
     rt: &R,
     alloc: Global,
     engine: &Engine<N, H>,
@@ -59,7 +61,7 @@ fn read_inside_a_look<N: Named, H: Ledger, R: Wait + Abort>(
     expect_held_export(rt, alloc, engine)
 }
 
-fn expect_held_reads<N: Named, H: Ledger, R: Wait + Abort>(
+fn expect_held_reads<N: Named, H: Ledger, R: Wait + Abort + Eprint>(
     rt: &R,
     engine: &Engine<N, H>,
 ) -> Result<(), Fail> {
@@ -69,12 +71,12 @@ fn expect_held_reads<N: Named, H: Ledger, R: Wait + Abort>(
     let Some((cell, sum)) = held else {
         return Err("no shard 0".into());
     };
-    assert_eq!(rt; cell, Some(3));
-    assert_eq!(rt; (sum.entries, sum.total), (2, 8));
+    assert!(rt; same(rt, &cell, &Some(3)));
+    assert!(rt; same(rt, &(sum.entries, sum.total), &(2, 8)));
     Ok(())
 }
 
-fn expect_held_export<N: Named, H: Ledger, R: Wait + Abort>(
+fn expect_held_export<N: Named, H: Ledger, R: Wait + Abort + Eprint>(
     rt: &R,
     alloc: Global,
     engine: &Engine<N, H>,
@@ -151,7 +153,7 @@ fn a_seat_finds_its_own_puts_at_once(rt: HostRuntime) -> Result<(), Fail> {
     put_each_step::<Brand, Brand, _>(&rt, rt.alloc(), plain, names)
 }
 
-fn put_each_step<N: Named, H: Ledger, R: Wait + Abort>(
+fn put_each_step<N: Named, H: Ledger, R: Wait + Abort + Eprint>(
     rt: &R,
     alloc: Global,
     plain: PlainEngine,
@@ -167,7 +169,7 @@ fn put_each_step<N: Named, H: Ledger, R: Wait + Abort>(
     read
 }
 
-fn put_steps<N: Named, H: Ledger, R: Wait + Abort>(
+fn put_steps<N: Named, H: Ledger, R: Wait + Abort + Eprint>(
     rt: &R,
     alloc: Global,
     engine: &Engine<N, H>,
@@ -182,7 +184,7 @@ fn put_steps<N: Named, H: Ledger, R: Wait + Abort>(
     Ok(())
 }
 
-fn put_step<N: Named, H: Ledger, R: Wait + Abort>(
+fn put_step<N: Named, H: Ledger, R: Wait + Abort + Eprint>(
     rt: &R,
     alloc: Global,
     engine: &Engine<N, H>,
@@ -209,12 +211,11 @@ fn what_is_shown_never_grows_less(rt: HostRuntime) -> Result<(), Fail> {
     put_and_watch::<Brand, Brand, _>(&rt, rt.alloc(), plain, names)
 }
 
-fn put_and_watch<N: Named + Send + Sync, H: Ledger + Send + Sync, R: Threads + Wait + Abort + Sync>(
-    rt: &R,
-    alloc: Global,
-    plain: PlainEngine,
-    names: Names,
-) -> Result<(), Fail>
+fn put_and_watch<
+    N: Named + Send + Sync,
+    H: Ledger + Send + Sync,
+    R: Threads + Wait + Abort + Eprint + Sync,
+>(rt: &R, alloc: Global, plain: PlainEngine, names: Names) -> Result<(), Fail>
     requires named { NamesEngine names N.setup N.seats N.history N.name N.parts H.name H.parts }
     requires made_from { plain.setup ≡ names.setup }
     requires opened { plain.book.state ≡ N.opened }
@@ -239,7 +240,7 @@ fn three_seats<N: Named, H: Ledger>(
 fn watch_from_seats<
     N: Named + Send + Sync,
     H: Ledger + Send + Sync,
-    R: Threads + Wait + Abort + Sync,
+    R: Threads + Wait + Abort + Eprint + Sync,
 >(rt: &R, alloc: Global, engine: &Engine<N, H>, seats: &mut [Seat<N, H>]) -> Result<(), Fail> {
     let (first, second, third) = three_seats(seats)?;
     let ended = AtomicU64::new(0);
@@ -248,7 +249,7 @@ fn watch_from_seats<
         || put_from_both(rt, alloc, engine, first, second, &ended),
         || watch(rt, engine, third, &ended),
     );
-    assert_eq!(rt; (found, fits), ((true, true), true));
+    assert!(rt; same(rt, &(found, fits), &((true, true), true)));
     expect_export(rt, alloc, engine, SUM)?;
     Ok(())
 }
