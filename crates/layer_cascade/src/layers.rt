@@ -199,19 +199,18 @@ impl Layers {
     }
 
     /// Adds up matrices that stand side by side, so that the addition that needs their sum doesn't have all of them to
-    /// add up: in layer 1 all, where they are `GATHERED_RUNS` or more, and two neighbours in the first deeper layer
-    /// that has two of like size (`PAIR_RATIO`, `MAX_PAIRED`). Each sum of `FEWEST_FILTERED` entries or more gets a
-    /// filter of its places, for look-ups. Where no deeper layer has two to add up, one matrix of so many entries that
-    /// has no filter gets it, in the first deeper layer that has such a matrix. Where none has, it counts the places of
-    /// one matrix more in the first deeper layer that may have more than three quarters of its cut, and at most
-    /// `MAX_COUNTED` entries, so that the addition that passes the cut has few to count. What the layers hold stays,
-    /// also on an error.
+    /// add up: in layer 1 all, where they are many, and two neighbours in the first deeper layer that has two of like
+    /// size and not too large. Each sum gets a filter of its places, for look-ups, where it isn't small. Where no deeper
+    /// layer has two to add up, one matrix that has no filter and should have one gets it, in the first deeper layer
+    /// that has such a matrix. Where none has, it counts the places of one matrix more in the first deeper layer that
+    /// may have more than three quarters of its cut, so that the addition that passes the cut has few to count. What
+    /// the layers hold stays, also on an error. The numbers stand in `layer_compaction`'s `limits.rt`.
     ///
     /// Takes the time and memory of these sums: of at most the first cut of entries where there is one, and of at most
-    /// `MAX_PAIRED`. A filter takes 1 to 2 bytes and some nanoseconds for each entry of its matrix, which may be the
-    /// largest. To count a matrix takes a list of its cells, of 24 bytes for each, and a walk through that list
-    /// and each matrix before it, each of at most `MAX_COUNTED` entries; where it is small beside those, each of its
-    /// cells is looked up in each of them instead, without a list.
+    /// 28,000. A filter takes 1 to 2 bytes and some nanoseconds for each entry of its matrix, which may be the largest.
+    /// To count a matrix takes a list of its cells, of 24 bytes for each, and a walk through that list and each matrix
+    /// before it, each of a bounded number of entries; where it is small beside those, each of its cells is looked up
+    /// in each of them instead, without a list.
     ///
     /// # Errors
     ///

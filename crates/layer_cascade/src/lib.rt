@@ -10,7 +10,7 @@
 //! planned layers in place and cannot fail. `Layers::view` shows a reader the layers of one moment.
 //!
 //! Where cells are only added, and the sum is asked for once, lists of them can wait to be added up by
-//! `cells::into_summed`, and `Layers::push_cells` lists what the layers hold, for `merged`.
+//! `cells::into_summed`, and `Layers::push_cells` lists what the layers hold, for `layer_compaction::merged`.
 #![tactic(auto)]
 
 mod addition;
