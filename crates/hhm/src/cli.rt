@@ -133,18 +133,18 @@ fn with<'a>(
     program.subcommand(word?)
 }
 
+// The words that read a snapshot: each with what is said of it in one line, and in its help.
+static SNAPSHOT_WORDS: &[(&str, &str, &str)] = &[
+    ("check", CHECK_ABOUT, CHECK_HELP),
+    ("export", EXPORT_ABOUT, EXPORT_HELP),
+    ("fold", FOLD_ABOUT, FOLD_HELP),
+];
+
 /// The command line of the program.
 pub fn command<'a>(alloc: Global) -> Result<Command<'a>, AllocError> {
-    let hhm = program(alloc)?;
-    let hhm = with(hhm, sum_command(alloc))?;
-    let hhm = with(
-        hhm,
-        snapshot_command(alloc, "check", CHECK_ABOUT, CHECK_HELP),
-    )?;
-    let hhm = with(
-        hhm,
-        snapshot_command(alloc, "export", EXPORT_ABOUT, EXPORT_HELP),
-    )?;
-    let hhm = with(hhm, snapshot_command(alloc, "fold", FOLD_ABOUT, FOLD_HELP))?;
+    let mut hhm = with(program(alloc)?, sum_command(alloc))?;
+    for (name, about, help) in SNAPSHOT_WORDS {
+        hhm = with(hhm, snapshot_command(alloc, name, about, help))?;
+    }
     with(hhm, serve_command(alloc))
 }

@@ -81,26 +81,28 @@ fn run(rt: &HostRuntime) -> Result<Outcome, Fault> {
 
 /// Does what a command line that was read asks for, but for a server.
 fn run_matches(rt: &HostRuntime, matches: &ArgMatches) -> Result<Outcome, Fault> {
-    if let Some(sum) = matches.subcommand_matches("sum") {
-        let list = sum.get_str("cuts").unwrap_or(cli::DEFAULT_SUM_CUTS);
-        run_sum_word(rt, list)?;
+    match matches.subcommand() {
+        Some(("serve", serve)) => Ok(Outcome::Serve(settings_of(rt.alloc(), serve)?)),
+        Some((word, given)) => {
+            run_word(rt, word, given)?;
+            Ok(Outcome::Ended(ExitCode::SUCCESS))
+        }
+        None => Ok(Outcome::Ended(ExitCode::SUCCESS)),
     }
-    if let Some(serve) = matches.subcommand_matches("serve") {
-        return Ok(Outcome::Serve(settings_of(rt.alloc(), serve)?));
+}
+
+/// Does what a word asks for that is given a list of cuts, or the path of a snapshot.
+fn run_word(rt: &HostRuntime, word: &str, given: &ArgMatches) -> Result<(), Fault> {
+    let mut out = Counted::new(rt.stdout());
+    let path = given.get_str("path").unwrap_or("");
+    match word {
+        "sum" => run_sum_word(rt, given.get_str("cuts").unwrap_or(cli::DEFAULT_SUM_CUTS))?,
+        "check" => run_check(rt, rt.alloc(), path, &mut out)?,
+        "export" => run_export(rt, rt.alloc(), path, &mut out)?,
+        "fold" => run_fold(rt, rt.alloc(), path, &mut out)?,
+        _ => {}
     }
-    if let Some(check) = matches.subcommand_matches("check") {
-        let path = check.get_str("path").unwrap_or("");
-        run_check(rt, rt.alloc(), path, &mut Counted::new(rt.stdout()))?;
-    }
-    if let Some(export) = matches.subcommand_matches("export") {
-        let path = export.get_str("path").unwrap_or("");
-        run_export(rt, rt.alloc(), path, &mut Counted::new(rt.stdout()))?;
-    }
-    if let Some(fold) = matches.subcommand_matches("fold") {
-        let path = fold.get_str("path").unwrap_or("");
-        run_fold(rt, rt.alloc(), path, &mut Counted::new(rt.stdout()))?;
-    }
-    Ok(Outcome::Ended(ExitCode::SUCCESS))
+    Ok(())
 }
 
 /// Sums the text on standard input, and writes the sum to standard output.

@@ -57,18 +57,23 @@ fn word_of(alloc: Global, matches: &ArgMatches, name: &str) -> Result<Option<Str
     }
 }
 
-/// The settings that the options spell. All numbers are read before the setup is judged.
-pub fn settings_of(alloc: Global, matches: &ArgMatches) -> Result<Settings, Fault> {
+// The engine's setup that the options spell.
+fn setup_of(alloc: Global, matches: &ArgMatches) -> Result<Setup, Fault> {
     let rows = number_of(matches, "rows")?;
     let cols = number_of(matches, "cols")?;
-    let cuts = read_list(alloc, matches.get_str("cuts").unwrap_or(""))?;
     let shards = number_of(matches, "shards")?;
-    let workers = number_of(matches, "workers")?;
     let limit = number_of(matches, "limit")?;
     let max_batches = number_of(matches, "max-batches")?;
+    let cuts = read_list(alloc, matches.get_str("cuts").unwrap_or(""))?;
+    Ok(Setup::new(rows, cols, &cuts, shards, limit, max_batches)?)
+}
+
+/// The settings that the options spell. All numbers are read before the setup is judged.
+pub fn settings_of(alloc: Global, matches: &ArgMatches) -> Result<Settings, Fault> {
+    let workers = number_of(matches, "workers")?;
     let sessions = number_of(matches, "sessions")?;
     let idle = limit_of(matches, "idle")?;
-    let setup = Setup::new(rows, cols, &cuts, shards, limit, max_batches)?;
+    let setup = setup_of(alloc, matches)?;
     Ok(Settings {
         tcp: word_of(alloc, matches, "tcp")?,
         unix: word_of(alloc, matches, "unix")?,

@@ -28,114 +28,127 @@ A fault is one line on standard error:
   hhm: memory                      status 5
   hhm: records differ              status 6";
 
-// An option without a default.
-fn option<'a>(alloc: Global, name: &'a str, value: &'a str, help: &'a str) -> Arg<'a> {
-    Arg::new(alloc, name)
-        .long(name)
-        .value_name(value)
-        .help(help)
+/// An option of `serve`.
+struct ServeOption {
+    name: &'static str,
+    value: &'static str,
+    default: Option<&'static str>,
+    required: bool,
+    help: &'static str,
 }
 
-// An option with a default.
-fn with_default<'a>(
-    alloc: Global,
-    name: &'a str,
-    value: &'a str,
-    default: &'a str,
-    help: &'a str,
-) -> Arg<'a> {
-    option(alloc, name, value, help).default_value(default)
-}
+// An option that may be left out.
+const LEFT_OUT: ServeOption = ServeOption {
+    name: "",
+    value: "",
+    default: None,
+    required: false,
+    help: "",
+};
 
-// Where it listens and saves.
-fn with_places<'a>(alloc: Global, command: Command<'a>) -> Result<Command<'a>, AllocError> {
-    command
-        .arg(option(
-            alloc,
-            "tcp",
-            "ADDR",
-            "Listen at this address, as 127.0.0.1:7000; port 0 is a free one",
-        ))?
-        .arg(option(
-            alloc,
-            "unix",
-            "PATH",
-            "Listen at a Unix socket that is made at this path",
-        ))?
-        .arg(option(
-            alloc,
-            "snapshot",
-            "PATH",
-            "Start from this snapshot, and save there",
-        ))
-}
+/// Where it listens and saves, the engine's setup, and how it serves.
+static OPTIONS: &[ServeOption] = &[
+    ServeOption {
+        name: "tcp",
+        value: "ADDR",
+        help: "Listen at this address, as 127.0.0.1:7000; port 0 is a free one",
+        ..LEFT_OUT
+    },
+    ServeOption {
+        name: "unix",
+        value: "PATH",
+        help: "Listen at a Unix socket that is made at this path",
+        ..LEFT_OUT
+    },
+    ServeOption {
+        name: "snapshot",
+        value: "PATH",
+        help: "Start from this snapshot, and save there",
+        ..LEFT_OUT
+    },
+    ServeOption {
+        name: "rows",
+        value: "N",
+        required: true,
+        help: "The number of rows, 1 to 1152921504606846976",
+        ..LEFT_OUT
+    },
+    ServeOption {
+        name: "cols",
+        value: "N",
+        required: true,
+        help: "The number of columns, 1 to 1152921504606846976",
+        ..LEFT_OUT
+    },
+    ServeOption {
+        name: "cuts",
+        value: "LIST",
+        default: Some("4096,65536,1048576"),
+        help: "The cuts of each shard's layers, rising, at most 7, with commas between; or none",
+        ..LEFT_OUT
+    },
+    ServeOption {
+        name: "shards",
+        value: "N",
+        default: Some("8"),
+        help: "The number of shards, 1 to 64",
+        ..LEFT_OUT
+    },
+    ServeOption {
+        name: "limit",
+        value: "N",
+        default: Some("18446744073709551615"),
+        help: "The highest accepted total, at least 1",
+        ..LEFT_OUT
+    },
+    ServeOption {
+        name: "max-batches",
+        value: "N",
+        default: Some("1000000"),
+        help: "The highest number of accepted batches, 1 to 1000000",
+        ..LEFT_OUT
+    },
+    ServeOption {
+        name: "workers",
+        value: "N",
+        default: Some("4"),
+        help: "The number of connections that are served at once, 1 to 32",
+        ..LEFT_OUT
+    },
+    ServeOption {
+        name: "sessions",
+        value: "N",
+        default: Some("1099511627776"),
+        help: "End after so many connections",
+        ..LEFT_OUT
+    },
+    ServeOption {
+        name: "idle",
+        value: "SECONDS",
+        help: "End a connection that has sent or taken nothing for so long; 0: never, as without it",
+        ..LEFT_OUT
+    },
+];
 
-// The engine's setup.
-fn with_setup<'a>(alloc: Global, command: Command<'a>) -> Result<Command<'a>, AllocError> {
-    command
-        .arg(option(
-            alloc,
-            "rows",
-            "N",
-            "The number of rows, 1 to 1152921504606846976",
-        )
-        .required(true))?
-        .arg(option(
-            alloc,
-            "cols",
-            "N",
-            "The number of columns, 1 to 1152921504606846976",
-        )
-        .required(true))?
-        .arg(with_default(
-            alloc,
-            "cuts",
-            "LIST",
-            "4096,65536,1048576",
-            "The cuts of each shard's layers, rising, at most 7, with commas between; or none",
-        ))?
-        .arg(with_default(alloc, "shards", "N", "8", "The number of shards, 1 to 64"))?
-        .arg(with_default(
-            alloc,
-            "limit",
-            "N",
-            "18446744073709551615",
-            "The highest accepted total, at least 1",
-        ))?
-        .arg(with_default(
-            alloc,
-            "max-batches",
-            "N",
-            "1000000",
-            "The highest number of accepted batches, 1 to 1000000",
-        ))
+fn arg_of<'a>(alloc: Global, option: &'a ServeOption) -> Arg<'a> {
+    let arg = Arg::new(alloc, option.name)
+        .long(option.name)
+        .value_name(option.value)
+        .required(option.required)
+        .help(option.help);
+    match option.default {
+        Some(value) => arg.default_value(value),
+        None => arg,
+    }
 }
 
 /// The word `serve`.
 pub fn serve_command<'a>(alloc: Global) -> Result<Command<'a>, AllocError> {
-    let command = Command::new(alloc, "serve")
+    let mut command = Command::new(alloc, "serve")
         .about(SERVE_ABOUT)
         .after_help(SERVE_HELP);
-    let command = with_setup(alloc, with_places(alloc, command)?)?;
-    command
-        .arg(with_default(
-            alloc,
-            "workers",
-            "N",
-            "4",
-            "The number of connections that are served at once, 1 to 32",
-        ))?
-        .arg(with_default(
-            alloc,
-            "sessions",
-            "N",
-            "1099511627776",
-            "End after so many connections",
-        ))?
-        .arg(option(
-            alloc,
-            "idle",
-            "SECONDS",
-            "End a connection that has sent or taken nothing for so long; 0: never, as without it",
-        ))
+    for option in OPTIONS {
+        command = command.arg(arg_of(alloc, option))?;
+    }
+    Ok(command)
 }
