@@ -41,7 +41,7 @@ def engine(batches, *totals):
 def reads(batches, *totals):
     """What seats read: what an engine holds, and between the first cell and its row, which only shard 0 has."""
     first, *shards = engine(batches, *totals)
-    return [first, f"cell 0 0 is {totals[0]}, row 0 entries {batches} total {totals[0]}", *shards]
+    return [first, f"row 0 column 0 count {totals[0]}", f"row 0 entries {batches} total {totals[0]}", *shards]
 
 
 def fed(before, after):
@@ -50,8 +50,8 @@ def fed(before, after):
 
 
 NOTHING, ALL = engine(0, 0, 0), engine(1, 5, 4)
-CELLS = ["cell 0 0 is 5", "cell 1 0 is 4"]
-KEPT = "put kept 0 9"
+CELLS = ["row 0 column 0 count 5", "row 1 column 0 count 4"]
+KEPT = "put kept 0 total 9"
 EXPORT = Step([["export refused"]], ["export of entries 2", *CELLS])
 LIST = Step([["list refused"]], ["list of batches 1"])
 
@@ -97,11 +97,11 @@ SCENARIOS = {
     "plain": [
         Step([["put refused", *NOTHING]], [KEPT, *ALL]),
         # A repeat takes no memory, nor do reads.
-        Step([], [KEPT, "cell 0 0 is 5", "row 0 entries 1 total 5"]),
+        Step([], [KEPT, "row 0 column 0 count 5", "row 0 entries 1 total 5"]),
     ],
     "reads": [
         Step([["view refused"]], []),
-        Step([["sum refused"]], ["view of batches 1", "cell 1 0 is 4"]),
+        Step([["sum refused"]], ["view of batches 1", "row 1 column 0 count 4"]),
         EXPORT,
         LIST,
         Step([["load refused"]], ALL),
@@ -109,7 +109,7 @@ SCENARIOS = {
     "folding": [
         listed(0, 1, 0),
         Step([["fold refused, folded 0", *ALL]], ["folded 1", *folded_engine(1, 0, 5, 4)]),
-        Step([["put refused", *folded_engine(1, 0, 5, 4)]], ["put kept 1 18", *folded_engine(2, 1, 10, 8)]),
+        Step([["put refused", *folded_engine(1, 0, 5, 4)]], ["put kept 1 total 18", *folded_engine(2, 1, 10, 8)]),
         # The folded batch is known again, and that takes no memory.
         Step([], [KEPT]),
         listed(1, 1, 9),
@@ -117,7 +117,7 @@ SCENARIOS = {
     ],
     "book": [
         Step([["prepare refused", "shard 0 batches 0 total 0"]], ["shard 0 batches 1 total 5"]),
-        Step([["reserve refused", "book of batches 0 total 0"]], ["admitted 0 9", "book of batches 1 total 9"]),
+        Step([["reserve refused", "book of batches 0 total 0"]], ["admitted 0 total 9", "book of batches 1 total 9"]),
         LIST,
     ],
     "locked": [
@@ -134,12 +134,12 @@ SCENARIOS = {
         fed(0, 30),
         fed(30, 60),
         fed(60, 87),
-        Step([["next refused, bytes 87"]], ["put 7 1 of bytes 61"]),
+        Step([["next refused, bytes 87"]], ["put of client 7 number 1 bytes 61"]),
         Step([], ["stop", "none"]),
     ],
     "snapshot": [
         Step([["read refused"]], ["read folded 1 batches 1"]),
-        Step([["write refused behind bytes 0", "written bytes 0, whole false"]], ["written bytes 198, whole true"]),
+        Step([["write refused behind bytes 0", "written in part, bytes 0"]], ["written whole, bytes 198"]),
         Step([["save refused: memory"]], ["saved"]),
         Step([["load refused"]], ["loaded folded 1 batches 1"]),
     ],

@@ -3,11 +3,10 @@ ghost use Rattle.std.specs.Prelude.{◌≡◌};
 ghost use Rattle.std.specs.Arc.{arc_value};
 
 use crate::examples::{batch, small_setup};
-use crate::show::show_shard;
+use crate::show::{say, show_shard, tell};
 use crate::stop::Stop;
 use batch_store::{Batch, Book, Setup, Shard, ShardFault, Verdict};
-use std::alloc::Global;
-use std::io;
+use std::alloc::{AllocError, Global};
 use std::random::RandomSource;
 use std::sync::Arc;
 
@@ -36,8 +35,14 @@ fn run_example(
     Ok(())
 }
 
-fn show_book(rt: &impl Print, book: &Book) -> io::Result<()> {
-    println!(rt; "book of batches {} total {}", book.len(), book.total())
+fn show_book(rt: &impl Print, book: &Book) {
+    tell(
+        rt,
+        &[
+            ("book of batches", book.len() as u64),
+            ("total", book.total()),
+        ],
+    );
 }
 
 // Has a shard take a batch in; where memory was refused, it is told what stands, and the shard prepares it again.
@@ -47,15 +52,15 @@ fn take_in(rt: &impl Print, alloc: Global, shard: &mut Shard, b: &Arc<Batch>) ->
 {
     let mut made = shard.prepare(alloc, b);
     if matches!(made, Err(ShardFault::Memory)) {
-        println!(rt; "prepare refused")?;
-        show_shard(rt, shard)?;
+        say(rt, "prepare refused");
+        show_shard(rt, shard);
         made = shard.prepare(alloc, b);
     }
     match made {
         Ok(prepared) => shard.commit(prepared),
         Err(_) => return Err(Stop::Fault),
     }
-    show_shard(rt, shard)?;
+    show_shard(rt, shard);
     Ok(())
 }
 
@@ -66,29 +71,35 @@ fn admit(rt: &impl Print, book: &mut Book, b: Arc<Batch>) -> Result<(), Stop>
     requires cols { (arc_value b).matrix.cols ≡ book.old.setup.cols }
 {
     if book.reserve(&b).is_err() {
-        println!(rt; "reserve refused")?;
-        show_book(rt, book)?;
+        say(rt, "reserve refused");
+        show_book(rt, book);
         book.reserve(&b)?;
     }
     let Verdict::Fresh = book.look(&b) else {
         return Err(Stop::Fault);
     };
     let kept = book.admit(b);
-    println!(rt; "admitted {} {}", kept.index, kept.total_after)?;
-    show_book(rt, book)?;
+    tell(rt, &[("admitted", kept.index), ("total", kept.total_after)]);
+    show_book(rt, book);
     Ok(())
 }
 
-fn list_at_last(rt: &impl Print, alloc: Global, book: &Book) -> Result<Vec<Arc<Batch>>, Stop> {
-    if let Ok(list) = book.list(alloc) {
-        return Ok(list);
+fn list_at_last(
+    rt: &impl Print,
+    alloc: Global,
+    book: &Book,
+) -> Result<Vec<Arc<Batch>>, AllocError> {
+    match book.list(alloc) {
+        Ok(list) => Ok(list),
+        Err(_) => {
+            say(rt, "list refused");
+            book.list(alloc)
+        }
     }
-    println!(rt; "list refused")?;
-    Ok(book.list(alloc)?)
 }
 
-fn show_list(rt: &impl Print, alloc: Global, book: &Book) -> Result<(), Stop> {
+fn show_list(rt: &impl Print, alloc: Global, book: &Book) -> Result<(), AllocError> {
     let list = list_at_last(rt, alloc, book)?;
-    println!(rt; "list of batches {}", list.len())?;
+    tell(rt, &[("list of batches", list.len() as u64)]);
     Ok(())
 }

@@ -4,12 +4,12 @@ ghost use Rattle.std.specs.Arc.{arc_value};
 ghost use Rattle.batch_store.specs.Books.{HaveDims, listed_in};
 
 use crate::examples::{batch, small_setup};
-use crate::plain::{put, put_at_last};
-use crate::show::{show_book_list, show_engine, show_put};
+use crate::plain::{engine_of, put, put_at_last};
+use crate::show::{say, show_book_list, show_engine, show_put, tell};
 use crate::stop::Stop;
 use batch_store::{Batch, BookList, Setup};
 use plain_engine::{LoadFault, PlainEngine};
-use std::alloc::Global;
+use std::alloc::{AllocError, Global};
 use std::random::RandomSource;
 use std::sync::Arc;
 
@@ -20,24 +20,6 @@ pub fn run(rt: &(impl RandomSource + Print), alloc: Global) -> Result<(), Stop> 
     let second = batch(alloc, &setup, 2)?;
     let engine = engine_of(rt, alloc, setup, &first)?;
     run_example(rt, alloc, engine, &first, &second)
-}
-
-// An engine of one batch.
-fn engine_of(
-    rt: &impl RandomSource,
-    alloc: Global,
-    setup: Setup,
-    b: &Arc<Batch>,
-) -> Result<PlainEngine, Stop>
-    requires rows { (arc_value b.now).matrix.rows ≡ setup.rows }
-    requires cols { (arc_value b.now).matrix.cols ≡ setup.cols }
-    ensures { IfOk result (λ e. e.setup ≡ setup) }
-{
-    let mut engine = PlainEngine::new(rt, alloc, setup)?;
-    match put(alloc, &mut engine, b) {
-        Ok(Ok(_)) => Ok(engine),
-        _ => Err(Stop::SetUp),
-    }
 }
 
 fn run_example(
@@ -57,19 +39,25 @@ fn run_example(
     go_on(rt, alloc, &mut engine, first, second)
 }
 
-fn list_at_last(rt: &impl Print, alloc: Global, engine: &PlainEngine) -> Result<BookList, Stop>
+fn list_at_last(
+    rt: &impl Print,
+    alloc: Global,
+    engine: &PlainEngine,
+) -> Result<BookList, AllocError>
     ensures { IfOk result (λ list. list ≡ listed_in engine.now.setup engine.now.book.state) }
 {
-    if let Ok(list) = engine.book_list(alloc) {
-        return Ok(list);
+    match engine.book_list(alloc) {
+        Ok(list) => Ok(list),
+        Err(_) => {
+            say(rt, "book list refused");
+            engine.book_list(alloc)
+        }
     }
-    println!(rt; "book list refused")?;
-    Ok(engine.book_list(alloc)?)
 }
 
-fn show_list(rt: &impl Print, alloc: Global, engine: &PlainEngine) -> Result<(), Stop> {
+fn show_list(rt: &impl Print, alloc: Global, engine: &PlainEngine) -> Result<(), AllocError> {
     let list = list_at_last(rt, alloc, engine)?;
-    show_book_list(rt, &list)?;
+    show_book_list(rt, &list);
     Ok(())
 }
 
@@ -77,8 +65,8 @@ fn show_list(rt: &impl Print, alloc: Global, engine: &PlainEngine) -> Result<(),
 fn fold_again(rt: &impl Print, alloc: Global, engine: PlainEngine) -> Result<PlainEngine, Stop>
     ensures { IfOk result (λ e. e.setup ≡ engine.setup) }
 {
-    println!(rt; "fold refused, folded {}", engine.folded())?;
-    show_engine(rt, &engine)?;
+    tell(rt, &[("fold refused, folded", engine.folded())]);
+    show_engine(rt, &engine);
     engine.fold(alloc).map_err(|_| Stop::Fault)
 }
 
@@ -106,11 +94,11 @@ fn go_on(
     requires second_rows { (arc_value second.now).matrix.rows ≡ engine.old.setup.rows }
     requires second_cols { (arc_value second.now).matrix.cols ≡ engine.old.setup.cols }
 {
-    println!(rt; "folded {}", engine.folded())?;
-    show_engine(rt, engine)?;
+    tell(rt, &[("folded", engine.folded())]);
+    show_engine(rt, engine);
     put_at_last(rt, alloc, engine, second)?;
     let repeat = put(alloc, engine, first)?;
-    show_put(rt, &repeat)?;
+    show_put(rt, &repeat);
     show_load(rt, alloc, engine)
 }
 
@@ -123,10 +111,24 @@ fn show_load(
     // This call tells that its base and its batches have the setup's dimensions.
     let setup = engine.setup();
     let list = list_at_last(rt, alloc, engine)?;
-    show_book_list(rt, &list)?;
-    let loaded = load_at_last(rt, alloc, setup, &list)?;
-    println!(rt; "loaded folded {}", loaded.folded())?;
-    show_engine(rt, &loaded)?;
+    show_book_list(rt, &list);
+    show_loaded(rt, alloc, setup, &list)
+}
+
+// Loads a list, and tells what the engine holds.
+fn show_loaded(
+    rt: &(impl RandomSource + Print),
+    alloc: Global,
+    setup: Setup,
+    list: &BookList,
+) -> Result<(), Stop>
+    requires rows { list.now.base.rows ≡ setup.rows }
+    requires cols { list.now.base.cols ≡ setup.cols }
+    requires dims { HaveDims setup.rows setup.cols list.now.list }
+{
+    let loaded = load_at_last(rt, alloc, setup, list)?;
+    tell(rt, &[("loaded folded", loaded.folded())]);
+    show_engine(rt, &loaded);
     Ok(())
 }
 
@@ -143,7 +145,7 @@ fn load_at_last(
     match PlainEngine::from_folded(rt, alloc, setup, list) {
         Ok(loaded) => Ok(loaded),
         Err(LoadFault::Memory) => {
-            println!(rt; "load refused")?;
+            say(rt, "load refused");
             PlainEngine::from_folded(rt, alloc, setup, list).map_err(|_| Stop::Fault)
         }
         Err(_) => Err(Stop::Fault),

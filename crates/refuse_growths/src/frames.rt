@@ -1,8 +1,8 @@
 //! A stream of bytes that is cut into requests.
 
+use crate::show::{say, tell};
 use crate::stop::Stop;
 use std::alloc::Global;
-use std::io;
 use wire_frames::{FrameFault, Frames, Request};
 
 /// Client 7 puts 5 at row 0 and column 0 under its number 1, and then asks to stop.
@@ -35,10 +35,10 @@ fn feed_at_last(
     piece: &[u8],
 ) -> Result<(), Stop> {
     if frames.feed(alloc, piece).is_err() {
-        println!(rt; "feed refused, bytes {}", frames.len())?;
+        tell(rt, &[("feed refused, bytes", frames.len() as u64)]);
         frames.feed(alloc, piece)?;
     }
-    println!(rt; "fed, bytes {}", frames.len())?;
+    tell(rt, &[("fed, bytes", frames.len() as u64)]);
     Ok(())
 }
 
@@ -51,7 +51,7 @@ fn next_at_last(
     match frames.next(alloc) {
         Ok(next) => Ok(next),
         Err(FrameFault::Memory) => {
-            println!(rt; "next refused, bytes {}", frames.len())?;
+            tell(rt, &[("next refused, bytes", frames.len() as u64)]);
             frames.next(alloc).map_err(|_| Stop::Fault)
         }
         Err(_) => Err(Stop::Fault),
@@ -60,11 +60,11 @@ fn next_at_last(
 
 fn show_next(rt: &impl Print, alloc: Global, frames: &mut Frames) -> Result<(), Stop> {
     let next = next_at_last(rt, alloc, frames)?;
-    show_request(rt, &next)?;
+    show_request(rt, &next);
     Ok(())
 }
 
-fn show_request(rt: &impl Print, request: &Option<Request>) -> io::Result<()> {
+fn show_request(rt: &impl Print, request: &Option<Request>) {
     match request {
         Some(
             Request::Put {
@@ -72,9 +72,19 @@ fn show_request(rt: &impl Print, request: &Option<Request>) -> io::Result<()> {
                 number,
                 text,
             },
-        ) => println!(rt; "put {client} {number} of bytes {}", text.len()),
-        Some(Request::Stop) => println!(rt; "stop"),
-        Some(_) => println!(rt; "other"),
-        None => println!(rt; "none"),
+        ) => {
+            let bytes = text.len() as u64;
+            tell(
+                rt,
+                &[
+                    ("put of client", *client),
+                    ("number", *number),
+                    ("bytes", bytes),
+                ],
+            );
+        }
+        Some(Request::Stop) => say(rt, "stop"),
+        Some(_) => say(rt, "other"),
+        None => say(rt, "none"),
     }
 }

@@ -6,9 +6,9 @@ ghost use Rattle.locked_engine.specs.Opened.{NamesEngine};
 
 use crate::examples::{batch, small_setup};
 use crate::seats::show_seats;
-use crate::show::show_engine;
+use crate::show::{say, show_engine, tell};
 use crate::stop::Stop;
-use batch_store::Batch;
+use batch_store::{Batch, Setup};
 use locked_engine::{CloseFault, Engine, Named, Names, Seat};
 use plain_engine::PlainEngine;
 use std::alloc::{AllocError, Global};
@@ -23,11 +23,23 @@ type Opened<N, H> = (Engine<N, H>, Vec<Seat<N, H>>);
 /// Opens an engine of two seats, puts and reads, and closes it.
 pub fn run<R: Wait + Print + RandomSource>(rt: &R, alloc: Global) -> Result<(), Stop> {
     let setup = small_setup()?;
-    let plain = PlainEngine::new(rt, alloc, setup)?;
     let b = batch(alloc, &setup, 1)?;
+    run_with(rt, alloc, setup, &b)
+}
+
+fn run_with<R: Wait + Print + RandomSource>(
+    rt: &R,
+    alloc: Global,
+    setup: Setup,
+    b: &Arc<Batch>,
+) -> Result<(), Stop>
+    requires rows { (arc_value b.now).matrix.rows ≡ setup.rows }
+    requires cols { (arc_value b.now).matrix.cols ≡ setup.cols }
+{
+    let plain = PlainEngine::new(rt, alloc, setup)?;
     // Names take no memory.
     match Names::new(rt, alloc, &plain, 2) {
-        Ok(names) => run_named::<Brand, Brand, R>(rt, alloc, plain, names, &b),
+        Ok(names) => run_named::<Brand, Brand, R>(rt, alloc, plain, names, b),
         Err(_) => Err(Stop::Fault),
     }
 }
@@ -51,7 +63,7 @@ fn run_named<N: Named, H: Ledger, R: Wait + Print>(
         return Err(stop);
     }
     let plain = close_at_last(rt, alloc, engine, seats)?;
-    show_engine(rt, &plain)?;
+    show_engine(rt, &plain);
     Ok(())
 }
 
@@ -69,8 +81,8 @@ fn open_at_last<N: Named, H: Ledger, R: Wait + Print>(
     match Engine::<N, H>::open(alloc, plain, names) {
         Ok(opened) => Ok(opened),
         Err((plain, names, AllocError)) => {
-            println!(rt; "open refused")?;
-            show_engine(rt, &plain)?;
+            say(rt, "open refused");
+            show_engine(rt, &plain);
             open_again(alloc, plain, names)
         }
     }
@@ -101,10 +113,8 @@ fn close_at_last<N: Named, H: Ledger, R: Wait + Print>(
     match engine.close(rt, alloc, seats) {
         Ok(plain) => Ok(plain),
         Err(CloseFault::Memory { engine, seats }) => {
-            let told = println!(rt; "close refused, seats {}", seats.len());
-            let closed = close_again(rt, alloc, engine, seats);
-            told?;
-            closed
+            tell(rt, &[("close refused, seats", seats.len() as u64)]);
+            close_again(rt, alloc, engine, seats)
         }
         Err(fault) => Err(not_closed(rt, fault)),
     }

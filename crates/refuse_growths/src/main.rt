@@ -19,6 +19,7 @@ mod show;
 mod snapshot;
 mod stop;
 
+use crate::show::say;
 use crate::stop::Stop;
 use std::alloc::Global;
 use std::process::ExitCode;
@@ -33,16 +34,12 @@ static NAMES: &[&str] = &[
 ];
 
 fn main(rt: HostRuntime) -> ExitCode {
-    let ended = match asked(&rt) {
-        Ok(Some(name)) => tell(&rt, rt.alloc(), name.as_str()),
-        Ok(None) => tell_all(&rt, rt.alloc()),
-        Err(stop) => tell_stop(&rt, stop),
-    };
-    if ended.is_ok() {
-        ExitCode::SUCCESS
-    } else {
-        ExitCode::FAILURE
+    match asked(&rt) {
+        Ok(Some(name)) => run(&rt, rt.alloc(), name.as_str()),
+        Ok(None) => run_all(&rt, rt.alloc()),
+        Err(stop) => say_stop(&rt, stop),
     }
+    ExitCode::SUCCESS
 }
 
 /// The name of the scenario that is asked for, if one is.
@@ -54,36 +51,28 @@ fn asked(rt: &HostRuntime) -> Result<Option<String>, Stop> {
     }
 }
 
-fn tell_all<R: Wait + Print + RandomSource + Files>(rt: &R, alloc: Global) -> Result<(), Stop> {
+fn run_all<R: Wait + Print + RandomSource + Files>(rt: &R, alloc: Global) {
     for name in NAMES {
-        tell(rt, alloc, name)?;
-    }
-    Ok(())
-}
-
-/// Runs a scenario under its name, and tells where it went no further.
-fn tell<R: Wait + Print + RandomSource + Files>(
-    rt: &R,
-    alloc: Global,
-    name: &str,
-) -> Result<(), Stop> {
-    println!(rt; "{name}")?;
-    match run(rt, alloc, name) {
-        Ok(()) => Ok(()),
-        Err(stop) => tell_stop(rt, stop),
+        run(rt, alloc, name);
     }
 }
 
-fn tell_stop(rt: &impl Print, stop: Stop) -> Result<(), Stop> {
+/// Runs a scenario under its name, and says where it went no further.
+fn run<R: Wait + Print + RandomSource + Files>(rt: &R, alloc: Global, name: &str) {
+    say(rt, name);
+    if let Err(stop) = run_scenario(rt, alloc, name) {
+        say_stop(rt, stop);
+    }
+}
+
+fn say_stop(rt: &impl Print, stop: Stop) {
     match stop {
-        Stop::SetUp => println!(rt; "set-up refused")?,
-        Stop::Fault => println!(rt; "fault")?,
-        Stop::Output => return Err(stop),
+        Stop::SetUp => say(rt, "set-up refused"),
+        Stop::Fault => say(rt, "fault"),
     }
-    Ok(())
 }
 
-fn run<R: Wait + Print + RandomSource + Files>(
+fn run_scenario<R: Wait + Print + RandomSource + Files>(
     rt: &R,
     alloc: Global,
     name: &str,

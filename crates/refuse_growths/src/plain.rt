@@ -1,9 +1,9 @@
 //! A put through the engine of one thread.
-ghost use Rattle.std.specs.Prelude.{◌≡◌};
+ghost use Rattle.std.specs.Prelude.{◌≡◌, IfOk};
 ghost use Rattle.std.specs.Arc.{arc_value};
 
 use crate::examples::{batch, small_setup};
-use crate::show::{show_engine, show_put};
+use crate::show::{show_engine, show_put, tell};
 use crate::stop::Stop;
 use batch_store::{Batch, Kept, Setup};
 use plain_engine::{PlainEngine, PutFault};
@@ -29,8 +29,27 @@ fn run_example(
     let b = batch(alloc, setup, 1)?;
     put_at_last(rt, alloc, engine, &b)?;
     let repeat = put(alloc, engine, &b)?;
-    show_put(rt, &repeat)?;
-    show_reads(rt, engine)
+    show_put(rt, &repeat);
+    show_reads(rt, engine);
+    Ok(())
+}
+
+/// An engine of one batch.
+pub fn engine_of(
+    rt: &impl RandomSource,
+    alloc: Global,
+    setup: Setup,
+    b: &Arc<Batch>,
+) -> Result<PlainEngine, Stop>
+    requires rows { (arc_value b.now).matrix.rows ≡ setup.rows }
+    requires cols { (arc_value b.now).matrix.cols ≡ setup.cols }
+    ensures { IfOk result (λ e. e.setup ≡ setup) }
+{
+    let mut engine = PlainEngine::new(rt, alloc, setup)?;
+    match put(alloc, &mut engine, b) {
+        Ok(Ok(_)) => Ok(engine),
+        _ => Err(Stop::SetUp),
+    }
 }
 
 /// Puts a batch of the engine's dimensions, which is shared.
@@ -60,22 +79,23 @@ pub fn put_at_last(
 {
     let mut answer = put(alloc, engine, b)?;
     if answer == Err(PutFault::Memory) {
-        show_put(rt, &answer)?;
-        show_engine(rt, engine)?;
+        show_put(rt, &answer);
+        show_engine(rt, engine);
         answer = put(alloc, engine, b)?;
     }
-    show_put(rt, &answer)?;
-    show_engine(rt, engine)?;
+    show_put(rt, &answer);
+    show_engine(rt, engine);
     Ok(())
 }
 
 // What the engine answers on the first cell and its row, without memory.
-fn show_reads(rt: &impl Print, engine: &PlainEngine) -> Result<(), Stop> {
-    let Some(count) = engine.cell(0, 0) else {
-        return Err(Stop::Fault);
-    };
-    println!(rt; "cell 0 0 is {count}")?;
+fn show_reads(rt: &impl Print, engine: &PlainEngine) {
+    if let Some(count) = engine.cell(0, 0) {
+        tell(rt, &[("row", 0), ("column", 0), ("count", count)]);
+    }
     let row = engine.row(0);
-    println!(rt; "row 0 entries {} total {}", row.entries, row.total)?;
-    Ok(())
+    tell(
+        rt,
+        &[("row", 0), ("entries", row.entries), ("total", row.total)],
+    );
 }

@@ -4,7 +4,8 @@ ghost use Rattle.batch_store.specs.Batches.{values};
 ghost use Rattle.batch_store.specs.Books.{HaveDims};
 
 use crate::examples::{batch, small_setup};
-use crate::show::{show_cells, show_engine};
+use crate::plain::engine_of;
+use crate::show::{say, show_cells, show_engine, tell};
 use crate::stop::Stop;
 use batch_store::{Batch, Setup, Shard, ShardView};
 use hyper_matrix::Hyper;
@@ -15,7 +16,9 @@ use std::sync::Arc;
 
 /// Reads all that an engine of one batch tells for memory, and loads what it lists.
 pub fn run(rt: &(impl RandomSource + Print), alloc: Global) -> Result<(), Stop> {
-    let engine = engine_of_one(rt, alloc)?;
+    let setup = small_setup()?;
+    let b = batch(alloc, &setup, 1)?;
+    let engine = engine_of(rt, alloc, setup, &b)?;
     show_reads(rt, alloc, &engine)
 }
 
@@ -29,58 +32,62 @@ fn show_reads(
     show_load(rt, alloc, engine)
 }
 
-// An engine of one batch.
-fn engine_of_one(rt: &impl RandomSource, alloc: Global) -> Result<PlainEngine, Stop> {
-    let setup = small_setup()?;
-    let b = batch(alloc, &setup, 1)?;
-    let mut engine = PlainEngine::new(rt, alloc, setup)?;
-    match engine.put(alloc, b) {
-        Ok(_) => Ok(engine),
-        Err(_) => Err(Stop::SetUp),
-    }
-}
-
 // The view of the second shard.
 fn show_view(rt: &impl Print, alloc: Global, engine: &PlainEngine) -> Result<(), Stop> {
     let Some(shard) = engine.shard(1) else {
         return Err(Stop::Fault);
     };
     let view = view_at_last(rt, alloc, shard)?;
-    let sum = sum_at_last(rt, alloc, &view)?;
-    println!(rt; "view of batches {}", view.record_len())?;
-    show_cells(rt, &sum)?;
+    show_sum(rt, alloc, &view)?;
     Ok(())
 }
 
-fn view_at_last(rt: &impl Print, alloc: Global, shard: &Shard) -> Result<ShardView, Stop> {
-    if let Ok(view) = shard.view(alloc) {
-        return Ok(view);
-    }
-    println!(rt; "view refused")?;
-    Ok(shard.view(alloc)?)
+fn show_sum(rt: &impl Print, alloc: Global, view: &ShardView) -> Result<(), AllocError> {
+    let sum = sum_at_last(rt, alloc, view)?;
+    tell(rt, &[("view of batches", view.record_len())]);
+    show_cells(rt, &sum);
+    Ok(())
 }
 
-fn sum_at_last(rt: &impl Print, alloc: Global, view: &ShardView) -> Result<Hyper, Stop> {
-    if let Ok(sum) = view.sum(alloc) {
-        return Ok(sum);
+fn view_at_last(rt: &impl Print, alloc: Global, shard: &Shard) -> Result<ShardView, AllocError> {
+    match shard.view(alloc) {
+        Ok(view) => Ok(view),
+        Err(_) => {
+            say(rt, "view refused");
+            shard.view(alloc)
+        }
     }
-    println!(rt; "sum refused")?;
-    Ok(view.sum(alloc)?)
+}
+
+fn sum_at_last(rt: &impl Print, alloc: Global, view: &ShardView) -> Result<Hyper, AllocError> {
+    match view.sum(alloc) {
+        Ok(sum) => Ok(sum),
+        Err(_) => {
+            say(rt, "sum refused");
+            view.sum(alloc)
+        }
+    }
 }
 
 fn show_export(rt: &impl Print, alloc: Global, engine: &PlainEngine) -> Result<(), Stop> {
     let sum = export_at_last(rt, alloc, engine)?;
-    println!(rt; "export of entries {}", sum.entries())?;
-    show_cells(rt, &sum)?;
+    tell(rt, &[("export of entries", sum.entries())]);
+    show_cells(rt, &sum);
     Ok(())
 }
 
-fn export_at_last(rt: &impl Print, alloc: Global, engine: &PlainEngine) -> Result<Hyper, Stop> {
-    if let Ok(sum) = engine.export(alloc) {
-        return Ok(sum);
+fn export_at_last(
+    rt: &impl Print,
+    alloc: Global,
+    engine: &PlainEngine,
+) -> Result<Hyper, AllocError> {
+    match engine.export(alloc) {
+        Ok(sum) => Ok(sum),
+        Err(_) => {
+            say(rt, "export refused");
+            engine.export(alloc)
+        }
     }
-    println!(rt; "export refused")?;
-    Ok(engine.export(alloc)?)
 }
 
 // The engine that the batches of this one make.
@@ -92,24 +99,38 @@ fn show_load(
     // This call tells that its batches have the setup's dimensions.
     let setup = engine.setup();
     let list = list_at_last(rt, alloc, engine)?;
-    println!(rt; "list of batches {}", list.len())?;
-    let loaded = load_at_last(rt, alloc, setup, &list)?;
-    show_engine(rt, &loaded)?;
-    Ok(())
+    tell(rt, &[("list of batches", list.len() as u64)]);
+    show_loaded(rt, alloc, setup, &list)
 }
 
 fn list_at_last(
     rt: &impl Print,
     alloc: Global,
     engine: &PlainEngine,
-) -> Result<Vec<Arc<Batch>>, Stop>
+) -> Result<Vec<Arc<Batch>>, AllocError>
     ensures { IfOk result (λ list. values list.items ≡ engine.now.book.state.list) }
 {
-    if let Ok(list) = engine.batches(alloc) {
-        return Ok(list);
+    match engine.batches(alloc) {
+        Ok(list) => Ok(list),
+        Err(_) => {
+            say(rt, "list refused");
+            engine.batches(alloc)
+        }
     }
-    println!(rt; "list refused")?;
-    Ok(engine.batches(alloc)?)
+}
+
+// Loads a list, and tells what the engine holds.
+fn show_loaded(
+    rt: &(impl RandomSource + Print),
+    alloc: Global,
+    setup: Setup,
+    list: &[Arc<Batch>],
+) -> Result<(), Stop>
+    requires { HaveDims setup.rows setup.cols (values list.now) }
+{
+    let loaded = load_at_last(rt, alloc, setup, list)?;
+    show_engine(rt, &loaded);
+    Ok(())
 }
 
 fn load_at_last(
@@ -123,7 +144,7 @@ fn load_at_last(
     match PlainEngine::from_batches(rt, alloc, setup, list) {
         Ok(loaded) => Ok(loaded),
         Err(LoadFault::Memory) => {
-            println!(rt; "load refused")?;
+            say(rt, "load refused");
             PlainEngine::from_batches(rt, alloc, setup, list).map_err(|_| Stop::Fault)
         }
         Err(_) => Err(Stop::Fault),

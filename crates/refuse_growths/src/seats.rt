@@ -2,13 +2,12 @@
 ghost use Rattle.std.specs.Prelude.{◌≡◌};
 ghost use Rattle.std.specs.Arc.{arc_value};
 
-use crate::show::{show_book_list, show_cells, show_put};
+use crate::show::{say, show_book_list, show_cells, show_put, tell};
 use crate::stop::Stop;
 use batch_store::{Batch, BookList, Kept};
 use hyper_matrix::Hyper;
 use locked_engine::{Engine, Named, PutFault, Seat};
 use std::alloc::{AllocError, Global};
-use std::io;
 use std::sync::ledger::Ledger;
 use std::sync::{Arc, Wait};
 
@@ -28,11 +27,11 @@ pub fn show_seats<N: Named, H: Ledger, R: Wait + Print>(
     };
     put_at_last(rt, alloc, engine, first, b)?;
     let repeat = put(rt, alloc, engine, first, b)?;
-    show_put(rt, &repeat)?;
+    show_put(rt, &repeat);
     show_export(rt, alloc, engine)?;
     show_list(rt, alloc, engine, second)?;
     show_all(rt, alloc, engine, second)?;
-    show_status(rt, engine, second)?;
+    show_status(rt, engine, second);
     Ok(())
 }
 
@@ -64,12 +63,12 @@ fn put_at_last<N: Named, H: Ledger, R: Wait + Print>(
 {
     let mut answer = put(rt, alloc, engine, seat, b)?;
     if answer == Err(PutFault::Memory) {
-        show_put(rt, &answer)?;
-        show_status(rt, engine, seat)?;
+        show_put(rt, &answer);
+        show_status(rt, engine, seat);
         answer = put(rt, alloc, engine, seat, b)?;
     }
-    show_put(rt, &answer)?;
-    show_status(rt, engine, seat)?;
+    show_put(rt, &answer);
+    show_status(rt, engine, seat);
     Ok(())
 }
 
@@ -78,52 +77,51 @@ fn show_status<N: Named, H: Ledger, R: Wait + Print>(
     rt: &R,
     engine: &Engine<N, H>,
     seat: &mut Seat<N, H>,
-) -> io::Result<()> {
+) {
     let status = engine.status(seat);
-    println!(rt; "batches {} total {}", status.batches, status.total)?;
+    tell(rt, &[("batches", status.batches), ("total", status.total)]);
     let count = engine.cell(rt, 0, 0).unwrap_or(0);
+    tell(rt, &[("row", 0), ("column", 0), ("count", count)]);
     let row = engine.row(rt, 0);
-    println!(rt;
-        "cell 0 0 is {count}, row 0 entries {} total {}",
-        row.entries, row.total
-    )?;
-    show_shards(rt, engine)
+    tell(
+        rt,
+        &[("row", 0), ("entries", row.entries), ("total", row.total)],
+    );
+    show_shards(rt, engine);
 }
 
 // How many batches each shard has taken in, and the total of its parts.
-fn show_shards<N: Named, H: Ledger, R: Wait + Print>(
-    rt: &R,
-    engine: &Engine<N, H>,
-) -> io::Result<()> {
+fn show_shards<N: Named, H: Ledger, R: Wait + Print>(rt: &R, engine: &Engine<N, H>) {
     for s in 0..engine.setup().shards() {
         let held = engine.look(rt, s, |shard| (shard.record_len(), shard.total()));
         if let Some((batches, total)) = held {
-            println!(rt; "shard {s} batches {batches} total {total}")?;
+            tell(rt, &[("shard", s), ("batches", batches), ("total", total)]);
         }
     }
-    Ok(())
 }
 
 fn export_at_last<N: Named, H: Ledger, R: Wait + Print>(
     rt: &R,
     alloc: Global,
     engine: &Engine<N, H>,
-) -> Result<Hyper, Stop> {
-    if let Ok(sum) = engine.export(rt, alloc) {
-        return Ok(sum);
+) -> Result<Hyper, AllocError> {
+    match engine.export(rt, alloc) {
+        Ok(sum) => Ok(sum),
+        Err(_) => {
+            say(rt, "export refused");
+            engine.export(rt, alloc)
+        }
     }
-    println!(rt; "export refused")?;
-    Ok(engine.export(rt, alloc)?)
 }
 
 fn show_export<N: Named, H: Ledger, R: Wait + Print>(
     rt: &R,
     alloc: Global,
     engine: &Engine<N, H>,
-) -> Result<(), Stop> {
+) -> Result<(), AllocError> {
     let sum = export_at_last(rt, alloc, engine)?;
-    println!(rt; "export of entries {}", sum.entries())?;
-    show_cells(rt, &sum)?;
+    tell(rt, &[("export of entries", sum.entries())]);
+    show_cells(rt, &sum);
     Ok(())
 }
 
@@ -132,12 +130,14 @@ fn list_at_last<N: Named, H: Ledger, R: Wait + Print>(
     alloc: Global,
     engine: &Engine<N, H>,
     seat: &mut Seat<N, H>,
-) -> Result<Vec<Arc<Batch>>, Stop> {
-    if let Ok(list) = engine.batch_list(rt, alloc, seat) {
-        return Ok(list);
+) -> Result<Vec<Arc<Batch>>, AllocError> {
+    match engine.batch_list(rt, alloc, seat) {
+        Ok(list) => Ok(list),
+        Err(_) => {
+            say(rt, "list refused");
+            engine.batch_list(rt, alloc, seat)
+        }
     }
-    println!(rt; "list refused")?;
-    Ok(engine.batch_list(rt, alloc, seat)?)
 }
 
 fn show_list<N: Named, H: Ledger, R: Wait + Print>(
@@ -145,9 +145,9 @@ fn show_list<N: Named, H: Ledger, R: Wait + Print>(
     alloc: Global,
     engine: &Engine<N, H>,
     seat: &mut Seat<N, H>,
-) -> Result<(), Stop> {
+) -> Result<(), AllocError> {
     let list = list_at_last(rt, alloc, engine, seat)?;
-    println!(rt; "list of batches {}", list.len())?;
+    tell(rt, &[("list of batches", list.len() as u64)]);
     Ok(())
 }
 
@@ -156,12 +156,14 @@ fn all_at_last<N: Named, H: Ledger, R: Wait + Print>(
     alloc: Global,
     engine: &Engine<N, H>,
     seat: &mut Seat<N, H>,
-) -> Result<BookList, Stop> {
-    if let Ok(list) = engine.book_list(rt, alloc, seat) {
-        return Ok(list);
+) -> Result<BookList, AllocError> {
+    match engine.book_list(rt, alloc, seat) {
+        Ok(list) => Ok(list),
+        Err(_) => {
+            say(rt, "book list refused");
+            engine.book_list(rt, alloc, seat)
+        }
     }
-    println!(rt; "book list refused")?;
-    Ok(engine.book_list(rt, alloc, seat)?)
 }
 
 // All that was accepted, folded or not.
@@ -170,8 +172,8 @@ fn show_all<N: Named, H: Ledger, R: Wait + Print>(
     alloc: Global,
     engine: &Engine<N, H>,
     seat: &mut Seat<N, H>,
-) -> Result<(), Stop> {
+) -> Result<(), AllocError> {
     let list = all_at_last(rt, alloc, engine, seat)?;
-    show_book_list(rt, &list)?;
+    show_book_list(rt, &list);
     Ok(())
 }

@@ -1,12 +1,12 @@
 //! Sessions over an engine of one thread.
 
 use crate::examples::small_setup;
+use crate::show::{say, tell};
 use crate::stop::Stop;
 use byte_io::Script;
 use byte_io_tests::pieces;
 use plain_engine::PlainEngine;
 use std::alloc::Global;
-use std::io;
 use std::random::RandomSource;
 use wire_proto::{Ended, serve_engine};
 
@@ -31,7 +31,8 @@ fn run_example(rt: &impl Print, alloc: Global, engine: &mut PlainEngine) -> Resu
     let first = pieces(alloc, SENT, 60)?;
     let second = pieces(alloc, SENT, 60)?;
     let third = pieces(alloc, SENT, 60)?;
-    serve_all(rt, alloc, engine, first, second, third)
+    serve_all(rt, alloc, engine, first, second, third);
+    Ok(())
 }
 
 // Serves the first two of these, and where memory was refused in one of them the third, which is answered as if nothing
@@ -43,44 +44,40 @@ fn serve_all(
     first: Vec<Vec<u8>>,
     second: Vec<Vec<u8>>,
     third: Vec<Vec<u8>>,
-) -> Result<(), Stop> {
-    let is_first_whole = serve(rt, alloc, engine, first)?;
-    let is_second_whole = serve(rt, alloc, engine, second)?;
+) {
+    let is_first_whole = serve(rt, alloc, engine, first);
+    let is_second_whole = serve(rt, alloc, engine, second);
     if !is_first_whole || !is_second_whole {
-        serve(rt, alloc, engine, third)?;
+        serve(rt, alloc, engine, third);
     }
-    Ok(())
 }
 
 // Serves these pieces, and tells how the session ends, what it writes, and what is accepted then. Whether all of them
 // were served.
-fn serve(
-    rt: &impl Print,
-    alloc: Global,
-    engine: &mut PlainEngine,
-    list: Vec<Vec<u8>>,
-) -> Result<bool, Stop> {
+fn serve(rt: &impl Print, alloc: Global, engine: &mut PlainEngine, list: Vec<Vec<u8>>) -> bool {
     let mut link = Script::new(alloc, list, None, None);
     let ended = serve_engine(alloc, &mut link, engine, TURNS);
-    show_end(rt, ended)?;
-    show_written(rt, &link)?;
+    show_end(rt, ended);
+    show_written(rt, &link);
     let status = engine.status();
-    println!(rt; "batches {} total {}", status.batches, status.total)?;
-    Ok(ended == Ended::Closed { rest: 0 })
+    tell(rt, &[("batches", status.batches), ("total", status.total)]);
+    ended == Ended::Closed { rest: 0 }
 }
 
-fn show_end(rt: &impl Print, ended: Ended) -> io::Result<()> {
+fn show_end(rt: &impl Print, ended: Ended) {
     match ended {
-        Ended::Closed { rest } => println!(rt; "closed, bytes left {rest}"),
-        Ended::Memory => println!(rt; "session refused"),
-        Ended::WriteFault { written } => println!(rt; "write refused behind bytes {written}"),
-        _ => println!(rt; "fault"),
+        Ended::Closed { rest } => tell(rt, &[("closed, bytes left", rest)]),
+        Ended::Memory => say(rt, "session refused"),
+        Ended::WriteFault { written } => {
+            tell(rt, &[("write refused behind bytes", written as u64)]);
+        }
+        _ => say(rt, "fault"),
     }
 }
 
-fn show_written(rt: &impl Print, link: &Script) -> io::Result<()> {
+fn show_written(rt: &impl Print, link: &Script) {
     for byte in link.written() {
-        print!(rt; "{byte:02x}")?;
+        let _ = print!(rt; "{byte:02x}");
     }
-    println!(rt;)
+    let _ = println!(rt;);
 }

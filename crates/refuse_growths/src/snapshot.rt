@@ -1,6 +1,7 @@
 //! Snapshots in memory and as a file.
 ghost use Rattle.std.specs.Prelude.{◌≡◌, ◌+◌, ◌<◌, ◌^◌};
 
+use crate::show::{say, tell};
 use crate::stop::Stop;
 use byte_io::{Script, WriteFault};
 use byte_io_tests::pieces;
@@ -8,8 +9,8 @@ use snap_file::{
     FileFault, SaveFault, SnapFault, Snapshot, load, read_snapshot, save, write_snapshot,
 };
 use std::alloc::Global;
+use std::fs;
 use std::rt::Files;
-use std::{fs, io};
 
 /// Three rows, three columns, cuts 2 and 4, 2 shards, a limit of 100 and at most 10 batches; 2 batches, total 12, 1 of
 /// them folded: client 8, number 1, 1 cell, total 7. The base: 1 cell, row 1, column 2, count 7. Then client 7, number
@@ -41,16 +42,15 @@ pub fn run(rt: &(impl Files + Print), alloc: Global) -> Result<(), Stop> {
 }
 
 fn run_example(rt: &(impl Files + Print), alloc: Global, snapshot: &Snapshot) -> Result<(), Stop> {
-    println!(rt;
-        "read folded {} batches {}",
-        snapshot.list.folded.len(),
-        snapshot.list.batches.len()
-    )?;
+    let (folded, batches) = (snapshot.list.folded.len(), snapshot.list.batches.len());
+    tell(
+        rt,
+        &[("read folded", folded as u64), ("batches", batches as u64)],
+    );
     write_at_last(rt, alloc, snapshot)?;
     save_at_last(rt, alloc, snapshot)?;
     load_at_last(rt, alloc)?;
-    fs::remove_file(rt, PATH)?;
-    Ok(())
+    fs::remove_file(rt, PATH).map_err(|_| Stop::Fault)
 }
 
 fn read_from(alloc: Global, list: Vec<Vec<u8>>) -> Result<Snapshot, SnapFault> {
@@ -68,7 +68,7 @@ fn read_at_last(
     match read_from(alloc, first) {
         Ok(snapshot) => Ok(snapshot),
         Err(SnapFault::Memory) => {
-            println!(rt; "read refused")?;
+            say(rt, "read refused");
             read_from(alloc, second).map_err(|_| Stop::Fault)
         }
         Err(_) => Err(Stop::Fault),
@@ -88,20 +88,25 @@ fn write_at_last(rt: &impl Print, alloc: Global, snapshot: &Snapshot) -> Result<
     let mut link = Script::new(alloc, Vec::new(alloc), None, None);
     let mut again = Script::new(alloc, Vec::new(alloc), None, None);
     if let Err(fault) = written(&mut link, snapshot) {
-        println!(rt; "write refused behind bytes {}", fault.written)?;
-        show_link(rt, &link)?;
+        tell(rt, &[("write refused behind bytes", fault.written as u64)]);
+        show_link(rt, &link);
         if written(&mut again, snapshot).is_err() {
             return Err(Stop::Fault);
         }
         link = again;
     }
-    show_link(rt, &link)?;
+    show_link(rt, &link);
     Ok(())
 }
 
-fn show_link(rt: &impl Print, link: &Script) -> io::Result<()> {
+fn show_link(rt: &impl Print, link: &Script) {
     let is_whole = link.written() == BYTES;
-    println!(rt; "written bytes {}, whole {is_whole}", link.written().len())
+    let words = if is_whole {
+        "written whole, bytes"
+    } else {
+        "written in part, bytes"
+    };
+    tell(rt, &[(words, link.written().len() as u64)]);
 }
 
 fn saved(rt: &(impl Files + Print), alloc: Global, snapshot: &Snapshot) -> Result<(), SaveFault> {
@@ -112,12 +117,12 @@ fn saved(rt: &(impl Files + Print), alloc: Global, snapshot: &Snapshot) -> Resul
 
 fn save_at_last(rt: &(impl Files + Print), alloc: Global, snapshot: &Snapshot) -> Result<(), Stop> {
     if let Err(fault) = saved(rt, alloc, snapshot) {
-        println!(rt; "save refused: {fault}")?;
+        let _ = println!(rt; "save refused: {fault}");
         if saved(rt, alloc, snapshot).is_err() {
             return Err(Stop::Fault);
         }
     }
-    println!(rt; "saved")?;
+    say(rt, "saved");
     Ok(())
 }
 
@@ -130,12 +135,20 @@ fn loaded(rt: &impl Files, alloc: Global) -> Result<(usize, usize), FileFault> {
 fn load_at_last(rt: &(impl Files + Print), alloc: Global) -> Result<(), Stop> {
     let mut answer = loaded(rt, alloc);
     if answer == Err(FileFault::Memory) {
-        println!(rt; "load refused")?;
+        say(rt, "load refused");
         answer = loaded(rt, alloc);
     }
     match answer {
-        Ok((folded, batches)) => println!(rt; "loaded folded {folded} batches {batches}")?,
-        Err(_) => return Err(Stop::Fault),
+        Ok((folded, batches)) => {
+            tell(
+                rt,
+                &[
+                    ("loaded folded", folded as u64),
+                    ("batches", batches as u64),
+                ],
+            );
+            Ok(())
+        }
+        Err(_) => Err(Stop::Fault),
     }
-    Ok(())
 }

@@ -1,5 +1,5 @@
 use Rattle.std.proofs.Common.{◌+◌}
-use Rattle.refuse_growths.proofs.locked.run.Given as goal
+use Rattle.refuse_growths.proofs.locked.run_with.Given as goal
 
 -- the engine that these names name
 abbrev pub ghosts-run_named-N-Ledger : goal.ghosts-run_named-N-Ledger
