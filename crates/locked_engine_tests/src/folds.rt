@@ -1,18 +1,16 @@
 //! An engine whose first batches are folded: what its seats are answered, what they list, and what it closes to.
-ghost use Rattle.std.specs.Prelude.{◌≡◌, IfOk};
-ghost use Rattle.batch_store.specs.Accepted.{entries_in};
-ghost use Rattle.locked_engine.specs.Opened.{NamesEngine};
+ghost use Rattle.std.specs.Prelude.{◌≡◌};
 
 use crate::batches::{Cells, batch, small_setup};
-use crate::expected::{expect_closed, expect_count, expect_counts, expect_export, expect_status};
-use crate::opened::{Step, closed, opened, put_all, two_seats, with_names};
+use crate::cases::{Act, Case, NOTHING, play_on};
+use crate::expected::{expect_count, expect_counts, expect_export, expect_status};
+use crate::opened::{Step, put_all, two_seats};
 use batch_store::Setup;
 use locked_engine::PutFault::{NumberReused, OverTotal};
-use locked_engine::{Engine, Named, Names, Seat};
+use locked_engine::{Engine, Named, Seat};
 use plain_engine::PlainEngine;
 use std::alloc::{AllocError, Global};
 use std::io::Eprint;
-use std::marker::Brand;
 use std::process::Abort;
 use std::random::RandomSource;
 use std::sync::Wait;
@@ -43,23 +41,38 @@ fn accept(
     }
 }
 
-// An engine of one thread that has folded two batches: the one of client 7 of total 9, and that of client 8 of total 3.
+// Puts two batches: the one of client 7 of total 9, and that of client 8 of total 3.
+fn accept_two(alloc: Global, plain: &mut PlainEngine, setup: &Setup) -> Result<(), Fail>
+    requires setup { plain.old.setup ≡ setup.now }
+{
+    accept(alloc, plain, setup, 7, NINE)?;
+    accept(alloc, plain, setup, 8, THREE)
+}
+
+// An engine of one thread that has folded them.
 fn folded_two<R: RandomSource>(rt: &R, alloc: Global) -> Result<PlainEngine, Fail> {
     let setup = small_setup()?;
     let mut plain = PlainEngine::new(rt, alloc, setup)?;
-    accept(alloc, &mut plain, &setup, 7, NINE)?;
-    accept(alloc, &mut plain, &setup, 8, THREE)?;
+    accept_two(alloc, &mut plain, &setup)?;
     match plain.fold(alloc) {
         Ok(folded) => Ok(folded),
         Err(_) => Err("fold".into()),
     }
 }
 
+static BEHIND: Case = Case {
+    act: Act::PutBehindFolded,
+    accepted: (3, 14),
+    // Each record begins behind what was folded.
+    shards: &[(0, 9, 1), (1, 5, 1)],
+    batches: Some(&[(9, 1, TWO)]),
+    ..NOTHING
+};
+
 #[test]
 fn folded_batches_are_known_to_each_seat(rt: HostRuntime) -> Result<(), Fail> {
     let plain = folded_two(&rt, rt.alloc())?;
-    let (plain, names) = with_names(&rt, rt.alloc(), plain, 2)?;
-    go_on::<Brand, Brand, _>(&rt, rt.alloc(), plain, names)
+    play_on(&rt, rt.alloc(), plain, &BEHIND)
 }
 
 // Folded batches keep the replies that they had, a new one takes the next place, and the total goes on.
@@ -84,29 +97,8 @@ static COUNTS: &[(u64, u64, Option<u64>)] = &[
     (0, 1, None),
 ];
 
-fn go_on<N: Named, H: Ledger, R: Wait + Abort + Eprint>(
-    rt: &R,
-    alloc: Global,
-    plain: PlainEngine,
-    names: Names,
-) -> Result<(), Fail>
-    requires named { NamesEngine names N.setup N.seats N.history N.name N.parts H.name H.parts }
-    requires made_from { plain.setup ≡ names.setup }
-    requires opened { plain.book.state ≡ N.opened }
-{
-    let (engine, mut seats) = opened::<N, H>(alloc, plain, names)?;
-    if let Err(fail) = put_from_both(rt, alloc, &engine, &mut seats) {
-        engine.end(rt);
-        return Err(fail);
-    }
-    let closed = closed(rt, alloc, engine, seats)?;
-    assert!(rt; closed.folded() == 2);
-    // Each record begins behind what was folded.
-    expect_closed(rt, &closed, (3, 14), &[(0, 9, 1), (1, 5, 1)]);
-    Ok(())
-}
-
-fn put_from_both<N: Named, H: Ledger, R: Wait + Abort + Eprint>(
+/// Puts from both seats, and reads from the second what is folded and what is behind.
+pub fn put_from_both<N: Named, H: Ledger, R: Wait + Abort + Eprint>(
     rt: &R,
     alloc: Global,
     engine: &Engine<N, H>,

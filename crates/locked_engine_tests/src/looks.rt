@@ -1,16 +1,12 @@
 //! A look finds what its shard holds: its number, its total, the batches that concern it, and its cells.
-ghost use Rattle.std.specs.Prelude.{◌≡◌};
-ghost use Rattle.batch_store.specs.Accepted.{entries_in};
-ghost use Rattle.locked_engine.specs.Opened.{NamesEngine};
 
 use crate::batches::{Cells, small_setup};
-use crate::opened::{Step, first_seat, opened, put_all, unopened};
+use crate::cases::{Act, Case, NOTHING, play};
+use crate::opened::{Step, first_seat, put_all};
 use batch_store::Shard;
-use locked_engine::{Engine, Named, Names, Seat};
-use plain_engine::PlainEngine;
+use locked_engine::{Engine, Named, Seat};
 use std::alloc::Global;
 use std::io::Eprint;
-use std::marker::Brand;
 use std::process::Abort;
 use std::sync::Wait;
 use std::sync::ledger::Ledger;
@@ -31,29 +27,20 @@ static SHARDS: [Held; 2] = [
     (1, 14, [true, true], &[(1, 0, 5), (1, 2, 9)]),
 ];
 
+static LOOKED_AT: Case = Case {
+    act: Act::Look,
+    accepted: (2, 22),
+    shards: &[(0, 8, 1), (1, 14, 2)],
+    ..NOTHING
+};
+
 #[test]
 fn a_look_finds_what_the_shard_holds(rt: HostRuntime) -> Result<(), Fail> {
-    let (plain, names) = unopened(&rt, rt.alloc(), small_setup()?, 1)?;
-    put_and_look::<Brand, Brand, _>(&rt, rt.alloc(), plain, names)
+    play(&rt, rt.alloc(), small_setup()?, &LOOKED_AT)
 }
 
-fn put_and_look<N: Named, H: Ledger, R: Wait + Abort + Eprint>(
-    rt: &R,
-    alloc: Global,
-    plain: PlainEngine,
-    names: Names,
-) -> Result<(), Fail>
-    requires named { NamesEngine names N.setup N.seats N.history N.name N.parts H.name H.parts }
-    requires made_from { plain.setup ≡ names.setup }
-    requires opened { plain.book.state ≡ N.opened }
-{
-    let (engine, mut seats) = opened::<N, H>(alloc, plain, names)?;
-    let found = put_and_expect(rt, alloc, &engine, &mut seats);
-    engine.end(rt);
-    found
-}
-
-fn put_and_expect<N: Named, H: Ledger, R: Wait + Abort + Eprint>(
+/// Puts both batches from the first seat, and looks at each shard.
+pub fn put_and_look<N: Named, H: Ledger, R: Wait + Abort + Eprint>(
     rt: &R,
     alloc: Global,
     engine: &Engine<N, H>,

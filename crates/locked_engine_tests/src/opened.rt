@@ -23,19 +23,6 @@ pub type Answer = Result<(u64, u64), PutFault>;
 /// The client, the number and the cells of a batch that is put, and what is answered.
 pub type Step = (u64, u64, Cells, Answer);
 
-/// An empty engine of one thread, and names for one of several with so many seats.
-pub fn unopened<R: RandomSource>(
-    rt: &R,
-    alloc: Global,
-    setup: Setup,
-    seats: usize,
-) -> Result<(PlainEngine, Names), Fail>
-    ensures { IfOk result (λ r. r.0.setup ≡ r.1.setup) }
-{
-    let plain = PlainEngine::new(rt, alloc, setup)?;
-    with_names(rt, alloc, plain, seats)
-}
-
 /// An engine of one thread, and names for one of several that goes on with what it has, with so many seats.
 pub fn with_names<R: RandomSource>(
     rt: &R,
@@ -81,14 +68,60 @@ pub fn closed<N: Named, H: Ledger, R: Wait>(
     }
 }
 
-/// Ends what wasn't closed.
-pub fn not_closed<N: Named, H: Ledger, R: Wait>(rt: &R, fault: CloseFault<N, H>) -> Fail {
+// Ends what wasn't closed.
+fn not_closed<N: Named, H: Ledger, R: Wait>(rt: &R, fault: CloseFault<N, H>) -> Fail {
     match fault {
         CloseFault::SeatsMissing { engine, seats: _ } => engine.end(rt),
         CloseFault::Memory { engine, seats: _ } => engine.end(rt),
         CloseFault::RecordsDiffer { shards: _, book: _ } => (),
     }
     "close".into()
+}
+
+// Closes an engine without one of its seats: it is handed back with the others.
+fn not_without_all<N: Named, H: Ledger, R: Wait>(
+    rt: &R,
+    alloc: Global,
+    engine: Engine<N, H>,
+    seats: Vec<Seat<N, H>>,
+) -> Result<(Engine<N, H>, Vec<Seat<N, H>>), Fail> {
+    match engine.close(rt, alloc, seats) {
+        Err(CloseFault::SeatsMissing { engine, seats }) => Ok((engine, seats)),
+        Err(fault) => Err(not_closed(rt, fault)),
+        Ok(_) => Err("a seat is missing".into()),
+    }
+}
+
+// Gives a seat back and closes an engine.
+fn closed_with<N: Named, H: Ledger, R: Wait>(
+    rt: &R,
+    alloc: Global,
+    engine: Engine<N, H>,
+    seats: Vec<Seat<N, H>>,
+    seat: Seat<N, H>,
+) -> Result<PlainEngine, Fail> {
+    let mut seats = seats;
+    if seats.push(seat).is_err() {
+        engine.end(rt);
+        return Err("no memory for a seat".into());
+    }
+    closed(rt, alloc, engine, seats)
+}
+
+/// The same, where the last seat is kept back at first: it is missed.
+pub fn close_at_last<N: Named, H: Ledger, R: Wait>(
+    rt: &R,
+    alloc: Global,
+    engine: Engine<N, H>,
+    seats: Vec<Seat<N, H>>,
+) -> Result<PlainEngine, Fail> {
+    let mut seats = seats;
+    let Some(last) = seats.pop() else {
+        engine.end(rt);
+        return Err("no seat".into());
+    };
+    let (engine, seats) = not_without_all(rt, alloc, engine, seats)?;
+    closed_with(rt, alloc, engine, seats, last)
 }
 
 /// The first of these seats.

@@ -1,21 +1,16 @@
 //! Two threads, two seats: what one has put the other reads, and a shard that is held keeps nobody from another.
-ghost use Rattle.std.specs.Prelude.{◌≡◌};
-ghost use Rattle.batch_store.specs.Accepted.{entries_in};
-ghost use Rattle.locked_engine.specs.Opened.{NamesEngine};
 
 use crate::batches::{Cells, small_setup};
-use crate::expected::{expect_batch, expect_counts, expect_export, expect_row, expect_status};
-use crate::opened::{Answer, closed, opened, put, put_all, two_seats, unopened};
-use batch_store::Batch;
-use locked_engine::{Engine, Named, Names, Seat};
-use plain_engine::PlainEngine;
+use crate::cases::{Act, Case, Listed, NOTHING, play};
+use crate::expected::{expect_counts, expect_export, expect_list, expect_row, expect_status};
+use crate::opened::{Answer, put, put_all, two_seats};
+use locked_engine::{Engine, Named, Seat};
 use std::alloc::Global;
 use std::io::Eprint;
-use std::marker::Brand;
 use std::process::Abort;
+use std::sync::Wait;
 use std::sync::atomic::{AtomicU64, Ordering};
 use std::sync::ledger::Ledger;
-use std::sync::{Arc, Wait};
 use std::test::Fail;
 use std::thread;
 use std::thread::Threads;
@@ -46,29 +41,20 @@ const ANSWERED: u64 = 2;
 
 static IN_SHARD_1: Cells = &[(1, 0, 4)];
 
+static BESIDE: Case = Case {
+    act: Act::PutBesideALook,
+    accepted: (1, 4),
+    shards: &[(0, 0, 0), (1, 4, 1)],
+    ..NOTHING
+};
+
 #[test]
 fn a_shard_that_is_held_keeps_nobody_from_another(rt: HostRuntime) -> Result<(), Fail> {
-    let (plain, names) = unopened(&rt, rt.alloc(), small_setup()?, 2)?;
-    put_beside_a_look::<Brand, Brand, _>(&rt, rt.alloc(), plain, names)
+    play(&rt, rt.alloc(), small_setup()?, &BESIDE)
 }
 
-// While one thread holds shard 0, the other's put into shard 1 is answered.
-fn put_beside_a_look<
-    N: Named + Send + Sync,
-    H: Ledger + Send + Sync,
-    R: Threads + Wait + Abort + Eprint + Clock + Sync,
->(rt: &R, alloc: Global, plain: PlainEngine, names: Names) -> Result<(), Fail>
-    requires named { NamesEngine names N.setup N.seats N.history N.name N.parts H.name H.parts }
-    requires made_from { plain.setup ≡ names.setup }
-    requires opened { plain.book.state ≡ N.opened }
-{
-    let (engine, mut seats) = opened::<N, H>(alloc, plain, names)?;
-    let put = put_and_export(rt, alloc, &engine, &mut seats);
-    engine.end(rt);
-    put
-}
-
-fn put_and_export<
+/// While one thread holds shard 0, the other's put into shard 1 is answered.
+pub fn put_beside_a_look<
     N: Named + Send + Sync,
     H: Ledger + Send + Sync,
     R: Threads + Wait + Abort + Eprint + Clock + Sync,
@@ -121,56 +107,29 @@ fn put_into_shard_1<N: Named, H: Ledger, R: Wait + Clock>(
     answer
 }
 
-static FIRST: Cells = &[(0, 0, 5)];
+const FIRST: Cells = &[(0, 0, 5)];
 
-static SECOND: Cells = &[(0, 1, 3), (1, 0, 4)];
+const SECOND: Cells = &[(0, 1, 3), (1, 0, 4)];
+
+const TWO: &[Listed] = &[(7, 1, FIRST), (8, 1, SECOND)];
 
 static SUM: Cells = &[(0, 0, 5), (0, 1, 3), (1, 0, 4)];
 
+static READ: Case = Case {
+    act: Act::PutAndRead,
+    accepted: (2, 12),
+    shards: &[(0, 8, 2), (1, 4, 1)],
+    batches: Some(TWO),
+    ..NOTHING
+};
+
 #[test]
 fn seats_read_what_was_put(rt: HostRuntime) -> Result<(), Fail> {
-    let (plain, names) = unopened(&rt, rt.alloc(), small_setup()?, 2)?;
-    put_by_both::<Brand, Brand, _>(&rt, rt.alloc(), plain, names)
+    play(&rt, rt.alloc(), small_setup()?, &READ)
 }
 
-// These are the two batches, each with its cells.
-fn expect_both(rt: &(impl Abort + Eprint), alloc: Global, list: &[Arc<Batch>]) -> Result<(), Fail> {
-    let [first, second] = list else {
-        return Err("not two batches".into());
-    };
-    expect_batch(rt, alloc, first, (7, 1), FIRST)?;
-    expect_batch(rt, alloc, second, (8, 1), SECOND)?;
-    Ok(())
-}
-
-fn put_by_both<
-    N: Named + Send + Sync,
-    H: Ledger + Send + Sync,
-    R: Threads + Wait + Abort + Eprint + Sync,
->(rt: &R, alloc: Global, plain: PlainEngine, names: Names) -> Result<(), Fail>
-    requires named { NamesEngine names N.setup N.seats N.history N.name N.parts H.name H.parts }
-    requires made_from { plain.setup ≡ names.setup }
-    requires opened { plain.book.state ≡ N.opened }
-{
-    let (engine, mut seats) = opened::<N, H>(alloc, plain, names)?;
-    if let Err(fail) = put_and_read(rt, alloc, &engine, &mut seats) {
-        engine.end(rt);
-        return Err(fail);
-    }
-    let closed = closed(rt, alloc, engine, seats)?;
-    expect_listed(rt, alloc, &closed)
-}
-
-fn expect_listed(
-    rt: &(impl Abort + Eprint),
-    alloc: Global,
-    closed: &PlainEngine,
-) -> Result<(), Fail> {
-    let list = closed.batches(alloc)?;
-    expect_both(rt, alloc, &list)
-}
-
-fn put_and_read<
+/// Two threads put a batch each, and each seat reads both.
+pub fn put_and_read<
     N: Named + Send + Sync,
     H: Ledger + Send + Sync,
     R: Threads + Wait + Abort + Eprint + Sync,
@@ -237,5 +196,6 @@ fn list_both<N: Named, H: Ledger, R: Wait + Abort + Eprint>(
     seat: &mut Seat<N, H>,
 ) -> Result<(), Fail> {
     let list = engine.batch_list(rt, alloc, seat)?;
-    expect_both(rt, alloc, &list)
+    expect_list(rt, alloc, &list, TWO)?;
+    Ok(())
 }

@@ -1,19 +1,15 @@
 //! Look-ups of what shards show: they wait for no put and no look, a seat finds its own puts at once, and what a reader
 //! finds never grows less.
-ghost use Rattle.std.specs.Prelude.{◌≡◌};
-ghost use Rattle.batch_store.specs.Accepted.{entries_in};
-ghost use Rattle.locked_engine.specs.Opened.{NamesEngine};
 
 use crate::batches::{Cells, small_setup};
+use crate::cases::{Act, Case, NOTHING, play};
 use crate::expected::{expect_counts, expect_export, expect_row};
-use crate::opened::{first_seat, opened, put, put_all, unopened};
+use crate::opened::{first_seat, put, put_all};
 use batch_store::Setup;
 use hyper_matrix::RowSum;
-use locked_engine::{Engine, Named, Names, Seat};
-use plain_engine::PlainEngine;
+use locked_engine::{Engine, Named, Seat};
 use std::alloc::{AllocError, Global};
 use std::io::Eprint;
-use std::marker::Brand;
 use std::process::Abort;
 use std::sync::Wait;
 use std::sync::atomic::{AtomicU64, Ordering};
@@ -26,30 +22,20 @@ use test_support::same;
 // Cells of both shards of the small setup.
 static BOTH: Cells = &[(0, 0, 5), (0, 1, 3), (1, 0, 4)];
 
+static HELD: Case = Case {
+    act: Act::ReadInsideALook,
+    accepted: (1, 12),
+    shards: &[(0, 8, 1), (1, 4, 1)],
+    ..NOTHING
+};
+
 #[test]
 fn look_ups_are_answered_while_a_shard_is_held(rt: HostRuntime) -> Result<(), Fail> {
-    let (plain, names) = unopened(&rt, rt.alloc(), small_setup()?, 1)?;
-    put_and_look::<Brand, Brand, _>(&rt, rt.alloc(), plain, names)
+    play(&rt, rt.alloc(), small_setup()?, &HELD)
 }
 
-fn put_and_look<N: Named, H: Ledger, R: Wait + Abort + Eprint>(
-    rt: &R,
-    alloc: Global,
-    plain: PlainEngine,
-    names: Names,
-) -> Result<(), Fail>
-    requires named { NamesEngine names N.setup N.seats N.history N.name N.parts H.name H.parts }
-    requires made_from { plain.setup ≡ names.setup }
-    requires opened { plain.book.state ≡ N.opened }
-{
-    let (engine, mut seats) = opened::<N, H>(alloc, plain, names)?;
-    let read = read_inside_a_look(rt, alloc, &engine, &mut seats);
-    engine.end(rt);
-    read
-}
-
-// Reads a shard inside a look at it, of which any call that takes the shard's lock would never end.
-fn read_inside_a_look<N: Named, H: Ledger, R: Wait + Abort + Eprint>(
+/// Reads a shard inside a look at it, of which any call that takes the shard's lock would never end.
+pub fn read_inside_a_look<N: Named, H: Ledger, R: Wait + Abort + Eprint>(
     rt: &R,
     alloc: Global,
     engine: &Engine<N, H>,
@@ -147,29 +133,20 @@ static STEPS: &[Step] = &[
     },
 ];
 
+static FOUND: Case = Case {
+    act: Act::PutAndFind,
+    accepted: (5, 21),
+    shards: &[(0, 17, 3), (1, 4, 1)],
+    ..NOTHING
+};
+
 #[test]
 fn a_seat_finds_its_own_puts_at_once(rt: HostRuntime) -> Result<(), Fail> {
-    let (plain, names) = unopened(&rt, rt.alloc(), small_setup()?, 1)?;
-    put_each_step::<Brand, Brand, _>(&rt, rt.alloc(), plain, names)
+    play(&rt, rt.alloc(), small_setup()?, &FOUND)
 }
 
-fn put_each_step<N: Named, H: Ledger, R: Wait + Abort + Eprint>(
-    rt: &R,
-    alloc: Global,
-    plain: PlainEngine,
-    names: Names,
-) -> Result<(), Fail>
-    requires named { NamesEngine names N.setup N.seats N.history N.name N.parts H.name H.parts }
-    requires made_from { plain.setup ≡ names.setup }
-    requires opened { plain.book.state ≡ N.opened }
-{
-    let (engine, mut seats) = opened::<N, H>(alloc, plain, names)?;
-    let read = put_steps(rt, alloc, &engine, &mut seats);
-    engine.end(rt);
-    read
-}
-
-fn put_steps<N: Named, H: Ledger, R: Wait + Abort + Eprint>(
+/// Puts batches from the first seat, and reads after each.
+pub fn put_and_find<N: Named, H: Ledger, R: Wait + Abort + Eprint>(
     rt: &R,
     alloc: Global,
     engine: &Engine<N, H>,
@@ -204,26 +181,18 @@ const ROUNDS: u64 = 2_000;
 
 const PUTTERS: u64 = 2;
 
+static WATCHED: Case = Case {
+    seats: 3,
+    act: Act::Watch,
+    accepted: (4_000, 8_000),
+    shards: &[(0, 4_000, 4_000), (1, 4_000, 4_000)],
+    ..NOTHING
+};
+
 #[test]
 fn what_is_shown_never_grows_less(rt: HostRuntime) -> Result<(), Fail> {
     let setup = Setup::new(4, 1, &[2, 4], 2, 1_000_000, 10_000)?;
-    let (plain, names) = unopened(&rt, rt.alloc(), setup, 3)?;
-    put_and_watch::<Brand, Brand, _>(&rt, rt.alloc(), plain, names)
-}
-
-fn put_and_watch<
-    N: Named + Send + Sync,
-    H: Ledger + Send + Sync,
-    R: Threads + Wait + Abort + Eprint + Sync,
->(rt: &R, alloc: Global, plain: PlainEngine, names: Names) -> Result<(), Fail>
-    requires named { NamesEngine names N.setup N.seats N.history N.name N.parts H.name H.parts }
-    requires made_from { plain.setup ≡ names.setup }
-    requires opened { plain.book.state ≡ N.opened }
-{
-    let (engine, mut seats) = opened::<N, H>(alloc, plain, names)?;
-    let watched = watch_from_seats(rt, alloc, &engine, &mut seats);
-    engine.end(rt);
-    watched
+    play(&rt, rt.alloc(), setup, &WATCHED)
 }
 
 static SUM: Cells = &[(0, 0, 2_000), (1, 0, 2_000), (2, 0, 2_000), (3, 0, 2_000)];
@@ -237,7 +206,8 @@ fn three_seats<N: Named, H: Ledger>(
     }
 }
 
-fn watch_from_seats<
+/// Two threads put while a third reads.
+pub fn watch_from_seats<
     N: Named + Send + Sync,
     H: Ledger + Send + Sync,
     R: Threads + Wait + Abort + Eprint + Sync,

@@ -1,4 +1,4 @@
-//! Worked examples of the engine of one thread, and a second, plain engine that agrees with it.
+//! Worked examples of the engine of one thread.
 //!
 //! The answers in the tables were worked out by hand from what the calls promise, not taken from a run.
 #![tactic(auto)]
@@ -13,8 +13,6 @@ mod folds;
 mod loads;
 #[cfg(test)]
 mod lookups;
-#[cfg(test)]
-mod model;
 #[cfg(test)]
 mod parts;
 #[cfg(test)]

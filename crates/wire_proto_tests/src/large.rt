@@ -2,7 +2,6 @@
 //! minutes (`--seconds 600`).
 
 use crate::asks::{Ask, Outcome, cells_frame, exchanged, frame, put_frame, run};
-use crate::drawn::push_line;
 use crate::hex::bytes_of;
 use crate::replies::text_len;
 use batch_store::Setup;
@@ -27,6 +26,17 @@ const HALF: u64 = 798_912;
 
 // Twelve digits.
 const LONG: u64 = 100_000_000_000;
+
+// Appends a line of three numbers.
+fn push_line(
+    alloc: Global,
+    text: &mut Vec<u8>,
+    numbers: (u64, u64, u64),
+) -> Result<(), AllocError> {
+    let (first, second, third) = numbers;
+    let line = format!(in alloc; "{first} {second} {third}\n")?;
+    text.extend_from_slice(line.as_bytes())
+}
 
 // Half of the cells, each of them 1, counted from 0.
 fn ones(alloc: Global, first: u64) -> Result<Vec<(u64, u64, u64)>, AllocError> {

@@ -1,0 +1,155 @@
+//! A case: what is done from the seats of an engine of several threads, and what the engine closes to.
+ghost use Rattle.std.specs.Prelude.{◌≡◌};
+ghost use Rattle.batch_store.specs.Accepted.{entries_in};
+ghost use Rattle.locked_engine.specs.Opened.{NamesEngine};
+
+use crate::batches::Cells;
+use crate::expected::{expect_batches, expect_closed};
+use crate::opened::{Step, close_at_last, closed, opened, with_names};
+use crate::{folds, looks, puts, seats, several, versions};
+use batch_store::Setup;
+use locked_engine::{Engine, Named, Names, Seat};
+use plain_engine::PlainEngine;
+use std::alloc::Global;
+use std::io::Eprint;
+use std::marker::Brand;
+use std::process::Abort;
+use std::random::RandomSource;
+use std::sync::Wait;
+use std::sync::ledger::Ledger;
+use std::test::Fail;
+use std::thread::Threads;
+use std::time::Clock;
+
+/// What is done from an engine's seats.
+#[derive(Clone, Copy)]
+pub enum Act {
+    /// The batches of a table are put from the first seat.
+    Put(&'static [Step]),
+    /// Batches are put behind folded ones.
+    PutBehindFolded,
+    /// Each shard is looked at.
+    Look,
+    /// Two threads put sixty each.
+    PutSixtyTwice,
+    /// The status is asked for at both seats.
+    SeeStatus,
+    /// A batch is put while another shard is held.
+    PutBesideALook,
+    /// Two threads put a batch each, and both are read from both seats.
+    PutAndRead,
+    /// Cells are looked up while their shard is held.
+    ReadInsideALook,
+    /// Batches are put that pass the cuts, and read after each.
+    PutAndFind,
+    /// Two threads put while a third reads.
+    Watch,
+}
+
+/// The client, the number and the cells of a batch.
+pub type Listed = (u64, u64, Cells);
+
+#[derive(Clone, Copy)]
+pub struct Case {
+    pub seats: usize,
+    pub act: Act,
+    /// How many batches are accepted then, and their total.
+    pub accepted: (u64, u64),
+    /// Of each of some shards its number, its total and the length of its record.
+    pub shards: &'static [(u64, u64, u64)],
+    /// The batches that are listed then, where they are compared.
+    pub batches: Option<&'static [Listed]>,
+    /// Whether the engine is closed without a seat first.
+    pub lacks_seat: bool,
+}
+
+/// A case of two seats, of which nothing else is asked.
+pub const NOTHING: Case = Case {
+    seats: 2,
+    act: Act::Put(&[]),
+    accepted: (0, 0),
+    shards: &[],
+    batches: None,
+    lacks_seat: false,
+};
+
+/// Opens an engine without batches, does what the case says, and closes it.
+pub fn play<R: Threads + Wait + Clock + RandomSource + Abort + Eprint + Sync>(
+    rt: &R,
+    alloc: Global,
+    setup: Setup,
+    case: &Case,
+) -> Result<(), Fail> {
+    play_on(rt, alloc, PlainEngine::new(rt, alloc, setup)?, case)
+}
+
+/// The same of an engine that goes on with what one of one thread has.
+pub fn play_on<R: Threads + Wait + Clock + RandomSource + Abort + Eprint + Sync>(
+    rt: &R,
+    alloc: Global,
+    plain: PlainEngine,
+    case: &Case,
+) -> Result<(), Fail> {
+    let (plain, names) = with_names(rt, alloc, plain, case.seats)?;
+    opened_and_closed::<Brand, Brand, R>(rt, alloc, plain, names, case)
+}
+
+fn opened_and_closed<
+    N: Named + Send + Sync,
+    H: Ledger + Send + Sync,
+    R: Threads + Wait + Clock + Abort + Eprint + Sync,
+>(rt: &R, alloc: Global, plain: PlainEngine, names: Names, case: &Case) -> Result<(), Fail>
+    requires named { NamesEngine names N.setup N.seats N.history N.name N.parts H.name H.parts }
+    requires made_from { plain.setup ≡ names.setup }
+    requires opened { plain.book.state ≡ N.opened }
+{
+    let (engine, mut seats) = opened::<N, H>(alloc, plain, names)?;
+    if let Err(fail) = perform(rt, alloc, &engine, &mut seats, case) {
+        engine.end(rt);
+        return Err(fail);
+    }
+    let closed = if case.lacks_seat {
+        close_at_last(rt, alloc, engine, seats)?
+    } else {
+        closed(rt, alloc, engine, seats)?
+    };
+    expect_case(rt, alloc, &closed, case)
+}
+
+fn perform<
+    N: Named + Send + Sync,
+    H: Ledger + Send + Sync,
+    R: Threads + Wait + Clock + Abort + Eprint + Sync,
+>(
+    rt: &R,
+    alloc: Global,
+    engine: &Engine<N, H>,
+    seats: &mut [Seat<N, H>],
+    case: &Case,
+) -> Result<(), Fail> {
+    match case.act {
+        Act::Put(steps) => puts::put_steps(rt, alloc, engine, seats, steps, case.accepted),
+        Act::PutBehindFolded => folds::put_from_both(rt, alloc, engine, seats),
+        Act::Look => looks::put_and_look(rt, alloc, engine, seats),
+        Act::PutSixtyTwice => seats::put_sixty_twice(rt, alloc, engine, seats),
+        Act::SeeStatus => seats::see_from_both(rt, alloc, engine, seats),
+        Act::PutBesideALook => several::put_beside_a_look(rt, alloc, engine, seats),
+        Act::PutAndRead => several::put_and_read(rt, alloc, engine, seats),
+        Act::ReadInsideALook => versions::read_inside_a_look(rt, alloc, engine, seats),
+        Act::PutAndFind => versions::put_and_find(rt, alloc, engine, seats),
+        Act::Watch => versions::watch_from_seats(rt, alloc, engine, seats),
+    }
+}
+
+fn expect_case(
+    rt: &(impl Abort + Eprint),
+    alloc: Global,
+    closed: &PlainEngine,
+    case: &Case,
+) -> Result<(), Fail> {
+    expect_closed(rt, closed, case.accepted, case.shards);
+    match case.batches {
+        Some(batches) => expect_batches(rt, alloc, closed, batches),
+        None => Ok(()),
+    }
+}

@@ -1,0 +1,364 @@
+#!/usr/bin/env python3
+"""Sessions that are drawn, and clients that put at once, against the built program and beside a plain model of it.
+
+    python3 tests/generated.py PATH-TO-HHM [--long]
+
+The model is a list of what was accepted, searched from the front, and a dictionary of all cells; its replies are spelled
+from docs/FORMATS.md. Frames are mostly puts, as texts and as cells, with repeats, numbers that are used again, totals
+at the limit, full books, texts with faults and bad headers; they are cut anywhere, or end too early. Between sessions
+the server saves, is killed, starts again, and has its history folded. It prints a line for each check that fails and at
+the end `N passed, M failed`; the status is 1 where one fails. With `--long` there are ten times as many sessions and
+puts. Linux, and nothing but Python's own library, the client of clients/python and the server of tests/server.py.
+"""
+import os
+import random
+import signal
+import socket
+import struct
+import sys
+import tempfile
+import threading
+from bisect import bisect_left
+
+import server as servers
+from hhm_client import BANNER, put_cells_frame, put_frame
+from server import Server, accepted, check, program, refused
+
+ROWS, COLS = 5, 4
+STATUS, EXPORT, SAVE, STOP = (struct.pack(">IB", 0, kind) for kind in (4, 5, 6, 7))
+LARGE, KIND, LENGTH = bytes.fromhex("0400000104"), bytes.fromhex("0000000009"), bytes.fromhex("0000000104")
+
+
+def added(cells):
+    """The counts of some cells, each place once."""
+    counts = {}
+    for row, col, count in cells:
+        counts[row, col] = counts.get((row, col), 0) + count
+    return counts
+
+
+def spelled(rows, cols, counts):
+    """The canonical text of some counts."""
+    lines = [f"{row + 1} {col + 1} {count}\n" for (row, col), count in sorted(counts.items())]
+    return BANNER + f"{rows} {cols} {len(lines)}\n{''.join(lines)}".encode()
+
+
+class Model:
+    """What was accepted: of each batch its pair, its cells and the total of all up to it."""
+
+    def __init__(self, limit, most, saves):
+        self.limit, self.most, self.saves = limit, most, saves
+        self.list, self.cells, self.total = [], {}, 0
+
+    def put(self, pair, cells):
+        counts = added(cells)
+        total = sum(counts.values())
+        for place, (known, other, after) in enumerate(self.list):
+            if known == pair:
+                same = (len(other), sum(other.values())) == (len(counts), total)
+                return accepted(place, after) if same else refused(30)
+        if self.total + total > self.limit:
+            return refused(31, self.total)
+        if len(self.list) >= self.most:
+            return refused(32)
+        self.total += total
+        self.list.append((pair, counts, self.total))
+        for place, count in counts.items():
+            self.cells[place] = self.cells.get(place, 0) + count
+        return accepted(len(self.list) - 1, self.total)
+
+    def cell(self, row, col):
+        if row >= ROWS or col >= COLS:
+            return refused(41)
+        count = self.cells.get((row, col))
+        return struct.pack(">IBBQ", 9, 0x82, count is not None, count or 0)
+
+    def row(self, row):
+        if row >= ROWS:
+            return refused(41)
+        counts = [count for place, count in self.cells.items() if place[0] == row]
+        return struct.pack(">IBQQ", 16, 0x83, len(counts), sum(counts))
+
+    def status(self):
+        return struct.pack(">IBQQ", 16, 0x84, len(self.list), self.total)
+
+    def export(self):
+        text = spelled(ROWS, COLS, self.cells)
+        return struct.pack(">IB", len(text), 0x85) + text
+
+    def save(self):
+        return struct.pack(">IBQ", 8, 0x86, len(self.list)) if self.saves else refused(43)
+
+
+def drawn_cells(pair, other):
+    """At most three cells, some of them at one place, some of count 0: mostly the same for the same pair."""
+    numbers = random.Random(f"{pair} {other}")
+    return [(numbers.randrange(ROWS), numbers.randrange(COLS), numbers.randrange(9)) for _ in range(numbers.randrange(4))]
+
+
+def drawn_text(draw, cells):
+    """A text of some cells, and the code and the detail of its refusal where it has a fault."""
+    rows, count, more, code = ROWS, len(cells), "", None
+    fault = draw.randrange(12)
+    if fault == 0:
+        rows, code = ROWS + 1, (20, 0)
+    elif fault == 1:
+        more, code = "1 1 1\n", (115, len(cells) + 3)
+    elif fault == 2:
+        count, code = len(cells) + 1, (114, len(cells) + 3)
+    lines = "".join(f"{row + 1} {col + 1} {number}\n" for row, col, number in cells)
+    return BANNER + f"{rows} {COLS} {count}\n{lines}{more}".encode(), code
+
+
+def drawn_put(draw, model):
+    """A put as a text or as cells, and its reply."""
+    pair = draw.randrange(3), draw.randrange(7)
+    cells = drawn_cells(pair, draw.randrange(5) == 0)
+    if draw.randrange(40) == 0:
+        # what is left up to the limit, or one more
+        cells = [(0, 0, model.limit - model.total + draw.randrange(2))]
+    if draw.randrange(2):
+        text, code = drawn_text(draw, cells)
+        return put_frame(*pair, text), refused(*code) if code else model.put(pair, cells)
+    outside = draw.randrange(10)
+    if outside < 2:
+        cells.append([(ROWS, 0, 1), (0, COLS, 1)][outside])
+        return put_cells_frame(*pair, cells), refused(22, len(cells) - 1)
+    return put_cells_frame(*pair, cells), model.put(pair, cells)
+
+
+def drawn_frame(draw, model):
+    """A frame, its reply, and whether the session goes on behind it."""
+    kind = draw.randrange(30)
+    if kind == 0:
+        frame, code = draw.choice([(LARGE, 50), (KIND, 51), (LENGTH, 52)])
+        return frame, refused(code), False
+    if kind == 1:
+        return EXPORT, model.export(), True
+    if kind == 2:
+        return SAVE, model.save(), True
+    if kind < 5:
+        return STATUS, model.status(), True
+    if kind < 7:
+        row = draw.randrange(ROWS + 1)
+        return struct.pack(">IBQ", 8, 3, row), model.row(row), True
+    if kind < 12:
+        row, col = draw.randrange(ROWS + 1), draw.randrange(COLS + 1)
+        return struct.pack(">IBQQ", 16, 2, row, col), model.cell(row, col), True
+    return *drawn_put(draw, model), True
+
+
+def drawn_session(draw, model):
+    """The bytes of a session and their replies. Its last frame may end too early."""
+    sent, replies = b"", b""
+    for _ in range(draw.randrange(14)):
+        if draw.randrange(25) == 0:
+            # (no request is shorter than five bytes, so that a front of four is no whole one)
+            return sent + put_frame(1, 1, BANNER)[: draw.randrange(60)], replies
+        frame, reply, goes_on = drawn_frame(draw, model)
+        sent += frame
+        replies += reply
+        if not goes_on:
+            break
+    return sent, replies
+
+
+def cut(draw, sent):
+    """Some bytes in pieces."""
+    pieces = []
+    while sent:
+        size = 1 + draw.randrange(draw.choice([3, 90, 1000]))
+        pieces.append(sent[:size])
+        sent = sent[size:]
+    return pieces
+
+
+def compare_sessions(name, draw, model, server, count):
+    """Compares what is answered to so many sessions, over both sockets in turn, with what the model says."""
+    for turn in range(count):
+        sent, replies = drawn_session(draw, model)
+        check(f"{name}, session {turn}", server.talk(cut(draw, sent), turn % 2 == 0), replies)
+
+
+def fold(name, path, model):
+    check(f"{name}: fold", program("fold", path), (f"folded {len(model.list)} total {model.total}\n", "", 0))
+
+
+def sessions_are_answered_alike(sessions):
+    """Sessions of servers of many shards, cuts, limits and books; some are saved, and folded between two starts."""
+    for shards, cuts, limit, most, saves in [
+        (1, "2,4", 100, 1000, False), (2, "1,3,9", 60, 1000, True), (3, "none", 1000, 9, True), (64, "1", 150, 20, True),
+    ]:  # fmt: skip
+        name, draw, model = f"{shards} shards", random.Random(limit), Model(limit, most, saves)
+        path = os.path.join(servers.FOLDER, f"generated.{shards}")
+        words = ["--rows", str(ROWS), "--cols", str(COLS), "--shards", str(shards), "--limit", str(limit)]
+        words += ["--max-batches", str(most), "--cuts", cuts, *(["--snapshot", path] if saves else [])]
+        for start in range(3 if saves else 1):
+            with Server(words) as server:
+                compare_sessions(f"{name}, start {start}", draw, model, server, sessions)
+                server.stop(name, len(model.list), model.total)
+            if saves:
+                fold(name, path, model)
+                check(f"{name}: export", program("export", path), (spelled(ROWS, COLS, model.cells).decode(), "", 0))
+
+
+# What clients put at once: rows, columns, shards, how many clients and numbers are drawn from, puts of each, and a limit
+# that is reached when some two thirds of the pairs were accepted.
+AT_ONCE = {"rows": 60, "cols": 5, "clients": 5, "numbers": 600, "puts": 1500, "limit": 20_000}
+
+
+def many_cells(draw_of):
+    """At most five cells of a pair, and the cells of its other batch."""
+    numbers = random.Random(f"{draw_of}")
+    rows, cols = AT_ONCE["rows"], AT_ONCE["cols"]
+    return [(numbers.randrange(rows), numbers.randrange(cols), numbers.randrange(9)) for _ in range(numbers.randrange(6))]
+
+
+def read_reply(stream):
+    head = stream.read(5)
+    size, kind = struct.unpack(">IB", head)
+    return kind, stream.read(size)
+
+
+def put_at_once(link, seed, puts, lines):
+    """Puts from one connection, sixteen ahead: each with what it was answered."""
+    draw = random.Random(seed)
+    stream = link.makefile("rb")
+    for _ in range(0, puts, 16):
+        drawn = [(draw.randrange(AT_ONCE["clients"]), draw.randrange(AT_ONCE["numbers"]), draw.randrange(8) == 0)
+                 for _ in range(16)]  # fmt: skip
+        link.sendall(b"".join(put_cells_frame(of[0], of[1], many_cells(of)) for of in drawn))
+        lines += [(of, *read_reply(stream)) for of in drawn]
+
+
+def read_at_once(link, ended, faults):
+    """Reads until all has been put: totals never grow less, and no export is above a status behind it."""
+    stream = link.makefile("rb")
+    last, last_batches = 0, 0
+    while True:
+        is_last = ended.is_set()
+        link.sendall(EXPORT + STATUS)
+        exported = sum(int(line.split()[2]) for line in read_reply(stream)[1].split(b"\n")[2:] if line)
+        batches, total = struct.unpack(">QQ", read_reply(stream)[1])
+        if not (last <= exported <= total <= AT_ONCE["limit"] and last_batches <= batches):
+            faults.append((last, exported, total, last_batches, batches))
+        last, last_batches = exported, batches
+        if is_last:
+            return
+
+
+def sizes(counts):
+    """What tells a batch from another under its pair: how many places it has, and its total."""
+    return len(counts), sum(counts.values())
+
+
+def accepted_list(lines):
+    """The accepted batches in order, by their replies: of each its pair, its counts, and the total with it."""
+    found, differing = {}, []
+    for draw_of, kind, body in lines:
+        if kind == 0x81:
+            place, after = struct.unpack(">QQ", body)
+            batch = draw_of[:2], added(many_cells(draw_of)), after
+            known = found.setdefault(place, batch)
+            if (known[0], sizes(known[1]), known[2]) != (batch[0], sizes(batch[1]), after):
+                differing.append((place, known, batch))
+    check("one batch for each place", differing, [])
+    check("each place is answered to somebody", sorted(found), list(range(len(found))))
+    return [found[place] for place in sorted(found)]
+
+
+def has_reason(code, detail, counts, place, batches, totals):
+    """Whether a put may have been refused so at some moment. Its pair was accepted at this place, if at all."""
+    size, total = sizes(counts)
+    if code == 30:
+        return place is not None and sizes(batches[place][1]) != (size, total)
+    at = bisect_left(totals, detail)
+    was_total = at < len(totals) and totals[at] == detail
+    # Its own batch wasn't accepted by then.
+    is_new = place is None or totals[place] >= detail
+    return code == 31 and was_total and is_new and detail + total > AT_ONCE["limit"]
+
+
+def judge_refusals(lines, batches):
+    """Each refusal had a reason at some moment, and the limit was reached."""
+    places = {batch[0]: place for place, batch in enumerate(batches)}
+    totals = [0, *(batch[2] for batch in batches)]
+    refusals = [(of, *struct.unpack(">HQ", body)) for of, kind, body in lines if kind == 0xFF]
+    unfounded = [(of, code, detail) for of, code, detail in refusals
+                 if not has_reason(code, detail, added(many_cells(of)), places.get(of[:2]), batches, totals)]  # fmt: skip
+    check("refusals without a reason", unfounded, [])
+    check("the limit was reached", any(code == 31 for _, code, _ in refusals), True)
+    check("each put was accepted or refused", {kind for _, kind, _ in lines} <= {0x81, 0xFF}, True)
+
+
+def batches_of(path):
+    """The batches of a snapshot in which nothing is folded: of each its pair and its counts."""
+    with open(path, "rb") as file:
+        data = file.read()
+    at = 44 - 16 + 1 + 8 * data[28]
+    (count,) = struct.unpack_from(">Q", data, at + 17)
+    at += 33 + 16
+    batches = []
+    for _ in range(count):
+        client, number, entries = struct.unpack_from(">QQQ", data, at)
+        at += 24
+        counts = {(row, col): n for row, col, n in struct.iter_unpack(">QQQ", data[at : at + 24 * entries])}
+        at += 24 * entries
+        batches.append(((client, number), counts))
+    check("the snapshot's end", at, len(data))
+    return batches
+
+
+def clients_agree_with_a_model(factor):
+    """Four clients put at once, with repeats of each other's pairs, up to the limit and past it, while two read."""
+    path = os.path.join(servers.FOLDER, "at-once")
+    words = ["--rows", str(AT_ONCE["rows"]), "--cols", str(AT_ONCE["cols"]), "--cuts", "16,64", "--shards", "4",
+             "--limit", str(AT_ONCE["limit"]), "--workers", "6", "--snapshot", path]  # fmt: skip
+    lines, faults, ended = [[] for _ in range(4)], [], threading.Event()
+    with Server(words) as server:
+        links = [server.link(n % 2 == 0) for n in range(6)]
+        readers = [threading.Thread(target=read_at_once, args=(link, ended, faults)) for link in links[4:]]
+        writers = [threading.Thread(target=put_at_once, args=(links[n], n, factor * AT_ONCE["puts"], lines[n])) for n in range(4)]
+        for thread in [*readers, *writers]:
+            thread.start()
+        for thread in writers:
+            thread.join()
+        ended.set()
+        for thread in readers:
+            thread.join()
+        for link in links:
+            link.close()
+        check("what was read", faults, [])
+        lines = [line for some in lines for line in some]
+        check("each put is answered", len(lines) >= 4 * factor * AT_ONCE["puts"], True)
+        batches = accepted_list(lines)
+        judge_refusals(lines, batches)
+        totals = [sum(counts.values()) for _, counts, _ in batches]
+        check("the totals add up", [after for _, _, after in batches], [sum(totals[: n + 1]) for n in range(len(totals))])
+        server.stop("at once", len(batches), sum(totals))
+    saved = batches_of(path)
+    check("the batches in the snapshot", [(pair, sizes(counts)) for pair, counts in saved],
+          [(pair, sizes(counts)) for pair, counts, _ in batches])  # fmt: skip
+    # Both batches of a pair may have as many places and the same total.
+    drawn = [[added(many_cells((*pair, other))) for other in (False, True)] for pair, _ in saved]
+    check("each has the cells that were put", all(counts in both for (_, counts), both in zip(saved, drawn)), True)
+    sums = {}
+    for _, counts in saved:
+        for place, count in counts.items():
+            sums[place] = sums.get(place, 0) + count
+    text = spelled(AT_ONCE["rows"], AT_ONCE["cols"], sums).decode()
+    check("the sum in the snapshot", program("export", path), (text, "", 0))
+
+
+def main():
+    servers.PROGRAM = os.path.abspath(sys.argv[1])
+    factor = 10 if "--long" in sys.argv[2:] else 1
+    with tempfile.TemporaryDirectory() as servers.FOLDER:
+        sessions_are_answered_alike(60 * factor)
+        clients_agree_with_a_model(factor)
+    print(f"{servers.passed} passed, {servers.failed} failed")
+    return 1 if servers.failed else 0
+
+
+if __name__ == "__main__":
+    sys.exit(main())
