@@ -1,10 +1,11 @@
 //! Bytes of examples, as sources give them.
-ghost use Rattle.std.specs.Prelude.{◌≡◌, IfOk};
+ghost use Rattle.std.specs.Prelude.{◌≡◌};
 
 use byte_io::Script;
 use byte_io_tests::pieces;
 use snap_file::{SnapFault, Snapshot, read_snapshot};
-use std::alloc::{AllocError, Global};
+use std::alloc::Global;
+use std::process::Abort;
 
 /// In version 1: the head of 3 rows, 3 columns, cuts 2 and 4, 2 shards, limit 100, at most 10 batches; 1 batch, total
 /// 5. Then client 7, number 1, 1 cell: row 0, column 0, count 5.
@@ -90,64 +91,72 @@ pub const MAX_BYTES: u64 = 1 << 40;
 
 /// A script that gives these bytes in pieces of `size`, and whose reads fail from `fail_read` on.
 pub fn source(
+    rt: &impl Abort,
     alloc: Global,
     bytes: &[u8],
     size: usize,
     fail_read: Option<u64>,
-) -> Result<Script, AllocError>
-    ensures { IfOk result (λ script. script.failures ≡ 0) }
+) -> Script
+    ensures { result.failures ≡ 0 }
 {
-    let list = pieces(alloc, bytes, size)?;
-    Ok(Script::new(alloc, list, fail_read, None))
+    let list = pieces(alloc, bytes, size).expect(rt, "memory");
+    Script::new(alloc, list, fail_read, None)
+}
+
+/// The bytes with others in place of those from `at` on.
+pub fn changed(rt: &impl Abort, alloc: Global, bytes: &[u8], at: usize, with: &[u8]) -> Vec<u8> {
+    let mut copy = Vec::new(alloc);
+    let rest = at.saturating_add(with.len()).min(bytes.len());
+    for part in [&bytes[..at.min(bytes.len())], with, &bytes[rest..]] {
+        copy.extend_from_slice(part).expect(rt, "memory");
+    }
+    copy
 }
 
 /// The bytes with these numbers, of eight bytes each, in place of the fields from `at` on.
 pub fn with_fields(
+    rt: &impl Abort,
     alloc: Global,
     bytes: &[u8],
     at: usize,
     values: &[u64],
-) -> Result<Vec<u8>, AllocError> {
-    let mut copy = Vec::new(alloc);
-    copy.extend_from_slice(&bytes[..at.min(bytes.len())])?;
+) -> Vec<u8> {
+    let mut fields = Vec::new(alloc);
     for value in values {
-        copy.extend_from_slice(&value.to_be_bytes())?;
+        fields
+            .extend_from_slice(&value.to_be_bytes())
+            .expect(rt, "memory");
     }
-    let rest = copy.len().min(bytes.len());
-    copy.extend_from_slice(&bytes[rest..])?;
-    Ok(copy)
+    changed(rt, alloc, bytes, at, &fields)
 }
 
 /// The bytes with others behind them.
-pub fn followed(alloc: Global, bytes: &[u8], more: &[u8]) -> Result<Vec<u8>, AllocError> {
-    let mut copy = Vec::new(alloc);
-    copy.extend_from_slice(bytes)?;
-    copy.extend_from_slice(more)?;
-    Ok(copy)
+pub fn followed(rt: &impl Abort, alloc: Global, bytes: &[u8], more: &[u8]) -> Vec<u8> {
+    changed(rt, alloc, bytes, bytes.len(), more)
 }
 
 /// What these bytes are read as, in pieces of `size`.
-pub fn read(
+pub fn read(rt: &impl Abort, alloc: Global, bytes: &[u8], size: usize) -> Snapshot {
+    let mut script = source(rt, alloc, bytes, size, None);
+    read_snapshot(alloc, &mut script, MAX_BYTES).expect(rt, "a snapshot")
+}
+
+/// The fault of these bytes, in pieces of `size`.
+pub fn fault_within(
+    rt: &impl Abort,
     alloc: Global,
     bytes: &[u8],
     size: usize,
     max_bytes: u64,
-) -> Result<Snapshot, SnapFault> {
-    match source(alloc, bytes, size, None) {
-        Ok(mut script) => read_snapshot(alloc, &mut script, max_bytes),
-        Err(_) => Err(SnapFault::Memory),
-    }
-}
-
-/// The fault of these bytes, in pieces of `size`.
-pub fn fault_within(alloc: Global, bytes: &[u8], size: usize, max_bytes: u64) -> Option<SnapFault> {
-    read(alloc, bytes, size, max_bytes).err()
+) -> Option<SnapFault> {
+    let mut script = source(rt, alloc, bytes, size, None);
+    read_snapshot(alloc, &mut script, max_bytes).err()
 }
 
 /// The fault of these bytes, in one piece and byte by byte, where the two are the same.
-pub fn fault(alloc: Global, bytes: &[u8]) -> Option<SnapFault> {
-    let whole = fault_within(alloc, bytes, bytes.len(), MAX_BYTES);
-    let parts = fault_within(alloc, bytes, 1, MAX_BYTES);
+pub fn fault(rt: &impl Abort, alloc: Global, bytes: &[u8]) -> Option<SnapFault> {
+    let whole = fault_within(rt, alloc, bytes, bytes.len(), MAX_BYTES);
+    let parts = fault_within(rt, alloc, bytes, 1, MAX_BYTES);
     if whole != parts {
         return Some(SnapFault::Read);
     }
@@ -156,11 +165,11 @@ pub fn fault(alloc: Global, bytes: &[u8]) -> Option<SnapFault> {
 
 /// The fault of the bytes with these numbers in place of the fields from `at` on.
 pub fn fault_with(
+    rt: &impl Abort,
     alloc: Global,
     bytes: &[u8],
     at: usize,
     values: &[u64],
-) -> Result<Option<SnapFault>, AllocError> {
-    let bytes = with_fields(alloc, bytes, at, values)?;
-    Ok(fault(alloc, &bytes))
+) -> Option<SnapFault> {
+    fault(rt, alloc, &with_fields(rt, alloc, bytes, at, values))
 }

@@ -9,7 +9,7 @@ use std::process::Abort;
 use test_support::same_at;
 
 // The fault of these bytes and then zeros for ever.
-fn fault_behind(alloc: Global, front: &[u8], max_bytes: u64) -> Option<SnapFault> {
+fn fault_behind(rt: &impl Abort, alloc: Global, front: &[u8], max_bytes: u64) -> Option<SnapFault> {
     let mut source = Counted::new(front.chain(io::repeat(0)));
     read_snapshot(alloc, &mut source, max_bytes).err()
 }
@@ -32,7 +32,7 @@ static EMPTY: &[(u64, SnapFault)] = &[
 #[test]
 fn a_byte_behind_the_end_is_told(rt: HostRuntime) {
     for (most, expected) in ENDLESS {
-        let found = fault_behind(rt.alloc(), ONE, *most);
+        let found = fault_behind(&rt, rt.alloc(), ONE, *most);
         assert!(rt; same_at(&rt, &most, &found, &Some(*expected)));
     }
 }
@@ -40,7 +40,7 @@ fn a_byte_behind_the_end_is_told(rt: HostRuntime) {
 #[test]
 fn an_endless_byte_is_no_snapshot(rt: HostRuntime) {
     for (most, expected) in EMPTY {
-        let found = fault_behind(rt.alloc(), b"", *most);
+        let found = fault_behind(&rt, rt.alloc(), b"", *most);
         assert!(rt; same_at(&rt, &most, &found, &Some(*expected)));
     }
 }

@@ -1,35 +1,16 @@
 //! The worked example: read, written again, and each way in which it can be damaged.
 
 use crate::bytes::{
-    BOTH, FOLDED, MAX_BYTES, NEW_ONE, NEW_TWO, ONE, TWO, fault, fault_within, followed, moved, read,
+    BOTH, FOLDED, MAX_BYTES, NEW_ONE, NEW_TWO, ONE, TWO, changed, fault, fault_within, followed,
+    moved, read,
 };
 use batch_store::{Batch, Setup};
 use byte_io::Script;
-use snap_file::{SnapFault, Snapshot, write_snapshot};
-use std::alloc::{AllocError, Global};
+use snap_file::{SnapFault, write_snapshot};
+use std::alloc::Global;
 use std::io::Eprint;
 use std::process::Abort;
-use std::test::Fail;
 use test_support::{same, same_at};
-
-// The bytes with others in place of those at `at`.
-fn changed(alloc: Global, bytes: &[u8], at: usize, with: &[u8]) -> Result<Vec<u8>, AllocError> {
-    let mut copy = Vec::new(alloc);
-    copy.extend_from_slice(&bytes[..at.min(bytes.len())])?;
-    copy.extend_from_slice(with)?;
-    let rest = at.saturating_add(with.len()).min(bytes.len());
-    copy.extend_from_slice(&bytes[rest..])?;
-    Ok(copy)
-}
-
-// What a snapshot is written as.
-fn written(alloc: Global, snapshot: &Snapshot) -> Result<Script, Fail> {
-    let mut script = Script::new(alloc, Vec::new(alloc), None, None);
-    // Any call on it tells what it keeps.
-    let list = &snapshot.list;
-    write_snapshot(&mut script, &snapshot.setup, list)?;
-    Ok(script)
-}
 
 // Compares a batch: client, number and total, and its cells.
 fn expect_batch(
@@ -59,18 +40,17 @@ fn expect_setup(rt: &(impl Abort + Eprint), setup: &Setup) {
 }
 
 #[test]
-fn an_example_is_read(rt: HostRuntime) -> Result<(), Fail> {
+fn an_example_is_read(rt: HostRuntime) {
     assert!(rt; same(&rt, &ONE.len(), &126));
-    let snapshot = read(rt.alloc(), ONE, ONE.len(), MAX_BYTES)?;
+    let snapshot = read(&rt, rt.alloc(), ONE, ONE.len());
     expect_setup(&rt, &snapshot.setup);
     assert!(rt; same(&rt, &snapshot.list.batches.len(), &1));
     expect_batch(&rt, &snapshot.list.batches[0], (7, 1, 5), &[(0, 0, 5)]);
-    Ok(())
 }
 
 #[test]
-fn two_batches_are_read(rt: HostRuntime) -> Result<(), Fail> {
-    let snapshot = read(rt.alloc(), TWO, 1, MAX_BYTES)?;
+fn two_batches_are_read(rt: HostRuntime) {
+    let snapshot = read(&rt, rt.alloc(), TWO, 1);
     assert!(rt; same(&rt, &snapshot.list.batches.len(), &2));
     expect_batch(
         &rt,
@@ -79,25 +59,27 @@ fn two_batches_are_read(rt: HostRuntime) -> Result<(), Fail> {
         &[(0, 0, 5), (2, 1, 0)],
     );
     expect_batch(&rt, &snapshot.list.batches[1], (8, 1, 3), &[(0, 0, 3)]);
-    Ok(())
 }
 
 // Whether bytes that are read are written as these.
-fn come_as(alloc: Global, bytes: &[u8], expected: &[u8]) -> Result<bool, Fail> {
-    let snapshot = read(alloc, bytes, 7, MAX_BYTES)?;
-    Ok(written(alloc, &snapshot)?.written() == expected)
+fn come_as(rt: &impl Abort, alloc: Global, bytes: &[u8], expected: &[u8]) -> bool {
+    let snapshot = read(rt, alloc, bytes, 7);
+    let mut script = Script::new(alloc, Vec::new(alloc), None, None);
+    // Any call on it tells what it keeps.
+    let list = &snapshot.list;
+    let answer = write_snapshot(&mut script, &snapshot.setup, list);
+    answer == Ok(()) && script.written() == expected
 }
 
 #[test]
-fn what_is_read_is_written_in_version_two(rt: HostRuntime) -> Result<(), Fail> {
+fn what_is_read_is_written_in_version_two(rt: HostRuntime) {
     assert!(rt; same(&rt, &(NEW_ONE.len(), FOLDED.len()), &(142, 150)));
     for (bytes, expected) in [(ONE, NEW_ONE), (TWO, NEW_TWO)] {
-        assert!(rt; come_as(rt.alloc(), bytes, expected)?);
+        assert!(rt; come_as(&rt, rt.alloc(), bytes, expected));
     }
     for bytes in [NEW_ONE, NEW_TWO, FOLDED, BOTH] {
-        assert!(rt; come_as(rt.alloc(), bytes, bytes)?);
+        assert!(rt; come_as(&rt, rt.alloc(), bytes, bytes));
     }
-    Ok(())
 }
 
 // The last byte of the version of `ONE`, and the fault. In version 2 its first batch would be the folded batches.
@@ -108,12 +90,18 @@ static VERSIONS: &[(&[u8], SnapFault)] = &[
 ];
 
 #[test]
-fn versions_are_judged(rt: HostRuntime) -> Result<(), Fail> {
+fn versions_are_judged(rt: HostRuntime) {
     for (with, expected) in VERSIONS {
-        let bytes = changed(rt.alloc(), ONE, 11, with)?;
-        assert!(rt; same_at(&rt, &with, &fault(rt.alloc(), &bytes), &Some(*expected)));
+        let bytes = changed(&rt, rt.alloc(), ONE, 11, with);
+        assert!(rt;
+            same_at(
+                &rt,
+                &with,
+                &fault(&rt, rt.alloc(), &bytes),
+                &Some(*expected)
+            )
+        );
     }
-    Ok(())
 }
 
 // Where bytes are changed in `ONE`, to what, and the fault, which is the same in version 2.
@@ -132,35 +120,32 @@ static DAMAGES: &[(usize, &[u8], SnapFault)] = &[
 ];
 
 #[test]
-fn damages_are_found(rt: HostRuntime) -> Result<(), Fail> {
+fn damages_are_found(rt: HostRuntime) {
     for (at, with, expected) in DAMAGES {
-        let bytes = changed(rt.alloc(), ONE, *at, with)?;
-        assert!(rt; same_at(&rt, &at, &fault(rt.alloc(), &bytes), &Some(*expected)));
-        let bytes = changed(rt.alloc(), NEW_ONE, moved(*at), with)?;
-        assert!(rt; same_at(&rt, &at, &fault(rt.alloc(), &bytes), &Some(*expected)));
+        let bytes = changed(&rt, rt.alloc(), ONE, *at, with);
+        assert!(rt; same_at(&rt, &at, &fault(&rt, rt.alloc(), &bytes), &Some(*expected)));
+        let bytes = changed(&rt, rt.alloc(), NEW_ONE, moved(*at), with);
+        assert!(rt; same_at(&rt, &at, &fault(&rt, rt.alloc(), &bytes), &Some(*expected)));
     }
-    Ok(())
 }
 
 #[test]
-fn bytes_behind_the_end_are_found(rt: HostRuntime) -> Result<(), Fail> {
+fn bytes_behind_the_end_are_found(rt: HostRuntime) {
     for front in [ONE, NEW_ONE, FOLDED, BOTH] {
-        let bytes = followed(rt.alloc(), front, b"\0")?;
-        let found = fault(rt.alloc(), &bytes);
+        let bytes = followed(&rt, rt.alloc(), front, b"\0");
+        let found = fault(&rt, rt.alloc(), &bytes);
         assert!(rt; same_at(&rt, &front.len(), &found, &Some(SnapFault::ExtraBytes)));
     }
-    Ok(())
 }
 
 #[test]
-fn the_first_byte_behind_the_end_is_told(rt: HostRuntime) -> Result<(), Fail> {
+fn the_first_byte_behind_the_end_is_told(rt: HostRuntime) {
     // 1,000 zeros behind the end, of which no more than one is judged: the limit of 200 bytes is never reached.
-    let bytes = followed(rt.alloc(), ONE, &[0; 1_000])?;
+    let bytes = followed(&rt, rt.alloc(), ONE, &[0; 1_000]);
     for size in [1, 64, 1_126] {
-        let found = fault_within(rt.alloc(), &bytes, size, 200);
+        let found = fault_within(&rt, rt.alloc(), &bytes, size, 200);
         assert!(rt; same_at(&rt, &size, &found, &Some(SnapFault::ExtraBytes)));
     }
-    Ok(())
 }
 
 // The size of the pieces in which a byte comes behind the end, the limit of bytes, and the fault. With room for 127
@@ -173,13 +158,12 @@ static BEHIND: &[(usize, u64, SnapFault)] = &[
 ];
 
 #[test]
-fn a_byte_past_the_limit_is_too_long(rt: HostRuntime) -> Result<(), Fail> {
-    let bytes = followed(rt.alloc(), ONE, b"\0")?;
+fn a_byte_past_the_limit_is_too_long(rt: HostRuntime) {
+    let bytes = followed(&rt, rt.alloc(), ONE, b"\0");
     for (size, most, expected) in BEHIND {
-        let found = fault_within(rt.alloc(), &bytes, *size, *most);
+        let found = fault_within(&rt, rt.alloc(), &bytes, *size, *most);
         assert!(rt; same_at(&rt, &(size, most), &found, &Some(*expected)));
     }
-    Ok(())
 }
 
 // The number of entries or batches of `ONE`, 2 in place of 1, and all from there on twice.
@@ -192,25 +176,28 @@ static REPEATS: &[(usize, usize, SnapFault)] = &[
 
 // The fault of bytes with 2 at a place, and all from another on twice.
 fn fault_of_repeat(
+    rt: &impl Abort,
     alloc: Global,
     bytes: &[u8],
     at: usize,
     from: usize,
-) -> Result<Option<SnapFault>, AllocError> {
-    let front = changed(alloc, bytes, at, b"\x02")?;
-    let twice = followed(alloc, &front, bytes.get(from..).unwrap_or(&[]))?;
-    Ok(fault(alloc, &twice))
+) -> Option<SnapFault> {
+    let front = changed(rt, alloc, bytes, at, b"\x02");
+    fault(
+        rt,
+        alloc,
+        &followed(rt, alloc, &front, bytes.get(from..).unwrap_or(&[])),
+    )
 }
 
 #[test]
-fn repeats_are_found(rt: HostRuntime) -> Result<(), Fail> {
+fn repeats_are_found(rt: HostRuntime) {
     for (at, from, expected) in REPEATS {
-        let found = fault_of_repeat(rt.alloc(), ONE, *at, *from)?;
+        let found = fault_of_repeat(&rt, rt.alloc(), ONE, *at, *from);
         assert!(rt; same_at(&rt, at, &found, &Some(*expected)));
-        let found = fault_of_repeat(rt.alloc(), NEW_ONE, moved(*at), moved(*from))?;
+        let found = fault_of_repeat(&rt, rt.alloc(), NEW_ONE, moved(*at), moved(*from));
         assert!(rt; same_at(&rt, at, &found, &Some(*expected)));
     }
-    Ok(())
 }
 
 // The size of the pieces in which `ONE` comes, the limit of bytes, and the fault.
@@ -226,19 +213,18 @@ static LIMITS: &[(usize, u64, Option<SnapFault>)] = &[
 #[test]
 fn the_limit_of_bytes_is_judged_first(rt: HostRuntime) {
     for (size, most, expected) in LIMITS {
-        let found = fault_within(rt.alloc(), ONE, *size, *most);
+        let found = fault_within(&rt, rt.alloc(), ONE, *size, *most);
         assert!(rt; same_at(&rt, &(size, most), &found, expected));
     }
 }
 
 #[test]
-fn a_fault_before_the_limit_is_told(rt: HostRuntime) -> Result<(), Fail> {
-    let bytes = changed(rt.alloc(), ONE, 7, b"\r")?;
+fn a_fault_before_the_limit_is_told(rt: HostRuntime) {
+    let bytes = changed(&rt, rt.alloc(), ONE, 7, b"\r");
     for (most, expected) in [(8, SnapFault::BadMark), (7, SnapFault::TooLong)] {
-        let found = fault_within(rt.alloc(), &bytes, 126, most);
+        let found = fault_within(&rt, rt.alloc(), &bytes, 126, most);
         assert!(rt; same_at(&rt, &most, &found, &Some(expected)));
     }
-    Ok(())
 }
 
 // Where a number of eight bytes stands in `ONE`, which declares more than there is memory for.
@@ -249,15 +235,14 @@ static DECLARED: &[(usize, &[u8])] = &[
 ];
 
 #[test]
-fn declared_numbers_reserve_nothing(rt: HostRuntime) -> Result<(), Fail> {
+fn declared_numbers_reserve_nothing(rt: HostRuntime) {
     for (at, number) in DECLARED {
-        let bytes = changed(rt.alloc(), ONE, *at, number)?;
-        let found = fault_within(rt.alloc(), &bytes, 126, MAX_BYTES);
+        let bytes = changed(&rt, rt.alloc(), ONE, *at, number);
+        let found = fault_within(&rt, rt.alloc(), &bytes, 126, MAX_BYTES);
         assert!(rt; same_at(&rt, &at, &found, &Some(SnapFault::Truncated)));
         // The same where they end behind the number.
         let front = bytes.get(..102).unwrap_or(&[]);
-        let found = fault_within(rt.alloc(), front, 126, MAX_BYTES);
+        let found = fault_within(&rt, rt.alloc(), front, 126, MAX_BYTES);
         assert!(rt; same_at(&rt, &at, &found, &Some(SnapFault::Truncated)));
     }
-    Ok(())
 }

@@ -3,41 +3,39 @@
 use crate::bytes::{BOTH, FOLDED, MAX_BYTES, NEW_ONE, NEW_TWO, ONE, TWO, read, source};
 use byte_io::{Script, Source, WriteFault};
 use snap_file::{SnapFault, Snapshot, read_snapshot, write_snapshot};
-use std::alloc::{AllocError, Global};
+use std::alloc::Global;
 use std::process::Abort;
-use std::test::Fail;
 use test_support::{holds_at, same, same_at};
 
 // The fault of these bytes, one byte a read, of which that number `failing` fails, and how often one failed.
 fn fault_failing(
+    rt: &impl Abort,
     alloc: Global,
     bytes: &[u8],
     failing: u64,
-) -> Result<(Option<SnapFault>, u64), AllocError> {
-    let mut script = source(alloc, bytes, 1, Some(failing))?;
+) -> (Option<SnapFault>, u64) {
+    let mut script = source(rt, alloc, bytes, 1, Some(failing));
     let fault = read_snapshot(alloc, &mut script, MAX_BYTES).err();
-    Ok((fault, script.failures()))
+    (fault, script.failures())
 }
 
 #[test]
-fn each_read_fails_in_turn(rt: HostRuntime) -> Result<(), Fail> {
+fn each_read_fails_in_turn(rt: HostRuntime) {
     for bytes in [ONE, TWO, NEW_ONE, BOTH] {
         // One byte a read, and one read more at the end.
         for failing in 0..=bytes.len() as u64 {
-            let found = fault_failing(rt.alloc(), bytes, failing)?;
+            let found = fault_failing(&rt, rt.alloc(), bytes, failing);
             assert!(rt; same_at(&rt, &failing, &found, &(Some(SnapFault::Read), 1)));
         }
     }
-    Ok(())
 }
 
 #[test]
-fn no_read_follows_the_end(rt: HostRuntime) -> Result<(), Fail> {
+fn no_read_follows_the_end(rt: HostRuntime) {
     for bytes in [ONE, TWO, NEW_ONE, BOTH] {
-        let found = fault_failing(rt.alloc(), bytes, bytes.len() as u64 + 1)?;
+        let found = fault_failing(&rt, rt.alloc(), bytes, bytes.len() as u64 + 1);
         assert!(rt; same(&rt, &found, &(None, 0)));
     }
-    Ok(())
 }
 
 // Whether the writing of a snapshot whose file these bytes are stops where the sink takes no more than `room`.
@@ -53,12 +51,11 @@ fn stops_at(alloc: Global, snapshot: &Snapshot, bytes: &[u8], room: usize) -> bo
 }
 
 #[test]
-fn each_write_fails_in_turn(rt: HostRuntime) -> Result<(), Fail> {
+fn each_write_fails_in_turn(rt: HostRuntime) {
     for bytes in [NEW_ONE, NEW_TWO, FOLDED, BOTH] {
-        let snapshot = read(rt.alloc(), bytes, bytes.len(), MAX_BYTES)?;
+        let snapshot = read(&rt, rt.alloc(), bytes, bytes.len());
         for room in 0..bytes.len() {
             assert!(rt; holds_at(&rt, &room, stops_at(rt.alloc(), &snapshot, bytes, room)));
         }
     }
-    Ok(())
 }

@@ -1,10 +1,8 @@
 //! Each field of a file at its bounds, and one past them: eight bytes in place of others in the worked example.
 
-use crate::bytes::{NEW_ONE, NEW_TWO, ONE, TWO, fault, fault_with, moved};
+use crate::bytes::{NEW_ONE, NEW_TWO, ONE, TWO, changed, fault, fault_with, moved};
 use snap_file::SnapFault;
-use std::alloc::{AllocError, Global};
 use std::process::Abort;
-use std::test::Fail;
 use test_support::same_at;
 
 // Where a field of eight bytes stands in `ONE`, its value, and the fault, which is the same in version 2.
@@ -101,55 +99,42 @@ static PAIRS: &[(u64, u64, Option<SnapFault>)] = &[
     (1, 7, None),
 ];
 
-// The bytes with another one at `at`.
-fn with_byte(alloc: Global, bytes: &[u8], at: usize, value: u8) -> Result<Vec<u8>, AllocError> {
-    let mut copy = Vec::from_slice(alloc, bytes)?;
-    if let Some(byte) = copy.get_mut(at) {
-        *byte = value;
-    }
-    Ok(copy)
-}
-
 #[test]
-fn fields_are_judged_at_their_bounds(rt: HostRuntime) -> Result<(), Fail> {
+fn fields_are_judged_at_their_bounds(rt: HostRuntime) {
     for (at, value, expected) in FIELDS {
-        let found = fault_with(rt.alloc(), ONE, *at, &[*value])?;
+        let found = fault_with(&rt, rt.alloc(), ONE, *at, &[*value]);
         assert!(rt; same_at(&rt, &(value, at), &found, expected));
-        let found = fault_with(rt.alloc(), NEW_ONE, moved(*at), &[*value])?;
+        let found = fault_with(&rt, rt.alloc(), NEW_ONE, moved(*at), &[*value]);
         assert!(rt; same_at(&rt, &(value, at), &found, expected));
     }
-    Ok(())
 }
 
 #[test]
-fn bytes_are_judged_at_their_bounds(rt: HostRuntime) -> Result<(), Fail> {
+fn bytes_are_judged_at_their_bounds(rt: HostRuntime) {
     for (at, value, expected) in BYTES {
-        let bytes = with_byte(rt.alloc(), ONE, *at, *value)?;
-        assert!(rt; same_at(&rt, &(value, at), &fault(rt.alloc(), &bytes), expected));
-        let bytes = with_byte(rt.alloc(), NEW_ONE, moved(*at), *value)?;
-        assert!(rt; same_at(&rt, &(value, at), &fault(rt.alloc(), &bytes), expected));
+        let bytes = changed(&rt, rt.alloc(), ONE, *at, &[*value]);
+        assert!(rt; same_at(&rt, &(value, at), &fault(&rt, rt.alloc(), &bytes), expected));
+        let bytes = changed(&rt, rt.alloc(), NEW_ONE, moved(*at), &[*value]);
+        assert!(rt; same_at(&rt, &(value, at), &fault(&rt, rt.alloc(), &bytes), expected));
     }
-    Ok(())
 }
 
 #[test]
-fn cells_stand_in_order(rt: HostRuntime) -> Result<(), Fail> {
+fn cells_stand_in_order(rt: HostRuntime) {
     for (row, col, expected) in ORDERS {
-        let found = fault_with(rt.alloc(), TWO, 126, &[*row, *col])?;
+        let found = fault_with(&rt, rt.alloc(), TWO, 126, &[*row, *col]);
         assert!(rt; same_at(&rt, &(row, col), &found, expected));
-        let found = fault_with(rt.alloc(), NEW_TWO, moved(126), &[*row, *col])?;
+        let found = fault_with(&rt, rt.alloc(), NEW_TWO, moved(126), &[*row, *col]);
         assert!(rt; same_at(&rt, &(row, col), &found, expected));
     }
-    Ok(())
 }
 
 #[test]
-fn pairs_stand_once(rt: HostRuntime) -> Result<(), Fail> {
+fn pairs_stand_once(rt: HostRuntime) {
     for (client, number, expected) in PAIRS {
-        let found = fault_with(rt.alloc(), TWO, 150, &[*client, *number])?;
+        let found = fault_with(&rt, rt.alloc(), TWO, 150, &[*client, *number]);
         assert!(rt; same_at(&rt, &(client, number), &found, expected));
-        let found = fault_with(rt.alloc(), NEW_TWO, moved(150), &[*client, *number])?;
+        let found = fault_with(&rt, rt.alloc(), NEW_TWO, moved(150), &[*client, *number]);
         assert!(rt; same_at(&rt, &(client, number), &found, expected));
     }
-    Ok(())
 }

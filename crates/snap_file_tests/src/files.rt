@@ -5,7 +5,6 @@ use snap_file::{FileFault, SaveFault, SnapFault, Snapshot, load, save};
 use std::fs::Permissions;
 use std::os::unix::fs::{MetadataExt, PermissionsExt, symlink};
 use std::process::Abort;
-use std::test::Fail;
 use std::{fs, io};
 use test_support::same;
 
@@ -17,55 +16,44 @@ fn saved(rt: &HostRuntime, path: &str, snapshot: &Snapshot) -> Result<(), SaveFa
 
 // How many batches a file has, folded ones too.
 fn loaded_batches(rt: &HostRuntime, path: &str) -> Result<usize, FileFault> {
-    let snapshot = load(rt, rt.alloc(), path, MAX_BYTES)?;
-    Ok(
-        snapshot
-            .list
-            .folded
-            .len()
-            .saturating_add(snapshot.list.batches.len()),
-    )
+    match load(rt, rt.alloc(), path, MAX_BYTES) {
+        Ok(Snapshot { list, .. }) => Ok(list.folded.len().saturating_add(list.batches.len())),
+        Err(fault) => Err(fault),
+    }
 }
 
 // Whether a file has these bytes.
-fn holds(rt: &HostRuntime, path: &str, bytes: &[u8]) -> io::Result<bool> {
-    let held = fs::read(rt, path)?;
-    Ok(held.as_slice() == bytes)
+fn holds(rt: &HostRuntime, path: &str, bytes: &[u8]) -> bool {
+    match fs::read(rt, path) {
+        Ok(held) => held.as_slice() == bytes,
+        Err(_) => false,
+    }
 }
 
 // Whether a file has these bytes and is loaded, and nothing is left of the file that was written first.
-fn is_whole(rt: &HostRuntime, path: &str, bytes: &[u8], batches: usize) -> io::Result<bool> {
+fn is_whole(rt: &HostRuntime, path: &str, bytes: &[u8], batches: usize) -> bool {
     let unfinished = loaded_batches(rt, "/tmp/hhm_snap_file_saved.new");
-    Ok(
-        holds(rt, path, bytes)?
-            && loaded_batches(rt, path) == Ok(batches)
-            && unfinished == Err(FileFault::NotFound),
-    )
-}
-
-fn save_read(rt: &HostRuntime, path: &str, bytes: &[u8]) -> Result<(), Fail> {
-    let snapshot = read(rt.alloc(), bytes, bytes.len(), MAX_BYTES)?;
-    saved(rt, path, &snapshot)?;
-    Ok(())
+    holds(rt, path, bytes)
+        && loaded_batches(rt, path) == Ok(batches)
+        && unfinished == Err(FileFault::NotFound)
 }
 
 #[test]
-fn what_is_saved_is_loaded(rt: HostRuntime) -> Result<(), Fail> {
+fn what_is_saved_is_loaded(rt: HostRuntime) {
     let path = "/tmp/hhm_snap_file_saved";
-    for (bytes, saved, batches) in [(TWO, NEW_TWO, 2), (FOLDED, FOLDED, 1), (ONE, NEW_ONE, 1)] {
-        save_read(&rt, path, bytes)?;
-        assert!(rt; is_whole(&rt, path, saved, batches)?);
+    for (bytes, written, batches) in [(TWO, NEW_TWO, 2), (FOLDED, FOLDED, 1), (ONE, NEW_ONE, 1)] {
+        let snapshot = read(&rt, rt.alloc(), bytes, bytes.len());
+        assert!(rt; same(&rt, &saved(&rt, path, &snapshot), &Ok(())));
+        assert!(rt; is_whole(&rt, path, written, batches));
     }
-    fs::remove_file(&rt, path)?;
-    Ok(())
+    fs::remove_file(&rt, path).expect(&rt, "removed");
 }
 
 #[test]
-fn a_save_without_its_folder_fails(rt: HostRuntime) -> Result<(), Fail> {
-    let snapshot = read(rt.alloc(), ONE, ONE.len(), MAX_BYTES)?;
+fn a_save_without_its_folder_fails(rt: HostRuntime) {
+    let snapshot = read(&rt, rt.alloc(), ONE, ONE.len());
     let absent = "/tmp/hhm_snap_file_no_folder/file";
     assert!(rt; same(&rt, &saved(&rt, absent, &snapshot), &Err(SaveFault::Create)));
-    Ok(())
 }
 
 // Saves under a name of a folder, which can't be made a file.
@@ -77,11 +65,10 @@ fn saved_as_folder(rt: &HostRuntime, snapshot: &Snapshot) -> io::Result<Result<(
 }
 
 #[test]
-fn a_folder_is_not_replaced(rt: HostRuntime) -> Result<(), Fail> {
-    let snapshot = read(rt.alloc(), ONE, ONE.len(), MAX_BYTES)?;
-    let answer = saved_as_folder(&rt, &snapshot)?;
+fn a_folder_is_not_replaced(rt: HostRuntime) {
+    let snapshot = read(&rt, rt.alloc(), ONE, ONE.len());
+    let answer = saved_as_folder(&rt, &snapshot).expect(&rt, "saved");
     assert!(rt; same(&rt, &answer, &Err(SaveFault::Rename)));
-    Ok(())
 }
 
 // Saves while a folder stands under the other name.
@@ -97,15 +84,14 @@ fn saved_beside_folder(
 }
 
 #[test]
-fn a_save_that_fails_leaves_the_file(rt: HostRuntime) -> Result<(), Fail> {
-    let snapshot = read(rt.alloc(), ONE, ONE.len(), MAX_BYTES)?;
+fn a_save_that_fails_leaves_the_file(rt: HostRuntime) {
+    let snapshot = read(&rt, rt.alloc(), ONE, ONE.len());
     let path = "/tmp/hhm_snap_file_kept";
-    fs::write(&rt, path, b"as it was".as_slice())?;
-    let answer = saved_beside_folder(&rt, path, &snapshot)?;
+    fs::write(&rt, path, b"as it was".as_slice()).expect(&rt, "written");
+    let answer = saved_beside_folder(&rt, path, &snapshot).expect(&rt, "saved");
     assert!(rt; same(&rt, &answer, &Err(SaveFault::Create)));
-    assert!(rt; holds(&rt, path, b"as it was")?);
-    fs::remove_file(&rt, path)?;
-    Ok(())
+    assert!(rt; holds(&rt, path, b"as it was"));
+    fs::remove_file(&rt, path).expect(&rt, "removed");
 }
 
 // Saves while a link to the other file stands under the name of the new one.
@@ -122,8 +108,8 @@ fn saved_beside_link(
 
 // Whether the saved file holds the snapshot, the other is as it was, and the first is no link. Both are removed.
 fn left_beside_link(rt: &HostRuntime, path: &str, other: &str) -> io::Result<[bool; 3]> {
-    let holds_one = holds(rt, path, NEW_ONE)?;
-    let is_as_before = holds(rt, other, b"as it was")?;
+    let holds_one = holds(rt, path, NEW_ONE);
+    let is_as_before = holds(rt, other, b"as it was");
     let is_file = fs::symlink_metadata(rt, path)?.is_file();
     fs::remove_file(rt, path)?;
     fs::remove_file(rt, other)?;
@@ -131,13 +117,12 @@ fn left_beside_link(rt: &HostRuntime, path: &str, other: &str) -> io::Result<[bo
 }
 
 #[test]
-fn a_link_beside_is_not_followed(rt: HostRuntime) -> Result<(), Fail> {
-    let snapshot = read(rt.alloc(), ONE, ONE.len(), MAX_BYTES)?;
+fn a_link_beside_is_not_followed(rt: HostRuntime) {
+    let snapshot = read(&rt, rt.alloc(), ONE, ONE.len());
     let (path, other) = ("/tmp/hhm_snap_file_linked", "/tmp/hhm_snap_file_other");
-    let answer = saved_beside_link(&rt, path, other, &snapshot)?;
-    let left = left_beside_link(&rt, path, other)?;
+    let answer = saved_beside_link(&rt, path, other, &snapshot).expect(&rt, "saved");
+    let left = left_beside_link(&rt, path, other).expect(&rt, "saved");
     assert!(rt; same(&rt, &(answer, left), &(Ok(()), [true; 3])));
-    Ok(())
 }
 
 // The mode of what is saved over a file of this mode.
@@ -152,12 +137,17 @@ fn mode_after(rt: &HostRuntime, snapshot: &Snapshot, mode: u32) -> io::Result<u3
 }
 
 #[test]
-fn a_mode_is_kept(rt: HostRuntime) -> Result<(), Fail> {
-    let snapshot = read(rt.alloc(), ONE, ONE.len(), MAX_BYTES)?;
+fn a_mode_is_kept(rt: HostRuntime) {
+    let snapshot = read(&rt, rt.alloc(), ONE, ONE.len());
     for mode in [0o600, 0o640, 0o444, 0o666, 0o700] {
-        assert!(rt; same(&rt, &mode_after(&rt, &snapshot, mode)?, &mode));
+        assert!(rt;
+            same(
+                &rt,
+                &mode_after(&rt, &snapshot, mode).expect(&rt, "saved"),
+                &mode
+            )
+        );
     }
-    Ok(())
 }
 
 // What is no snapshot, and why. Devices aren't opened.

@@ -1,13 +1,10 @@
 //! Folded batches and their base: what is read of them, and how they are refused.
 
-use crate::bytes::{
-    BOTH, FOLDED, MAX_BYTES, NEW_ONE, fault, fault_with, followed, read, with_fields,
-};
+use crate::bytes::{BOTH, FOLDED, NEW_ONE, fault, fault_with, followed, read, with_fields};
 use batch_store::{BookList, Entry};
 use snap_file::SnapFault;
-use std::alloc::{AllocError, Global};
+use std::alloc::Global;
 use std::process::Abort;
-use std::test::Fail;
 use test_support::{same, same_at};
 
 // The entry of the one folded batch.
@@ -32,8 +29,8 @@ fn told(list: &BookList) -> (usize, usize, Option<Entry>, u64, u64, Option<u64>)
 }
 
 #[test]
-fn a_folded_batch_is_read(rt: HostRuntime) -> Result<(), Fail> {
-    let snapshot = read(rt.alloc(), FOLDED, 1, MAX_BYTES)?;
+fn a_folded_batch_is_read(rt: HostRuntime) {
+    let snapshot = read(&rt, rt.alloc(), FOLDED, 1);
     assert!(rt;
         same(
             &rt,
@@ -41,12 +38,11 @@ fn a_folded_batch_is_read(rt: HostRuntime) -> Result<(), Fail> {
             &(1, 0, Some(ENTRY), 1, 5, Some(5))
         )
     );
-    Ok(())
 }
 
 #[test]
-fn a_batch_behind_it_is_read(rt: HostRuntime) -> Result<(), Fail> {
-    let snapshot = read(rt.alloc(), BOTH, 7, MAX_BYTES)?;
+fn a_batch_behind_it_is_read(rt: HostRuntime) {
+    let snapshot = read(&rt, rt.alloc(), BOTH, 7);
     assert!(rt;
         same(
             &rt,
@@ -58,7 +54,6 @@ fn a_batch_behind_it_is_read(rt: HostRuntime) -> Result<(), Fail> {
     let batch = &snapshot.list.batches[0];
     let found = (batch.client, batch.number, batch.total);
     assert!(rt; same(&rt, &found, &(8, 1, 3)));
-    Ok(())
 }
 
 // Where a field of eight bytes stands in `FOLDED`, its value, and the fault.
@@ -104,12 +99,11 @@ static FIELDS: &[(usize, u64, Option<SnapFault>)] = &[
 ];
 
 #[test]
-fn folded_fields_are_judged_at_their_bounds(rt: HostRuntime) -> Result<(), Fail> {
+fn folded_fields_are_judged_at_their_bounds(rt: HostRuntime) {
     for (at, value, expected) in FIELDS {
-        let found = fault_with(rt.alloc(), FOLDED, *at, &[*value])?;
+        let found = fault_with(&rt, rt.alloc(), FOLDED, *at, &[*value]);
         assert!(rt; same_at(&rt, &(value, at), &found, expected));
     }
-    Ok(())
 }
 
 // The same in `BOTH`, whose total is 8: the folded totals may come to more than 5 there, and the base may not.
@@ -125,35 +119,33 @@ static SUMS: &[(usize, u64, Option<SnapFault>)] = &[
 ];
 
 #[test]
-fn the_base_has_the_folded_totals(rt: HostRuntime) -> Result<(), Fail> {
+fn the_base_has_the_folded_totals(rt: HostRuntime) {
     for (at, value, expected) in SUMS {
-        let found = fault_with(rt.alloc(), BOTH, *at, &[*value])?;
+        let found = fault_with(&rt, rt.alloc(), BOTH, *at, &[*value]);
         assert!(rt; same_at(&rt, &(value, at), &found, expected));
     }
-    Ok(())
 }
 
 // The fault of the first 94 bytes of `NEW_ONE`, with so many cells of a base.
-fn fault_of_base(alloc: Global, cells: u64) -> Result<Option<SnapFault>, AllocError> {
+fn fault_of_base(rt: &impl Abort, alloc: Global, cells: u64) -> Option<SnapFault> {
     let front = NEW_ONE.get(..94).unwrap_or(&[]);
-    fault_with(alloc, front, 86, &[cells])
+    fault_with(rt, alloc, front, 86, &[cells])
 }
 
 #[test]
-fn a_base_of_nothing_has_no_cell(rt: HostRuntime) -> Result<(), Fail> {
+fn a_base_of_nothing_has_no_cell(rt: HostRuntime) {
     // At once, though no byte follows.
     for cells in [1, u64::MAX] {
-        let found = fault_of_base(rt.alloc(), cells)?;
+        let found = fault_of_base(&rt, rt.alloc(), cells);
         assert!(rt; same_at(&rt, &cells, &found, &Some(SnapFault::BadBatch)));
     }
     assert!(rt;
         same(
             &rt,
-            &fault_of_base(rt.alloc(), 0)?,
+            &fault_of_base(&rt, rt.alloc(), 0),
             &Some(SnapFault::Truncated)
         )
     );
-    Ok(())
 }
 
 // The pair of the batch behind the folded one.
@@ -165,42 +157,55 @@ static PAIRS: &[(u64, u64, Option<SnapFault>)] = &[
 ];
 
 #[test]
-fn a_folded_pair_stands_once(rt: HostRuntime) -> Result<(), Fail> {
+fn a_folded_pair_stands_once(rt: HostRuntime) {
     for (client, number, expected) in PAIRS {
-        let found = fault_with(rt.alloc(), BOTH, 150, &[*client, *number])?;
+        let found = fault_with(&rt, rt.alloc(), BOTH, 150, &[*client, *number]);
         assert!(rt; same_at(&rt, &(client, number), &found, expected));
     }
-    Ok(())
 }
 
 // The fault of `FOLDED` with 2 in place of a number of 1, and all behind `to` from `from` on.
 fn fault_of_repeat(
+    rt: &impl Abort,
     alloc: Global,
     at: usize,
     to: usize,
     from: usize,
-) -> Result<Option<SnapFault>, AllocError> {
-    let front = with_fields(alloc, FOLDED.get(..to).unwrap_or(&[]), at, &[2])?;
-    let twice = followed(alloc, &front, FOLDED.get(from..).unwrap_or(&[]))?;
-    Ok(fault(alloc, &twice))
+) -> Option<SnapFault> {
+    let front = with_fields(rt, alloc, FOLDED.get(..to).unwrap_or(&[]), at, &[2]);
+    fault(
+        rt,
+        alloc,
+        &followed(rt, alloc, &front, FOLDED.get(from..).unwrap_or(&[])),
+    )
 }
 
 #[test]
-fn repeated_entries_and_cells_are_found(rt: HostRuntime) -> Result<(), Fail> {
+fn repeated_entries_and_cells_are_found(rt: HostRuntime) {
     // Two folded batches, and the entry twice.
-    let entries = fault_of_repeat(rt.alloc(), 78, 118, 86)?;
+    let entries = fault_of_repeat(&rt, rt.alloc(), 78, 118, 86);
     assert!(rt; same(&rt, &entries, &Some(SnapFault::RepeatedNumber)));
     // Two cells of the base, and the cell twice.
-    let cells = fault_of_repeat(rt.alloc(), 118, 150, 126)?;
+    let cells = fault_of_repeat(&rt, rt.alloc(), 118, 150, 126);
     assert!(rt; same(&rt, &cells, &Some(SnapFault::OutOfOrder)));
-    Ok(())
 }
 
 // A million folded batches are declared, and one follows: nothing is reserved for them.
 #[test]
-fn declared_entries_reserve_nothing(rt: HostRuntime) -> Result<(), Fail> {
-    let most = with_fields(rt.alloc(), FOLDED, 54, &[1_000_000])?;
-    let many = with_fields(rt.alloc(), most.get(..118).unwrap_or(&[]), 78, &[1_000_000])?;
-    assert!(rt; same(&rt, &fault(rt.alloc(), &many), &Some(SnapFault::Truncated)));
-    Ok(())
+fn declared_entries_reserve_nothing(rt: HostRuntime) {
+    let most = with_fields(&rt, rt.alloc(), FOLDED, 54, &[1_000_000]);
+    let many = with_fields(
+        &rt,
+        rt.alloc(),
+        most.get(..118).unwrap_or(&[]),
+        78,
+        &[1_000_000],
+    );
+    assert!(rt;
+        same(
+            &rt,
+            &fault(&rt, rt.alloc(), &many),
+            &Some(SnapFault::Truncated)
+        )
+    );
 }

@@ -1,32 +1,30 @@
 //! Saves in a folder in memory, each of whose calls fails in turn.
-ghost use Rattle.std.specs.Prelude.{◌≡◌, ◌+◌, ◌<◌, ◌^◌, IfOk};
+ghost use Rattle.std.specs.Prelude.{◌≡◌, ◌+◌, ◌<◌, ◌^◌};
 
-use crate::bytes::{MAX_BYTES, NEW_ONE, ONE, read};
+use crate::bytes::{NEW_ONE, ONE, read};
 use byte_io::{DeviceFault, WriteFault};
 use snap_file::{Folder, MemoryFolder, SaveFault, Snapshot, save_in};
-use std::alloc::{AllocError, Global};
+use std::alloc::Global;
 use std::io::Eprint;
 use std::process::Abort;
-use std::test::Fail;
 use test_support::{same, same_at};
 
 // A folder of files, of which call number `fail_at` fails.
 fn folder(
+    rt: &impl Abort,
     alloc: Global,
     files: &[(&str, &[u8])],
     fail_at: Option<u64>,
-) -> Result<MemoryFolder, AllocError>
-    ensures { IfOk result (λ folder. folder.failures ≡ 0) }
+) -> MemoryFolder
+    ensures { result.failures ≡ 0 }
 {
     let mut list = Vec::new(alloc);
     for (name, bytes) in files {
-        let file = (
-            String::from_str(alloc, *name)?,
-            Vec::from_slice(alloc, *bytes)?,
-        );
-        list.push(file)?;
+        let name = String::from_str(alloc, *name).expect(rt, "memory");
+        let bytes = Vec::from_slice(alloc, *bytes).expect(rt, "memory");
+        list.push((name, bytes)).expect(rt, "memory");
     }
-    Ok(MemoryFolder::new(alloc, list, fail_at))
+    MemoryFolder::new(alloc, list, fail_at)
 }
 
 fn saved(alloc: Global, folder: &mut MemoryFolder, snapshot: &Snapshot) -> Result<(), SaveFault>
@@ -53,15 +51,14 @@ fn expect_save(
     fail_at: Option<u64>,
     expected: Result<(), SaveFault>,
     held: &[u8],
-) -> Result<(), Fail> {
-    let mut f = folder(alloc, &[("a", b"old"), ("b", b"other")], fail_at)?;
+) {
+    let mut f = folder(rt, alloc, &[("a", b"old"), ("b", b"other")], fail_at);
     let answer = saved(alloc, &mut f, snapshot);
     assert!(rt; same_at(rt, &fail_at, &answer, &expected));
     assert!(rt; holds(&f, "a", held));
     assert!(rt; holds(&f, "b", b"other"));
     let failures = if expected.is_ok() { 0 } else { 1 };
     assert!(rt; same(rt, &f.failures(), &failures));
-    Ok(())
 }
 
 // The calls of a save, from 0, each with its fault: a file of up to 16 KiB is one write.
@@ -73,53 +70,58 @@ const FAULTS: [(u64, SaveFault); 4] = [
 ];
 
 #[test]
-fn each_call_fails_in_turn(rt: HostRuntime) -> Result<(), Fail> {
-    let snapshot = read(rt.alloc(), ONE, ONE.len(), MAX_BYTES)?;
+fn each_call_fails_in_turn(rt: HostRuntime) {
+    let snapshot = read(&rt, rt.alloc(), ONE, ONE.len());
     for (call, fault) in FAULTS {
-        expect_save(&rt, rt.alloc(), &snapshot, Some(call), Err(fault), b"old")?;
+        expect_save(&rt, rt.alloc(), &snapshot, Some(call), Err(fault), b"old");
     }
-    expect_save(&rt, rt.alloc(), &snapshot, Some(4), Ok(()), NEW_ONE)?;
-    expect_save(&rt, rt.alloc(), &snapshot, None, Ok(()), NEW_ONE)?;
-    Ok(())
+    expect_save(&rt, rt.alloc(), &snapshot, Some(4), Ok(()), NEW_ONE);
+    expect_save(&rt, rt.alloc(), &snapshot, None, Ok(()), NEW_ONE);
 }
 
 #[test]
-fn what_was_left_over_is_written_over(rt: HostRuntime) -> Result<(), Fail> {
-    let snapshot = read(rt.alloc(), ONE, ONE.len(), MAX_BYTES)?;
-    let mut f = folder(rt.alloc(), &[("a.new", b"left over"), ("a", b"old")], None)?;
+fn what_was_left_over_is_written_over(rt: HostRuntime) {
+    let snapshot = read(&rt, rt.alloc(), ONE, ONE.len());
+    let mut f = folder(
+        &rt,
+        rt.alloc(),
+        &[("a.new", b"left over"), ("a", b"old")],
+        None,
+    );
     assert!(rt; same(&rt, &saved(rt.alloc(), &mut f, &snapshot), &Ok(())));
     assert!(rt; holds(&f, "a", NEW_ONE));
     assert!(rt; f.file("a.new").is_none());
-    Ok(())
 }
 
 // A file is made in the place of one that has its name.
 #[test]
-fn a_created_file_is_empty(rt: HostRuntime) -> Result<(), Fail> {
-    let mut f = folder(rt.alloc(), &[("new", b"was there")], None)?;
+fn a_created_file_is_empty(rt: HostRuntime) {
+    let mut f = folder(&rt, rt.alloc(), &[("new", b"was there")], None);
     assert!(rt; same(&rt, &f.create("new"), &Ok(())));
     assert!(rt; holds(&f, "new", b""));
-    Ok(())
 }
 
 // The first of two files of one name is told.
 #[test]
-fn the_first_of_a_name_counts(rt: HostRuntime) -> Result<(), Fail> {
-    let f = folder(rt.alloc(), &[("name", b"first"), ("name", b"second")], None)?;
+fn the_first_of_a_name_counts(rt: HostRuntime) {
+    let f = folder(
+        &rt,
+        rt.alloc(),
+        &[("name", b"first"), ("name", b"second")],
+        None,
+    );
     assert!(rt; holds(&f, "name", b"first"));
     assert!(rt; f.file("other").is_none());
     assert!(rt; same(&rt, &f.failures(), &0));
-    Ok(())
 }
 
 // Call number 1 fails, and no other; it leaves the file.
 #[test]
-fn one_call_fails(rt: HostRuntime) -> Result<(), Fail> {
-    let mut f = folder(rt.alloc(), &[("name", b"old")], Some(1))?;
-    f.create("new")?;
+fn one_call_fails(rt: HostRuntime) {
+    let mut f = folder(&rt, rt.alloc(), &[("name", b"old")], Some(1));
+    assert!(rt; same(&rt, &f.create("new"), &Ok(())));
     assert!(rt; same(&rt, &f.create("name"), &Err(DeviceFault)));
     assert!(rt; holds(&f, "name", b"old"));
     assert!(rt; same(&rt, &f.create("name"), &Ok(())));
     assert!(rt; same(&rt, &f.failures(), &1));
-    Ok(())
 }

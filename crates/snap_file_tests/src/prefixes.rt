@@ -10,7 +10,7 @@ use test_support::same_at;
 // Compares the faults of all proper prefixes.
 fn expect_truncated(rt: &(impl Abort + Eprint), alloc: Global, bytes: &[u8]) {
     for end in 0..bytes.len() {
-        let found = fault(alloc, &bytes[..end]);
+        let found = fault(rt, alloc, &bytes[..end]);
         assert!(rt; same_at(rt, &end, &found, &Some(SnapFault::Truncated)));
     }
 }
