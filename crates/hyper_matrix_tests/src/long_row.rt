@@ -5,8 +5,8 @@ ghost use Rattle.std.specs.Prelude.{◌<◌};
 use crate::matrices::{SIDE, built, cell, has};
 use cells::Cell;
 use hyper_matrix::{Entry, Hyper, RowSum};
-use std::alloc::{AllocError, Global};
-use std::test::Fail;
+use std::alloc::Global;
+use std::process::Abort;
 
 /// The entries of row 5.
 const LENGTH: u64 = 600;
@@ -20,14 +20,14 @@ static ROWS: [(u64, u64, u64); 5] = [
     (7, 0, 0),
 ];
 
-fn long_row(alloc: Global) -> Result<Vec<Cell>, AllocError> {
+fn long_row(rt: &impl Abort, alloc: Global) -> Vec<Cell> {
     let mut cells = Vec::new(alloc);
-    cells.push(cell((4, 9, 1)))?;
+    cells.push(cell((4, 9, 1))).expect(rt, "memory");
     for k in 0..LENGTH {
-        cells.push(cell((5, 2 * k, k)))?;
+        cells.push(cell((5, 2 * k, k))).expect(rt, "memory");
     }
-    cells.push(cell((6, 0, 2)))?;
-    Ok(cells)
+    cells.push(cell((6, 0, 2))).expect(rt, "memory");
+    cells
 }
 
 // Whether there is nothing at the column behind column 2k of row 5, and the next entry is that at column 2k + 2.
@@ -64,11 +64,10 @@ fn sums_rows(m: &Hyper) -> bool {
 }
 
 #[test]
-fn row_over_blocks(rt: HostRuntime) -> Result<(), Fail> {
-    let cells = long_row(rt.alloc())?;
-    let m = built(rt.alloc(), SIDE, &cells)?;
-    assert!(rt; has(rt.alloc(), &m, &cells)?);
+fn row_over_blocks(rt: HostRuntime) {
+    let cells = long_row(&rt, rt.alloc());
+    let m = built(&rt, rt.alloc(), SIDE, &cells);
+    assert!(rt; has(&rt, rt.alloc(), &m, &cells));
     assert!(rt; has_gaps(&m));
     assert!(rt; sums_rows(&m));
-    Ok(())
 }

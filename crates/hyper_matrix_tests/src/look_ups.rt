@@ -1,8 +1,8 @@
 //! Look-ups in the matrix {(0, 0): 3, (0, 1): 0, (2, 2): 4} of 3 by 3, and in the empty matrix.
 use crate::matrices::{Triple, cell, small};
 use hyper_matrix::{Entry, Hyper, RowSum};
-use std::alloc::{AllocError, Global};
-use std::test::Fail;
+use std::alloc::Global;
+use std::process::Abort;
 
 /// A question and its answer.
 #[derive(Clone, Copy, Debug)]
@@ -75,24 +75,24 @@ fn is_answered(m: &Hyper, question: LookUp) -> bool {
 
 // The first question that the matrix of a list answers wrongly.
 fn first_wrong(
+    rt: &impl Abort,
     alloc: Global,
     list: &[Triple],
     questions: &[LookUp],
-) -> Result<Option<LookUp>, AllocError> {
-    let m = small(alloc, list)?;
+) -> Option<LookUp> {
+    let m = small(rt, alloc, list);
     for question in questions {
         if !is_answered(&m, *question) {
-            return Ok(Some(*question));
+            return Some(*question);
         }
     }
-    Ok(None)
+    None
 }
 
 #[test]
-fn small_tables(rt: HostRuntime) -> Result<(), Fail> {
+fn small_tables(rt: HostRuntime) {
     for (list, questions) in [(SMALL, IN_SMALL), (&[], IN_NONE)] {
-        let wrong = first_wrong(rt.alloc(), list, questions)?;
+        let wrong = first_wrong(&rt, rt.alloc(), list, questions);
         assert!(rt; holds_at(&rt, &wrong, wrong.is_none()));
     }
-    Ok(())
 }

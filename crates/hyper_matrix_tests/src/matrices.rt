@@ -3,7 +3,8 @@ ghost use Rattle.cells.specs.Bounds.{AreWithin, IsDimension};
 
 use cells::{Cell, checked_total, rises};
 use hyper_matrix::{Entry, Hyper};
-use std::alloc::{AllocError, Global};
+use std::alloc::Global;
+use std::process::Abort;
 
 /// The rows, and the columns, of the matrices that are more than a table's.
 pub const SIDE: u64 = 1 << 20;
@@ -15,65 +16,54 @@ pub fn cell((row, col, count): Triple) -> Cell {
     Cell { row, col, count }
 }
 
-pub fn cells_of(alloc: Global, triples: &[Triple]) -> Result<Vec<Cell>, AllocError> {
-    let mut cells = Vec::with_capacity(alloc, triples.len())?;
+pub fn cells_of(rt: &impl Abort, alloc: Global, triples: &[Triple]) -> Vec<Cell> {
+    let mut cells = Vec::new(alloc);
     for triple in triples {
-        cells.push(cell(*triple))?;
+        cells.push(cell(*triple)).expect(rt, "memory");
     }
-    Ok(cells)
+    cells
 }
 
 /// Of the first n places of rows of this width, every step-th with `more`, and the others with `count`, if that isn't
 /// 0.
 pub fn grid(
+    rt: &impl Abort,
     alloc: Global,
     (n, width, step): Triple,
     more: u64,
     count: u64,
-) -> Result<Vec<Cell>, AllocError> {
+) -> Vec<Cell> {
     let mut cells = Vec::new(alloc);
     for k in 0..n {
         let row = k.checked_div(width).unwrap_or(0);
         let col = k.checked_rem(width).unwrap_or(0);
-        if k.checked_rem(step) == Some(0) {
-            cells.push(cell((row, col, more)))?;
-        } else if count > 0 {
-            cells.push(cell((row, col, count)))?;
+        let at = if k.checked_rem(step) == Some(0) {
+            more
+        } else {
+            count
+        };
+        if at > 0 {
+            cells.push(cell((row, col, at))).expect(rt, "memory");
         }
     }
-    Ok(cells)
+    cells
 }
 
 /// The square matrix of a list that has no fault.
-pub fn built(alloc: Global, side: u64, cells: &[Cell]) -> Result<Hyper, AllocError>
+pub fn built(rt: &impl Abort, alloc: Global, side: u64, cells: &[Cell]) -> Hyper
     requires { IsDimension side }
 {
-    match Hyper::build(alloc, side, side, cells) {
-        Ok(m) => Ok(m),
-        Err(_) => Err(AllocError),
-    }
+    Hyper::build(alloc, side, side, cells).expect(rt, "a matrix")
 }
 
 /// The matrix of 3 by 3 of a list that has no fault.
-pub fn small(alloc: Global, triples: &[Triple]) -> Result<Hyper, AllocError> {
-    let cells = cells_of(alloc, triples)?;
-    built(alloc, 3, &cells)
+pub fn small(rt: &impl Abort, alloc: Global, triples: &[Triple]) -> Hyper {
+    built(rt, alloc, 3, &cells_of(rt, alloc, triples))
 }
 
-/// The matrix of a grid (`grid`).
-pub fn built_grid(
-    alloc: Global,
-    shape: Triple,
-    more: u64,
-    count: u64,
-) -> Result<Hyper, AllocError> {
-    let cells = grid(alloc, shape, more, count)?;
-    built(alloc, SIDE, &cells)
-}
-
-fn listed(alloc: Global, m: &Hyper, want: &[Cell]) -> Result<bool, AllocError> {
-    let cells = m.cells(alloc)?;
-    Ok(cells.as_slice() == want)
+fn listed(rt: &impl Abort, alloc: Global, m: &Hyper, want: &[Cell]) -> bool {
+    let cells = m.cells(alloc).expect(rt, "memory");
+    cells.as_slice() == want
 }
 
 fn walked(m: &Hyper, want: &[Cell]) -> bool {
@@ -114,77 +104,60 @@ fn all_found(m: &Hyper, want: &[Cell]) -> bool {
 }
 
 /// Whether a matrix has these cells, in this order, and says so in each of its answers.
-pub fn has(alloc: Global, m: &Hyper, want: &[Cell]) -> Result<bool, AllocError> {
-    let same = listed(alloc, m, want)?;
-    Ok(same && walked(m, want) && counted(m, want) && all_found(m, want))
+pub fn has(rt: &impl Abort, alloc: Global, m: &Hyper, want: &[Cell]) -> bool {
+    listed(rt, alloc, m, want) && walked(m, want) && counted(m, want) && all_found(m, want)
 }
 
 /// Whether the sum of two matrices that were lent has these cells.
-pub fn lent_sum_has(
-    alloc: Global,
-    a: &Hyper,
-    b: &Hyper,
-    want: &[Cell],
-) -> Result<bool, AllocError> {
+pub fn lent_sum_has(rt: &impl Abort, alloc: Global, a: &Hyper, b: &Hyper, want: &[Cell]) -> bool {
     let fits = a.total().checked_add(b.total()).is_some();
-    if a.dims() == b.dims() && fits {
-        let sum = a.ewise_add(alloc, b)?;
-        return has(alloc, &sum, want);
+    if a.dims() != b.dims() || !fits {
+        return false;
     }
-    Ok(false)
+    let sum = a.ewise_add(alloc, b).expect(rt, "memory");
+    has(rt, alloc, &sum, want)
 }
 
-/// Whether the sum of two matrices that were given away has these cells.
-pub fn own_sum_has(alloc: Global, a: Hyper, b: Hyper, want: &[Cell]) -> Result<bool, AllocError> {
+// Whether the sum of two matrices that were given away has these cells.
+fn own_sum_has(rt: &impl Abort, alloc: Global, a: Hyper, b: Hyper, want: &[Cell]) -> bool {
     let fits = a.total().checked_add(b.total()).is_some();
-    if a.dims() == b.dims() && fits {
-        let sum = a.into_sum(alloc, b)?;
-        return has(alloc, &sum, want);
+    if a.dims() != b.dims() || !fits {
+        return false;
     }
-    Ok(false)
+    let sum = a.into_sum(alloc, b).expect(rt, "memory");
+    has(rt, alloc, &sum, want)
 }
 
-/// Whether a matrix that was given away and a list of cells in order have this sum.
-pub fn list_sum_has(
-    alloc: Global,
-    a: Hyper,
-    list: &[Cell],
-    want: &[Cell],
-) -> Result<bool, AllocError>
+// Whether a matrix that was given away and a list of cells in order have this sum.
+fn list_sum_has(rt: &impl Abort, alloc: Global, a: Hyper, list: &[Cell], want: &[Cell]) -> bool
     requires { AreWithin a.rows a.cols list.now }
 {
     let fits = match checked_total(list) {
         Some(sum) => a.total().checked_add(sum).is_some(),
         None => false,
     };
-    if fits && rises(list) {
-        let sum = a.into_sum_with_cells(alloc, list)?;
-        return has(alloc, &sum, want);
+    if !fits || !rises(list) {
+        return false;
     }
-    Ok(false)
+    let sum = a.into_sum_with_cells(alloc, list).expect(rt, "memory");
+    has(rt, alloc, &sum, want)
 }
 
-// The same, of a copy and the cells of another matrix.
-fn listed_sum_has(alloc: Global, a: &Hyper, b: &Hyper, want: &[Cell]) -> Result<bool, AllocError> {
-    if a.dims() != b.dims() {
-        return Ok(false);
+// Whether two matrices have these cells as their sum: lent, as copies that share all blocks, and as a copy and a list of
+// cells.
+fn sums_have(rt: &impl Abort, alloc: Global, a: &Hyper, b: &Hyper, want: &[Cell]) -> bool {
+    if !lent_sum_has(rt, alloc, a, b, want) || a.dims() != b.dims() {
+        return false;
     }
-    let list = b.cells(alloc)?;
-    let a = a.copy(alloc)?;
-    list_sum_has(alloc, a, &list, want)
-}
-
-// The same, of copies that share all blocks.
-fn copies_sum_has(alloc: Global, a: &Hyper, b: &Hyper, want: &[Cell]) -> Result<bool, AllocError> {
-    let a = a.copy(alloc)?;
-    let b = b.copy(alloc)?;
-    own_sum_has(alloc, a, b, want)
+    let left = a.copy(alloc).expect(rt, "memory");
+    let right = b.copy(alloc).expect(rt, "memory");
+    let again = a.copy(alloc).expect(rt, "memory");
+    let list = b.cells(alloc).expect(rt, "memory");
+    own_sum_has(rt, alloc, left, right, want) && list_sum_has(rt, alloc, again, &list, want)
 }
 
 /// Whether two matrices add up to these cells either way round: as copies, as a list of cells, lent, and given away.
-pub fn adds_up(alloc: Global, a: Hyper, b: Hyper, want: &[Cell]) -> Result<bool, AllocError> {
-    let copied = copies_sum_has(alloc, &a, &b, want)? && copies_sum_has(alloc, &b, &a, want)?;
-    let lent = lent_sum_has(alloc, &a, &b, want)? && lent_sum_has(alloc, &b, &a, want)?;
-    let listed = listed_sum_has(alloc, &a, &b, want)? && listed_sum_has(alloc, &b, &a, want)?;
-    Ok(copied && lent && listed && own_sum_has(alloc, a, b, want)?)
+pub fn adds_up(rt: &impl Abort, alloc: Global, a: Hyper, b: Hyper, want: &[Cell]) -> bool {
+    let both = sums_have(rt, alloc, &a, &b, want) && sums_have(rt, alloc, &b, &a, want);
+    both && own_sum_has(rt, alloc, a, b, want)
 }

@@ -2,8 +2,9 @@
 use crate::matrices::{SIDE, Triple, built, cell, cells_of, has, small};
 use cells::Cell;
 use hyper_matrix::Hyper;
-use std::alloc::{AllocError, Global};
-use std::test::Fail;
+use std::alloc::Global;
+use std::io::Eprint;
+use std::process::Abort;
 use test_support::holds_at;
 
 /// A list, a shard, how many there are, and the cells of the part.
@@ -30,116 +31,115 @@ static PARTS: &[Parted] = &[
     (&[(2, 1, 7)], 0, 2, &[(2, 1, 7)]),
 ];
 
-fn parts(alloc: Global, case: &Parted) -> Result<bool, AllocError> {
-    let (list, s, k, want) = *case;
+// Whether shard s of k has these cells of a list.
+fn part_has(rt: &impl Abort, alloc: Global, m: &Hyper, (s, k): (u64, u64), want: &[Cell]) -> bool {
     if s >= k {
-        return Ok(false);
+        return false;
     }
-    let want = cells_of(alloc, want)?;
-    let m = small(alloc, list)?;
-    let part = m.part(alloc, s, k)?;
-    Ok(part.dims() == (3, 3) && has(alloc, &part, &want)?)
+    let part = m.part(alloc, s, k).expect(rt, "memory");
+    part.dims() == m.dims() && has(rt, alloc, &part, want)
 }
 
 #[test]
-fn shards_have_their_rows(rt: HostRuntime) -> Result<(), Fail> {
-    for case in PARTS {
-        assert!(rt; holds_at(&rt, &case, parts(rt.alloc(), case)?));
+fn shards_have_their_rows(rt: HostRuntime) {
+    for (list, s, k, want) in PARTS {
+        let m = small(&rt, rt.alloc(), list);
+        let want = cells_of(&rt, rt.alloc(), want);
+        assert!(rt; m.dims() == (3, 3));
+        assert!(rt;
+            holds_at(
+                &rt,
+                &(list, s, k),
+                part_has(&rt, rt.alloc(), &m, (*s, *k), &want)
+            )
+        );
     }
-    Ok(())
 }
 
 // Rows 0 to n - 1, each with three columns.
-fn tall(alloc: Global, n: u64, only: Option<u64>) -> Result<Vec<Cell>, AllocError> {
+fn tall(rt: &impl Abort, alloc: Global, n: u64, only: Option<u64>) -> Vec<Cell> {
     let mut cells = Vec::new(alloc);
     for k in 0..n {
         let row = k / 3;
         if only.is_none() || only == Some(row % 5) {
-            cells.push(cell((row, k, 1)))?;
+            cells.push(cell((row, k, 1))).expect(rt, "memory");
         }
     }
-    Ok(cells)
-}
-
-fn part_has(alloc: Global, m: &Hyper, s: u64) -> Result<bool, AllocError> {
-    if s >= 5 {
-        return Ok(false);
-    }
-    let want = tall(alloc, 2000, Some(s))?;
-    let part = m.part(alloc, s, 5)?;
-    has(alloc, &part, &want)
+    cells
 }
 
 // A row of three cells lies in two blocks here and there.
 #[test]
-fn parts_of_many_blocks(rt: HostRuntime) -> Result<(), Fail> {
-    let list = tall(rt.alloc(), 2000, None)?;
-    let m = built(rt.alloc(), SIDE, &list)?;
+fn parts_of_many_blocks(rt: HostRuntime) {
+    let m = built(&rt, rt.alloc(), SIDE, &tall(&rt, rt.alloc(), 2000, None));
     for s in 0..5 {
-        assert!(rt; holds_at(&rt, &s, part_has(rt.alloc(), &m, s)?));
+        let want = tall(&rt, rt.alloc(), 2000, Some(s));
+        assert!(rt; holds_at(&rt, &s, part_has(&rt, rt.alloc(), &m, (s, 5), &want)));
     }
-    Ok(())
 }
 
 // Whether a part is that of shard s of k.
-fn part_is(alloc: Global, m: &Hyper, s: u64, k: u64, part: &Hyper) -> Result<bool, AllocError> {
+fn part_is(rt: &impl Abort, alloc: Global, m: &Hyper, (s, k): (u64, u64), part: &Hyper) -> bool {
     if s >= k {
-        return Ok(false);
+        return false;
     }
-    let want = m.part(alloc, s, k)?.cells(alloc)?;
-    Ok(part.dims() == m.dims() && has(alloc, part, &want)?)
+    let alone = m.part(alloc, s, k).expect(rt, "memory");
+    let want = alone.cells(alloc).expect(rt, "memory");
+    part.dims() == m.dims() && has(rt, alloc, part, &want)
 }
 
 // Whether the parts of all shards of k are those that `part` gives one by one.
-fn parts_are(alloc: Global, m: &Hyper, k: u64, parts: &[Hyper]) -> Result<bool, AllocError> {
+fn parts_are(rt: &impl Abort, alloc: Global, m: &Hyper, k: u64, parts: &[Hyper]) -> bool {
     if parts.len() as u64 != k {
-        return Ok(false);
+        return false;
     }
     for (s, part) in parts.iter().enumerate() {
-        if !part_is(alloc, m, s as u64, k, part)? {
-            return Ok(false);
+        if !part_is(rt, alloc, m, (s as u64, k), part) {
+            return false;
         }
     }
-    Ok(true)
+    true
 }
 
 // The same, also where memory is refused: the matrix is as before then, and its parts come out the next time.
-fn all_parts(alloc: Global, m: &Hyper, list: &[Cell], k: u64) -> Result<bool, AllocError> {
+fn all_parts(rt: &impl Abort, alloc: Global, m: &Hyper, list: &[Cell], k: u64) -> bool {
     if k == 0 {
-        return Ok(false);
+        return false;
     }
     match m.parts(alloc, k) {
-        Ok(parts) => parts_are(alloc, m, k, &parts),
+        Ok(parts) => parts_are(rt, alloc, m, k, &parts),
         Err(_) => {
-            let parts = m.parts(alloc, k)?;
-            Ok(has(alloc, m, list)? && parts_are(alloc, m, k, &parts)?)
+            let parts = m.parts(alloc, k).expect(rt, "memory");
+            has(rt, alloc, m, list) && parts_are(rt, alloc, m, k, &parts)
         }
+    }
+}
+
+// A thousand cells, each in the row that many behind the one before.
+fn steps(rt: &impl Abort, alloc: Global, step: u64) -> Vec<Cell> {
+    let mut cells = Vec::new(alloc);
+    for n in 0..1000u64 {
+        cells
+            .push(cell((n.saturating_mul(step), n, 1)))
+            .expect(rt, "memory");
+    }
+    cells
+}
+
+fn expect_parts(rt: &(impl Abort + Eprint), alloc: Global, list: &[Cell]) {
+    let m = built(rt, alloc, SIDE, list);
+    for k in [1, 2, 3, 64] {
+        assert!(rt; holds_at(rt, &(k, list), all_parts(rt, alloc, &m, list, k)));
     }
 }
 
 // No cell, a few, a thousand in one row, and so many in every row and in every 64th.
-fn lists(alloc: Global) -> Result<Vec<Vec<Cell>>, AllocError> {
-    let mut lists = Vec::new(alloc);
-    lists.push(Vec::new(alloc))?;
-    lists.push(cells_of(alloc, ROWS)?)?;
-    lists.push(tall(alloc, 1000, None)?)?;
-    for step in [0, 1, 64] {
-        let mut cells = Vec::new(alloc);
-        for n in 0..1000u64 {
-            cells.push(cell((n.saturating_mul(step), n, 1)))?;
-        }
-        lists.push(cells)?;
-    }
-    Ok(lists)
-}
-
 #[test]
-fn parts_of_all_shards(rt: HostRuntime) -> Result<(), Fail> {
-    for list in &lists(rt.alloc())? {
-        let m = built(rt.alloc(), SIDE, list)?;
-        for k in [1, 2, 3, 64] {
-            assert!(rt; holds_at(&rt, &(k, list), all_parts(rt.alloc(), &m, list, k)?));
-        }
+fn parts_of_all_shards(rt: HostRuntime) {
+    expect_parts(&rt, rt.alloc(), &[]);
+    expect_parts(&rt, rt.alloc(), &cells_of(&rt, rt.alloc(), ROWS));
+    expect_parts(&rt, rt.alloc(), &tall(&rt, rt.alloc(), 1000, None));
+    for step in [0, 1, 64] {
+        expect_parts(&rt, rt.alloc(), &steps(&rt, rt.alloc(), step));
     }
-    Ok(())
 }

@@ -3,9 +3,9 @@
 //! No block, one and many; a row of many blocks; blocks that share a place or none; lists that name a place many times.
 use crate::matrices::{SIDE, adds_up, built, cell, has};
 use cells::Cell;
-use std::alloc::{AllocError, Global};
+use std::alloc::Global;
 use std::collections::BTreeMap;
-use std::test::Fail;
+use std::process::Abort;
 use test_support::holds_at;
 
 /// How many cells a list has, and in how many rows and columns they are scattered.
@@ -31,80 +31,76 @@ fn next_random(state: &mut u64) -> u64 {
     *state >> 32
 }
 
-fn scattered(alloc: Global, shape: Shape, seed: u64) -> Result<Vec<Cell>, AllocError> {
+fn scattered(rt: &impl Abort, alloc: Global, shape: Shape, seed: u64) -> Vec<Cell> {
     let (n, rows, cols) = shape;
     let mut state = seed;
     let mut cells = Vec::new(alloc);
     for k in 0..n {
         let row = next_random(&mut state).checked_rem(rows).unwrap_or(0);
         let col = next_random(&mut state).checked_rem(cols).unwrap_or(0);
-        cells.push(cell((row, col, k % 5)))?;
+        cells.push(cell((row, col, k % 5))).expect(rt, "memory");
     }
-    Ok(cells)
+    cells
 }
 
 type Plain = BTreeMap<(u64, u64), u64>;
 
-fn add(map: &mut Plain, cell: Cell) -> Result<(), AllocError> {
-    let place = (cell.row, cell.col);
-    let count = map.get(&place).copied().unwrap_or(0);
-    map.insert(place, count.saturating_add(cell.count))?;
-    Ok(())
-}
-
-fn add_all(map: &mut Plain, cells: &[Cell]) -> Result<(), AllocError> {
+fn add_all(rt: &impl Abort, map: &mut Plain, cells: &[Cell]) {
     for cell in cells {
-        add(map, *cell)?;
+        let place = (cell.row, cell.col);
+        let count = map.get(&place).copied().unwrap_or(0);
+        let put: Result<_, _> = map.insert(place, count.saturating_add(cell.count));
+        put.expect(rt, "memory");
     }
-    Ok(())
-}
-
-fn cells_of_map(alloc: Global, map: &Plain) -> Result<Vec<Cell>, AllocError> {
-    let mut cells = Vec::new(alloc);
-    for (place, count) in map {
-        cells.push(cell((place.0, place.1, *count)))?;
-    }
-    Ok(cells)
 }
 
 // The cells of two lists' sum, by a plain map.
-fn plain_sum(alloc: Global, xs: &[Cell], ys: &[Cell]) -> Result<Vec<Cell>, AllocError> {
+fn plain_sum(rt: &impl Abort, alloc: Global, xs: &[Cell], ys: &[Cell]) -> Vec<Cell> {
     let mut map = BTreeMap::new(alloc);
-    add_all(&mut map, xs)?;
-    add_all(&mut map, ys)?;
-    cells_of_map(alloc, &map)
-}
-
-fn builds_as_a_map(alloc: Global, shape: Shape) -> Result<bool, AllocError> {
-    let cells = scattered(alloc, shape, 1)?;
-    let want = plain_sum(alloc, &cells, &[])?;
-    let m = built(alloc, SIDE, &cells)?;
-    has(alloc, &m, &want)
-}
-
-fn adds_as_maps(alloc: Global, left: Shape, right: Shape) -> Result<bool, AllocError> {
-    let xs = scattered(alloc, left, 2)?;
-    let ys = scattered(alloc, right, 3)?;
-    let want = plain_sum(alloc, &xs, &ys)?;
-    let a = built(alloc, SIDE, &xs)?;
-    let b = built(alloc, SIDE, &ys)?;
-    adds_up(alloc, a, b, &want)
-}
-
-#[test]
-fn lists(rt: HostRuntime) -> Result<(), Fail> {
-    for shape in SHAPES {
-        assert!(rt; holds_at(&rt, &shape, builds_as_a_map(rt.alloc(), shape)?));
+    add_all(rt, &mut map, xs);
+    add_all(rt, &mut map, ys);
+    let mut cells = Vec::new(alloc);
+    for (place, count) in &map {
+        cells
+            .push(cell((place.0, place.1, *count)))
+            .expect(rt, "memory");
     }
-    Ok(())
+    cells
+}
+
+fn builds_as_a_map(rt: &impl Abort, alloc: Global, shape: Shape) -> bool {
+    let cells = scattered(rt, alloc, shape, 1);
+    let want = plain_sum(rt, alloc, &cells, &[]);
+    has(rt, alloc, &built(rt, alloc, SIDE, &cells), &want)
+}
+
+fn adds_as_maps(rt: &impl Abort, alloc: Global, left: Shape, right: Shape) -> bool {
+    let xs = scattered(rt, alloc, left, 2);
+    let ys = scattered(rt, alloc, right, 3);
+    let want = plain_sum(rt, alloc, &xs, &ys);
+    let a = built(rt, alloc, SIDE, &xs);
+    let b = built(rt, alloc, SIDE, &ys);
+    adds_up(rt, alloc, a, b, &want)
 }
 
 #[test]
-fn pairs(rt: HostRuntime) -> Result<(), Fail> {
+fn lists(rt: HostRuntime) {
+    for shape in SHAPES {
+        assert!(rt; holds_at(&rt, &shape, builds_as_a_map(&rt, rt.alloc(), shape)));
+    }
+}
+
+#[test]
+fn pairs(rt: HostRuntime) {
     for left in SHAPES {
         for right in SHAPES {
-            assert!(rt; holds_at(&rt, &(left, right), adds_as_maps(rt.alloc(), left, right)?));
+            assert!(rt;
+                holds_at(
+                    &rt,
+                    &(left, right),
+                    adds_as_maps(&rt, rt.alloc(), left, right)
+                )
+            );
         }
     }
-    Ok(())
 }

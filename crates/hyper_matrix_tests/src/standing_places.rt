@@ -1,19 +1,19 @@
 //! Sums in which all places of one matrix stand in the other: long rows and short ones, in blocks that are shared and
 //! in blocks that aren't.
-use crate::matrices::{Triple, adds_up, built_grid, grid};
-use std::alloc::{AllocError, Global};
-use std::test::Fail;
+use crate::matrices::{SIDE, Triple, adds_up, built, grid};
+use std::alloc::Global;
+use std::process::Abort;
 use test_support::holds_at;
 
-fn adds_to_standing(alloc: Global, shape: Triple) -> Result<bool, AllocError> {
-    let a = built_grid(alloc, shape, 1, 1)?;
-    let b = built_grid(alloc, shape, 2, 0)?;
-    let want = grid(alloc, shape, 3, 1)?;
-    adds_up(alloc, a, b, &want)
+fn adds_to_standing(rt: &impl Abort, alloc: Global, shape: Triple) -> bool {
+    let a = built(rt, alloc, SIDE, &grid(rt, alloc, shape, 1, 1));
+    let b = built(rt, alloc, SIDE, &grid(rt, alloc, shape, 2, 0));
+    let want = grid(rt, alloc, shape, 3, 1);
+    adds_up(rt, alloc, a, b, &want)
 }
 
 #[test]
-fn standing_places(rt: HostRuntime) -> Result<(), Fail> {
+fn standing_places(rt: HostRuntime) {
     for shape in [
         (3, 2, 1),
         (600, 1, 1),
@@ -21,7 +21,6 @@ fn standing_places(rt: HostRuntime) -> Result<(), Fail> {
         (600, 10, 4),
         (600, 10, 97),
     ] {
-        assert!(rt; holds_at(&rt, &shape, adds_to_standing(rt.alloc(), shape)?));
+        assert!(rt; holds_at(&rt, &shape, adds_to_standing(&rt, rt.alloc(), shape)));
     }
-    Ok(())
 }

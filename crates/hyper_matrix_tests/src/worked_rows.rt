@@ -3,9 +3,9 @@ ghost use Rattle.cells.specs.Bounds.{IsDimension};
 
 use crate::matrices::{Triple, adds_up, built, cell, cells_of, has, small};
 use hyper_matrix::{BuildFault, Hyper};
-use std::alloc::{AllocError, Global};
-use std::test::Fail;
-use test_support::holds_at;
+use std::alloc::Global;
+use std::process::Abort;
+use test_support::{holds_at, same_at};
 
 const HALF: u64 = 1 << 63;
 
@@ -48,68 +48,67 @@ static REFUSED: &[(&[Triple], BuildFault)] = &[
 ];
 
 // Whether a list makes the matrix of these cells, lent and given away.
-fn builds(alloc: Global, list: &[Triple], want: &[Triple]) -> Result<bool, AllocError> {
-    let m = small(alloc, list)?;
-    let want = cells_of(alloc, want)?;
-    let given = match Hyper::build_list(alloc, 3, 3, cells_of(alloc, list)?) {
-        Ok(given) => given,
-        Err(_) => return Ok(false),
-    };
-    let same = given.dims() == (3, 3) && has(alloc, &given, &want)?;
-    Ok(same && m.dims() == (3, 3) && has(alloc, &m, &want)?)
+fn builds(rt: &impl Abort, alloc: Global, list: &[Triple], want: &[Triple]) -> bool {
+    let want = cells_of(rt, alloc, want);
+    let lent = small(rt, alloc, list);
+    let given = Hyper::build_list(alloc, 3, 3, cells_of(rt, alloc, list)).expect(rt, "a matrix");
+    let same = lent.dims() == (3, 3) && given.dims() == (3, 3);
+    same && has(rt, alloc, &lent, &want) && has(rt, alloc, &given, &want)
 }
 
-fn sums(alloc: Global, xs: &[Triple], ys: &[Triple], want: &[Triple]) -> Result<bool, AllocError> {
-    let a = small(alloc, xs)?;
-    let b = small(alloc, ys)?;
-    let want = cells_of(alloc, want)?;
-    adds_up(alloc, a, b, &want)
+fn sums(rt: &impl Abort, alloc: Global, xs: &[Triple], ys: &[Triple], want: &[Triple]) -> bool {
+    let a = small(rt, alloc, xs);
+    let b = small(rt, alloc, ys);
+    adds_up(rt, alloc, a, b, &cells_of(rt, alloc, want))
 }
 
-fn is_refused(alloc: Global, list: &[Triple], want: BuildFault) -> Result<bool, AllocError> {
-    let list = cells_of(alloc, list)?;
+// The faults of a list, lent and given away.
+fn faults(rt: &impl Abort, alloc: Global, list: &[Triple]) -> [Option<BuildFault>; 2] {
+    let list = cells_of(rt, alloc, list);
     let lent = Hyper::build(alloc, 3, 3, &list).err();
-    let given = Hyper::build_list(alloc, 3, 3, list).err();
-    Ok(lent == Some(want) && given == Some(want))
+    [lent, Hyper::build_list(alloc, 3, 3, list).err()]
 }
 
 #[test]
-fn lists(rt: HostRuntime) -> Result<(), Fail> {
+fn lists(rt: HostRuntime) {
     for (list, want) in BUILT {
-        assert!(rt; holds_at(&rt, &list, builds(rt.alloc(), list, want)?));
+        assert!(rt; holds_at(&rt, &list, builds(&rt, rt.alloc(), list, want)));
     }
-    Ok(())
 }
 
 #[test]
-fn pairs(rt: HostRuntime) -> Result<(), Fail> {
+fn pairs(rt: HostRuntime) {
     for (xs, ys, want) in SUMS {
-        assert!(rt; holds_at(&rt, &(xs, ys), sums(rt.alloc(), xs, ys, want)?));
+        assert!(rt; holds_at(&rt, &(xs, ys), sums(&rt, rt.alloc(), xs, ys, want)));
     }
-    Ok(())
 }
 
 #[test]
-fn refusals(rt: HostRuntime) -> Result<(), Fail> {
+fn refusals(rt: HostRuntime) {
     for (list, want) in REFUSED {
-        assert!(rt; holds_at(&rt, &list, is_refused(rt.alloc(), list, *want)?));
+        assert!(rt;
+            same_at(
+                &rt,
+                &list,
+                &faults(&rt, rt.alloc(), list),
+                &[Some(*want); 2]
+            )
+        );
     }
-    Ok(())
 }
 
-fn reaches(alloc: Global, side: u64) -> Result<bool, AllocError>
+fn reaches(rt: &impl Abort, alloc: Global, side: u64) -> bool
     requires { IsDimension side }
 {
     let corner = [cell((side - 1, side - 1, u64::MAX))];
-    let m = built(alloc, side, &corner)?;
-    Ok(m.dims() == (side, side) && has(alloc, &m, &corner)?)
+    let m = built(rt, alloc, side, &corner);
+    m.dims() == (side, side) && has(rt, alloc, &m, &corner)
 }
 
 #[test]
-fn greatest_dimensions(rt: HostRuntime) -> Result<(), Fail> {
-    assert!(rt; reaches(rt.alloc(), 1)?);
-    assert!(rt; reaches(rt.alloc(), 1 << 60)?);
+fn greatest_dimensions(rt: HostRuntime) {
+    assert!(rt; reaches(&rt, rt.alloc(), 1));
+    assert!(rt; reaches(&rt, rt.alloc(), 1 << 60));
     let empty = Hyper::new(rt.alloc(), 1 << 60, 1);
-    assert!(rt; has(rt.alloc(), &empty, &[])? && empty.dims() == (1 << 60, 1));
-    Ok(())
+    assert!(rt; has(&rt, rt.alloc(), &empty, &[]) && empty.dims() == (1 << 60, 1));
 }
