@@ -3,20 +3,20 @@ use crate::cases::WIDE;
 use byte_io::{Script, Source};
 use byte_io_tests::pieces;
 use mm_text::{Cell, Size, TextReader};
-use std::alloc::{AllocError, Global};
+use std::alloc::Global;
 use std::process::Abort;
-use std::test::Fail;
+use test_support::same;
 
 const ENTRIES: u64 = 10_000;
 
 /// A symmetric text.
-fn text(alloc: Global) -> Result<Vec<u8>, AllocError> {
+fn text(rt: &impl Abort, alloc: Global) -> Vec<u8> {
     let head = "%%MatrixMarket matrix coordinate integer symmetric\n9 9 10000\n";
-    let mut text = head.as_bytes().to_vec(alloc)?;
+    let mut text = head.as_bytes().to_vec(alloc).expect(rt, "memory");
     for _ in 0..ENTRIES {
-        text.extend_from_slice(b"9 1 3\n")?;
+        text.extend_from_slice(b"9 1 3\n").expect(rt, "memory");
     }
-    Ok(text)
+    text
 }
 
 /// Reads the next block, and tells whether it is not the last.
@@ -27,7 +27,7 @@ fn read_next(
     block: &mut Vec<Cell>,
 ) -> bool {
     block.clear();
-    assert_eq!(rt; source.failures(), 0);
+    assert!(rt; source.failures() == 0);
     let more = reader.read_block(source, block, 4095);
     assert!(rt; more.is_ok());
     more == Ok(true)
@@ -48,17 +48,17 @@ fn count_blocks(
         if !more {
             break;
         }
-        assert_eq!(rt; block.len(), 4094);
+        assert!(rt; block.len() == 4094);
     }
     cells
 }
 
 /// Reads the text.
-fn count_cells(rt: &impl Abort, alloc: Global, reader: &mut TextReader) -> Result<u64, AllocError> {
-    let text = text(alloc)?;
-    let mut source = Script::new(alloc, pieces(alloc, text.as_slice(), 6)?, None, None);
-    let mut block = Vec::with_capacity(alloc, 4095)?;
-    Ok(count_blocks(rt, &mut source, reader, &mut block))
+fn count_cells(rt: &impl Abort, alloc: Global, reader: &mut TextReader) -> u64 {
+    let pieces = pieces(alloc, &text(rt, alloc), 6).expect(rt, "memory");
+    let mut source = Script::new(alloc, pieces, None, None);
+    let mut block = Vec::with_capacity(alloc, 4095).expect(rt, "memory");
+    count_blocks(rt, &mut source, reader, &mut block)
 }
 
 /// Whether it is the size of the text.
@@ -70,11 +70,10 @@ fn is_declared(size: Option<Size>) -> bool {
 }
 
 #[test]
-fn blocks(rt: HostRuntime) -> Result<(), Fail> {
-    let mut reader = TextReader::new(rt.alloc(), WIDE)?;
+fn blocks(rt: HostRuntime) {
+    let mut reader = TextReader::new(rt.alloc(), WIDE).expect(&rt, "memory");
     assert!(rt; reader.size().is_none());
-    let cells = count_cells(&rt, rt.alloc(), &mut reader)?;
-    assert_eq!(rt; cells, 2 * ENTRIES);
+    let cells = count_cells(&rt, rt.alloc(), &mut reader);
+    assert!(rt; same(&rt, &cells, &(2 * ENTRIES)));
     assert!(rt; is_declared(reader.size()));
-    Ok(())
 }

@@ -2,7 +2,9 @@
 use byte_io_tests::{halves, pieces};
 use mm_text::{Cell, MmFault, MmFile, MmKind, Script, TextLimits, read_matrix};
 use std::alloc::{AllocError, Global};
+use std::io::Eprint;
 use std::process::Abort;
+use test_support::holds_at;
 
 pub const GENERAL: &str = "%%MatrixMarket matrix coordinate integer general\n";
 
@@ -80,92 +82,77 @@ pub struct Case<'a> {
 impl<'a> Case<'a> {
     /// The text of three parts, within wide limits. The second names it.
     pub fn new(
+        rt: &impl Abort,
         alloc: Global,
         front: &str,
         name: &'a str,
         end: &str,
         expected: Expected,
-    ) -> Result<Case<'a>, AllocError> {
-        Case::of_parts(alloc, name, front, &[(name, 1), (end, 1)], expected)
+    ) -> Case<'a> {
+        Case::of_parts(rt, alloc, name, front, &[(name, 1), (end, 1)], expected)
     }
 
     /// The text of these parts behind a front, within wide limits.
     pub fn of_parts(
+        rt: &impl Abort,
         alloc: Global,
         name: &'a str,
         front: &str,
         parts: &[(&str, usize)],
         expected: Expected,
-    ) -> Result<Case<'a>, AllocError> {
-        Ok(Case {
+    ) -> Case<'a> {
+        Case {
             name,
-            text: joined(alloc, front, parts)?,
+            text: joined(rt, alloc, front, parts),
             limits: WIDE,
             expected,
-        })
+        }
     }
 
     /// Reads the text in each way: whole, byte by byte, and in two pieces, cut at each place.
-    pub fn check(&self, rt: &impl Abort, alloc: Global) -> Result<(), AllocError> {
-        self.check_cut(rt, alloc, Cut::Nowhere)?;
-        self.check_cut(rt, alloc, Cut::Everywhere)?;
+    pub fn check(&self, rt: &(impl Abort + Eprint), alloc: Global) {
+        self.check_cut(rt, alloc, Cut::Nowhere);
+        self.check_cut(rt, alloc, Cut::Everywhere);
         for place in 0..=self.text.len() {
-            self.check_cut(rt, alloc, Cut::At(place))?;
+            self.check_cut(rt, alloc, Cut::At(place));
         }
-        Ok(())
     }
 
     /// Reads the text in these pieces, with no more reads than the limits allow.
-    pub fn check_cut(&self, rt: &impl Abort, alloc: Global, cut: Cut) -> Result<(), AllocError> {
+    pub fn check_cut(&self, rt: &(impl Abort + Eprint), alloc: Global, cut: Cut) {
         let most_reads = self.limits.max_bytes.checked_add(2);
-        let answer = self.read(rt, alloc, cut, most_reads)?;
-        assert!(rt;
-            self.expected.is_met_by(&answer),
-            "{:?} within {:?}, {cut:?}: not {:?}",
-            self.name,
-            self.limits,
-            self.expected
-        );
-        Ok(())
+        let is_met = self
+            .expected
+            .is_met_by(&self.read(rt, alloc, cut, most_reads));
+        assert!(rt; holds_at(rt, &(self.name, self.limits, cut, self.expected), is_met));
     }
 
     /// Lets each read fail in turn, of single bytes and of two pieces. The answer shows in byte `shown`, counted from
     /// 1, where the text's end is one byte more: whatever fails before it is `Read`. Each piece has to fit in one read.
-    pub fn check_failing_reads(
-        &self,
-        rt: &impl Abort,
-        alloc: Global,
-        shown: usize,
-    ) -> Result<(), AllocError> {
+    pub fn check_failing_reads(&self, rt: &(impl Abort + Eprint), alloc: Global, shown: usize) {
         let len = self.text.len();
         let at_end = self.expected_behind(len, shown);
         for given in 0..=shown {
             let expected = self.expected_behind(given, shown);
-            self.check_failing_read(rt, alloc, Cut::Everywhere, given, expected)?;
+            self.check_failing_read(rt, alloc, Cut::Everywhere, given, expected);
             if 0 < given && given < len {
-                self.check_failing_read(rt, alloc, Cut::At(given), 1, expected)?;
-                self.check_failing_read(rt, alloc, Cut::At(given), 2, at_end)?;
+                self.check_failing_read(rt, alloc, Cut::At(given), 1, expected);
+                self.check_failing_read(rt, alloc, Cut::At(given), 2, at_end);
             }
         }
-        Ok(())
     }
 
     /// Lets the read of this number fail, counted from 0.
     fn check_failing_read(
         &self,
-        rt: &impl Abort,
+        rt: &(impl Abort + Eprint),
         alloc: Global,
         cut: Cut,
         number: usize,
         expected: Expected,
-    ) -> Result<(), AllocError> {
-        let answer = self.read(rt, alloc, cut, Some(number as u64))?;
-        assert!(rt;
-            expected.is_met_by(&answer),
-            "{:?}, {cut:?}, read {number} fails: not {expected:?}",
-            self.name
-        );
-        Ok(())
+    ) {
+        let is_met = expected.is_met_by(&self.read(rt, alloc, cut, Some(number as u64)));
+        assert!(rt; holds_at(rt, &(self.name, cut, number, expected), is_met));
     }
 
     /// What a source must give that fails behind so many bytes.
@@ -185,11 +172,11 @@ impl<'a> Case<'a> {
         alloc: Global,
         cut: Cut,
         fail_read: Option<u64>,
-    ) -> Result<Result<MmFile, MmFault>, AllocError> {
+    ) -> Result<MmFile, MmFault> {
         assert!(rt; self.limits.max_bytes <= 1 << 63);
-        let pieces = cut.pieces(alloc, self.text.as_slice())?;
+        let pieces = cut.pieces(alloc, self.text.as_slice()).expect(rt, "memory");
         let mut source = Script::new(alloc, pieces, fail_read, None);
-        Ok(read_matrix(alloc, &mut source, self.limits))
+        read_matrix(alloc, &mut source, self.limits)
     }
 }
 
@@ -197,40 +184,38 @@ impl<'a> Case<'a> {
 pub type Parts = &'static [(&'static str, usize)];
 
 /// The text of these parts, behind a front.
-fn joined(alloc: Global, front: &str, parts: &[(&str, usize)]) -> Result<Vec<u8>, AllocError> {
-    let mut text = front.as_bytes().to_vec(alloc)?;
+fn joined(rt: &impl Abort, alloc: Global, front: &str, parts: &[(&str, usize)]) -> Vec<u8> {
+    let mut text = front.as_bytes().to_vec(alloc).expect(rt, "memory");
     for (part, count) in parts {
         for _ in 0..*count {
-            text.extend_from_slice(part.as_bytes())?;
+            text.extend_from_slice(part.as_bytes()).expect(rt, "memory");
         }
     }
-    Ok(text)
+    text
 }
 
 /// Checks each text of a table, behind a front that all have.
 pub fn check_all(
-    rt: &impl Abort,
+    rt: &(impl Abort + Eprint),
     alloc: Global,
     front: &str,
     table: &[(&str, Expected)],
-) -> Result<(), AllocError> {
+) {
     for (rest, expected) in table {
-        Case::new(alloc, front, rest, "", *expected)?.check(rt, alloc)?;
+        Case::new(rt, alloc, front, rest, "", *expected).check(rt, alloc);
     }
-    Ok(())
 }
 
 /// Checks the text with each of the ends behind its last line.
 pub fn check_line(
-    rt: &impl Abort,
+    rt: &(impl Abort + Eprint),
     alloc: Global,
     front: &str,
     line: &str,
     ends: &[&str],
     expected: Expected,
-) -> Result<(), AllocError> {
+) {
     for end in ends {
-        Case::new(alloc, front, line, end, expected)?.check(rt, alloc)?;
+        Case::new(rt, alloc, front, line, end, expected).check(rt, alloc);
     }
-    Ok(())
 }

@@ -8,7 +8,6 @@ use mm_text::MmKind::{
     BadBanner, BadEntry, BadSize, ExtraText, IndexOutOfRange, Negative, NumberTooLarge,
     TooFewEntries,
 };
-use std::test::Fail;
 
 /// The one entry line of a matrix of three rows and four columns.
 static FAULTY: &[(&str, MmKind)] = &[
@@ -240,7 +239,7 @@ static BYTES: &[(&[u8], Expected)] = &[
 const ONE_ENTRY: &str = "%%MatrixMarket matrix coordinate integer general\n3 4 1\n";
 
 #[test]
-fn faulty_entries(rt: HostRuntime) -> Result<(), Fail> {
+fn faulty_entries(rt: HostRuntime) {
     for (line, kind) in FAULTY {
         check_line(
             &rt,
@@ -249,30 +248,27 @@ fn faulty_entries(rt: HostRuntime) -> Result<(), Fail> {
             line,
             &FAULTY_LINE_ENDS,
             Fault(*kind, 3),
-        )?;
+        );
     }
-    Ok(())
 }
 
 #[test]
-fn entries(rt: HostRuntime) -> Result<(), Fail> {
+fn entries(rt: HostRuntime) {
     for (line, expected) in GOOD {
-        check_line(&rt, rt.alloc(), ONE_ENTRY, line, &LAST_LINE_ENDS, *expected)?;
+        check_line(&rt, rt.alloc(), ONE_ENTRY, line, &LAST_LINE_ENDS, *expected);
     }
-    check_all(&rt, rt.alloc(), GENERAL, TEXTS)?;
-    Ok(())
+    check_all(&rt, rt.alloc(), GENERAL, TEXTS);
 }
 
 #[test]
-fn bytes_in_no_text(rt: HostRuntime) -> Result<(), Fail> {
+fn bytes_in_no_text(rt: HostRuntime) {
     for (text, expected) in BYTES {
         let case = Case {
             name: "bytes above 127",
-            text: text.to_vec(rt.alloc())?,
+            text: text.to_vec(rt.alloc()).expect(&rt, "memory"),
             limits: WIDE,
             expected: *expected,
         };
-        case.check(&rt, rt.alloc())?;
+        case.check(&rt, rt.alloc());
     }
-    Ok(())
 }

@@ -5,7 +5,6 @@ use mm_text::MmKind::{
     BadBanner, BadSize, ExtraText, IndexOutOfRange, LineTooLong, NumberTooLarge, TooFewEntries,
     TooLong,
 };
-use std::test::Fail;
 
 /// A banner line, which may be none, what stands behind it, and the byte at which the answer shows. The end of a text
 /// counts as one byte more.
@@ -56,20 +55,18 @@ static LONG_TEXTS: &[(&str, Parts, u64, usize, Expected)] = &[
 ];
 
 #[test]
-fn failing_reads(rt: HostRuntime) -> Result<(), Fail> {
+fn failing_reads(rt: HostRuntime) {
     for (banner, rest, shown, expected) in TEXTS {
-        let case = Case::new(rt.alloc(), banner, rest, "", *expected)?;
-        case.check_failing_reads(&rt, rt.alloc(), *shown)?;
+        let case = Case::new(&rt, rt.alloc(), banner, rest, "", *expected);
+        case.check_failing_reads(&rt, rt.alloc(), *shown);
     }
-    Ok(())
 }
 
 #[test]
-fn failing_reads_of_long_texts(rt: HostRuntime) -> Result<(), Fail> {
+fn failing_reads_of_long_texts(rt: HostRuntime) {
     for (banner, parts, max_bytes, shown, expected) in LONG_TEXTS {
-        let mut case = Case::of_parts(rt.alloc(), "a long text", banner, parts, *expected)?;
+        let mut case = Case::of_parts(&rt, rt.alloc(), "a long text", banner, parts, *expected);
         case.limits.max_bytes = *max_bytes;
-        case.check_failing_reads(&rt, rt.alloc(), *shown)?;
+        case.check_failing_reads(&rt, rt.alloc(), *shown);
     }
-    Ok(())
 }

@@ -5,9 +5,9 @@ use mm_text::MmKind::{
     BadBanner, BadSize, ExtraText, IndexOutOfRange, LineTooLong, NotSquare, NumberTooLarge,
     TooFewEntries, TooLong, TooManyEntries,
 };
-use std::alloc::{AllocError, Global};
+use std::alloc::Global;
+use std::io::Eprint;
 use std::process::Abort;
-use std::test::Fail;
 
 /// What reading a text gives for each number of bytes that it may have at most.
 type Limited = &'static [(u64, Expected)];
@@ -206,57 +206,52 @@ static SYMMETRIC_ENTRIES: &[(&str, u64, Expected)] = &[
 ];
 
 fn check_max_bytes(
-    rt: &impl Abort,
+    rt: &(impl Abort + Eprint),
     alloc: Global,
     front: &str,
     parts: Parts,
     limited: Limited,
-) -> Result<(), AllocError> {
+) {
     for (max_bytes, expected) in limited {
-        let mut case = Case::of_parts(alloc, "a text", front, parts, *expected)?;
+        let mut case = Case::of_parts(rt, alloc, "a text", front, parts, *expected);
         case.limits.max_bytes = *max_bytes;
-        case.check(rt, alloc)?;
+        case.check(rt, alloc);
     }
-    Ok(())
 }
 
 /// Checks the texts of a table, behind a front that all have.
 fn check_all_max_bytes(
-    rt: &impl Abort,
+    rt: &(impl Abort + Eprint),
     alloc: Global,
     front: &str,
     table: &[(Parts, Limited)],
-) -> Result<(), AllocError> {
+) {
     for (parts, limited) in table {
-        check_max_bytes(rt, alloc, front, parts, limited)?;
+        check_max_bytes(rt, alloc, front, parts, limited);
     }
-    Ok(())
 }
 
 fn check_max_entries(
-    rt: &impl Abort,
+    rt: &(impl Abort + Eprint),
     alloc: Global,
     front: &str,
     table: &[(&str, u64, Expected)],
-) -> Result<(), AllocError> {
+) {
     for (rest, max_entries, expected) in table {
-        let mut case = Case::new(alloc, front, rest, "", *expected)?;
+        let mut case = Case::new(rt, alloc, front, rest, "", *expected);
         case.limits.max_entries = *max_entries;
-        case.check(rt, alloc)?;
+        case.check(rt, alloc);
     }
-    Ok(())
 }
 
 #[test]
-fn most_bytes(rt: HostRuntime) -> Result<(), Fail> {
-    check_all_max_bytes(&rt, rt.alloc(), "", SHORT)?;
-    check_all_max_bytes(&rt, rt.alloc(), GENERAL, BEHIND_BANNER)?;
-    Ok(())
+fn most_bytes(rt: HostRuntime) {
+    check_all_max_bytes(&rt, rt.alloc(), "", SHORT);
+    check_all_max_bytes(&rt, rt.alloc(), GENERAL, BEHIND_BANNER);
 }
 
 #[test]
-fn most_entries(rt: HostRuntime) -> Result<(), Fail> {
-    check_max_entries(&rt, rt.alloc(), GENERAL, GENERAL_ENTRIES)?;
-    check_max_entries(&rt, rt.alloc(), SYMMETRIC, SYMMETRIC_ENTRIES)?;
-    Ok(())
+fn most_entries(rt: HostRuntime) {
+    check_max_entries(&rt, rt.alloc(), GENERAL, GENERAL_ENTRIES);
+    check_max_entries(&rt, rt.alloc(), SYMMETRIC, SYMMETRIC_ENTRIES);
 }

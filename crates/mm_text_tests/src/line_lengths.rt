@@ -2,9 +2,9 @@
 use crate::cases::Expected::{Fault, File};
 use crate::cases::{Case, Expected, GENERAL, Parts};
 use mm_text::MmKind::{BadBanner, BadEntry, BadSize, ExtraText, LineTooLong};
-use std::alloc::{AllocError, Global};
+use std::alloc::Global;
+use std::io::Eprint;
 use std::process::Abort;
-use std::test::Fail;
 
 /// The banner line without its LF: 48 bytes.
 const BANNER: &str = "%%MatrixMarket matrix coordinate integer general";
@@ -274,31 +274,27 @@ static WORDS: &[(&str, Parts, Expected)] = &[
 
 /// Checks each text of a table, behind a front that all have.
 fn check_parts(
-    rt: &impl Abort,
+    rt: &(impl Abort + Eprint),
     alloc: Global,
     front: &str,
     table: &[(&str, Parts, Expected)],
-) -> Result<(), AllocError> {
+) {
     for (name, parts, expected) in table {
-        Case::of_parts(alloc, name, front, parts, *expected)?.check(rt, alloc)?;
+        Case::of_parts(rt, alloc, name, front, parts, *expected).check(rt, alloc);
     }
-    Ok(())
 }
 
 #[test]
-fn long_banners(rt: HostRuntime) -> Result<(), Fail> {
-    check_parts(&rt, rt.alloc(), "", BANNERS)?;
-    Ok(())
+fn long_banners(rt: HostRuntime) {
+    check_parts(&rt, rt.alloc(), "", BANNERS);
 }
 
 #[test]
-fn long_skipped_lines(rt: HostRuntime) -> Result<(), Fail> {
-    check_parts(&rt, rt.alloc(), GENERAL, SKIPPED)?;
-    Ok(())
+fn long_skipped_lines(rt: HostRuntime) {
+    check_parts(&rt, rt.alloc(), GENERAL, SKIPPED);
 }
 
 #[test]
-fn long_lines_of_words(rt: HostRuntime) -> Result<(), Fail> {
-    check_parts(&rt, rt.alloc(), GENERAL, WORDS)?;
-    Ok(())
+fn long_lines_of_words(rt: HostRuntime) {
+    check_parts(&rt, rt.alloc(), GENERAL, WORDS);
 }

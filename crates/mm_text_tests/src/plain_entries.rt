@@ -2,7 +2,6 @@
 use crate::cases::Expected::{Fault, File};
 use crate::cases::{Expected, GENERAL, check_all};
 use mm_text::MmKind::{BadEntry, IndexOutOfRange, Negative};
-use std::test::Fail;
 
 const LARGEST: u64 = 1_152_921_504_606_846_976;
 
@@ -85,10 +84,9 @@ static ENTRIES: &[(&str, Expected)] = &[
 const HEAD: &str = "3 1152921504606846976 1\n";
 
 #[test]
-fn plain_entries(rt: HostRuntime) -> Result<(), Fail> {
+fn plain_entries(rt: HostRuntime) {
     let mut front = String::new(rt.alloc());
-    front.push_str(GENERAL)?;
-    front.push_str(HEAD)?;
-    check_all(&rt, rt.alloc(), front.as_str(), ENTRIES)?;
-    Ok(())
+    front.push_str(GENERAL).expect(&rt, "memory");
+    front.push_str(HEAD).expect(&rt, "memory");
+    check_all(&rt, rt.alloc(), front.as_str(), ENTRIES);
 }
