@@ -2,7 +2,8 @@
 use cells::Cell;
 use hyper_matrix::Hyper;
 use merged_cells::{MergedCells, Sources};
-use std::alloc::{AllocError, Global};
+use std::alloc::Global;
+use std::process::Abort;
 
 /// Row, column and count.
 pub type Entry = (u64, u64, u64);
@@ -10,42 +11,38 @@ pub type Entry = (u64, u64, u64);
 /// How many rows and columns each matrix has.
 pub const SIDE: u64 = 1 << 60;
 
-pub fn cells_of(alloc: Global, entries: &[Entry]) -> Result<Vec<Cell>, AllocError> {
+pub fn cells_of(rt: &impl Abort, alloc: Global, entries: &[Entry]) -> Vec<Cell> {
     let mut cells = Vec::new(alloc);
     for (row, col, count) in entries.iter().copied() {
-        cells.push(Cell { row, col, count })?;
+        cells.push(Cell { row, col, count }).expect(rt, "memory");
     }
-    Ok(cells)
+    cells
 }
 
-pub fn matrix(alloc: Global, entries: &[Entry]) -> Result<Hyper, AllocError> {
-    let cells = cells_of(alloc, entries)?;
-    match Hyper::build(alloc, SIDE, SIDE, &cells) {
-        Ok(m) => Ok(m),
-        Err(_) => Err(AllocError),
-    }
+pub fn matrix(rt: &impl Abort, alloc: Global, entries: &[Entry]) -> Hyper {
+    Hyper::build(alloc, SIDE, SIDE, &cells_of(rt, alloc, entries)).expect(rt, "a matrix")
 }
 
-pub fn matrices(alloc: Global, lists: &[&[Entry]]) -> Result<Vec<Hyper>, AllocError> {
+pub fn matrices(rt: &impl Abort, alloc: Global, lists: &[&[Entry]]) -> Vec<Hyper> {
     let mut all = Vec::new(alloc);
     for list in lists {
-        all.push(matrix(alloc, list)?)?;
+        all.push(matrix(rt, alloc, list)).expect(rt, "memory");
     }
-    Ok(all)
+    all
 }
 
-pub fn merged(alloc: Global, matrices: &[Hyper]) -> Result<MergedCells<'_>, AllocError> {
+pub fn merged<'a>(rt: &impl Abort, alloc: Global, matrices: &'a [Hyper]) -> MergedCells<'a> {
     let mut sources = Sources::new(alloc);
     for m in matrices {
-        sources.add(m)?;
+        sources.add(m).expect(rt, "a source");
     }
-    Ok(sources.merged())
+    sources.merged()
 }
 
-pub fn listed(alloc: Global, matrices: &[Hyper]) -> Result<Vec<Cell>, AllocError> {
+pub fn listed(rt: &impl Abort, alloc: Global, matrices: &[Hyper]) -> Vec<Cell> {
     let mut list = Vec::new(alloc);
-    for cell in merged(alloc, matrices)? {
-        list.push(cell)?;
+    for cell in merged(rt, alloc, matrices) {
+        list.push(cell).expect(rt, "memory");
     }
-    Ok(list)
+    list
 }
