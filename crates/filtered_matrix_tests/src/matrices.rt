@@ -1,7 +1,8 @@
 //! Matrices for tests, of places that lie in different ways.
 use cells::Cell;
 use hyper_matrix::Hyper;
-use std::alloc::{AllocError, Global};
+use std::alloc::Global;
+use std::process::Abort;
 
 /// The rows, and the columns: the most that a matrix may have.
 pub const SIDE: u64 = 1 << 60;
@@ -60,23 +61,17 @@ pub fn count_of(k: u64) -> u64 {
 }
 
 /// The matrix of a list that has no fault.
-pub fn built(alloc: Global, cells: &[Cell]) -> Result<Hyper, AllocError> {
-    match Hyper::build(alloc, SIDE, SIDE, cells) {
-        Ok(m) => Ok(m),
-        Err(_) => Err(AllocError),
-    }
+pub fn built(rt: &impl Abort, alloc: Global, cells: &[Cell]) -> Hyper {
+    Hyper::build(alloc, SIDE, SIDE, cells).expect(rt, "a matrix")
 }
 
 /// The matrix of the first n places of a shape.
-pub fn shaped(alloc: Global, shape: Shape, n: u64) -> Result<Hyper, AllocError> {
+pub fn shaped(rt: &impl Abort, alloc: Global, shape: Shape, n: u64) -> Hyper {
     let mut cells = Vec::new(alloc);
     for k in 0..n {
         let (row, col) = shape.place(k);
-        cells.push(Cell {
-            row,
-            col,
-            count: count_of(k),
-        })?;
+        let count = count_of(k);
+        cells.push(Cell { row, col, count }).expect(rt, "memory");
     }
-    built(alloc, &cells)
+    built(rt, alloc, &cells)
 }

@@ -1,8 +1,8 @@
 //! Which places pass the filter, and what is looked up at them.
 use crate::matrices::{SHAPES, Shape, count_of, shaped};
 use filtered_matrix::FilteredMatrix;
-use std::alloc::{AllocError, Global};
-use std::test::Fail;
+use std::alloc::Global;
+use std::process::Abort;
 use test_support::{holds_at, same_at};
 
 // How many places that have no entry are asked for.
@@ -40,43 +40,38 @@ fn passing(m: &FilteredMatrix, shape: Shape, n: u64) -> Option<u64> {
 }
 
 // Whether the matrix of the first n places of a shape gets a filter, which lets all of them pass; and how many others.
-fn with_filter(
-    alloc: Global,
-    shape: Shape,
-    n: u64,
-) -> Result<(bool, bool, Option<u64>), AllocError> {
-    let m = FilteredMatrix::with_filter(alloc, shaped(alloc, shape, n)?)?;
-    Ok((m.has_filter(), has_all(&m, shape, n), passing(&m, shape, n)))
+fn with_filter(rt: &impl Abort, alloc: Global, shape: Shape, n: u64) -> (bool, bool, Option<u64>) {
+    let m = FilteredMatrix::with_filter(alloc, shaped(rt, alloc, shape, n)).expect(rt, "memory");
+    (m.has_filter(), has_all(&m, shape, n), passing(&m, shape, n))
 }
 
 #[test]
-fn entries_pass_and_few_others(rt: HostRuntime) -> Result<(), Fail> {
+fn entries_pass_and_few_others(rt: HostRuntime) {
     for shape in SHAPES {
         for (n, bound) in BOUNDS {
-            let (is_filtered, all_pass, others) = with_filter(rt.alloc(), shape, n)?;
+            let (is_filtered, all_pass, others) = with_filter(&rt, rt.alloc(), shape, n);
             assert!(rt; same_at(&rt, &(shape, n), &(is_filtered, all_pass), &(true, true)));
             let are_few = matches!(others, Some(passing) if passing <= bound);
             assert!(rt; holds_at(&rt, &(others, ASKED, shape, n), are_few));
         }
     }
-    Ok(())
 }
 
 // The same of a matrix that gets none.
 fn without_filter(
+    rt: &impl Abort,
     alloc: Global,
     shape: Shape,
     n: u64,
-) -> Result<(bool, bool, Option<u64>), AllocError> {
-    let m = FilteredMatrix::new(alloc, shaped(alloc, shape, n)?);
-    Ok((m.has_filter(), has_all(&m, shape, n), passing(&m, shape, n)))
+) -> (bool, bool, Option<u64>) {
+    let m = FilteredMatrix::new(alloc, shaped(rt, alloc, shape, n));
+    (m.has_filter(), has_all(&m, shape, n), passing(&m, shape, n))
 }
 
 #[test]
-fn all_pass_without_a_filter(rt: HostRuntime) -> Result<(), Fail> {
+fn all_pass_without_a_filter(rt: HostRuntime) {
     for shape in SHAPES {
-        let found = without_filter(rt.alloc(), shape, 1_000)?;
+        let found = without_filter(&rt, rt.alloc(), shape, 1_000);
         assert!(rt; same_at(&rt, &shape, &found, &(false, true, Some(ASKED))));
     }
-    Ok(())
 }

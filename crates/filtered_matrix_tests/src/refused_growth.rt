@@ -2,15 +2,17 @@
 use crate::matrices::{SHAPES, Shape, count_of, shaped};
 use filtered_matrix::FilteredMatrix;
 use hyper_matrix::Hyper;
-use std::alloc::{AllocError, Global};
-use std::test::Fail;
+use std::alloc::Global;
+use std::process::Abort;
 use test_support::holds_at;
 
 // The filter of a copy. Where memory is refused, it is to come out the next time.
-fn filtered(alloc: Global, m: &Hyper) -> Result<FilteredMatrix, AllocError> {
-    match FilteredMatrix::with_filter(alloc, m.copy(alloc)?) {
-        Ok(filtered) => Ok(filtered),
-        Err(_) => FilteredMatrix::with_filter(alloc, m.copy(alloc)?),
+fn filtered(rt: &impl Abort, alloc: Global, m: &Hyper) -> FilteredMatrix {
+    match FilteredMatrix::with_filter(alloc, m.copy(alloc).expect(rt, "memory")) {
+        Ok(filtered) => filtered,
+        Err(_) => FilteredMatrix::with_filter(alloc, m.copy(alloc).expect(rt, "memory")).expect(
+            rt, "memory",
+        ),
     }
 }
 
@@ -27,16 +29,14 @@ fn have_all(m: &Hyper, filtered: &FilteredMatrix, shape: Shape, n: u64) -> bool 
 }
 
 // The same of a matrix that is made, and of a copy with a filter.
-fn both_have_all(alloc: Global, shape: Shape, n: u64) -> Result<bool, AllocError> {
-    let m = shaped(alloc, shape, n)?;
-    let filtered = filtered(alloc, &m)?;
-    Ok(have_all(&m, &filtered, shape, n))
+fn both_have_all(rt: &impl Abort, alloc: Global, shape: Shape, n: u64) -> bool {
+    let m = shaped(rt, alloc, shape, n);
+    have_all(&m, &filtered(rt, alloc, &m), shape, n)
 }
 
 #[test]
-fn filters_outlast_refusals(rt: HostRuntime) -> Result<(), Fail> {
+fn filters_outlast_refusals(rt: HostRuntime) {
     for shape in SHAPES {
-        assert!(rt; holds_at(&rt, &shape, both_have_all(rt.alloc(), shape, 300)?));
+        assert!(rt; holds_at(&rt, &shape, both_have_all(&rt, rt.alloc(), shape, 300)));
     }
-    Ok(())
 }

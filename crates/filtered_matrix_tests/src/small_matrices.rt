@@ -3,7 +3,7 @@ use crate::matrices::{SIDE, built};
 use cells::Cell;
 use filtered_matrix::FilteredMatrix;
 use hyper_matrix::Hyper;
-use std::test::Fail;
+use std::process::Abort;
 use test_support::same;
 
 const LAST: u64 = SIDE - 1;
@@ -23,12 +23,12 @@ fn first_found(m: &FilteredMatrix, places: &[(u64, u64)]) -> Option<(u64, u64)> 
 static OF_NO_ENTRY: &[(u64, u64)] = &[(0, 0), (0, LAST), (1, 0), (u64::MAX, u64::MAX)];
 
 #[test]
-fn the_empty_matrix(rt: HostRuntime) -> Result<(), Fail> {
-    let m = FilteredMatrix::with_filter(rt.alloc(), Hyper::new(rt.alloc(), 1, SIDE))?;
+fn the_empty_matrix(rt: HostRuntime) {
+    let empty = Hyper::new(rt.alloc(), 1, SIDE);
+    let m = FilteredMatrix::with_filter(rt.alloc(), empty).expect(&rt, "memory");
     let size = (m.matrix().entries(), m.matrix().dims());
     let found = (m.has_filter(), first_found(&m, OF_NO_ENTRY), size);
     assert!(rt; same(&rt, &found, &(true, None, (0, (1, SIDE)))));
-    Ok(())
 }
 
 static CORNERS: [Cell; 4] = [
@@ -77,10 +77,10 @@ fn first_outside(m: &FilteredMatrix) -> Option<(u64, u64)> {
 }
 
 #[test]
-fn the_corners(rt: HostRuntime) -> Result<(), Fail> {
-    let m = FilteredMatrix::with_filter(rt.alloc(), built(rt.alloc(), &CORNERS)?)?;
+fn the_corners(rt: HostRuntime) {
+    let corners = built(&rt, rt.alloc(), &CORNERS);
+    let m = FilteredMatrix::with_filter(rt.alloc(), corners).expect(&rt, "memory");
     let size = (m.matrix().entries(), m.matrix().total());
     let found = (first_missed(&m), first_outside(&m), size);
     assert!(rt; same(&rt, &found, &(None, None, (4, u64::MAX))));
-    Ok(())
 }
