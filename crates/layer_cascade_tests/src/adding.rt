@@ -5,7 +5,8 @@ ghost use Rattle.layer_compaction.specs.Shared.{content};
 
 use hyper_matrix::Hyper;
 use layer_cascade::{Layers, Plan};
-use std::alloc::{AllocError, Global};
+use std::alloc::Global;
+use std::process::Abort;
 
 /// Whether a matrix can be added to the layers.
 pub fn fits(layers: &Layers, m: &Hyper) -> bool
@@ -19,18 +20,26 @@ pub fn fits(layers: &Layers, m: &Hyper) -> bool
 }
 
 /// The plan of a matrix that fits.
-pub fn planned(alloc: Global, layers: &Layers, m: &Hyper) -> Result<Option<Plan>, AllocError> {
-    if !fits(layers, m) {
-        return Ok(None);
-    }
-    let plan = layers.plan(alloc, m)?;
-    Ok(Some(plan))
+pub fn planned(rt: &impl Abort, alloc: Global, layers: &Layers, m: &Hyper) -> Plan {
+    assert!(rt; fits(layers, m));
+    layers.plan(alloc, m).expect(rt, "memory")
 }
 
 /// Adds a matrix by a plan.
-pub fn add(alloc: Global, layers: &mut Layers, m: &Hyper) -> Result<(), AllocError> {
-    if let Some(plan) = planned(alloc, layers, m)? {
-        layers.commit(plan);
+pub fn add(rt: &impl Abort, alloc: Global, layers: &mut Layers, m: &Hyper) {
+    layers.commit(planned(rt, alloc, layers, m));
+}
+
+/// Adds a matrix, and gathers so many times.
+pub fn add_and_gather(
+    rt: &impl Abort,
+    alloc: Global,
+    layers: &mut Layers,
+    m: &Hyper,
+    gathers: u64,
+) {
+    add(rt, alloc, layers, m);
+    for _ in 0..gathers {
+        layers.gather(alloc).expect(rt, "memory");
     }
-    Ok(())
 }

@@ -1,27 +1,26 @@
 //! Worked examples of layers of 3 rows and 3 columns.
 use crate::adding::{add, planned};
 use cells::Cell;
-use hyper_matrix::{BuildFault, Hyper};
+use hyper_matrix::Hyper;
 use layer_cascade::{CascadeFault, LayerView, Layers, are_cuts};
-use std::alloc::{AllocError, Global};
+use std::alloc::Global;
+use std::process::Abort;
 use std::test::Fail;
 use test_support::{holds_at, same, same_at};
 
-fn one_cell(alloc: Global, row: u64, col: u64, count: u64) -> Result<Hyper, BuildFault> {
-    Hyper::build(alloc, 3, 3, &[Cell { row, col, count }])
+fn one_cell(rt: &impl Abort, alloc: Global, row: u64, col: u64, count: u64) -> Hyper {
+    Hyper::build(alloc, 3, 3, &[Cell { row, col, count }]).expect(rt, "a matrix")
+}
+
+/// Layers of 3 rows and 3 columns.
+fn layers_with(rt: &impl Abort, alloc: Global, cuts: &[u64]) -> Layers {
+    Layers::new(alloc, 3, 3, cuts).expect(rt, "layers")
 }
 
 /// Adds one cell by a plan.
-fn add_cell(
-    alloc: Global,
-    layers: &mut Layers,
-    row: u64,
-    col: u64,
-    count: u64,
-) -> Result<(), Fail> {
-    let m = one_cell(alloc, row, col, count)?;
-    add(alloc, layers, &m)?;
-    Ok(())
+fn add_cell(rt: &impl Abort, alloc: Global, layers: &mut Layers, row: u64, col: u64, count: u64) {
+    let m = one_cell(rt, alloc, row, col, count);
+    add(rt, alloc, layers, &m);
 }
 
 /// How many entries each of three layers has.
@@ -35,11 +34,6 @@ fn sizes(layers: &Layers) -> [u64; 3] {
     sizes
 }
 
-fn entries_of_sum(alloc: Global, layers: &Layers) -> Result<u64, AllocError> {
-    let sum = layers.sum(alloc)?;
-    Ok(sum.entries())
-}
-
 /// Whether the layers have these entries, and so many cells of count 7, of which one stands here.
 fn hold(layers: &Layers, (row, col): (u64, u64), added: u64, want: [u64; 3]) -> bool {
     sizes(layers) == want
@@ -49,14 +43,16 @@ fn hold(layers: &Layers, (row, col): (u64, u64), added: u64, want: [u64; 3]) -> 
 
 /// Adds the cell of count 7 that has this number, and tells whether the layers then hold so many of them.
 fn holds_after(
+    rt: &impl Abort,
     alloc: Global,
     layers: &mut Layers,
     place: (u64, u64),
     added: u64,
     want: [u64; 3],
-) -> Result<bool, Fail> {
-    add_cell(alloc, layers, place.0, place.1, 7)?;
-    Ok(hold(layers, place, added, want) && entries_of_sum(alloc, layers)? == added)
+) -> bool {
+    add_cell(rt, alloc, layers, place.0, place.1, 7);
+    let sum = layers.sum(alloc).expect(rt, "memory");
+    hold(layers, place, added, want) && sum.entries() == added
 }
 
 /// Places, and the entries of three layers once a cell was added there.
@@ -71,11 +67,11 @@ const DISTINCT: [((u64, u64), [u64; 3]); 6] = [
 
 #[test]
 fn distinct_cells_cascade(rt: HostRuntime) -> Result<(), Fail> {
-    let mut layers = Layers::new(rt.alloc(), 3, 3, &[2, 4])?;
+    let mut layers = layers_with(&rt, rt.alloc(), &[2, 4]);
     let mut added = 0u64;
     for (place, want) in DISTINCT {
         added = added.saturating_add(1);
-        let holds = holds_after(rt.alloc(), &mut layers, place, added, want)?;
+        let holds = holds_after(&rt, rt.alloc(), &mut layers, place, added, want);
         assert!(rt; holds_at(&rt, &added, holds));
     }
     assert!(rt; layers.get(1, 2).is_none() && layers.get(3, 0).is_none());
@@ -89,9 +85,9 @@ fn holds_six_in_the_first(layers: &Layers) -> bool {
 
 #[test]
 fn one_cell_stays_in_the_first_layer(rt: HostRuntime) -> Result<(), Fail> {
-    let mut layers = Layers::new(rt.alloc(), 3, 3, &[2, 4])?;
+    let mut layers = layers_with(&rt, rt.alloc(), &[2, 4]);
     for _ in 0..6 {
-        add_cell(rt.alloc(), &mut layers, 1, 2, 1)?;
+        add_cell(&rt, rt.alloc(), &mut layers, 1, 2, 1);
     }
     assert!(rt; holds_six_in_the_first(&layers));
     Ok(())
@@ -122,9 +118,9 @@ fn row_is(layers: &Layers, row: u64, entries: u64, total: u64) -> bool {
 
 #[test]
 fn a_column_counts_once(rt: HostRuntime) -> Result<(), Fail> {
-    let mut layers = Layers::new(rt.alloc(), 3, 3, &[4])?;
+    let mut layers = layers_with(&rt, rt.alloc(), &[4]);
     for (row, col) in COLUMNS_AGAIN {
-        add_cell(rt.alloc(), &mut layers, row, col, 1)?;
+        add_cell(&rt, rt.alloc(), &mut layers, row, col, 1);
     }
     assert!(rt; same(&rt, &sizes(&layers), &[2, 8, u64::MAX]));
     for (row, entries, total) in [(0, 2, 2), (1, 3, 8), (2, 3, 4), (3, 0, 0)] {
@@ -144,62 +140,56 @@ fn are_new(layers: &Layers) -> bool {
 
 #[test]
 fn new_layers_are_told(rt: HostRuntime) -> Result<(), Fail> {
-    let layers = Layers::new(rt.alloc(), 3, 5, &[2, 4])?;
+    let layers = Layers::new(rt.alloc(), 3, 5, &[2, 4]).expect(&rt, "layers");
     assert!(rt; are_new(&layers));
     Ok(())
 }
 
 /// Whether the plan of a further cell leaves the layers as they are until it is committed.
-fn plan_changes_nothing(alloc: Global, layers: &mut Layers) -> Result<bool, Fail> {
-    let m = one_cell(alloc, 0, 1, 5)?;
-    let Some(plan) = planned(alloc, layers, &m)? else {
-        return Ok(false);
-    };
+fn plan_changes_nothing(rt: &impl Abort, alloc: Global, layers: &mut Layers) -> bool {
+    let m = one_cell(rt, alloc, 0, 1, 5);
+    let plan = planned(rt, alloc, layers, &m);
     let before = (layers.layer_entries(1), layers.total(), layers.get(0, 1));
     layers.commit(plan);
     let after = (layers.layer_entries(1), layers.total(), layers.get(0, 1));
-    Ok(before == (Some(1), 0, None) && after == (Some(2), 5, Some(5)))
+    before == (Some(1), 0, None) && after == (Some(2), 5, Some(5))
 }
 
 #[test]
 fn a_plan_changes_nothing(rt: HostRuntime) -> Result<(), Fail> {
-    let mut layers = Layers::new(rt.alloc(), 3, 3, &[])?;
-    add_cell(rt.alloc(), &mut layers, 0, 0, 0)?;
-    assert!(rt; plan_changes_nothing(rt.alloc(), &mut layers)?);
+    let mut layers = layers_with(&rt, rt.alloc(), &[]);
+    add_cell(&rt, rt.alloc(), &mut layers, 0, 0, 0);
+    assert!(rt; plan_changes_nothing(&rt, rt.alloc(), &mut layers));
     assert!(rt; same(&rt, &layers.layer_entries(2), &None));
     Ok(())
 }
 
-/// Whether the sum of a view has so many entries and this total.
-fn sees(alloc: Global, view: &LayerView, entries: u64, total: u64) -> Result<bool, AllocError> {
-    let sum = view.sum(alloc)?;
-    Ok(sum.entries() == entries && sum.total() == total)
-}
-
-/// Adds a cell, and tells whether a view still sees one entry, of 5.
+/// Adds a cell, and tells whether the sum of a view still has one entry, of 5.
 fn sees_as_before(
+    rt: &impl Abort,
     alloc: Global,
     view: &LayerView,
     layers: &mut Layers,
     cell: (u64, u64, u64),
-) -> Result<bool, Fail> {
-    add_cell(alloc, layers, cell.0, cell.1, cell.2)?;
-    Ok(sees(alloc, view, 1, 5)?)
+) -> bool {
+    add_cell(rt, alloc, layers, cell.0, cell.1, cell.2);
+    let sum = view.sum(alloc).expect(rt, "memory");
+    sum.entries() == 1 && sum.total() == 5
 }
 
 /// Adds two cells behind a view, the first in the place of the one that it sees.
-fn view_stays(alloc: Global, layers: &mut Layers) -> Result<(bool, bool), Fail> {
-    let view = layers.view(alloc)?;
-    let first = sees_as_before(alloc, &view, layers, (0, 0, 3))?;
-    let second = sees_as_before(alloc, &view, layers, (2, 1, 1))?;
-    Ok((first, second))
+fn view_stays(rt: &impl Abort, alloc: Global, layers: &mut Layers) -> (bool, bool) {
+    let view = layers.view(alloc).expect(rt, "memory");
+    let first = sees_as_before(rt, alloc, &view, layers, (0, 0, 3));
+    let second = sees_as_before(rt, alloc, &view, layers, (2, 1, 1));
+    (first, second)
 }
 
 #[test]
 fn a_view_stays_as_it_was(rt: HostRuntime) -> Result<(), Fail> {
-    let mut layers = Layers::new(rt.alloc(), 3, 3, &[2])?;
-    add_cell(rt.alloc(), &mut layers, 0, 0, 5)?;
-    let stays = view_stays(rt.alloc(), &mut layers)?;
+    let mut layers = layers_with(&rt, rt.alloc(), &[2]);
+    add_cell(&rt, rt.alloc(), &mut layers, 0, 0, 5);
+    let stays = view_stays(&rt, rt.alloc(), &mut layers);
     assert!(rt; same(&rt, &stays, &(true, true)));
     assert!(rt; layers.layer_entries(1) == Some(2) && layers.total() == 9);
     Ok(())

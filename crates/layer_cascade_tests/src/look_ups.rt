@@ -2,11 +2,11 @@
 //! number of the place alone.
 //!
 //! `rt try --test --fail-alloc N` refuses the growth number N: what the layers hold is then as before.
-use crate::adding::add;
+use crate::adding::add_and_gather;
 use cells::Cell;
-use hyper_matrix::{BuildFault, Hyper};
+use hyper_matrix::Hyper;
 use layer_cascade::Layers;
-use std::alloc::{AllocError, Global};
+use std::alloc::Global;
 use std::io::Eprint;
 use std::process::Abort;
 use std::test::Fail;
@@ -32,15 +32,13 @@ struct Chain {
 }
 
 impl Chain {
-    fn matrix(&self, alloc: Global, i: u64) -> Result<Hyper, BuildFault> {
+    fn matrix(&self, rt: &impl Abort, alloc: Global, i: u64) -> Hyper {
         let from = i.wrapping_mul(self.step);
         let mut cells = Vec::new(alloc);
         for place in from..from.wrapping_add(self.step.wrapping_mul(2)) {
-            if cells.push(cell_of(place)).is_err() {
-                return Err(BuildFault::Memory);
-            }
+            cells.push(cell_of(place)).expect(rt, "memory");
         }
-        Hyper::build(alloc, SIDE, SIDE, &cells)
+        Hyper::build(alloc, SIDE, SIDE, &cells).expect(rt, "a matrix")
     }
 
     /// What all matrices together have at a place.
@@ -67,15 +65,12 @@ impl Chain {
     }
 
     /// Layers to which all matrices were added, with so many steps of `gather` after each.
-    fn layers(&self, alloc: Global, cuts: &[u64], gathers: u64) -> Result<Layers, Fail> {
-        let mut layers = Layers::new(alloc, SIDE, SIDE, cuts)?;
+    fn layers(&self, rt: &impl Abort, alloc: Global, cuts: &[u64], gathers: u64) -> Layers {
+        let mut layers = Layers::new(alloc, SIDE, SIDE, cuts).expect(rt, "layers");
         for i in 0..self.matrices {
-            add(alloc, &mut layers, &self.matrix(alloc, i)?)?;
-            for _ in 0..gathers {
-                layers.gather(alloc)?;
-            }
+            add_and_gather(rt, alloc, &mut layers, &self.matrix(rt, alloc, i), gathers);
         }
-        Ok(layers)
+        layers
     }
 }
 
@@ -88,31 +83,30 @@ const ROWS: [(&[u64], u64, u64); 3] = [
     (&[300, 700], 20_000, 2),
 ];
 
-fn check_found(rt: &(impl Abort + Eprint), alloc: Global, gathers: u64) -> Result<(), Fail> {
+fn check_found(rt: &(impl Abort + Eprint), alloc: Global, gathers: u64) {
     for (cuts, step, matrices) in ROWS {
         let chain = Chain { step, matrices };
-        let layers = chain.layers(alloc, cuts, gathers)?;
+        let layers = chain.layers(rt, alloc, cuts, gathers);
         assert!(rt; holds_at(rt, &(matrices, gathers), chain.is_found(&layers)));
     }
-    Ok(())
 }
 
 #[test]
 fn places_are_found_with_their_counts(rt: HostRuntime) -> Result<(), Fail> {
     for gathers in [0, 1, 4] {
-        check_found(&rt, rt.alloc(), gathers)?;
+        check_found(&rt, rt.alloc(), gathers);
     }
     Ok(())
 }
 
 /// Gathers, once more where memory is refused. False if something else is found after the refusal.
-fn gathered(alloc: Global, layers: &mut Layers, chain: Chain) -> Result<bool, AllocError> {
+fn gathered(rt: &impl Abort, alloc: Global, layers: &mut Layers, chain: Chain) -> bool {
     if layers.gather(alloc).is_ok() {
-        return Ok(true);
+        return true;
     }
     let found = chain.is_found(layers);
-    layers.gather(alloc)?;
-    Ok(found)
+    layers.gather(alloc).expect(rt, "memory");
+    found
 }
 
 /// Two matrices of 200 places pass the cut as one of 300, which `gather` leaves as it is but for its filter.
@@ -122,10 +116,10 @@ fn places_are_found_after_a_refusal(rt: HostRuntime) -> Result<(), Fail> {
         step: 100,
         matrices: 2,
     };
-    let mut layers = chain.layers(rt.alloc(), &[250], 0)?;
+    let mut layers = chain.layers(&rt, rt.alloc(), &[250], 0);
     assert!(rt; same(&rt, &layers.layer_entries(1), &Some(0)));
     assert!(rt; same(&rt, &layers.layer_entries(2), &Some(300)));
-    assert!(rt; gathered(rt.alloc(), &mut layers, chain)?);
+    assert!(rt; gathered(&rt, rt.alloc(), &mut layers, chain));
     assert!(rt; chain.is_found(&layers));
     assert!(rt; same(&rt, &layers.layer_entries(2), &Some(300)));
     Ok(())

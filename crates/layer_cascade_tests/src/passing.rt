@@ -1,11 +1,11 @@
 //! Layers of many entries that pass a cut, beside layers that are built anew from lists of cells at each addition.
 //! Between additions places are counted or matrices are added up, so that a cut is met after none, some or all of that.
-use crate::adding::add;
+use crate::adding::add_and_gather;
 use crate::streams::are_same;
 use cells::Cell;
 use hyper_matrix::Hyper;
 use layer_cascade::Layers;
-use std::alloc::{AllocError, Global};
+use std::alloc::Global;
 use std::io::Eprint;
 use std::process::Abort;
 use std::test::Fail;
@@ -14,7 +14,7 @@ use test_support::{holds_at, same_at};
 const SIDE: u64 = 1 << 20;
 
 /// A stream of matrices, each of the same number of cells. Its places come again after so many.
-#[derive(Drop)]
+#[derive(Clone, Copy)]
 struct Stream {
     places: u64,
     cells: u64,
@@ -30,46 +30,51 @@ impl Stream {
         }
     }
 
-    fn list(&self, alloc: Global, matrix: u64) -> Result<Vec<Cell>, AllocError> {
+    fn list(&self, rt: &impl Abort, alloc: Global, matrix: u64) -> Vec<Cell> {
         let mut list = Vec::new(alloc);
         let from = matrix.wrapping_mul(self.cells);
         for i in from..from.wrapping_add(self.cells) {
-            list.push(self.cell(i))?;
+            list.push(self.cell(i)).expect(rt, "memory");
         }
-        Ok(list)
+        list
     }
 }
 
-/// What a layer holds with the cells of a list, built from the cells of both.
-fn built_with(alloc: Global, layer: &Hyper, list: &[Cell]) -> Result<Hyper, Fail> {
-    let mut cells = layer.cells(alloc)?;
-    cells.extend_from_slice(list)?;
-    Ok(Hyper::build(alloc, SIDE, SIDE, &cells)?)
+/// The matrix of a list.
+fn built(rt: &impl Abort, alloc: Global, list: &[Cell]) -> Hyper {
+    Hyper::build(alloc, SIDE, SIDE, list).expect(rt, "a matrix")
+}
+
+/// What a layer holds with another's cells, built from the cells of both.
+fn built_with(rt: &impl Abort, alloc: Global, layer: &Hyper, other: &Hyper) -> Hyper {
+    let mut cells = layer.cells(alloc).expect(rt, "memory");
+    let others = other.cells(alloc).expect(rt, "memory");
+    cells.extend_from_slice(&others).expect(rt, "memory");
+    built(rt, alloc, &cells)
 }
 
 /// Layers that hold a matrix each.
 #[derive(Drop)]
 struct Model {
-    cuts: Vec<u64>,
+    cuts: &'static [u64],
     layers: Vec<Hyper>,
 }
 
 impl Model {
-    fn new(alloc: Global, cuts: &[u64]) -> Result<Model, AllocError> {
+    fn new(rt: &impl Abort, alloc: Global, cuts: &'static [u64]) -> Model {
         let mut layers = Vec::new(alloc);
         for _ in 0..cuts.len().wrapping_add(1) {
-            layers.push(Hyper::new(alloc, SIDE, SIDE))?;
+            layers
+                .push(Hyper::new(alloc, SIDE, SIDE))
+                .expect(rt, "memory");
         }
-        Ok(Model {
-            cuts: Vec::from_slice(alloc, cuts)?,
-            layers,
-        })
+        Model { cuts, layers }
     }
 
-    fn add(&mut self, alloc: Global, list: &[Cell]) -> Result<(), Fail> {
-        let mut carried = Hyper::build(alloc, SIDE, SIDE, list)?;
+    fn add(&mut self, rt: &impl Abort, alloc: Global, m: Hyper) {
+        let mut carried = m;
         for (place, layer) in self.layers.iter_mut().enumerate() {
-            let sum = built_with(alloc, layer, carried.cells(alloc)?.as_slice())?;
+            let sum = built_with(rt, alloc, layer, &carried);
             match self.cuts.get(place) {
                 Some(cut) if sum.entries() > *cut => {
                     *layer = Hyper::new(alloc, SIDE, SIDE);
@@ -77,19 +82,18 @@ impl Model {
                 }
                 _ => {
                     *layer = sum;
-                    return Ok(());
+                    return;
                 }
             }
         }
-        Ok(())
     }
 
-    fn sum(&self, alloc: Global) -> Result<Hyper, Fail> {
+    fn sum(&self, rt: &impl Abort, alloc: Global) -> Hyper {
         let mut sum = Hyper::new(alloc, SIDE, SIDE);
         for layer in &self.layers {
-            sum = built_with(alloc, &sum, layer.cells(alloc)?.as_slice())?;
+            sum = built_with(rt, alloc, &sum, layer);
         }
-        Ok(sum)
+        sum
     }
 
     fn sizes(&self) -> [u64; 3] {
@@ -110,32 +114,36 @@ impl Model {
     }
 }
 
-/// Whether the layers hold what a matrix holds: at the places of a list, and as a whole.
-fn hold(alloc: Global, layers: &Layers, m: &Hyper, list: &[Cell]) -> Result<bool, AllocError> {
+/// Whether the layers hold what a matrix holds at the places of a list.
+fn hold_places(layers: &Layers, m: &Hyper, list: &[Cell]) -> bool {
     for cell in list {
         if layers.get(cell.row, cell.col) != m.get(cell.row, cell.col) {
-            return Ok(false);
+            return false;
         }
     }
+    true
+}
+
+/// The same of the rows of each 64th place.
+fn hold_rows(layers: &Layers, m: &Hyper, list: &[Cell]) -> bool {
     for cells in list.chunks(64) {
         let row = cells[0].row;
         let (told, want) = (layers.row_total(row), m.row_total(row));
         if told.entries != want.entries || told.total != want.total {
-            return Ok(false);
+            return false;
         }
     }
-    let sum = layers.sum(alloc)?;
-    Ok(are_same(alloc, &sum, m)? && layers.total() == m.total())
+    true
 }
 
-/// Adds the matrix of a list, and gathers so many times.
-fn add_list(alloc: Global, layers: &mut Layers, list: &[Cell], gathers: u64) -> Result<(), Fail> {
-    let m = Hyper::build(alloc, SIDE, SIDE, list)?;
-    add(alloc, layers, &m)?;
-    for _ in 0..gathers {
-        layers.gather(alloc)?;
-    }
-    Ok(())
+/// Whether the layers hold what the model holds: at the places of a list, and as a whole.
+fn hold(rt: &impl Abort, alloc: Global, layers: &Layers, model: &Model, list: &[Cell]) -> bool {
+    let m = model.sum(rt, alloc);
+    let sum = layers.sum(alloc).expect(rt, "memory");
+    hold_places(layers, &m, list)
+        && hold_rows(layers, &m, list)
+        && are_same(rt, alloc, &sum, &m)
+        && layers.total() == m.total()
 }
 
 /// Adds matrix `i` to both, and compares the entries of each layer.
@@ -144,28 +152,15 @@ fn check_addition(
     alloc: Global,
     layers: &mut Layers,
     model: &mut Model,
-    stream: &Stream,
+    stream: Stream,
     i: u64,
     gathers: u64,
-) -> Result<(), Fail> {
-    let list = stream.list(alloc, i)?;
-    add_list(alloc, layers, &list, gathers)?;
-    model.add(alloc, &list)?;
+) {
+    let list = stream.list(rt, alloc, i);
+    let m = built(rt, alloc, &list);
+    add_and_gather(rt, alloc, layers, &m, gathers);
+    model.add(rt, alloc, m);
     assert!(rt; holds_at(rt, &i, model.has_sizes(layers)));
-    Ok(())
-}
-
-/// Whether the layers hold what the model holds: at the places of matrix `i`, and as a whole.
-fn hold_all(
-    alloc: Global,
-    layers: &Layers,
-    model: &Model,
-    stream: &Stream,
-    i: u64,
-) -> Result<bool, Fail> {
-    let list = stream.list(alloc, i)?;
-    let sum = model.sum(alloc)?;
-    Ok(hold(alloc, layers, &sum, &list)?)
 }
 
 /// The entries of each of three layers once so many matrices were added, at least one, with so many steps of `gather`
@@ -173,25 +168,25 @@ fn hold_all(
 fn check(
     rt: &(impl Abort + Eprint),
     alloc: Global,
-    cuts: &[u64],
-    stream: &Stream,
+    cuts: &'static [u64],
+    stream: Stream,
     matrices: u64,
     gathers: u64,
-) -> Result<[u64; 3], Fail> {
-    let mut layers = Layers::new(alloc, SIDE, SIDE, cuts)?;
-    let mut model = Model::new(alloc, cuts)?;
+) -> [u64; 3] {
+    let mut layers = Layers::new(alloc, SIDE, SIDE, cuts).expect(rt, "layers");
+    let mut model = Model::new(rt, alloc, cuts);
     for i in 0..matrices {
-        check_addition(rt, alloc, &mut layers, &mut model, stream, i, gathers)?;
+        check_addition(rt, alloc, &mut layers, &mut model, stream, i, gathers);
     }
-    let holds = hold_all(alloc, &layers, &model, stream, matrices.wrapping_sub(1))?;
-    assert!(rt; holds);
-    Ok(model.sizes())
+    let list = stream.list(rt, alloc, matrices.wrapping_sub(1));
+    assert!(rt; hold(rt, alloc, &layers, &model, &list));
+    model.sizes()
 }
 
 /// Cuts, the stream's places and cells of a matrix, the matrices, and the entries of each layer at the end. In the
 /// first row all places differ, and what passes a cut goes on in two matrices. In the second they come again, and the
 /// layer stays.
-const ROWS: [(&[u64], u64, u64, u64, [u64; 3]); 2] = [
+const ROWS: [(&'static [u64], u64, u64, u64, [u64; 3]); 2] = [
     (&[18_000], 1 << 20, 6_000, 5, [6_000, 24_000, 0]),
     (&[18_000], 17_000, 6_000, 5, [17_000, 0, 0]),
 ];
@@ -200,7 +195,7 @@ const ROWS: [(&[u64], u64, u64, u64, [u64; 3]); 2] = [
 fn layers_that_pass_a_cut_agree_with_lists(rt: HostRuntime) -> Result<(), Fail> {
     for (cuts, places, cells, matrices, want) in ROWS {
         let stream = Stream { places, cells };
-        let sizes = check(&rt, rt.alloc(), cuts, &stream, matrices, 0)?;
+        let sizes = check(&rt, rt.alloc(), cuts, stream, matrices, 0);
         assert!(rt; same_at(&rt, &(places, cells), &sizes, &want));
     }
     Ok(())
@@ -209,36 +204,38 @@ fn layers_that_pass_a_cut_agree_with_lists(rt: HostRuntime) -> Result<(), Fail> 
 /// As `ROWS`, where three matrices of 7,100 cells pass the first cut at once, and no two of them are added up. In the
 /// first row all places differ, and two thirds are counted before the cut. In the others places come again, with no
 /// entry above the cut, and with one.
-const COUNTED: [(&[u64], u64, [u64; 3]); 3] = [
+const COUNTED: [(&'static [u64], u64, [u64; 3]); 3] = [
     (&[5_000, 18_000], 1 << 20, [0, 0, 21_300]),
     (&[5_000, 17_000], 17_000, [0, 17_000, 0]),
     (&[5_000, 16_999], 17_000, [0, 0, 17_000]),
 ];
 
 /// The rows of `COUNTED`, with so many steps of `gather` after each addition.
-fn check_counted(rt: &(impl Abort + Eprint), alloc: Global, gathers: u64) -> Result<(), Fail> {
+fn check_counted(rt: &(impl Abort + Eprint), alloc: Global, gathers: u64) {
     for (cuts, places, want) in COUNTED {
         let stream = Stream {
             places,
             cells: 7_100,
         };
-        let sizes = check(rt, alloc, cuts, &stream, 3, gathers)?;
+        let sizes = check(rt, alloc, cuts, stream, 3, gathers);
         assert!(rt; same_at(rt, &(places, gathers), &sizes, &want));
     }
-    Ok(())
 }
 
 #[test]
 fn layers_that_are_counted_at_their_cut_agree_with_lists(rt: HostRuntime) -> Result<(), Fail> {
-    check_counted(&rt, rt.alloc(), 0)
+    check_counted(&rt, rt.alloc(), 0);
+    Ok(())
 }
 
 #[test]
 fn layers_that_are_counted_in_part_before_agree_with_lists(rt: HostRuntime) -> Result<(), Fail> {
-    check_counted(&rt, rt.alloc(), 1)
+    check_counted(&rt, rt.alloc(), 1);
+    Ok(())
 }
 
 #[test]
 fn layers_that_are_counted_before_their_cut_agree_with_lists(rt: HostRuntime) -> Result<(), Fail> {
-    check_counted(&rt, rt.alloc(), 9)
+    check_counted(&rt, rt.alloc(), 9);
+    Ok(())
 }

@@ -1,9 +1,9 @@
 //! Layers to which a stream of small matrices is added, beside the one matrix that all cells of the stream build.
 use crate::adding::add;
 use cells::Cell;
-use hyper_matrix::{BuildFault, Hyper};
+use hyper_matrix::Hyper;
 use layer_cascade::{LayerView, Layers};
-use std::alloc::{AllocError, Global};
+use std::alloc::Global;
 use std::io::Eprint;
 use std::process::Abort;
 use std::test::Fail;
@@ -26,39 +26,20 @@ fn stream_cell(i: u64) -> Cell {
     }
 }
 
-/// The cells of the matrices at `from` and behind it, up to `to`.
-fn cells_of(alloc: Global, from: u64, to: u64) -> Result<Vec<Cell>, AllocError> {
+/// The sum of the matrices at `from` and behind it, up to `to`.
+pub fn sum_of(rt: &impl Abort, alloc: Global, from: u64, to: u64) -> Hyper {
     let mut cells = Vec::new(alloc);
     for i in from.wrapping_mul(CELLS)..to.wrapping_mul(CELLS) {
-        cells.push(stream_cell(i))?;
+        cells.push(stream_cell(i)).expect(rt, "memory");
     }
-    Ok(cells)
-}
-
-/// The sum of these matrices.
-pub fn sum_of(alloc: Global, from: u64, to: u64) -> Result<Hyper, BuildFault> {
-    match cells_of(alloc, from, to) {
-        Ok(cells) => Hyper::build(alloc, 9, 9, &cells),
-        Err(_) => Err(BuildFault::Memory),
-    }
-}
-
-/// Matrix `i` of the stream.
-pub fn matrix(alloc: Global, i: u64) -> Result<Hyper, BuildFault> {
-    sum_of(alloc, i, i.wrapping_add(1))
+    Hyper::build(alloc, 9, 9, &cells).expect(rt, "a matrix")
 }
 
 /// Whether two matrices have the same cells.
-pub fn are_same(alloc: Global, a: &Hyper, b: &Hyper) -> Result<bool, AllocError> {
-    let cells = a.cells(alloc)?;
-    let others = b.cells(alloc)?;
-    Ok(cells.as_slice() == others.as_slice())
-}
-
-fn sum_is(alloc: Global, layers: &Layers, m: &Hyper) -> Result<bool, AllocError> {
-    let sum = layers.sum(alloc)?;
-    let same = are_same(alloc, &sum, m)?;
-    Ok(same && layers.total() == m.total())
+pub fn are_same(rt: &impl Abort, alloc: Global, a: &Hyper, b: &Hyper) -> bool {
+    let cells = a.cells(alloc).expect(rt, "memory");
+    let others = b.cells(alloc).expect(rt, "memory");
+    cells.as_slice() == others.as_slice()
 }
 
 fn look_ups_agree(layers: &Layers, m: &Hyper) -> bool {
@@ -87,10 +68,13 @@ fn keeps_cuts(layers: &Layers) -> bool {
 }
 
 /// Whether layers with the first so many matrices of the stream hold what these build.
-pub fn holds_first(alloc: Global, layers: &Layers, matrices: u64) -> Result<bool, Fail> {
-    let m = sum_of(alloc, 0, matrices)?;
-    let same = sum_is(alloc, layers, &m)?;
-    Ok(same && keeps_cuts(layers) && look_ups_agree(layers, &m))
+pub fn holds_first(rt: &impl Abort, alloc: Global, layers: &Layers, matrices: u64) -> bool {
+    let m = sum_of(rt, alloc, 0, matrices);
+    let sum = layers.sum(alloc).expect(rt, "memory");
+    are_same(rt, alloc, &sum, &m)
+        && layers.total() == m.total()
+        && keeps_cuts(layers)
+        && look_ups_agree(layers, &m)
 }
 
 const ALL_CUTS: [&[u64]; 6] = [
@@ -103,10 +87,9 @@ const ALL_CUTS: [&[u64]; 6] = [
 ];
 
 /// Adds matrix `i` of the stream.
-pub fn add_matrix(alloc: Global, layers: &mut Layers, i: u64) -> Result<(), Fail> {
-    let m = matrix(alloc, i)?;
-    add(alloc, layers, &m)?;
-    Ok(())
+pub fn add_matrix(rt: &impl Abort, alloc: Global, layers: &mut Layers, i: u64) {
+    let m = sum_of(rt, alloc, i, i.wrapping_add(1));
+    add(rt, alloc, layers, &m);
 }
 
 /// Adds these matrices of the stream, the first of which is the next, and compares after each.
@@ -115,26 +98,21 @@ fn check_additions(
     alloc: Global,
     layers: &mut Layers,
     matrices: (u64, u64),
-) -> Result<(), Fail> {
+) {
     for i in matrices.0..matrices.1 {
-        add_matrix(alloc, layers, i)?;
-        let holds = holds_first(alloc, layers, i.wrapping_add(1))?;
+        add_matrix(rt, alloc, layers, i);
+        let holds = holds_first(rt, alloc, layers, i.wrapping_add(1));
         assert!(rt; holds_at(rt, &i, holds));
     }
-    Ok(())
-}
-
-fn check_planned(rt: &(impl Abort + Eprint), alloc: Global, cuts: &[u64]) -> Result<(), Fail> {
-    let mut layers = Layers::new(alloc, 9, 9, cuts)?;
-    check_additions(rt, alloc, &mut layers, (0, 20))
 }
 
 #[test]
 fn layers_agree_with_one_matrix(rt: HostRuntime) -> Result<(), Fail> {
     for cuts in ALL_CUTS {
-        check_planned(&rt, rt.alloc(), cuts)?;
+        let mut layers = Layers::new(rt.alloc(), 9, 9, cuts).expect(&rt, "layers");
+        check_additions(&rt, rt.alloc(), &mut layers, (0, 20));
     }
-    assert!(rt; sum_of(rt.alloc(), 0, 20)?.entries() > 50);
+    assert!(rt; sum_of(&rt, rt.alloc(), 0, 20).entries() > 50);
     Ok(())
 }
 
@@ -155,60 +133,44 @@ const MANY: u64 = 70;
 const SEEN: u64 = 25;
 
 /// Whether a view sees the first so many matrices of the stream.
-pub fn sees_first(alloc: Global, view: &LayerView, matrices: u64) -> Result<bool, Fail> {
-    let m = sum_of(alloc, 0, matrices)?;
-    let seen = view.sum(alloc)?;
-    Ok(are_same(alloc, &seen, &m)?)
+pub fn sees_first(rt: &impl Abort, alloc: Global, view: &LayerView, matrices: u64) -> bool {
+    let m = sum_of(rt, alloc, 0, matrices);
+    let seen = view.sum(alloc).expect(rt, "memory");
+    are_same(rt, alloc, &seen, &m)
 }
 
-/// Adds the matrices behind those that a view is to see, and compares the view at the end.
-fn check_behind_view(
-    rt: &(impl Abort + Eprint),
-    alloc: Global,
-    layers: &mut Layers,
-) -> Result<(), Fail> {
-    let view = layers.view(alloc)?;
-    check_additions(rt, alloc, layers, (SEEN, MANY))?;
-    let sees = sees_first(alloc, &view, SEEN)?;
-    assert!(rt; sees);
-    Ok(())
-}
-
-fn check_many(rt: &(impl Abort + Eprint), alloc: Global, cuts: &[u64]) -> Result<(), Fail> {
-    let mut layers = Layers::new(alloc, 9, 9, cuts)?;
-    check_additions(rt, alloc, &mut layers, (0, SEEN))?;
-    check_behind_view(rt, alloc, &mut layers)
+/// Adds so many matrices, compares after each, and compares the view that is taken on the way at the end.
+fn check_many(rt: &(impl Abort + Eprint), alloc: Global, cuts: &[u64]) {
+    let mut layers = Layers::new(alloc, 9, 9, cuts).expect(rt, "layers");
+    check_additions(rt, alloc, &mut layers, (0, SEEN));
+    let view = layers.view(alloc).expect(rt, "memory");
+    check_additions(rt, alloc, &mut layers, (SEEN, MANY));
+    assert!(rt; sees_first(rt, alloc, &view, SEEN));
 }
 
 #[test]
 fn matrices_side_by_side_agree_with_one(rt: HostRuntime) -> Result<(), Fail> {
     for cuts in [&[] as &[u64], &[200], &[60], &[30, 70]] {
-        check_many(&rt, rt.alloc(), cuts)?;
+        check_many(&rt, rt.alloc(), cuts);
     }
     Ok(())
 }
 
 /// How many entries the only layer has after so many matrices of the stream.
-fn entries_after(alloc: Global, matrices: u64) -> Result<Option<u64>, Fail> {
-    let mut layers = Layers::new(alloc, 9, 9, &[])?;
+fn entries_after(rt: &impl Abort, alloc: Global, matrices: u64) -> Option<u64> {
+    let mut layers = Layers::new(alloc, 9, 9, &[]).expect(rt, "layers");
     for i in 0..matrices {
-        add_matrix(alloc, &mut layers, i)?;
+        add_matrix(rt, alloc, &mut layers, i);
     }
-    Ok(layers.layer_entries(1))
+    layers.layer_entries(1)
 }
 
 #[test]
 fn a_layer_counts_a_place_once(rt: HostRuntime) -> Result<(), Fail> {
     for matrices in [0, 1, 2, 16, 31, 32, 33, MANY] {
-        let want = sum_of(rt.alloc(), 0, matrices)?.entries();
-        assert!(rt;
-            same_at(
-                &rt,
-                &matrices,
-                &entries_after(rt.alloc(), matrices)?,
-                &Some(want)
-            )
-        );
+        let want = sum_of(&rt, rt.alloc(), 0, matrices).entries();
+        let found = entries_after(&rt, rt.alloc(), matrices);
+        assert!(rt; same_at(&rt, &matrices, &found, &Some(want)));
     }
     Ok(())
 }
