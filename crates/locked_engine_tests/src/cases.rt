@@ -5,7 +5,7 @@ ghost use Rattle.locked_engine.specs.Opened.{NamesEngine};
 
 use crate::batches::Cells;
 use crate::expected::{expect_batches, expect_closed};
-use crate::opened::{Step, close_at_last, closed, opened, with_names};
+use crate::opened::{Step, close_at_last, closed, opened};
 use crate::{folds, looks, puts, seats, several, versions};
 use batch_store::Setup;
 use locked_engine::{Engine, Named, Names, Seat};
@@ -17,7 +17,6 @@ use std::process::Abort;
 use std::random::RandomSource;
 use std::sync::Wait;
 use std::sync::ledger::Ledger;
-use std::test::Fail;
 use std::thread::Threads;
 use std::time::Clock;
 
@@ -79,8 +78,9 @@ pub fn play<R: Threads + Wait + Clock + RandomSource + Abort + Eprint + Sync>(
     alloc: Global,
     setup: Setup,
     case: &Case,
-) -> Result<(), Fail> {
-    play_on(rt, alloc, PlainEngine::new(rt, alloc, setup)?, case)
+) {
+    let plain = PlainEngine::new(rt, alloc, setup).expect(rt, "memory");
+    play_on(rt, alloc, plain, case);
 }
 
 /// The same of an engine that goes on with what one of one thread has.
@@ -89,44 +89,39 @@ pub fn play_on<R: Threads + Wait + Clock + RandomSource + Abort + Eprint + Sync>
     alloc: Global,
     plain: PlainEngine,
     case: &Case,
-) -> Result<(), Fail> {
-    let (plain, names) = with_names(rt, alloc, plain, case.seats)?;
-    opened_and_closed::<Brand, Brand, R>(rt, alloc, plain, names, case)
+) {
+    let names = Names::new(rt, alloc, &plain, case.seats).expect(rt, "names");
+    let closed = closed_after::<Brand, Brand, R>(rt, alloc, plain, names, case);
+    expect_closed(rt, &closed, case.accepted, case.shards);
+    if let Some(batches) = case.batches {
+        expect_batches(rt, alloc, &closed, batches);
+    }
 }
 
-fn opened_and_closed<
+/// The engine of one thread that is left once the case was done.
+fn closed_after<
     N: Named + Send + Sync,
     H: Ledger + Send + Sync,
     R: Threads + Wait + Clock + Abort + Eprint + Sync,
->(rt: &R, alloc: Global, plain: PlainEngine, names: Names, case: &Case) -> Result<(), Fail>
+>(rt: &R, alloc: Global, plain: PlainEngine, names: Names, case: &Case) -> PlainEngine
     requires named { NamesEngine names N.setup N.seats N.history N.name N.parts H.name H.parts }
     requires made_from { plain.setup ≡ names.setup }
     requires opened { plain.book.state ≡ N.opened }
 {
-    let (engine, mut seats) = opened::<N, H>(alloc, plain, names)?;
-    if let Err(fail) = perform(rt, alloc, &engine, &mut seats, case) {
-        engine.end(rt);
-        return Err(fail);
-    }
-    let closed = if case.lacks_seat {
-        close_at_last(rt, alloc, engine, seats)?
+    let (engine, mut seats) = opened::<N, H>(rt, alloc, plain, names);
+    perform(rt, alloc, &engine, &mut seats, case);
+    if case.lacks_seat {
+        close_at_last(rt, alloc, engine, seats)
     } else {
-        closed(rt, alloc, engine, seats)?
-    };
-    expect_case(rt, alloc, &closed, case)
+        closed(rt, alloc, engine, seats)
+    }
 }
 
 fn perform<
     N: Named + Send + Sync,
     H: Ledger + Send + Sync,
     R: Threads + Wait + Clock + Abort + Eprint + Sync,
->(
-    rt: &R,
-    alloc: Global,
-    engine: &Engine<N, H>,
-    seats: &mut [Seat<N, H>],
-    case: &Case,
-) -> Result<(), Fail> {
+>(rt: &R, alloc: Global, engine: &Engine<N, H>, seats: &mut [Seat<N, H>], case: &Case) {
     match case.act {
         Act::Put(steps) => puts::put_steps(rt, alloc, engine, seats, steps, case.accepted),
         Act::PutBehindFolded => folds::put_from_both(rt, alloc, engine, seats),
@@ -138,18 +133,5 @@ fn perform<
         Act::ReadInsideALook => versions::read_inside_a_look(rt, alloc, engine, seats),
         Act::PutAndFind => versions::put_and_find(rt, alloc, engine, seats),
         Act::Watch => versions::watch_from_seats(rt, alloc, engine, seats),
-    }
-}
-
-fn expect_case(
-    rt: &(impl Abort + Eprint),
-    alloc: Global,
-    closed: &PlainEngine,
-    case: &Case,
-) -> Result<(), Fail> {
-    expect_closed(rt, closed, case.accepted, case.shards);
-    match case.batches {
-        Some(batches) => expect_batches(rt, alloc, closed, batches),
-        None => Ok(()),
     }
 }

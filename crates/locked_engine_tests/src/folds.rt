@@ -9,7 +9,7 @@ use batch_store::Setup;
 use locked_engine::PutFault::{NumberReused, OverTotal};
 use locked_engine::{Engine, Named, Seat};
 use plain_engine::PlainEngine;
-use std::alloc::{AllocError, Global};
+use std::alloc::Global;
 use std::io::Eprint;
 use std::process::Abort;
 use std::random::RandomSource;
@@ -25,38 +25,28 @@ const TWO: Cells = &[(1, 0, 1), (2, 2, 1)];
 
 // Puts a batch that is accepted.
 fn accept(
+    rt: &impl Abort,
     alloc: Global,
     plain: &mut PlainEngine,
     setup: &Setup,
     client: u64,
     cells: Cells,
-) -> Result<(), Fail>
+)
     requires setup { plain.old.setup ≡ setup.now }
     ensures setup { plain.new.setup ≡ plain.old.setup }
 {
-    let b = batch(alloc, setup, client, 1, cells)?;
-    match plain.put(alloc, b) {
-        Ok(_) => Ok(()),
-        Err(_) => Err("put".into()),
-    }
+    let b = batch(rt, alloc, setup, client, 1, cells);
+    let _kept = plain.put(alloc, b).expect(rt, "put");
 }
 
-// Puts two batches: the one of client 7 of total 9, and that of client 8 of total 3.
-fn accept_two(alloc: Global, plain: &mut PlainEngine, setup: &Setup) -> Result<(), Fail>
-    requires setup { plain.old.setup ≡ setup.now }
-{
-    accept(alloc, plain, setup, 7, NINE)?;
-    accept(alloc, plain, setup, 8, THREE)
-}
-
-// An engine of one thread that has folded them.
-fn folded_two<R: RandomSource>(rt: &R, alloc: Global) -> Result<PlainEngine, Fail> {
-    let setup = small_setup()?;
-    let mut plain = PlainEngine::new(rt, alloc, setup)?;
-    accept_two(alloc, &mut plain, &setup)?;
+// An engine of one thread that has folded two batches: one of client 7 of total 9, and one of client 8 of total 3.
+fn folded_two<R: RandomSource + Abort>(rt: &R, alloc: Global, setup: Setup) -> PlainEngine {
+    let mut plain = PlainEngine::new(rt, alloc, setup).expect(rt, "memory");
+    accept(rt, alloc, &mut plain, &setup, 7, NINE);
+    accept(rt, alloc, &mut plain, &setup, 8, THREE);
     match plain.fold(alloc) {
-        Ok(folded) => Ok(folded),
-        Err(_) => Err("fold".into()),
+        Ok(folded) => folded,
+        Err(_) => panic!(rt; "fold"),
     }
 }
 
@@ -71,8 +61,9 @@ static BEHIND: Case = Case {
 
 #[test]
 fn folded_batches_are_known_to_each_seat(rt: HostRuntime) -> Result<(), Fail> {
-    let plain = folded_two(&rt, rt.alloc())?;
-    play_on(&rt, rt.alloc(), plain, &BEHIND)
+    let setup = small_setup()?;
+    play_on(&rt, rt.alloc(), folded_two(&rt, rt.alloc(), setup), &BEHIND);
+    Ok(())
 }
 
 // Folded batches keep the replies that they had, a new one takes the next place, and the total goes on.
@@ -103,17 +94,16 @@ pub fn put_from_both<N: Named, H: Ledger, R: Wait + Abort + Eprint>(
     alloc: Global,
     engine: &Engine<N, H>,
     seats: &mut [Seat<N, H>],
-) -> Result<(), Fail> {
-    let (first, second) = two_seats(seats)?;
+) {
+    let (first, second) = two_seats(rt, seats);
     expect_status(rt, engine, first, 2, 12);
-    put_all(rt, alloc, engine, first, FIRST)?;
-    put_all(rt, alloc, engine, second, SECOND)?;
+    put_all(rt, alloc, engine, first, FIRST);
+    put_all(rt, alloc, engine, second, SECOND);
     expect_status(rt, engine, first, 3, 14);
     expect_counts(rt, engine, COUNTS);
-    expect_export(rt, alloc, engine, SUM)?;
-    expect_count(rt, alloc, engine, second, 1)?;
-    expect_all(rt, alloc, engine, second)?;
-    Ok(())
+    expect_export(rt, alloc, engine, SUM);
+    expect_count(rt, alloc, engine, second, 1);
+    expect_all(rt, alloc, engine, second);
 }
 
 // The list of all that was accepted: two folded batches over a base of their total, and one behind them.
@@ -122,8 +112,7 @@ fn expect_all<N: Named, H: Ledger, R: Wait + Abort + Eprint>(
     alloc: Global,
     engine: &Engine<N, H>,
     seat: &mut Seat<N, H>,
-) -> Result<(), AllocError> {
-    let list = engine.book_list(rt, alloc, seat)?;
+) {
+    let list = engine.book_list(rt, alloc, seat).expect(rt, "memory");
     assert!(rt; list.folded.len() == 2 && list.batches.len() == 1 && list.base.total() == 12);
-    Ok(())
 }

@@ -36,7 +36,8 @@ static LOOKED_AT: Case = Case {
 
 #[test]
 fn a_look_finds_what_the_shard_holds(rt: HostRuntime) -> Result<(), Fail> {
-    play(&rt, rt.alloc(), small_setup()?, &LOOKED_AT)
+    play(&rt, rt.alloc(), small_setup()?, &LOOKED_AT);
+    Ok(())
 }
 
 /// Puts both batches from the first seat, and looks at each shard.
@@ -45,20 +46,15 @@ pub fn put_and_look<N: Named, H: Ledger, R: Wait + Abort + Eprint>(
     alloc: Global,
     engine: &Engine<N, H>,
     seats: &mut [Seat<N, H>],
-) -> Result<(), Fail> {
-    put_all(rt, alloc, engine, first_seat(seats)?, PUTS)?;
-    expect_shards(rt, engine)
+) {
+    put_all(rt, alloc, engine, first_seat(rt, seats), PUTS);
+    expect_shards(rt, engine);
 }
 
-fn expect_shards<N: Named, H: Ledger, R: Wait + Abort + Eprint>(
-    rt: &R,
-    engine: &Engine<N, H>,
-) -> Result<(), Fail> {
+fn expect_shards<N: Named, H: Ledger, R: Wait + Abort + Eprint>(rt: &R, engine: &Engine<N, H>) {
     for held in &SHARDS {
         let (number, total, batches, cells) = *held;
-        if number >= engine.setup().shards() {
-            return Err("no such shard".into());
-        }
+        assert!(rt; number < engine.setup().shards());
         let found = engine.look(rt, number, |shard| {
             shard.number() == number
                 && shard.total() == total
@@ -67,7 +63,6 @@ fn expect_shards<N: Named, H: Ledger, R: Wait + Abort + Eprint>(
         });
         assert!(rt; same_at(rt, &number, &found, &Some(true)));
     }
-    Ok(())
 }
 
 // Whether a shard has each of the two batches, or hasn't, and no others.

@@ -87,7 +87,7 @@ static CASES: &[(u64, Case)] = &[
 fn puts_are_answered_as_by_one_thread(rt: HostRuntime) -> Result<(), Fail> {
     for (most, case) in CASES {
         let setup = Setup::new(3, 3, &[2, 4], 2, 100, *most)?;
-        play(&rt, rt.alloc(), setup, case)?;
+        play(&rt, rt.alloc(), setup, case);
     }
     Ok(())
 }
@@ -100,10 +100,9 @@ pub fn put_steps<N: Named, H: Ledger, R: Wait + Abort + Eprint>(
     seats: &mut [Seat<N, H>],
     steps: &[Step],
     accepted: (u64, u64),
-) -> Result<(), Fail> {
-    let seat = first_seat(seats)?;
-    put_all(rt, alloc, engine, seat, steps)?;
+) {
+    let seat = first_seat(rt, seats);
+    put_all(rt, alloc, engine, seat, steps);
     expect_status(rt, engine, seat, accepted.0, accepted.1);
-    expect_count(rt, alloc, engine, seat, accepted.0)?;
-    Ok(())
+    expect_count(rt, alloc, engine, seat, accepted.0);
 }

@@ -50,7 +50,8 @@ static BESIDE: Case = Case {
 
 #[test]
 fn a_shard_that_is_held_keeps_nobody_from_another(rt: HostRuntime) -> Result<(), Fail> {
-    play(&rt, rt.alloc(), small_setup()?, &BESIDE)
+    play(&rt, rt.alloc(), small_setup()?, &BESIDE);
+    Ok(())
 }
 
 /// While one thread holds shard 0, the other's put into shard 1 is answered.
@@ -58,21 +59,19 @@ pub fn put_beside_a_look<
     N: Named + Send + Sync,
     H: Ledger + Send + Sync,
     R: Threads + Wait + Abort + Eprint + Clock + Sync,
->(rt: &R, alloc: Global, engine: &Engine<N, H>, seats: &mut [Seat<N, H>]) -> Result<(), Fail> {
-    let seat = seats.last_mut().ok_or("no seat")?;
-    let (looked, answer) = look_and_put(rt, alloc, engine, seat);
-    assert!(rt; same(rt, &(looked, answer), &(Some(true), Some(Ok((0, 4))))));
-    expect_export(rt, alloc, engine, IN_SHARD_1)?;
-    Ok(())
+>(rt: &R, alloc: Global, engine: &Engine<N, H>, seats: &mut [Seat<N, H>]) {
+    let seat = seats.last_mut().expect(rt, "a seat");
+    let found = look_and_put(rt, alloc, engine, seat);
+    assert!(rt; same(rt, &found, &(Some(true), Ok((0, 4)))));
+    expect_export(rt, alloc, engine, IN_SHARD_1);
 }
 
 // Whether the put was answered while the shard was held, and what.
-fn look_and_put<N: Named + Send + Sync, H: Ledger + Send + Sync, R: Threads + Wait + Clock + Sync>(
-    rt: &R,
-    alloc: Global,
-    engine: &Engine<N, H>,
-    seat: &mut Seat<N, H>,
-) -> (Option<bool>, Option<Answer>) {
+fn look_and_put<
+    N: Named + Send + Sync,
+    H: Ledger + Send + Sync,
+    R: Threads + Wait + Clock + Abort + Sync,
+>(rt: &R, alloc: Global, engine: &Engine<N, H>, seat: &mut Seat<N, H>) -> (Option<bool>, Answer) {
     let flag = AtomicU64::new(0);
     thread::join(
         rt,
@@ -94,15 +93,15 @@ fn hold_shard_0<N: Named, H: Ledger, R: Wait + Clock>(
     })
 }
 
-fn put_into_shard_1<N: Named, H: Ledger, R: Wait + Clock>(
+fn put_into_shard_1<N: Named, H: Ledger, R: Wait + Clock + Abort>(
     rt: &R,
     alloc: Global,
     engine: &Engine<N, H>,
     seat: &mut Seat<N, H>,
     flag: &AtomicU64,
-) -> Option<Answer> {
+) -> Answer {
     let _held = comes_to(rt, flag, HELD);
-    let answer = put(rt, alloc, engine, seat, (7, 1), IN_SHARD_1).ok();
+    let answer = put(rt, alloc, engine, seat, (7, 1), IN_SHARD_1);
     flag.store(ANSWERED, Ordering::SeqCst);
     answer
 }
@@ -125,7 +124,8 @@ static READ: Case = Case {
 
 #[test]
 fn seats_read_what_was_put(rt: HostRuntime) -> Result<(), Fail> {
-    play(&rt, rt.alloc(), small_setup()?, &READ)
+    play(&rt, rt.alloc(), small_setup()?, &READ);
+    Ok(())
 }
 
 /// Two threads put a batch each, and each seat reads both.
@@ -133,12 +133,12 @@ pub fn put_and_read<
     N: Named + Send + Sync,
     H: Ledger + Send + Sync,
     R: Threads + Wait + Abort + Eprint + Sync,
->(rt: &R, alloc: Global, engine: &Engine<N, H>, seats: &mut [Seat<N, H>]) -> Result<(), Fail> {
-    let (first, second) = two_seats(seats)?;
-    put_first(rt, alloc, engine, first)?;
+>(rt: &R, alloc: Global, engine: &Engine<N, H>, seats: &mut [Seat<N, H>]) {
+    let (first, second) = two_seats(rt, seats);
+    put_first(rt, alloc, engine, first);
     put_second(rt, alloc, engine, second);
-    read_both(rt, alloc, engine, first)?;
-    read_both(rt, alloc, engine, second)
+    read_both(rt, alloc, engine, first);
+    read_both(rt, alloc, engine, second);
 }
 
 fn put_first<N: Named, H: Ledger, R: Wait + Abort + Eprint>(
@@ -146,11 +146,10 @@ fn put_first<N: Named, H: Ledger, R: Wait + Abort + Eprint>(
     alloc: Global,
     engine: &Engine<N, H>,
     seat: &mut Seat<N, H>,
-) -> Result<(), Fail> {
-    put_all(rt, alloc, engine, seat, &[(7, 1, FIRST, Ok((0, 5)))])?;
+) {
+    put_all(rt, alloc, engine, seat, &[(7, 1, FIRST, Ok((0, 5)))]);
     expect_status(rt, engine, seat, 1, 5);
     expect_counts(rt, engine, &[(0, 0, Some(5))]);
-    Ok(())
 }
 
 // Puts the second batch from a thread of its own.
@@ -159,12 +158,8 @@ fn put_second<
     H: Ledger + Send + Sync,
     R: Threads + Wait + Abort + Eprint + Sync,
 >(rt: &R, alloc: Global, engine: &Engine<N, H>, seat: &mut Seat<N, H>) {
-    let (answer, ()) = thread::join(
-        rt,
-        || put(rt, alloc, engine, seat, (8, 1), SECOND).ok(),
-        || {},
-    );
-    assert!(rt; same(rt, &answer, &Some(Ok((1, 12)))));
+    let (answer, ()) = thread::join(rt, || put(rt, alloc, engine, seat, (8, 1), SECOND), || {});
+    assert!(rt; same(rt, &answer, &Ok((1, 12))));
 }
 
 static COUNTS: &[(u64, u64, Option<u64>)] = &[
@@ -180,22 +175,12 @@ fn read_both<N: Named, H: Ledger, R: Wait + Abort + Eprint>(
     alloc: Global,
     engine: &Engine<N, H>,
     seat: &mut Seat<N, H>,
-) -> Result<(), Fail> {
+) {
     expect_status(rt, engine, seat, 2, 12);
     expect_counts(rt, engine, COUNTS);
     expect_row(rt, engine, 0, 2, 8);
     expect_row(rt, engine, 3, 0, 0);
-    expect_export(rt, alloc, engine, SUM)?;
-    list_both(rt, alloc, engine, seat)
-}
-
-fn list_both<N: Named, H: Ledger, R: Wait + Abort + Eprint>(
-    rt: &R,
-    alloc: Global,
-    engine: &Engine<N, H>,
-    seat: &mut Seat<N, H>,
-) -> Result<(), Fail> {
-    let list = engine.batch_list(rt, alloc, seat)?;
-    expect_list(rt, alloc, &list, TWO)?;
-    Ok(())
+    expect_export(rt, alloc, engine, SUM);
+    let list = engine.batch_list(rt, alloc, seat).expect(rt, "memory");
+    expect_list(rt, alloc, &list, TWO);
 }

@@ -8,7 +8,7 @@ use crate::opened::{first_seat, put, put_all};
 use batch_store::Setup;
 use hyper_matrix::RowSum;
 use locked_engine::{Engine, Named, Seat};
-use std::alloc::{AllocError, Global};
+use std::alloc::Global;
 use std::io::Eprint;
 use std::process::Abort;
 use std::sync::Wait;
@@ -31,7 +31,8 @@ static HELD: Case = Case {
 
 #[test]
 fn look_ups_are_answered_while_a_shard_is_held(rt: HostRuntime) -> Result<(), Fail> {
-    play(&rt, rt.alloc(), small_setup()?, &HELD)
+    play(&rt, rt.alloc(), small_setup()?, &HELD);
+    Ok(())
 }
 
 /// Reads a shard inside a look at it, of which any call that takes the shard's lock would never end.
@@ -40,40 +41,32 @@ pub fn read_inside_a_look<N: Named, H: Ledger, R: Wait + Abort + Eprint>(
     alloc: Global,
     engine: &Engine<N, H>,
     seats: &mut [Seat<N, H>],
-) -> Result<(), Fail> {
-    let seat = first_seat(seats)?;
-    put_all(rt, alloc, engine, seat, &[(7, 1, BOTH, Ok((0, 12)))])?;
-    expect_held_reads(rt, engine)?;
-    expect_held_export(rt, alloc, engine)
+) {
+    let seat = first_seat(rt, seats);
+    put_all(rt, alloc, engine, seat, &[(7, 1, BOTH, Ok((0, 12)))]);
+    expect_held_reads(rt, engine);
+    expect_held_export(rt, alloc, engine);
 }
 
-fn expect_held_reads<N: Named, H: Ledger, R: Wait + Abort + Eprint>(
-    rt: &R,
-    engine: &Engine<N, H>,
-) -> Result<(), Fail> {
+fn expect_held_reads<N: Named, H: Ledger, R: Wait + Abort + Eprint>(rt: &R, engine: &Engine<N, H>) {
     // Any call on a setup tells that there is a shard 0.
     let _shards = engine.setup().shards();
     let held = engine.look(rt, 0, |_shard| (engine.cell(rt, 0, 1), engine.row(rt, 0)));
-    let Some((cell, sum)) = held else {
-        return Err("no shard 0".into());
+    let sum = RowSum {
+        entries: 2,
+        total: 8,
     };
-    assert!(rt; same(rt, &cell, &Some(3)));
-    assert!(rt; same(rt, &(sum.entries, sum.total), &(2, 8)));
-    Ok(())
+    assert!(rt; same(rt, &held, &Some((Some(3), sum))));
 }
 
 fn expect_held_export<N: Named, H: Ledger, R: Wait + Abort + Eprint>(
     rt: &R,
     alloc: Global,
     engine: &Engine<N, H>,
-) -> Result<(), Fail> {
+) {
     let _shards = engine.setup().shards();
     let held = engine.look(rt, 0, |_shard| expect_export(rt, alloc, engine, BOTH));
-    let Some(exported) = held else {
-        return Err("no shard 0".into());
-    };
-    exported?;
-    Ok(())
+    assert!(rt; held.is_some());
 }
 
 // A batch, and then the count at (0, 0), the entries of row 0 with their total, and the cells of all shards.
@@ -142,7 +135,8 @@ static FOUND: Case = Case {
 
 #[test]
 fn a_seat_finds_its_own_puts_at_once(rt: HostRuntime) -> Result<(), Fail> {
-    play(&rt, rt.alloc(), small_setup()?, &FOUND)
+    play(&rt, rt.alloc(), small_setup()?, &FOUND);
+    Ok(())
 }
 
 /// Puts batches from the first seat, and reads after each.
@@ -151,14 +145,13 @@ pub fn put_and_find<N: Named, H: Ledger, R: Wait + Abort + Eprint>(
     alloc: Global,
     engine: &Engine<N, H>,
     seats: &mut [Seat<N, H>],
-) -> Result<(), Fail> {
-    let seat = first_seat(seats)?;
+) {
+    let seat = first_seat(rt, seats);
     let mut number = 0u64;
     for step in STEPS {
         number = number.wrapping_add(1);
-        put_step(rt, alloc, engine, seat, number, step)?;
+        put_step(rt, alloc, engine, seat, number, step);
     }
-    Ok(())
 }
 
 fn put_step<N: Named, H: Ledger, R: Wait + Abort + Eprint>(
@@ -168,13 +161,12 @@ fn put_step<N: Named, H: Ledger, R: Wait + Abort + Eprint>(
     seat: &mut Seat<N, H>,
     number: u64,
     step: &Step,
-) -> Result<(), Fail> {
-    let answer = put(rt, alloc, engine, seat, (7, number), step.cells)?;
+) {
+    let answer = put(rt, alloc, engine, seat, (7, number), step.cells);
     assert!(rt; answer.is_ok());
     expect_counts(rt, engine, &[(0, 0, step.count)]);
     expect_row(rt, engine, 0, step.row.0, step.row.1);
-    expect_export(rt, alloc, engine, step.export)?;
-    Ok(())
+    expect_export(rt, alloc, engine, step.export);
 }
 
 const ROUNDS: u64 = 2_000;
@@ -192,17 +184,19 @@ static WATCHED: Case = Case {
 #[test]
 fn what_is_shown_never_grows_less(rt: HostRuntime) -> Result<(), Fail> {
     let setup = Setup::new(4, 1, &[2, 4], 2, 1_000_000, 10_000)?;
-    play(&rt, rt.alloc(), setup, &WATCHED)
+    play(&rt, rt.alloc(), setup, &WATCHED);
+    Ok(())
 }
 
 static SUM: Cells = &[(0, 0, 2_000), (1, 0, 2_000), (2, 0, 2_000), (3, 0, 2_000)];
 
-fn three_seats<N: Named, H: Ledger>(
-    seats: &mut [Seat<N, H>],
-) -> Result<(&mut Seat<N, H>, &mut Seat<N, H>, &mut Seat<N, H>), Fail> {
+fn three_seats<'a, N: Named, H: Ledger>(
+    rt: &impl Abort,
+    seats: &'a mut [Seat<N, H>],
+) -> (&'a mut Seat<N, H>, &'a mut Seat<N, H>, &'a mut Seat<N, H>) {
     match seats {
-        [first, second, third, ..] => Ok((first, second, third)),
-        _ => Err("no three seats".into()),
+        [first, second, third, ..] => (first, second, third),
+        _ => panic!(rt; "three seats"),
     }
 }
 
@@ -211,8 +205,8 @@ pub fn watch_from_seats<
     N: Named + Send + Sync,
     H: Ledger + Send + Sync,
     R: Threads + Wait + Abort + Eprint + Sync,
->(rt: &R, alloc: Global, engine: &Engine<N, H>, seats: &mut [Seat<N, H>]) -> Result<(), Fail> {
-    let (first, second, third) = three_seats(seats)?;
+>(rt: &R, alloc: Global, engine: &Engine<N, H>, seats: &mut [Seat<N, H>]) {
+    let (first, second, third) = three_seats(rt, seats);
     let ended = AtomicU64::new(0);
     let (found, fits) = thread::join(
         rt,
@@ -220,12 +214,11 @@ pub fn watch_from_seats<
         || watch(rt, engine, third, &ended),
     );
     assert!(rt; same(rt, &(found, fits), &((true, true), true)));
-    expect_export(rt, alloc, engine, SUM)?;
-    Ok(())
+    expect_export(rt, alloc, engine, SUM);
 }
 
 // Whether each of two threads found all that it had put.
-fn put_from_both<N: Named + Send + Sync, H: Ledger + Send + Sync, R: Threads + Wait + Sync>(
+fn put_from_both<N: Named + Send + Sync, H: Ledger + Send + Sync, R: Threads + Wait + Abort + Sync>(
     rt: &R,
     alloc: Global,
     engine: &Engine<N, H>,
@@ -241,7 +234,7 @@ fn put_from_both<N: Named + Send + Sync, H: Ledger + Send + Sync, R: Threads + W
 }
 
 // Puts into two rows, one of each shard, that nobody else puts into. Whether all was found at once.
-fn put_rounds<N: Named, H: Ledger, R: Wait>(
+fn put_rounds<N: Named, H: Ledger, R: Wait + Abort>(
     rt: &R,
     alloc: Global,
     engine: &Engine<N, H>,
@@ -251,31 +244,25 @@ fn put_rounds<N: Named, H: Ledger, R: Wait>(
 ) -> bool {
     let mut found = true;
     for round in 0..ROUNDS {
-        found = found && put_round(rt, alloc, engine, seat, row, round).unwrap_or(false);
+        found = found && put_round(rt, alloc, engine, seat, row, round);
     }
     ended.fetch_add(1, Ordering::SeqCst);
     found
 }
 
-fn put_round<N: Named, H: Ledger, R: Wait>(
+fn put_round<N: Named, H: Ledger, R: Wait + Abort>(
     rt: &R,
     alloc: Global,
     engine: &Engine<N, H>,
     seat: &mut Seat<N, H>,
     row: u64,
     round: u64,
-) -> Result<bool, AllocError> {
+) -> bool {
     let other = row ^ 1;
-    let answer = put(
-        rt,
-        alloc,
-        engine,
-        seat,
-        (row, round),
-        &[(row, 0, 1), (other, 0, 1)],
-    )?;
+    let cells = [(row, 0, 1), (other, 0, 1)];
+    let answer = put(rt, alloc, engine, seat, (row, round), &cells);
     let count = round.wrapping_add(1);
-    Ok(answer.is_ok() && has_count(rt, engine, row, count) && has_count(rt, engine, other, count))
+    answer.is_ok() && has_count(rt, engine, row, count) && has_count(rt, engine, other, count)
 }
 
 // Whether a row has this count, in one cell.
