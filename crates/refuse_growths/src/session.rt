@@ -69,7 +69,13 @@ fn show_end(rt: &impl Print, ended: Ended) {
         Ended::Closed { rest } => tell(rt, &[("closed, bytes left", rest)]),
         Ended::Memory => say(rt, "session refused"),
         Ended::WriteFault { written } => {
-            tell(rt, &[("write refused behind bytes", written as u64)]);
+            tell(
+                rt,
+                &[(
+                    "write refused behind bytes",
+                    u64::try_from(written).unwrap_or(u64::MAX),
+                )],
+            );
         }
         _ => say(rt, "fault"),
     }

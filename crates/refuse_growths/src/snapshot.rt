@@ -88,7 +88,13 @@ fn write_at_last(rt: &impl Print, alloc: Global, snapshot: &Snapshot) -> Result<
     let mut link = Script::new(alloc, Vec::new(alloc), None, None);
     let mut again = Script::new(alloc, Vec::new(alloc), None, None);
     if let Err(fault) = written(&mut link, snapshot) {
-        tell(rt, &[("write refused behind bytes", fault.written as u64)]);
+        tell(
+            rt,
+            &[(
+                "write refused behind bytes",
+                u64::try_from(fault.written).unwrap_or(u64::MAX),
+            )],
+        );
         show_link(rt, &link);
         if written(&mut again, snapshot).is_err() {
             return Err(Stop::Fault);
