@@ -1,18 +1,18 @@
 //! What a client sends, and the session that answers it.
-ghost use Rattle.std.specs.Prelude.{IfOk, IfSome};
+ghost use Rattle.std.specs.Prelude.{IfSome};
 ghost use Rattle.wire_frames.specs.Frames.{HasWholeCells};
 
 use crate::hex::bytes_of;
 use crate::replies::are_replies;
 use batch_store::{Setup, SetupFault};
-use byte_io_tests::pieces;
+use byte_io_tests::{halves, pieces};
 use bytes::Bytes;
 use mm_text::Script;
 use plain_engine::PlainEngine;
-use std::alloc::{AllocError, Global};
+use std::alloc::Global;
+use std::process::Abort;
 use std::random::RandomSource;
-use std::test::Fail;
-use wire_proto::{EncodeFault, Ended, Request, encode_request, serve_engine};
+use wire_proto::{Ended, Request, encode_request, serve_engine};
 
 const BANNER: &str = "%%MatrixMarket matrix coordinate integer general\n";
 
@@ -44,56 +44,57 @@ pub fn small_setup() -> Result<Setup, SetupFault> {
 }
 
 /// The request of a put of this text.
-pub fn put_request(alloc: Global, pair: (u64, u64), text: &[u8]) -> Result<Request, AllocError>
-    ensures { IfOk result (λ request. HasWholeCells request) }
+pub fn put_request(rt: &impl Abort, alloc: Global, pair: (u64, u64), text: &[u8]) -> Request
+    ensures { HasWholeCells result }
 {
-    Ok(Request::Put {
+    let text = Bytes::copy_from_slice(alloc, text).expect(rt, "memory");
+    Request::Put {
         client: pair.0,
         number: pair.1,
-        text: Bytes::copy_from_slice(alloc, text)?,
-    })
+        text,
+    }
+}
+
+/// The frame of a put of this text.
+pub fn text_frame(rt: &impl Abort, alloc: Global, pair: (u64, u64), text: &[u8]) -> Vec<u8> {
+    let request = put_request(rt, alloc, pair, text);
+    encode_request(alloc, &request).expect(rt, "a frame")
 }
 
 /// The frame of a put whose text is these bytes behind the banner line.
-pub fn put_frame(alloc: Global, pair: (u64, u64), tail: &[u8]) -> Result<Vec<u8>, EncodeFault> {
-    let mut text = Vec::from_slice(alloc, BANNER.as_bytes())?;
-    text.extend_from_slice(tail)?;
-    let request = put_request(alloc, pair, text.as_slice())?;
-    encode_request(alloc, &request)
-}
-
-fn text_frame(alloc: Global, pair: (u64, u64), text: &str) -> Result<Vec<u8>, EncodeFault> {
-    let request = put_request(alloc, pair, text.as_bytes())?;
-    encode_request(alloc, &request)
+pub fn put_frame(rt: &impl Abort, alloc: Global, pair: (u64, u64), tail: &[u8]) -> Vec<u8> {
+    let mut text = Vec::from_slice(alloc, BANNER.as_bytes()).expect(rt, "memory");
+    text.extend_from_slice(tail).expect(rt, "memory");
+    text_frame(rt, alloc, pair, text.as_slice())
 }
 
 // The bytes of cells: row, column and count of each, the high byte first.
-fn bytes_of_cells(alloc: Global, cells: &[(u64, u64, u64)]) -> Result<Bytes, AllocError> {
+fn bytes_of_cells(rt: &impl Abort, alloc: Global, cells: &[(u64, u64, u64)]) -> Bytes {
     let mut bytes = Vec::new(alloc);
     for (row, col, count) in cells {
-        bytes.extend_from_slice(&row.to_be_bytes())?;
-        bytes.extend_from_slice(&col.to_be_bytes())?;
-        bytes.extend_from_slice(&count.to_be_bytes())?;
+        let numbers = [row.to_be_bytes(), col.to_be_bytes(), count.to_be_bytes()];
+        bytes
+            .extend_from_slice(numbers.as_flattened())
+            .expect(rt, "memory");
     }
-    Bytes::copy_from_slice(alloc, bytes.as_slice())
+    Bytes::copy_from_slice(alloc, bytes.as_slice()).expect(rt, "memory")
 }
 
 /// The frame of a put of these cells.
 pub fn cells_frame(
+    rt: &impl Abort,
     alloc: Global,
     pair: (u64, u64),
     list: &[(u64, u64, u64)],
-) -> Result<Vec<u8>, EncodeFault> {
-    let cells = bytes_of_cells(alloc, list)?;
-    if cells.len() % 24 != 0 {
-        return Err(EncodeFault::Memory);
-    }
+) -> Vec<u8> {
+    let cells = bytes_of_cells(rt, alloc, list);
+    assert!(rt; cells.len() % 24 == 0);
     let request = Request::PutCells {
         client: pair.0,
         number: pair.1,
         cells,
     };
-    encode_request(alloc, &request)
+    encode_request(alloc, &request).expect(rt, "a frame")
 }
 
 // The request of a frame that has no text.
@@ -111,65 +112,74 @@ fn short_request(ask: Ask) -> Option<Request>
     }
 }
 
-fn short_frame(alloc: Global, ask: Ask) -> Result<Vec<u8>, EncodeFault> {
-    match short_request(ask) {
-        Some(request) => encode_request(alloc, &request),
-        None => Ok(Vec::new(alloc)),
-    }
+fn short_frame(rt: &impl Abort, alloc: Global, ask: Ask) -> Vec<u8> {
+    let request = short_request(ask).expect(rt, "a request without text");
+    encode_request(alloc, &request).expect(rt, "a frame")
 }
 
 /// The bytes of a table's frame.
-pub fn frame(alloc: Global, ask: Ask) -> Result<Vec<u8>, EncodeFault> {
+pub fn frame(rt: &impl Abort, alloc: Global, ask: Ask) -> Vec<u8> {
     match ask {
-        Ask::Put(client, number, tail) => put_frame(alloc, (client, number), tail.as_bytes()),
-        Ask::Text(client, number, text) => text_frame(alloc, (client, number), text),
-        Ask::Cells(client, number, cells) => cells_frame(alloc, (client, number), cells),
-        Ask::Raw(digits) => Ok(bytes_of(alloc, digits)?),
-        short => short_frame(alloc, short),
+        Ask::Put(client, number, tail) => put_frame(rt, alloc, (client, number), tail.as_bytes()),
+        Ask::Text(client, number, text) => text_frame(rt, alloc, (client, number), text.as_bytes()),
+        Ask::Cells(client, number, cells) => cells_frame(rt, alloc, (client, number), cells),
+        Ask::Raw(digits) => bytes_of(rt, alloc, digits),
+        short => short_frame(rt, alloc, short),
     }
 }
 
 /// The frames of a table, one behind another.
-pub fn frames(alloc: Global, asks: &[Ask]) -> Result<Vec<u8>, EncodeFault> {
+pub fn frames(rt: &impl Abort, alloc: Global, asks: &[Ask]) -> Vec<u8> {
     let mut all = Vec::new(alloc);
     for ask in asks {
-        let one = frame(alloc, *ask)?;
-        all.extend_from_slice(one.as_slice())?;
+        let one = frame(rt, alloc, *ask);
+        all.extend_from_slice(one.as_slice()).expect(rt, "memory");
     }
-    Ok(all)
+    all
+}
+
+/// How many bytes the frames and the replies of a session have.
+pub fn sizes(rt: &impl Abort, alloc: Global, session: &Session) -> (usize, usize) {
+    let sent = frames(rt, alloc, session.0);
+    let replies = bytes_of(rt, alloc, session.1);
+    (sent.len(), replies.len())
+}
+
+/// The frames of a session in pieces of one size.
+pub fn in_pieces(rt: &impl Abort, alloc: Global, session: &Session, size: usize) -> Vec<Vec<u8>> {
+    let sent = frames(rt, alloc, session.0);
+    pieces(alloc, sent.as_slice(), size).expect(rt, "memory")
+}
+
+/// The frames of a session in two pieces.
+pub fn in_halves(rt: &impl Abort, alloc: Global, session: &Session, at: usize) -> Vec<Vec<u8>> {
+    let sent = frames(rt, alloc, session.0);
+    halves(alloc, sent.as_slice(), at).expect(rt, "memory")
 }
 
 /// A new engine of the small setup.
-pub fn small_engine<R: RandomSource>(rt: &R, alloc: Global) -> Result<PlainEngine, Fail> {
-    let setup = small_setup()?;
-    Ok(PlainEngine::new(rt, alloc, setup)?)
-}
-
-/// The most reads of a session: more than any of these tables needs.
-const TURNS: u64 = 1_000_000;
-
-/// How a session ended, and the link with what was written.
-#[derive(Drop)]
-pub struct Ran {
-    pub ended: Ended,
-    pub link: Script,
-}
-
-/// Serves these pieces over an engine. The read with number `fail_read` fails, and writes after `fail_write` bytes.
-pub fn run(
-    alloc: Global,
-    engine: &mut PlainEngine,
-    list: Vec<Vec<u8>>,
-    fail_read: Option<u64>,
-    fail_write: Option<u64>,
-) -> Ran {
-    let mut link = Script::new(alloc, list, fail_read, fail_write);
-    let ended = serve_engine(alloc, &mut link, engine, TURNS);
-    Ran { ended, link }
+pub fn small_engine<R: RandomSource + Abort>(rt: &R, alloc: Global) -> PlainEngine {
+    let setup = small_setup().expect(rt, "a setup");
+    PlainEngine::new(rt, alloc, setup).expect(rt, "memory")
 }
 
 /// What fails of a link's calls: the read with this number, and writes after so many bytes.
 pub type Failing = (Option<u64>, Option<u64>);
+
+/// The most reads of a session: more than any of these tables needs.
+const TURNS: u64 = 1_000_000;
+
+/// Serves these pieces over an engine: how the session ended, and the link with what was written.
+pub fn run(
+    alloc: Global,
+    engine: &mut PlainEngine,
+    list: Vec<Vec<u8>>,
+    failing: Failing,
+) -> (Ended, Script) {
+    let mut link = Script::new(alloc, list, failing.0, failing.1);
+    let ended = serve_engine(alloc, &mut link, engine, TURNS);
+    (ended, link)
+}
 
 /// How a session ended, whether all that it wrote was what is expected, and how many batches the engine has accepted
 /// then and their total.
@@ -183,59 +193,62 @@ pub fn served(
     failing: Failing,
     expected: &[u8],
 ) -> Outcome {
-    let ran = run(alloc, engine, list, failing.0, failing.1);
+    let (ended, link) = run(alloc, engine, list, failing);
     let status = engine.status();
     (
-        ran.ended,
-        ran.link.written() == expected,
+        ended,
+        link.written() == expected,
         (status.batches, status.total),
     )
 }
 
-/// Serves these bytes in one piece.
-pub fn exchanged(
+/// Serves these bytes in one piece. What these digits spell is expected.
+pub fn answered(
+    rt: &impl Abort,
     alloc: Global,
     engine: &mut PlainEngine,
     sent: &[u8],
-    expected: &[u8],
-) -> Result<Outcome, AllocError> {
-    let list = pieces(alloc, sent, sent.len())?;
-    Ok(served(alloc, engine, list, (None, None), expected))
+    digits: &str,
+) -> Outcome {
+    let expected = bytes_of(rt, alloc, digits);
+    let list = pieces(alloc, sent, sent.len()).expect(rt, "memory");
+    served(alloc, engine, list, (None, None), expected.as_slice())
 }
 
-/// Serves a table's frames in one piece.
-pub fn asked(
-    alloc: Global,
-    engine: &mut PlainEngine,
-    asks: &[Ask],
-    expected: &[u8],
-) -> Result<Outcome, EncodeFault> {
-    let sent = frames(alloc, asks)?;
-    Ok(exchanged(alloc, engine, sent.as_slice(), expected)?)
-}
+/// What becomes of a session, and whether each frame that its table expects is a reply.
+pub type Checked = (Outcome, bool);
 
-/// What becomes of a table's session over an engine, and whether each frame that the table expects is a reply.
+/// What becomes of a table's session over an engine.
 pub fn told(
+    rt: &impl Abort,
     alloc: Global,
     engine: &mut PlainEngine,
     session: &Session,
-) -> Result<(Outcome, bool), EncodeFault> {
-    let expected = bytes_of(alloc, session.1)?;
-    let outcome = asked(alloc, engine, session.0, expected.as_slice())?;
-    Ok((outcome, are_replies(expected.as_slice())))
-}
-
-/// The same over a new engine.
-pub fn told_anew<R: RandomSource>(
-    rt: &R,
-    alloc: Global,
-    session: &Session,
-) -> Result<(Outcome, bool), Fail> {
-    let mut engine = small_engine(rt, alloc)?;
-    Ok(told(alloc, &mut engine, session)?)
+) -> Checked {
+    let sent = frames(rt, alloc, session.0);
+    let outcome = answered(rt, alloc, engine, sent.as_slice(), session.1);
+    let expected = bytes_of(rt, alloc, session.1);
+    (outcome, are_replies(expected.as_slice()))
 }
 
 /// What is to become of a table's session.
-pub fn wanted(session: &Session) -> (Outcome, bool) {
+pub fn wanted(session: &Session) -> Checked {
     ((session.2, true, session.3), true)
+}
+
+/// What becomes of a table's session over a new engine and a link that cuts its frames so and whose calls fail, and of
+/// the whole session behind it. The first bytes of the replies are expected of the first.
+pub fn served_twice<R: RandomSource + Abort>(
+    rt: &R,
+    alloc: Global,
+    session: &Session,
+    list: Vec<Vec<u8>>,
+    failing: Failing,
+    len: usize,
+) -> (Outcome, Checked) {
+    let mut expected = bytes_of(rt, alloc, session.1);
+    expected.truncate(len);
+    let mut engine = small_engine(rt, alloc);
+    let first = served(alloc, &mut engine, list, failing, expected.as_slice());
+    (first, told(rt, alloc, &mut engine, session))
 }

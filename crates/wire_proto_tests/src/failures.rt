@@ -1,82 +1,31 @@
 //! Each read and each write of a session fails in turn.
 
 use crate::asks::{
-    Ask, Failing, Outcome, Session, asked, frame, frames, served, small_engine, told, wanted,
+    Ask, Checked, Outcome, Session, frame, in_pieces, served, served_twice, small_engine, told,
+    wanted,
 };
-use crate::cuts::{ASKS, REPLIES};
-use crate::hex::bytes_of;
+use crate::cuts::TWO_PUTS;
 use byte_io_tests::pieces;
-use plain_engine::PlainEngine;
-use std::alloc::Global;
-use std::random::RandomSource;
 use std::test::Fail;
 use test_support::{same, same_at};
-use wire_proto::{EncodeFault, Ended};
+use wire_proto::Ended;
 
-/// What becomes of the session where it is served again over a link that doesn't fail.
-pub fn again(alloc: Global, engine: &mut PlainEngine) -> Result<Outcome, EncodeFault> {
-    let expected = bytes_of(alloc, REPLIES)?;
-    asked(alloc, engine, ASKS, expected.as_slice())
-}
-
-/// Whatever failed before, the replies are the same.
-pub const AGAIN: Outcome = (Ended::Closed { rest: 0 }, true, (2, 8));
-
-// What becomes of the session over a link whose calls fail, whose frames come in pieces of one size. The first bytes of
-// the replies are expected.
-fn served_failing(
-    alloc: Global,
-    engine: &mut PlainEngine,
-    size: usize,
-    failing: Failing,
-    len: usize,
-) -> Result<Outcome, EncodeFault> {
-    let sent = frames(alloc, ASKS)?;
-    let list = pieces(alloc, sent.as_slice(), size)?;
-    let mut expected = bytes_of(alloc, REPLIES)?;
-    expected.truncate(len);
-    Ok(served(alloc, engine, list, failing, expected.as_slice()))
-}
-
-// The same, and what becomes of the session again.
-fn served_twice(
-    alloc: Global,
-    engine: &mut PlainEngine,
-    size: usize,
-    failing: Failing,
-    len: usize,
-) -> Result<[Outcome; 2], EncodeFault> {
-    let first = served_failing(alloc, engine, size, failing, len)?;
-    Ok([first, again(alloc, engine)?])
-}
-
-// The same over a new engine.
-fn twice_anew<R: RandomSource>(
-    rt: &R,
-    alloc: Global,
-    size: usize,
-    failing: Failing,
-    len: usize,
-) -> Result<[Outcome; 2], Fail> {
-    let mut engine = small_engine(rt, alloc)?;
-    Ok(served_twice(alloc, &mut engine, size, failing, len)?)
-}
-
-// What becomes of them where the write fails behind so many bytes. The second batch is accepted before the first byte
-// of its reply is written.
-fn failed_write(room: u64) -> [Outcome; 2] {
+// What becomes of the session where the write fails behind so many bytes, and of the session again: whatever failed
+// before, the replies are the same. The second batch is accepted before the first byte of its reply is written.
+fn failed_write(room: u64) -> (Outcome, Checked) {
     let accepted = if room < 21 { (1, 5) } else { (2, 8) };
     let ended = Ended::WriteFault {
         written: u128::from(room),
     };
-    [(ended, true, accepted), AGAIN]
+    ((ended, true, accepted), wanted(&TWO_PUTS))
 }
 
 #[test]
 fn each_write_fails_in_turn(rt: HostRuntime) -> Result<(), Fail> {
     for room in 0..56u64 {
+        let list = in_pieces(&rt, rt.alloc(), &TWO_PUTS, 1_000);
         let failing = (None, Some(room));
-        let found = twice_anew(&rt, rt.alloc(), 1_000, failing, room as usize)?;
+        let found = served_twice(&rt, rt.alloc(), &TWO_PUTS, list, failing, room as usize);
         assert!(rt; same_at(&rt, &room, &found, &failed_write(room)));
     }
     Ok(())
@@ -85,8 +34,10 @@ fn each_write_fails_in_turn(rt: HostRuntime) -> Result<(), Fail> {
 // There is room for all replies, and for no byte more.
 #[test]
 fn the_last_write_does_not_fail(rt: HostRuntime) -> Result<(), Fail> {
-    let found = twice_anew(&rt, rt.alloc(), 1_000, (None, Some(56)), 56)?;
-    assert!(rt; same(&rt, &found, &[AGAIN; 2]));
+    let list = in_pieces(&rt, rt.alloc(), &TWO_PUTS, 1_000);
+    let found = served_twice(&rt, rt.alloc(), &TWO_PUTS, list, (None, Some(56)), 56);
+    let whole = (Ended::Closed { rest: 0 }, true, (2, 8));
+    assert!(rt; same(&rt, &found, &(whole, wanted(&TWO_PUTS))));
     Ok(())
 }
 
@@ -104,9 +55,10 @@ fn answered_after(reads: u64) -> (usize, (u64, u64)) {
 fn each_read_fails_in_turn(rt: HostRuntime) -> Result<(), Fail> {
     for reads in 0..186u64 {
         let end = answered_after(reads);
-        let found = twice_anew(&rt, rt.alloc(), 1, (Some(reads), None), end.0)?;
-        let wanted = [(Ended::ReadFault, true, end.1), AGAIN];
-        assert!(rt; same_at(&rt, &reads, &found, &wanted));
+        let list = in_pieces(&rt, rt.alloc(), &TWO_PUTS, 1);
+        let found = served_twice(&rt, rt.alloc(), &TWO_PUTS, list, (Some(reads), None), end.0);
+        let first = (Ended::ReadFault, true, end.1);
+        assert!(rt; same_at(&rt, &reads, &found, &(first, wanted(&TWO_PUTS))));
     }
     Ok(())
 }
@@ -122,29 +74,16 @@ static ONCE_MORE: Session = (
     (1, 5),
 );
 
-// The first reply is lost behind its third byte.
-fn lost(alloc: Global, engine: &mut PlainEngine) -> Result<Outcome, EncodeFault> {
-    let sent = frame(alloc, FIVE)?;
-    let list = pieces(alloc, sent.as_slice(), 100)?;
-    Ok(served(alloc, engine, list, (None, Some(3)), &[0, 0, 0]))
-}
-
-// What becomes of the session with the lost reply, though its batch is accepted.
+// What becomes of the session whose reply is lost behind its third byte, though its batch is accepted.
 const LOST: Outcome = (Ended::WriteFault { written: 3 }, true, (1, 5));
-
-// What becomes of it, and of the one behind it.
-fn lost_and_sent(
-    alloc: Global,
-    engine: &mut PlainEngine,
-) -> Result<(Outcome, (Outcome, bool)), EncodeFault> {
-    let first = lost(alloc, engine)?;
-    Ok((first, told(alloc, engine, &ONCE_MORE)?))
-}
 
 #[test]
 fn a_batch_whose_reply_was_lost_counts_once(rt: HostRuntime) -> Result<(), Fail> {
-    let mut engine = small_engine(&rt, rt.alloc())?;
-    let found = lost_and_sent(rt.alloc(), &mut engine)?;
-    assert!(rt; same(&rt, &found, &(LOST, wanted(&ONCE_MORE))));
+    let sent = frame(&rt, rt.alloc(), FIVE);
+    let list = pieces(rt.alloc(), sent.as_slice(), 100).expect(&rt, "memory");
+    let mut engine = small_engine(&rt, rt.alloc());
+    let lost = served(rt.alloc(), &mut engine, list, (None, Some(3)), &[0, 0, 0]);
+    let behind = told(&rt, rt.alloc(), &mut engine, &ONCE_MORE);
+    assert!(rt; same(&rt, &(lost, behind), &(LOST, wanted(&ONCE_MORE))));
     Ok(())
 }

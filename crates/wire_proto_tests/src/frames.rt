@@ -1,8 +1,9 @@
 //! Frames: headers at their bounds, and the requests that pieces make.
 
-use crate::asks::{Ask, frame, put_request};
+use crate::asks::{Ask, frame, put_request, text_frame};
 use crate::hex::bytes_of;
-use std::alloc::{AllocError, Global};
+use std::alloc::Global;
+use std::process::Abort;
 use std::test::Fail;
 use test_support::{holds_at, same, same_at};
 use wire_proto::{EncodeFault, FrameFault, Frames, Request, encode_request};
@@ -67,25 +68,27 @@ fn kind(request: &Request) -> u8 {
 }
 
 fn next_kind(alloc: Global, frames: &mut Frames) -> Result<Option<u8>, FrameFault> {
-    match frames.next(alloc)? {
-        Some(request) => Ok(Some(kind(&request))),
-        None => Ok(None),
+    match frames.next(alloc) {
+        Ok(Some(request)) => Ok(Some(kind(&request))),
+        Ok(None) => Ok(None),
+        Err(fault) => Err(fault),
     }
 }
 
 // Feeds bytes in pieces of one size, and tells whether there is no request before the last.
 fn feed_pieces(
+    rt: &impl Abort,
     alloc: Global,
     frames: &mut Frames,
     bytes: &[u8],
     size: usize,
-) -> Result<bool, AllocError> {
+) -> bool {
     let mut none = true;
     for piece in bytes.chunks(size.max(1)) {
         none = none && next_kind(alloc, frames) == Ok(None);
-        frames.feed(alloc, piece)?;
+        frames.feed(alloc, piece).expect(rt, "memory");
     }
-    Ok(none)
+    none
 }
 
 /// What a header leads to.
@@ -93,16 +96,16 @@ type Judged = Result<Option<u8>, FrameFault>;
 
 // What becomes of a header that is fed byte by byte: whether there is no request before its last, what it leads to, and
 // where that is a fault, what it leads to once more comes behind it.
-fn judged(alloc: Global, digits: &str) -> Result<(bool, Judged, Option<Judged>), AllocError> {
-    let bytes = bytes_of(alloc, digits)?;
+fn judge(rt: &impl Abort, alloc: Global, digits: &str) -> (bool, Judged, Option<Judged>) {
+    let bytes = bytes_of(rt, alloc, digits);
     let mut frames = Frames::new(alloc);
-    let none = feed_pieces(alloc, &mut frames, bytes.as_slice(), 1)?;
+    let none = feed_pieces(rt, alloc, &mut frames, bytes.as_slice(), 1);
     let first = next_kind(alloc, &mut frames);
     if first.is_ok() {
-        return Ok((none, first, None));
+        return (none, first, None);
     }
-    frames.feed(alloc, &[0u8; 40])?;
-    Ok((none, first, Some(next_kind(alloc, &mut frames))))
+    frames.feed(alloc, &[0u8; 40]).expect(rt, "memory");
+    (none, first, Some(next_kind(alloc, &mut frames)))
 }
 
 // A fault stays.
@@ -117,7 +120,7 @@ fn stays(expected: Judged) -> Option<Judged> {
 #[test]
 fn headers_are_judged_at_their_fifth_byte(rt: HostRuntime) -> Result<(), Fail> {
     for (digits, expected) in HEADERS {
-        let found = judged(rt.alloc(), digits)?;
+        let found = judge(&rt, rt.alloc(), digits);
         let wanted = (true, *expected, stays(*expected));
         assert!(rt; same_at(&rt, digits, &found, &wanted));
     }
@@ -138,45 +141,31 @@ fn text_of_put(request: &Option<Request>, pair: (u64, u64)) -> Option<&[u8]> {
     }
 }
 
-// The frame of a put of this text.
-fn frame_of_put(alloc: Global, pair: (u64, u64), text: &[u8]) -> Result<Vec<u8>, EncodeFault> {
-    let request = put_request(alloc, pair, text)?;
-    encode_request(alloc, &request)
-}
-
-// Feeds the frame of this put in pieces of 64 KiB, and tells whether there is no request before the last.
-fn feed_put(alloc: Global, frames: &mut Frames, text: &[u8]) -> Result<bool, EncodeFault> {
-    let frame = frame_of_put(alloc, (7, u64::MAX), text)?;
-    Ok(feed_pieces(alloc, frames, frame.as_slice(), 65_536)?)
-}
-
-// Whether the next request is a put of this text.
-fn is_put_of(alloc: Global, frames: &mut Frames, text: &[u8]) -> Result<bool, FrameFault> {
-    let request = frames.next(alloc)?;
-    Ok(text_of_put(&request, (7, u64::MAX)) == Some(text))
-}
-
-// Whether a put comes whole, and with nothing before or behind it.
-fn comes_whole(alloc: Global, text: &[u8]) -> Result<[bool; 3], Fail> {
+// Whether a put comes whole in pieces of 64 KiB, and with nothing before or behind it.
+fn comes_whole(rt: &impl Abort, alloc: Global, text: &[u8]) -> [bool; 3] {
+    let pair = (7, u64::MAX);
+    let frame = text_frame(rt, alloc, pair, text);
     let mut frames = Frames::new(alloc);
-    let none_before = feed_put(alloc, &mut frames, text)?;
-    let is_it = is_put_of(alloc, &mut frames, text)?;
+    let none_before = feed_pieces(rt, alloc, &mut frames, frame.as_slice(), 65_536);
+    let request = frames.next(alloc).expect(rt, "a request");
+    let is_it = text_of_put(&request, pair) == Some(text);
     let none_behind = next_kind(alloc, &mut frames) == Ok(None);
-    Ok([none_before, is_it, none_behind])
+    [none_before, is_it, none_behind]
 }
 
 #[test]
 fn a_longest_put_comes_whole_in_pieces(rt: HostRuntime) -> Result<(), Fail> {
-    let text = vec![in rt.alloc(); 37u8; 67_108_848]?;
-    let found = comes_whole(rt.alloc(), text.as_slice())?;
+    let text = vec![in rt.alloc(); 37u8; 67_108_848].expect(&rt, "memory");
+    let found = comes_whole(&rt, rt.alloc(), text.as_slice());
     assert!(rt; same(&rt, &found, &[true; 3]));
     Ok(())
 }
 
 #[test]
 fn a_put_that_is_one_byte_longer_has_no_frame(rt: HostRuntime) -> Result<(), Fail> {
-    let text = vec![in rt.alloc(); 37u8; 67_108_849]?;
-    let fault = frame_of_put(rt.alloc(), (7, 1), text.as_slice()).err();
+    let text = vec![in rt.alloc(); 37u8; 67_108_849].expect(&rt, "memory");
+    let request = put_request(&rt, rt.alloc(), (7, 1), text.as_slice());
+    let fault = encode_request(rt.alloc(), &request).err();
     assert!(rt; same(&rt, &fault, &Some(EncodeFault::TooLarge)));
     Ok(())
 }
@@ -209,18 +198,12 @@ static SPELLED: &[(Ask, &str)] = &[
     ),
 ];
 
-// Whether the frame of a request has these bytes.
-fn is_spelled(alloc: Global, ask: Ask, digits: &str) -> Result<bool, EncodeFault> {
-    let expected = bytes_of(alloc, digits)?;
-    let frame = frame(alloc, ask)?;
-    Ok(frame.as_slice() == expected.as_slice())
-}
-
 #[test]
 fn requests_are_spelled(rt: HostRuntime) -> Result<(), Fail> {
     for (ask, digits) in SPELLED {
-        let spelled = is_spelled(rt.alloc(), *ask, digits)?;
-        assert!(rt; holds_at(&rt, digits, spelled));
+        let expected = bytes_of(&rt, rt.alloc(), digits);
+        let found = frame(&rt, rt.alloc(), *ask);
+        assert!(rt; holds_at(&rt, digits, found.as_slice() == expected.as_slice()));
     }
     Ok(())
 }

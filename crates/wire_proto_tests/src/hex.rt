@@ -1,6 +1,7 @@
 //! Bytes as a table spells them.
 
-use std::alloc::{AllocError, Global};
+use std::alloc::Global;
+use std::process::Abort;
 
 // The value of a digit.
 fn digit(byte: u8) -> Option<u8> {
@@ -12,7 +13,7 @@ fn digit(byte: u8) -> Option<u8> {
 }
 
 /// The bytes that pairs of digits spell; whatever else stands in the text is skipped.
-pub fn bytes_of(alloc: Global, text: &str) -> Result<Vec<u8>, AllocError> {
+pub fn bytes_of(rt: &impl Abort, alloc: Global, text: &str) -> Vec<u8> {
     let mut bytes = Vec::new(alloc);
     let mut high = None;
     for byte in text.as_bytes() {
@@ -20,10 +21,11 @@ pub fn bytes_of(alloc: Global, text: &str) -> Result<Vec<u8>, AllocError> {
             (None, _) => {}
             (Some(value), None) => high = Some(value),
             (Some(value), Some(first)) => {
-                bytes.push((first as u8).wrapping_mul(16).wrapping_add(value))?;
+                let whole = (first as u8).wrapping_mul(16).wrapping_add(value);
+                bytes.push(whole).expect(rt, "memory");
                 high = None;
             }
         }
     }
-    Ok(bytes)
+    bytes
 }

@@ -5,12 +5,13 @@ use crate::hex::bytes_of;
 use batch_store::Kept;
 use byte_io_tests::pieces;
 use hyper_matrix::RowSum;
-use plain_engine::{PlainEngine, Status};
-use std::alloc::{AllocError, Global};
+use plain_engine::Status;
+use std::alloc::Global;
+use std::process::Abort;
 use std::random::RandomSource;
 use std::test::Fail;
 use test_support::{holds_at, same, same_at};
-use wire_proto::{EncodeFault, Reply, decode_reply};
+use wire_proto::{Reply, decode_reply};
 
 /// The first frame of some bytes, and what stands behind it, where it is whole.
 pub fn split_frame(bytes: &[u8]) -> Option<(&[u8], &[u8])> {
@@ -96,18 +97,18 @@ fn is_read(bytes: &[u8], reply: Reply) -> bool {
 }
 
 // Whether a reply is read, and neither a front of its bytes nor a byte more is one.
-fn is_read_alone(alloc: Global, digits: &str, reply: Reply) -> Result<[bool; 3], AllocError> {
-    let mut bytes = bytes_of(alloc, digits)?;
+fn is_read_alone(rt: &impl Abort, alloc: Global, digits: &str, reply: Reply) -> [bool; 3] {
+    let mut bytes = bytes_of(rt, alloc, digits);
     let read = is_read(bytes.as_slice(), reply);
     let alone = has_no_reply_before(bytes.as_slice());
-    bytes.push(0)?;
-    Ok([read, alone, !is_reply(bytes.as_slice())])
+    bytes.push(0).expect(rt, "memory");
+    [read, alone, !is_reply(bytes.as_slice())]
 }
 
 #[test]
 fn replies_are_read(rt: HostRuntime) -> Result<(), Fail> {
     for (digits, expected) in REPLIES {
-        let read = is_read_alone(rt.alloc(), digits, *expected)?;
+        let read = is_read_alone(&rt, rt.alloc(), digits, *expected);
         assert!(rt; same_at(&rt, digits, &read, &[true; 3]));
     }
     Ok(())
@@ -180,24 +181,19 @@ static ANSWERS: &[Reply<'static>] = &[
     Reply::Stopping,
 ];
 
-// Serves frames over an engine: how many bytes are written, and whether they are the replies.
-fn answers(alloc: Global, engine: &mut PlainEngine) -> Result<(usize, bool), EncodeFault> {
-    let sent = frames(alloc, TWO_PUTS)?;
-    let list = pieces(alloc, sent.as_slice(), 1_000)?;
-    let ran = run(alloc, engine, list, None, None);
-    let written = ran.link.written();
-    Ok((written.len(), are_read(written, ANSWERS)))
-}
-
-// The same over a new engine.
-fn answers_anew<R: RandomSource>(rt: &R, alloc: Global) -> Result<(usize, bool), Fail> {
-    let mut engine = small_engine(rt, alloc)?;
-    Ok(answers(alloc, &mut engine)?)
+// Serves frames over a new engine: how many bytes are written, and whether they are the replies.
+fn answers<R: RandomSource + Abort>(rt: &R, alloc: Global) -> (usize, bool) {
+    let sent = frames(rt, alloc, TWO_PUTS);
+    let list = pieces(alloc, sent.as_slice(), 1_000).expect(rt, "memory");
+    let mut engine = small_engine(rt, alloc);
+    let (_ended, link) = run(alloc, &mut engine, list, (None, None));
+    let written = link.written();
+    (written.len(), are_read(written, ANSWERS))
 }
 
 #[test]
 fn the_replies_of_a_session_are_read(rt: HostRuntime) -> Result<(), Fail> {
-    let found = answers_anew(&rt, rt.alloc())?;
+    let found = answers(&rt, rt.alloc());
     assert!(rt; same(&rt, &found, &(132, true)));
     Ok(())
 }
@@ -220,16 +216,11 @@ static NONE: &[&str] = &[
     "00000009 ff 29 0000000000000000",
 ];
 
-fn spells_reply(alloc: Global, digits: &str) -> Result<bool, AllocError> {
-    let bytes = bytes_of(alloc, digits)?;
-    Ok(is_reply(bytes.as_slice()))
-}
-
 #[test]
 fn other_bytes_are_no_reply(rt: HostRuntime) -> Result<(), Fail> {
     for digits in NONE {
-        let is_one = spells_reply(rt.alloc(), digits)?;
-        assert!(rt; holds_at(&rt, digits, !is_one));
+        let bytes = bytes_of(&rt, rt.alloc(), digits);
+        assert!(rt; holds_at(&rt, digits, !is_reply(bytes.as_slice())));
     }
     Ok(())
 }
@@ -243,23 +234,21 @@ pub fn text_len(bytes: &[u8]) -> Option<usize> {
 }
 
 // A head, and so many line ends behind it.
-fn with_head(alloc: Global, head: &[u8], len: usize) -> Result<Vec<u8>, AllocError> {
-    let lines = vec![in alloc; 10u8; len]?;
-    let mut bytes = Vec::from_slice(alloc, head)?;
-    bytes.extend_from_slice(lines.as_slice())?;
-    Ok(bytes)
+fn with_head(rt: &impl Abort, alloc: Global, head: &[u8], len: usize) -> Vec<u8> {
+    let lines = vec![in alloc; 10u8; len].expect(rt, "memory");
+    let mut bytes = Vec::from_slice(alloc, head).expect(rt, "memory");
+    bytes
+        .extend_from_slice(lines.as_slice())
+        .expect(rt, "memory");
+    bytes
 }
 
 // The length of the longest text, and whether one that is a byte longer is a reply.
-fn longest(alloc: Global) -> Result<(Option<usize>, bool), AllocError> {
-    let longest = with_head(alloc, &[4, 0, 0, 0, 0x85], 67_108_864)?;
-    let longer = with_head(alloc, &[4, 0, 0, 1, 0x85], 67_108_865)?;
-    Ok((text_len(longest.as_slice()), is_reply(longer.as_slice())))
-}
-
 #[test]
 fn a_text_is_read_up_to_the_longest_body(rt: HostRuntime) -> Result<(), Fail> {
-    let found = longest(rt.alloc())?;
+    let longest = with_head(&rt, rt.alloc(), &[4, 0, 0, 0, 0x85], 67_108_864);
+    let longer = with_head(&rt, rt.alloc(), &[4, 0, 0, 1, 0x85], 67_108_865);
+    let found = (text_len(longest.as_slice()), is_reply(longer.as_slice()));
     assert!(rt; same(&rt, &found, &(Some(67_108_864), false)));
     Ok(())
 }

@@ -1,18 +1,16 @@
 //! Whole sessions, each over a new engine of three rows, three columns, a limit of 100 and at most 10 batches.
 
-use crate::asks::{
-    Ask, Outcome, Session, exchanged, frame, put_frame, small_engine, told, told_anew, wanted,
-};
-use crate::hex::bytes_of;
+use crate::asks::{Ask, Outcome, Session, answered, frame, put_frame, small_engine, told, wanted};
 use batch_store::Setup;
 use byte_io_tests::pieces;
 use mm_text::Script;
 use plain_engine::PlainEngine;
-use std::alloc::{AllocError, Global};
+use std::alloc::Global;
+use std::process::Abort;
 use std::random::RandomSource;
 use std::test::Fail;
 use test_support::{same, same_at};
-use wire_proto::{EncodeFault, Ended, serve_engine};
+use wire_proto::{Ended, serve_engine};
 
 const FIVE: &str = "3 3 1\n1 1 5\n";
 
@@ -166,22 +164,23 @@ static SESSIONS: &[Session] = &[
 #[test]
 fn sessions_are_answered(rt: HostRuntime) -> Result<(), Fail> {
     for session in SESSIONS {
-        let found = told_anew(&rt, rt.alloc(), session)?;
+        let mut engine = small_engine(&rt, rt.alloc());
+        let found = told(&rt, rt.alloc(), &mut engine, session);
         assert!(rt; same_at(&rt, &session.1, &found, &wanted(session)));
     }
     Ok(())
 }
 
-// A put that is refused for its text, with the code and the detail.
+// A put that is refused for its text, with its reply, which tells a code and a detail.
 static REFUSED_TEXTS: &[(Ask, &str)] = &[
-    (Ask::Text(7, 1, ""), "0067 0000000000000001"),
+    (Ask::Text(7, 1, ""), "0000000a ff 0067 0000000000000001"),
     (
         Ask::Text(7, 1, "%%MatrixMarket matrix coordinate integer\n3 3 0\n"),
-        "0067 0000000000000001",
+        "0000000a ff 0067 0000000000000001",
     ),
     (
         Ask::Text(7, 1, "%%MatrixMarket matrix array integer general\n3 3 0\n"),
-        "0068 0000000000000001",
+        "0000000a ff 0068 0000000000000001",
     ),
     (
         Ask::Text(
@@ -189,81 +188,89 @@ static REFUSED_TEXTS: &[(Ask, &str)] = &[
             1,
             "%%MatrixMarket matrix coordinate integer symmetric\n3 2 0\n",
         ),
-        "006c 0000000000000002",
+        "0000000a ff 006c 0000000000000002",
     ),
-    (Ask::Put(7, 1, ""), "006a 0000000000000002"),
-    (Ask::Put(7, 1, "3 x 0\n"), "006a 0000000000000002"),
-    (Ask::Put(7, 1, "0 3 0\n"), "006b 0000000000000002"),
-    (Ask::Put(7, 1, "3 3 1048577\n"), "006d 0000000000000002"),
-    (Ask::Put(7, 1, "3 3 1\n1 1\n"), "006e 0000000000000003"),
-    (Ask::Put(7, 1, "3 3 1\n1 1 -4\n"), "006f 0000000000000003"),
+    (Ask::Put(7, 1, ""), "0000000a ff 006a 0000000000000002"),
+    (
+        Ask::Put(7, 1, "3 x 0\n"),
+        "0000000a ff 006a 0000000000000002",
+    ),
+    (
+        Ask::Put(7, 1, "0 3 0\n"),
+        "0000000a ff 006b 0000000000000002",
+    ),
+    (
+        Ask::Put(7, 1, "3 3 1048577\n"),
+        "0000000a ff 006d 0000000000000002",
+    ),
+    (
+        Ask::Put(7, 1, "3 3 1\n1 1\n"),
+        "0000000a ff 006e 0000000000000003",
+    ),
+    (
+        Ask::Put(7, 1, "3 3 1\n1 1 -4\n"),
+        "0000000a ff 006f 0000000000000003",
+    ),
     (
         Ask::Put(7, 1, "3 3 1\n1 1 18446744073709551616\n"),
-        "0070 0000000000000003",
+        "0000000a ff 0070 0000000000000003",
     ),
-    (Ask::Put(7, 1, "3 3 1\n4 1 1\n"), "0071 0000000000000003"),
-    (Ask::Put(7, 1, "3 3 2\n1 1 5\n"), "0072 0000000000000004"),
-    (Ask::Put(7, 1, "3 3 1048576\n"), "0072 0000000000000003"),
+    (
+        Ask::Put(7, 1, "3 3 1\n4 1 1\n"),
+        "0000000a ff 0071 0000000000000003",
+    ),
+    (
+        Ask::Put(7, 1, "3 3 2\n1 1 5\n"),
+        "0000000a ff 0072 0000000000000004",
+    ),
+    (
+        Ask::Put(7, 1, "3 3 1048576\n"),
+        "0000000a ff 0072 0000000000000003",
+    ),
     (
         Ask::Put(7, 1, "3 3 1\n1 1 5\n2 2 5\n"),
-        "0073 0000000000000004",
+        "0000000a ff 0073 0000000000000004",
     ),
-    (Ask::Put(7, 1, "3 2 0\n"), "0014 0000000000000000"),
-    (Ask::Put(7, 1, "2 3 0\n"), "0014 0000000000000000"),
+    (
+        Ask::Put(7, 1, "3 2 0\n"),
+        "0000000a ff 0014 0000000000000000",
+    ),
+    (
+        Ask::Put(7, 1, "2 3 0\n"),
+        "0000000a ff 0014 0000000000000000",
+    ),
     (
         Ask::Put(7, 1, "3 3 2\n1 1 18446744073709551615\n1 2 1\n"),
-        "0015 0000000000000000",
+        "0000000a ff 0015 0000000000000000",
     ),
     // Over the limit, though it fits.
     (
         Ask::Put(7, 1, "3 3 1\n1 1 18446744073709551615\n"),
-        "001f 0000000000000000",
+        "0000000a ff 001f 0000000000000000",
     ),
 ];
 
-// The bytes of a refusal.
-fn refusal(alloc: Global, digits: &str) -> Result<Vec<u8>, Fail> {
-    let mut bytes = bytes_of(alloc, "0000000a ff")?;
-    let tail = bytes_of(alloc, digits)?;
-    bytes.extend_from_slice(tail.as_slice())?;
-    Ok(bytes)
-}
-
-// What becomes of this frame at a new engine that is expected to refuse it so.
-fn refused<R: RandomSource>(
-    rt: &R,
-    alloc: Global,
-    sent: &[u8],
-    digits: &str,
-) -> Result<Outcome, Fail> {
-    let expected = refusal(alloc, digits)?;
-    let mut engine = small_engine(rt, alloc)?;
-    Ok(exchanged(alloc, &mut engine, sent, expected.as_slice())?)
-}
-
-// It refuses it, and goes on.
+// A new engine refuses it so, and goes on.
 const REFUSED: Outcome = (Ended::Closed { rest: 0 }, true, (0, 0));
 
 #[test]
 fn texts_are_refused(rt: HostRuntime) -> Result<(), Fail> {
     for (ask, digits) in REFUSED_TEXTS {
-        let sent = frame(rt.alloc(), *ask)?;
-        let found = refused(&rt, rt.alloc(), sent.as_slice(), digits)?;
+        let sent = frame(&rt, rt.alloc(), *ask);
+        let mut engine = small_engine(&rt, rt.alloc());
+        let found = answered(&rt, rt.alloc(), &mut engine, sent.as_slice(), digits);
         assert!(rt; same_at(&rt, digits, &found, &REFUSED));
     }
     Ok(())
 }
 
 // A put of a line of 1,025 blanks.
-fn long_line(alloc: Global) -> Result<Vec<u8>, EncodeFault> {
-    let blanks = vec![in alloc; b' '; 1_025]?;
-    put_frame(alloc, (7, 1), blanks.as_slice())
-}
-
 #[test]
 fn a_line_of_a_put_has_at_most_1024_bytes(rt: HostRuntime) -> Result<(), Fail> {
-    let sent = long_line(rt.alloc())?;
-    let found = refused(&rt, rt.alloc(), sent.as_slice(), "0069 0000000000000002")?;
+    let reply = "0000000a ff 0069 0000000000000002";
+    let sent = put_frame(&rt, rt.alloc(), (7, 1), &[b' '; 1_025]);
+    let mut engine = small_engine(&rt, rt.alloc());
+    let found = answered(&rt, rt.alloc(), &mut engine, sent.as_slice(), reply);
     assert!(rt; same(&rt, &found, &REFUSED));
     Ok(())
 }
@@ -285,36 +292,28 @@ static ONE_BATCH: Session = (
     (1, 5),
 );
 
-// What becomes of it where a book holds one batch.
-fn told_by_full_book<R: RandomSource>(rt: &R, alloc: Global) -> Result<(Outcome, bool), Fail> {
-    let setup = Setup::new(3, 3, &[], 1, 100, 1)?;
-    let mut engine = PlainEngine::new(rt, alloc, setup)?;
-    Ok(told(alloc, &mut engine, &ONE_BATCH)?)
-}
-
+// A book that holds one batch.
 #[test]
 fn a_full_book_is_told_last(rt: HostRuntime) -> Result<(), Fail> {
-    let found = told_by_full_book(&rt, rt.alloc())?;
+    let setup = Setup::new(3, 3, &[], 1, 100, 1)?;
+    let mut engine = PlainEngine::new(&rt, rt.alloc(), setup).expect(&rt, "memory");
+    let found = told(&rt, rt.alloc(), &mut engine, &ONE_BATCH);
     assert!(rt; same(&rt, &found, &wanted(&ONE_BATCH)));
     Ok(())
 }
 
 // Serves four bytes in as many reads, of which so many are allowed: how it ends, and how many bytes are written.
-fn ends_after(
-    alloc: Global,
-    engine: &mut PlainEngine,
-    turns: u64,
-) -> Result<(Ended, usize), AllocError> {
-    let list = pieces(alloc, &[0, 0, 0, 0], 1)?;
+fn ends_after<R: RandomSource + Abort>(rt: &R, alloc: Global, turns: u64) -> (Ended, usize) {
+    let list = pieces(alloc, &[0, 0, 0, 0], 1).expect(rt, "memory");
     let mut link = Script::new(alloc, list, None, None);
-    let ended = serve_engine(alloc, &mut link, engine, turns);
-    Ok((ended, link.written().len()))
+    let mut engine = small_engine(rt, alloc);
+    let ended = serve_engine(alloc, &mut link, &mut engine, turns);
+    (ended, link.written().len())
 }
 
 #[test]
 fn turns_are_counted(rt: HostRuntime) -> Result<(), Fail> {
-    let mut engine = small_engine(&rt, rt.alloc())?;
-    let found = ends_after(rt.alloc(), &mut engine, 3)?;
+    let found = ends_after(&rt, rt.alloc(), 3);
     assert!(rt; same(&rt, &found, &(Ended::TooManyTurns, 0)));
     Ok(())
 }

@@ -9,10 +9,11 @@ use hyper_matrix::RowSum;
 use mm_text::Script;
 use plain_engine::{PutFault, Status, ViewedSum};
 use std::alloc::{AllocError, Global};
+use std::process::Abort;
 use std::sync::Arc;
 use std::test::Fail;
 use test_support::same_at;
-use wire_proto::{EncodeFault, Ended, Keeper, SaveRefusal, serve};
+use wire_proto::{Ended, Keeper, SaveRefusal, serve};
 
 // A store that keeps nothing. It refuses each batch, and answers a save as it was told to; it has no memory to export.
 #[derive(Clone, Copy, Drop)]
@@ -132,24 +133,14 @@ static CASES: &[Case] = &[
     ),
 ];
 
-// How the session ends, and whether these bytes come back.
-fn served(
-    alloc: Global,
-    store: &mut Told,
-    sent: &[u8],
-    expected: &[u8],
-) -> Result<(Ended, bool), AllocError> {
-    let list = pieces(alloc, sent, sent.len())?;
+// How the session of a case ends, and whether what is expected comes back.
+fn served(rt: &impl Abort, alloc: Global, store: &mut Told, case: &Case) -> (Ended, bool) {
+    let sent = frame(rt, alloc, case.2);
+    let expected = bytes_of(rt, alloc, case.3);
+    let list = pieces(alloc, sent.as_slice(), sent.len()).expect(rt, "memory");
     let mut link = Script::new(alloc, list, None, None);
     let ended = serve(alloc, &mut link, store, 100);
-    Ok((ended, link.written() == expected))
-}
-
-// The same of a case.
-fn case_served(alloc: Global, store: &mut Told, case: &Case) -> Result<(Ended, bool), EncodeFault> {
-    let sent = frame(alloc, case.2)?;
-    let expected = bytes_of(alloc, case.3)?;
-    Ok(served(alloc, store, sent.as_slice(), expected.as_slice())?)
+    (ended, link.written() == expected.as_slice())
 }
 
 #[test]
@@ -161,7 +152,7 @@ fn stores_are_answered_for(rt: HostRuntime) -> Result<(), Fail> {
             refusal: case.0,
             saved: case.1,
         };
-        let found = case_served(rt.alloc(), &mut store, case)?;
+        let found = served(&rt, rt.alloc(), &mut store, case);
         assert!(rt; same_at(&rt, &case.3, &found, &(case.4, true)));
     }
     Ok(())

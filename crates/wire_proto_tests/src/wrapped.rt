@@ -1,37 +1,32 @@
 //! A session over a link that moves one byte a call, and of which each call fails in turn.
-ghost use Rattle.std.specs.Prelude.{◌≡◌, ◌+◌, ◌-◌, ◌<◌, ◌≤◌, ◌^◌, OnOk};
+ghost use Rattle.std.specs.Prelude.{◌≡◌, ◌+◌, ◌-◌, ◌<◌, ◌≤◌, ◌^◌};
 
-use crate::asks::{Outcome, frames, small_engine};
-use crate::cuts::{ASKS, REPLIES};
-use crate::failures::{AGAIN, again};
+use crate::asks::{Checked, in_pieces, small_engine, told, wanted};
+use crate::cuts::TWO_PUTS;
 use crate::hex::bytes_of;
 use byte_io::{Link, Once, Script, Sink, Source, Trickle};
-use byte_io_tests::pieces;
 use plain_engine::PlainEngine;
-use std::alloc::{AllocError, Global};
+use std::alloc::Global;
+use std::process::Abort;
 use std::random::RandomSource;
 use std::test::Fail;
 use test_support::{same, same_at};
-use wire_proto::{EncodeFault, Ended, serve_engine};
+use wire_proto::{Ended, serve_engine};
 
 // More reads than the session has.
 const TURNS: u64 = 1_000_000;
 
 // The two puts and the query in one piece, a byte a call.
-fn slow_link(alloc: Global) -> Result<Trickle<Script>, EncodeFault> {
-    let sent = frames(alloc, ASKS)?;
-    let list = pieces(alloc, sent.as_slice(), 1_000)?;
-    Ok(Trickle::new(Script::new(alloc, list, None, None), 1))
+fn slow_link(rt: &impl Abort, alloc: Global) -> Trickle<Script> {
+    let list = in_pieces(rt, alloc, &TWO_PUTS, 1_000);
+    Trickle::new(Script::new(alloc, list, None, None), 1)
 }
 
 // A link that hasn't failed yet.
-fn expect_new<L: Link>(link: &L) -> Result<(), Fail>
-    ensures { OnOk result (L.Sink.failure_count link.now ≡ 0) }
+fn expect_new<L: Link>(rt: &impl Abort, link: &L)
+    ensures { L.Sink.failure_count link.now ≡ 0 }
 {
-    if Sink::failures(link) > 0 {
-        return Err("the link has failed before".into());
-    }
-    Ok(())
+    assert!(rt; Sink::failures(link) == 0);
 }
 
 // How a session ended, how many calls its link had and how many of them failed, and how many bytes were written and
@@ -39,47 +34,34 @@ fn expect_new<L: Link>(link: &L) -> Result<(), Fail>
 type Slow = (Ended, (u64, u64), (u64, bool));
 
 // Serves the session over a link whose call fails.
-fn served(alloc: Global, engine: &mut PlainEngine, call: u32) -> Result<Slow, Fail> {
-    let mut once = Once::new(slow_link(alloc)?, u64::from(call));
-    expect_new(&once)?;
+fn served(rt: &impl Abort, alloc: Global, engine: &mut PlainEngine, call: u32) -> Slow {
+    let replies = bytes_of(rt, alloc, TWO_PUTS.1);
+    let mut once = Once::new(slow_link(rt, alloc), u64::from(call));
+    expect_new(rt, &once);
     let ended = serve_engine(alloc, &mut once, engine, TURNS);
     let calls = (once.calls(), Source::failures(&once));
     let written = once.inner().inner().written();
-    Ok((
-        ended,
-        calls,
-        (written.len() as u64, begins(alloc, written)?),
-    ))
-}
-
-// Whether the replies begin with these bytes.
-fn begins(alloc: Global, written: &[u8]) -> Result<bool, AllocError> {
-    let replies = bytes_of(alloc, REPLIES)?;
-    Ok(replies.as_slice().starts_with(written))
+    let begins = replies.as_slice().starts_with(written);
+    (ended, calls, (written.len() as u64, begins))
 }
 
 // What became of the session, what was accepted then, and what became of one behind it over a link that doesn't fail.
-type Found = (Slow, (u64, u64), Outcome);
-
-// Serves both over an engine.
-fn served_twice(alloc: Global, engine: &mut PlainEngine, call: u32) -> Result<Found, Fail> {
-    let slow = served(alloc, engine, call)?;
-    let status = engine.status();
-    let behind = again(alloc, engine)?;
-    Ok((slow, (status.batches, status.total), behind))
-}
+type Found = (Slow, (u64, u64), Checked);
 
 // Serves both over a new engine.
-fn served_anew<R: RandomSource>(rt: &R, alloc: Global, call: u32) -> Result<Found, Fail> {
-    let mut engine = small_engine(rt, alloc)?;
-    served_twice(alloc, &mut engine, call)
+fn served_anew<R: RandomSource + Abort>(rt: &R, alloc: Global, call: u32) -> Found {
+    let mut engine = small_engine(rt, alloc);
+    let slow = served(rt, alloc, &mut engine, call);
+    let status = engine.status();
+    let behind = told(rt, alloc, &mut engine, &TWO_PUTS);
+    (slow, (status.batches, status.total), behind)
 }
 
 #[test]
 fn a_session_byte_by_byte(rt: HostRuntime) -> Result<(), Fail> {
-    let found = served_anew(&rt, rt.alloc(), 1_000_000)?;
+    let found = served_anew(&rt, rt.alloc(), 1_000_000);
     let slow = (Ended::Closed { rest: 0 }, (242, 0), (56, true));
-    assert!(rt; same(&rt, &found, &(slow, (2, 8), AGAIN)));
+    assert!(rt; same(&rt, &found, &(slow, (2, 8), wanted(&TWO_PUTS))));
     Ok(())
 }
 
@@ -108,18 +90,18 @@ fn failing(call: u64) -> (Ended, u64, (u64, u64)) {
 }
 
 // A session whose call with this number fails ends at that call, and makes no further one.
-fn wanted(call: u32) -> Found {
+fn ends_at(call: u32) -> Found {
     let call = u64::from(call);
     let end = failing(call);
     let calls = (call.min(241) + 1, u64::from(call < 242));
-    ((end.0, calls, (end.1, true)), end.2, AGAIN)
+    ((end.0, calls, (end.1, true)), end.2, wanted(&TWO_PUTS))
 }
 
 #[test]
 fn each_call_fails_in_turn(rt: HostRuntime) -> Result<(), Fail> {
     for call in 0..=242u32 {
-        let found = served_anew(&rt, rt.alloc(), call)?;
-        assert!(rt; same_at(&rt, &call, &found, &wanted(call)));
+        let found = served_anew(&rt, rt.alloc(), call);
+        assert!(rt; same_at(&rt, &call, &found, &ends_at(call)));
     }
     Ok(())
 }
