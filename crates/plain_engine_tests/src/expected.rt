@@ -2,9 +2,8 @@
 
 use crate::batches::cells_of;
 use batch_store::ShardView;
-use hyper_matrix::Hyper;
 use plain_engine::PlainEngine;
-use std::alloc::{AllocError, Global};
+use std::alloc::Global;
 use std::io::Eprint;
 use std::process::Abort;
 use test_support::same;
@@ -56,46 +55,34 @@ pub fn expect_no_shard(rt: &(impl Abort + Eprint), engine: &PlainEngine, s: u64)
     assert!(rt; same(rt, &sizes(engine, s), &None));
 }
 
-// Whether a matrix has the cells of a table.
-fn has_cells(alloc: Global, sum: &Hyper, table: &[(u64, u64, u64)]) -> Result<bool, AllocError> {
-    let cells = sum.cells(alloc)?;
-    let expected = cells_of(alloc, table)?;
-    Ok(cells.as_slice() == expected.as_slice())
-}
-
 /// Whether the sum of all batches has three rows and columns, and the cells of a table.
 pub fn exports(
+    rt: &impl Abort,
     alloc: Global,
     engine: &PlainEngine,
     table: &[(u64, u64, u64)],
-) -> Result<bool, AllocError> {
-    let sum = engine.export(alloc)?;
-    if sum.dims() != (3, 3) {
-        return Ok(false);
-    }
-    has_cells(alloc, &sum, table)
+) -> bool {
+    let sum = engine.export(alloc).expect(rt, "memory");
+    let cells = sum.cells(alloc).expect(rt, "memory");
+    let expected = cells_of(rt, alloc, table);
+    let has = sum.dims() == (3, 3) && cells.as_slice() == expected.as_slice();
+    drop(sum);
+    has
 }
 
 /// The total of the sum of all batches.
-pub fn exported_total(alloc: Global, engine: &PlainEngine) -> Result<u64, AllocError> {
-    let sum = engine.export(alloc)?;
-    Ok(sum.total())
+pub fn exported_total(rt: &impl Abort, alloc: Global, engine: &PlainEngine) -> u64 {
+    let sum = engine.export(alloc).expect(rt, "memory");
+    let total = sum.total();
+    drop(sum);
+    total
 }
 
 /// How many batches a view has, and the entries and total of its sum.
-pub fn expect_view(
-    rt: &(impl Abort + Eprint),
-    alloc: Global,
-    view: &ShardView,
-    expected: (u64, u64, u64),
-) -> Result<(), AllocError> {
-    let sum = view.sum(alloc)?;
-    assert!(rt;
-        same(
-            rt,
-            &(view.record_len(), sum.entries(), sum.total()),
-            &expected
-        )
-    );
-    Ok(())
+pub fn seen(rt: &impl Abort, alloc: Global, view: ShardView) -> (u64, u64, u64) {
+    let sum = view.sum(alloc).expect(rt, "memory");
+    let found = (view.record_len(), sum.entries(), sum.total());
+    drop(sum);
+    drop(view);
+    found
 }

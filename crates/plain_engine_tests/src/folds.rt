@@ -1,5 +1,5 @@
 //! Engines whose batches are folded: what they answer, what they list, what is loaded again, and what belongs together.
-ghost use Rattle.std.specs.Prelude.{◌≡◌, IfOk};
+ghost use Rattle.std.specs.Prelude.{◌≡◌};
 
 use crate::batches::{Cells, small_setup};
 use crate::expected::{exports, sizes};
@@ -9,7 +9,7 @@ use crate::puts::{Answer, Step, engine_of, put, put_all};
 use batch_store::{BookList, Setup};
 use plain_engine::PutFault::{NumberReused, OverTotal};
 use plain_engine::{LoadFault, PlainEngine, Status};
-use std::alloc::{AllocError, Global};
+use std::alloc::Global;
 use std::io::Eprint;
 use std::process::Abort;
 use std::random::RandomSource;
@@ -17,12 +17,12 @@ use std::test::Fail;
 use test_support::{same, same_at};
 
 // Folds the batches of an engine.
-fn folded(alloc: Global, engine: PlainEngine) -> Result<PlainEngine, AllocError>
-    ensures { IfOk result (λ e. e.setup ≡ engine.setup) }
+fn folded(rt: &impl Abort, alloc: Global, engine: PlainEngine) -> PlainEngine
+    ensures { result.setup ≡ engine.setup }
 {
     match engine.fold(alloc) {
-        Ok(engine) => Ok(engine),
-        Err((_, error)) => Err(error),
+        Ok(engine) => engine,
+        Err(_) => panic!(rt; "memory"),
     }
 }
 
@@ -32,34 +32,36 @@ fn folded_after<R: RandomSource + Abort + Eprint>(
     alloc: Global,
     setup: Setup,
     steps: &[Step],
-) -> Result<PlainEngine, Fail>
-    ensures { IfOk result (λ e. e.setup ≡ setup) }
+) -> PlainEngine
+    ensures { result.setup ≡ setup }
 {
-    let engine = engine_of(rt, alloc, setup, steps)?;
-    let engine = folded(alloc, engine)?;
-    Ok(engine)
+    folded(rt, alloc, engine_of(rt, alloc, setup, steps))
 }
 
 // How many batches an engine has accepted, how many of them are folded, their total, and how many it lists.
 type Size = (u64, u64, u64, usize);
 
-fn size(alloc: Global, engine: &PlainEngine) -> Result<Size, AllocError> {
+fn size(rt: &impl Abort, alloc: Global, engine: &PlainEngine) -> Size {
     let status = engine.status();
-    let batches = engine.batches(alloc)?;
-    Ok((status.batches, engine.folded(), status.total, batches.len()))
+    let batches = engine.batches(alloc).expect(rt, "memory");
+    let listed = batches.len();
+    drop(batches);
+    (status.batches, engine.folded(), status.total, listed)
 }
 
 // What a list has: the entries and the total of its base, its folded entries, and its batches.
 type Listed = (u64, u64, usize, usize);
 
-fn listed(alloc: Global, engine: &PlainEngine) -> Result<Listed, AllocError> {
-    let list = engine.book_list(alloc)?;
-    Ok((
+fn listed(rt: &impl Abort, alloc: Global, engine: &PlainEngine) -> Listed {
+    let list = engine.book_list(alloc).expect(rt, "memory");
+    let found = (
         list.base.entries(),
         list.base.total(),
         list.folded.len(),
         list.batches.len(),
-    ))
+    );
+    drop(list);
+    found
 }
 
 const TWO: &[Step] = &[
@@ -79,51 +81,24 @@ static BEHIND_TWO: &[Step] = &[
 // What stands after a table was put, folded, another put, and all folded again.
 type Story = ((Size, Size), (Size, [Answer; 2]));
 
-// Puts the second table, and tells what stood before and what stands then.
-fn put_behind<R: Abort + Eprint>(
-    rt: &R,
-    alloc: Global,
-    setup: &Setup,
-    engine: &mut PlainEngine,
-) -> Result<(Size, Size), Fail>
-    requires { engine.old.setup ≡ setup.now }
-    ensures { engine.new.setup ≡ setup.now }
-{
-    let once = size(alloc, engine)?;
-    put_all(rt, alloc, setup, engine, BEHIND_TWO)?;
-    let behind = size(alloc, engine)?;
-    Ok((once, behind))
-}
-
-// What stands once all is folded, and what the last batch and another in its name are answered then.
-fn asked_again(
-    alloc: Global,
-    setup: &Setup,
-    engine: &mut PlainEngine,
-) -> Result<(Size, [Answer; 2]), Fail>
-    requires { engine.old.setup ≡ setup.now }
-{
-    let twice = size(alloc, engine)?;
-    let repeat = put(alloc, setup, engine, (9, 1), &[(0, 0, 2), (1, 2, 0)])?;
-    let other = put(alloc, setup, engine, (9, 1), &[(0, 0, 2)])?;
-    Ok((twice, [repeat, other]))
-}
-
-fn told<R: RandomSource + Abort + Eprint>(
-    rt: &R,
-    alloc: Global,
-    setup: Setup,
-) -> Result<Story, Fail> {
-    let mut engine = folded_after(rt, alloc, setup, TWO)?;
-    let before = put_behind(rt, alloc, &setup, &mut engine)?;
-    let mut engine = folded(alloc, engine)?;
-    let after = asked_again(alloc, &setup, &mut engine)?;
-    Ok((before, after))
+fn told<R: RandomSource + Abort + Eprint>(rt: &R, alloc: Global, setup: Setup) -> Story {
+    let mut engine = folded_after(rt, alloc, setup, TWO);
+    let once = size(rt, alloc, &engine);
+    put_all(rt, alloc, &setup, &mut engine, BEHIND_TWO);
+    let behind = size(rt, alloc, &engine);
+    let mut engine = folded(rt, alloc, engine);
+    let twice = size(rt, alloc, &engine);
+    // The last batch, and another in its name.
+    let cells = &[(0, 0, 2), (1, 2, 0)];
+    let repeat = put(rt, alloc, &setup, &mut engine, (9, 1), cells);
+    let other = put(rt, alloc, &setup, &mut engine, (9, 1), &[(0, 0, 2)]);
+    drop(engine);
+    ((once, behind), (twice, [repeat, other]))
 }
 
 #[test]
 fn folded_batches_are_known_again(rt: HostRuntime) -> Result<(), Fail> {
-    let found = told(&rt, rt.alloc(), small_setup()?)?;
+    let found = told(&rt, rt.alloc(), small_setup(&rt));
     let expected: Story = (
         ((2, 2, 8, 0), (3, 2, 10, 1)),
         ((3, 3, 10, 0), [Ok((2, 10)), Err(NumberReused)]),
@@ -146,13 +121,13 @@ fn row(engine: &PlainEngine, row: u64) -> (u64, u64) {
     (sum.entries, sum.total)
 }
 
-fn sum(alloc: Global, engine: &PlainEngine, cells: Cells) -> Result<Sum, AllocError> {
-    Ok((
+fn sum(rt: &impl Abort, alloc: Global, engine: &PlainEngine, cells: Cells) -> Sum {
+    (
         [engine.cell(0, 0), engine.cell(1, 2), engine.cell(2, 2)],
         [row(engine, 0), row(engine, 1), row(engine, 2)],
-        exports(alloc, engine, cells)?,
+        exports(rt, alloc, engine, cells),
         [sizes(engine, 0), sizes(engine, 1)],
-    ))
+    )
 }
 
 static THREE: &[Step] = &[
@@ -163,21 +138,18 @@ static THREE: &[Step] = &[
 
 static SUM_OF_THREE: Cells = &[(0, 0, 8), (0, 1, 0), (1, 2, 4), (2, 0, 1)];
 
-fn sums<R: RandomSource + Abort + Eprint>(
-    rt: &R,
-    alloc: Global,
-    setup: Setup,
-) -> Result<[Sum; 2], Fail> {
-    let engine = engine_of(rt, alloc, setup, THREE)?;
-    let before = sum(alloc, &engine, SUM_OF_THREE)?;
-    let engine = folded(alloc, engine)?;
-    let after = sum(alloc, &engine, SUM_OF_THREE)?;
-    Ok([before, after])
+fn sums<R: RandomSource + Abort + Eprint>(rt: &R, alloc: Global, setup: Setup) -> [Sum; 2] {
+    let engine = engine_of(rt, alloc, setup, THREE);
+    let before = sum(rt, alloc, &engine, SUM_OF_THREE);
+    let engine = folded(rt, alloc, engine);
+    let after = sum(rt, alloc, &engine, SUM_OF_THREE);
+    drop(engine);
+    [before, after]
 }
 
 #[test]
 fn folding_leaves_the_sum(rt: HostRuntime) -> Result<(), Fail> {
-    let found = sums(&rt, rt.alloc(), small_setup()?)?;
+    let found = sums(&rt, rt.alloc(), small_setup(&rt));
     let expected = |records: [u64; 2]| -> Sum {
         (
             [Some(8), Some(4), None],
@@ -191,53 +163,48 @@ fn folding_leaves_the_sum(rt: HostRuntime) -> Result<(), Fail> {
     Ok(())
 }
 
-fn of_nothing<R: RandomSource + Abort + Eprint>(
-    rt: &R,
-    alloc: Global,
-    setup: Setup,
-) -> Result<(Size, Listed), Fail> {
-    let engine = folded_after(rt, alloc, setup, &[])?;
-    Ok(size_and_list(alloc, &engine)?)
-}
-
-fn size_and_list(alloc: Global, engine: &PlainEngine) -> Result<(Size, Listed), AllocError> {
-    let size = size(alloc, engine)?;
-    let listed = listed(alloc, engine)?;
-    Ok((size, listed))
-}
-
 #[test]
 fn an_empty_engine_folds_to_itself(rt: HostRuntime) -> Result<(), Fail> {
-    let found = of_nothing(&rt, rt.alloc(), small_setup()?)?;
-    assert!(rt; same(&rt, &found, &((0, 0, 0, 0), (0, 0, 0, 0))));
+    let engine = folded_after(&rt, rt.alloc(), small_setup(&rt), &[]);
+    let size = size(&rt, rt.alloc(), &engine);
+    let listed = listed(&rt, rt.alloc(), &engine);
+    drop(engine);
+    assert!(rt; same(&rt, &(size, listed), &((0, 0, 0, 0), (0, 0, 0, 0))));
     Ok(())
 }
 
 // What is loaded of the folded batches of an engine, under another setup of its dimensions, with these batches behind.
-fn loaded<R: RandomSource>(
+fn loaded<R: RandomSource + Abort>(
     rt: &R,
     alloc: Global,
     engine: &PlainEngine,
     setup: Setup,
     behind: Batches,
-) -> Result<Result<Size, LoadFault>, Fail>
+) -> Result<Size, LoadFault>
     requires rows { setup.rows ≡ engine.now.setup.rows }
     requires cols { setup.cols ≡ engine.now.setup.cols }
 {
     let BookList {
         base,
         folded,
-        batches: _,
-    } = engine.book_list(alloc)?;
-    let batches = list_of(alloc, &setup, behind)?;
+        batches: before,
+    } = engine.book_list(alloc).expect(rt, "memory");
+    drop(before);
+    let batches = list_of(rt, alloc, &setup, behind);
     let list = BookList {
         base,
         folded,
         batches,
     };
-    match PlainEngine::from_folded(rt, alloc, setup, &list) {
-        Ok(engine) => Ok(Ok(size(alloc, &engine)?)),
-        Err(fault) => Ok(Err(fault)),
+    let answer = PlainEngine::from_folded(rt, alloc, setup, &list);
+    drop(list);
+    match answer {
+        Ok(engine) => {
+            let size = size(rt, alloc, &engine);
+            drop(engine);
+            Ok(size)
+        }
+        Err(fault) => Err(fault),
     }
 }
 
@@ -265,12 +232,11 @@ static LOADS: &[(u64, u64, Batches, Result<Size, LoadFault>)] = &[
 ];
 
 // A setup of three rows and columns.
-fn setup_within(limit: u64, most: u64) -> Result<Setup, Fail>
-    ensures rows { IfOk result (λ s. s.rows ≡ 3) }
-    ensures cols { IfOk result (λ s. s.cols ≡ 3) }
+fn setup_within(rt: &impl Abort, limit: u64, most: u64) -> Setup
+    ensures rows { result.rows ≡ 3 }
+    ensures cols { result.cols ≡ 3 }
 {
-    let setup = Setup::new(3, 3, &[2, 4], 2, limit, most)?;
-    Ok(setup)
+    Setup::new(3, 3, &[2, 4], 2, limit, most).expect(rt, "a setup")
 }
 
 fn loaded_within<R: RandomSource + Abort + Eprint>(
@@ -279,15 +245,17 @@ fn loaded_within<R: RandomSource + Abort + Eprint>(
     limit: u64,
     most: u64,
     behind: Batches,
-) -> Result<Result<Size, LoadFault>, Fail> {
-    let engine = folded_after(rt, alloc, setup_within(100, 10)?, TWO)?;
-    loaded(rt, alloc, &engine, setup_within(limit, most)?, behind)
+) -> Result<Size, LoadFault> {
+    let engine = folded_after(rt, alloc, setup_within(rt, 100, 10), TWO);
+    let found = loaded(rt, alloc, &engine, setup_within(rt, limit, most), behind);
+    drop(engine);
+    found
 }
 
 #[test]
 fn folded_batches_are_judged_first(rt: HostRuntime) -> Result<(), Fail> {
     for (limit, most, behind, expected) in LOADS {
-        let found = loaded_within(&rt, rt.alloc(), *limit, *most, behind)?;
+        let found = loaded_within(&rt, rt.alloc(), *limit, *most, behind);
         assert!(rt; same_at(&rt, &(*limit, *most), &found, expected));
     }
     Ok(())
@@ -299,8 +267,8 @@ fn engine_as<R: RandomSource + Abort + Eprint>(
     alloc: Global,
     setup: Setup,
     of: (&[Step], bool),
-) -> Result<PlainEngine, Fail>
-    ensures { IfOk result (λ e. e.setup ≡ setup) }
+) -> PlainEngine
+    ensures { result.setup ≡ setup }
 {
     if of.1 {
         folded_after(rt, alloc, setup, of.0)
@@ -316,10 +284,10 @@ fn joined_of<R: RandomSource + Abort + Eprint>(
     setup: Setup,
     book: (&[Step], bool),
     shards: (&[Step], bool),
-) -> Result<Joined, Fail> {
-    let book = book_of(engine_as(rt, alloc, setup, book)?);
-    let shards = shards_of(engine_as(rt, alloc, setup, shards)?);
-    Ok(joined(setup, book, shards))
+) -> Joined {
+    let book = book_of(engine_as(rt, alloc, setup, book));
+    let shards = shards_of(engine_as(rt, alloc, setup, shards));
+    joined(setup, book, shards)
 }
 
 // The same cells in another column, and in another count.
@@ -351,7 +319,7 @@ static JOINS: &[((&[Step], bool), (&[Step], bool), Joined)] = &[
 #[test]
 fn bases_are_compared_with_the_book(rt: HostRuntime) -> Result<(), Fail> {
     for (book, shards, expected) in JOINS {
-        let found = joined_of(&rt, rt.alloc(), small_setup()?, *book, *shards)?;
+        let found = joined_of(&rt, rt.alloc(), small_setup(&rt), *book, *shards);
         assert!(rt; same(&rt, &found, expected));
     }
     Ok(())

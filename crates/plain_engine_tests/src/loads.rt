@@ -1,5 +1,5 @@
 //! Engines of lists of batches.
-ghost use Rattle.std.specs.Prelude.{◌≡◌, IfOk};
+ghost use Rattle.std.specs.Prelude.{◌≡◌};
 ghost use Rattle.batch_store.specs.Batches.{values};
 ghost use Rattle.batch_store.specs.Books.{HaveDims};
 
@@ -7,6 +7,7 @@ use crate::batches::{Cells, batch, small_setup};
 use batch_store::{Batch, Setup};
 use plain_engine::{LoadFault, PlainEngine, Status};
 use std::alloc::Global;
+use std::process::Abort;
 use std::random::RandomSource;
 use std::sync::Arc;
 use std::test::Fail;
@@ -16,38 +17,35 @@ use test_support::same;
 pub type Batches = &'static [(u64, u64, Cells)];
 
 /// The batches of a table.
-pub fn list_of(alloc: Global, setup: &Setup, table: Batches) -> Result<Vec<Arc<Batch>>, Fail>
-    ensures { IfOk result (λ list. HaveDims setup.now.rows setup.now.cols (values list.items)) }
+pub fn list_of(rt: &impl Abort, alloc: Global, setup: &Setup, table: Batches) -> Vec<Arc<Batch>>
+    ensures { HaveDims setup.now.rows setup.now.cols (values result.items) }
 {
     let mut list = Vec::new(alloc);
     'batches: for (client, number, cells) in table {
-        list.push(batch(alloc, setup, *client, *number, cells)?)?;
+        let b = batch(rt, alloc, setup, (*client, *number), cells);
+        list.push(b).expect(rt, "memory");
     }
-    Ok(list)
+    list
 }
 
-// What the engine of a list has accepted, or why there is none.
-fn loaded(
-    rt: &impl RandomSource,
-    alloc: Global,
-    setup: Setup,
-    list: &[Arc<Batch>],
-) -> Result<Status, LoadFault>
-    requires { HaveDims setup.rows setup.cols (values list.now) }
-{
-    let engine = PlainEngine::from_batches(rt, alloc, setup, list)?;
-    Ok(engine.status())
-}
-
-// The same of a table.
-fn loaded_of(
-    rt: &impl RandomSource,
+// What the engine of a table has accepted, or why there is none.
+fn loaded<R: RandomSource + Abort>(
+    rt: &R,
     alloc: Global,
     setup: Setup,
     table: Batches,
-) -> Result<Result<Status, LoadFault>, Fail> {
-    let list = list_of(alloc, &setup, table)?;
-    Ok(loaded(rt, alloc, setup, &list))
+) -> Result<Status, LoadFault> {
+    let list = list_of(rt, alloc, &setup, table);
+    let answer = PlainEngine::from_batches(rt, alloc, setup, &list);
+    drop(list);
+    match answer {
+        Ok(engine) => {
+            let status = engine.status();
+            drop(engine);
+            Ok(status)
+        }
+        Err(fault) => Err(fault),
+    }
 }
 
 static LISTS: &[(Batches, Result<Status, LoadFault>)] = &[
@@ -86,9 +84,9 @@ static LISTS: &[(Batches, Result<Status, LoadFault>)] = &[
 
 #[test]
 fn lists_are_judged_in_order(rt: HostRuntime) -> Result<(), Fail> {
-    let setup = small_setup()?;
+    let setup = small_setup(&rt);
     for (list, expected) in LISTS {
-        let found = loaded_of(&rt, rt.alloc(), setup, list)?;
+        let found = loaded(&rt, rt.alloc(), setup, list);
         assert!(rt; same(&rt, &found, expected));
     }
     Ok(())
@@ -99,7 +97,7 @@ static FULL: Batches = &[(7, 1, &[(0, 0, 5)]), (8, 1, &[(0, 0, 3)])];
 #[test]
 fn a_list_may_be_too_long(rt: HostRuntime) -> Result<(), Fail> {
     let setup = Setup::new(3, 3, &[2, 4], 2, 100, 1)?;
-    let found = loaded_of(&rt, rt.alloc(), setup, FULL)?;
+    let found = loaded(&rt, rt.alloc(), setup, FULL);
     assert!(rt; same(&rt, &found, &Err(LoadFault::BookFull { at: 1 })));
     Ok(())
 }

@@ -1,17 +1,12 @@
 //! Cells, rows, sums and shards of what was put.
-ghost use Rattle.std.specs.Prelude.{◌≡◌};
 
 use crate::batches::small_setup;
-use crate::expected::{
-    expect_counts, expect_no_shard, expect_row, expect_shards, expect_view, exports,
-};
+use crate::expected::{expect_counts, expect_no_shard, expect_row, expect_shards, exports, seen};
 use crate::puts::{Step, engine_of, put_all, small_engine_of};
 use batch_store::{Setup, ShardView};
 use plain_engine::PlainEngine;
-use std::alloc::{AllocError, Global};
-use std::io::Eprint;
+use std::alloc::Global;
 use std::process::Abort;
-use std::random::RandomSource;
 use std::test::Fail;
 use test_support::same;
 
@@ -39,58 +34,46 @@ static PLACES: &[(u64, u64, Option<u64>)] = &[
     (u64::MAX, u64::MAX, None),
 ];
 
-fn expect_cells<R: RandomSource + Abort + Eprint>(rt: &R, alloc: Global) -> Result<(), Fail> {
-    let engine = small_engine_of(rt, alloc, THREE)?;
-    expect_counts(rt, &engine, PLACES);
-    Ok(())
-}
-
 #[test]
 fn cells_are_those_of_the_sum(rt: HostRuntime) -> Result<(), Fail> {
-    expect_cells(&rt, rt.alloc())
+    let engine = small_engine_of(&rt, rt.alloc(), THREE);
+    expect_counts(&rt, &engine, PLACES);
+    drop(engine);
+    Ok(())
 }
 
 static ROWS: &[(u64, u64, u64)] = &[(0, 2, 10), (1, 2, 4), (2, 1, 1), (3, 0, 0), (4, 0, 0)];
 
-fn expect_rows<R: RandomSource + Abort + Eprint>(rt: &R, alloc: Global) -> Result<(), Fail> {
-    let engine = small_engine_of(rt, alloc, THREE)?;
-    for (row, entries, total) in ROWS {
-        expect_row(rt, &engine, *row, *entries, *total);
-    }
-    Ok(())
-}
-
 #[test]
 fn rows_are_those_of_the_sum(rt: HostRuntime) -> Result<(), Fail> {
-    expect_rows(&rt, rt.alloc())
-}
-
-fn expect_export<R: RandomSource + Abort + Eprint>(rt: &R, alloc: Global) -> Result<(), Fail> {
-    let engine = small_engine_of(rt, alloc, THREE)?;
-    let has = exports(alloc, &engine, SUM)?;
-    assert!(rt; has);
+    let engine = small_engine_of(&rt, rt.alloc(), THREE);
+    for (row, entries, total) in ROWS {
+        expect_row(&rt, &engine, *row, *entries, *total);
+    }
+    drop(engine);
     Ok(())
 }
 
 #[test]
 fn an_export_is_the_sum(rt: HostRuntime) -> Result<(), Fail> {
-    expect_export(&rt, rt.alloc())
-}
-
-fn expect_both_shards<R: RandomSource + Abort + Eprint>(rt: &R, alloc: Global) -> Result<(), Fail> {
-    let engine = small_engine_of(rt, alloc, THREE)?;
-    // The first batch has a stored zero in row 1.
-    expect_shards(rt, &engine, &[(0, 11, 3), (1, 4, 2)]);
-    expect_no_shard(rt, &engine, 2);
-    expect_no_shard(rt, &engine, u64::MAX);
-    let setup = engine.setup();
-    assert!(rt; same(rt, &(setup.shards(), setup.limit()), &(2, 100)));
+    let engine = small_engine_of(&rt, rt.alloc(), THREE);
+    let has = exports(&rt, rt.alloc(), &engine, SUM);
+    drop(engine);
+    assert!(rt; has);
     Ok(())
 }
 
 #[test]
 fn shards_have_their_batches(rt: HostRuntime) -> Result<(), Fail> {
-    expect_both_shards(&rt, rt.alloc())
+    let engine = small_engine_of(&rt, rt.alloc(), THREE);
+    // The first batch has a stored zero in row 1.
+    expect_shards(&rt, &engine, &[(0, 11, 3), (1, 4, 2)]);
+    expect_no_shard(&rt, &engine, 2);
+    expect_no_shard(&rt, &engine, u64::MAX);
+    let setup = engine.setup();
+    drop(engine);
+    assert!(rt; same(&rt, &(setup.shards(), setup.limit()), &(2, 100)));
+    Ok(())
 }
 
 // Ten batches, each with one cell of its own.
@@ -119,79 +102,35 @@ fn layers(engine: &PlainEngine) -> Option<[Option<u64>; 4]> {
 }
 
 // The view of shard 0.
-fn first_view(alloc: Global, engine: &PlainEngine) -> Result<ShardView, AllocError> {
-    match engine.shard(0) {
-        Some(shard) => shard.view(alloc),
-        None => Err(AllocError),
-    }
-}
-
-// As `expect_view`, of the view of shard 0.
-fn expect_first_view(
-    rt: &(impl Abort + Eprint),
-    alloc: Global,
-    engine: &PlainEngine,
-    expected: (u64, u64, u64),
-) -> Result<(), AllocError> {
-    let view = first_view(alloc, engine)?;
-    expect_view(rt, alloc, &view, expected)
-}
-
-// The engine that has put the ten batches, in one shard.
-fn engine_of_ten<R: RandomSource + Abort + Eprint>(
-    rt: &R,
-    alloc: Global,
-) -> Result<PlainEngine, Fail> {
-    let setup = Setup::new(3, 10, &[2, 4], 1, 100, 10)?;
-    engine_of(rt, alloc, setup, TEN)
-}
-
-fn expect_cuts_kept<R: RandomSource + Abort + Eprint>(rt: &R, alloc: Global) -> Result<(), Fail> {
-    let engine = engine_of_ten(rt, alloc)?;
-    assert!(rt;
-        same(
-            rt,
-            &layers(&engine),
-            &Some([Some(1), Some(3), Some(6), None])
-        )
-    );
-    expect_first_view(rt, alloc, &engine, (10, 10, 10))?;
-    Ok(())
+fn first_view(rt: &impl Abort, alloc: Global, engine: &PlainEngine) -> ShardView {
+    let shard = engine.shard(0).expect(rt, "a shard");
+    shard.view(alloc).expect(rt, "memory")
 }
 
 #[test]
 fn layers_keep_their_cuts(rt: HostRuntime) -> Result<(), Fail> {
-    expect_cuts_kept(&rt, rt.alloc())
+    let setup = Setup::new(3, 10, &[2, 4], 1, 100, 10)?;
+    let engine = engine_of(&rt, rt.alloc(), setup, TEN);
+    let expected = Some([Some(1), Some(3), Some(6), None]);
+    assert!(rt; same(&rt, &layers(&engine), &expected));
+    let view = first_view(&rt, rt.alloc(), &engine);
+    drop(engine);
+    assert!(rt; same(&rt, &seen(&rt, rt.alloc(), view), &(10, 10, 10)));
+    Ok(())
 }
 
 static FIRST: &[Step] = &[(7, 1, &[(0, 0, 5)], Ok((0, 5)))];
 
 static SECOND: &[Step] = &[(8, 1, &[(0, 0, 3)], Ok((1, 8)))];
 
-// Puts the second batch, and compares the view that was taken before.
-fn expect_view_of_first(
-    rt: &(impl Abort + Eprint),
-    alloc: Global,
-    setup: &Setup,
-    engine: &mut PlainEngine,
-) -> Result<(), Fail>
-    requires { engine.old.setup ≡ setup.now }
-{
-    let view = first_view(alloc, engine)?;
-    put_all(rt, alloc, setup, engine, SECOND)?;
-    expect_view(rt, alloc, &view, (1, 1, 5))?;
-    Ok(())
-}
-
-fn expect_view_stays<R: RandomSource + Abort + Eprint>(rt: &R, alloc: Global) -> Result<(), Fail> {
-    let setup = small_setup()?;
-    let mut engine = engine_of(rt, alloc, setup, FIRST)?;
-    expect_view_of_first(rt, alloc, &setup, &mut engine)?;
-    expect_shards(rt, &engine, &[(0, 8, 2)]);
-    Ok(())
-}
-
 #[test]
 fn a_view_stays_as_it_was(rt: HostRuntime) -> Result<(), Fail> {
-    expect_view_stays(&rt, rt.alloc())
+    let setup = small_setup(&rt);
+    let mut engine = engine_of(&rt, rt.alloc(), setup, FIRST);
+    let view = first_view(&rt, rt.alloc(), &engine);
+    put_all(&rt, rt.alloc(), &setup, &mut engine, SECOND);
+    assert!(rt; same(&rt, &seen(&rt, rt.alloc(), view), &(1, 1, 5)));
+    expect_shards(&rt, &engine, &[(0, 8, 2)]);
+    drop(engine);
+    Ok(())
 }

@@ -1,5 +1,5 @@
 //! Engines taken apart and put together again.
-ghost use Rattle.std.specs.Prelude.{◌≡◌, IfOk};
+ghost use Rattle.std.specs.Prelude.{◌≡◌};
 ghost use Rattle.plain_engine.specs.Standing.{HaveSetup};
 
 use crate::batches::small_setup;
@@ -17,7 +17,8 @@ use test_support::same;
 pub fn book_of(engine: PlainEngine) -> Book
     ensures { result.setup ≡ engine.setup }
 {
-    let (_, book, _) = engine.parts();
+    let (_, book, shards) = engine.parts();
+    drop(shards);
     book
 }
 
@@ -25,34 +26,9 @@ pub fn book_of(engine: PlainEngine) -> Book
 pub fn shards_of(engine: PlainEngine) -> Vec<Shard>
     ensures { HaveSetup engine.setup result.items }
 {
-    let (_, _, shards) = engine.parts();
+    let (_, book, shards) = engine.parts();
+    drop(book);
     shards
-}
-
-// The book of the engine that has put the batches of a table.
-fn made_book<R: RandomSource + Abort + Eprint>(
-    rt: &R,
-    alloc: Global,
-    setup: Setup,
-    steps: &[Step],
-) -> Result<Book, Fail>
-    ensures { IfOk result (λ book. book.setup ≡ setup) }
-{
-    let engine = engine_of(rt, alloc, setup, steps)?;
-    Ok(book_of(engine))
-}
-
-// Its shards.
-fn made_shards<R: RandomSource + Abort + Eprint>(
-    rt: &R,
-    alloc: Global,
-    setup: Setup,
-    steps: &[Step],
-) -> Result<Vec<Shard>, Fail>
-    ensures { IfOk result (λ shards. HaveSetup setup shards.items) }
-{
-    let engine = engine_of(rt, alloc, setup, steps)?;
-    Ok(shards_of(engine))
 }
 
 /// What a book and shards make: the status of an engine, or the lengths of the book and of the shards handed back.
@@ -64,8 +40,17 @@ pub fn joined(setup: Setup, book: Book, shards: Vec<Shard>) -> Joined
     requires shards { HaveSetup setup shards.items }
 {
     match join_parts(setup, book, shards) {
-        Ok(engine) => Ok(engine.status()),
-        Err((book, shards)) => Err((book.len(), shards.len())),
+        Ok(engine) => {
+            let status = engine.status();
+            drop(engine);
+            Ok(status)
+        }
+        Err((book, shards)) => {
+            let lengths = (book.len(), shards.len());
+            drop(book);
+            drop(shards);
+            Err(lengths)
+        }
     }
 }
 
@@ -99,15 +84,11 @@ const TURNED: &[Step] = &[
 // A batch without cells is in no record.
 const WITH_EMPTY: &[Step] = &[(7, 1, &[(0, 0, 5)], Ok((0, 5))), (9, 1, &[], Ok((1, 5)))];
 
-fn mixed<R: RandomSource + Abort + Eprint>(
-    rt: &R,
-    alloc: Global,
-    case: &Case,
-) -> Result<Joined, Fail> {
-    let setup = small_setup()?;
-    let book = made_book(rt, alloc, setup, case.0)?;
-    let shards = made_shards(rt, alloc, setup, case.1)?;
-    Ok(joined(setup, book, shards))
+fn mixed<R: RandomSource + Abort + Eprint>(rt: &R, alloc: Global, case: &Case) -> Joined {
+    let setup = small_setup(rt);
+    let book = book_of(engine_of(rt, alloc, setup, case.0));
+    let shards = shards_of(engine_of(rt, alloc, setup, case.1));
+    joined(setup, book, shards)
 }
 
 static CASES: &[Case] = &[
@@ -150,49 +131,33 @@ static CASES: &[Case] = &[
 #[test]
 fn records_are_compared_with_the_book(rt: HostRuntime) -> Result<(), Fail> {
     for case in CASES {
-        let found = mixed(&rt, rt.alloc(), case)?;
+        let found = mixed(&rt, rt.alloc(), case);
         assert!(rt; same(&rt, &found, &case.2));
     }
     Ok(())
 }
 
-// What an engine's parts make again.
-fn rejoined(engine: PlainEngine) -> Joined {
-    let (setup, book, shards) = engine.parts();
-    joined(setup, book, shards)
-}
-
-// The batches of an engine's book, their total, and the number of shards.
-fn part_sizes(engine: PlainEngine) -> (u64, u64, usize) {
-    let (_, book, shards) = engine.parts();
-    (book.len(), book.total(), shards.len())
-}
-
 #[test]
 fn an_engine_has_a_book_and_shards(rt: HostRuntime) -> Result<(), Fail> {
-    let engine = small_engine_of(&rt, rt.alloc(), TWO)?;
-    assert!(rt; same(&rt, &part_sizes(engine), &(2, 9, 2)));
+    let engine = small_engine_of(&rt, rt.alloc(), TWO);
+    let (_, book, shards) = engine.parts();
+    let found = (book.len(), book.total(), shards.len());
+    drop(book);
+    drop(shards);
+    assert!(rt; same(&rt, &found, &(2, 9, 2)));
     Ok(())
 }
 
 #[test]
 fn parts_make_the_engine_again(rt: HostRuntime) -> Result<(), Fail> {
-    let engine = small_engine_of(&rt, rt.alloc(), TWO)?;
+    let engine = small_engine_of(&rt, rt.alloc(), TWO);
+    let (setup, book, shards) = engine.parts();
     let status = Status {
         batches: 2,
         total: 9,
     };
-    assert!(rt; same(&rt, &rejoined(engine), &Ok(status)));
+    assert!(rt; same(&rt, &joined(setup, book, shards), &Ok(status)));
     Ok(())
-}
-
-// The shards of an engine without the last.
-fn without_last(engine: PlainEngine) -> Vec<Shard>
-    ensures { HaveSetup engine.setup result.items }
-{
-    let mut shards = shards_of(engine);
-    let _ = shards.pop();
-    shards
 }
 
 // What a book and shards without the last make.
@@ -200,46 +165,42 @@ fn joined_without_last<R: RandomSource + Abort + Eprint>(
     rt: &R,
     alloc: Global,
     setup: Setup,
-) -> Result<Joined, Fail> {
-    let book = made_book(rt, alloc, setup, NONE)?;
-    let engine = engine_of(rt, alloc, setup, NONE)?;
-    Ok(joined(setup, book, without_last(engine)))
+) -> Joined {
+    let book = book_of(engine_of(rt, alloc, setup, NONE));
+    let mut shards = shards_of(engine_of(rt, alloc, setup, NONE));
+    drop(shards.pop());
+    joined(setup, book, shards)
 }
 
 #[test]
 fn a_shard_may_be_missing(rt: HostRuntime) -> Result<(), Fail> {
-    let found = joined_without_last(&rt, rt.alloc(), small_setup()?)?;
+    let found = joined_without_last(&rt, rt.alloc(), small_setup(&rt));
     assert!(rt; same(&rt, &found, &Err((0, 1))));
     Ok(())
 }
 
 // The shards of an engine, from the last to the first.
-fn turned(alloc: Global, engine: PlainEngine) -> Result<Vec<Shard>, Fail>
-    ensures { IfOk result (λ shards. HaveSetup engine.setup shards.items) }
+fn turned(rt: &impl Abort, alloc: Global, engine: PlainEngine) -> Vec<Shard>
+    ensures { HaveSetup engine.setup result.items }
 {
     let mut shards = shards_of(engine);
     let mut turned = Vec::new(alloc);
     while let Some(shard) = shards.pop() {
-        turned.push(shard)?;
+        turned.push(shard).expect(rt, "memory");
     }
-    Ok(turned)
+    turned
 }
 
 // What a book and shards in another order make.
-fn joined_turned<R: RandomSource + Abort + Eprint>(
-    rt: &R,
-    alloc: Global,
-    setup: Setup,
-) -> Result<Joined, Fail> {
-    let book = made_book(rt, alloc, setup, NONE)?;
-    let engine = engine_of(rt, alloc, setup, NONE)?;
-    let shards = turned(alloc, engine)?;
-    Ok(joined(setup, book, shards))
+fn joined_turned<R: RandomSource + Abort + Eprint>(rt: &R, alloc: Global, setup: Setup) -> Joined {
+    let book = book_of(engine_of(rt, alloc, setup, NONE));
+    let engine = engine_of(rt, alloc, setup, NONE);
+    joined(setup, book, turned(rt, alloc, engine))
 }
 
 #[test]
 fn shards_have_their_places(rt: HostRuntime) -> Result<(), Fail> {
-    let found = joined_turned(&rt, rt.alloc(), small_setup()?)?;
+    let found = joined_turned(&rt, rt.alloc(), small_setup(&rt));
     assert!(rt; same(&rt, &found, &Err((0, 2))));
     Ok(())
 }

@@ -3,10 +3,10 @@ use Rattle.plain_engine.specs.Standing.{HaveSetup}
 use Rattle.plain_engine_tests.proofs.parts.turned.Given as goal
 
 abbrev pub invariant-loop-shard : goal.invariant-loop-shard
-invariant-loop-shard l = record {
+invariant-loop-shard g l = record {
   left : HaveSetup l.fn.engine.setup l.shards.items;
   turned : HaveSetup l.fn.engine.setup l.turned.items;
 }
 
 abbrev pub decreases-loop-shard : goal.decreases-loop-shard
-decreases-loop-shard l = vec_len l.shards
+decreases-loop-shard g l = vec_len l.shards
