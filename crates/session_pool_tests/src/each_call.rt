@@ -1,23 +1,17 @@
 //! A session of a dozen frames over the keeper of a seat, and over a link that moves at most eight bytes a call and of
 //! which each call fails in turn.
-ghost use Rattle.std.specs.Prelude.{◌≡◌, ◌+◌, ◌<◌, ◌^◌, OnOk};
-ghost use Rattle.batch_store.specs.Accepted.{entries_in};
-ghost use Rattle.locked_engine.specs.Opened.{NamesEngine};
 
-use crate::engines::{accepted_by, closed, opened, unopened};
-use byte_io::{Link, Once, Script, Sink, Source, Trickle};
+use crate::engines::{Accepted, InTurn, sessions_in_turn};
+use byte_io::{Once, Script, Source, Trickle};
 use byte_io_tests::pieces;
-use locked_engine::{Engine, Named, Names, Seat};
-use plain_engine::PlainEngine;
-use session_pool::{Disk, Saver, SeatKeeper};
-use std::alloc::{AllocError, Global};
-use std::marker::Brand;
+use session_pool::Disk;
+use std::alloc::Global;
+use std::process::Abort;
 use std::random::RandomSource;
 use std::sync::Wait;
-use std::sync::ledger::Ledger;
 use std::test::Fail;
 use test_support::same_at;
-use wire_proto::{Ended, serve};
+use wire_proto::Ended;
 
 // A Put of client 7, number 1, with one count of 5 at row 0 and column 0, and what it is answered.
 const FIVE: &[u8] = b"\0\0\0\x4d\x01\0\0\0\0\0\0\0\x07\0\0\0\0\0\0\0\x01\
@@ -41,7 +35,7 @@ const TWO: &[u8] = b"\0\0\0\x28\x08\0\0\0\0\0\0\0\x09\0\0\0\0\0\0\0\x01\
 const SUM: &[u8] = b"%%MatrixMarket matrix coordinate integer general\n3 3 2\n1 1 8\n2 3 2\n";
 
 // A frame, its reply, and how many batches are accepted then and their total. A later session gets the same replies.
-type Turn = (&'static [u8], &'static [u8], (u64, u64));
+type Turn = (&'static [u8], &'static [u8], Accepted);
 
 static TURNS: &[Turn] = &[
     (FIVE, FIRST, (1, 5)),
@@ -103,11 +97,11 @@ static TURNS: &[Turn] = &[
 struct End {
     ended: Ended,
     taken: u64,
-    accepted: (u64, u64),
+    accepted: Accepted,
 }
 
 // The end at a failed read, or at a write that fails behind so many bytes.
-fn failed_read(taken: u64, accepted: (u64, u64)) -> End {
+fn failed_read(taken: u64, accepted: Accepted) -> End {
     End {
         ended: Ended::ReadFault,
         taken,
@@ -115,7 +109,7 @@ fn failed_read(taken: u64, accepted: (u64, u64)) -> End {
     }
 }
 
-fn failed_write(taken: u64, accepted: (u64, u64)) -> End {
+fn failed_write(taken: u64, accepted: Accepted) -> End {
     End {
         ended: Ended::WriteFault {
             written: u128::from(taken),
@@ -165,178 +159,75 @@ fn end_at(call: u64) -> End {
 }
 
 // All frames, or all replies.
-fn joined(alloc: Global, replies: bool) -> Result<Vec<u8>, AllocError> {
+fn joined(rt: &impl Abort, alloc: Global, replies: bool) -> Vec<u8> {
     let mut all = Vec::new(alloc);
     for (frame, reply, _) in TURNS {
         let bytes = if replies { *reply } else { *frame };
-        all.extend_from_slice(bytes)?;
+        all.extend_from_slice(bytes).expect(rt, "memory");
     }
-    Ok(all)
+    all
 }
 
-// All frames in one piece.
-fn link(alloc: Global) -> Result<Script, AllocError> {
-    let frames = joined(alloc, false)?;
-    let list = pieces(alloc, &frames, 1_000)?;
-    Ok(Script::new(alloc, list, None, None))
+// A link that gives all frames in one piece.
+fn link(rt: &impl Abort, alloc: Global) -> Script {
+    let frames = joined(rt, alloc, false);
+    let list = pieces(alloc, &frames, 1_000).expect(rt, "memory");
+    Script::new(alloc, list, None, None)
 }
 
-// A link that hasn't failed yet.
-fn expect_new<L: Link>(link: &L) -> Result<(), Fail>
-    ensures { OnOk result (L.Sink.failure_count link.now ≡ 0) }
-{
-    if Sink::failures(link) > 0 {
-        return Err("the link has failed before".into());
-    }
-    Ok(())
+// How many bytes a link took, where they are the first of the replies.
+fn taken_of(rt: &impl Abort, alloc: Global, link: &Script) -> Option<u64> {
+    let replies = joined(rt, alloc, true);
+    let begins = replies.as_slice().starts_with(link.written());
+    begins.then_some(link.written().len() as u64)
 }
 
-// Serves the session by a seat.
-fn serve_by<N: Named, H: Ledger, R: Wait + Disk, L: Link>(
+// What became of the session and of the one behind it, how many calls the link of the first had and how many of them
+// failed, and how many bytes of the replies each link took.
+type Found = (InTurn, (u64, u64), [Option<u64>; 2]);
+
+// The session whose call with this number fails, and behind it, where asked for, the session without a failure.
+fn found_at<R: Wait + Disk + RandomSource + Abort>(
     rt: &R,
     alloc: Global,
-    engine: &Engine<N, H>,
-    seat: &mut Seat<N, H>,
-    link: &mut L,
-) -> Result<Ended, Fail> {
-    expect_new(link)?;
-    let saver = Saver::new(None);
-    let mut keeper = SeatKeeper::new(rt, engine, seat, &saver);
-    Ok(serve(alloc, link, &mut keeper, 1 << 40))
-}
-
-// How many bytes were taken, where they are the first of the replies.
-fn taken_of(alloc: Global, written: &[u8]) -> Result<Option<u64>, AllocError> {
-    let replies = joined(alloc, true)?;
-    let begins = replies.as_slice().starts_with(written);
-    Ok(begins.then_some(written.len() as u64))
-}
-
-// How a session ended, how many calls its link had and how many of them failed, and how many bytes of the replies it
-// took.
-type Outcome = (Ended, (u64, u64), Option<u64>);
-
-// The call with this number fails.
-fn serve_failing<N: Named, H: Ledger, R: Wait + Disk>(
-    rt: &R,
-    alloc: Global,
-    engine: &Engine<N, H>,
-    seat: &mut Seat<N, H>,
     call: u32,
-) -> Result<Outcome, Fail> {
-    let mut once = Once::new(Trickle::new(link(alloc)?, STEP as usize), u64::from(call));
-    let ended = serve_by(rt, alloc, engine, seat, &mut once)?;
+    again: bool,
+) -> Found {
+    let mut once = Once::new(
+        Trickle::new(link(rt, alloc), STEP as usize),
+        u64::from(call),
+    );
+    let mut whole = link(rt, alloc);
+    let second = if again { Some(&mut whole) } else { None };
+    let sessions = sessions_in_turn(rt, alloc, 2, &mut once, second);
     let calls = (once.calls(), Source::failures(&once));
-    let taken = taken_of(alloc, once.inner().inner().written())?;
-    Ok((ended, calls, taken))
+    let taken = taken_of(rt, alloc, once.inner().inner());
+    (sessions, calls, [taken, taken_of(rt, alloc, &whole)])
 }
 
-// The session ends at the call that fails, and makes no further call.
-fn wanted(call: u64) -> (Outcome, (u64, u64)) {
-    let end = end_at(call);
-    let calls = (call.min(LAST) + 1, u64::from(call <= LAST));
-    ((end.ended, calls, Some(end.taken)), end.accepted)
-}
-
-// How a session ended, and how many bytes of the replies were taken.
-type Whole = (Ended, Option<u64>);
-
-// All 277 bytes of the replies.
-const WHOLE: Whole = (Ended::Closed { rest: 0 }, Some(277));
-
-// The session without a failure, in one read, whatever was accepted before.
-fn serve_whole<N: Named, H: Ledger, R: Wait + Disk>(
-    rt: &R,
-    alloc: Global,
-    engine: &Engine<N, H>,
-    seat: &mut Seat<N, H>,
-) -> Result<Whole, Fail> {
-    let mut script = link(alloc)?;
-    let ended = serve_by(rt, alloc, engine, seat, &mut script)?;
-    Ok((ended, taken_of(alloc, script.written())?))
-}
-
-// What became of the session and what was accepted then, and what became of the one behind it, where one was asked for.
-type Twice = ((Outcome, (u64, u64)), Option<Whole>);
-
-fn serve_twice<N: Named, H: Ledger, R: Wait + Disk>(
-    rt: &R,
-    alloc: Global,
-    engine: &Engine<N, H>,
-    seats: &mut [Seat<N, H>],
-    call: u32,
-    again: bool,
-) -> Result<Twice, Fail> {
-    let seat = seats.first_mut().ok_or("no seat")?;
-    let outcome = serve_failing(rt, alloc, engine, seat, call)?;
-    let status = engine.status(seat);
-    let first = (outcome, (status.batches, status.total));
+// The session ends at the call that fails, and makes no further call. One behind it gets all 277 bytes of the replies.
+fn wanted(call: u32, again: bool) -> Found {
+    let end = end_at(u64::from(call));
+    let calls = (
+        u64::from(call).min(LAST) + 1,
+        u64::from(u64::from(call) <= LAST),
+    );
+    let first = (end.ended, end.accepted);
     if again {
-        Ok((first, Some(serve_whole(rt, alloc, engine, seat)?)))
+        let second = (Ended::Closed { rest: 0 }, (3, 10));
+        let sessions = (first, Some(second), (3, 10), Some(10));
+        (sessions, calls, [Some(end.taken), Some(277)])
     } else {
-        Ok((first, None))
+        let sessions = (first, None, end.accepted, Some(end.accepted.1));
+        (sessions, calls, [Some(end.taken), Some(0)])
     }
-}
-
-// The totals of both shards together.
-fn total_of_shards(closed: &PlainEngine) -> Option<u64> {
-    let first = closed.shard(0)?.total();
-    let second = closed.shard(1)?.total();
-    first.checked_add(second)
-}
-
-// Both sessions, and what the engine has accepted once it is closed, in its book and in its shards.
-type Found = (Twice, (u64, u64), Option<u64>);
-
-fn opened_and_closed<N: Named, H: Ledger, R: Wait + Disk>(
-    rt: &R,
-    alloc: Global,
-    plain: PlainEngine,
-    names: Names,
-    call: u32,
-    again: bool,
-) -> Result<Found, Fail>
-    requires named { NamesEngine names N.setup N.seats N.history N.name N.parts H.name H.parts }
-    requires made_from { plain.setup ≡ names.setup }
-    requires opened { plain.book.state ≡ N.opened }
-{
-    let (engine, mut seats) = opened::<N, H>(alloc, plain, names)?;
-    let found = match serve_twice(rt, alloc, &engine, &mut seats, call, again) {
-        Ok(found) => found,
-        Err(fail) => {
-            engine.end(rt);
-            return Err(fail);
-        }
-    };
-    let closed = closed(rt, alloc, engine, seats)?;
-    Ok((found, accepted_by(&closed), total_of_shards(&closed)))
-}
-
-// The session over a new engine, and again where asked for; then the engine is closed.
-fn over_a_new_engine<R: Wait + Disk + RandomSource>(
-    rt: &R,
-    alloc: Global,
-    call: u32,
-    again: bool,
-) -> Result<Found, Fail> {
-    let (plain, names) = unopened(rt, alloc, 2)?;
-    opened_and_closed::<Brand, Brand, R>(rt, alloc, plain, names, call, again)
 }
 
 #[test]
 fn each_call_fails_in_turn(rt: HostRuntime) -> Result<(), Fail> {
     for call in 0..=97u32 {
-        let found = over_a_new_engine(&rt, rt.alloc(), call, false)?;
-        let first = wanted(u64::from(call));
-        let accepted = first.1;
-        assert!(rt;
-            same_at(
-                &rt,
-                &call,
-                &found,
-                &((first, None), accepted, Some(accepted.1))
-            )
-        );
+        let found = found_at(&rt, rt.alloc(), call, false);
+        assert!(rt; same_at(&rt, &call, &found, &wanted(call, false)));
     }
     Ok(())
 }
@@ -344,9 +235,8 @@ fn each_call_fails_in_turn(rt: HostRuntime) -> Result<(), Fail> {
 #[test]
 fn a_session_behind_a_failed_one_gets_all_replies(rt: HostRuntime) -> Result<(), Fail> {
     for call in 0..=97u32 {
-        let found = over_a_new_engine(&rt, rt.alloc(), call, true)?;
-        let both = (wanted(u64::from(call)), Some(WHOLE));
-        assert!(rt; same_at(&rt, &call, &found, &(both, (3, 10), Some(10))));
+        let found = found_at(&rt, rt.alloc(), call, true);
+        assert!(rt; same_at(&rt, &call, &found, &wanted(call, true)));
     }
     Ok(())
 }

@@ -1,159 +1,108 @@
-//! Engines that are opened, serve a list of sessions by a pool, and are closed.
-ghost use Rattle.std.specs.Prelude.{◌≡◌, IfOk};
+//! Engines that are opened, serve sessions by a pool or one after another, and are closed.
+ghost use Rattle.std.specs.Prelude.{◌≡◌};
 ghost use Rattle.batch_store.specs.Accepted.{entries_in};
 ghost use Rattle.locked_engine.specs.Opened.{NamesEngine};
 
 use batch_store::Setup;
-use byte_io::{Script, Source};
+use byte_io::{Link, Script, Sink};
 use crossbeam_channel::{Receiver, Sender, bounded};
-use locked_engine::{CloseFault, Engine, Named, Names, Seat};
+use locked_engine::{Engine, Named, Names, Seat};
 use plain_engine::PlainEngine;
-use session_pool::{Disk, Gate, PoolFault, PoolReport, Saver, Session, run_pool};
+use session_pool::{Disk, Gate, PoolFault, PoolReport, Saver, SeatKeeper, Session, run_pool};
 use std::alloc::Global;
 use std::marker::Brand;
+use std::process::Abort;
 use std::random::RandomSource;
 use std::sync::Wait;
 use std::sync::ledger::Ledger;
-use std::test::Fail;
 use std::thread::Threads;
+use wire_proto::{Ended, serve};
 
-/// An engine without batches that is to be opened with this many seats: three rows, three columns, two shards, a limit
-/// of 1,000 and at most 100 batches.
-pub fn unopened(
-    rt: &impl RandomSource,
-    alloc: Global,
-    seats: usize,
-) -> Result<(PlainEngine, Names), Fail>
-    ensures { IfOk result (λ r. r.0.setup ≡ r.1.setup) }
+// An engine without batches that is to be opened with this many seats: three rows, three columns, two shards, a limit
+// of 1,000 and at most 100 batches.
+fn unopened<R: RandomSource + Abort>(rt: &R, alloc: Global, seats: usize) -> (PlainEngine, Names)
+    ensures { result.0.setup ≡ result.1.setup }
 {
-    let setup = Setup::new(3, 3, &[2, 4], 2, 1000, 100)?;
-    let plain = PlainEngine::new(rt, alloc, setup)?;
-    let Ok(names) = Names::new(rt, alloc, &plain, seats) else {
-        return Err("no names".into());
-    };
-    Ok((plain, names))
+    let setup = Setup::new(3, 3, &[2, 4], 2, 1000, 100).expect(rt, "setup");
+    let plain = PlainEngine::new(rt, alloc, setup).expect(rt, "memory");
+    let names = Names::new(rt, alloc, &plain, seats).expect(rt, "names");
+    (plain, names)
 }
 
-/// What a pool did over sessions, or why it did nothing, and the engine of one thread once all seats were given back.
-pub type Outcome = (Result<PoolReport, PoolFault>, PlainEngine);
-
-/// The engine of several threads that has these names, and its seats.
-pub fn opened<N: Named, H: Ledger>(
+// The engine of several threads that has these names, and its seats.
+fn opened<N: Named, H: Ledger>(
+    rt: &impl Abort,
     alloc: Global,
     plain: PlainEngine,
     names: Names,
-) -> Result<(Engine<N, H>, Vec<Seat<N, H>>), Fail>
+) -> (Engine<N, H>, Vec<Seat<N, H>>)
     requires named { NamesEngine names N.setup N.seats N.history N.name N.parts H.name H.parts }
     requires made_from { plain.setup ≡ names.setup }
     requires opened { plain.book.state ≡ N.opened }
 {
     match Engine::<N, H>::open(alloc, plain, names) {
-        Ok(opened) => Ok(opened),
-        Err(_) => Err("open".into()),
+        Ok(opened) => opened,
+        Err(_) => panic!(rt; "open"),
     }
 }
 
-/// The engine of one thread again, with all seats given back.
-pub fn closed<N: Named, H: Ledger, R: Wait>(
+// The engine of one thread again, with all seats given back.
+fn closed<N: Named, H: Ledger, R: Wait + Abort>(
     rt: &R,
     alloc: Global,
     engine: Engine<N, H>,
     seats: Vec<Seat<N, H>>,
-) -> Result<PlainEngine, Fail> {
+) -> PlainEngine {
     match engine.close(rt, alloc, seats) {
-        Ok(closed) => Ok(closed),
-        Err(fault) => Err(not_closed(rt, fault)),
+        Ok(closed) => closed,
+        Err(_fault) => panic!(rt; "close"),
     }
 }
 
-// Ends what wasn't closed.
-fn not_closed<N: Named, H: Ledger, R: Wait>(rt: &R, fault: CloseFault<N, H>) -> Fail {
-    match fault {
-        CloseFault::SeatsMissing { engine, seats: _ } => engine.end(rt),
-        CloseFault::Memory { engine, seats: _ } => engine.end(rt),
-        CloseFault::RecordsDiffer { shards: _, book: _ } => (),
-    }
-    "close".into()
+/// The number of accepted batches and their total.
+pub type Accepted = (u64, u64);
+
+/// The number of accepted batches and their total.
+pub fn accepted_by(closed: &PlainEngine) -> Accepted {
+    let status = closed.status();
+    (status.batches, status.total)
 }
 
 // Sends a session over a link that hasn't failed.
-fn send_session<R: Wait>(
+fn send_session<R: Wait + Abort>(
     rt: &R,
     sender: &Sender<Session<Script>, Global>,
     number: u64,
     link: Script,
-) -> Result<(), Fail> {
-    if link.failures() > 0 {
-        return Err("a link that has failed".into());
-    }
-    match sender.send(rt, Session::new(number, link)) {
-        Ok(()) => Ok(()),
-        Err(_) => Err("not sent".into()),
-    }
-}
-
-// Sends sessions over these links, numbered in order.
-fn send_all<R: Wait>(
-    rt: &R,
-    sender: &Sender<Session<Script>, Global>,
-    links: Vec<Script>,
-) -> Result<(), Fail> {
-    let mut number = 0u64;
-    for link in links {
-        send_session(rt, sender, number, link)?;
-        number = number.saturating_add(1);
-    }
-    Ok(())
+) {
+    assert!(rt; Sink::failures(&link) == 0);
+    assert!(rt; sender.send(rt, Session::new(number, link)).is_ok());
 }
 
 // A closed channel with sessions over these links, numbered in order.
-fn queued<R: Wait>(
+fn queued<R: Wait + Abort>(
     rt: &R,
     alloc: Global,
     links: Vec<Script>,
-) -> Result<Receiver<Session<Script>, Global>, Fail> {
-    let (sender, receiver) = bounded(alloc, links.len())?;
-    send_all(rt, &sender, links)?;
-    Ok(receiver)
-}
-
-// The first of these seats.
-fn first_seats<N: Named, H: Ledger>(
-    seats: &mut [Seat<N, H>],
-    count: usize,
-) -> Result<&mut [Seat<N, H>], Fail> {
-    match seats.split_at_mut_checked(count) {
-        Some((first, _)) => Ok(first),
-        None => Err("too few seats".into()),
+) -> Receiver<Session<Script>, Global> {
+    let (sender, receiver) = bounded(alloc, links.len()).expect(rt, "channel");
+    let mut number = 0u64;
+    for link in links {
+        send_session(rt, &sender, number, link);
+        number = number.saturating_add(1);
     }
+    receiver
 }
 
-// Serves sessions by a pool with the first `workers` of an engine's seats.
-fn served<
-    N: Named + Send + Sync,
-    H: Ledger + Send + Sync,
-    G: Gate<R> + Sync,
-    R: Threads + Wait + Disk + Sync,
->(
-    rt: &R,
-    alloc: Global,
-    engine: &Engine<N, H>,
-    seats: &mut [Seat<N, H>],
-    workers: usize,
-    gate: &G,
-    saver: &Saver,
-    sessions: &Receiver<Session<Script>, Global>,
-) -> Result<Result<PoolReport, PoolFault>, Fail> {
-    let serving = first_seats(seats, workers)?;
-    Ok(run_pool(rt, alloc, engine, serving, sessions, gate, saver))
-}
+/// What a pool did over sessions, or why it did nothing, and the engine of one thread once all seats were given back.
+pub type Outcome = (Result<PoolReport, PoolFault>, PlainEngine);
 
 // Opens an engine, serves sessions by a pool with the first `workers` of its seats, and closes it.
 fn pooled<
     N: Named + Send + Sync,
     H: Ledger + Send + Sync,
     G: Gate<R> + Sync,
-    R: Threads + Wait + Disk + Sync,
+    R: Threads + Wait + Disk + Abort + Sync,
 >(
     rt: &R,
     alloc: Global,
@@ -163,28 +112,19 @@ fn pooled<
     gate: &G,
     saver: &Saver,
     sessions: &Receiver<Session<Script>, Global>,
-) -> Result<Outcome, Fail>
+) -> Outcome
     requires named { NamesEngine names N.setup N.seats N.history N.name N.parts H.name H.parts }
     requires made_from { plain.setup ≡ names.setup }
     requires opened { plain.book.state ≡ N.opened }
 {
-    let (engine, mut seats) = opened::<N, H>(alloc, plain, names)?;
-    let report = match served(
-        rt, alloc, &engine, &mut seats, workers, gate, saver, sessions,
-    ) {
-        Ok(report) => report,
-        Err(fail) => {
-            engine.end(rt);
-            return Err(fail);
-        }
-    };
-    let closed = closed(rt, alloc, engine, seats)?;
-    Ok((report, closed))
+    let (engine, mut seats) = opened::<N, H>(rt, alloc, plain, names);
+    let (serving, _) = seats.split_at_mut_checked(workers).expect(rt, "seats");
+    let report = run_pool(rt, alloc, &engine, serving, sessions, gate, saver);
+    (report, closed(rt, alloc, engine, seats))
 }
 
-/// Serves sessions over these links, numbered in order, by a pool with the first `workers` of an engine's seats: what
-/// the pool did, and the engine of one thread once all seats were given back.
-pub fn pool_over<G: Gate<R> + Sync, R: Threads + Wait + Disk + RandomSource + Sync>(
+/// Serves sessions over these links, numbered in order, by a pool with the first `workers` of an engine's seats.
+pub fn pool_over<G: Gate<R> + Sync, R: Threads + Wait + Disk + RandomSource + Abort + Sync>(
     rt: &R,
     alloc: Global,
     seats: usize,
@@ -192,43 +132,106 @@ pub fn pool_over<G: Gate<R> + Sync, R: Threads + Wait + Disk + RandomSource + Sy
     gate: &G,
     saver: &Saver,
     links: Vec<Script>,
-) -> Result<Outcome, Fail> {
-    let sessions = queued(rt, alloc, links)?;
-    let (plain, names) = unopened(rt, alloc, seats)?;
+) -> Outcome {
+    let sessions = queued(rt, alloc, links);
+    let (plain, names) = unopened(rt, alloc, seats);
     pooled::<Brand, Brand, G, R>(rt, alloc, plain, names, workers, gate, saver, &sessions)
 }
 
-/// What a pool did over sessions, or why it did nothing, and the number of batches that are accepted then and their
-/// total.
-pub type Found = (Result<PoolReport, PoolFault>, (u64, u64));
-
-/// Serves sessions over these links by a pool with the first `workers` of an engine's seats and without snapshots.
-pub fn found_over<G: Gate<R> + Sync, R: Threads + Wait + Disk + RandomSource + Sync>(
-    rt: &R,
-    alloc: Global,
-    seats: usize,
-    workers: usize,
-    gate: &G,
-    links: Vec<Script>,
-) -> Result<Found, Fail> {
-    let saver = Saver::new(None);
-    let outcome = pool_over(rt, alloc, seats, workers, gate, &saver, links)?;
-    Ok(found_of(&outcome))
-}
+/// What a pool did over sessions, or why it did nothing, and what is accepted then.
+pub type Found = (Result<PoolReport, PoolFault>, Accepted);
 
 /// The plain values of an outcome.
 pub fn found_of(outcome: &Outcome) -> Found {
     (outcome.0, accepted_by(&outcome.1))
 }
 
-/// A pool started so many workers, which served so many sessions, and the engine has accepted this many batches of this
-/// total.
-pub fn served_by(started: u64, served: u64, accepted: (u64, u64)) -> Found {
+/// Serves sessions over these links by a pool with the first `workers` of an engine's seats and without snapshots.
+pub fn found_over<G: Gate<R> + Sync, R: Threads + Wait + Disk + RandomSource + Abort + Sync>(
+    rt: &R,
+    alloc: Global,
+    seats: usize,
+    workers: usize,
+    gate: &G,
+    links: Vec<Script>,
+) -> Found {
+    let saver = Saver::new(None);
+    let outcome = pool_over(rt, alloc, seats, workers, gate, &saver, links);
+    found_of(&outcome)
+}
+
+/// A pool started so many workers, which served so many sessions, and the engine has accepted this.
+pub fn served_by(started: u64, served: u64, accepted: Accepted) -> Found {
     (Ok(PoolReport { started, served }), accepted)
 }
 
-/// The number of accepted batches and their total.
-pub fn accepted_by(closed: &PlainEngine) -> (u64, u64) {
-    let status = closed.status();
-    (status.batches, status.total)
+/// How a session ended, and what was accepted then.
+pub type After = (Ended, Accepted);
+
+// Serves a session by a seat, over a link that hasn't failed.
+fn serve_link<N: Named, H: Ledger, L: Link, R: Wait + Disk + Abort>(
+    rt: &R,
+    alloc: Global,
+    engine: &Engine<N, H>,
+    seat: &mut Seat<N, H>,
+    link: &mut L,
+) -> After {
+    assert!(rt; Sink::failures(link) == 0);
+    let saver = Saver::new(None);
+    let mut keeper = SeatKeeper::new(rt, engine, seat, &saver);
+    let ended = serve(alloc, link, &mut keeper, 1 << 40);
+    let status = engine.status(seat);
+    (ended, (status.batches, status.total))
+}
+
+// The totals of both shards together.
+fn total_of_shards(closed: &PlainEngine) -> Option<u64> {
+    let first = closed.shard(0)?.total();
+    let second = closed.shard(1)?.total();
+    first.checked_add(second)
+}
+
+/// What became of a session and of the one behind it, if there is one, and what the engine has accepted once it is
+/// closed, in its book and in its shards.
+pub type InTurn = (After, Option<After>, Accepted, Option<u64>);
+
+// Opens an engine, serves these links by its first seat, and closes it.
+fn served_in_turn<N: Named, H: Ledger, L: Link, R: Wait + Disk + Abort>(
+    rt: &R,
+    alloc: Global,
+    plain: PlainEngine,
+    names: Names,
+    first: &mut L,
+    second: Option<&mut Script>,
+) -> InTurn
+    requires named { NamesEngine names N.setup N.seats N.history N.name N.parts H.name H.parts }
+    requires made_from { plain.setup ≡ names.setup }
+    requires opened { plain.book.state ≡ N.opened }
+{
+    let (engine, mut seats) = opened::<N, H>(rt, alloc, plain, names);
+    let seat = seats.first_mut().expect(rt, "a seat");
+    let after_first = serve_link(rt, alloc, &engine, seat, first);
+    let after_second = match second {
+        Some(link) => Some(serve_link(rt, alloc, &engine, seat, link)),
+        None => None,
+    };
+    let closed = closed(rt, alloc, engine, seats);
+    (
+        after_first,
+        after_second,
+        accepted_by(&closed),
+        total_of_shards(&closed),
+    )
+}
+
+/// Serves a session over the first link and then one over the second, if there is one, by one of a new engine's seats.
+pub fn sessions_in_turn<L: Link, R: Wait + Disk + RandomSource + Abort>(
+    rt: &R,
+    alloc: Global,
+    seats: usize,
+    first: &mut L,
+    second: Option<&mut Script>,
+) -> InTurn {
+    let (plain, names) = unopened(rt, alloc, seats);
+    served_in_turn::<Brand, Brand, L, R>(rt, alloc, plain, names, first, second)
 }

@@ -1,24 +1,18 @@
 //! A session over the keeper of a seat, each read and each write of which fails in turn, and then one without faults.
-ghost use Rattle.std.specs.Prelude.{◌≡◌, ◌+◌, ◌<◌, ◌^◌};
-ghost use Rattle.batch_store.specs.Accepted.{entries_in};
-ghost use Rattle.locked_engine.specs.Opened.{NamesEngine};
 
-use crate::engines::{accepted_by, closed, opened, unopened};
-use crate::frames::{REPLIES, two_puts_and_a_cell};
+use crate::engines::{Accepted, InTurn, sessions_in_turn};
+use crate::frames::{REPLIES, TWO_PUTS_AND_A_CELL};
 use crate::gates::end_after;
 use byte_io::Script;
 use byte_io_tests::pieces;
-use locked_engine::{Engine, Named, Names, Seat};
-use plain_engine::PlainEngine;
-use session_pool::{Disk, Saver, SeatKeeper};
-use std::alloc::{AllocError, Global};
-use std::marker::Brand;
+use session_pool::Disk;
+use std::alloc::Global;
+use std::process::Abort;
 use std::random::RandomSource;
 use std::sync::Wait;
-use std::sync::ledger::Ledger;
 use std::test::Fail;
 use test_support::same_at;
-use wire_proto::{Ended, serve};
+use wire_proto::Ended;
 
 // What fails of a session's calls, how it ends, how many bytes of the replies are taken, and what is accepted then.
 #[derive(Clone, Copy)]
@@ -28,7 +22,7 @@ struct Case {
     fail_write: Option<u64>,
     ended: Ended,
     taken: usize,
-    accepted: (u64, u64),
+    accepted: Accepted,
 }
 
 const WHOLE: Case = Case {
@@ -72,114 +66,46 @@ fn failing_read(read: u64) -> Case {
     }
 }
 
-// The frames in one piece, or in pieces of one byte.
-fn pieces_of(alloc: Global, by_byte: bool) -> Result<Vec<Vec<u8>>, AllocError> {
-    let frames = two_puts_and_a_cell(alloc)?;
-    let size = if by_byte { 1 } else { frames.len() };
-    pieces(alloc, &frames, size)
+// The link of a case: the frames in one piece, or in pieces of one byte.
+fn link_of(rt: &impl Abort, alloc: Global, case: &Case) -> Script {
+    let frames = TWO_PUTS_AND_A_CELL;
+    let size = if case.by_byte { 1 } else { frames.len() };
+    let pieces = pieces(alloc, frames, size).expect(rt, "memory");
+    Script::new(alloc, pieces, case.fail_read, case.fail_write)
 }
 
-// Serves a link by a seat.
-fn serve_link<N: Named, H: Ledger, R: Wait + Disk>(
-    rt: &R,
-    alloc: Global,
-    engine: &Engine<N, H>,
-    seat: &mut Seat<N, H>,
-    link: &mut Script,
-) -> Ended
-    requires { link.old.failures + 1 < 2 ^ 64 }
-{
-    let saver = Saver::new(None);
-    let mut keeper = SeatKeeper::new(rt, engine, seat, &saver);
-    serve(alloc, link, &mut keeper, 1 << 40)
+// Whether a link took the bytes that it was to take.
+fn has_taken(link: &Script, case: &Case) -> bool {
+    REPLIES.get(..case.taken) == Some(link.written())
 }
 
-// How a session ended, whether the bytes that its link took are those of the replies, and what is accepted then.
-type Outcome = (Ended, bool, (u64, u64));
-
-// What is to become of a case.
-fn wanted(case: &Case) -> Outcome {
-    (case.ended, true, case.accepted)
-}
-
-// Serves a session of a case.
-fn serve_case<N: Named, H: Ledger, R: Wait + Disk>(
-    rt: &R,
-    alloc: Global,
-    engine: &Engine<N, H>,
-    seat: &mut Seat<N, H>,
-    case: &Case,
-) -> Result<Outcome, AllocError> {
-    let pieces = pieces_of(alloc, case.by_byte)?;
-    let mut link = Script::new(alloc, pieces, case.fail_read, case.fail_write);
-    let ended = serve_link(rt, alloc, engine, seat, &mut link);
-    let status = engine.status(seat);
-    Ok((
-        ended,
-        REPLIES.get(..case.taken) == Some(link.written()),
-        (status.batches, status.total),
-    ))
-}
+// What became of both sessions, and whether both links took the bytes that they were to take.
+type Found = (InTurn, [bool; 2]);
 
 // A session of a case, and then one that doesn't fail.
-fn serve_again<N: Named, H: Ledger, R: Wait + Disk>(
-    rt: &R,
-    alloc: Global,
-    engine: &Engine<N, H>,
-    seats: &mut [Seat<N, H>],
-    case: &Case,
-) -> Result<[Outcome; 2], Fail> {
-    let seat = seats.first_mut().ok_or("no seat")?;
-    let first = serve_case(rt, alloc, engine, seat, case)?;
-    let second = serve_case(rt, alloc, engine, seat, &WHOLE)?;
-    Ok([first, second])
+fn found_of<R: Wait + Disk + RandomSource + Abort>(rt: &R, alloc: Global, case: &Case) -> Found {
+    let mut first = link_of(rt, alloc, case);
+    let mut second = link_of(rt, alloc, &WHOLE);
+    let sessions = sessions_in_turn(rt, alloc, 1, &mut first, Some(&mut second));
+    (
+        sessions,
+        [has_taken(&first, case), has_taken(&second, &WHOLE)],
+    )
 }
 
-// The outcomes of both sessions, and what the engine has accepted once it is closed.
-type Found = ([Outcome; 2], (u64, u64));
-
-fn opened_and_closed<N: Named, H: Ledger, R: Wait + Disk>(
-    rt: &R,
-    alloc: Global,
-    plain: PlainEngine,
-    names: Names,
-    case: &Case,
-) -> Result<Found, Fail>
-    requires named { NamesEngine names N.setup N.seats N.history N.name N.parts H.name H.parts }
-    requires made_from { plain.setup ≡ names.setup }
-    requires opened { plain.book.state ≡ N.opened }
-{
-    let (engine, mut seats) = opened::<N, H>(alloc, plain, names)?;
-    let found = match serve_again(rt, alloc, &engine, &mut seats, case) {
-        Ok(found) => found,
-        Err(fail) => {
-            engine.end(rt);
-            return Err(fail);
-        }
-    };
-    let closed = closed(rt, alloc, engine, seats)?;
-    Ok((found, accepted_by(&closed)))
-}
-
-fn over_a_new_engine<R: Wait + Disk + RandomSource>(
-    rt: &R,
-    alloc: Global,
-    case: &Case,
-) -> Result<Found, Fail> {
-    let (plain, names) = unopened(rt, alloc, 1)?;
-    opened_and_closed::<Brand, Brand, R>(rt, alloc, plain, names, case)
-}
-
-fn wanted_of_both(case: &Case) -> Found {
-    ([wanted(case), wanted(&WHOLE)], WHOLE.accepted)
+// What is to become of a case and of the session behind it.
+fn wanted(case: &Case) -> Found {
+    let first = (case.ended, case.accepted);
+    let second = (WHOLE.ended, WHOLE.accepted);
+    ((first, Some(second), (2, 8), Some(8)), [true, true])
 }
 
 #[test]
 fn each_write_fails_in_turn(rt: HostRuntime) -> Result<(), Fail> {
     for room in 0..57u64 {
         let case = failing_write(room);
-        let found = over_a_new_engine(&rt, rt.alloc(), &case)?;
-        assert!(rt; same_at(&rt, &room, &found, &wanted_of_both(&case)));
+        let found = found_of(&rt, rt.alloc(), &case);
+        assert!(rt; same_at(&rt, &room, &found, &wanted(&case)));
     }
     Ok(())
 }
@@ -188,8 +114,8 @@ fn each_write_fails_in_turn(rt: HostRuntime) -> Result<(), Fail> {
 fn each_read_fails_in_turn(rt: HostRuntime) -> Result<(), Fail> {
     for read in 0..186u64 {
         let case = failing_read(read);
-        let found = over_a_new_engine(&rt, rt.alloc(), &case)?;
-        assert!(rt; same_at(&rt, &read, &found, &wanted_of_both(&case)));
+        let found = found_of(&rt, rt.alloc(), &case);
+        assert!(rt; same_at(&rt, &read, &found, &wanted(&case)));
     }
     Ok(())
 }
