@@ -3,7 +3,7 @@ ghost use Rattle.std.specs.Prelude.{IfSome};
 ghost use Rattle.wire_frames.specs.Frames.{HasWholeCells};
 
 use crate::hex::bytes_of;
-use crate::replies::are_replies;
+use crate::replies::spells_replies;
 use batch_store::{Setup, SetupFault};
 use byte_io_tests::{halves, pieces};
 use bytes::Bytes;
@@ -185,21 +185,24 @@ pub fn run(
 /// then and their total.
 pub type Outcome = (Ended, bool, (u64, u64));
 
+/// What is to be written: so many of the bytes that these digits spell.
+pub type Front<'a> = (&'a str, usize);
+
 /// Serves these pieces over an engine.
 pub fn served(
+    rt: &impl Abort,
     alloc: Global,
     engine: &mut PlainEngine,
     list: Vec<Vec<u8>>,
     failing: Failing,
-    expected: &[u8],
+    front: Front,
 ) -> Outcome {
+    let mut expected = bytes_of(rt, alloc, front.0);
+    expected.truncate(front.1);
     let (ended, link) = run(alloc, engine, list, failing);
     let status = engine.status();
-    (
-        ended,
-        link.written() == expected,
-        (status.batches, status.total),
-    )
+    let is_it = link.written() == expected.as_slice();
+    (ended, is_it, (status.batches, status.total))
 }
 
 /// Serves these bytes in one piece. What these digits spell is expected.
@@ -210,9 +213,20 @@ pub fn answered(
     sent: &[u8],
     digits: &str,
 ) -> Outcome {
-    let expected = bytes_of(rt, alloc, digits);
     let list = pieces(alloc, sent, sent.len()).expect(rt, "memory");
-    served(alloc, engine, list, (None, None), expected.as_slice())
+    served(rt, alloc, engine, list, (None, None), (digits, usize::MAX))
+}
+
+/// The same over a new engine.
+pub fn answered_anew<R: RandomSource + Abort>(
+    rt: &R,
+    alloc: Global,
+    setup: Setup,
+    sent: &[u8],
+    digits: &str,
+) -> Outcome {
+    let mut engine = PlainEngine::new(rt, alloc, setup).expect(rt, "memory");
+    answered(rt, alloc, &mut engine, sent, digits)
 }
 
 /// What becomes of a session, and whether each frame that its table expects is a reply.
@@ -225,10 +239,21 @@ pub fn told(
     engine: &mut PlainEngine,
     session: &Session,
 ) -> Checked {
-    let sent = frames(rt, alloc, session.0);
-    let outcome = answered(rt, alloc, engine, sent.as_slice(), session.1);
-    let expected = bytes_of(rt, alloc, session.1);
-    (outcome, are_replies(expected.as_slice()))
+    let list = in_pieces(rt, alloc, session, usize::MAX);
+    let all = (session.1, usize::MAX);
+    let outcome = served(rt, alloc, engine, list, (None, None), all);
+    (outcome, spells_replies(rt, alloc, session.1))
+}
+
+/// The same over a new engine.
+pub fn told_anew<R: RandomSource + Abort>(
+    rt: &R,
+    alloc: Global,
+    setup: Setup,
+    session: &Session,
+) -> Checked {
+    let mut engine = PlainEngine::new(rt, alloc, setup).expect(rt, "memory");
+    told(rt, alloc, &mut engine, session)
 }
 
 /// What is to become of a table's session.
@@ -236,8 +261,8 @@ pub fn wanted(session: &Session) -> Checked {
     ((session.2, true, session.3), true)
 }
 
-/// What becomes of a table's session over a new engine and a link that cuts its frames so and whose calls fail, and of
-/// the whole session behind it. The first bytes of the replies are expected of the first.
+/// What becomes of these pieces of a table's frames over a new engine and a link whose calls fail, and of the whole
+/// session behind it. So many bytes of the replies are expected of the first.
 pub fn served_twice<R: RandomSource + Abort>(
     rt: &R,
     alloc: Global,
@@ -246,9 +271,8 @@ pub fn served_twice<R: RandomSource + Abort>(
     failing: Failing,
     len: usize,
 ) -> (Outcome, Checked) {
-    let mut expected = bytes_of(rt, alloc, session.1);
-    expected.truncate(len);
     let mut engine = small_engine(rt, alloc);
-    let first = served(alloc, &mut engine, list, failing, expected.as_slice());
+    let front = (session.1, len);
+    let first = served(rt, alloc, &mut engine, list, failing, front);
     (first, told(rt, alloc, &mut engine, session))
 }

@@ -2,11 +2,12 @@
 //! failing.
 
 use crate::asks::{
-    Ask, Checked, Outcome, Session, answered, cells_frame, frame, in_halves, in_pieces, put_frame,
-    run, served_twice, sizes, small_engine, told, wanted,
+    Ask, Checked, Outcome, Session, answered, answered_anew, cells_frame, frame, in_halves,
+    in_pieces, put_frame, run, served_twice, sizes, small_engine, small_setup, told, told_anew,
+    wanted,
 };
 use crate::hex::bytes_of;
-use batch_store::Setup;
+use batch_store::{Setup, SetupFault};
 use plain_engine::PlainEngine;
 use std::alloc::Global;
 use std::process::Abort;
@@ -105,9 +106,9 @@ static SESSIONS: &[Session] = &[
 
 #[test]
 fn puts_of_cells_are_answered(rt: HostRuntime) -> Result<(), Fail> {
+    let setup = small_setup()?;
     for session in SESSIONS {
-        let mut engine = small_engine(&rt, rt.alloc());
-        let found = told(&rt, rt.alloc(), &mut engine, session);
+        let found = told_anew(&rt, rt.alloc(), setup, session);
         assert!(rt; same_at(&rt, &session.1, &found, &wanted(session)));
     }
     Ok(())
@@ -199,47 +200,56 @@ fn is_served(rt: &impl Abort, alloc: Global, engine: &mut PlainEngine) -> bool {
     ended_well(ended, link.written(), replies.as_slice())
 }
 
-// `rt try --test --fail-alloc N` refuses the Nth growth of each test. Behind such a session another is answered.
+// Whether a session of a new engine ends so, and what becomes of one behind it.
+fn served_and_again<R: RandomSource + Abort>(rt: &R, alloc: Global) -> (bool, Checked) {
+    let mut engine = small_engine(rt, alloc);
+    let is_served = is_served(rt, alloc, &mut engine);
+    (is_served, told(rt, alloc, &mut engine, &MIXED))
+}
+
+// `rt try --test --fail-alloc N` refuses the Nth growth of each test.
 #[test]
 fn a_session_without_memory_says_so(rt: HostRuntime) -> Result<(), Fail> {
-    let mut engine = small_engine(&rt, rt.alloc());
-    let says_so = is_served(&rt, rt.alloc(), &mut engine);
-    let behind = told(&rt, rt.alloc(), &mut engine, &MIXED);
-    assert!(rt; same(&rt, &(says_so, behind), &(true, wanted(&MIXED))));
+    let found = served_and_again(&rt, rt.alloc());
+    assert!(rt; same(&rt, &found, &(true, wanted(&MIXED))));
     Ok(())
 }
 
-// A put of as many cells as a batch may have, and these behind them.
+// An engine that takes what comes to 64 bits.
+fn large_setup() -> Result<Setup, SetupFault> {
+    Setup::new(3, 3, &[], 1, u64::MAX, 10)
+}
+
+// Puts as many cells as a batch may have, and these behind them.
 fn most_cells_and(
     rt: &impl Abort,
     alloc: Global,
-    number: u64,
-    more: &[(u64, u64, u64)],
-) -> Vec<u8> {
+    engine: &mut PlainEngine,
+    put: (u64, &[(u64, u64, u64)]),
+    digits: &str,
+) -> Outcome {
     let mut cells = vec![in alloc; (2u64, 1u64, 3u64); 1_048_576].expect(rt, "memory");
-    cells.extend_from_slice(more).expect(rt, "memory");
-    cells_frame(rt, alloc, (7, number), cells.as_slice())
-}
-
-// A new engine that takes what comes to 64 bits.
-fn large_engine<R: RandomSource + Abort>(rt: &R, alloc: Global) -> PlainEngine {
-    let setup = Setup::new(3, 3, &[], 1, u64::MAX, 10).expect(rt, "a setup");
-    PlainEngine::new(rt, alloc, setup).expect(rt, "memory")
+    cells.extend_from_slice(put.1).expect(rt, "memory");
+    let sent = cells_frame(rt, alloc, (7, put.0), cells.as_slice());
+    answered(rt, alloc, engine, sent.as_slice(), digits)
 }
 
 const TAKEN: &str = "00000010 81 0000000000000000 0000000000300000";
 
 const TOO_MANY: &str = "0000000a ff 0017 0000000000000000";
 
-// The one more lies outside: that there are too many is told first.
+// Puts the most cells, and then one more, which lies outside: that there are too many is told first.
+fn most_and_one_more<R: RandomSource + Abort>(rt: &R, alloc: Global, setup: Setup) -> [Outcome; 2] {
+    let mut engine = PlainEngine::new(rt, alloc, setup).expect(rt, "memory");
+    let taken = most_cells_and(rt, alloc, &mut engine, (1, &[]), TAKEN);
+    let refused = most_cells_and(rt, alloc, &mut engine, (2, &[(3, 0, 1)]), TOO_MANY);
+    [taken, refused]
+}
+
 #[test]
 fn as_many_cells_as_a_batch_may_have_and_one_more(rt: HostRuntime) -> Result<(), Fail> {
-    let most = most_cells_and(&rt, rt.alloc(), 1, &[]);
-    let more = most_cells_and(&rt, rt.alloc(), 2, &[(3, 0, 1)]);
-    let mut engine = large_engine(&rt, rt.alloc());
-    let taken = answered(&rt, rt.alloc(), &mut engine, most.as_slice(), TAKEN);
-    let refused = answered(&rt, rt.alloc(), &mut engine, more.as_slice(), TOO_MANY);
-    assert!(rt; same(&rt, &[taken, refused], &[(CLOSED, true, (1, 0x30_0000)); 2]));
+    let found = most_and_one_more(&rt, rt.alloc(), large_setup()?);
+    assert!(rt; same(&rt, &found, &[(CLOSED, true, (1, 0x30_0000)); 2]));
     Ok(())
 }
 
@@ -254,10 +264,10 @@ fn frame_with_comment(rt: &impl Abort, alloc: Global, len: usize) -> Vec<u8> {
 // A comment may have any length, so that a text may have more than 16 MiB.
 #[test]
 fn a_text_of_more_than_16_mib_is_read(rt: HostRuntime) -> Result<(), Fail> {
+    let setup = small_setup()?;
     let reply = "00000010 81 0000000000000000 0000000000000005";
     let sent = frame_with_comment(&rt, rt.alloc(), 16_777_216);
-    let mut engine = small_engine(&rt, rt.alloc());
-    let found = answered(&rt, rt.alloc(), &mut engine, sent.as_slice(), reply);
+    let found = answered_anew(&rt, rt.alloc(), setup, sent.as_slice(), reply);
     assert!(rt; same(&rt, &found, &(CLOSED, true, (1, 5))));
     Ok(())
 }
@@ -286,9 +296,9 @@ const BY_TURNS: &str = "00000010 81 0000000000000000 0000000000007530
 // One session with large and small bodies in turn.
 #[test]
 fn large_bodies_and_small_ones_in_turn(rt: HostRuntime) -> Result<(), Fail> {
+    let setup = large_setup()?;
     let sent = large_and_small(&rt, rt.alloc());
-    let mut engine = large_engine(&rt, rt.alloc());
-    let found = answered(&rt, rt.alloc(), &mut engine, sent.as_slice(), BY_TURNS);
+    let found = answered_anew(&rt, rt.alloc(), setup, sent.as_slice(), BY_TURNS);
     assert!(rt; same(&rt, &found, &(CLOSED, true, (3, 90_000))));
     Ok(())
 }

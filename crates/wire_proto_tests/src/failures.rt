@@ -1,9 +1,6 @@
 //! Each read and each write of a session fails in turn.
 
-use crate::asks::{
-    Ask, Checked, Outcome, Session, frame, in_pieces, served, served_twice, small_engine, told,
-    wanted,
-};
+use crate::asks::{Ask, Checked, Outcome, Session, frame, in_pieces, served_twice, wanted};
 use crate::cuts::TWO_PUTS;
 use byte_io_tests::pieces;
 use std::test::Fail;
@@ -81,9 +78,7 @@ const LOST: Outcome = (Ended::WriteFault { written: 3 }, true, (1, 5));
 fn a_batch_whose_reply_was_lost_counts_once(rt: HostRuntime) -> Result<(), Fail> {
     let sent = frame(&rt, rt.alloc(), FIVE);
     let list = pieces(rt.alloc(), sent.as_slice(), 100).expect(&rt, "memory");
-    let mut engine = small_engine(&rt, rt.alloc());
-    let lost = served(rt.alloc(), &mut engine, list, (None, Some(3)), &[0, 0, 0]);
-    let behind = told(&rt, rt.alloc(), &mut engine, &ONCE_MORE);
-    assert!(rt; same(&rt, &(lost, behind), &(LOST, wanted(&ONCE_MORE))));
+    let found = served_twice(&rt, rt.alloc(), &ONCE_MORE, list, (None, Some(3)), 3);
+    assert!(rt; same(&rt, &found, &(LOST, wanted(&ONCE_MORE))));
     Ok(())
 }

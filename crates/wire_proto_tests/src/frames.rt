@@ -161,11 +161,16 @@ fn a_longest_put_comes_whole_in_pieces(rt: HostRuntime) -> Result<(), Fail> {
     Ok(())
 }
 
+// Why a put of a text of so many bytes has no frame.
+fn fault_of_put(rt: &impl Abort, alloc: Global, len: usize) -> Option<EncodeFault> {
+    let text = vec![in alloc; 37u8; len].expect(rt, "memory");
+    let request = put_request(rt, alloc, (7, 1), text.as_slice());
+    encode_request(alloc, &request).err()
+}
+
 #[test]
 fn a_put_that_is_one_byte_longer_has_no_frame(rt: HostRuntime) -> Result<(), Fail> {
-    let text = vec![in rt.alloc(); 37u8; 67_108_849].expect(&rt, "memory");
-    let request = put_request(&rt, rt.alloc(), (7, 1), text.as_slice());
-    let fault = encode_request(rt.alloc(), &request).err();
+    let fault = fault_of_put(&rt, rt.alloc(), 67_108_849);
     assert!(rt; same(&rt, &fault, &Some(EncodeFault::TooLarge)));
     Ok(())
 }
@@ -198,12 +203,18 @@ static SPELLED: &[(Ask, &str)] = &[
     ),
 ];
 
+// Whether the frame of a request has these bytes.
+fn is_spelled(rt: &impl Abort, alloc: Global, ask: Ask, digits: &str) -> bool {
+    let expected = bytes_of(rt, alloc, digits);
+    let frame = frame(rt, alloc, ask);
+    frame.as_slice() == expected.as_slice()
+}
+
 #[test]
 fn requests_are_spelled(rt: HostRuntime) -> Result<(), Fail> {
     for (ask, digits) in SPELLED {
-        let expected = bytes_of(&rt, rt.alloc(), digits);
-        let found = frame(&rt, rt.alloc(), *ask);
-        assert!(rt; holds_at(&rt, digits, found.as_slice() == expected.as_slice()));
+        let spelled = is_spelled(&rt, rt.alloc(), *ask, digits);
+        assert!(rt; holds_at(&rt, digits, spelled));
     }
     Ok(())
 }

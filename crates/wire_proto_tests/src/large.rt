@@ -1,13 +1,14 @@
 //! The longest text that a reply carries, and one that is a byte longer. With the checks of `rt try --test` it takes
 //! minutes (`--seconds 600`).
 
-use crate::asks::{Ask, answered, cells_frame, frame, put_frame, run};
+use crate::asks::{Ask, Checked, Session, cells_frame, frames, run, told, wanted};
 use crate::replies::text_len;
 use batch_store::Setup;
 use byte_io_tests::pieces;
 use plain_engine::PlainEngine;
 use std::alloc::Global;
 use std::process::Abort;
+use std::random::RandomSource;
 use std::test::Fail;
 use test_support::same;
 use wire_proto::Ended;
@@ -27,58 +28,38 @@ const HALF: u64 = 798_912;
 // Twelve digits.
 const LONG: u64 = 100_000_000_000;
 
-// Half of the cells, each of them 1, counted from 0.
-fn ones(rt: &impl Abort, alloc: Global, first: u64) -> Vec<(u64, u64, u64)> {
+// A put of half of the cells, each of them 1, counted from 0.
+fn half(rt: &impl Abort, alloc: Global, number: u64, first: u64) -> Vec<u8> {
     let mut cells = Vec::with_capacity(alloc, HALF as usize).expect(rt, "memory");
     for i in 0..HALF {
         let col = (FIRST - 1).saturating_add(first).saturating_add(i);
         cells.push((MOST - 1, col, 1u64)).expect(rt, "memory");
     }
-    cells
+    cells_frame(rt, alloc, (7, number), cells.as_slice())
 }
 
-// Puts of all cells but the last three.
-fn halves(rt: &impl Abort, alloc: Global) -> Vec<u8> {
-    let ones_of_first = ones(rt, alloc, 0);
-    let mut sent = cells_frame(rt, alloc, (7, 1), ones_of_first.as_slice());
-    let ones_of_second = ones(rt, alloc, HALF);
-    let second = cells_frame(rt, alloc, (7, 2), ones_of_second.as_slice());
+// The last three cells as a text.
+static LAST: &[Ask] = &[
+    Ask::Put(
+        7,
+        3,
+        "1152921504606846976 1152921504606846976 3
+1152921504606846976 1000000000001597824 100000000000
+1152921504606846976 1000000000001597825 100000000000
+1152921504606846976 1000000000001597826 100000000000
+",
+    ),
+    Ask::Export,
+];
+
+// Puts of all cells, and an export.
+fn all_and_export(rt: &impl Abort, alloc: Global) -> Vec<u8> {
+    let mut sent = half(rt, alloc, 1, 0);
+    let second = half(rt, alloc, 2, HALF);
     sent.extend_from_slice(second.as_slice())
         .expect(rt, "memory");
-    sent
-}
-
-// The lines of the last three cells.
-fn last_lines(rt: &impl Abort, alloc: Global) -> Vec<u8> {
-    let size = format!(in alloc; "{MOST} {MOST} 3\n").expect(rt, "memory");
-    let mut text = Vec::from_slice(alloc, size.as_bytes()).expect(rt, "memory");
-    for i in CELLS - 3..CELLS {
-        let col = FIRST.saturating_add(i);
-        let line = format!(in alloc; "{MOST} {col} {LONG}\n").expect(rt, "memory");
-        text.extend_from_slice(line.as_bytes()).expect(rt, "memory");
-    }
-    text
-}
-
-// Puts of all cells, the last three as a text, and an export.
-fn all_and_export(rt: &impl Abort, alloc: Global) -> Vec<u8> {
-    let mut sent = halves(rt, alloc);
-    let lines = last_lines(rt, alloc);
-    let last = put_frame(rt, alloc, (7, 3), lines.as_slice());
-    sent.extend_from_slice(last.as_slice()).expect(rt, "memory");
-    let export = frame(rt, alloc, Ask::Export);
-    sent.extend_from_slice(export.as_slice())
-        .expect(rt, "memory");
-    sent
-}
-
-// A put of one count that takes a digit more, and an export.
-fn longer_and_export(rt: &impl Abort, alloc: Global) -> Vec<u8> {
-    let cell = (MOST - 1, FIRST + CELLS - 2, 9 * LONG);
-    let mut sent = cells_frame(rt, alloc, (7, 4), &[cell]);
-    let export = frame(rt, alloc, Ask::Export);
-    sent.extend_from_slice(export.as_slice())
-        .expect(rt, "memory");
+    let rest = frames(rt, alloc, LAST);
+    sent.extend_from_slice(rest.as_slice()).expect(rt, "memory");
     sent
 }
 
@@ -94,20 +75,35 @@ fn longest(rt: &impl Abort, alloc: Global, engine: &mut PlainEngine) -> Sent {
     (ended, text_len(reply))
 }
 
-// A count that makes the text one byte longer is accepted, and the text refused.
-const REFUSED: &str = "00000010 81 0000000000000003 0000011765ab4180
-    0000000a ff 0028 0000000000000000";
-
 const CLOSED: Ended = Ended::Closed { rest: 0 };
+
+// A count that takes a digit more makes the text one byte longer: it is accepted, and the text refused.
+static LONGER: Session = (
+    &[
+        Ask::Cells(7, 4, &[(MOST - 1, FIRST + CELLS - 2, 9 * LONG)]),
+        Ask::Export,
+    ],
+    "00000010 81 0000000000000003 0000011765ab4180
+     0000000a ff 0028 0000000000000000",
+    CLOSED,
+    (4, 0x117_65ab_4180),
+);
+
+fn longest_and_longer<R: RandomSource + Abort>(
+    rt: &R,
+    alloc: Global,
+    setup: Setup,
+) -> (Sent, Checked) {
+    let mut engine = PlainEngine::new(rt, alloc, setup).expect(rt, "memory");
+    let first = longest(rt, alloc, &mut engine);
+    (first, told(rt, alloc, &mut engine, &LONGER))
+}
 
 #[test]
 fn the_longest_text_is_sent_and_no_longer_one(rt: HostRuntime) -> Result<(), Fail> {
     let setup = Setup::new(MOST, MOST, &[4_096], 1, u64::MAX, 10)?;
-    let mut engine = PlainEngine::new(&rt, rt.alloc(), setup).expect(&rt, "memory");
-    let first = longest(&rt, rt.alloc(), &mut engine);
-    let more = longer_and_export(&rt, rt.alloc());
-    let second = answered(&rt, rt.alloc(), &mut engine, more.as_slice(), REFUSED);
-    assert!(rt; same(&rt, &first, &(CLOSED, Some(67_108_864))));
-    assert!(rt; same(&rt, &second, &(CLOSED, true, (4, 0x117_65ab_4180))));
+    let found = longest_and_longer(&rt, rt.alloc(), setup);
+    let first = (CLOSED, Some(67_108_864));
+    assert!(rt; same(&rt, &found, &(first, wanted(&LONGER))));
     Ok(())
 }

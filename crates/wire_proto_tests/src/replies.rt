@@ -114,8 +114,8 @@ fn replies_are_read(rt: HostRuntime) -> Result<(), Fail> {
     Ok(())
 }
 
-/// Whether each frame of some bytes is a reply, and nothing stands behind the last.
-pub fn are_replies(written: &[u8]) -> bool {
+// Whether each frame of some bytes is a reply, and nothing stands behind the last.
+fn are_replies(written: &[u8]) -> bool {
     let mut rest = written;
     for _ in 0..written.len() {
         let Some((reply, behind)) = split_frame(rest) else {
@@ -127,6 +127,12 @@ pub fn are_replies(written: &[u8]) -> bool {
         rest = behind;
     }
     rest.is_empty()
+}
+
+/// Whether these digits spell replies, one behind another.
+pub fn spells_replies(rt: &impl Abort, alloc: Global, digits: &str) -> bool {
+    let bytes = bytes_of(rt, alloc, digits);
+    are_replies(bytes.as_slice())
 }
 
 // Whether each frame of some bytes is read as the next of these replies, and nothing stands behind the last.

@@ -1,10 +1,12 @@
 //! Whole sessions, each over a new engine of three rows, three columns, a limit of 100 and at most 10 batches.
 
-use crate::asks::{Ask, Outcome, Session, answered, frame, put_frame, small_engine, told, wanted};
+use crate::asks::{
+    Ask, Outcome, Session, answered_anew, frame, put_frame, small_engine, small_setup, told_anew,
+    wanted,
+};
 use batch_store::Setup;
 use byte_io_tests::pieces;
 use mm_text::Script;
-use plain_engine::PlainEngine;
 use std::alloc::Global;
 use std::process::Abort;
 use std::random::RandomSource;
@@ -163,9 +165,9 @@ static SESSIONS: &[Session] = &[
 
 #[test]
 fn sessions_are_answered(rt: HostRuntime) -> Result<(), Fail> {
+    let setup = small_setup()?;
     for session in SESSIONS {
-        let mut engine = small_engine(&rt, rt.alloc());
-        let found = told(&rt, rt.alloc(), &mut engine, session);
+        let found = told_anew(&rt, rt.alloc(), setup, session);
         assert!(rt; same_at(&rt, &session.1, &found, &wanted(session)));
     }
     Ok(())
@@ -255,10 +257,10 @@ const REFUSED: Outcome = (Ended::Closed { rest: 0 }, true, (0, 0));
 
 #[test]
 fn texts_are_refused(rt: HostRuntime) -> Result<(), Fail> {
+    let setup = small_setup()?;
     for (ask, digits) in REFUSED_TEXTS {
         let sent = frame(&rt, rt.alloc(), *ask);
-        let mut engine = small_engine(&rt, rt.alloc());
-        let found = answered(&rt, rt.alloc(), &mut engine, sent.as_slice(), digits);
+        let found = answered_anew(&rt, rt.alloc(), setup, sent.as_slice(), digits);
         assert!(rt; same_at(&rt, digits, &found, &REFUSED));
     }
     Ok(())
@@ -267,10 +269,10 @@ fn texts_are_refused(rt: HostRuntime) -> Result<(), Fail> {
 // A put of a line of 1,025 blanks.
 #[test]
 fn a_line_of_a_put_has_at_most_1024_bytes(rt: HostRuntime) -> Result<(), Fail> {
+    let setup = small_setup()?;
     let reply = "0000000a ff 0069 0000000000000002";
     let sent = put_frame(&rt, rt.alloc(), (7, 1), &[b' '; 1_025]);
-    let mut engine = small_engine(&rt, rt.alloc());
-    let found = answered(&rt, rt.alloc(), &mut engine, sent.as_slice(), reply);
+    let found = answered_anew(&rt, rt.alloc(), setup, sent.as_slice(), reply);
     assert!(rt; same(&rt, &found, &REFUSED));
     Ok(())
 }
@@ -296,8 +298,7 @@ static ONE_BATCH: Session = (
 #[test]
 fn a_full_book_is_told_last(rt: HostRuntime) -> Result<(), Fail> {
     let setup = Setup::new(3, 3, &[], 1, 100, 1)?;
-    let mut engine = PlainEngine::new(&rt, rt.alloc(), setup).expect(&rt, "memory");
-    let found = told(&rt, rt.alloc(), &mut engine, &ONE_BATCH);
+    let found = told_anew(&rt, rt.alloc(), setup, &ONE_BATCH);
     assert!(rt; same(&rt, &found, &wanted(&ONE_BATCH)));
     Ok(())
 }
