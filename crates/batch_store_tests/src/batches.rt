@@ -1,5 +1,5 @@
 //! Batches made of texts.
-ghost use Rattle.std.specs.Prelude.{◌≡◌, IfOk};
+ghost use Rattle.std.specs.Prelude.{◌≡◌};
 ghost use Rattle.std.specs.Arc.{arc_value};
 
 use crate::setups::small_setup;
@@ -17,36 +17,42 @@ const WIDE: TextLimits = TextLimits {
 };
 
 // The file of a text behind the banner.
-fn file(alloc: Global, tail: &str) -> Result<MmFile, Fail> {
+fn file(rt: &impl Abort, alloc: Global, tail: &str) -> MmFile {
     let mut text = Vec::new(alloc);
-    text.extend_from_slice(b"%%MatrixMarket matrix coordinate integer general\n")?;
-    text.extend_from_slice(tail.as_bytes())?;
+    let banner = b"%%MatrixMarket matrix coordinate integer general\n";
+    text.extend_from_slice(banner).expect(rt, "memory");
+    text.extend_from_slice(tail.as_bytes()).expect(rt, "memory");
     let mut pieces = Vec::new(alloc);
-    pieces.push(text)?;
-    let file = read_matrix(alloc, &mut Script::new(alloc, pieces, None, None), WIDE)?;
-    Ok(file)
+    pieces.push(text).expect(rt, "memory");
+    let mut script = Script::new(alloc, pieces, None, None);
+    let answer = read_matrix(alloc, &mut script, WIDE);
+    drop(script);
+    answer.expect(rt, "a file")
 }
 
 /// The batch of a text behind the banner.
 pub fn batch(
+    rt: &impl Abort,
     alloc: Global,
     setup: &Setup,
-    client: u64,
-    number: u64,
+    pair: (u64, u64),
     tail: &str,
-) -> Result<Arc<Batch>, Fail>
-    ensures rows { IfOk result (λ b. (arc_value b).matrix.rows ≡ setup.now.rows) }
-    ensures cols { IfOk result (λ b. (arc_value b).matrix.cols ≡ setup.now.cols) }
+) -> Arc<Batch>
+    ensures rows { (arc_value result).matrix.rows ≡ setup.now.rows }
+    ensures cols { (arc_value result).matrix.cols ≡ setup.now.cols }
 {
-    let file = file(alloc, tail)?;
-    let b = Batch::make(alloc, setup, client, number, &file)?;
-    Ok(b)
+    let file = file(rt, alloc, tail);
+    let answer = Batch::make(alloc, setup, pair.0, pair.1, &file);
+    drop(file);
+    answer.expect(rt, "a batch")
 }
 
 // Why a text makes no batch.
-fn fault(alloc: Global, setup: &Setup, tail: &str) -> Result<Option<BatchFault>, Fail> {
-    let file = file(alloc, tail)?;
-    Ok(Batch::make(alloc, setup, 7, 1, &file).err())
+fn fault(rt: &impl Abort, alloc: Global, setup: &Setup, tail: &str) -> Option<BatchFault> {
+    let file = file(rt, alloc, tail);
+    let answer = Batch::make(alloc, setup, 7, 1, &file);
+    drop(file);
+    answer.err()
 }
 
 static FAULTS: &[(&str, Option<BatchFault>)] = &[
@@ -71,9 +77,9 @@ static FAULTS: &[(&str, Option<BatchFault>)] = &[
 
 #[test]
 fn files_are_judged(rt: HostRuntime) -> Result<(), Fail> {
-    let setup = small_setup()?;
+    let setup = small_setup(&rt);
     for (tail, expected) in FAULTS {
-        let found = fault(rt.alloc(), &setup, tail)?;
+        let found = fault(&rt, rt.alloc(), &setup, tail);
         assert!(rt; same(&rt, &found, expected));
     }
     Ok(())
@@ -81,8 +87,14 @@ fn files_are_judged(rt: HostRuntime) -> Result<(), Fail> {
 
 #[test]
 fn a_batch_has_each_place_once(rt: HostRuntime) -> Result<(), Fail> {
-    let setup = small_setup()?;
-    let b = batch(rt.alloc(), &setup, 7, 1, "3 3 3\n2 1 4\n2 3 0\n2 1 5\n")?;
+    let setup = small_setup(&rt);
+    let b = batch(
+        &rt,
+        rt.alloc(),
+        &setup,
+        (7, 1),
+        "3 3 3\n2 1 4\n2 3 0\n2 1 5\n",
+    );
     assert!(rt; same(&rt, &(b.client, b.number, b.total), &(7, 1, 9)));
     assert!(rt;
         same(
@@ -93,15 +105,17 @@ fn a_batch_has_each_place_once(rt: HostRuntime) -> Result<(), Fail> {
     );
     assert!(rt; b.concerns(1, 2) && !b.concerns(0, 2));
     assert!(rt; b.concerns(0, 1));
+    drop(b);
     Ok(())
 }
 
 #[test]
 fn a_batch_without_cells_concerns_no_shard(rt: HostRuntime) -> Result<(), Fail> {
-    let setup = small_setup()?;
-    let b = batch(rt.alloc(), &setup, 9, 1, "3 3 0\n")?;
+    let setup = small_setup(&rt);
+    let b = batch(&rt, rt.alloc(), &setup, (9, 1), "3 3 0\n");
     assert!(rt; same(&rt, &(b.matrix.entries(), b.total), &(0, 0)));
     assert!(rt; !b.concerns(0, 2) && !b.concerns(1, 2));
+    drop(b);
     Ok(())
 }
 
@@ -122,33 +136,35 @@ static PARTS: &[Parts] = &[
 ];
 
 // Whether a batch has these parts, also where a growth was refused the first time.
-fn has_shares(alloc: Global, b: &Batch, want: &[Option<(u64, u64)>]) -> Result<bool, Fail> {
+fn has_shares(rt: &impl Abort, alloc: Global, b: &Batch, want: &[Option<(u64, u64)>]) -> bool {
     let k = want.len() as u64;
     if k == 0 {
-        return Ok(false);
+        return false;
     }
     let parts = match b.parts(alloc, k) {
         Ok(parts) => parts,
-        Err(_) => b.parts(alloc, k)?,
+        Err(_) => b.parts(alloc, k).expect(rt, "memory"),
     };
+    let mut are_wanted = parts.len() == want.len();
     for (part, expected) in parts.iter().zip(want) {
         let found = match part {
             Some(part) => Some((part.entries(), part.total())),
             None => None,
         };
-        if found != *expected {
-            return Ok(false);
-        }
+        are_wanted = are_wanted && found == *expected;
     }
-    Ok(parts.len() == want.len())
+    drop(parts);
+    are_wanted
 }
 
 #[test]
 fn a_batch_is_cut_by_rows(rt: HostRuntime) -> Result<(), Fail> {
-    let setup = small_setup()?;
+    let setup = small_setup(&rt);
     for (tail, want) in PARTS {
-        let b = batch(rt.alloc(), &setup, 7, 1, tail)?;
-        assert!(rt; holds_at(&rt, &(tail, want), has_shares(rt.alloc(), &b, want)?));
+        let b = batch(&rt, rt.alloc(), &setup, (7, 1), tail);
+        let has = has_shares(&rt, rt.alloc(), &b, want);
+        drop(b);
+        assert!(rt; holds_at(&rt, &(tail, want), has));
     }
     Ok(())
 }

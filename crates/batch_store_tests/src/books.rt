@@ -1,45 +1,37 @@
 //! Books: what each put of a table is answered.
-ghost use Rattle.std.specs.Prelude.{◌≡◌, IfOk};
-ghost use Rattle.std.specs.Arc.{arc_value};
+ghost use Rattle.std.specs.Prelude.{◌≡◌};
 
 use crate::batches::batch;
 use crate::setups::small_setup;
 use batch_store::Verdict::{BookFull, Known, NumberReused, OverTotal};
-use batch_store::{Batch, Book, Kept, Setup, Verdict};
-use std::alloc::{AllocError, Global};
+use batch_store::{Book, Kept, Setup, Verdict};
+use std::alloc::Global;
 use std::io::Eprint;
 use std::process::Abort;
 use std::random::RandomSource;
-use std::sync::Arc;
 use std::test::Fail;
 use test_support::same;
 
 /// The client, the number and the text of a batch that is put, and what the book answers.
 pub type Put = (u64, u64, &'static str, Verdict);
 
-// The verdict on a batch; one that is fresh is admitted, and answered as a repeat of it would be.
-fn put(book: &mut Book, b: Arc<Batch>) -> Result<Verdict, AllocError>
-    requires rows { (arc_value b).matrix.rows ≡ book.old.setup.rows }
-    requires cols { (arc_value b).matrix.cols ≡ book.old.setup.cols }
-    ensures { book.new.setup ≡ book.old.setup }
-{
-    let verdict = book.look(&b);
-    if let Verdict::Fresh = verdict {
-        book.reserve(&b)?;
-        return Ok(Verdict::Known(book.admit(b)));
-    }
-    Ok(verdict)
-}
-
-// Puts one batch of a table.
-fn answer(alloc: Global, setup: &Setup, book: &mut Book, step: &Put) -> Result<Verdict, Fail>
+// The verdict on one batch of a table; one that is fresh is admitted, and answered as a repeat of it would be.
+fn answer(rt: &impl Abort, alloc: Global, setup: &Setup, book: &mut Book, step: &Put) -> Verdict
     requires { book.old.setup ≡ setup.now }
     ensures { book.new.setup ≡ setup.now }
 {
     let (client, number, tail, _) = *step;
-    let b = batch(alloc, setup, client, number, tail)?;
-    let verdict = put(book, b)?;
-    Ok(verdict)
+    let b = batch(rt, alloc, setup, (client, number), tail);
+    match book.look(&b) {
+        Verdict::Fresh => {
+            book.reserve(&b).expect(rt, "memory");
+            Verdict::Known(book.admit(b))
+        }
+        verdict => {
+            drop(b);
+            verdict
+        }
+    }
 }
 
 /// Puts the batches of a table, and compares each answer.
@@ -49,15 +41,14 @@ pub fn put_all(
     setup: &Setup,
     book: &mut Book,
     steps: &[Put],
-) -> Result<(), Fail>
+)
     requires { book.old.setup ≡ setup.now }
     ensures { book.new.setup ≡ setup.now }
 {
     'steps: for step in steps {
-        let verdict = answer(alloc, setup, book, step)?;
+        let verdict = answer(rt, alloc, setup, book, step);
         assert!(rt; same(rt, &verdict, &step.3));
     }
-    Ok(())
 }
 
 // With a limit of 100.
@@ -254,12 +245,12 @@ pub fn book_after<R: RandomSource + Abort + Eprint>(
     alloc: Global,
     setup: &Setup,
     steps: &[Put],
-) -> Result<Book, Fail>
-    ensures { IfOk result (λ book. book.setup ≡ setup.now) }
+) -> Book
+    ensures { result.setup ≡ setup.now }
 {
-    let mut book = Book::new(rt, alloc, setup)?;
-    put_all(rt, alloc, setup, &mut book, steps)?;
-    Ok(book)
+    let mut book = Book::new(rt, alloc, setup).expect(rt, "a book");
+    put_all(rt, alloc, setup, &mut book, steps);
+    book
 }
 
 // How many batches it has then, and their total.
@@ -267,51 +258,48 @@ fn size_after<R: RandomSource + Abort + Eprint>(
     rt: &R,
     alloc: Global,
     steps: &[Put],
-) -> Result<(u64, u64), Fail> {
-    let setup = small_setup()?;
-    let book = book_after(rt, alloc, &setup, steps)?;
-    Ok((book.len(), book.total()))
+) -> (u64, u64) {
+    let book = book_after(rt, alloc, &small_setup(rt), steps);
+    let size = (book.len(), book.total());
+    drop(book);
+    size
 }
 
 #[test]
 fn a_limit_is_kept_exactly(rt: HostRuntime) -> Result<(), Fail> {
-    assert!(rt; same(&rt, &size_after(&rt, rt.alloc(), WITHIN_100)?, &(3, 100)));
+    assert!(rt; same(&rt, &size_after(&rt, rt.alloc(), WITHIN_100), &(3, 100)));
     Ok(())
 }
 
 #[test]
 fn repeats_get_the_reply_of_then(rt: HostRuntime) -> Result<(), Fail> {
-    assert!(rt; same(&rt, &size_after(&rt, rt.alloc(), REPEATS)?, &(3, 13)));
+    assert!(rt; same(&rt, &size_after(&rt, rt.alloc(), REPEATS), &(3, 13)));
     Ok(())
 }
 
 #[test]
 fn batches_without_cells_are_accepted(rt: HostRuntime) -> Result<(), Fail> {
-    assert!(rt; same(&rt, &size_after(&rt, rt.alloc(), NOTHING)?, &(1, 0)));
+    assert!(rt; same(&rt, &size_after(&rt, rt.alloc(), NOTHING), &(1, 0)));
     Ok(())
 }
 
 // The client and the total of the batch that a book lists, where it lists one alone.
-fn listed(alloc: Global, book: &Book) -> Result<Option<(u64, u64)>, AllocError> {
-    let list = book.list(alloc)?;
-    match list.as_slice() {
-        [b] => Ok(Some((b.client, b.total))),
-        _ => Ok(None),
-    }
-}
-
-fn listed_when_full<R: RandomSource + Abort + Eprint>(
-    rt: &R,
-    alloc: Global,
-) -> Result<Option<(u64, u64)>, Fail> {
-    let setup = Setup::new(3, 3, &[2, 4], 2, 100, 1)?;
-    let book = book_after(rt, alloc, &setup, ONE_BATCH)?;
-    Ok(listed(alloc, &book)?)
+fn listed(rt: &impl Abort, alloc: Global, book: &Book) -> Option<(u64, u64)> {
+    let list = book.list(alloc).expect(rt, "memory");
+    let found = match list.as_slice() {
+        [b] => Some((b.client, b.total)),
+        _ => None,
+    };
+    drop(list);
+    found
 }
 
 #[test]
 fn a_full_book_knows_its_batches(rt: HostRuntime) -> Result<(), Fail> {
-    let found = listed_when_full(&rt, rt.alloc())?;
+    let setup = Setup::new(3, 3, &[2, 4], 2, 100, 1)?;
+    let book = book_after(&rt, rt.alloc(), &setup, ONE_BATCH);
+    let found = listed(&rt, rt.alloc(), &book);
+    drop(book);
     assert!(rt; same(&rt, &found, &Some((7, 5))));
     Ok(())
 }
@@ -327,8 +315,9 @@ pub fn total_at(book: &Book, i: u64) -> Option<u64> {
 #[test]
 fn the_largest_total_is_accepted(rt: HostRuntime) -> Result<(), Fail> {
     let setup = Setup::new(3, 3, &[2, 4], 2, u64::MAX, 10)?;
-    let book = book_after(&rt, rt.alloc(), &setup, LARGEST)?;
+    let book = book_after(&rt, rt.alloc(), &setup, LARGEST);
     let totals = [total_at(&book, 0), total_at(&book, 1), total_at(&book, 2)];
+    drop(book);
     assert!(rt; same(&rt, &totals, &[Some(u64::MAX), Some(0), None]));
     Ok(())
 }

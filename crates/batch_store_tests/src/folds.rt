@@ -1,5 +1,5 @@
 //! Books whose batches are folded, and shards with a base.
-ghost use Rattle.std.specs.Prelude.{◌≡◌, ◌<◌, ◌≤◌, ◌^◌, IfOk};
+ghost use Rattle.std.specs.Prelude.{◌≡◌, ◌<◌, ◌≤◌, ◌^◌};
 ghost use Rattle.cells.specs.Bounds.{IsDimension};
 ghost use Rattle.hyper_matrix.specs.Matrix.{matrix};
 ghost use Rattle.batch_store.specs.Accepted.{list_sum, summed};
@@ -16,7 +16,7 @@ use batch_store::Verdict::{BookFull, Fresh, Known, NumberReused, OverTotal};
 use batch_store::{Batch, Book, Entry, Kept, Setup, Shard, Verdict};
 use cells::Cell;
 use hyper_matrix::Hyper;
-use std::alloc::{AllocError, Global};
+use std::alloc::Global;
 use std::io::Eprint;
 use std::process::Abort;
 use std::random::RandomSource;
@@ -26,49 +26,52 @@ use test_support::{same, same_at};
 
 // The matrices of batches, added up.
 fn sum_of_batches(
+    rt: &impl Abort,
     alloc: Global,
     rows: u64,
     cols: u64,
     batches: &[Arc<Batch>],
-) -> Result<Hyper, AllocError>
+) -> Hyper
     requires rows { IsDimension rows }
     requires cols { IsDimension cols }
     requires dims { HaveDims rows cols (values batches.now) }
     requires fits { list_total (values batches.now) < 2 ^ 64 }
-    ensures { IfOk result (λ sum. sum ≡ matrix rows cols (list_sum (values batches.now))) }
+    ensures { result ≡ matrix rows cols (list_sum (values batches.now)) }
 {
     match batches {
-        [] => Ok(Hyper::new(alloc, rows, cols)),
+        [] => Hyper::new(alloc, rows, cols),
         [b, others @ ..] => {
-            let rest = sum_of_batches(alloc, rows, cols, others)?;
-            let sum = b.matrix.ewise_add(alloc, &rest)?;
-            Ok(sum)
+            let rest = sum_of_batches(rt, alloc, rows, cols, others);
+            let sum = b.matrix.ewise_add(alloc, &rest);
+            drop(rest);
+            sum.expect(rt, "memory")
         }
     }
 }
 
 // The sum of all batches of a book, folded or not.
-fn sum_of(alloc: Global, setup: &Setup, book: &Book) -> Result<Hyper, AllocError>
+fn sum_of(rt: &impl Abort, alloc: Global, setup: &Setup, book: &Book) -> Hyper
     requires { book.now.setup ≡ setup.now }
-    ensures { IfOk result (λ sum. sum ≡ matrix setup.now.rows setup.now.cols (summed book.now.state)) }
+    ensures { result ≡ matrix setup.now.rows setup.now.cols (summed book.now.state) }
 {
-    let list = book.book_list(alloc)?;
+    let list = book.book_list(alloc).expect(rt, "memory");
     // It bounds the total.
     let _limit = setup.limit();
-    let rest = sum_of_batches(alloc, setup.rows(), setup.cols(), &list.batches)?;
-    let sum = list.base.ewise_add(alloc, &rest)?;
-    Ok(sum)
+    let rest = sum_of_batches(rt, alloc, setup.rows(), setup.cols(), &list.batches);
+    let sum = list.base.ewise_add(alloc, &rest);
+    drop(rest);
+    drop(list);
+    sum.expect(rt, "memory")
 }
 
 // Folds all batches of a book.
-fn fold(alloc: Global, setup: &Setup, book: &mut Book) -> Result<(), AllocError>
+fn fold(rt: &impl Abort, alloc: Global, setup: &Setup, book: &mut Book)
     requires { book.old.setup ≡ setup.now }
     ensures { book.new.setup ≡ setup.now }
 {
-    let sum = sum_of(alloc, setup, book)?;
-    let base = Arc::new(alloc, sum)?;
-    book.fold(alloc, base)?;
-    Ok(())
+    let sum = sum_of(rt, alloc, setup, book);
+    let base = Arc::new(alloc, sum).expect(rt, "memory");
+    book.fold(alloc, base).expect(rt, "memory");
 }
 
 // A book that is folded once the batches of a table were put, each with its answer.
@@ -77,12 +80,12 @@ fn folded_after<R: RandomSource + Abort + Eprint>(
     alloc: Global,
     setup: &Setup,
     steps: &[Put],
-) -> Result<Book, Fail>
-    ensures { IfOk result (λ book. book.setup ≡ setup.now) }
+) -> Book
+    ensures { result.setup ≡ setup.now }
 {
-    let mut book = book_after(rt, alloc, setup, steps)?;
-    fold(alloc, setup, &mut book)?;
-    Ok(book)
+    let mut book = book_after(rt, alloc, setup, steps);
+    fold(rt, alloc, setup, &mut book);
+    book
 }
 
 // The entries of a matrix, their total, and the count at the first place.
@@ -122,19 +125,23 @@ fn totals(book: &Book) -> [Option<u64>; 4] {
 // The client and the total of the first two batches that a book lists, and how many it lists.
 type Listed = ([Option<(u64, u64)>; 2], usize);
 
-fn listed(alloc: Global, book: &Book) -> Result<Listed, AllocError> {
-    let list = book.list(alloc)?;
+fn listed(rt: &impl Abort, alloc: Global, book: &Book) -> Listed {
+    let list = book.list(alloc).expect(rt, "memory");
     let mut found = [None; 2];
     for (place, b) in found.iter_mut().zip(list.iter()) {
         *place = Some((b.client, b.total));
     }
-    Ok((found, list.len()))
+    let length = list.len();
+    drop(list);
+    (found, length)
 }
 
 // The same of its whole list: how many folded entries and how many batches that has, and its base.
-fn list_sizes(alloc: Global, book: &Book) -> Result<(usize, usize, Sum), AllocError> {
-    let list = book.book_list(alloc)?;
-    Ok((list.folded.len(), list.batches.len(), sum(&list.base)))
+fn list_sizes(rt: &impl Abort, alloc: Global, book: &Book) -> (usize, usize, Sum) {
+    let list = book.book_list(alloc).expect(rt, "memory");
+    let sizes = (list.folded.len(), list.batches.len(), sum(&list.base));
+    drop(list);
+    sizes
 }
 
 // All that a book tells without a batch.
@@ -146,10 +153,10 @@ type Told = (
     (usize, usize, Sum),
 );
 
-fn told(alloc: Global, book: &Book) -> Result<Told, AllocError> {
-    let listed = listed(alloc, book)?;
-    let sizes = list_sizes(alloc, book)?;
-    Ok((size(book), entries(book), totals(book), listed, sizes))
+fn told(rt: &impl Abort, alloc: Global, book: &Book) -> Told {
+    let listed = listed(rt, alloc, book);
+    let sizes = list_sizes(rt, alloc, book);
+    (size(book), entries(book), totals(book), listed, sizes)
 }
 
 const FIRST: Entry = Entry {
@@ -196,14 +203,11 @@ static TWO: &[Put] = &[
 ];
 
 // What a folded book tells.
-fn told_after<R: RandomSource + Abort + Eprint>(
-    rt: &R,
-    alloc: Global,
-    steps: &[Put],
-) -> Result<Told, Fail> {
-    let setup = small_setup()?;
-    let book = folded_after(rt, alloc, &setup, steps)?;
-    Ok(told(alloc, &book)?)
+fn told_after<R: RandomSource + Abort + Eprint>(rt: &R, alloc: Global, steps: &[Put]) -> Told {
+    let book = folded_after(rt, alloc, &small_setup(rt), steps);
+    let found = told(rt, alloc, &book);
+    drop(book);
+    found
 }
 
 #[test]
@@ -215,7 +219,7 @@ fn folded_batches_leave_their_entries(rt: HostRuntime) -> Result<(), Fail> {
         ([None, None], 0),
         (2, 0, (1, 8, Some(8))),
     );
-    assert!(rt; same(&rt, &told_after(&rt, rt.alloc(), TWO)?, &want));
+    assert!(rt; same(&rt, &told_after(&rt, rt.alloc(), TWO), &want));
     Ok(())
 }
 
@@ -228,7 +232,7 @@ fn an_empty_book_is_folded(rt: HostRuntime) -> Result<(), Fail> {
         ([None, None], 0),
         (0, 0, (0, 0, None)),
     );
-    assert!(rt; same(&rt, &told_after(&rt, rt.alloc(), &[])?, &want));
+    assert!(rt; same(&rt, &told_after(&rt, rt.alloc(), &[]), &want));
     Ok(())
 }
 
@@ -273,67 +277,56 @@ static ASKED: &[Put] = &[
 ];
 
 // The verdict on one batch of a table.
-fn verdict(alloc: Global, setup: &Setup, book: &Book, step: &Put) -> Result<Verdict, Fail> {
+fn verdict(rt: &impl Abort, alloc: Global, setup: &Setup, book: &Book, step: &Put) -> Verdict {
     let (client, number, tail, _) = *step;
-    let b = batch(alloc, setup, client, number, tail)?;
-    Ok(book.look(&b))
+    let b = batch(rt, alloc, setup, (client, number), tail);
+    let verdict = book.look(&b);
+    drop(b);
+    verdict
 }
 
 // Compares the verdict on each batch of a table.
-fn ask_all(
-    rt: &(impl Abort + Eprint),
-    alloc: Global,
-    setup: &Setup,
-    book: &Book,
-    steps: &[Put],
-) -> Result<(), Fail> {
+fn ask_all(rt: &(impl Abort + Eprint), alloc: Global, setup: &Setup, book: &Book, steps: &[Put]) {
     'steps: for step in steps {
-        let found = verdict(alloc, setup, book, step)?;
+        let found = verdict(rt, alloc, setup, book, step);
         let place = (step.0, step.1, step.2);
         assert!(rt; same_at(rt, &place, &found, &step.3));
     }
+}
+
+// Two batches are folded, and a table of others is asked for.
+#[test]
+fn folded_batches_are_known(rt: HostRuntime) -> Result<(), Fail> {
+    let setup = small_setup(&rt);
+    let book = folded_after(&rt, rt.alloc(), &setup, TWO);
+    ask_all(&rt, rt.alloc(), &setup, &book, ASKED);
+    drop(book);
     Ok(())
 }
 
-// Folds two batches, and asks for a table of others.
-fn ask_folded<R: RandomSource + Abort + Eprint>(rt: &R, alloc: Global) -> Result<(), Fail> {
-    let setup = small_setup()?;
-    let book = folded_after(rt, alloc, &setup, TWO)?;
-    ask_all(rt, alloc, &setup, &book, ASKED)
-}
-
-#[test]
-fn folded_batches_are_known(rt: HostRuntime) -> Result<(), Fail> {
-    ask_folded(&rt, rt.alloc())
-}
-
 // A book with those two folded, made of their entries and their base.
-fn given_book(rt: &impl RandomSource, alloc: Global, setup: &Setup) -> Result<Book, Fail>
+fn given_book<R: RandomSource + Abort>(rt: &R, alloc: Global, setup: &Setup) -> Book
     requires few { 2 ≤ setup.now.max_batches }
     requires within { 8 ≤ setup.now.limit }
-    ensures { IfOk result (λ book. book.setup ≡ setup.now) }
+    ensures { result.setup ≡ setup.now }
 {
     let cell = Cell {
         row: 0,
         col: 0,
         count: 8,
     };
-    let m = Hyper::build(alloc, setup.rows(), setup.cols(), &[cell])?;
-    let base = Arc::new(alloc, m)?;
-    let book = Book::with_folded(rt, alloc, setup, base, &[FIRST, SECOND])?;
-    Ok(book)
-}
-
-// The same of a book that is made of what is folded.
-fn ask_given<R: RandomSource + Abort + Eprint>(rt: &R, alloc: Global) -> Result<(), Fail> {
-    let setup = small_setup()?;
-    let book = given_book(rt, alloc, &setup)?;
-    ask_all(rt, alloc, &setup, &book, ASKED)
+    let m = Hyper::build(alloc, setup.rows(), setup.cols(), &[cell]).expect(rt, "a matrix");
+    let base = Arc::new(alloc, m).expect(rt, "memory");
+    Book::with_folded(rt, alloc, setup, base, &[FIRST, SECOND]).expect(rt, "a book")
 }
 
 #[test]
 fn a_book_of_folded_batches_answers_as_one_that_folded_them(rt: HostRuntime) -> Result<(), Fail> {
-    ask_given(&rt, rt.alloc())
+    let setup = small_setup(&rt);
+    let book = given_book(&rt, rt.alloc(), &setup);
+    ask_all(&rt, rt.alloc(), &setup, &book, ASKED);
+    drop(book);
+    Ok(())
 }
 
 // What is put behind those two, and then folded with them.
@@ -406,15 +399,15 @@ fn one_more(
     alloc: Global,
     setup: &Setup,
     book: &mut Book,
-) -> Result<(Told, Size, Size), Fail>
+) -> (Told, Size, Size)
     requires { book.old.setup ≡ setup.now }
 {
-    put_all(rt, alloc, setup, book, ONE_MORE)?;
-    let behind = told(alloc, book)?;
-    fold(alloc, setup, book)?;
+    put_all(rt, alloc, setup, book, ONE_MORE);
+    let behind = told(rt, alloc, book);
+    fold(rt, alloc, setup, book);
     let folded = size(book);
-    put_all(rt, alloc, setup, book, FOLDED_TWICE)?;
-    Ok((behind, folded, size(book)))
+    put_all(rt, alloc, setup, book, FOLDED_TWICE);
+    (behind, folded, size(book))
 }
 
 // What those tell that are put to a book with two batches folded.
@@ -430,34 +423,22 @@ fn behind_two() -> (Told, Size, Size) {
     (behind, folded, (4, 3, 100, (1, 10, Some(10))))
 }
 
-fn behind_folded<R: RandomSource + Abort + Eprint>(
-    rt: &R,
-    alloc: Global,
-) -> Result<(Told, Size, Size), Fail> {
-    let setup = small_setup()?;
-    let mut book = folded_after(rt, alloc, &setup, TWO)?;
-    one_more(rt, alloc, &setup, &mut book)
-}
-
 #[test]
 fn a_folded_book_takes_more_and_folds_again(rt: HostRuntime) -> Result<(), Fail> {
-    let found = behind_folded(&rt, rt.alloc())?;
+    let setup = small_setup(&rt);
+    let mut book = folded_after(&rt, rt.alloc(), &setup, TWO);
+    let found = one_more(&rt, rt.alloc(), &setup, &mut book);
+    drop(book);
     assert!(rt; same(&rt, &found, &behind_two()));
     Ok(())
 }
 
-fn behind_given<R: RandomSource + Abort + Eprint>(
-    rt: &R,
-    alloc: Global,
-) -> Result<(Told, Size, Size), Fail> {
-    let setup = small_setup()?;
-    let mut book = given_book(rt, alloc, &setup)?;
-    one_more(rt, alloc, &setup, &mut book)
-}
-
 #[test]
 fn a_book_of_folded_batches_takes_more_and_folds_again(rt: HostRuntime) -> Result<(), Fail> {
-    let found = behind_given(&rt, rt.alloc())?;
+    let setup = small_setup(&rt);
+    let mut book = given_book(&rt, rt.alloc(), &setup);
+    let found = one_more(&rt, rt.alloc(), &setup, &mut book);
+    drop(book);
     assert!(rt; same(&rt, &found, &behind_two()));
     Ok(())
 }
@@ -488,36 +469,27 @@ static FULL: &[Put] = &[
     (7, 1, "3 3 1\n1 1 101\n", NumberReused),
 ];
 
-// How large a full book is once it was folded and all those were put.
-fn full_size<R: RandomSource + Abort + Eprint>(rt: &R, alloc: Global) -> Result<Size, Fail> {
-    let setup = Setup::new(3, 3, &[2, 4], 2, 100, 1)?;
-    let mut book = folded_after(rt, alloc, &setup, ONE)?;
-    put_all(rt, alloc, &setup, &mut book, FULL)?;
-    Ok(size(&book))
-}
-
 #[test]
 fn a_full_book_stays_full_when_it_is_folded(rt: HostRuntime) -> Result<(), Fail> {
-    let found = full_size(&rt, rt.alloc())?;
+    let setup = Setup::new(3, 3, &[2, 4], 2, 100, 1)?;
+    let mut book = folded_after(&rt, rt.alloc(), &setup, ONE);
+    put_all(&rt, rt.alloc(), &setup, &mut book, FULL);
+    let found = size(&book);
+    drop(book);
     assert!(rt; same(&rt, &found, &(1, 1, 5, (1, 5, Some(5)))));
     Ok(())
 }
 
 // Shard 0 with what these cells have in it as its base.
-fn shard_of<R: RandomSource + Abort>(
-    rt: &R,
-    alloc: Global,
-    setup: &Setup,
-    cells: &[Cell],
-) -> Result<Shard, Fail>
-    ensures { IfOk result (λ shard. shard.setup ≡ setup.now) }
+fn shard_of<R: RandomSource + Abort>(rt: &R, alloc: Global, setup: &Setup, cells: &[Cell]) -> Shard
+    ensures { result.setup ≡ setup.now }
 {
-    let m = Hyper::build(alloc, setup.rows(), setup.cols(), cells)?;
-    let part = m.part(alloc, 0, setup.shards())?;
+    let m = Hyper::build(alloc, setup.rows(), setup.cols(), cells).expect(rt, "a matrix");
+    let part = m.part(alloc, 0, setup.shards()).expect(rt, "memory");
+    drop(m);
     assert!(rt; part.total() <= setup.limit());
-    let base = Arc::new(alloc, part)?;
-    let shard = Shard::with_base(rt, alloc, setup, 0, base)?;
-    Ok(shard)
+    let base = Arc::new(alloc, part).expect(rt, "memory");
+    Shard::with_base(rt, alloc, setup, 0, base).expect(rt, "a shard")
 }
 
 // The total of a shard and the length of its record, its base, its counts at the places (0, 0) and (2, 0), and whether
@@ -540,24 +512,18 @@ static EIGHT: &[Cell] = &[Cell {
 }];
 
 // What a shard with a base holds, and what it holds once it took a batch in.
-fn held_with_base<R: RandomSource + Abort + Eprint>(
-    rt: &R,
-    alloc: Global,
-) -> Result<(Held, Held), Fail> {
-    let setup = small_setup()?;
-    let mut shard = shard_of(rt, alloc, &setup, EIGHT)?;
-    let before = held(&shard);
-    take_all(rt, alloc, &setup, &mut shard, SIX)?;
-    Ok((before, held(&shard)))
-}
-
 #[test]
 fn a_shard_begins_with_its_base(rt: HostRuntime) -> Result<(), Fail> {
+    let setup = small_setup(&rt);
+    let mut shard = shard_of(&rt, rt.alloc(), &setup, EIGHT);
     let base = (1, 8, Some(8));
     let before = ((8, 0), base, [Some(8), None], [false, false]);
+    assert!(rt; same(&rt, &held(&shard), &before));
+    take_all(&rt, rt.alloc(), &setup, &mut shard, SIX);
     let after = ((14, 1), base, [Some(10), Some(4)], [false, true]);
-    let found = held_with_base(&rt, rt.alloc())?;
-    assert!(rt; same(&rt, &found, &(before, after)));
+    let found = held(&shard);
+    drop(shard);
+    assert!(rt; same(&rt, &found, &after));
     Ok(())
 }
 
@@ -580,16 +546,17 @@ static CASCADES: &[(&[(u64, u64)], [Option<u64>; 5])] = &[
 ];
 
 // Cells of count 1 at these places.
-fn ones(alloc: Global, places: &[(u64, u64)]) -> Result<Vec<Cell>, AllocError> {
+fn ones(rt: &impl Abort, alloc: Global, places: &[(u64, u64)]) -> Vec<Cell> {
     let mut cells = Vec::new(alloc);
     for (row, col) in places {
-        cells.push(Cell {
+        let cell = Cell {
             row: *row,
             col: *col,
             count: 1,
-        })?;
+        };
+        cells.push(cell).expect(rt, "memory");
     }
-    Ok(cells)
+    cells
 }
 
 // The entries of the layers of a shard with a base.
@@ -598,66 +565,59 @@ fn layers_of<R: RandomSource + Abort>(
     alloc: Global,
     setup: &Setup,
     places: &[(u64, u64)],
-) -> Result<[Option<u64>; 5], Fail> {
-    let cells = ones(alloc, places)?;
-    let shard = shard_of(rt, alloc, setup, &cells)?;
-    Ok(layer_sizes(&shard))
+) -> [Option<u64>; 5] {
+    let cells = ones(rt, alloc, places);
+    let shard = shard_of(rt, alloc, setup, &cells);
+    let sizes = layer_sizes(&shard);
+    drop(shard);
+    sizes
 }
 
 #[test]
 fn a_base_lies_where_the_cascade_puts_it(rt: HostRuntime) -> Result<(), Fail> {
-    let setup = small_setup()?;
+    let setup = small_setup(&rt);
     for (places, want) in CASCADES {
-        let found = layers_of(&rt, rt.alloc(), &setup, places)?;
+        let found = layers_of(&rt, rt.alloc(), &setup, places);
         assert!(rt; same_at(&rt, &places.len(), &found, want));
     }
     Ok(())
 }
 
 // Makes what a shard holds its base.
-fn rebase(alloc: Global, shard: &mut Shard) -> Result<(), AllocError>
+fn rebase(rt: &impl Abort, alloc: Global, shard: &mut Shard)
     ensures { shard.new.setup ≡ shard.old.setup }
 {
-    let view = shard.view(alloc)?;
-    let sum = view.sum(alloc)?;
-    let base = Arc::new(alloc, sum)?;
-    shard.rebase(base);
-    Ok(())
+    let view = shard.view(alloc).expect(rt, "memory");
+    let sum = view.sum(alloc).expect(rt, "memory");
+    drop(view);
+    shard.rebase(Arc::new(alloc, sum).expect(rt, "memory"));
 }
 
 static FIVE: &[Step] = &[(7, 1, "3 3 2\n1 1 5\n2 2 1\n", Ok(5))];
 
 // What the view of a shard adds up to.
-fn seen(alloc: Global, shard: &Shard) -> Result<Sum, AllocError> {
-    let view = shard.view(alloc)?;
-    let m = view.sum(alloc)?;
-    Ok(sum(&m))
+fn seen(rt: &impl Abort, alloc: Global, shard: &Shard) -> Sum {
+    let view = shard.view(alloc).expect(rt, "memory");
+    let whole = view.sum(alloc).expect(rt, "memory");
+    drop(view);
+    let found = sum(&whole);
+    drop(whole);
+    found
 }
 
 // What a shard holds and the entries of its layers: as it is, when it is rebased, and once it took a batch in behind;
 // and what the view adds up to then.
 type Rebased = ([(Held, [Option<u64>; 5]); 3], Sum);
 
-fn rebased(
-    rt: &(impl Abort + Eprint),
-    alloc: Global,
-    setup: &Setup,
-    shard: &mut Shard,
-) -> Result<Rebased, Fail>
+fn rebased(rt: &(impl Abort + Eprint), alloc: Global, setup: &Setup, shard: &mut Shard) -> Rebased
     requires { shard.old.setup ≡ setup.now }
 {
     let before = (held(shard), layer_sizes(shard));
-    rebase(alloc, shard)?;
+    rebase(rt, alloc, shard);
     let after = (held(shard), layer_sizes(shard));
-    take_all(rt, alloc, setup, shard, SIX)?;
+    take_all(rt, alloc, setup, shard, SIX);
     let behind = (held(shard), layer_sizes(shard));
-    Ok(([before, after, behind], seen(alloc, shard)?))
-}
-
-fn rebased_five<R: RandomSource + Abort + Eprint>(rt: &R, alloc: Global) -> Result<Rebased, Fail> {
-    let setup = small_setup()?;
-    let mut shard = shard_after(rt, alloc, &setup, FIVE)?;
-    rebased(rt, alloc, &setup, &mut shard)
+    ([before, after, behind], seen(rt, alloc, shard))
 }
 
 #[test]
@@ -673,7 +633,10 @@ fn a_shard_is_rebased_to_what_it_holds(rt: HostRuntime) -> Result<(), Fail> {
         [(before, one), (after, one), (behind, two)],
         (2, 11, Some(7)),
     );
-    let found = rebased_five(&rt, rt.alloc())?;
+    let setup = small_setup(&rt);
+    let mut shard = shard_after(&rt, rt.alloc(), &setup, FIVE);
+    let found = rebased(&rt, rt.alloc(), &setup, &mut shard);
+    drop(shard);
     assert!(rt; same(&rt, &found, &want));
     Ok(())
 }

@@ -3,7 +3,7 @@
 use crate::setups::small_setup;
 use batch_store::{Batch, CellsFault, Setup};
 use cells::Cell;
-use std::alloc::{AllocError, Global};
+use std::alloc::Global;
 use std::process::Abort;
 use std::sync::Arc;
 use std::test::Fail;
@@ -55,12 +55,12 @@ static FAULTS: &[(&[(u64, u64, u64)], Option<CellsFault>)] = &[
     ),
 ];
 
-fn cells_of(alloc: Global, list: &[(u64, u64, u64)]) -> Result<Vec<Cell>, AllocError> {
+fn cells_of(rt: &impl Abort, alloc: Global, list: &[(u64, u64, u64)]) -> Vec<Cell> {
     let mut cells = Vec::new(alloc);
     for (row, col, count) in list {
-        cells.push(cell(*row, *col, *count))?;
+        cells.push(cell(*row, *col, *count)).expect(rt, "memory");
     }
-    Ok(cells)
+    cells
 }
 
 // The batch of a list, made again where a growth was refused.
@@ -96,9 +96,9 @@ fn given(
 
 #[test]
 fn lists_are_judged(rt: HostRuntime) -> Result<(), Fail> {
-    let setup = small_setup()?;
+    let setup = small_setup(&rt);
     for (list, expected) in FAULTS {
-        let cells = cells_of(rt.alloc(), *list)?;
+        let cells = cells_of(&rt, rt.alloc(), *list);
         let found = made(rt.alloc(), &setup, 1, cells.as_slice()).err();
         assert!(rt; same(&rt, &found, expected));
         let found = given(rt.alloc(), &setup, 1, cells.as_slice()).err();
@@ -111,19 +111,21 @@ fn lists_are_judged(rt: HostRuntime) -> Result<(), Fail> {
 fn is_two(made: Result<Arc<Batch>, CellsFault>) -> bool {
     match made {
         Ok(b) => {
-            (b.client, b.number, b.total) == (7, 3, 9)
+            let is_two = (b.client, b.number, b.total) == (7, 3, 9)
                 && (b.matrix.dims(), b.matrix.entries()) == ((3, 3), 2)
-                && (b.matrix.get(1, 0), b.matrix.get(1, 2)) == (Some(9), Some(0))
+                && (b.matrix.get(1, 0), b.matrix.get(1, 2)) == (Some(9), Some(0));
+            drop(b);
+            is_two
         }
         Err(_) => false,
     }
 }
 
 // Whether a list makes one, lent and given away.
-fn makes_two(alloc: Global, setup: &Setup, list: &[(u64, u64, u64)]) -> Result<bool, Fail> {
-    let cells = cells_of(alloc, list)?;
+fn makes_two(rt: &impl Abort, alloc: Global, setup: &Setup, list: &[(u64, u64, u64)]) -> bool {
+    let cells = cells_of(rt, alloc, list);
     let lent = is_two(made(alloc, setup, 3, cells.as_slice()));
-    Ok(lent && is_two(given(alloc, setup, 3, cells.as_slice())))
+    lent && is_two(given(alloc, setup, 3, cells.as_slice()))
 }
 
 // One batch, as lists in strict order and in other orders.
@@ -137,33 +139,34 @@ static SAME: &[&[(u64, u64, u64)]] = &[
 
 #[test]
 fn a_batch_of_a_list_has_each_place_once(rt: HostRuntime) -> Result<(), Fail> {
-    let setup = small_setup()?;
+    let setup = small_setup(&rt);
     for list in SAME {
-        assert!(rt; makes_two(rt.alloc(), &setup, *list)?);
+        assert!(rt; makes_two(&rt, rt.alloc(), &setup, *list));
     }
     Ok(())
 }
 
 #[test]
 fn a_batch_of_no_cells_has_no_total(rt: HostRuntime) -> Result<(), Fail> {
-    let setup = small_setup()?;
-    let b = match made(rt.alloc(), &setup, 1, &[]) {
-        Ok(b) => b,
-        Err(_) => return Err("no batch".into()),
-    };
+    let setup = small_setup(&rt);
+    let b = made(rt.alloc(), &setup, 1, &[]).expect(&rt, "a batch");
     assert!(rt; same(&rt, &(b.matrix.entries(), b.total), &(0, 0)));
+    drop(b);
     Ok(())
 }
 
 #[test]
 fn a_list_has_at_most_1048576_cells(rt: HostRuntime) -> Result<(), Fail> {
-    let setup = small_setup()?;
-    let mut cells = vec![in rt.alloc(); cell(2, 1, 3); 1_048_576]?;
-    let most = made(rt.alloc(), &setup, 1, cells.as_slice());
-    assert!(rt; matches!(&most, Ok(b) if (b.matrix.entries(), b.total) == (1, 3_145_728)));
+    let setup = small_setup(&rt);
+    let mut cells = vec![in rt.alloc(); cell(2, 1, 3); 1_048_576].expect(&rt, "memory");
+    let most = made(rt.alloc(), &setup, 1, cells.as_slice()).expect(&rt, "a batch");
+    let found = (most.matrix.entries(), most.total);
+    drop(most);
+    assert!(rt; same(&rt, &found, &(1, 3_145_728)));
     // One more, which lies outside: that there are too many is told first.
-    cells.push(cell(3, 0, 1))?;
+    cells.push(cell(3, 0, 1)).expect(&rt, "memory");
     let more = made(rt.alloc(), &setup, 1, cells.as_slice()).err();
+    drop(cells);
     assert!(rt; same(&rt, &more, &Some(CellsFault::TooManyCells)));
     Ok(())
 }

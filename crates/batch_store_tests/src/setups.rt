@@ -1,5 +1,5 @@
 //! Setups, good and bad.
-ghost use Rattle.std.specs.Prelude.{◌≡◌, [], ◌∷◌, IfOk};
+ghost use Rattle.std.specs.Prelude.{◌≡◌, [], ◌∷◌};
 ghost use Rattle.batch_store.specs.Setups.{setting};
 
 use batch_store::{Setup, SetupFault};
@@ -8,10 +8,10 @@ use std::test::Fail;
 use test_support::same;
 
 // Three rows, three columns, two shards and a limit of 100.
-pub fn small_setup() -> Result<Setup, SetupFault>
-    ensures { IfOk result (λ setup. setup ≡ setting 3 3 (2 ∷ 4 ∷ []) 2 100 10) }
+pub fn small_setup(rt: &impl Abort) -> Setup
+    ensures { result ≡ setting 3 3 (2 ∷ 4 ∷ []) 2 100 10 }
 {
-    Setup::new(3, 3, &[2, 4], 2, 100, 10)
+    Setup::new(3, 3, &[2, 4], 2, 100, 10).expect(rt, "a setup")
 }
 
 /// The values of a setup that is refused, in the order of `Setup::new`, and why.
@@ -58,7 +58,7 @@ fn values_out_of_range_are_refused_in_order(rt: HostRuntime) {
 
 #[test]
 fn a_setup_gives_its_values(rt: HostRuntime) -> Result<(), Fail> {
-    let setup = small_setup()?;
+    let setup = small_setup(&rt);
     let copy = setup;
     assert!(rt;
         same(

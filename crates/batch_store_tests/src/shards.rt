@@ -1,28 +1,35 @@
 //! Shards: what is taken in, what is refused, and where the cells lie.
-ghost use Rattle.std.specs.Prelude.{◌≡◌, IfOk};
-ghost use Rattle.std.specs.Arc.{arc_value};
+ghost use Rattle.std.specs.Prelude.{◌≡◌};
 
 use crate::batches::batch;
 use crate::setups::small_setup;
-use batch_store::{Batch, Setup, Shard, ShardFault};
+use batch_store::{Setup, Shard, ShardFault};
 use std::alloc::Global;
 use std::io::Eprint;
 use std::process::Abort;
 use std::random::RandomSource;
-use std::sync::Arc;
 use std::test::Fail;
 use test_support::same;
 
 /// The client, the number and the text of a batch that is taken in, and the total of its part or why it isn't.
 pub type Step = (u64, u64, &'static str, Result<u64, ShardFault>);
 
-// Prepares a batch, and takes it in.
-fn take(alloc: Global, shard: &mut Shard, b: &Arc<Batch>) -> Result<u64, ShardFault>
-    requires rows { (arc_value b.now).matrix.rows ≡ shard.old.setup.rows }
-    requires cols { (arc_value b.now).matrix.cols ≡ shard.old.setup.cols }
-    ensures { shard.new.setup ≡ shard.old.setup }
+// Prepares one batch of a table, and takes it in.
+fn answer(
+    rt: &impl Abort,
+    alloc: Global,
+    setup: &Setup,
+    shard: &mut Shard,
+    step: &Step,
+) -> Result<u64, ShardFault>
+    requires { shard.old.setup ≡ setup.now }
+    ensures { shard.new.setup ≡ setup.now }
 {
-    match shard.prepare(alloc, b) {
+    let (client, number, tail, _) = *step;
+    let b = batch(rt, alloc, setup, (client, number), tail);
+    let prepared = shard.prepare(alloc, &b);
+    drop(b);
+    match prepared {
         Ok(p) => {
             let amount = p.amount();
             shard.commit(p);
@@ -32,21 +39,6 @@ fn take(alloc: Global, shard: &mut Shard, b: &Arc<Batch>) -> Result<u64, ShardFa
     }
 }
 
-// Takes in one batch of a table.
-fn answer(
-    alloc: Global,
-    setup: &Setup,
-    shard: &mut Shard,
-    step: &Step,
-) -> Result<Result<u64, ShardFault>, Fail>
-    requires { shard.old.setup ≡ setup.now }
-    ensures { shard.new.setup ≡ setup.now }
-{
-    let (client, number, tail, _) = *step;
-    let b = batch(alloc, setup, client, number, tail)?;
-    Ok(take(alloc, shard, &b))
-}
-
 /// Takes in the batches of a table, and compares each answer.
 pub fn take_all(
     rt: &(impl Abort + Eprint),
@@ -54,15 +46,14 @@ pub fn take_all(
     setup: &Setup,
     shard: &mut Shard,
     steps: &[Step],
-) -> Result<(), Fail>
+)
     requires { shard.old.setup ≡ setup.now }
     ensures { shard.new.setup ≡ setup.now }
 {
     'steps: for step in steps {
-        let taken = answer(alloc, setup, shard, step)?;
+        let taken = answer(rt, alloc, setup, shard, step);
         assert!(rt; same(rt, &taken, &step.3));
     }
-    Ok(())
 }
 
 // Of shard 0 of 2: rows 1 and 3 of a text.
@@ -88,14 +79,14 @@ pub fn shard_after<R: RandomSource + Abort + Eprint>(
     alloc: Global,
     setup: &Setup,
     steps: &[Step],
-) -> Result<Shard, Fail>
-    ensures { IfOk result (λ shard. shard.setup ≡ setup.now) }
+) -> Shard
+    ensures { result.setup ≡ setup.now }
 {
     // Any call on it tells that it has a shard.
     let _shards = setup.shards();
-    let mut shard = Shard::new(rt, alloc, setup, 0)?;
-    take_all(rt, alloc, setup, &mut shard, steps)?;
-    Ok(shard)
+    let mut shard = Shard::new(rt, alloc, setup, 0).expect(rt, "a shard");
+    take_all(rt, alloc, setup, &mut shard, steps);
+    shard
 }
 
 /// Its total, and how many batches it has.
@@ -113,20 +104,12 @@ fn held(shard: &Shard, pairs: [(u64, u64); 3]) -> [bool; 3] {
     ]
 }
 
-// The number of the shard that took those in, its size, and which batches it has.
-fn behind_steps<R: RandomSource + Abort + Eprint>(
-    rt: &R,
-    alloc: Global,
-) -> Result<(u64, (u64, u64), [bool; 3]), Fail> {
-    let setup = small_setup()?;
-    let shard = shard_after(rt, alloc, &setup, STEPS)?;
-    let held = held(&shard, [(7, 1), (9, 1), (7, 2)]);
-    Ok((shard.number(), size(&shard), held))
-}
-
 #[test]
 fn a_shard_takes_each_batch_once(rt: HostRuntime) -> Result<(), Fail> {
-    let found = behind_steps(&rt, rt.alloc())?;
+    let shard = shard_after(&rt, rt.alloc(), &small_setup(&rt), STEPS);
+    let held = held(&shard, [(7, 1), (9, 1), (7, 2)]);
+    let found = (shard.number(), size(&shard), held);
+    drop(shard);
     assert!(rt; same(&rt, &found, &(0, (100, 3), [true, true, false])));
     Ok(())
 }
@@ -157,20 +140,13 @@ fn own_and_others(shard: &Shard) -> (Looked, Looked) {
     ((own, row(shard, 0)), (others, row(shard, 1)))
 }
 
-fn looked_up<R: RandomSource + Abort + Eprint>(
-    rt: &R,
-    alloc: Global,
-) -> Result<(Looked, Looked), Fail> {
-    let setup = small_setup()?;
-    let shard = shard_after(rt, alloc, &setup, STEPS)?;
-    Ok(own_and_others(&shard))
-}
-
 #[test]
 fn a_shard_has_its_own_rows(rt: HostRuntime) -> Result<(), Fail> {
     let own = ([Some(60), Some(0), Some(40)], (2, 60));
     let others = ([None, None, None], (0, 0));
-    let found = looked_up(&rt, rt.alloc())?;
+    let shard = shard_after(&rt, rt.alloc(), &small_setup(&rt), STEPS);
+    let found = own_and_others(&shard);
+    drop(shard);
     assert!(rt; same(&rt, &found, &(own, others)));
     Ok(())
 }
@@ -178,43 +154,25 @@ fn a_shard_has_its_own_rows(rt: HostRuntime) -> Result<(), Fail> {
 static FIVE: &[Step] = &[(7, 1, "3 3 1\n1 1 5\n", Ok(5))];
 
 // Prepares the batch of 5, gives it up, and tells the total of its part.
-fn given_up(alloc: Global, setup: &Setup, shard: &mut Shard) -> Result<Option<u64>, Fail>
+fn given_up(rt: &impl Abort, alloc: Global, setup: &Setup, shard: &mut Shard) -> Option<u64>
     requires { shard.old.setup ≡ setup.now }
     ensures { shard.new.setup ≡ setup.now }
 {
-    let b = batch(alloc, setup, 7, 1, "3 3 1\n1 1 5\n")?;
-    Ok(shard.prepare(alloc, &b).ok().map(|p| p.amount()))
-}
-
-// What a shard was given up, and its size then; and its size once it took the batch in.
-fn given_up_and_taken(
-    rt: &(impl Abort + Eprint),
-    alloc: Global,
-    setup: &Setup,
-    shard: &mut Shard,
-) -> Result<(Option<u64>, (u64, u64), bool, (u64, u64)), Fail>
-    requires { shard.old.setup ≡ setup.now }
-{
-    let amount = given_up(alloc, setup, shard)?;
-    let before = size(shard);
-    let is_held = shard.holds(7, 1);
-    take_all(rt, alloc, setup, shard, FIVE)?;
-    Ok((amount, before, is_held, size(shard)))
-}
-
-// The same of a new shard.
-fn prepared<R: RandomSource + Abort + Eprint>(
-    rt: &R,
-    alloc: Global,
-) -> Result<(Option<u64>, (u64, u64), bool, (u64, u64)), Fail> {
-    let setup = small_setup()?;
-    let mut shard = shard_after(rt, alloc, &setup, &[])?;
-    given_up_and_taken(rt, alloc, &setup, &mut shard)
+    let b = batch(rt, alloc, setup, (7, 1), "3 3 1\n1 1 5\n");
+    let prepared = shard.prepare(alloc, &b);
+    drop(b);
+    prepared.ok().map(|p| p.amount())
 }
 
 #[test]
 fn what_is_prepared_may_be_dropped(rt: HostRuntime) -> Result<(), Fail> {
-    let found = prepared(&rt, rt.alloc())?;
-    assert!(rt; same(&rt, &found, &(Some(5), (0, 0), false, (5, 1))));
+    let setup = small_setup(&rt);
+    let mut shard = shard_after(&rt, rt.alloc(), &setup, &[]);
+    let amount = given_up(&rt, rt.alloc(), &setup, &mut shard);
+    let before = (size(&shard), shard.holds(7, 1));
+    take_all(&rt, rt.alloc(), &setup, &mut shard, FIVE);
+    let found = (amount, before, size(&shard));
+    drop(shard);
+    assert!(rt; same(&rt, &found, &(Some(5), ((0, 0), false), (5, 1))));
     Ok(())
 }

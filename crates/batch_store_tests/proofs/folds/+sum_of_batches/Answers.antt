@@ -14,8 +14,8 @@ first_and_others : {Z : Type 0} (list : List (Arc Submission Z)) (b : Arc Submis
 first_and_others [] b h is = absurd (omega arith)
 first_and_others (x ∷ xs) b h is = λ i. sym is i ∷ sym (take_all (length (x ∷ xs) - 1) xs (omega arith)) i
 
-pub ewise_add-requires-clause-fits : goal.ewise_add-requires-clause-fits
-ewise_add-requires-clause-fits t c =
+pub ewise_add-sum-requires-clause-fits : goal.ewise_add-sum-requires-clause-fits
+ewise_add-sum-requires-clause-fits t g c =
     let list = c.args.batches.now in
     let b = c.b-item.result in
     let others = take (length list - 1) (drop 1 list) in
@@ -25,6 +25,6 @@ ewise_add-requires-clause-fits t c =
       c.requires.fits,
       ap (λ l. list_total (values l)) all,
       ap batch_total (c.behind-b.view_is ∙ c.deref.ensures),
-      ap (λ (m : Matrix). total m.counts) c.in_ok-rest-in-len1-up.ensures,
+      ap (λ (m : Matrix). total m.counts) c.sum_of_batches-rest.ensures,
       total-list_sum (values others),
     )

@@ -1,4 +1,5 @@
 use Rattle.std.proofs.Common.{◌≡◌, false, List, [], ◌∷◌, refl, ap, ◌∙◌}
+use Rattle.std.proofs.lemmas.Result.{IfOk-at_ok}
 use Rattle.std.specs.List.{IsDistinct}
 use Rattle.cells.specs.declared.cell.Cell.{Cell}
 use Rattle.hyper_matrix.specs.Counts.{total}
@@ -22,7 +23,8 @@ with_folded-requires-clause-accepted g c =
       few = c.requires.few;
       within = c.requires.within;
       based = record {
-        adds_up = ap (λ (m : Matrix). total m.counts) (c.in_ok-base.ensures.ok ∙ c.in_ok-m.ensures.ok)
+        adds_up = ap (λ (m : Matrix). total m.counts) (IfOk-at_ok _ c.expect-base.ensures c.new.ensures.ok
+            ∙ IfOk-at_ok _ c.expect-m.ensures c.build.ensures.ok)
             ∙ total-built_of cells;
         none = λ h. cc;
       };
