@@ -9,30 +9,47 @@ use std::os::unix::net::UnixStream;
 use std::sync::{Mutex, Wait};
 use std::time::Clock;
 
-/// Whether a client over TCP has each of its frames answered so.
-pub fn tcp_client<R: Wait + Clock + Net<Listener = TcpListener, Stream = TcpStream>>(
+/// What a client connects over.
+#[derive(Clone, Copy)]
+pub enum Over {
+    Tcp,
+    Unix,
+}
+
+// Whether a client over TCP has each of its frames answered so.
+fn tcp_client<R: Wait + Clock + Net<Listener = TcpListener, Stream = TcpStream>>(
     rt: &R,
-    alloc: Global,
-    said: &Mutex<Vec<u8>>,
+    address: &str,
     turns: &[Turn],
 ) -> io::Result<bool> {
-    let Some(address) = await_line(rt, alloc, said, "listening tcp ") else {
-        return Ok(false);
-    };
-    let mut stream = TcpStream::connect(rt, address.as_str())?;
+    let mut stream = TcpStream::connect(rt, address)?;
     are_answered(&mut stream, turns)
 }
 
-/// Whether a client over a Unix socket has each of its frames answered so.
-pub fn unix_client<R: Wait + Clock + Net<Listener = TcpListener, Stream = TcpStream>>(
+// Whether a client over a Unix socket has each of its frames answered so.
+fn unix_client<R: Net>(rt: &R, path: &str, turns: &[Turn]) -> io::Result<bool> {
+    let mut stream = UnixStream::connect(rt, path)?;
+    are_answered(&mut stream, turns)
+}
+
+/// Whether a client of a server that says where it is has each of its frames answered so.
+pub fn is_served<R: Wait + Clock + Net<Listener = TcpListener, Stream = TcpStream>>(
     rt: &R,
     alloc: Global,
     said: &Mutex<Vec<u8>>,
+    over: Over,
     turns: &[Turn],
-) -> io::Result<bool> {
-    let Some(path) = await_line(rt, alloc, said, "listening unix ") else {
-        return Ok(false);
+) -> bool {
+    let words = match over {
+        Over::Tcp => "listening tcp ",
+        Over::Unix => "listening unix ",
     };
-    let mut stream = UnixStream::connect(rt, path.as_str())?;
-    are_answered(&mut stream, turns)
+    let Some(place) = await_line(rt, alloc, said, words) else {
+        return false;
+    };
+    let answer = match over {
+        Over::Tcp => tcp_client(rt, &place, turns),
+        Over::Unix => unix_client(rt, &place, turns),
+    };
+    answer.unwrap_or(false)
 }

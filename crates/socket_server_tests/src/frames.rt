@@ -4,19 +4,19 @@ use std::io;
 use std::io::{Read, Write};
 
 /// A frame, and the reply to it.
-pub type Turn<'a> = (&'a [u8], &'a [u8]);
+pub type Turn = (&'static [u8], &'static [u8]);
 
-// A Put of client 0 and number 1, whose text has the count 0 in row 0 and column 0.
-const PUT: &[u8; 82] = b"\0\0\0\x4d\x01\0\0\0\0\0\0\0\0\0\0\0\0\0\0\0\x01\
-    %%MatrixMarket matrix coordinate integer general\n3 3 1\n1 1 0\n";
+/// A Put of client 7 and number 1, whose text has the count 5 in row 0 and column 0.
+pub const FIVE: &[u8] = b"\0\0\0\x4d\x01\0\0\0\0\0\0\0\x07\0\0\0\0\0\0\0\x01\
+    %%MatrixMarket matrix coordinate integer general\n3 3 1\n1 1 5\n";
 
-/// A Put of number 1 of this client, with this digit as the count in row 0 and column 0.
-pub fn put(client: u8, digit: u8) -> [u8; 82] {
-    let mut frame = *PUT;
-    frame[12] = client;
-    frame[80] = digit;
-    frame
-}
+/// The same of client 8 and the count 3.
+pub const THREE: &[u8] = b"\0\0\0\x4d\x01\0\0\0\0\0\0\0\x08\0\0\0\0\0\0\0\x01\
+    %%MatrixMarket matrix coordinate integer general\n3 3 1\n1 1 3\n";
+
+/// The same of client 7 and the count 6.
+pub const SIX: &[u8] = b"\0\0\0\x4d\x01\0\0\0\0\0\0\0\x07\0\0\0\0\0\0\0\x01\
+    %%MatrixMarket matrix coordinate integer general\n3 3 1\n1 1 6\n";
 
 /// Accepted as the first batch, and the total is 5.
 pub const ACCEPTED_FIRST: &[u8] = b"\0\0\0\x10\x81\0\0\0\0\0\0\0\0\0\0\0\0\0\0\0\x05";
@@ -28,13 +28,13 @@ pub const ACCEPTED_SECOND: &[u8] = b"\0\0\0\x10\x81\0\0\0\0\0\0\0\x01\0\0\0\0\0\
 pub const NUMBER_REUSED: &[u8] = b"\0\0\0\x0a\xff\0\x1e\0\0\0\0\0\0\0\0";
 
 /// The cell in row 0 and column 0, and its count of 8.
-pub const CELL: Turn<'static> = (
+pub const CELL: Turn = (
     b"\0\0\0\x10\x02\0\0\0\0\0\0\0\0\0\0\0\0\0\0\0\0",
     b"\0\0\0\x09\x82\x01\0\0\0\0\0\0\0\x08",
 );
 
 /// Row 0, and its one entry with a total of 8.
-pub const ROW: Turn<'static> = (
+pub const ROW: Turn = (
     b"\0\0\0\x08\x03\0\0\0\0\0\0\0\0",
     b"\0\0\0\x10\x83\0\0\0\0\0\0\0\x01\0\0\0\0\0\0\0\x08",
 );
@@ -52,7 +52,7 @@ pub const COUNTS_ONE: &[u8] = b"\0\0\0\x10\x84\0\0\0\0\0\0\0\x01\0\0\0\0\0\0\0\x
 pub const COUNTS_TWO: &[u8] = b"\0\0\0\x10\x84\0\0\0\0\0\0\0\x02\0\0\0\0\0\0\0\x08";
 
 /// An Export, and the text with the count 8 in row 0 and column 0.
-pub const EXPORT: Turn<'static> = (
+pub const EXPORT: Turn = (
     b"\0\0\0\0\x05",
     b"\0\0\0\x3d\x85%%MatrixMarket matrix coordinate integer general\n3 3 1\n1 1 8\n",
 );
@@ -70,7 +70,7 @@ pub const SAVE_FAILED: &[u8] = b"\0\0\0\x0a\xff\0\x2a\0\0\0\0\0\0\0\0";
 pub const SAVE_OFF: &[u8] = b"\0\0\0\x0a\xff\0\x2b\0\0\0\0\0\0\0\0";
 
 /// A Stop, and its reply.
-pub const STOP: Turn<'static> = (b"\0\0\0\0\x07", b"\0\0\0\0\x87");
+pub const STOP: Turn = (b"\0\0\0\0\x07", b"\0\0\0\0\x87");
 
 // Whether a frame is answered so.
 fn is_answered<S: Read + Write>(stream: &mut S, turn: &Turn) -> io::Result<bool> {

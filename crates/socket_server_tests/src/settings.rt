@@ -2,34 +2,50 @@
 
 use batch_store::Setup;
 use socket_server::Settings;
-use std::alloc::{AllocError, Global};
-use std::test::Fail;
+use std::alloc::Global;
+use std::process::Abort;
 
 /// A port of TCP that is free.
 pub const ANY_PORT: &str = "127.0.0.1:0";
 
+/// What differs between the servers of the tests: how many workers they have and how many sessions they take, their
+/// addresses, and the path of their snapshot.
+#[derive(Clone, Copy)]
+pub struct Plan<'a> {
+    pub workers: u64,
+    pub sessions: u64,
+    pub tcp: Option<&'a str>,
+    pub unix: Option<&'a str>,
+    pub snapshot: Option<&'a str>,
+}
+
+/// Two workers, no address and no snapshot.
+pub const PLAIN: Plan<'static> = Plan {
+    workers: 2,
+    sessions: 1 << 40,
+    tcp: None,
+    unix: None,
+    snapshot: None,
+};
+
 // A word, if it is given.
-fn owned(alloc: Global, word: Option<&str>) -> Result<Option<String>, AllocError> {
+fn owned(rt: &impl Abort, alloc: Global, word: Option<&str>) -> Option<String> {
     match word {
-        Some(word) => Ok(Some(word.to_string(alloc)?)),
-        None => Ok(None),
+        Some(word) => Some(word.to_string(alloc).expect(rt, "memory")),
+        None => None,
     }
 }
 
-/// Two workers over an engine of three rows, three columns, two shards, a limit of 100 and at most 10 batches.
-pub fn settings(
-    alloc: Global,
-    tcp: Option<&str>,
-    unix: Option<&str>,
-    snapshot: Option<&str>,
-) -> Result<Settings, Fail> {
-    Ok(Settings {
-        tcp: owned(alloc, tcp)?,
-        unix: owned(alloc, unix)?,
-        setup: Setup::new(3, 3, &[2, 4], 2, 100, 10)?,
-        workers: 2,
-        snapshot: owned(alloc, snapshot)?,
-        sessions: 1 << 40,
+/// A server of this plan over an engine of three rows, three columns, two shards, a limit of 100 and at most 10
+/// batches.
+pub fn settings(rt: &impl Abort, alloc: Global, plan: &Plan) -> Settings {
+    Settings {
+        tcp: owned(rt, alloc, plan.tcp),
+        unix: owned(rt, alloc, plan.unix),
+        setup: Setup::new(3, 3, &[2, 4], 2, 100, 10).expect(rt, "setup"),
+        workers: plan.workers,
+        snapshot: owned(rt, alloc, plan.snapshot),
+        sessions: plan.sessions,
         idle: None,
-    })
+    }
 }
