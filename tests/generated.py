@@ -3,22 +3,21 @@
 
     python3 tests/generated.py PATH-TO-HHM [--long]
 
-The model is a list of what was accepted, searched from the front, and a dictionary of all cells; its replies are spelled
-from docs/FORMATS.md. Frames are mostly puts, as texts and as cells, with repeats, numbers that are used again, totals
-at the limit, full books, texts with faults and bad headers; they are cut anywhere, or end too early. Between sessions
-the server saves, is killed, starts again, and has its history folded. It prints a line for each check that fails and at
-the end `N passed, M failed`; the status is 1 where one fails. With `--long` there are ten times as many sessions and
-puts. Linux, and nothing but Python's own library, the client of clients/python and the server of tests/server.py.
+The model is a list of what was accepted, searched from the front, and a dictionary of all cells; its replies are
+spelled from docs/FORMATS.md. Frames are mostly puts, as texts and as cells, with repeats, numbers that are used again,
+totals at the limit, full books, texts with faults and bad headers; they are cut anywhere, or end too early. Between two
+starts a server's snapshot is folded. It prints a line for each check that fails and at the end `N passed, M failed`;
+the status is 1 where one fails. With `--long` there are ten times as many sessions and puts. Linux, and nothing but
+Python's own library, the client of clients/python and the server of tests/server.py.
 """
 import os
 import random
-import signal
-import socket
 import struct
 import sys
 import tempfile
 import threading
 from bisect import bisect_left
+from itertools import accumulate
 
 import server as servers
 from hhm_client import BANNER, put_cells_frame, put_frame
@@ -90,10 +89,15 @@ class Model:
         return struct.pack(">IBQ", 8, 0x86, len(self.list)) if self.saves else refused(43)
 
 
+def placed(numbers, rows, cols):
+    """A cell within these dimensions, with a small count."""
+    return numbers.randrange(rows), numbers.randrange(cols), numbers.randrange(9)
+
+
 def drawn_cells(pair, other):
     """At most three cells, some of them at one place, some of count 0: mostly the same for the same pair."""
     numbers = random.Random(f"{pair} {other}")
-    return [(numbers.randrange(ROWS), numbers.randrange(COLS), numbers.randrange(9)) for _ in range(numbers.randrange(4))]
+    return [placed(numbers, ROWS, COLS) for _ in range(numbers.randrange(4))]
 
 
 def drawn_text(draw, cells):
@@ -187,8 +191,11 @@ def fold(name, path, model):
 def sessions_are_answered_alike(sessions):
     """Sessions of servers of many shards, cuts, limits and books; some are saved, and folded between two starts."""
     for shards, cuts, limit, most, saves in [
-        (1, "2,4", 100, 1000, False), (2, "1,3,9", 60, 1000, True), (3, "none", 1000, 9, True), (64, "1", 150, 20, True),
-    ]:  # fmt: skip
+        (1, "2,4", 100, 1000, False),
+        (2, "1,3,9", 60, 1000, True),
+        (3, "none", 1000, 9, True),
+        (64, "1", 150, 20, True),
+    ]:
         name, draw, model = f"{shards} shards", random.Random(limit), Model(limit, most, saves)
         path = os.path.join(servers.FOLDER, f"generated.{shards}")
         words = ["--rows", str(ROWS), "--cols", str(COLS), "--shards", str(shards), "--limit", str(limit)]
@@ -199,19 +206,19 @@ def sessions_are_answered_alike(sessions):
                 server.stop(name, len(model.list), model.total)
             if saves:
                 fold(name, path, model)
-                check(f"{name}: export", program("export", path), (spelled(ROWS, COLS, model.cells).decode(), "", 0))
+                text = spelled(ROWS, COLS, model.cells).decode()
+                check(f"{name}: export", program("export", path), (text, "", 0))
 
 
-# What clients put at once: rows, columns, shards, how many clients and numbers are drawn from, puts of each, and a limit
-# that is reached when some two thirds of the pairs were accepted.
+# What clients put at once: the dimensions, how many clients and numbers are drawn from, puts of each, and a limit that
+# is reached when some two thirds of the pairs were accepted.
 AT_ONCE = {"rows": 60, "cols": 5, "clients": 5, "numbers": 600, "puts": 1500, "limit": 20_000}
 
 
 def many_cells(draw_of):
     """At most five cells of a pair, and the cells of its other batch."""
     numbers = random.Random(f"{draw_of}")
-    rows, cols = AT_ONCE["rows"], AT_ONCE["cols"]
-    return [(numbers.randrange(rows), numbers.randrange(cols), numbers.randrange(9)) for _ in range(numbers.randrange(6))]
+    return [placed(numbers, AT_ONCE["rows"], AT_ONCE["cols"]) for _ in range(numbers.randrange(6))]
 
 
 def read_reply(stream):
@@ -309,6 +316,27 @@ def batches_of(path):
     return batches
 
 
+def added_up(all_counts):
+    """The sum of many counts."""
+    sums = {}
+    for counts in all_counts:
+        for place, count in counts.items():
+            sums[place] = sums.get(place, 0) + count
+    return sums
+
+
+def compare_saved(path, batches):
+    """Compares the batches of a snapshot, in order, and their sum with the accepted ones."""
+    saved = batches_of(path)
+    check("the batches in the snapshot", [(pair, sizes(counts)) for pair, counts in saved],
+          [(pair, sizes(counts)) for pair, counts, _ in batches])  # fmt: skip
+    # Both batches of a pair may have as many places and the same total.
+    drawn = [[added(many_cells((*pair, other))) for other in (False, True)] for pair, _ in saved]
+    check("each has the cells that were put", all(counts in both for (_, counts), both in zip(saved, drawn)), True)
+    text = spelled(AT_ONCE["rows"], AT_ONCE["cols"], added_up(counts for _, counts in saved)).decode()
+    check("the sum in the snapshot", program("export", path), (text, "", 0))
+
+
 def clients_agree_with_a_model(factor):
     """Four clients put at once, with repeats of each other's pairs, up to the limit and past it, while two read."""
     path = os.path.join(servers.FOLDER, "at-once")
@@ -318,7 +346,8 @@ def clients_agree_with_a_model(factor):
     with Server(words) as server:
         links = [server.link(n % 2 == 0) for n in range(6)]
         readers = [threading.Thread(target=read_at_once, args=(link, ended, faults)) for link in links[4:]]
-        writers = [threading.Thread(target=put_at_once, args=(links[n], n, factor * AT_ONCE["puts"], lines[n])) for n in range(4)]
+        puts = factor * AT_ONCE["puts"]
+        writers = [threading.Thread(target=put_at_once, args=(links[n], n, puts, lines[n])) for n in range(4)]
         for thread in [*readers, *writers]:
             thread.start()
         for thread in writers:
@@ -330,24 +359,13 @@ def clients_agree_with_a_model(factor):
             link.close()
         check("what was read", faults, [])
         lines = [line for some in lines for line in some]
-        check("each put is answered", len(lines) >= 4 * factor * AT_ONCE["puts"], True)
+        check("each put is answered", len(lines) >= 4 * puts, True)
         batches = accepted_list(lines)
         judge_refusals(lines, batches)
         totals = [sum(counts.values()) for _, counts, _ in batches]
-        check("the totals add up", [after for _, _, after in batches], [sum(totals[: n + 1]) for n in range(len(totals))])
+        check("the totals add up", [after for _, _, after in batches], list(accumulate(totals)))
         server.stop("at once", len(batches), sum(totals))
-    saved = batches_of(path)
-    check("the batches in the snapshot", [(pair, sizes(counts)) for pair, counts in saved],
-          [(pair, sizes(counts)) for pair, counts, _ in batches])  # fmt: skip
-    # Both batches of a pair may have as many places and the same total.
-    drawn = [[added(many_cells((*pair, other))) for other in (False, True)] for pair, _ in saved]
-    check("each has the cells that were put", all(counts in both for (_, counts), both in zip(saved, drawn)), True)
-    sums = {}
-    for _, counts in saved:
-        for place, count in counts.items():
-            sums[place] = sums.get(place, 0) + count
-    text = spelled(AT_ONCE["rows"], AT_ONCE["cols"], sums).decode()
-    check("the sum in the snapshot", program("export", path), (text, "", 0))
+    compare_saved(path, batches)
 
 
 def main():
