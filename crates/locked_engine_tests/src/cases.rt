@@ -96,6 +96,7 @@ pub fn play_on<R: Threads + Wait + Clock + RandomSource + Abort + Eprint + Sync>
     if let Some(batches) = case.batches {
         expect_batches(rt, alloc, &closed, batches);
     }
+    drop(closed);
 }
 
 /// The engine of one thread that is left once the case was done.

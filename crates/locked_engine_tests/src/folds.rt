@@ -114,5 +114,7 @@ fn expect_all<N: Named, H: Ledger, R: Wait + Abort + Eprint>(
     seat: &mut Seat<N, H>,
 ) {
     let list = engine.book_list(rt, alloc, seat).expect(rt, "memory");
-    assert!(rt; list.folded.len() == 2 && list.batches.len() == 1 && list.base.total() == 12);
+    let holds = list.folded.len() == 2 && list.batches.len() == 1 && list.base.total() == 12;
+    drop(list);
+    assert!(rt; holds);
 }

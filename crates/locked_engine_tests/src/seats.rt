@@ -41,6 +41,7 @@ fn there_are_1_to_32_seats(rt: HostRuntime) -> Result<(), Fail> {
     let plain = PlainEngine::new(&rt, rt.alloc(), setup).expect(&rt, "memory");
     expect_faults(&rt, rt.alloc(), &plain, BAD, Some(OpenFault::BadSeats));
     expect_faults(&rt, rt.alloc(), &plain, GOOD, None);
+    drop(plain);
     Ok(())
 }
 

@@ -183,4 +183,5 @@ fn read_both<N: Named, H: Ledger, R: Wait + Abort + Eprint>(
     expect_export(rt, alloc, engine, SUM);
     let list = engine.batch_list(rt, alloc, seat).expect(rt, "memory");
     expect_list(rt, alloc, &list, TWO);
+    drop(list);
 }
