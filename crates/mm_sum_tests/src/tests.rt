@@ -1,10 +1,10 @@
 //! What only a device in memory can show: reads and writes that fail in mid-stream, and what was moved before.
-ghost use Rattle.std.specs.Prelude.{◌≡◌, IfOk};
+ghost use Rattle.std.specs.Prelude.{◌≡◌};
 
 use byte_io::{DeviceFault, Script, Sink, Source, WriteFault};
 use mm_sum::{SumFault, run_sum};
 use mm_text::{MmFault, MmKind};
-use std::alloc::{AllocError, Global};
+use std::alloc::Global;
 use std::io::Eprint;
 use std::process::Abort;
 use std::test::Fail;
@@ -17,18 +17,20 @@ const SUM: &str = "%%MatrixMarket matrix coordinate integer general\n3 3 3\n1 1 
 
 /// A source of a text that comes in pieces of at most `most` bytes, and whose read with number `fail_read` fails.
 fn in_pieces(
+    rt: &impl Abort,
     alloc: Global,
     text: &str,
     most: usize,
     fail_read: Option<u64>,
-) -> Result<Script, AllocError>
-    ensures { IfOk result (λ script. script.failures ≡ 0) }
+) -> Script
+    ensures { result.failures ≡ 0 }
 {
     let mut pieces = Vec::new(alloc);
     for piece in text.as_bytes().chunks(most.max(1)) {
-        pieces.push(Vec::from_slice(alloc, piece)?)?;
+        let bytes = Vec::from_slice(alloc, piece).expect(rt, "memory");
+        pieces.push(bytes).expect(rt, "memory");
     }
-    Ok(Script::new(alloc, pieces, fail_read, None))
+    Script::new(alloc, pieces, fail_read, None)
 }
 
 /// A sink that takes `room` bytes in all.
@@ -57,18 +59,22 @@ type Ended = (Result<(), SumFault>, u64, u64);
 /// What comes of a text in such pieces, in one layer above a cut of 2, and whether what is written is `sum` on success
 /// and else nothing.
 fn outcome_of(
+    rt: &impl Abort,
     alloc: Global,
     text: &str,
     most: usize,
     fail_read: Option<u64>,
     sum: &str,
-) -> Result<(Ended, bool), AllocError> {
-    let mut source = in_pieces(alloc, text, most, fail_read)?;
+) -> (Ended, bool) {
+    let mut source = in_pieces(rt, alloc, text, most, fail_read);
     let mut sink = with_room(alloc, None);
     let outcome = sum_of(alloc, &mut source, &mut sink, &[2]);
     let want = if outcome.is_ok() { sum } else { "" };
     let ended = (outcome, Source::failures(&source), Sink::failures(&sink));
-    Ok((ended, sink.written() == want.as_bytes()))
+    let written = sink.written() == want.as_bytes();
+    drop(source);
+    drop(sink);
+    (ended, written)
 }
 
 fn text_fault(kind: MmKind, line: u64) -> SumFault {
@@ -86,26 +92,25 @@ fn line_after(text: &str, given: usize) -> u64 {
     line
 }
 
-fn check_failing_reads(rt: &(impl Abort + Eprint), alloc: Global, most: u64) -> Result<(), Fail> {
+fn check_failing_reads(rt: &(impl Abort + Eprint), alloc: Global, most: u64) {
     let mut given = 0u64;
     let mut read = 0u64;
     // One read for each piece, and one that finds the end.
     for _ in 0..(TEXT.len() as u64).div_ceil(most.max(1)).wrapping_add(1) {
         let fault = text_fault(MmKind::Read, line_after(TEXT, given as usize));
-        let found = outcome_of(alloc, TEXT, most as usize, Some(read), SUM)?;
+        let found = outcome_of(rt, alloc, TEXT, most as usize, Some(read), SUM);
         assert!(rt; same_at(rt, &(most, read), &found, &((Err(fault), 1, 0), true)));
         given = given.wrapping_add(most);
         read = read.wrapping_add(1);
     }
-    let found = outcome_of(alloc, TEXT, most as usize, Some(read), SUM)?;
+    let found = outcome_of(rt, alloc, TEXT, most as usize, Some(read), SUM);
     assert!(rt; same_at(rt, &(most, read), &found, &((Ok(()), 0, 0), true)));
-    Ok(())
 }
 
 #[test]
 fn reads_that_fail(rt: HostRuntime) -> Result<(), Fail> {
     for most in [1, 5, 7, 64] {
-        check_failing_reads(&rt, rt.alloc(), most)?;
+        check_failing_reads(&rt, rt.alloc(), most);
     }
     Ok(())
 }
@@ -113,7 +118,7 @@ fn reads_that_fail(rt: HostRuntime) -> Result<(), Fail> {
 #[test]
 fn a_fault_is_told_before_a_later_read_fails(rt: HostRuntime) -> Result<(), Fail> {
     let text = "%%MatrixMarket matrix coordinate integer general\n3 3 1\n0 1 1\n1 1 1\n";
-    let found = outcome_of(rt.alloc(), text, 61, Some(1), SUM)?;
+    let found = outcome_of(&rt, rt.alloc(), text, 61, Some(1), SUM);
     let fault = text_fault(MmKind::IndexOutOfRange, 3);
     assert!(rt; same(&rt, &found, &((Err(fault), 0, 0), true)));
     Ok(())
@@ -128,17 +133,20 @@ static BAD_CUTS: &[&[u64]] = &[
 ];
 
 /// How a sum with these cuts ends, of a source and into a sink whose first call fails.
-fn judged(alloc: Global, cuts: &[u64]) -> Result<Ended, AllocError> {
-    let mut source = in_pieces(alloc, TEXT, 7, Some(0))?;
+fn judged(rt: &impl Abort, alloc: Global, cuts: &[u64]) -> Ended {
+    let mut source = in_pieces(rt, alloc, TEXT, 7, Some(0));
     let mut sink = with_room(alloc, Some(0));
     let outcome = sum_of(alloc, &mut source, &mut sink, cuts);
-    Ok((outcome, Source::failures(&source), Sink::failures(&sink)))
+    let ended = (outcome, Source::failures(&source), Sink::failures(&sink));
+    drop(source);
+    drop(sink);
+    ended
 }
 
 #[test]
 fn cuts_are_judged_before_anything_is_read(rt: HostRuntime) -> Result<(), Fail> {
     for cuts in BAD_CUTS {
-        let found = judged(rt.alloc(), cuts)?;
+        let found = judged(&rt, rt.alloc(), cuts);
         assert!(rt; same_at(&rt, cuts, &found, &(Err(SumFault::BadCuts), 0, 0)));
     }
     Ok(())
@@ -151,12 +159,11 @@ fn check_pieces(
     text: &str,
     want: Result<(), SumFault>,
     sum: &str,
-) -> Result<(), Fail> {
+) {
     for most in [1, 13, 1_000] {
-        let found = outcome_of(alloc, text, most, None, sum)?;
+        let found = outcome_of(rt, alloc, text, most, None, sum);
         assert!(rt; same_at(rt, &(text, most), &found, &((want, 0, 0), true)));
     }
-    Ok(())
 }
 
 #[test]
@@ -165,10 +172,10 @@ fn counts_up_to_64_bits(rt: HostRuntime) -> Result<(), Fail> {
         "%%MatrixMarket matrix coordinate integer general\n2 2 2\n2 1 1\n1 2 18446744073709551614\n";
     let sum =
         "%%MatrixMarket matrix coordinate integer general\n2 2 2\n1 2 18446744073709551614\n2 1 1\n";
-    check_pieces(&rt, rt.alloc(), fits, Ok(()), sum)?;
+    check_pieces(&rt, rt.alloc(), fits, Ok(()), sum);
     let passes =
         "%%MatrixMarket matrix coordinate integer general\n2 2 2\n2 1 1\n1 2 18446744073709551615\n";
-    check_pieces(&rt, rt.alloc(), passes, Err(SumFault::SumTooLarge), "")?;
+    check_pieces(&rt, rt.alloc(), passes, Err(SumFault::SumTooLarge), "");
     let faulty =
         "%%MatrixMarket matrix coordinate integer general\n2 2 2\n2 1 1\n1 2 18446744073709551615\nx";
     check_pieces(
@@ -177,63 +184,62 @@ fn counts_up_to_64_bits(rt: HostRuntime) -> Result<(), Fail> {
         faulty,
         Err(text_fault(MmKind::ExtraText, 5)),
         "",
-    )?;
+    );
     Ok(())
 }
 
 /// What comes of a text whose sum is written into so much room, and whether that took the front of `sum`.
 fn written_within(
+    rt: &impl Abort,
     alloc: Global,
     text: &str,
     sum: &str,
     room: usize,
-) -> Result<(Ended, bool), AllocError> {
-    let mut source = in_pieces(alloc, text, 65_536, None)?;
+) -> (Ended, bool) {
+    let mut source = in_pieces(rt, alloc, text, 65_536, None);
     let mut sink = with_room(alloc, Some(room as u64));
     let outcome = sum_of(alloc, &mut source, &mut sink, &[1, 2, 3]);
     let ended = (outcome, Source::failures(&source), Sink::failures(&sink));
-    Ok((ended, sum.as_bytes().get(..room) == Some(sink.written())))
+    let written = sum.as_bytes().get(..room) == Some(sink.written());
+    drop(source);
+    drop(sink);
+    (ended, written)
 }
 
 /// Sums a text into a sink that takes `room` bytes, fewer than the sum has.
-fn check_room(
-    rt: &(impl Abort + Eprint),
-    alloc: Global,
-    text: &str,
-    sum: &str,
-    room: usize,
-) -> Result<(), Fail> {
+fn check_room(rt: &(impl Abort + Eprint), alloc: Global, text: &str, sum: &str, room: usize) {
     let written = room as u128;
     let fault = SumFault::Output(WriteFault { written });
-    let found = written_within(alloc, text, sum, room)?;
+    let found = written_within(rt, alloc, text, sum, room);
     assert!(rt; same_at(rt, &room, &found, &((Err(fault), 0, 1), true)));
-    Ok(())
 }
 
 #[test]
 fn writes_that_fail(rt: HostRuntime) -> Result<(), Fail> {
     for room in 0..SUM.len() {
-        check_room(&rt, rt.alloc(), TEXT, SUM, room)?;
+        check_room(&rt, rt.alloc(), TEXT, SUM, room);
     }
     Ok(())
 }
 
 /// A text of 5,000 cells in order, which is its own sum and is written in several calls.
-fn long_text(alloc: Global) -> Result<String, AllocError> {
+fn long_text(rt: &impl Abort, alloc: Global) -> String {
     let mut text = String::new(alloc);
-    text.push_str("%%MatrixMarket matrix coordinate integer general\n5000 1 5000\n")?;
+    text.push_str("%%MatrixMarket matrix coordinate integer general\n5000 1 5000\n")
+        .expect(rt, "memory");
     for row in 1..=5_000u64 {
-        writeln!(text, "{row} 1 {row}")?;
+        writeln!(text, "{row} 1 {row}").expect(rt, "memory");
     }
-    Ok(text)
+    text
 }
 
 #[test]
 fn later_writes_that_fail(rt: HostRuntime) -> Result<(), Fail> {
-    let text = long_text(rt.alloc())?;
+    let text = long_text(&rt, rt.alloc());
     for room in [1usize, 4_096, 16_000, 16_384, 16_385, 32_768, 50_000] {
-        check_room(&rt, rt.alloc(), &text, &text, room)?;
+        check_room(&rt, rt.alloc(), &text, &text, room);
     }
+    drop(text);
     Ok(())
 }
 
@@ -257,8 +263,9 @@ impl Sink for Full {
 
 #[test]
 fn writes_that_take_nothing(rt: HostRuntime) -> Result<(), Fail> {
-    let mut source = in_pieces(rt.alloc(), TEXT, 7, None)?;
+    let mut source = in_pieces(&rt, rt.alloc(), TEXT, 7, None);
     let outcome = run_sum(rt.alloc(), &mut source, &mut Full, &[4_096]);
+    drop(source);
     let fault = WriteFault { written: 0 };
     assert!(rt; same(&rt, &outcome, &Err(SumFault::Output(fault))));
     Ok(())
