@@ -38,7 +38,10 @@ impl Stream {
         let first = number.wrapping_mul(self.cells);
         for i in 0..self.cells {
             let (row, col) = place(first.wrapping_add(i) % self.places.max(1));
-            list.push(Cell { row, col, count: 1 })?;
+            if list.push(Cell { row, col, count: 1 }).is_err() {
+                drop(list);
+                return Err(AllocError);
+            }
         }
         Ok(list)
     }
@@ -112,12 +115,16 @@ fn added(
 {
     if as_matrix {
         let Ok(m) = Hyper::build(alloc, SIDE, SIDE, list) else {
+            drop(layers);
             return Err(AllocError);
         };
         if !fits(&layers, m.total()) {
+            drop(m);
             return Ok(layers);
         }
-        return layers.add(alloc, &m);
+        let after = layers.add(alloc, &m);
+        drop(m);
+        return after;
     }
     let Some(sum) = checked_total(list) else {
         return Ok(layers);
@@ -138,8 +145,13 @@ fn sum_of(
 ) -> Result<Vec<Cell>, CascadeFault> {
     let mut layers = PendingLayers::new(alloc, SIDE, SIDE, cuts, expected)?;
     for number in 0..stream.lists {
-        let list = stream.list(alloc, number)?;
-        layers = added(alloc, layers, &list, as_matrices)?;
+        let Ok(list) = stream.list(alloc, number) else {
+            drop(layers);
+            return Err(CascadeFault::Memory);
+        };
+        let after = added(alloc, layers, &list, as_matrices);
+        drop(list);
+        layers = after?;
     }
     let sum = layers.into_cells(alloc)?;
     Ok(sum)
@@ -187,7 +199,9 @@ fn is_summed(
     as_matrices: bool,
 ) -> Result<bool, CascadeFault> {
     let sum = sum_again(alloc, cuts, expected, stream, as_matrices)?;
-    Ok(stream.is_in(&sum))
+    let holds = stream.is_in(&sum);
+    drop(sum);
+    Ok(holds)
 }
 
 #[test]
