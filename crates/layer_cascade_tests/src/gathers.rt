@@ -74,7 +74,11 @@ fn differences(
     let before = first_difference(rt, alloc, &mut layers, &mut others, (0, SEEN), gathers);
     let view = layers.view(alloc).expect(rt, "memory");
     let behind = first_difference(rt, alloc, &mut layers, &mut others, (SEEN, MANY), gathers);
-    (before, behind, sees_first(rt, alloc, &view, SEEN))
+    let sees = sees_first(rt, alloc, &view, SEEN);
+    drop(view);
+    drop(layers);
+    drop(others);
+    (before, behind, sees)
 }
 
 /// Cuts with which matrices stand side by side in the first layer, in the second, in both and in the third.

@@ -4,6 +4,7 @@ use cells::Cell;
 use hyper_matrix::Hyper;
 use layer_cascade::{CascadeFault, LayerView, Layers, are_cuts};
 use std::alloc::Global;
+use std::io::Eprint;
 use std::process::Abort;
 use std::test::Fail;
 use test_support::{holds_at, same, same_at};
@@ -21,6 +22,7 @@ fn layers_with(rt: &impl Abort, alloc: Global, cuts: &[u64]) -> Layers {
 fn add_cell(rt: &impl Abort, alloc: Global, layers: &mut Layers, row: u64, col: u64, count: u64) {
     let m = one_cell(rt, alloc, row, col, count);
     add(rt, alloc, layers, &m);
+    drop(m);
 }
 
 /// How many entries each of three layers has.
@@ -52,7 +54,9 @@ fn holds_after(
 ) -> bool {
     add_cell(rt, alloc, layers, place.0, place.1, 7);
     let sum = layers.sum(alloc).expect(rt, "memory");
-    hold(layers, place, added, want) && sum.entries() == added
+    let entries = sum.entries();
+    drop(sum);
+    hold(layers, place, added, want) && entries == added
 }
 
 /// Places, and the entries of three layers once a cell was added there.
@@ -74,7 +78,9 @@ fn distinct_cells_cascade(rt: HostRuntime) -> Result<(), Fail> {
         let holds = holds_after(&rt, rt.alloc(), &mut layers, place, added, want);
         assert!(rt; holds_at(&rt, &added, holds));
     }
-    assert!(rt; layers.get(1, 2).is_none() && layers.get(3, 0).is_none());
+    let none = layers.get(1, 2).is_none() && layers.get(3, 0).is_none();
+    drop(layers);
+    assert!(rt; none);
     Ok(())
 }
 
@@ -89,7 +95,9 @@ fn one_cell_stays_in_the_first_layer(rt: HostRuntime) -> Result<(), Fail> {
     for _ in 0..6 {
         add_cell(&rt, rt.alloc(), &mut layers, 1, 2, 1);
     }
-    assert!(rt; holds_six_in_the_first(&layers));
+    let holds = holds_six_in_the_first(&layers);
+    drop(layers);
+    assert!(rt; holds);
     Ok(())
 }
 
@@ -111,9 +119,14 @@ const COLUMNS_AGAIN: [(u64, u64); 14] = [
     (1, 0),
 ];
 
-fn row_is(layers: &Layers, row: u64, entries: u64, total: u64) -> bool {
-    let sum = layers.row_total(row);
-    sum.entries == entries && sum.total == total
+/// Rows, and then their entries and totals.
+const ROW_TOTALS: [(u64, (u64, u64)); 4] = [(0, (2, 2)), (1, (3, 8)), (2, (3, 4)), (3, (0, 0))];
+
+fn check_row_totals(rt: &(impl Abort + Eprint), layers: &Layers) {
+    for (row, want) in ROW_TOTALS {
+        let sum = layers.row_total(row);
+        assert!(rt; same_at(rt, &row, &(sum.entries, sum.total), &want));
+    }
 }
 
 #[test]
@@ -123,9 +136,8 @@ fn a_column_counts_once(rt: HostRuntime) -> Result<(), Fail> {
         add_cell(&rt, rt.alloc(), &mut layers, row, col, 1);
     }
     assert!(rt; same(&rt, &sizes(&layers), &[2, 8, u64::MAX]));
-    for (row, entries, total) in [(0, 2, 2), (1, 3, 8), (2, 3, 4), (3, 0, 0)] {
-        assert!(rt; holds_at(&rt, &row, row_is(&layers, row, entries, total)));
-    }
+    check_row_totals(&rt, &layers);
+    drop(layers);
     Ok(())
 }
 
@@ -141,7 +153,9 @@ fn are_new(layers: &Layers) -> bool {
 #[test]
 fn new_layers_are_told(rt: HostRuntime) -> Result<(), Fail> {
     let layers = Layers::new(rt.alloc(), 3, 5, &[2, 4]).expect(&rt, "layers");
-    assert!(rt; are_new(&layers));
+    let new = are_new(&layers);
+    drop(layers);
+    assert!(rt; new);
     Ok(())
 }
 
@@ -151,6 +165,7 @@ fn plan_changes_nothing(rt: &impl Abort, alloc: Global, layers: &mut Layers) -> 
     let plan = planned(rt, alloc, layers, &m);
     let before = (layers.layer_entries(1), layers.total(), layers.get(0, 1));
     layers.commit(plan);
+    drop(m);
     let after = (layers.layer_entries(1), layers.total(), layers.get(0, 1));
     before == (Some(1), 0, None) && after == (Some(2), 5, Some(5))
 }
@@ -159,8 +174,11 @@ fn plan_changes_nothing(rt: &impl Abort, alloc: Global, layers: &mut Layers) -> 
 fn a_plan_changes_nothing(rt: HostRuntime) -> Result<(), Fail> {
     let mut layers = layers_with(&rt, rt.alloc(), &[]);
     add_cell(&rt, rt.alloc(), &mut layers, 0, 0, 0);
-    assert!(rt; plan_changes_nothing(&rt, rt.alloc(), &mut layers));
-    assert!(rt; same(&rt, &layers.layer_entries(2), &None));
+    let nothing = plan_changes_nothing(&rt, rt.alloc(), &mut layers);
+    let second = layers.layer_entries(2);
+    drop(layers);
+    assert!(rt; nothing);
+    assert!(rt; same(&rt, &second, &None));
     Ok(())
 }
 
@@ -174,7 +192,9 @@ fn sees_as_before(
 ) -> bool {
     add_cell(rt, alloc, layers, cell.0, cell.1, cell.2);
     let sum = view.sum(alloc).expect(rt, "memory");
-    sum.entries() == 1 && sum.total() == 5
+    let as_before = sum.entries() == 1 && sum.total() == 5;
+    drop(sum);
+    as_before
 }
 
 /// Adds two cells behind a view, the first in the place of the one that it sees.
@@ -182,6 +202,7 @@ fn view_stays(rt: &impl Abort, alloc: Global, layers: &mut Layers) -> (bool, boo
     let view = layers.view(alloc).expect(rt, "memory");
     let first = sees_as_before(rt, alloc, &view, layers, (0, 0, 3));
     let second = sees_as_before(rt, alloc, &view, layers, (2, 1, 1));
+    drop(view);
     (first, second)
 }
 
@@ -190,8 +211,10 @@ fn a_view_stays_as_it_was(rt: HostRuntime) -> Result<(), Fail> {
     let mut layers = layers_with(&rt, rt.alloc(), &[2]);
     add_cell(&rt, rt.alloc(), &mut layers, 0, 0, 5);
     let stays = view_stays(&rt, rt.alloc(), &mut layers);
+    let holds = layers.layer_entries(1) == Some(2) && layers.total() == 9;
+    drop(layers);
     assert!(rt; same(&rt, &stays, &(true, true)));
-    assert!(rt; layers.layer_entries(1) == Some(2) && layers.total() == 9);
+    assert!(rt; holds);
     Ok(())
 }
 

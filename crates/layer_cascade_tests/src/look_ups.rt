@@ -38,7 +38,9 @@ impl Chain {
         for place in from..from.wrapping_add(self.step.wrapping_mul(2)) {
             cells.push(cell_of(place)).expect(rt, "memory");
         }
-        Hyper::build(alloc, SIDE, SIDE, &cells).expect(rt, "a matrix")
+        let m = Hyper::build(alloc, SIDE, SIDE, &cells).expect(rt, "a matrix");
+        drop(cells);
+        m
     }
 
     /// What all matrices together have at a place.
@@ -68,7 +70,9 @@ impl Chain {
     fn layers(&self, rt: &impl Abort, alloc: Global, cuts: &[u64], gathers: u64) -> Layers {
         let mut layers = Layers::new(alloc, SIDE, SIDE, cuts).expect(rt, "layers");
         for i in 0..self.matrices {
-            add_and_gather(rt, alloc, &mut layers, &self.matrix(rt, alloc, i), gathers);
+            let m = self.matrix(rt, alloc, i);
+            add_and_gather(rt, alloc, &mut layers, &m, gathers);
+            drop(m);
         }
         layers
     }
@@ -87,7 +91,9 @@ fn check_found(rt: &(impl Abort + Eprint), alloc: Global, gathers: u64) {
     for (cuts, step, matrices) in ROWS {
         let chain = Chain { step, matrices };
         let layers = chain.layers(rt, alloc, cuts, gathers);
-        assert!(rt; holds_at(rt, &(matrices, gathers), chain.is_found(&layers)));
+        let found = chain.is_found(&layers);
+        drop(layers);
+        assert!(rt; holds_at(rt, &(matrices, gathers), found));
     }
 }
 
@@ -117,10 +123,12 @@ fn places_are_found_after_a_refusal(rt: HostRuntime) -> Result<(), Fail> {
         matrices: 2,
     };
     let mut layers = chain.layers(&rt, rt.alloc(), &[250], 0);
-    assert!(rt; same(&rt, &layers.layer_entries(1), &Some(0)));
-    assert!(rt; same(&rt, &layers.layer_entries(2), &Some(300)));
-    assert!(rt; gathered(&rt, rt.alloc(), &mut layers, chain));
-    assert!(rt; chain.is_found(&layers));
-    assert!(rt; same(&rt, &layers.layer_entries(2), &Some(300)));
+    let sizes = (layers.layer_entries(1), layers.layer_entries(2));
+    let found = gathered(&rt, rt.alloc(), &mut layers, chain) && chain.is_found(&layers);
+    let after = layers.layer_entries(2);
+    drop(layers);
+    assert!(rt; same(&rt, &sizes, &(Some(0), Some(300))));
+    assert!(rt; found);
+    assert!(rt; same(&rt, &after, &Some(300)));
     Ok(())
 }

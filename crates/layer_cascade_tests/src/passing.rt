@@ -7,6 +7,7 @@ use hyper_matrix::Hyper;
 use layer_cascade::Layers;
 use std::alloc::Global;
 use std::io::Eprint;
+use std::mem;
 use std::process::Abort;
 use std::test::Fail;
 use test_support::{holds_at, same_at};
@@ -50,7 +51,10 @@ fn built_with(rt: &impl Abort, alloc: Global, layer: &Hyper, other: &Hyper) -> H
     let mut cells = layer.cells(alloc).expect(rt, "memory");
     let others = other.cells(alloc).expect(rt, "memory");
     cells.extend_from_slice(&others).expect(rt, "memory");
-    built(rt, alloc, &cells)
+    drop(others);
+    let m = built(rt, alloc, &cells);
+    drop(cells);
+    m
 }
 
 /// Layers that hold a matrix each.
@@ -75,23 +79,27 @@ impl Model {
         let mut carried = m;
         for (place, layer) in self.layers.iter_mut().enumerate() {
             let sum = built_with(rt, alloc, layer, &carried);
+            drop(carried);
             match self.cuts.get(place) {
                 Some(cut) if sum.entries() > *cut => {
-                    *layer = Hyper::new(alloc, SIDE, SIDE);
+                    drop(mem::replace(layer, Hyper::new(alloc, SIDE, SIDE)));
                     carried = sum;
                 }
                 _ => {
-                    *layer = sum;
+                    drop(mem::replace(layer, sum));
                     return;
                 }
             }
         }
+        drop(carried);
     }
 
     fn sum(&self, rt: &impl Abort, alloc: Global) -> Hyper {
         let mut sum = Hyper::new(alloc, SIDE, SIDE);
         for layer in &self.layers {
-            sum = built_with(rt, alloc, &sum, layer);
+            let with_layer = built_with(rt, alloc, &sum, layer);
+            drop(sum);
+            sum = with_layer;
         }
         sum
     }
@@ -140,10 +148,13 @@ fn hold_rows(layers: &Layers, m: &Hyper, list: &[Cell]) -> bool {
 fn hold(rt: &impl Abort, alloc: Global, layers: &Layers, model: &Model, list: &[Cell]) -> bool {
     let m = model.sum(rt, alloc);
     let sum = layers.sum(alloc).expect(rt, "memory");
-    hold_places(layers, &m, list)
+    let holds = hold_places(layers, &m, list)
         && hold_rows(layers, &m, list)
         && are_same(rt, alloc, &sum, &m)
-        && layers.total() == m.total()
+        && layers.total() == m.total();
+    drop(m);
+    drop(sum);
+    holds
 }
 
 /// Adds matrix `i` to both, and compares the entries of each layer.
@@ -158,6 +169,7 @@ fn check_addition(
 ) {
     let list = stream.list(rt, alloc, i);
     let m = built(rt, alloc, &list);
+    drop(list);
     add_and_gather(rt, alloc, layers, &m, gathers);
     model.add(rt, alloc, m);
     assert!(rt; holds_at(rt, &i, model.has_sizes(layers)));
@@ -179,8 +191,13 @@ fn check(
         check_addition(rt, alloc, &mut layers, &mut model, stream, i, gathers);
     }
     let list = stream.list(rt, alloc, matrices.wrapping_sub(1));
-    assert!(rt; hold(rt, alloc, &layers, &model, &list));
-    model.sizes()
+    let holds = hold(rt, alloc, &layers, &model, &list);
+    let sizes = model.sizes();
+    drop(list);
+    drop(model);
+    drop(layers);
+    assert!(rt; holds);
+    sizes
 }
 
 /// Cuts, the stream's places and cells of a matrix, the matrices, and the entries of each layer at the end. In the

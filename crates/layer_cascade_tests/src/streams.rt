@@ -32,14 +32,19 @@ pub fn sum_of(rt: &impl Abort, alloc: Global, from: u64, to: u64) -> Hyper {
     for i in from.wrapping_mul(CELLS)..to.wrapping_mul(CELLS) {
         cells.push(stream_cell(i)).expect(rt, "memory");
     }
-    Hyper::build(alloc, 9, 9, &cells).expect(rt, "a matrix")
+    let m = Hyper::build(alloc, 9, 9, &cells).expect(rt, "a matrix");
+    drop(cells);
+    m
 }
 
 /// Whether two matrices have the same cells.
 pub fn are_same(rt: &impl Abort, alloc: Global, a: &Hyper, b: &Hyper) -> bool {
     let cells = a.cells(alloc).expect(rt, "memory");
     let others = b.cells(alloc).expect(rt, "memory");
-    cells.as_slice() == others.as_slice()
+    let same = cells.as_slice() == others.as_slice();
+    drop(cells);
+    drop(others);
+    same
 }
 
 fn look_ups_agree(layers: &Layers, m: &Hyper) -> bool {
@@ -71,10 +76,13 @@ fn keeps_cuts(layers: &Layers) -> bool {
 pub fn holds_first(rt: &impl Abort, alloc: Global, layers: &Layers, matrices: u64) -> bool {
     let m = sum_of(rt, alloc, 0, matrices);
     let sum = layers.sum(alloc).expect(rt, "memory");
-    are_same(rt, alloc, &sum, &m)
+    let holds = are_same(rt, alloc, &sum, &m)
         && layers.total() == m.total()
         && keeps_cuts(layers)
-        && look_ups_agree(layers, &m)
+        && look_ups_agree(layers, &m);
+    drop(m);
+    drop(sum);
+    holds
 }
 
 const ALL_CUTS: [&[u64]; 6] = [
@@ -90,6 +98,7 @@ const ALL_CUTS: [&[u64]; 6] = [
 pub fn add_matrix(rt: &impl Abort, alloc: Global, layers: &mut Layers, i: u64) {
     let m = sum_of(rt, alloc, i, i.wrapping_add(1));
     add(rt, alloc, layers, &m);
+    drop(m);
 }
 
 /// Adds these matrices of the stream, the first of which is the next, and compares after each.
@@ -111,8 +120,12 @@ fn layers_agree_with_one_matrix(rt: HostRuntime) -> Result<(), Fail> {
     for cuts in ALL_CUTS {
         let mut layers = Layers::new(rt.alloc(), 9, 9, cuts).expect(&rt, "layers");
         check_additions(&rt, rt.alloc(), &mut layers, (0, 20));
+        drop(layers);
     }
-    assert!(rt; sum_of(&rt, rt.alloc(), 0, 20).entries() > 50);
+    let sum = sum_of(&rt, rt.alloc(), 0, 20);
+    let entries = sum.entries();
+    drop(sum);
+    assert!(rt; entries > 50);
     Ok(())
 }
 
@@ -136,7 +149,10 @@ const SEEN: u64 = 25;
 pub fn sees_first(rt: &impl Abort, alloc: Global, view: &LayerView, matrices: u64) -> bool {
     let m = sum_of(rt, alloc, 0, matrices);
     let seen = view.sum(alloc).expect(rt, "memory");
-    are_same(rt, alloc, &seen, &m)
+    let same = are_same(rt, alloc, &seen, &m);
+    drop(m);
+    drop(seen);
+    same
 }
 
 /// Adds so many matrices, compares after each, and compares the view that is taken on the way at the end.
@@ -145,7 +161,10 @@ fn check_many(rt: &(impl Abort + Eprint), alloc: Global, cuts: &[u64]) {
     check_additions(rt, alloc, &mut layers, (0, SEEN));
     let view = layers.view(alloc).expect(rt, "memory");
     check_additions(rt, alloc, &mut layers, (SEEN, MANY));
-    assert!(rt; sees_first(rt, alloc, &view, SEEN));
+    let sees = sees_first(rt, alloc, &view, SEEN);
+    drop(view);
+    drop(layers);
+    assert!(rt; sees);
 }
 
 #[test]
@@ -162,13 +181,17 @@ fn entries_after(rt: &impl Abort, alloc: Global, matrices: u64) -> Option<u64> {
     for i in 0..matrices {
         add_matrix(rt, alloc, &mut layers, i);
     }
-    layers.layer_entries(1)
+    let entries = layers.layer_entries(1);
+    drop(layers);
+    entries
 }
 
 #[test]
 fn a_layer_counts_a_place_once(rt: HostRuntime) -> Result<(), Fail> {
     for matrices in [0, 1, 2, 16, 31, 32, 33, MANY] {
-        let want = sum_of(&rt, rt.alloc(), 0, matrices).entries();
+        let sum = sum_of(&rt, rt.alloc(), 0, matrices);
+        let want = sum.entries();
+        drop(sum);
         let found = entries_after(&rt, rt.alloc(), matrices);
         assert!(rt; same_at(&rt, &matrices, &found, &Some(want)));
     }
