@@ -127,7 +127,9 @@ pub fn with_fields(
             .extend_from_slice(&value.to_be_bytes())
             .expect(rt, "memory");
     }
-    changed(rt, alloc, bytes, at, &fields)
+    let copy = changed(rt, alloc, bytes, at, &fields);
+    drop(fields);
+    copy
 }
 
 /// The bytes with others behind them.
@@ -138,7 +140,9 @@ pub fn followed(rt: &impl Abort, alloc: Global, bytes: &[u8], more: &[u8]) -> Ve
 /// What these bytes are read as, in pieces of `size`.
 pub fn read(rt: &impl Abort, alloc: Global, bytes: &[u8], size: usize) -> Snapshot {
     let mut script = source(rt, alloc, bytes, size, None);
-    read_snapshot(alloc, &mut script, MAX_BYTES).expect(rt, "a snapshot")
+    let snapshot = read_snapshot(alloc, &mut script, MAX_BYTES).expect(rt, "a snapshot");
+    drop(script);
+    snapshot
 }
 
 /// The fault of these bytes, in pieces of `size`.
@@ -150,7 +154,9 @@ pub fn fault_within(
     max_bytes: u64,
 ) -> Option<SnapFault> {
     let mut script = source(rt, alloc, bytes, size, None);
-    read_snapshot(alloc, &mut script, max_bytes).err()
+    let found = read_snapshot(alloc, &mut script, max_bytes).err();
+    drop(script);
+    found
 }
 
 /// The fault of these bytes, in one piece and byte by byte, where the two are the same.
@@ -171,5 +177,8 @@ pub fn fault_with(
     at: usize,
     values: &[u64],
 ) -> Option<SnapFault> {
-    fault(rt, alloc, &with_fields(rt, alloc, bytes, at, values))
+    let copy = with_fields(rt, alloc, bytes, at, values);
+    let found = fault(rt, alloc, &copy);
+    drop(copy);
+    found
 }

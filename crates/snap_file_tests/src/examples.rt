@@ -46,6 +46,7 @@ fn an_example_is_read(rt: HostRuntime) {
     expect_setup(&rt, &snapshot.setup);
     assert!(rt; same(&rt, &snapshot.list.batches.len(), &1));
     expect_batch(&rt, &snapshot.list.batches[0], (7, 1, 5), &[(0, 0, 5)]);
+    drop(snapshot);
 }
 
 #[test]
@@ -59,6 +60,7 @@ fn two_batches_are_read(rt: HostRuntime) {
         &[(0, 0, 5), (2, 1, 0)],
     );
     expect_batch(&rt, &snapshot.list.batches[1], (8, 1, 3), &[(0, 0, 3)]);
+    drop(snapshot);
 }
 
 // Whether bytes that are read are written as these.
@@ -68,7 +70,10 @@ fn come_as(rt: &impl Abort, alloc: Global, bytes: &[u8], expected: &[u8]) -> boo
     // Any call on it tells what it keeps.
     let list = &snapshot.list;
     let answer = write_snapshot(&mut script, &snapshot.setup, list);
-    answer == Ok(()) && script.written() == expected
+    let comes = answer == Ok(()) && script.written() == expected;
+    drop(script);
+    drop(snapshot);
+    comes
 }
 
 #[test]
@@ -93,14 +98,9 @@ static VERSIONS: &[(&[u8], SnapFault)] = &[
 fn versions_are_judged(rt: HostRuntime) {
     for (with, expected) in VERSIONS {
         let bytes = changed(&rt, rt.alloc(), ONE, 11, with);
-        assert!(rt;
-            same_at(
-                &rt,
-                &with,
-                &fault(&rt, rt.alloc(), &bytes),
-                &Some(*expected)
-            )
-        );
+        let found = fault(&rt, rt.alloc(), &bytes);
+        drop(bytes);
+        assert!(rt; same_at(&rt, &with, &found, &Some(*expected)));
     }
 }
 
@@ -123,9 +123,13 @@ static DAMAGES: &[(usize, &[u8], SnapFault)] = &[
 fn damages_are_found(rt: HostRuntime) {
     for (at, with, expected) in DAMAGES {
         let bytes = changed(&rt, rt.alloc(), ONE, *at, with);
-        assert!(rt; same_at(&rt, &at, &fault(&rt, rt.alloc(), &bytes), &Some(*expected)));
+        let found = fault(&rt, rt.alloc(), &bytes);
+        drop(bytes);
+        assert!(rt; same_at(&rt, &at, &found, &Some(*expected)));
         let bytes = changed(&rt, rt.alloc(), NEW_ONE, moved(*at), with);
-        assert!(rt; same_at(&rt, &at, &fault(&rt, rt.alloc(), &bytes), &Some(*expected)));
+        let found = fault(&rt, rt.alloc(), &bytes);
+        drop(bytes);
+        assert!(rt; same_at(&rt, &at, &found, &Some(*expected)));
     }
 }
 
@@ -134,6 +138,7 @@ fn bytes_behind_the_end_are_found(rt: HostRuntime) {
     for front in [ONE, NEW_ONE, FOLDED, BOTH] {
         let bytes = followed(&rt, rt.alloc(), front, b"\0");
         let found = fault(&rt, rt.alloc(), &bytes);
+        drop(bytes);
         assert!(rt; same_at(&rt, &front.len(), &found, &Some(SnapFault::ExtraBytes)));
     }
 }
@@ -146,6 +151,7 @@ fn the_first_byte_behind_the_end_is_told(rt: HostRuntime) {
         let found = fault_within(&rt, rt.alloc(), &bytes, size, 200);
         assert!(rt; same_at(&rt, &size, &found, &Some(SnapFault::ExtraBytes)));
     }
+    drop(bytes);
 }
 
 // The size of the pieces in which a byte comes behind the end, the limit of bytes, and the fault. With room for 127
@@ -164,6 +170,7 @@ fn a_byte_past_the_limit_is_too_long(rt: HostRuntime) {
         let found = fault_within(&rt, rt.alloc(), &bytes, *size, *most);
         assert!(rt; same_at(&rt, &(size, most), &found, &Some(*expected)));
     }
+    drop(bytes);
 }
 
 // The number of entries or batches of `ONE`, 2 in place of 1, and all from there on twice.
@@ -183,11 +190,11 @@ fn fault_of_repeat(
     from: usize,
 ) -> Option<SnapFault> {
     let front = changed(rt, alloc, bytes, at, b"\x02");
-    fault(
-        rt,
-        alloc,
-        &followed(rt, alloc, &front, bytes.get(from..).unwrap_or(&[])),
-    )
+    let whole = followed(rt, alloc, &front, bytes.get(from..).unwrap_or(&[]));
+    drop(front);
+    let found = fault(rt, alloc, &whole);
+    drop(whole);
+    found
 }
 
 #[test]
@@ -225,6 +232,7 @@ fn a_fault_before_the_limit_is_told(rt: HostRuntime) {
         let found = fault_within(&rt, rt.alloc(), &bytes, 126, most);
         assert!(rt; same_at(&rt, &most, &found, &Some(expected)));
     }
+    drop(bytes);
 }
 
 // Where a number of eight bytes stands in `ONE`, which declares more than there is memory for.
@@ -243,6 +251,7 @@ fn declared_numbers_reserve_nothing(rt: HostRuntime) {
         // The same where they end behind the number.
         let front = bytes.get(..102).unwrap_or(&[]);
         let found = fault_within(&rt, rt.alloc(), front, 126, MAX_BYTES);
+        drop(bytes);
         assert!(rt; same_at(&rt, &at, &found, &Some(SnapFault::Truncated)));
     }
 }

@@ -16,7 +16,9 @@ fn fault_failing(
 ) -> (Option<SnapFault>, u64) {
     let mut script = source(rt, alloc, bytes, 1, Some(failing));
     let fault = read_snapshot(alloc, &mut script, MAX_BYTES).err();
-    (fault, script.failures())
+    let failures = script.failures();
+    drop(script);
+    (fault, failures)
 }
 
 #[test]
@@ -47,7 +49,9 @@ fn stops_at(alloc: Global, snapshot: &Snapshot, bytes: &[u8], room: usize) -> bo
     let fault = WriteFault {
         written: room as u128,
     };
-    answer == Err(fault) && script.written() == &bytes[..room.min(bytes.len())]
+    let stops = answer == Err(fault) && script.written() == &bytes[..room.min(bytes.len())];
+    drop(script);
+    stops
 }
 
 #[test]
@@ -57,5 +61,6 @@ fn each_write_fails_in_turn(rt: HostRuntime) {
         for room in 0..bytes.len() {
             assert!(rt; holds_at(&rt, &room, stops_at(rt.alloc(), &snapshot, bytes, room)));
         }
+        drop(snapshot);
     }
 }

@@ -113,9 +113,13 @@ fn fields_are_judged_at_their_bounds(rt: HostRuntime) {
 fn bytes_are_judged_at_their_bounds(rt: HostRuntime) {
     for (at, value, expected) in BYTES {
         let bytes = changed(&rt, rt.alloc(), ONE, *at, &[*value]);
-        assert!(rt; same_at(&rt, &(value, at), &fault(&rt, rt.alloc(), &bytes), expected));
+        let found = fault(&rt, rt.alloc(), &bytes);
+        drop(bytes);
+        assert!(rt; same_at(&rt, &(value, at), &found, expected));
         let bytes = changed(&rt, rt.alloc(), NEW_ONE, moved(*at), &[*value]);
-        assert!(rt; same_at(&rt, &(value, at), &fault(&rt, rt.alloc(), &bytes), expected));
+        let found = fault(&rt, rt.alloc(), &bytes);
+        drop(bytes);
+        assert!(rt; same_at(&rt, &(value, at), &found, expected));
     }
 }
 

@@ -17,7 +17,12 @@ fn saved(rt: &HostRuntime, path: &str, snapshot: &Snapshot) -> Result<(), SaveFa
 // How many batches a file has, folded ones too.
 fn loaded_batches(rt: &HostRuntime, path: &str) -> Result<usize, FileFault> {
     match load(rt, rt.alloc(), path, MAX_BYTES) {
-        Ok(Snapshot { list, .. }) => Ok(list.folded.len().saturating_add(list.batches.len())),
+        Ok(snapshot) => {
+            let list = &snapshot.list;
+            let batches = list.folded.len().saturating_add(list.batches.len());
+            drop(snapshot);
+            Ok(batches)
+        }
         Err(fault) => Err(fault),
     }
 }
@@ -25,7 +30,11 @@ fn loaded_batches(rt: &HostRuntime, path: &str) -> Result<usize, FileFault> {
 // Whether a file has these bytes.
 fn holds(rt: &HostRuntime, path: &str, bytes: &[u8]) -> bool {
     match fs::read(rt, path) {
-        Ok(held) => held.as_slice() == bytes,
+        Ok(held) => {
+            let is_same = held.as_slice() == bytes;
+            drop(held);
+            is_same
+        }
         Err(_) => false,
     }
 }
@@ -43,7 +52,9 @@ fn what_is_saved_is_loaded(rt: HostRuntime) {
     let path = "/tmp/hhm_snap_file_saved";
     for (bytes, written, batches) in [(TWO, NEW_TWO, 2), (FOLDED, FOLDED, 1), (ONE, NEW_ONE, 1)] {
         let snapshot = read(&rt, rt.alloc(), bytes, bytes.len());
-        assert!(rt; same(&rt, &saved(&rt, path, &snapshot), &Ok(())));
+        let answer = saved(&rt, path, &snapshot);
+        drop(snapshot);
+        assert!(rt; same(&rt, &answer, &Ok(())));
         assert!(rt; is_whole(&rt, path, written, batches));
     }
     fs::remove_file(&rt, path).expect(&rt, "removed");
@@ -53,7 +64,9 @@ fn what_is_saved_is_loaded(rt: HostRuntime) {
 fn a_save_without_its_folder_fails(rt: HostRuntime) {
     let snapshot = read(&rt, rt.alloc(), ONE, ONE.len());
     let absent = "/tmp/hhm_snap_file_no_folder/file";
-    assert!(rt; same(&rt, &saved(&rt, absent, &snapshot), &Err(SaveFault::Create)));
+    let answer = saved(&rt, absent, &snapshot);
+    drop(snapshot);
+    assert!(rt; same(&rt, &answer, &Err(SaveFault::Create)));
 }
 
 // Saves under a name of a folder, which can't be made a file.
@@ -68,6 +81,7 @@ fn saved_as_folder(rt: &HostRuntime, snapshot: &Snapshot) -> io::Result<Result<(
 fn a_folder_is_not_replaced(rt: HostRuntime) {
     let snapshot = read(&rt, rt.alloc(), ONE, ONE.len());
     let answer = saved_as_folder(&rt, &snapshot).expect(&rt, "saved");
+    drop(snapshot);
     assert!(rt; same(&rt, &answer, &Err(SaveFault::Rename)));
 }
 
@@ -89,6 +103,7 @@ fn a_save_that_fails_leaves_the_file(rt: HostRuntime) {
     let path = "/tmp/hhm_snap_file_kept";
     fs::write(&rt, path, b"as it was".as_slice()).expect(&rt, "written");
     let answer = saved_beside_folder(&rt, path, &snapshot).expect(&rt, "saved");
+    drop(snapshot);
     assert!(rt; same(&rt, &answer, &Err(SaveFault::Create)));
     assert!(rt; holds(&rt, path, b"as it was"));
     fs::remove_file(&rt, path).expect(&rt, "removed");
@@ -121,6 +136,7 @@ fn a_link_beside_is_not_followed(rt: HostRuntime) {
     let snapshot = read(&rt, rt.alloc(), ONE, ONE.len());
     let (path, other) = ("/tmp/hhm_snap_file_linked", "/tmp/hhm_snap_file_other");
     let answer = saved_beside_link(&rt, path, other, &snapshot).expect(&rt, "saved");
+    drop(snapshot);
     let left = left_beside_link(&rt, path, other).expect(&rt, "saved");
     assert!(rt; same(&rt, &(answer, left), &(Ok(()), [true; 3])));
 }
@@ -140,14 +156,10 @@ fn mode_after(rt: &HostRuntime, snapshot: &Snapshot, mode: u32) -> io::Result<u3
 fn a_mode_is_kept(rt: HostRuntime) {
     let snapshot = read(&rt, rt.alloc(), ONE, ONE.len());
     for mode in [0o600, 0o640, 0o444, 0o666, 0o700] {
-        assert!(rt;
-            same(
-                &rt,
-                &mode_after(&rt, &snapshot, mode).expect(&rt, "saved"),
-                &mode
-            )
-        );
+        let found = mode_after(&rt, &snapshot, mode).expect(&rt, "saved");
+        assert!(rt; same(&rt, &found, &mode));
     }
+    drop(snapshot);
 }
 
 // What is no snapshot, and why. Devices aren't opened.

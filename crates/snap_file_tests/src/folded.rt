@@ -31,13 +31,9 @@ fn told(list: &BookList) -> (usize, usize, Option<Entry>, u64, u64, Option<u64>)
 #[test]
 fn a_folded_batch_is_read(rt: HostRuntime) {
     let snapshot = read(&rt, rt.alloc(), FOLDED, 1);
-    assert!(rt;
-        same(
-            &rt,
-            &told(&snapshot.list),
-            &(1, 0, Some(ENTRY), 1, 5, Some(5))
-        )
-    );
+    let found = told(&snapshot.list);
+    drop(snapshot);
+    assert!(rt; same(&rt, &found, &(1, 0, Some(ENTRY), 1, 5, Some(5))));
 }
 
 #[test]
@@ -53,6 +49,7 @@ fn a_batch_behind_it_is_read(rt: HostRuntime) {
     assert!(rt; same(&rt, &snapshot.list.batches.len(), &1));
     let batch = &snapshot.list.batches[0];
     let found = (batch.client, batch.number, batch.total);
+    drop(snapshot);
     assert!(rt; same(&rt, &found, &(8, 1, 3)));
 }
 
@@ -173,11 +170,11 @@ fn fault_of_repeat(
     from: usize,
 ) -> Option<SnapFault> {
     let front = with_fields(rt, alloc, FOLDED.get(..to).unwrap_or(&[]), at, &[2]);
-    fault(
-        rt,
-        alloc,
-        &followed(rt, alloc, &front, FOLDED.get(from..).unwrap_or(&[])),
-    )
+    let whole = followed(rt, alloc, &front, FOLDED.get(from..).unwrap_or(&[]));
+    drop(front);
+    let found = fault(rt, alloc, &whole);
+    drop(whole);
+    found
 }
 
 #[test]
@@ -201,11 +198,8 @@ fn declared_entries_reserve_nothing(rt: HostRuntime) {
         78,
         &[1_000_000],
     );
-    assert!(rt;
-        same(
-            &rt,
-            &fault(&rt, rt.alloc(), &many),
-            &Some(SnapFault::Truncated)
-        )
-    );
+    drop(most);
+    let found = fault(&rt, rt.alloc(), &many);
+    drop(many);
+    assert!(rt; same(&rt, &found, &Some(SnapFault::Truncated)));
 }

@@ -57,8 +57,10 @@ fn expect_save(
     assert!(rt; same_at(rt, &fail_at, &answer, &expected));
     assert!(rt; holds(&f, "a", held));
     assert!(rt; holds(&f, "b", b"other"));
+    let found = f.failures();
+    drop(f);
     let failures = if expected.is_ok() { 0 } else { 1 };
-    assert!(rt; same(rt, &f.failures(), &failures));
+    assert!(rt; same(rt, &found, &failures));
 }
 
 // The calls of a save, from 0, each with its fault: a file of up to 16 KiB is one write.
@@ -77,6 +79,7 @@ fn each_call_fails_in_turn(rt: HostRuntime) {
     }
     expect_save(&rt, rt.alloc(), &snapshot, Some(4), Ok(()), NEW_ONE);
     expect_save(&rt, rt.alloc(), &snapshot, None, Ok(()), NEW_ONE);
+    drop(snapshot);
 }
 
 #[test]
@@ -88,9 +91,14 @@ fn what_was_left_over_is_written_over(rt: HostRuntime) {
         &[("a.new", b"left over"), ("a", b"old")],
         None,
     );
-    assert!(rt; same(&rt, &saved(rt.alloc(), &mut f, &snapshot), &Ok(())));
-    assert!(rt; holds(&f, "a", NEW_ONE));
-    assert!(rt; f.file("a.new").is_none());
+    let answer = saved(rt.alloc(), &mut f, &snapshot);
+    drop(snapshot);
+    let is_saved = holds(&f, "a", NEW_ONE);
+    let is_moved = f.file("a.new").is_none();
+    drop(f);
+    assert!(rt; same(&rt, &answer, &Ok(())));
+    assert!(rt; is_saved);
+    assert!(rt; is_moved);
 }
 
 // A file is made in the place of one that has its name.
@@ -99,6 +107,7 @@ fn a_created_file_is_empty(rt: HostRuntime) {
     let mut f = folder(&rt, rt.alloc(), &[("new", b"was there")], None);
     assert!(rt; same(&rt, &f.create("new"), &Ok(())));
     assert!(rt; holds(&f, "new", b""));
+    drop(f);
 }
 
 // The first of two files of one name is told.
@@ -113,6 +122,7 @@ fn the_first_of_a_name_counts(rt: HostRuntime) {
     assert!(rt; holds(&f, "name", b"first"));
     assert!(rt; f.file("other").is_none());
     assert!(rt; same(&rt, &f.failures(), &0));
+    drop(f);
 }
 
 // Call number 1 fails, and no other; it leaves the file.
@@ -124,4 +134,5 @@ fn one_call_fails(rt: HostRuntime) {
     assert!(rt; holds(&f, "name", b"old"));
     assert!(rt; same(&rt, &f.create("name"), &Ok(())));
     assert!(rt; same(&rt, &f.failures(), &1));
+    drop(f);
 }
