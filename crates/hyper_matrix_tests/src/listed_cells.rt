@@ -5,22 +5,17 @@ use test_support::holds_at;
 
 #[test]
 fn cells_stand_behind_others(rt: HostRuntime) {
-    let m = built(
-        &rt,
-        rt.alloc(),
-        SIDE,
-        &grid(&rt, rt.alloc(), (600, 10, 4), 1, 2),
-    );
+    let cells = grid(&rt, rt.alloc(), (600, 10, 4), 1, 2);
+    let m = built(&rt, rt.alloc(), SIDE, &cells);
+    drop(cells);
     let front = [cell((7, 7, 7))];
     let mut list = Vec::from_slice(rt.alloc(), &front).expect(&rt, "memory");
     m.push_cells(&mut list).expect(&rt, "memory");
     let own = m.cells(rt.alloc()).expect(&rt, "memory");
+    drop(m);
     let (first, behind) = list.split_at(list.len().min(1));
-    assert!(rt;
-        holds_at(
-            &rt,
-            &list,
-            first == front.as_slice() && behind == own.as_slice()
-        )
-    );
+    let stands = first == front.as_slice() && behind == own.as_slice();
+    drop(own);
+    assert!(rt; holds_at(&rt, &list, stands));
+    drop(list);
 }

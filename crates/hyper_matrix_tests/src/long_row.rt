@@ -67,7 +67,11 @@ fn sums_rows(m: &Hyper) -> bool {
 fn row_over_blocks(rt: HostRuntime) {
     let cells = long_row(&rt, rt.alloc());
     let m = built(&rt, rt.alloc(), SIDE, &cells);
-    assert!(rt; has(&rt, rt.alloc(), &m, &cells));
-    assert!(rt; has_gaps(&m));
-    assert!(rt; sums_rows(&m));
+    let has_all = has(&rt, rt.alloc(), &m, &cells);
+    drop(cells);
+    let (gaps, sums) = (has_gaps(&m), sums_rows(&m));
+    drop(m);
+    assert!(rt; has_all);
+    assert!(rt; gaps);
+    assert!(rt; sums);
 }

@@ -83,9 +83,11 @@ fn first_wrong(
     let m = small(rt, alloc, list);
     for question in questions {
         if !is_answered(&m, *question) {
+            drop(m);
             return Some(*question);
         }
     }
+    drop(m);
     None
 }
 

@@ -58,12 +58,17 @@ pub fn built(rt: &impl Abort, alloc: Global, side: u64, cells: &[Cell]) -> Hyper
 
 /// The matrix of 3 by 3 of a list that has no fault.
 pub fn small(rt: &impl Abort, alloc: Global, triples: &[Triple]) -> Hyper {
-    built(rt, alloc, 3, &cells_of(rt, alloc, triples))
+    let cells = cells_of(rt, alloc, triples);
+    let m = built(rt, alloc, 3, &cells);
+    drop(cells);
+    m
 }
 
 fn listed(rt: &impl Abort, alloc: Global, m: &Hyper, want: &[Cell]) -> bool {
     let cells = m.cells(alloc).expect(rt, "memory");
-    cells.as_slice() == want
+    let is_same = cells.as_slice() == want;
+    drop(cells);
+    is_same
 }
 
 fn walked(m: &Hyper, want: &[Cell]) -> bool {
@@ -115,17 +120,23 @@ pub fn lent_sum_has(rt: &impl Abort, alloc: Global, a: &Hyper, b: &Hyper, want: 
         return false;
     }
     let sum = a.ewise_add(alloc, b).expect(rt, "memory");
-    has(rt, alloc, &sum, want)
+    let has_all = has(rt, alloc, &sum, want);
+    drop(sum);
+    has_all
 }
 
 // Whether the sum of two matrices that were given away has these cells.
 fn own_sum_has(rt: &impl Abort, alloc: Global, a: Hyper, b: Hyper, want: &[Cell]) -> bool {
     let fits = a.total().checked_add(b.total()).is_some();
     if a.dims() != b.dims() || !fits {
+        drop(a);
+        drop(b);
         return false;
     }
     let sum = a.into_sum(alloc, b).expect(rt, "memory");
-    has(rt, alloc, &sum, want)
+    let has_all = has(rt, alloc, &sum, want);
+    drop(sum);
+    has_all
 }
 
 // Whether a matrix that was given away and a list of cells in order have this sum.
@@ -137,10 +148,13 @@ fn list_sum_has(rt: &impl Abort, alloc: Global, a: Hyper, list: &[Cell], want: &
         None => false,
     };
     if !fits || !rises(list) {
+        drop(a);
         return false;
     }
     let sum = a.into_sum_with_cells(alloc, list).expect(rt, "memory");
-    has(rt, alloc, &sum, want)
+    let has_all = has(rt, alloc, &sum, want);
+    drop(sum);
+    has_all
 }
 
 // Whether two matrices have these cells as their sum: lent, as copies that share all blocks, and as a copy and a list of
@@ -153,11 +167,15 @@ fn sums_have(rt: &impl Abort, alloc: Global, a: &Hyper, b: &Hyper, want: &[Cell]
     let right = b.copy(alloc).expect(rt, "memory");
     let again = a.copy(alloc).expect(rt, "memory");
     let list = b.cells(alloc).expect(rt, "memory");
-    own_sum_has(rt, alloc, left, right, want) && list_sum_has(rt, alloc, again, &list, want)
+    let given = own_sum_has(rt, alloc, left, right, want);
+    let with_list = list_sum_has(rt, alloc, again, &list, want);
+    drop(list);
+    given && with_list
 }
 
 /// Whether two matrices add up to these cells either way round: as copies, as a list of cells, lent, and given away.
 pub fn adds_up(rt: &impl Abort, alloc: Global, a: Hyper, b: Hyper, want: &[Cell]) -> bool {
     let both = sums_have(rt, alloc, &a, &b, want) && sums_have(rt, alloc, &b, &a, want);
-    both && own_sum_has(rt, alloc, a, b, want)
+    let given = own_sum_has(rt, alloc, a, b, want);
+    both && given
 }

@@ -37,7 +37,9 @@ fn part_has(rt: &impl Abort, alloc: Global, m: &Hyper, (s, k): (u64, u64), want:
         return false;
     }
     let part = m.part(alloc, s, k).expect(rt, "memory");
-    part.dims() == m.dims() && has(rt, alloc, &part, want)
+    let has_all = part.dims() == m.dims() && has(rt, alloc, &part, want);
+    drop(part);
+    has_all
 }
 
 #[test]
@@ -45,14 +47,12 @@ fn shards_have_their_rows(rt: HostRuntime) {
     for (list, s, k, want) in PARTS {
         let m = small(&rt, rt.alloc(), list);
         let want = cells_of(&rt, rt.alloc(), want);
-        assert!(rt; m.dims() == (3, 3));
-        assert!(rt;
-            holds_at(
-                &rt,
-                &(list, s, k),
-                part_has(&rt, rt.alloc(), &m, (*s, *k), &want)
-            )
-        );
+        let dims = m.dims();
+        let has_all = part_has(&rt, rt.alloc(), &m, (*s, *k), &want);
+        drop(want);
+        drop(m);
+        assert!(rt; dims == (3, 3));
+        assert!(rt; holds_at(&rt, &(list, s, k), has_all));
     }
 }
 
@@ -71,11 +71,16 @@ fn tall(rt: &impl Abort, alloc: Global, n: u64, only: Option<u64>) -> Vec<Cell> 
 // A row of three cells lies in two blocks here and there.
 #[test]
 fn parts_of_many_blocks(rt: HostRuntime) {
-    let m = built(&rt, rt.alloc(), SIDE, &tall(&rt, rt.alloc(), 2000, None));
+    let cells = tall(&rt, rt.alloc(), 2000, None);
+    let m = built(&rt, rt.alloc(), SIDE, &cells);
+    drop(cells);
     for s in 0..5 {
         let want = tall(&rt, rt.alloc(), 2000, Some(s));
-        assert!(rt; holds_at(&rt, &s, part_has(&rt, rt.alloc(), &m, (s, 5), &want)));
+        let has_all = part_has(&rt, rt.alloc(), &m, (s, 5), &want);
+        drop(want);
+        assert!(rt; holds_at(&rt, &s, has_all));
     }
+    drop(m);
 }
 
 // Whether a part is that of shard s of k.
@@ -85,7 +90,10 @@ fn part_is(rt: &impl Abort, alloc: Global, m: &Hyper, (s, k): (u64, u64), part: 
     }
     let alone = m.part(alloc, s, k).expect(rt, "memory");
     let want = alone.cells(alloc).expect(rt, "memory");
-    part.dims() == m.dims() && has(rt, alloc, part, &want)
+    drop(alone);
+    let has_all = part.dims() == m.dims() && has(rt, alloc, part, &want);
+    drop(want);
+    has_all
 }
 
 // Whether the parts of all shards of k are those that `part` gives one by one.
@@ -107,10 +115,16 @@ fn all_parts(rt: &impl Abort, alloc: Global, m: &Hyper, list: &[Cell], k: u64) -
         return false;
     }
     match m.parts(alloc, k) {
-        Ok(parts) => parts_are(rt, alloc, m, k, &parts),
+        Ok(parts) => {
+            let are_same = parts_are(rt, alloc, m, k, &parts);
+            drop(parts);
+            are_same
+        }
         Err(_) => {
             let parts = m.parts(alloc, k).expect(rt, "memory");
-            has(rt, alloc, m, list) && parts_are(rt, alloc, m, k, &parts)
+            let are_same = has(rt, alloc, m, list) && parts_are(rt, alloc, m, k, &parts);
+            drop(parts);
+            are_same
         }
     }
 }
@@ -131,15 +145,22 @@ fn expect_parts(rt: &(impl Abort + Eprint), alloc: Global, list: &[Cell]) {
     for k in [1, 2, 3, 64] {
         assert!(rt; holds_at(rt, &(k, list), all_parts(rt, alloc, &m, list, k)));
     }
+    drop(m);
 }
 
 // No cell, a few, a thousand in one row, and so many in every row and in every 64th.
 #[test]
 fn parts_of_all_shards(rt: HostRuntime) {
     expect_parts(&rt, rt.alloc(), &[]);
-    expect_parts(&rt, rt.alloc(), &cells_of(&rt, rt.alloc(), ROWS));
-    expect_parts(&rt, rt.alloc(), &tall(&rt, rt.alloc(), 1000, None));
+    let few = cells_of(&rt, rt.alloc(), ROWS);
+    expect_parts(&rt, rt.alloc(), &few);
+    drop(few);
+    let many = tall(&rt, rt.alloc(), 1000, None);
+    expect_parts(&rt, rt.alloc(), &many);
+    drop(many);
     for step in [0, 1, 64] {
-        expect_parts(&rt, rt.alloc(), &steps(&rt, rt.alloc(), step));
+        let cells = steps(&rt, rt.alloc(), step);
+        expect_parts(&rt, rt.alloc(), &cells);
+        drop(cells);
     }
 }

@@ -65,13 +65,19 @@ fn plain_sum(rt: &impl Abort, alloc: Global, xs: &[Cell], ys: &[Cell]) -> Vec<Ce
             .push(cell((place.0, place.1, *count)))
             .expect(rt, "memory");
     }
+    drop(map);
     cells
 }
 
 fn builds_as_a_map(rt: &impl Abort, alloc: Global, shape: Shape) -> bool {
     let cells = scattered(rt, alloc, shape, 1);
     let want = plain_sum(rt, alloc, &cells, &[]);
-    has(rt, alloc, &built(rt, alloc, SIDE, &cells), &want)
+    let m = built(rt, alloc, SIDE, &cells);
+    drop(cells);
+    let has_all = has(rt, alloc, &m, &want);
+    drop(m);
+    drop(want);
+    has_all
 }
 
 fn adds_as_maps(rt: &impl Abort, alloc: Global, left: Shape, right: Shape) -> bool {
@@ -80,7 +86,11 @@ fn adds_as_maps(rt: &impl Abort, alloc: Global, left: Shape, right: Shape) -> bo
     let want = plain_sum(rt, alloc, &xs, &ys);
     let a = built(rt, alloc, SIDE, &xs);
     let b = built(rt, alloc, SIDE, &ys);
-    adds_up(rt, alloc, a, b, &want)
+    drop(xs);
+    drop(ys);
+    let fits = adds_up(rt, alloc, a, b, &want);
+    drop(want);
+    fits
 }
 
 #[test]

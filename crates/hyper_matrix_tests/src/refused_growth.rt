@@ -21,7 +21,11 @@ fn outlasts_refusal(
         return false;
     }
     match a.ewise_add(alloc, b) {
-        Ok(sum) => has(rt, alloc, &sum, want),
+        Ok(sum) => {
+            let has_all = has(rt, alloc, &sum, want);
+            drop(sum);
+            has_all
+        }
         Err(_) => has(rt, alloc, a, xs) && lent_sum_has(rt, alloc, a, b, want),
     }
 }
@@ -32,8 +36,14 @@ fn sum_outlasts_refusal(rt: &impl Abort, alloc: Global, shape: Triple) -> bool {
     let want = grid(rt, alloc, shape, 3, 1);
     let a = built(rt, alloc, SIDE, &ones);
     let b = built(rt, alloc, SIDE, &twos);
-    outlasts_refusal(rt, alloc, &a, &ones, &b, &want)
-        && outlasts_refusal(rt, alloc, &b, &twos, &a, &want)
+    let outlasts = outlasts_refusal(rt, alloc, &a, &ones, &b, &want)
+        && outlasts_refusal(rt, alloc, &b, &twos, &a, &want);
+    drop(a);
+    drop(b);
+    drop(ones);
+    drop(twos);
+    drop(want);
+    outlasts
 }
 
 #[test]

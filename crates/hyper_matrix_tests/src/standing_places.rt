@@ -6,10 +6,16 @@ use std::process::Abort;
 use test_support::holds_at;
 
 fn adds_to_standing(rt: &impl Abort, alloc: Global, shape: Triple) -> bool {
-    let a = built(rt, alloc, SIDE, &grid(rt, alloc, shape, 1, 1));
-    let b = built(rt, alloc, SIDE, &grid(rt, alloc, shape, 2, 0));
+    let ones = grid(rt, alloc, shape, 1, 1);
+    let a = built(rt, alloc, SIDE, &ones);
+    drop(ones);
+    let twos = grid(rt, alloc, shape, 2, 0);
+    let b = built(rt, alloc, SIDE, &twos);
+    drop(twos);
     let want = grid(rt, alloc, shape, 3, 1);
-    adds_up(rt, alloc, a, b, &want)
+    let fits = adds_up(rt, alloc, a, b, &want);
+    drop(want);
+    fits
 }
 
 #[test]

@@ -53,13 +53,20 @@ fn builds(rt: &impl Abort, alloc: Global, list: &[Triple], want: &[Triple]) -> b
     let lent = small(rt, alloc, list);
     let given = Hyper::build_list(alloc, 3, 3, cells_of(rt, alloc, list)).expect(rt, "a matrix");
     let same = lent.dims() == (3, 3) && given.dims() == (3, 3);
-    same && has(rt, alloc, &lent, &want) && has(rt, alloc, &given, &want)
+    let has_all = same && has(rt, alloc, &lent, &want) && has(rt, alloc, &given, &want);
+    drop(lent);
+    drop(given);
+    drop(want);
+    has_all
 }
 
 fn sums(rt: &impl Abort, alloc: Global, xs: &[Triple], ys: &[Triple], want: &[Triple]) -> bool {
     let a = small(rt, alloc, xs);
     let b = small(rt, alloc, ys);
-    adds_up(rt, alloc, a, b, &cells_of(rt, alloc, want))
+    let want = cells_of(rt, alloc, want);
+    let fits = adds_up(rt, alloc, a, b, &want);
+    drop(want);
+    fits
 }
 
 // The faults of a list, lent and given away.
@@ -102,7 +109,9 @@ fn reaches(rt: &impl Abort, alloc: Global, side: u64) -> bool
 {
     let corner = [cell((side - 1, side - 1, u64::MAX))];
     let m = built(rt, alloc, side, &corner);
-    m.dims() == (side, side) && has(rt, alloc, &m, &corner)
+    let has_all = m.dims() == (side, side) && has(rt, alloc, &m, &corner);
+    drop(m);
+    has_all
 }
 
 #[test]
@@ -110,5 +119,7 @@ fn greatest_dimensions(rt: HostRuntime) {
     assert!(rt; reaches(&rt, rt.alloc(), 1));
     assert!(rt; reaches(&rt, rt.alloc(), 1 << 60));
     let empty = Hyper::new(rt.alloc(), 1 << 60, 1);
-    assert!(rt; has(&rt, rt.alloc(), &empty, &[]) && empty.dims() == (1 << 60, 1));
+    let has_all = has(&rt, rt.alloc(), &empty, &[]) && empty.dims() == (1 << 60, 1);
+    drop(empty);
+    assert!(rt; has_all);
 }
