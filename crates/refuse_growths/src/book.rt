@@ -14,8 +14,16 @@ use std::sync::Arc;
 pub fn run(rt: &(impl RandomSource + Print), alloc: Global) -> Result<(), Stop> {
     let setup = small_setup()?;
     let mut shard = Shard::new(rt, alloc, &setup, 0)?;
-    let mut book = Book::new(rt, alloc, &setup)?;
-    run_example(rt, alloc, &setup, &mut shard, &mut book)
+    let told = match Book::new(rt, alloc, &setup) {
+        Ok(mut book) => {
+            let told = run_example(rt, alloc, &setup, &mut shard, &mut book);
+            drop(book);
+            told
+        }
+        Err(_) => Err(Stop::SetUp),
+    };
+    drop(shard);
+    told
 }
 
 fn run_example(
@@ -29,7 +37,10 @@ fn run_example(
     requires book { book.old.setup ≡ setup.now }
 {
     let b = batch(alloc, setup, 1)?;
-    take_in(rt, alloc, shard, &b)?;
+    if let Err(stop) = take_in(rt, alloc, shard, &b) {
+        drop(b);
+        return Err(stop);
+    }
     admit(rt, book, b)?;
     show_list(rt, alloc, book)?;
     Ok(())
@@ -73,9 +84,13 @@ fn admit(rt: &impl Print, book: &mut Book, b: Arc<Batch>) -> Result<(), Stop>
     if book.reserve(&b).is_err() {
         say(rt, "reserve refused");
         show_book(rt, book);
-        book.reserve(&b)?;
+        if book.reserve(&b).is_err() {
+            drop(b);
+            return Err(Stop::SetUp);
+        }
     }
     let Verdict::Fresh = book.look(&b) else {
+        drop(b);
         return Err(Stop::Fault);
     };
     let kept = book.admit(b);
@@ -101,5 +116,6 @@ fn list_at_last(
 fn show_list(rt: &impl Print, alloc: Global, book: &Book) -> Result<(), AllocError> {
     let list = list_at_last(rt, alloc, book)?;
     tell(rt, &[("list of batches", list.len() as u64)]);
+    drop(list);
     Ok(())
 }

@@ -17,9 +17,20 @@ use std::sync::Arc;
 pub fn run(rt: &(impl RandomSource + Print), alloc: Global) -> Result<(), Stop> {
     let setup = small_setup()?;
     let first = batch(alloc, &setup, 1)?;
-    let second = batch(alloc, &setup, 2)?;
-    let engine = engine_of(rt, alloc, setup, &first)?;
-    run_example(rt, alloc, engine, &first, &second)
+    let second = match batch(alloc, &setup, 2) {
+        Ok(second) => second,
+        Err(stop) => {
+            drop(first);
+            return Err(stop);
+        }
+    };
+    let told = match engine_of(rt, alloc, setup, &first) {
+        Ok(engine) => run_example(rt, alloc, engine, &first, &second),
+        Err(stop) => Err(stop),
+    };
+    drop(second);
+    drop(first);
+    told
 }
 
 fn run_example(
@@ -34,9 +45,14 @@ fn run_example(
     requires second_rows { (arc_value second.now).matrix.rows ≡ engine.setup.rows }
     requires second_cols { (arc_value second.now).matrix.cols ≡ engine.setup.cols }
 {
-    show_list(rt, alloc, &engine)?;
+    if show_list(rt, alloc, &engine).is_err() {
+        drop(engine);
+        return Err(Stop::SetUp);
+    }
     let mut engine = fold_at_last(rt, alloc, engine)?;
-    go_on(rt, alloc, &mut engine, first, second)
+    let told = go_on(rt, alloc, &mut engine, first, second);
+    drop(engine);
+    told
 }
 
 fn list_at_last(
@@ -58,6 +74,7 @@ fn list_at_last(
 fn show_list(rt: &impl Print, alloc: Global, engine: &PlainEngine) -> Result<(), AllocError> {
     let list = list_at_last(rt, alloc, engine)?;
     show_book_list(rt, &list);
+    drop(list);
     Ok(())
 }
 
@@ -67,7 +84,13 @@ fn fold_again(rt: &impl Print, alloc: Global, engine: PlainEngine) -> Result<Pla
 {
     tell(rt, &[("fold refused, folded", engine.folded())]);
     show_engine(rt, &engine);
-    engine.fold(alloc).map_err(|_| Stop::Fault)
+    match engine.fold(alloc) {
+        Ok(folded) => Ok(folded),
+        Err(handed_back) => {
+            drop(handed_back);
+            Err(Stop::Fault)
+        }
+    }
 }
 
 // Folds an engine, and where memory was refused again with the engine that was handed back.
@@ -112,7 +135,9 @@ fn show_load(
     let setup = engine.setup();
     let list = list_at_last(rt, alloc, engine)?;
     show_book_list(rt, &list);
-    show_loaded(rt, alloc, setup, &list)
+    let told = show_loaded(rt, alloc, setup, &list);
+    drop(list);
+    told
 }
 
 // Loads a list, and tells what the engine holds.
@@ -129,6 +154,7 @@ fn show_loaded(
     let loaded = load_at_last(rt, alloc, setup, list)?;
     tell(rt, &[("loaded folded", loaded.folded())]);
     show_engine(rt, &loaded);
+    drop(loaded);
     Ok(())
 }
 

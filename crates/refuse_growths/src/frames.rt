@@ -13,9 +13,15 @@ static SENT: &[u8] = b"\0\0\0\x4d\x01\0\0\0\0\0\0\0\x07\0\0\0\0\0\0\0\x01\
 /// Feeds the bytes of two requests in pieces, and takes the requests off.
 pub fn run(rt: &impl Print, alloc: Global) -> Result<(), Stop> {
     let mut frames = Frames::new(alloc);
-    feed_all(rt, alloc, &mut frames)?;
+    let told = run_example(rt, alloc, &mut frames);
+    drop(frames);
+    told
+}
+
+fn run_example(rt: &impl Print, alloc: Global, frames: &mut Frames) -> Result<(), Stop> {
+    feed_all(rt, alloc, frames)?;
     for _ in 0..3 {
-        show_next(rt, alloc, &mut frames)?;
+        show_next(rt, alloc, frames)?;
     }
     Ok(())
 }
@@ -61,6 +67,7 @@ fn next_at_last(
 fn show_next(rt: &impl Print, alloc: Global, frames: &mut Frames) -> Result<(), Stop> {
     let next = next_at_last(rt, alloc, frames)?;
     show_request(rt, &next);
+    drop(next);
     Ok(())
 }
 

@@ -24,7 +24,9 @@ type Opened<N, H> = (Engine<N, H>, Vec<Seat<N, H>>);
 pub fn run<R: Wait + Print + RandomSource>(rt: &R, alloc: Global) -> Result<(), Stop> {
     let setup = small_setup()?;
     let b = batch(alloc, &setup, 1)?;
-    run_with(rt, alloc, setup, &b)
+    let told = run_with(rt, alloc, setup, &b);
+    drop(b);
+    told
 }
 
 fn run_with<R: Wait + Print + RandomSource>(
@@ -40,7 +42,10 @@ fn run_with<R: Wait + Print + RandomSource>(
     // Names take no memory.
     match Names::new(rt, alloc, &plain, 2) {
         Ok(names) => run_named::<Brand, Brand, R>(rt, alloc, plain, names, b),
-        Err(_) => Err(Stop::Fault),
+        Err(_) => {
+            drop(plain);
+            Err(Stop::Fault)
+        }
     }
 }
 
@@ -60,10 +65,12 @@ fn run_named<N: Named, H: Ledger, R: Wait + Print>(
     let (engine, mut seats) = open_at_last::<N, H, R>(rt, alloc, plain, names)?;
     if let Err(stop) = show_seats(rt, alloc, &engine, &mut seats, b) {
         engine.end(rt);
+        drop(seats);
         return Err(stop);
     }
     let plain = close_at_last(rt, alloc, engine, seats)?;
     show_engine(rt, &plain);
+    drop(plain);
     Ok(())
 }
 
@@ -99,7 +106,10 @@ fn open_again<N: Named, H: Ledger>(
 {
     match Engine::<N, H>::open(alloc, plain, names) {
         Ok(opened) => Ok(opened),
-        Err(_) => Err(Stop::Fault),
+        Err(handed_back) => {
+            drop(handed_back);
+            Err(Stop::Fault)
+        }
     }
 }
 
@@ -135,9 +145,18 @@ fn close_again<N: Named, H: Ledger, R: Wait + Print>(
 // Ends what wasn't closed.
 fn not_closed<N: Named, H: Ledger, R: Wait + Print>(rt: &R, fault: CloseFault<N, H>) -> Stop {
     match fault {
-        CloseFault::SeatsMissing { engine, seats: _ } => engine.end(rt),
-        CloseFault::Memory { engine, seats: _ } => engine.end(rt),
-        CloseFault::RecordsDiffer { shards: _, book: _ } => (),
+        CloseFault::SeatsMissing { engine, seats } => {
+            engine.end(rt);
+            drop(seats);
+        }
+        CloseFault::Memory { engine, seats } => {
+            engine.end(rt);
+            drop(seats);
+        }
+        CloseFault::RecordsDiffer { shards, book } => {
+            drop(shards);
+            drop(book);
+        }
     }
     Stop::Fault
 }

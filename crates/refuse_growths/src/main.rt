@@ -35,7 +35,10 @@ static NAMES: &[&str] = &[
 
 fn main(rt: HostRuntime) -> ExitCode {
     match asked(&rt) {
-        Ok(Some(name)) => run(&rt, rt.alloc(), name.as_str()),
+        Ok(Some(name)) => {
+            run(&rt, rt.alloc(), name.as_str());
+            drop(name);
+        }
         Ok(None) => run_all(&rt, rt.alloc()),
         Err(stop) => say_stop(&rt, stop),
     }
@@ -45,7 +48,11 @@ fn main(rt: HostRuntime) -> ExitCode {
 /// The name of the scenario that is asked for, if one is.
 fn asked(rt: &HostRuntime) -> Result<Option<String>, Stop> {
     match env::args(rt) {
-        Ok(mut args) => Ok(args.nth(1)),
+        Ok(mut args) => {
+            let name = args.nth(1);
+            drop(args);
+            Ok(name)
+        }
         Err(error) if error.kind() == io::ErrorKind::OutOfMemory => Err(Stop::SetUp),
         Err(_) => Err(Stop::Fault),
     }

@@ -15,7 +15,9 @@ use std::sync::Arc;
 pub fn run(rt: &(impl RandomSource + Print), alloc: Global) -> Result<(), Stop> {
     let setup = small_setup()?;
     let mut engine = PlainEngine::new(rt, alloc, setup)?;
-    run_example(rt, alloc, &setup, &mut engine)
+    let told = run_example(rt, alloc, &setup, &mut engine);
+    drop(engine);
+    told
 }
 
 fn run_example(
@@ -27,8 +29,13 @@ fn run_example(
     requires { engine.old.setup ≡ setup.now }
 {
     let b = batch(alloc, setup, 1)?;
-    put_at_last(rt, alloc, engine, &b)?;
-    let repeat = put(alloc, engine, &b)?;
+    if let Err(stop) = put_at_last(rt, alloc, engine, &b) {
+        drop(b);
+        return Err(stop);
+    }
+    let answer = put(alloc, engine, &b);
+    drop(b);
+    let repeat = answer?;
     show_put(rt, &repeat);
     show_reads(rt, engine);
     Ok(())
@@ -48,7 +55,10 @@ pub fn engine_of(
     let mut engine = PlainEngine::new(rt, alloc, setup)?;
     match put(alloc, &mut engine, b) {
         Ok(Ok(_)) => Ok(engine),
-        _ => Err(Stop::SetUp),
+        _ => {
+            drop(engine);
+            Err(Stop::SetUp)
+        }
     }
 }
 

@@ -18,8 +18,12 @@ use std::sync::Arc;
 pub fn run(rt: &(impl RandomSource + Print), alloc: Global) -> Result<(), Stop> {
     let setup = small_setup()?;
     let b = batch(alloc, &setup, 1)?;
-    let engine = engine_of(rt, alloc, setup, &b)?;
-    show_reads(rt, alloc, &engine)
+    let answer = engine_of(rt, alloc, setup, &b);
+    drop(b);
+    let engine = answer?;
+    let told = show_reads(rt, alloc, &engine);
+    drop(engine);
+    told
 }
 
 fn show_reads(
@@ -38,7 +42,9 @@ fn show_view(rt: &impl Print, alloc: Global, engine: &PlainEngine) -> Result<(),
         return Err(Stop::Fault);
     };
     let view = view_at_last(rt, alloc, shard)?;
-    show_sum(rt, alloc, &view)?;
+    let told = show_sum(rt, alloc, &view);
+    drop(view);
+    told?;
     Ok(())
 }
 
@@ -46,6 +52,7 @@ fn show_sum(rt: &impl Print, alloc: Global, view: &ShardView) -> Result<(), Allo
     let sum = sum_at_last(rt, alloc, view)?;
     tell(rt, &[("view of batches", view.record_len())]);
     show_cells(rt, &sum);
+    drop(sum);
     Ok(())
 }
 
@@ -73,6 +80,7 @@ fn show_export(rt: &impl Print, alloc: Global, engine: &PlainEngine) -> Result<(
     let sum = export_at_last(rt, alloc, engine)?;
     tell(rt, &[("export of entries", sum.entries())]);
     show_cells(rt, &sum);
+    drop(sum);
     Ok(())
 }
 
@@ -100,7 +108,9 @@ fn show_load(
     let setup = engine.setup();
     let list = list_at_last(rt, alloc, engine)?;
     tell(rt, &[("list of batches", list.len() as u64)]);
-    show_loaded(rt, alloc, setup, &list)
+    let told = show_loaded(rt, alloc, setup, &list);
+    drop(list);
+    told
 }
 
 fn list_at_last(
@@ -130,6 +140,7 @@ fn show_loaded(
 {
     let loaded = load_at_last(rt, alloc, setup, list)?;
     show_engine(rt, &loaded);
+    drop(loaded);
     Ok(())
 }
 

@@ -122,6 +122,7 @@ fn show_export<N: Named, H: Ledger, R: Wait + Print>(
     let sum = export_at_last(rt, alloc, engine)?;
     tell(rt, &[("export of entries", sum.entries())]);
     show_cells(rt, &sum);
+    drop(sum);
     Ok(())
 }
 
@@ -148,6 +149,7 @@ fn show_list<N: Named, H: Ledger, R: Wait + Print>(
 ) -> Result<(), AllocError> {
     let list = list_at_last(rt, alloc, engine, seat)?;
     tell(rt, &[("list of batches", list.len() as u64)]);
+    drop(list);
     Ok(())
 }
 
@@ -175,5 +177,6 @@ fn show_all<N: Named, H: Ledger, R: Wait + Print>(
 ) -> Result<(), AllocError> {
     let list = all_at_last(rt, alloc, engine, seat)?;
     show_book_list(rt, &list);
+    drop(list);
     Ok(())
 }

@@ -24,13 +24,22 @@ const TURNS: u64 = 100;
 pub fn run(rt: &(impl RandomSource + Print), alloc: Global) -> Result<(), Stop> {
     let setup = small_setup()?;
     let mut engine = PlainEngine::new(rt, alloc, setup)?;
-    run_example(rt, alloc, &mut engine)
+    let told = run_example(rt, alloc, &mut engine);
+    drop(engine);
+    told
 }
 
 fn run_example(rt: &impl Print, alloc: Global, engine: &mut PlainEngine) -> Result<(), Stop> {
     let first = pieces(alloc, SENT, 60)?;
-    let second = pieces(alloc, SENT, 60)?;
-    let third = pieces(alloc, SENT, 60)?;
+    let Ok(second) = pieces(alloc, SENT, 60) else {
+        drop(first);
+        return Err(Stop::SetUp);
+    };
+    let Ok(third) = pieces(alloc, SENT, 60) else {
+        drop(second);
+        drop(first);
+        return Err(Stop::SetUp);
+    };
     serve_all(rt, alloc, engine, first, second, third);
     Ok(())
 }
@@ -49,6 +58,8 @@ fn serve_all(
     let is_second_whole = serve(rt, alloc, engine, second);
     if !is_first_whole || !is_second_whole {
         serve(rt, alloc, engine, third);
+    } else {
+        drop(third);
     }
 }
 
@@ -59,6 +70,7 @@ fn serve(rt: &impl Print, alloc: Global, engine: &mut PlainEngine, list: Vec<Vec
     let ended = serve_engine(alloc, &mut link, engine, TURNS);
     show_end(rt, ended);
     show_written(rt, &link);
+    drop(link);
     let status = engine.status();
     tell(rt, &[("batches", status.batches), ("total", status.total)]);
     ended == Ended::Closed { rest: 0 }

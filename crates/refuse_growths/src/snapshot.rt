@@ -36,9 +36,14 @@ const PATH: &str = "refuse_growths.snap";
 /// Reads a snapshot, writes it again, and saves and loads it.
 pub fn run(rt: &(impl Files + Print), alloc: Global) -> Result<(), Stop> {
     let first = pieces(alloc, BYTES, 50)?;
-    let second = pieces(alloc, BYTES, 50)?;
+    let Ok(second) = pieces(alloc, BYTES, 50) else {
+        drop(first);
+        return Err(Stop::SetUp);
+    };
     let snapshot = read_at_last(rt, alloc, first, second)?;
-    run_example(rt, alloc, &snapshot)
+    let told = run_example(rt, alloc, &snapshot);
+    drop(snapshot);
+    told
 }
 
 fn run_example(rt: &(impl Files + Print), alloc: Global, snapshot: &Snapshot) -> Result<(), Stop> {
@@ -55,7 +60,9 @@ fn run_example(rt: &(impl Files + Print), alloc: Global, snapshot: &Snapshot) ->
 
 fn read_from(alloc: Global, list: Vec<Vec<u8>>) -> Result<Snapshot, SnapFault> {
     let mut link = Script::new(alloc, list, None, None);
-    read_snapshot(alloc, &mut link, MAX_BYTES)
+    let answer = read_snapshot(alloc, &mut link, MAX_BYTES);
+    drop(link);
+    answer
 }
 
 // Reads a snapshot from the first of two lists of pieces, and where memory was refused from the second.
@@ -66,12 +73,18 @@ fn read_at_last(
     second: Vec<Vec<u8>>,
 ) -> Result<Snapshot, Stop> {
     match read_from(alloc, first) {
-        Ok(snapshot) => Ok(snapshot),
+        Ok(snapshot) => {
+            drop(second);
+            Ok(snapshot)
+        }
         Err(SnapFault::Memory) => {
             say(rt, "read refused");
             read_from(alloc, second).map_err(|_| Stop::Fault)
         }
-        Err(_) => Err(Stop::Fault),
+        Err(_) => {
+            drop(second);
+            Err(Stop::Fault)
+        }
     }
 }
 
@@ -96,12 +109,17 @@ fn write_at_last(rt: &impl Print, alloc: Global, snapshot: &Snapshot) -> Result<
             )],
         );
         show_link(rt, &link);
+        drop(link);
         if written(&mut again, snapshot).is_err() {
+            drop(again);
             return Err(Stop::Fault);
         }
         link = again;
+    } else {
+        drop(again);
     }
     show_link(rt, &link);
+    drop(link);
     Ok(())
 }
 
@@ -135,7 +153,9 @@ fn save_at_last(rt: &(impl Files + Print), alloc: Global, snapshot: &Snapshot) -
 // How many batches are loaded, and how many behind the folded ones.
 fn loaded(rt: &impl Files, alloc: Global) -> Result<(usize, usize), FileFault> {
     let snapshot = load(rt, alloc, PATH, MAX_BYTES)?;
-    Ok((snapshot.list.folded.len(), snapshot.list.batches.len()))
+    let lens = (snapshot.list.folded.len(), snapshot.list.batches.len());
+    drop(snapshot);
+    Ok(lens)
 }
 
 fn load_at_last(rt: &(impl Files + Print), alloc: Global) -> Result<(), Stop> {
