@@ -23,13 +23,17 @@ fn tcp_client<R: Wait + Clock + Net<Listener = TcpListener, Stream = TcpStream>>
     turns: &[Turn],
 ) -> io::Result<bool> {
     let mut stream = TcpStream::connect(rt, address)?;
-    are_answered(&mut stream, turns)
+    let answer = are_answered(&mut stream, turns);
+    drop(stream);
+    answer
 }
 
 // Whether a client over a Unix socket has each of its frames answered so.
 fn unix_client<R: Net>(rt: &R, path: &str, turns: &[Turn]) -> io::Result<bool> {
     let mut stream = UnixStream::connect(rt, path)?;
-    are_answered(&mut stream, turns)
+    let answer = are_answered(&mut stream, turns);
+    drop(stream);
+    answer
 }
 
 /// Whether a client of a server that says where it is has each of its frames answered so.
@@ -51,5 +55,6 @@ pub fn is_served<R: Wait + Clock + Net<Listener = TcpListener, Stream = TcpStrea
         Over::Tcp => tcp_client(rt, &place, turns),
         Over::Unix => unix_client(rt, &place, turns),
     };
+    drop(place);
     answer.unwrap_or(false)
 }

@@ -35,7 +35,11 @@ fn is_fault<
         sessions: 0,
         ..settings(rt, alloc, plan)
     };
-    run_server(rt, alloc, settings, &mut out).err() == *wanted
+    let fault = run_server(rt, alloc, settings, &mut out).err();
+    let is_wanted = fault == *wanted;
+    drop(fault);
+    drop(out);
+    is_wanted
 }
 
 // The fault where this address is taken.
@@ -81,7 +85,9 @@ fn there_are_one_to_32_workers(rt: HostRuntime) -> Result<(), Fail> {
             ..PLAIN
         };
         let wanted = fault_of(*wanted);
-        assert!(&rt; is_fault(&rt, rt.alloc(), &plan, None, &wanted));
+        let is_told = is_fault(&rt, rt.alloc(), &plan, None, &wanted);
+        drop(wanted);
+        assert!(&rt; is_told);
     }
     Ok(())
 }
@@ -89,27 +95,36 @@ fn there_are_one_to_32_workers(rt: HostRuntime) -> Result<(), Fail> {
 #[test]
 fn an_address_that_is_taken_is_told(rt: HostRuntime) -> Result<(), Fail> {
     let listener = TcpListener::bind(&rt, ANY_PORT)?;
-    let address = listener.local_addr()?.to_string(rt.alloc())?;
+    let place = listener.local_addr().expect(&rt, "address");
+    let address = place.to_string(rt.alloc()).expect(&rt, "memory");
     let plan = Plan {
         tcp: Some(&address),
         ..PLAIN
     };
     let wanted = taken(&rt, rt.alloc(), &address);
-    assert!(&rt; is_fault(&rt, rt.alloc(), &plan, None, &wanted));
+    let is_told = is_fault(&rt, rt.alloc(), &plan, None, &wanted);
+    drop(wanted);
+    drop(address);
+    drop(listener);
+    assert!(&rt; is_told);
     Ok(())
 }
 
 #[test]
 fn a_path_that_is_taken_stays(rt: HostRuntime) -> Result<(), Fail> {
     let path = "taken_test.socket";
-    let _listener = UnixListener::bind(&rt, path)?;
+    let listener = UnixListener::bind(&rt, path)?;
     let plan = Plan {
         unix: Some(path),
         ..PLAIN
     };
     let wanted = taken(&rt, rt.alloc(), path);
-    assert!(&rt; is_fault(&rt, rt.alloc(), &plan, None, &wanted));
-    assert!(&rt; fs::exists(&rt, path)?);
+    let is_told = is_fault(&rt, rt.alloc(), &plan, None, &wanted);
+    drop(wanted);
+    let stays = fs::exists(&rt, path).expect(&rt, "exists");
+    drop(listener);
+    assert!(&rt; is_told);
+    assert!(&rt; stays);
     fs::remove_file(&rt, path)?;
     Ok(())
 }
@@ -117,7 +132,9 @@ fn a_path_that_is_taken_stays(rt: HostRuntime) -> Result<(), Fail> {
 // Writes a file that is no snapshot.
 fn write_garbage(files: &impl Files, path: &str) -> io::Result<()> {
     let mut file = fs::create(files, path)?;
-    file.write_all(b"no snapshot at all")
+    let written = file.write_all(b"no snapshot at all");
+    drop(file);
+    written
 }
 
 #[test]
@@ -131,6 +148,7 @@ fn a_file_that_is_no_snapshot_is_refused(rt: HostRuntime) -> Result<(), Fail> {
     };
     let wanted = Some(ServerFault::File(FileFault::Snap(SnapFault::BadMark)));
     let refused = is_fault(&rt, rt.alloc(), &plan, None, &wanted);
+    drop(wanted);
     fs::remove_file(&rt, path)?;
     assert!(&rt; refused);
     Ok(())
@@ -155,7 +173,9 @@ fn a_failed_output_is_told_and_the_path_removed(rt: HostRuntime) -> Result<(), F
     };
     for room in [0, 10, 33, 34, 59, 60] {
         let wanted = output_fault(room);
-        assert!(&rt; is_fault(&rt, rt.alloc(), &plan, Some(room), &wanted));
+        let is_told = is_fault(&rt, rt.alloc(), &plan, Some(room), &wanted);
+        drop(wanted);
+        assert!(&rt; is_told);
         assert!(&rt; !fs::exists(&rt, path)?);
     }
     Ok(())

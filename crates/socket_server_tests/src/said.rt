@@ -15,7 +15,10 @@ pub struct Said<'a, R> {
 
 impl<'a, R: Wait> Write for Said<'a, R> {
     fn write(&mut self, buf: &[u8]) -> io::Result<usize> {
-        self.bytes.lock(self.rt).extend_from_slice(buf)?;
+        let mut guard = self.bytes.lock(self.rt);
+        let grown = guard.extend_from_slice(buf);
+        drop(guard);
+        grown?;
         Ok(buf.len())
     }
 
@@ -43,10 +46,12 @@ fn said_until_now<R: Wait>(
     words: &str,
 ) -> Result<Option<String>, AllocError> {
     let guard = bytes.lock(rt);
-    match std::str::from_utf8(guard.as_slice()) {
+    let found = match std::str::from_utf8(guard.as_slice()) {
         Ok(text) => behind(alloc, text, words),
         Err(_) => Ok(None),
-    }
+    };
+    drop(guard);
+    found
 }
 
 /// Waits until a line was said that begins with these words, for at most ten seconds, and gives what follows them.
@@ -57,8 +62,9 @@ pub fn await_line<R: Wait + Clock>(
     words: &str,
 ) -> Option<String> {
     for _ in 0..10_000 {
-        if let Ok(Some(line)) = said_until_now(rt, alloc, bytes, words) {
-            return Some(line);
+        match said_until_now(rt, alloc, bytes, words) {
+            Ok(Some(line)) => return Some(line),
+            other => drop(other),
         }
         thread::sleep(rt, Duration::from_millis(1));
     }
