@@ -172,6 +172,7 @@ fn joined(rt: &impl Abort, alloc: Global, replies: bool) -> Vec<u8> {
 fn link(rt: &impl Abort, alloc: Global) -> Script {
     let frames = joined(rt, alloc, false);
     let list = pieces(alloc, &frames, 1_000).expect(rt, "memory");
+    drop(frames);
     Script::new(alloc, list, None, None)
 }
 
@@ -179,6 +180,7 @@ fn link(rt: &impl Abort, alloc: Global) -> Script {
 fn taken_of(rt: &impl Abort, alloc: Global, link: &Script) -> Option<u64> {
     let replies = joined(rt, alloc, true);
     let begins = replies.as_slice().starts_with(link.written());
+    drop(replies);
     begins.then_some(link.written().len() as u64)
 }
 
@@ -202,7 +204,10 @@ fn found_at<R: Wait + Disk + RandomSource + Abort>(
     let sessions = sessions_in_turn(rt, alloc, 2, &mut once, second);
     let calls = (once.calls(), Source::failures(&once));
     let taken = taken_of(rt, alloc, once.inner().inner());
-    (sessions, calls, [taken, taken_of(rt, alloc, &whole)])
+    let taken = [taken, taken_of(rt, alloc, &whole)];
+    drop(once);
+    drop(whole);
+    (sessions, calls, taken)
 }
 
 // The session ends at the call that fails, and makes no further call. One behind it gets all 277 bytes of the replies.

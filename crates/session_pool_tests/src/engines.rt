@@ -76,7 +76,10 @@ fn send_session<R: Wait + Abort>(
     link: Script,
 ) {
     assert!(rt; Sink::failures(&link) == 0);
-    assert!(rt; sender.send(rt, Session::new(number, link)).is_ok());
+    let sent = sender.send(rt, Session::new(number, link));
+    let is_sent = sent.is_ok();
+    drop(sent);
+    assert!(rt; is_sent);
 }
 
 // A closed channel with sessions over these links, numbered in order.
@@ -91,6 +94,7 @@ fn queued<R: Wait + Abort>(
         send_session(rt, &sender, number, link);
         number = number.saturating_add(1);
     }
+    drop(sender);
     receiver
 }
 
@@ -135,7 +139,11 @@ pub fn pool_over<G: Gate<R> + Sync, R: Threads + Wait + Disk + RandomSource + Ab
 ) -> Outcome {
     let sessions = queued(rt, alloc, links);
     let (plain, names) = unopened(rt, alloc, seats);
-    pooled::<Brand, Brand, G, R>(rt, alloc, plain, names, workers, gate, saver, &sessions)
+    let outcome = pooled::<Brand, Brand, G, R>(
+        rt, alloc, plain, names, workers, gate, saver, &sessions,
+    );
+    drop(sessions);
+    outcome
 }
 
 /// What a pool did over sessions, or why it did nothing, and what is accepted then.
@@ -157,7 +165,10 @@ pub fn found_over<G: Gate<R> + Sync, R: Threads + Wait + Disk + RandomSource + A
 ) -> Found {
     let saver = Saver::new(None);
     let outcome = pool_over(rt, alloc, seats, workers, gate, &saver, links);
-    found_of(&outcome)
+    let found = found_of(&outcome);
+    drop(outcome);
+    drop(saver);
+    found
 }
 
 /// A pool started so many workers, which served so many sessions, and the engine has accepted this.
@@ -180,6 +191,7 @@ fn serve_link<N: Named, H: Ledger, L: Link, R: Wait + Disk + Abort>(
     let saver = Saver::new(None);
     let mut keeper = SeatKeeper::new(rt, engine, seat, &saver);
     let ended = serve(alloc, link, &mut keeper, 1 << 40);
+    drop(saver);
     let status = engine.status(seat);
     (ended, (status.batches, status.total))
 }
@@ -216,12 +228,10 @@ fn served_in_turn<N: Named, H: Ledger, L: Link, R: Wait + Disk + Abort>(
         None => None,
     };
     let closed = closed(rt, alloc, engine, seats);
-    (
-        after_first,
-        after_second,
-        accepted_by(&closed),
-        total_of_shards(&closed),
-    )
+    let accepted = accepted_by(&closed);
+    let total = total_of_shards(&closed);
+    drop(closed);
+    (after_first, after_second, accepted, total)
 }
 
 /// Serves a session over the first link and then one over the second, if there is one, by one of a new engine's seats.

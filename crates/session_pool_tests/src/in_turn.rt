@@ -87,10 +87,10 @@ fn found_of<R: Wait + Disk + RandomSource + Abort>(rt: &R, alloc: Global, case: 
     let mut first = link_of(rt, alloc, case);
     let mut second = link_of(rt, alloc, &WHOLE);
     let sessions = sessions_in_turn(rt, alloc, 1, &mut first, Some(&mut second));
-    (
-        sessions,
-        [has_taken(&first, case), has_taken(&second, &WHOLE)],
-    )
+    let taken = [has_taken(&first, case), has_taken(&second, &WHOLE)];
+    drop(first);
+    drop(second);
+    (sessions, taken)
 }
 
 // What is to become of a case and of the session behind it.
