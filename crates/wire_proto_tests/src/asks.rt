@@ -58,14 +58,18 @@ pub fn put_request(rt: &impl Abort, alloc: Global, pair: (u64, u64), text: &[u8]
 /// The frame of a put of this text.
 pub fn text_frame(rt: &impl Abort, alloc: Global, pair: (u64, u64), text: &[u8]) -> Vec<u8> {
     let request = put_request(rt, alloc, pair, text);
-    encode_request(alloc, &request).expect(rt, "a frame")
+    let answer = encode_request(alloc, &request);
+    drop(request);
+    answer.expect(rt, "a frame")
 }
 
 /// The frame of a put whose text is these bytes behind the banner line.
 pub fn put_frame(rt: &impl Abort, alloc: Global, pair: (u64, u64), tail: &[u8]) -> Vec<u8> {
     let mut text = Vec::from_slice(alloc, BANNER.as_bytes()).expect(rt, "memory");
     text.extend_from_slice(tail).expect(rt, "memory");
-    text_frame(rt, alloc, pair, text.as_slice())
+    let whole = text_frame(rt, alloc, pair, text.as_slice());
+    drop(text);
+    whole
 }
 
 // The bytes of cells: row, column and count of each, the high byte first.
@@ -77,7 +81,9 @@ fn bytes_of_cells(rt: &impl Abort, alloc: Global, cells: &[(u64, u64, u64)]) -> 
             .extend_from_slice(numbers.as_flattened())
             .expect(rt, "memory");
     }
-    Bytes::copy_from_slice(alloc, bytes.as_slice()).expect(rt, "memory")
+    let answer = Bytes::copy_from_slice(alloc, bytes.as_slice());
+    drop(bytes);
+    answer.expect(rt, "memory")
 }
 
 /// The frame of a put of these cells.
@@ -94,7 +100,9 @@ pub fn cells_frame(
         number: pair.1,
         cells,
     };
-    encode_request(alloc, &request).expect(rt, "a frame")
+    let answer = encode_request(alloc, &request);
+    drop(request);
+    answer.expect(rt, "a frame")
 }
 
 // The request of a frame that has no text.
@@ -114,7 +122,9 @@ fn short_request(ask: Ask) -> Option<Request>
 
 fn short_frame(rt: &impl Abort, alloc: Global, ask: Ask) -> Vec<u8> {
     let request = short_request(ask).expect(rt, "a request without text");
-    encode_request(alloc, &request).expect(rt, "a frame")
+    let answer = encode_request(alloc, &request);
+    drop(request);
+    answer.expect(rt, "a frame")
 }
 
 /// The bytes of a table's frame.
@@ -134,6 +144,7 @@ pub fn frames(rt: &impl Abort, alloc: Global, asks: &[Ask]) -> Vec<u8> {
     for ask in asks {
         let one = frame(rt, alloc, *ask);
         all.extend_from_slice(one.as_slice()).expect(rt, "memory");
+        drop(one);
     }
     all
 }
@@ -142,19 +153,26 @@ pub fn frames(rt: &impl Abort, alloc: Global, asks: &[Ask]) -> Vec<u8> {
 pub fn sizes(rt: &impl Abort, alloc: Global, session: &Session) -> (usize, usize) {
     let sent = frames(rt, alloc, session.0);
     let replies = bytes_of(rt, alloc, session.1);
-    (sent.len(), replies.len())
+    let lens = (sent.len(), replies.len());
+    drop(replies);
+    drop(sent);
+    lens
 }
 
 /// The frames of a session in pieces of one size.
 pub fn in_pieces(rt: &impl Abort, alloc: Global, session: &Session, size: usize) -> Vec<Vec<u8>> {
     let sent = frames(rt, alloc, session.0);
-    pieces(alloc, sent.as_slice(), size).expect(rt, "memory")
+    let answer = pieces(alloc, sent.as_slice(), size);
+    drop(sent);
+    answer.expect(rt, "memory")
 }
 
 /// The frames of a session in two pieces.
 pub fn in_halves(rt: &impl Abort, alloc: Global, session: &Session, at: usize) -> Vec<Vec<u8>> {
     let sent = frames(rt, alloc, session.0);
-    halves(alloc, sent.as_slice(), at).expect(rt, "memory")
+    let answer = halves(alloc, sent.as_slice(), at);
+    drop(sent);
+    answer.expect(rt, "memory")
 }
 
 /// A new engine of the small setup.
@@ -202,6 +220,8 @@ pub fn served(
     let (ended, link) = run(alloc, engine, list, failing);
     let status = engine.status();
     let is_it = link.written() == expected.as_slice();
+    drop(link);
+    drop(expected);
     (ended, is_it, (status.batches, status.total))
 }
 
@@ -226,7 +246,9 @@ pub fn answered_anew<R: RandomSource + Abort>(
     digits: &str,
 ) -> Outcome {
     let mut engine = PlainEngine::new(rt, alloc, setup).expect(rt, "memory");
-    answered(rt, alloc, &mut engine, sent, digits)
+    let outcome = answered(rt, alloc, &mut engine, sent, digits);
+    drop(engine);
+    outcome
 }
 
 /// What becomes of a session, and whether each frame that its table expects is a reply.
@@ -253,7 +275,9 @@ pub fn told_anew<R: RandomSource + Abort>(
     session: &Session,
 ) -> Checked {
     let mut engine = PlainEngine::new(rt, alloc, setup).expect(rt, "memory");
-    told(rt, alloc, &mut engine, session)
+    let checked = told(rt, alloc, &mut engine, session);
+    drop(engine);
+    checked
 }
 
 /// What is to become of a table's session.
@@ -274,5 +298,7 @@ pub fn served_twice<R: RandomSource + Abort>(
     let mut engine = small_engine(rt, alloc);
     let front = (session.1, len);
     let first = served(rt, alloc, &mut engine, list, failing, front);
-    (first, told(rt, alloc, &mut engine, session))
+    let second = told(rt, alloc, &mut engine, session);
+    drop(engine);
+    (first, second)
 }

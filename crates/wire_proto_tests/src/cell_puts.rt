@@ -197,14 +197,19 @@ fn is_served(rt: &impl Abort, alloc: Global, engine: &mut PlainEngine) -> bool {
     let replies = bytes_of(rt, alloc, MIXED.1);
     let list = in_pieces(rt, alloc, &MIXED, 60);
     let (ended, link) = run(alloc, engine, list, (None, None));
-    ended_well(ended, link.written(), replies.as_slice())
+    let well = ended_well(ended, link.written(), replies.as_slice());
+    drop(link);
+    drop(replies);
+    well
 }
 
 // Whether a session of a new engine ends so, and what becomes of one behind it.
 fn served_and_again<R: RandomSource + Abort>(rt: &R, alloc: Global) -> (bool, Checked) {
     let mut engine = small_engine(rt, alloc);
     let is_served = is_served(rt, alloc, &mut engine);
-    (is_served, told(rt, alloc, &mut engine, &MIXED))
+    let again = told(rt, alloc, &mut engine, &MIXED);
+    drop(engine);
+    (is_served, again)
 }
 
 // `rt try --test --fail-alloc N` refuses the Nth growth of each test.
@@ -231,7 +236,10 @@ fn most_cells_and(
     let mut cells = vec![in alloc; (2u64, 1u64, 3u64); 1_048_576].expect(rt, "memory");
     cells.extend_from_slice(put.1).expect(rt, "memory");
     let sent = cells_frame(rt, alloc, (7, put.0), cells.as_slice());
-    answered(rt, alloc, engine, sent.as_slice(), digits)
+    drop(cells);
+    let outcome = answered(rt, alloc, engine, sent.as_slice(), digits);
+    drop(sent);
+    outcome
 }
 
 const TAKEN: &str = "00000010 81 0000000000000000 0000000000300000";
@@ -243,6 +251,7 @@ fn most_and_one_more<R: RandomSource + Abort>(rt: &R, alloc: Global, setup: Setu
     let mut engine = PlainEngine::new(rt, alloc, setup).expect(rt, "memory");
     let taken = most_cells_and(rt, alloc, &mut engine, (1, &[]), TAKEN);
     let refused = most_cells_and(rt, alloc, &mut engine, (2, &[(3, 0, 1)]), TOO_MANY);
+    drop(engine);
     [taken, refused]
 }
 
@@ -258,7 +267,9 @@ fn frame_with_comment(rt: &impl Abort, alloc: Global, len: usize) -> Vec<u8> {
     let mut tail = vec![in alloc; b'%'; len].expect(rt, "memory");
     tail.extend_from_slice(b"\n3 3 1\n1 1 5\n")
         .expect(rt, "memory");
-    put_frame(rt, alloc, (7, 1), tail.as_slice())
+    let sent = put_frame(rt, alloc, (7, 1), tail.as_slice());
+    drop(tail);
+    sent
 }
 
 // A comment may have any length, so that a text may have more than 16 MiB.
@@ -268,6 +279,7 @@ fn a_text_of_more_than_16_mib_is_read(rt: HostRuntime) -> Result<(), Fail> {
     let reply = "00000010 81 0000000000000000 0000000000000005";
     let sent = frame_with_comment(&rt, rt.alloc(), 16_777_216);
     let found = answered_anew(&rt, rt.alloc(), setup, sent.as_slice(), reply);
+    drop(sent);
     assert!(rt; same(&rt, &found, &(CLOSED, true, (1, 5))));
     Ok(())
 }
@@ -282,7 +294,10 @@ fn large_and_small(rt: &impl Abort, alloc: Global) -> Vec<u8> {
         sent.extend_from_slice(put.as_slice()).expect(rt, "memory");
         sent.extend_from_slice(query.as_slice())
             .expect(rt, "memory");
+        drop(put);
     }
+    drop(query);
+    drop(cells);
     sent
 }
 
@@ -299,6 +314,7 @@ fn large_bodies_and_small_ones_in_turn(rt: HostRuntime) -> Result<(), Fail> {
     let setup = large_setup()?;
     let sent = large_and_small(&rt, rt.alloc());
     let found = answered_anew(&rt, rt.alloc(), setup, sent.as_slice(), BY_TURNS);
+    drop(sent);
     assert!(rt; same(&rt, &found, &(CLOSED, true, (3, 90_000))));
     Ok(())
 }

@@ -59,6 +59,7 @@ fn the_last_byte_of_the_last_frame_is_missing(rt: HostRuntime) -> Result<(), Fai
         let mut sent = frames(&rt, rt.alloc(), TWO_PUTS.0);
         sent.truncate(184);
         let list = pieces(rt.alloc(), sent.as_slice(), size).expect(&rt, "memory");
+        drop(sent);
         let found = served_twice(&rt, rt.alloc(), &TWO_PUTS, list, (None, None), 42);
         assert!(rt; same_at(&rt, &size, &found, &(CUT, wanted(&TWO_PUTS))));
     }

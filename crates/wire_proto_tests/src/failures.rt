@@ -78,6 +78,7 @@ const LOST: Outcome = (Ended::WriteFault { written: 3 }, true, (1, 5));
 fn a_batch_whose_reply_was_lost_counts_once(rt: HostRuntime) -> Result<(), Fail> {
     let sent = frame(&rt, rt.alloc(), FIVE);
     let list = pieces(rt.alloc(), sent.as_slice(), 100).expect(&rt, "memory");
+    drop(sent);
     let found = served_twice(&rt, rt.alloc(), &ONCE_MORE, list, (None, Some(3)), 3);
     assert!(rt; same(&rt, &found, &(LOST, wanted(&ONCE_MORE))));
     Ok(())

@@ -69,7 +69,11 @@ fn kind(request: &Request) -> u8 {
 
 fn next_kind(alloc: Global, frames: &mut Frames) -> Result<Option<u8>, FrameFault> {
     match frames.next(alloc) {
-        Ok(Some(request)) => Ok(Some(kind(&request))),
+        Ok(Some(request)) => {
+            let found = kind(&request);
+            drop(request);
+            Ok(Some(found))
+        }
         Ok(None) => Ok(None),
         Err(fault) => Err(fault),
     }
@@ -100,12 +104,16 @@ fn judge(rt: &impl Abort, alloc: Global, digits: &str) -> (bool, Judged, Option<
     let bytes = bytes_of(rt, alloc, digits);
     let mut frames = Frames::new(alloc);
     let none = feed_pieces(rt, alloc, &mut frames, bytes.as_slice(), 1);
+    drop(bytes);
     let first = next_kind(alloc, &mut frames);
     if first.is_ok() {
+        drop(frames);
         return (none, first, None);
     }
     frames.feed(alloc, &[0u8; 40]).expect(rt, "memory");
-    (none, first, Some(next_kind(alloc, &mut frames)))
+    let again = next_kind(alloc, &mut frames);
+    drop(frames);
+    (none, first, Some(again))
 }
 
 // A fault stays.
@@ -147,9 +155,12 @@ fn comes_whole(rt: &impl Abort, alloc: Global, text: &[u8]) -> [bool; 3] {
     let frame = text_frame(rt, alloc, pair, text);
     let mut frames = Frames::new(alloc);
     let none_before = feed_pieces(rt, alloc, &mut frames, frame.as_slice(), 65_536);
+    drop(frame);
     let request = frames.next(alloc).expect(rt, "a request");
     let is_it = text_of_put(&request, pair) == Some(text);
+    drop(request);
     let none_behind = next_kind(alloc, &mut frames) == Ok(None);
+    drop(frames);
     [none_before, is_it, none_behind]
 }
 
@@ -157,6 +168,7 @@ fn comes_whole(rt: &impl Abort, alloc: Global, text: &[u8]) -> [bool; 3] {
 fn a_longest_put_comes_whole_in_pieces(rt: HostRuntime) -> Result<(), Fail> {
     let text = vec![in rt.alloc(); 37u8; 67_108_848].expect(&rt, "memory");
     let found = comes_whole(&rt, rt.alloc(), text.as_slice());
+    drop(text);
     assert!(rt; same(&rt, &found, &[true; 3]));
     Ok(())
 }
@@ -165,7 +177,10 @@ fn a_longest_put_comes_whole_in_pieces(rt: HostRuntime) -> Result<(), Fail> {
 fn fault_of_put(rt: &impl Abort, alloc: Global, len: usize) -> Option<EncodeFault> {
     let text = vec![in alloc; 37u8; len].expect(rt, "memory");
     let request = put_request(rt, alloc, (7, 1), text.as_slice());
-    encode_request(alloc, &request).err()
+    let answer = encode_request(alloc, &request);
+    drop(request);
+    drop(text);
+    answer.err()
 }
 
 #[test]
@@ -207,7 +222,10 @@ static SPELLED: &[(Ask, &str)] = &[
 fn is_spelled(rt: &impl Abort, alloc: Global, ask: Ask, digits: &str) -> bool {
     let expected = bytes_of(rt, alloc, digits);
     let frame = frame(rt, alloc, ask);
-    frame.as_slice() == expected.as_slice()
+    let is_it = frame.as_slice() == expected.as_slice();
+    drop(frame);
+    drop(expected);
+    is_it
 }
 
 #[test]

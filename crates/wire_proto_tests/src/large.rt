@@ -35,7 +35,9 @@ fn half(rt: &impl Abort, alloc: Global, number: u64, first: u64) -> Vec<u8> {
         let col = (FIRST - 1).saturating_add(first).saturating_add(i);
         cells.push((MOST - 1, col, 1u64)).expect(rt, "memory");
     }
-    cells_frame(rt, alloc, (7, number), cells.as_slice())
+    let put = cells_frame(rt, alloc, (7, number), cells.as_slice());
+    drop(cells);
+    put
 }
 
 // The last three cells as a text.
@@ -58,8 +60,10 @@ fn all_and_export(rt: &impl Abort, alloc: Global) -> Vec<u8> {
     let second = half(rt, alloc, 2, HALF);
     sent.extend_from_slice(second.as_slice())
         .expect(rt, "memory");
+    drop(second);
     let rest = frames(rt, alloc, LAST);
     sent.extend_from_slice(rest.as_slice()).expect(rt, "memory");
+    drop(rest);
     sent
 }
 
@@ -70,9 +74,12 @@ type Sent = (Ended, Option<usize>);
 fn longest(rt: &impl Abort, alloc: Global, engine: &mut PlainEngine) -> Sent {
     let sent = all_and_export(rt, alloc);
     let list = pieces(alloc, sent.as_slice(), 65_536).expect(rt, "memory");
+    drop(sent);
     let (ended, link) = run(alloc, engine, list, (None, None));
     let reply = link.written().get(63..).unwrap_or(&[]);
-    (ended, text_len(reply))
+    let len = text_len(reply);
+    drop(link);
+    (ended, len)
 }
 
 const CLOSED: Ended = Ended::Closed { rest: 0 };
@@ -96,7 +103,9 @@ fn longest_and_longer<R: RandomSource + Abort>(
 ) -> (Sent, Checked) {
     let mut engine = PlainEngine::new(rt, alloc, setup).expect(rt, "memory");
     let first = longest(rt, alloc, &mut engine);
-    (first, told(rt, alloc, &mut engine, &LONGER))
+    let second = told(rt, alloc, &mut engine, &LONGER);
+    drop(engine);
+    (first, second)
 }
 
 #[test]

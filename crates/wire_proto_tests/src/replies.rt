@@ -102,7 +102,9 @@ fn is_read_alone(rt: &impl Abort, alloc: Global, digits: &str, reply: Reply) -> 
     let read = is_read(bytes.as_slice(), reply);
     let alone = has_no_reply_before(bytes.as_slice());
     bytes.push(0).expect(rt, "memory");
-    [read, alone, !is_reply(bytes.as_slice())]
+    let more = is_reply(bytes.as_slice());
+    drop(bytes);
+    [read, alone, !more]
 }
 
 #[test]
@@ -132,7 +134,9 @@ fn are_replies(written: &[u8]) -> bool {
 /// Whether these digits spell replies, one behind another.
 pub fn spells_replies(rt: &impl Abort, alloc: Global, digits: &str) -> bool {
     let bytes = bytes_of(rt, alloc, digits);
-    are_replies(bytes.as_slice())
+    let are_they = are_replies(bytes.as_slice());
+    drop(bytes);
+    are_they
 }
 
 // Whether each frame of some bytes is read as the next of these replies, and nothing stands behind the last.
@@ -191,10 +195,14 @@ static ANSWERS: &[Reply<'static>] = &[
 fn answers<R: RandomSource + Abort>(rt: &R, alloc: Global) -> (usize, bool) {
     let sent = frames(rt, alloc, TWO_PUTS);
     let list = pieces(alloc, sent.as_slice(), 1_000).expect(rt, "memory");
+    drop(sent);
     let mut engine = small_engine(rt, alloc);
     let (_ended, link) = run(alloc, &mut engine, list, (None, None));
     let written = link.written();
-    (written.len(), are_read(written, ANSWERS))
+    let found = (written.len(), are_read(written, ANSWERS));
+    drop(link);
+    drop(engine);
+    found
 }
 
 #[test]
@@ -226,7 +234,9 @@ static NONE: &[&str] = &[
 fn other_bytes_are_no_reply(rt: HostRuntime) -> Result<(), Fail> {
     for digits in NONE {
         let bytes = bytes_of(&rt, rt.alloc(), digits);
-        assert!(rt; holds_at(&rt, digits, !is_reply(bytes.as_slice())));
+        let is_one = is_reply(bytes.as_slice());
+        drop(bytes);
+        assert!(rt; holds_at(&rt, digits, !is_one));
     }
     Ok(())
 }
@@ -246,6 +256,7 @@ fn with_head(rt: &impl Abort, alloc: Global, head: &[u8], len: usize) -> Vec<u8>
     bytes
         .extend_from_slice(lines.as_slice())
         .expect(rt, "memory");
+    drop(lines);
     bytes
 }
 
@@ -255,6 +266,8 @@ fn a_text_is_read_up_to_the_longest_body(rt: HostRuntime) -> Result<(), Fail> {
     let longest = with_head(&rt, rt.alloc(), &[4, 0, 0, 0, 0x85], 67_108_864);
     let longer = with_head(&rt, rt.alloc(), &[4, 0, 0, 1, 0x85], 67_108_865);
     let found = (text_len(longest.as_slice()), is_reply(longer.as_slice()));
+    drop(longer);
+    drop(longest);
     assert!(rt; same(&rt, &found, &(Some(67_108_864), false)));
     Ok(())
 }

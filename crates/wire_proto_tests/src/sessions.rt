@@ -261,6 +261,7 @@ fn texts_are_refused(rt: HostRuntime) -> Result<(), Fail> {
     for (ask, digits) in REFUSED_TEXTS {
         let sent = frame(&rt, rt.alloc(), *ask);
         let found = answered_anew(&rt, rt.alloc(), setup, sent.as_slice(), digits);
+        drop(sent);
         assert!(rt; same_at(&rt, digits, &found, &REFUSED));
     }
     Ok(())
@@ -273,6 +274,7 @@ fn a_line_of_a_put_has_at_most_1024_bytes(rt: HostRuntime) -> Result<(), Fail> {
     let reply = "0000000a ff 0069 0000000000000002";
     let sent = put_frame(&rt, rt.alloc(), (7, 1), &[b' '; 1_025]);
     let found = answered_anew(&rt, rt.alloc(), setup, sent.as_slice(), reply);
+    drop(sent);
     assert!(rt; same(&rt, &found, &REFUSED));
     Ok(())
 }
@@ -309,7 +311,10 @@ fn ends_after<R: RandomSource + Abort>(rt: &R, alloc: Global, turns: u64) -> (En
     let mut link = Script::new(alloc, list, None, None);
     let mut engine = small_engine(rt, alloc);
     let ended = serve_engine(alloc, &mut link, &mut engine, turns);
-    (ended, link.written().len())
+    let len = link.written().len();
+    drop(engine);
+    drop(link);
+    (ended, len)
 }
 
 #[test]

@@ -140,7 +140,11 @@ fn served(rt: &impl Abort, alloc: Global, store: &mut Told, case: &Case) -> (End
     let list = pieces(alloc, sent.as_slice(), sent.len()).expect(rt, "memory");
     let mut link = Script::new(alloc, list, None, None);
     let ended = serve(alloc, &mut link, store, 100);
-    (ended, link.written() == expected.as_slice())
+    let is_it = link.written() == expected.as_slice();
+    drop(link);
+    drop(expected);
+    drop(sent);
+    (ended, is_it)
 }
 
 #[test]

@@ -42,7 +42,10 @@ fn served(rt: &impl Abort, alloc: Global, engine: &mut PlainEngine, call: u32) -
     let calls = (once.calls(), Source::failures(&once));
     let written = once.inner().inner().written();
     let begins = replies.as_slice().starts_with(written);
-    (ended, calls, (written.len() as u64, begins))
+    let len = written.len() as u64;
+    drop(once);
+    drop(replies);
+    (ended, calls, (len, begins))
 }
 
 // What became of the session, what was accepted then, and what became of one behind it over a link that doesn't fail.
@@ -54,6 +57,7 @@ fn served_anew<R: RandomSource + Abort>(rt: &R, alloc: Global, call: u32) -> Fou
     let slow = served(rt, alloc, &mut engine, call);
     let status = engine.status();
     let behind = told(rt, alloc, &mut engine, &TWO_PUTS);
+    drop(engine);
     (slow, (status.batches, status.total), behind)
 }
 
