@@ -157,7 +157,7 @@ def drawn_session(draw, model):
     sent, replies = b"", b""
     for _ in range(draw.randrange(14)):
         if draw.randrange(25) == 0:
-            # (no request is shorter than five bytes, so that a front of four is no whole one)
+            # (this one has 70 bytes)
             return sent + put_frame(1, 1, BANNER)[: draw.randrange(60)], replies
         frame, reply, goes_on = drawn_frame(draw, model)
         sent += frame
@@ -185,6 +185,7 @@ def compare_sessions(name, draw, model, server, count):
 
 
 def fold(name, path, model):
+    """Folds a snapshot, and compares how many batches are folded then and their total."""
     check(f"{name}: fold", program("fold", path), (f"folded {len(model.list)} total {model.total}\n", "", 0))
 
 
@@ -238,8 +239,10 @@ def put_at_once(link, seed, puts, lines):
         lines += [(of, *read_reply(stream)) for of in drawn]
 
 
-def read_at_once(link, ended, faults):
-    """Reads until all has been put: totals never grow less, and no export is above a status behind it."""
+def read_at_once(link, ended, faults, reads):
+    """Reads until all has been put: totals never grow less, and no export is above a status behind it. The last pair of
+    these is kept, which a reader that fails has not.
+    """
     stream = link.makefile("rb")
     last, last_batches = 0, 0
     while True:
@@ -251,6 +254,7 @@ def read_at_once(link, ended, faults):
             faults.append((last, exported, total, last_batches, batches))
         last, last_batches = exported, batches
         if is_last:
+            reads.append((exported, batches, total))
             return
 
 
@@ -291,8 +295,10 @@ def judge_refusals(lines, batches):
     places = {batch[0]: place for place, batch in enumerate(batches)}
     totals = [0, *(batch[2] for batch in batches)]
     refusals = [(of, *struct.unpack(">HQ", body)) for of, kind, body in lines if kind == 0xFF]
-    unfounded = [(of, code, detail) for of, code, detail in refusals
-                 if not has_reason(code, detail, added(many_cells(of)), places.get(of[:2]), batches, totals)]  # fmt: skip
+    unfounded = []
+    for of, code, detail in refusals:
+        if not has_reason(code, detail, added(many_cells(of)), places.get(of[:2]), batches, totals):
+            unfounded.append((of, code, detail))
     check("refusals without a reason", unfounded, [])
     check("the limit was reached", any(code == 31 for _, code, _ in refusals), True)
     check("each put was accepted or refused", {kind for _, kind, _ in lines} <= {0x81, 0xFF}, True)
@@ -302,9 +308,13 @@ def batches_of(path):
     """The batches of a snapshot in which nothing is folded: of each its pair and its counts."""
     with open(path, "rb") as file:
         data = file.read()
-    at = 44 - 16 + 1 + 8 * data[28]
-    (count,) = struct.unpack_from(">Q", data, at + 17)
-    at += 33 + 16
+    # Behind the mark, the version, the dimensions and the cuts: shards, limit, most batches, batches and total; then no
+    # folded batch and no cell of a base.
+    head = ">BQQQQQQ"
+    at = 29 + 8 * data[28]
+    _, _, _, count, _, folded, base = struct.unpack_from(head, data, at)
+    check("nothing is folded", (folded, base), (0, 0))
+    at += struct.calcsize(head)
     batches = []
     for _ in range(count):
         client, number, entries = struct.unpack_from(">QQQ", data, at)
@@ -342,10 +352,10 @@ def clients_agree_with_a_model(factor):
     path = os.path.join(servers.FOLDER, "at-once")
     words = ["--rows", str(AT_ONCE["rows"]), "--cols", str(AT_ONCE["cols"]), "--cuts", "16,64", "--shards", "4",
              "--limit", str(AT_ONCE["limit"]), "--workers", "6", "--snapshot", path]  # fmt: skip
-    lines, faults, ended = [[] for _ in range(4)], [], threading.Event()
+    lines, faults, reads, ended = [[] for _ in range(4)], [], [], threading.Event()
     with Server(words) as server:
         links = [server.link(n % 2 == 0) for n in range(6)]
-        readers = [threading.Thread(target=read_at_once, args=(link, ended, faults)) for link in links[4:]]
+        readers = [threading.Thread(target=read_at_once, args=(link, ended, faults, reads)) for link in links[4:]]
         puts = factor * AT_ONCE["puts"]
         writers = [threading.Thread(target=put_at_once, args=(links[n], n, puts, lines[n])) for n in range(4)]
         for thread in [*readers, *writers]:
@@ -364,6 +374,7 @@ def clients_agree_with_a_model(factor):
         judge_refusals(lines, batches)
         totals = [sum(counts.values()) for _, counts, _ in batches]
         check("the totals add up", [after for _, _, after in batches], list(accumulate(totals)))
+        check("what both readers found at last", reads, [(sum(totals), len(batches), sum(totals))] * 2)
         server.stop("at once", len(batches), sum(totals))
     compare_saved(path, batches)
 
