@@ -6,6 +6,7 @@ ghost use Rattle.std.specs.Prelude.{◌≡◌, ◌<◌};
 ghost use Rattle.batch_store.specs.Parts.{concerns, part_of};
 
 use hyper_matrix::Hyper;
+use hyper_rows::shard_of;
 
 /// Whether a cell, a stored zero too, lies in shard `s` of `k`. Reads the cells up to the first that does.
 pub fn has_part(m: &Hyper, s: u64, k: u64) -> bool
@@ -13,7 +14,7 @@ pub fn has_part(m: &Hyper, s: u64, k: u64) -> bool
     ensures { result ≡ concerns s k m.now.counts }
 {
     'seek: for cell in m.iter() {
-        if cell.row % k == s {
+        if shard_of(cell.row, k) == s {
             return true;
         }
     }
@@ -29,7 +30,7 @@ pub fn part_total(m: &Hyper, s: u64, k: u64) -> u64
     let _bound = m.total();
     let mut total = 0;
     'add: for cell in m.iter() {
-        if cell.row % k == s {
+        if shard_of(cell.row, k) == s {
             total += cell.count;
         }
     }

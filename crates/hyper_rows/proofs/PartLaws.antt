@@ -1,7 +1,10 @@
 -- The entries of one shard, and those of all shards, row by row.
-use Rattle.std.proofs.Common.{◌≡◌, ℕ, zero, suc, ◌+◌, ◌<◌, ◌%◌, true, false, cond, eqb, List, [], ◌∷◌, ◌++◌, map}
+use Rattle.std.proofs.Common.{◌≡◌, ℕ, zero, suc, ◌+◌, ◌-◌, ◌*◌, ◌<◌, ◌%◌, ◌^◌, bit_and, true, false, cond, eqb, List, [], ◌∷◌, ◌++◌, map}
 use Rattle.std.proofs.Common.{drop, set, get_or, length, replicate, append_assoc, refl, sym, ◌∙◌, ap, arith}
 use Rattle.std.specs.declared.vec.Vec.{Vec}
+use Rattle.std.proofs.Math.Nat.{mod-eq_of_lt}
+use Rattle.std.proofs.Math.Pow.{pow-lt}
+use Rattle.std.proofs.lemmas.Nat.{and_mask}
 use Rattle.std.proofs.lemmas.List.{append-nil, get_or-replicate, length-map, length-replicate, map-set}
 use Rattle.std.proofs.lemmas.List.Elements.{filter-append}
 use Rattle.std.proofs.lemmas.Bool.{eq-eqb, ne_eqb}
@@ -15,6 +18,13 @@ use Rattle.hyper_rows.proofs.SearchLaws.{cells_behind}
 pub part_entries-append : (s k : ℕ) (es fs : List (Place × ℕ)) →
     part_entries s k (es ++ fs) ≡ part_entries s k es ++ part_entries s k fs
 part_entries-append s k es fs = filter-append (λ (e : Place × ℕ). in_part s k e.0) es fs
+
+-- what a number leaves when divided by a power of two is its low bits
+pub low_bits : (row k bits : ℕ) → bits < 64 → k ≡ 1 * 2 ^ bits % 2 ^ 64 → bit_and row (k - 1) ≡ row % k
+low_bits row k bits within is =
+    let once : 1 * 2 ^ bits ≡ 2 ^ bits = omega arith in
+    let power : k ≡ 2 ^ bits = is ∙ ap (λ n. n % 2 ^ 64) once ∙ mod-eq_of_lt (pow-lt within) in
+    ap (λ p. bit_and row (p - 1)) power ∙ and_mask row bits ∙ ap (λ p. row % p) (sym power)
 
 -- a row lies in the shard as a whole, or not at all
 row_in : (s k row : ℕ) (es : Entries) → eqb (row % k) s ≡ true → part_entries s k (at_places row es) ≡ at_places row es

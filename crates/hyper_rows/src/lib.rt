@@ -11,6 +11,7 @@ mod run_cells;
 mod search;
 
 pub use build::rows_of_sorted;
+pub use part::shard_of;
 pub use rows::{Rows, push_heads, row_room};
 pub use run_cells::RunCells;
 pub use search::{RowSum, cell_at, first_from, is_before, partition_point, row_end, row_sum};

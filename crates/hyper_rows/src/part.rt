@@ -1,5 +1,5 @@
-//! The cells of one shard of a run, and those of all shards.
-ghost use Rattle.std.specs.Prelude.{◌≡◌, ◌<◌, ◌++◌, OnOk, length, map};
+//! In which shard a row lies; the cells of one shard of a run, and those of all shards.
+ghost use Rattle.std.specs.Prelude.{◌≡◌, ◌<◌, ◌++◌, ◌%◌, OnOk, length, map};
 ghost use Rattle.hyper_rows.specs.Rows.{cells_of};
 ghost use Rattle.hyper_rows.specs.Cells.{entry_of};
 ghost use Rattle.hyper_rows.specs.Parts.{listed, part_entries, with_parts};
@@ -7,6 +7,22 @@ ghost use Rattle.hyper_rows.specs.Parts.{listed, part_entries, with_parts};
 use crate::rows::{Rows, push_row};
 use cells::Cell;
 use std::alloc::AllocError;
+
+/// The shard of `k` in which a row lies: what the row's number leaves when divided by `k`.
+///
+/// Where `k` is a power of two that is the number's low bits, and nothing is divided: a division of 64 bits takes some
+/// tens of cycles, and each row of a matrix is asked for its shard.
+pub fn shard_of(row: u64, k: u64) -> u64
+    requires { 0 < k }
+    ensures { result ≡ row % k }
+{
+    let bits = k.trailing_zeros();
+    if bits < 64 && k == 1 << bits {
+        row & (k - 1)
+    } else {
+        row % k
+    }
+}
 
 impl Rows {
     /// Appends the cells of the rows whose number leaves `s` when divided by `k`, by row and then by column. Of the
@@ -19,7 +35,7 @@ impl Rows {
         let mut i = 0;
         'rows: while i < self.row_count() {
             let row = self.row(i);
-            if row % k == s {
+            if shard_of(row, k) == s {
                 push_row(out, row, self.entries(i))?;
             }
             i += 1;
@@ -28,7 +44,7 @@ impl Rows {
     }
 
     /// Appends the cells of each row to the list of its shard, of as many shards as there are lists: by row and then by
-    /// column. One division for each row.
+    /// column. Each row is asked for its shard once.
     pub fn push_parts(&self, lists: &mut [Vec<Cell>]) -> Result<(), AllocError>
         requires { 0 < length lists.old }
         ensures { OnOk result (listed lists.new ≡
@@ -38,7 +54,7 @@ impl Rows {
         let mut i = 0;
         'rows: while i < self.row_count() {
             let row = self.row(i);
-            let list = &mut lists[(row % k) as usize];
+            let list = &mut lists[shard_of(row, k) as usize];
             push_row(list, row, self.entries(i))?;
             i += 1;
         }

@@ -8,6 +8,7 @@ ghost use Rattle.plain_engine.specs.Records.{Follows};
 
 use batch_store::{Batch, Book, Shard};
 use hyper_matrix::Hyper;
+use hyper_rows::shard_of;
 
 // Whether two matrices have the same cells.
 fn same_cells(a: &Hyper, b: &Hyper) -> bool
@@ -50,7 +51,7 @@ pub fn is_part(own: &Hyper, whole: &Hyper, s: u64, k: u64) -> bool
 {
     let mut others = own.iter();
     'cells: for cell in whole.iter() {
-        if cell.row % k == s {
+        if shard_of(cell.row, k) == s {
             match others.next() {
                 Some(other) => {
                     if other != cell {

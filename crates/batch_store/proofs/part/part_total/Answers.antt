@@ -1,4 +1,4 @@
-use Rattle.std.proofs.Common.{◌∙◌, ap, arith}
+use Rattle.std.proofs.Common.{◌∙◌, sym, ap, arith}
 use Rattle.std.proofs.lemmas.Bool.{eq-eqb}
 use Rattle.hyper_matrix.specs.Counts.{count_sum}
 use Rattle.hyper_matrix.specs.Cells.{entry_of}
@@ -22,7 +22,7 @@ add-init c = record {
 pub overflow_add-total : goal.overflow_add-total
 overflow_add-total c =
     let this = ap (λ es. count_sum (part_entries c.args.s c.args.k es)) c.in-Some.ensures.steps in
-    let more = part_sum-more c.args.s c.args.k (entry_of c.in-Some.cell) c.next.new.self (eq-eqb _ _ c.if-cell-k.true)
+    let more = part_sum-more c.args.s c.args.k (entry_of c.in-Some.cell) c.next.new.self (eq-eqb _ _ (sym c.shard_of.ensures ∙ c.if-shard_of-s.true))
     in
     record {
       fits = omega (

@@ -9,12 +9,12 @@ use Rattle.hyper_rows.proofs.rows.Rows.push_parts.Goals as goal
 pub rows-preserved : goal.rows-preserved
 rows-preserved c =
     let k = length c.args.lists.now in
-    let j = c.row-row.result % k in
-    let d = c.index-lists-row.result in record {
+    let j = c.shard_of.result in
+    let d = c.index-lists-shard_of.result in record {
       within = omega (arith, c.rows-test.true, c.row_count.ensures.count);
       told = row_listed k c.rows.i j c.args.self.now c.rows.lists d c.push_row.new.out
           (omega (arith, c.rows-test.true, c.row_count.ensures.count)) (omega arith)
-          (ap (λ n. n % k) (sym c.row-row.ensures))
+          (ap (λ n. n % k) (sym c.row-row.ensures) ∙ sym c.shard_of.ensures)
           (c.in_ok-push_row.ensures ∙ (λ i. map entry_of (get_or c.rows.lists j d).items ++
           at_places (c.row-row.ensures i) (c.entries.ensures.value i)))
           ∙ c.rows.invariant.told;

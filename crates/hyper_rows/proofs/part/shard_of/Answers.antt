@@ -1,0 +1,5 @@
+use Rattle.hyper_rows.proofs.PartLaws.{low_bits}
+use Rattle.hyper_rows.proofs.part.shard_of.Goals as goal
+
+pub returns-then-k-bits : goal.returns-then-k-bits
+returns-then-k-bits c = low_bits c.args.row c.args.k _ c.if-bits-lt64.true c.if-k-bits.true
