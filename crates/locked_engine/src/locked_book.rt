@@ -1,5 +1,6 @@
 //! What stands behind the book's lock.
-ghost use Rattle.std.specs.Prelude.{◌≡◌, ◌+◌, ◌≤◌, ◌<◌, [], IfOk, IfErr, OnOk, OnErr, Ok, Some};
+ghost use Rattle.std.specs.Prelude.{◌≡◌, ◌+◌, ◌≤◌, ◌<◌, ◌++◌, List, [], ◌∷◌, IfOk, IfErr, OnOk, OnErr, Ok, Some};
+ghost use Rattle.batch_store.specs.declared.verdict.Entry.{Entry};
 ghost use Rattle.std.specs.Prelude.{drop, length};
 ghost use Rattle.std.specs.Bool.{OnTrue};
 ghost use mathlib.Core.List.{IsPrefix};
@@ -293,8 +294,7 @@ where
         self.admit_fresh(rt, first, second, seen, place, b)
     }
 
-    // Accepts a batch that is fresh, where the seat was shown all before it. Should the history be longer than the
-    // book, to which nothing leads, an empty place is published, which shows nothing new.
+    // Accepts a batch that is fresh, where the seat was shown all before it.
     fn admit_fresh<R: Wait>(
         &mut self,
         rt: &R,
@@ -322,22 +322,77 @@ where
         ensures seen_kept { OnErr result (seen.new ≡ seen.old) }
         ensures err { IfErr result (λ u. IsTold N.setup (summary_of (arc_value b)) seen.new (answer_of u)) }
     {
-        self.book.reserve(&b)?;
         let NextPlace { offered, own } = place;
-        let Some(mut writer) = self.writer.take() else {
+        let (next, writer) = self.ready(rt, offered, &b)?;
+        let _ = own.try_set(next.again());
+        *seen = next.again();
+        Ok(self.take_in(rt, first, second, b, next, writer))
+    }
+
+    // All that a fresh batch needs to be accepted: a free place in the book, the version with its entry, and the writer,
+    // which is taken out, with that version's place offered to readers. Should the history be longer than the book, to
+    // which nothing leads, an empty place is published, which shows nothing new.
+    fn ready<R: Wait>(
+        &mut self,
+        rt: &R,
+        offered: NextVersion<N>,
+        b: &Arc<Batch>,
+    ) -> Result<(Version<N>, VersionWriter<N>), NotAdmitted>
+        requires fresh { verdict_on self.old (arc_value b.now) ≡ Fresh }
+        ensures setup { self.new.setup ≡ self.old.setup }
+        ensures state { self.new.state ≡ self.old.state }
+        ensures room { OnOk result (0 < self.new.free) }
+        ensures next { IfOk result (λ r. r.0 ≡ entries_in self.old.state ++ summary_of (arc_value b.now) ∷ []) }
+        ensures err { IfErr result (λ u. (seen : List Entry) →
+            IsTold N.setup (summary_of (arc_value b.now)) seen (answer_of u)) }
+    {
+        self.book.reserve(b)?;
+        let Some(writer) = self.with_offered(rt, offered) else {
             return Err(NotAdmitted::Refused(PutFault::Memory));
         };
-        if writer.append(offered).is_err() {
-            put_back(rt, &mut self.writer, writer);
-            return Err(NotAdmitted::Refused(PutFault::Memory));
-        }
-        let Ok(next) = self.version.again().append(&self.word, entry_of(&b)) else {
+        let Ok(next) = self.version.again().append(&self.word, entry_of(b)) else {
             let writer = publish(rt, writer, &self.version);
             put_back(rt, &mut self.writer, writer);
             return Err(NotAdmitted::Refused(PutFault::RecordsDiffer));
         };
-        let _ = own.try_set(next.again());
-        *seen = next.again();
+        Ok((next, writer))
+    }
+
+    // Takes the writer out, where a place for the next version was offered to readers by it. Where that growth was
+    // refused it stays.
+    fn with_offered<R: Wait>(&mut self, rt: &R, offered: NextVersion<N>) -> Option<VersionWriter<N>>
+        ensures { self.new ≡ self.old }
+    {
+        let mut writer = self.writer.take()?;
+        if writer.append(offered).is_err() {
+            put_back(rt, &mut self.writer, writer);
+            return None;
+        }
+        Some(writer)
+    }
+
+    // Accepts a batch for which all is ready, and shows it to readers.
+    fn take_in<R: Wait>(
+        &mut self,
+        rt: &R,
+        first: &mut Share<N>,
+        second: &mut Share<H>,
+        b: Arc<Batch>,
+        next: Version<N>,
+        writer: VersionWriter<N>,
+    ) -> Kept
+        requires rows { (arc_value b).matrix.rows ≡ N.setup.rows }
+        requires cols { (arc_value b).matrix.cols ≡ N.setup.cols }
+        requires parts { (first.old.parts ≡ 1) × (second.old.parts ≡ 1) }
+        requires fresh { verdict_on self.old (arc_value b) ≡ Fresh }
+        requires room { 0 < self.old.free }
+        requires next { next ≡ entries_in self.old.state ++ summary_of (arc_value b) ∷ [] }
+        ensures state { self.new.state ≡ with_batch self.old.state (arc_value b) }
+        ensures kept { result ≡ kept (count_in self.old.state) (total_in self.old.state + batch_total (arc_value b)) }
+        ensures parts { (first.new.parts ≡ 1) × (second.new.parts ≡ 1) }
+        ensures first { first.new.amount ≡ first.old.amount + batch_total (arc_value b) }
+        ensures second { second.new.amount ≡ second.old.amount + batch_total (arc_value b) }
+    {
         let total = b.total;
         let LockedBook {
             book,
@@ -353,6 +408,6 @@ where
         let kept = book.admit(b);
         let writer = publish(rt, writer, version);
         put_back(rt, held, writer);
-        Ok(kept)
+        kept
     }
 }
