@@ -57,7 +57,7 @@ fn shard_lists(
 impl Hyper {
     /// The parts of all shards of `k`, in order: for each what `part` gives.
     ///
-    /// Reads the cells once, with one division for each row, and takes the time and memory of building a matrix of the
+    /// Reads the cells once, asks each row once for its shard, and takes the time and memory of building a matrix of the
     /// cells of each shard that has any. Lists of all cells, 24 bytes each, are held meanwhile; where the rows are
     /// spread evenly, each takes memory once. Where there is one shard, its part shares all blocks, as `copy`.
     ///
