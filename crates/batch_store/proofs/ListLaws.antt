@@ -1,11 +1,11 @@
 -- A list makes a batch, or has one first fault.
-use Rattle.std.proofs.Common.{◌≡◌, ◌≢◌, ℕ, suc, ◌+◌, ◌-◌, ◌^◌, ◌<◌, ◌≤◌, List, [], ◌∷◌, ◌++◌, ◌⊎◌, inl, inr, Some, None, refl}
+use Rattle.std.proofs.Common.{◌≡◌, ◌≢◌, ℕ, ◌+◌, ◌-◌, ◌^◌, ◌<◌, ◌≤◌, List, [], ◌∷◌, ◌⊎◌, inl, inr, Some, None, refl}
 use Rattle.std.proofs.Common.{Bool, true, false, cond, ltb, ◌&&◌, Option, sym, ◌∙◌, ap, subst, arith, length, length-append, get_or}
 use Rattle.std.proofs.lemmas.List.{get_or_append_left, get_or-append_right}
 use Rattle.std.proofs.lemmas.Bool.{cases_lt}
 use Rattle.std.proofs.lemmas.List.Elements.{All-get_or}
 use Rattle.cells.specs.declared.cell.Cell.{Cell}
-use Rattle.cells.specs.Bounds.{IsWithin, AreWithin}
+use Rattle.cells.specs.Bounds.{IsWithin}
 use Rattle.hyper_matrix.specs.Refusals.{first_fault, LeavesDimensions, PassesLimit, MakesMatrix}
 use Rattle.hyper_matrix.specs.declared.judge.BuildFault.{BuildFault}
 use Rattle.hyper_matrix.specs.declared.judge.BuildFault.TheVariants.{Memory as NoMemory, IndexOutOfRange as Outside}

@@ -3,7 +3,7 @@ use Rattle.std.proofs.Common.{◌≡◌, ℕ, Bool, true, false, cond, List, [],
 use Rattle.std.proofs.Common.{ap, arith, append-nil}
 use Rattle.std.specs.FinMap.{empty, get, get-empty}
 use Rattle.hyper_matrix.specs.Counts.{Place, place_cmp, Counts, plus, total, ewise_add, part, in_part}
-use Rattle.hyper_matrix.proofs.CountLaws.{same_counts, get-part, get-ewise_add, ewise_add-empty, ewise_add_comm}
+use Rattle.hyper_matrix.proofs.CountLaws.{same_counts, get-part, get-ewise_add, ewise_add-empty}
 use Rattle.hyper_matrix.proofs.CountLaws.{ewise_add_assoc, total-empty, total-ewise_add}
 use Rattle.layer_compaction.specs.Shared.{content}
 use Rattle.layer_compaction.proofs.LayerLemmas.{empty-ewise_add}
@@ -11,8 +11,8 @@ use Rattle.batch_store.specs.declared.verdict.Entry.{Entry}
 use Rattle.batch_store.specs.Batches.{Submission, entries_of}
 use Rattle.batch_store.specs.Accepted.{Accepted, IsBase, list_sum, summed, total_in, entries_in, with_batch, folded_into}
 use Rattle.batch_store.specs.Books.{list_total}
-use Rattle.batch_store.specs.Parts.{concerns, record_content, concerned, parts_of}
-use Rattle.batch_store.proofs.PartLaws.{part-unconcerned, record_content-concerned}
+use Rattle.batch_store.specs.Parts.{record_content, concerned, parts_of}
+use Rattle.batch_store.proofs.PartLaws.{record_content-concerned}
 use Rattle.batch_store.proofs.VerdictLaws.{total_of-append}
 
 pub part-ewise_add : (a b : Counts) (s k : ℕ) → part (ewise_add a b) s k ≡ ewise_add (part a s k) (part b s k)

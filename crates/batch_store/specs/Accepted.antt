@@ -13,7 +13,7 @@
 --                         own, and where nothing is folded it is empty
 use Rattle.std.specs.Prelude.{◌≡◌, ℕ, ◌-◌, List, [], ◌∷◌, ◌++◌, length, slice_get, nat_lt, if◌then◌else◌, refl}
 use Rattle.std.specs.Prelude.{Option, None}
-use Rattle.std.specs.Coded.{Coded, code_by, coded×, coded_ℕ, coded_list}
+use Rattle.std.specs.Coded.{Coded, code_by, coded×, coded_list}
 use Rattle.std.specs.FinMap.{empty}
 use Rattle.hyper_matrix.specs.Counts.{Counts, coded_counts, ewise_add, total}
 use Rattle.batch_store.specs.declared.verdict.Entry.{Entry}

@@ -10,7 +10,6 @@ use Rattle.std.specs.List.{IsDistinct, AllByRecursion, list_any}
 use Rattle.std.proofs.lemmas.List.Folds.{list_any-append}
 use Rattle.hyper_rows.proofs.CellLaws.{same_place}
 use Rattle.std.proofs.lemmas.Bool.{le-ltb, lt-leb}
-use Rattle.std.proofs.lemmas.List.{length-map, map-append}
 use Rattle.std.proofs.lemmas.Option.{none-some}
 use Rattle.batch_store.specs.declared.verdict.Entry.{Entry}
 use Rattle.batch_store.specs.declared.verdict.Verdict.{Verdict}

@@ -13,6 +13,7 @@ use Rattle.plain_engine.specs.Object.{verdict_in}
 use Rattle.plain_engine.specs.World.{Part, World, Event, part_for, parts_for, record_at, append_at, Delivers, Admits}
 use Rattle.plain_engine.specs.World.{RunsLocked, FindsFree, AllFollow, Starts, world, deliveries}
 use Rattle.plain_engine.specs.World.Event.{Admit, Deliver}
+use Rattle.plain_engine.proofs.WalkLaws.{no_items}
 use Rattle.plain_engine.proofs.WorldLaws.{record_at-same, record_at-other, length-append_at}
 
 -- the batches in flight for shard s
@@ -135,10 +136,6 @@ order-admit v w b u free a inv =
       ap length (waits_one s b v.shards v.shards below ∙ ap (λ (x : Bool). cond x (b ∷ []) []) is),
     )
 
-nothing : {A : Type 0} (xs : List A) → length xs ≡ 0 → xs ≡ []
-nothing [] h = refl
-nothing (x ∷ xs) h = absurd (omega arith)
-
 order-deliver : (v : Setting) (w : World) (b : Submission) (s : ℕ) (u : World) → Delivers w b s u → KeepsOrder v w →
     KeepsOrder v u
 order-deliver v w b s u d inv =
@@ -161,8 +158,8 @@ order-deliver v w b s u d inv =
         let long : length (waiting t d.before) + suc (length (waiting t d.behind)) ≤ 1 =
         omega (arith, inv.few t below, ap length now, length-append (waiting t d.before) (b ∷ waiting t d.behind))
         in
-        let before : waiting t d.before ≡ [] = nothing (waiting t d.before) (omega (arith, long)) in
-        let behind : waiting t d.behind ≡ [] = nothing (waiting t d.behind) (omega (arith, long)) in
+        let before : waiting t d.before ≡ [] = no_items (waiting t d.before) (omega (arith, long)) in
+        let behind : waiting t d.behind ≡ [] = no_items (waiting t d.behind) (omega (arith, long)) in
         let none : waiting t (d.before ++ d.behind) ≡ [] = waiting-append t d.before d.behind
         ∙ (λ i. before i ++ behind i) in
         let grown : record_at (append_at w.records s b) t ≡ record_at w.records t ++ b ∷ [] =

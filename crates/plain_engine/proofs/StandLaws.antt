@@ -1,15 +1,14 @@
 -- Shards at their places.
-use Rattle.std.proofs.Common.{◌≡◌, ℕ, zero, suc, ◌+◌, ◌<◌, ◌≤◌, ◌↔◌, List, [], ◌∷◌, ◌++◌, length, replicate, take, drop}
+use Rattle.std.proofs.Common.{◌≡◌, ℕ, zero, suc, ◌+◌, ◌<◌, ◌↔◌, List, [], ◌∷◌, ◌++◌, length, replicate, take, drop}
 use Rattle.std.proofs.Common.{get_or, sym, ◌∙◌, ap, subst, arith, add-one, drop-cons, length-take-le, length-append}
-use Rattle.std.specs.FinMap.{empty, len, len-empty, empty_of_len}
-use Rattle.hyper_matrix.specs.Counts.{Counts, place_cmp, total, ewise_add, part, parts}
-use Rattle.hyper_matrix.specs.Matrix.{Matrix, matrix}
+use Rattle.std.specs.FinMap.{empty}
+use Rattle.hyper_matrix.specs.Counts.{Counts, total, ewise_add, part, parts}
 use Rattle.hyper_matrix.proofs.CountLaws.{ewise_add-empty, ewise_add_assoc, parts_whole, total-empty, total-ewise_add}
 use Rattle.layer_compaction.specs.Shared.{content}
 use Rattle.layer_compaction.proofs.LayerLemmas.{empty-ewise_add}
 use Rattle.batch_store.specs.Setups.{Setting}
 use Rattle.batch_store.specs.Accepted.{Accepted, unfolded, summed}
-use Rattle.batch_store.specs.Parts.{record_content, concerned}
+use Rattle.batch_store.specs.Parts.{record_content}
 use Rattle.batch_store.specs.Books.{Register}
 use Rattle.batch_store.specs.Shards.{Holding, AreHeld}
 use Rattle.plain_engine.specs.Records.{Follows}

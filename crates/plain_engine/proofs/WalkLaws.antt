@@ -11,7 +11,7 @@ use Rattle.merged_cells.specs.Within.{LieWithin}
 use Rattle.hyper_matrix.specs.Shared.{LiesWithin}
 use Rattle.std.specs.List.{AllByRecursion}
 
-no_items : {X : Type 0} (xs : List X) → length xs ≡ 0 → xs ≡ []
+pub no_items : {X : Type 0} (xs : List X) → length xs ≡ 0 → xs ≡ []
 no_items [] e = refl
 no_items (x ∷ xs) e = absurd (omega arith)
 

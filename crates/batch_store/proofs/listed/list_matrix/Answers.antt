@@ -1,4 +1,4 @@
-use Rattle.std.proofs.Common.{◌∙◌, ap, Err, ◌≤◌, length, arith}
+use Rattle.std.proofs.Common.{◌∙◌, ap, Err, arith}
 use Rattle.batch_store.proofs.ListLaws.{built_makes, built_leaves, built_passes, built_none}
 use Rattle.batch_store.proofs.listed.list_matrix.Goals as goal
 

@@ -1,8 +1,7 @@
-use Rattle.std.proofs.Common.{◌≡◌, ◌∙◌, sym, subst, take, drop, false, true, ◌+◌, List, ℕ}
+use Rattle.std.proofs.Common.{◌∙◌, sym, subst, take, drop, ◌+◌, ℕ}
 use Rattle.std.specs.Prelude.{slice_index_or}
 use Rattle.std.proofs.lemmas.Result.{err_from_is_err_and}
 use Rattle.batch_store.specs.declared.verdict.Entry.{Entry}
-use Rattle.plain_engine.specs.Loads.{stands_among}
 use Rattle.plain_engine.proofs.LoadLaws.{AreJudged, none_judged, left_at, done_at, repeat_there, limit_there, judged_next}
 use Rattle.plain_engine.proofs.load.judge_folded.Goals as goal
 

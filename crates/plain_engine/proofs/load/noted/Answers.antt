@@ -1,4 +1,4 @@
-use Rattle.std.proofs.Common.{◌≡◌, ◌∙◌, Bool, ap, sym, refl, not, true, false}
+use Rattle.std.proofs.Common.{◌∙◌, ap, sym, not}
 use Rattle.plain_engine.proofs.LoadLaws.{pairs_noted, not_not}
 use Rattle.plain_engine.proofs.load.noted.Goals as goal
 

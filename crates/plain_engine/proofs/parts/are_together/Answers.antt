@@ -1,9 +1,9 @@
 use Rattle.std.proofs.Common.{◌≡◌, sym, ◌∙◌, ap, subst, arith, ℕ}
-use Rattle.hyper_matrix.specs.Counts.{Counts, part}
+use Rattle.hyper_matrix.specs.Counts.{part}
 use Rattle.hyper_matrix.specs.Matrix.{Matrix}
 use Rattle.plain_engine.specs.Records.{Follows}
 use Rattle.plain_engine.specs.Standing.{AreTogether}
-use Rattle.plain_engine.proofs.StandLaws.{stand_next, together_next, based_here}
+use Rattle.plain_engine.proofs.StandLaws.{stand_next, together_next}
 use Rattle.plain_engine.proofs.parts.are_together.Goals as goal
 
 pub shards-preserved : goal.shards-preserved

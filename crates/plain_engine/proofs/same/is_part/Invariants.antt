@@ -1,5 +1,4 @@
 use Rattle.std.proofs.Common.{◌≡◌, ◌↔◌}
-use Rattle.std.specs.FinMap.{entries}
 use Rattle.hyper_matrix.specs.Counts.{part}
 use Rattle.hyper_rows.specs.Parts.{part_entries}
 use Rattle.plain_engine.proofs.same.is_part.Given as goal

@@ -1,4 +1,4 @@
-use Rattle.std.proofs.Common.{◌≡◌, ap, Err}
+use Rattle.std.proofs.Common.{ap, Err}
 use Rattle.batch_store.proofs.ListLaws.{one_fault, never_refused}
 use Rattle.batch_store.proofs.batch.Batch.from_cells.Goals as goal
 

@@ -1,4 +1,4 @@
-use Rattle.std.proofs.Common.{refl, ap, ◌∙◌, Some, slice_get}
+use Rattle.std.proofs.Common.{ap, ◌∙◌, Some, slice_get}
 use Rattle.batch_store.specs.Accepted.{entries_in}
 use Rattle.batch_store.specs.Batches.{entry_of}
 use Rattle.batch_store.specs.Books.{Register}

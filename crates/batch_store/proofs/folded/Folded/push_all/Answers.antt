@@ -1,4 +1,4 @@
-use Rattle.std.proofs.Common.{◌∙◌, ap, sym, arith, refl, ◌++◌, append-nil}
+use Rattle.std.proofs.Common.{◌∙◌, sym, arith, refl, append-nil}
 use Rattle.batch_store.proofs.FoldLaws.{next_new, next_fits, next_told}
 use Rattle.batch_store.proofs.folded.Folded.push_all.Goals as goal
 
