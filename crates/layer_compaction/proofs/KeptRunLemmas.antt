@@ -1,7 +1,6 @@
 -- A layer that is made keeps what layers are to keep: the empty one, and one with a run more.
 use Rattle.std.proofs.Common.{◌≡◌, ℕ, ◌+◌, ◌<◌, ◌≤◌, ◌^◌, List, [], ◌∷◌, ◌++◌, sym, ◌∙◌, ap, subst, arith}
 use Rattle.std.specs.declared.sync.Arc.{Arc}
-use Rattle.std.specs.Arc.{arc_value}
 use Rattle.std.specs.FinMap.{len, len-empty}
 use Rattle.std.proofs.lemmas.List.{map-append}
 use Rattle.cells.specs.Bounds.{IsDimension}
@@ -10,7 +9,7 @@ use Rattle.hyper_matrix.specs.Matrix.{Matrix, matrix}
 use Rattle.hyper_matrix.proofs.CountLaws.{ewise_add-empty, ewise_add_comm, total-ewise_add, total-empty}
 use Rattle.layer_compaction.specs.Shared.{content, values, all_counts, HaveDims}
 use Rattle.layer_compaction.specs.Runs.{KeepsRuns, CountsPlaces}
-use Rattle.layer_compaction.proofs.LayerLemmas.{content-append, dims-append, pushed}
+use Rattle.layer_compaction.proofs.LayerLemmas.{content-append, dims-append}
 use Rattle.layer_compaction.proofs.RunLemmas.{len-ewise_add-le}
 
 pub keeps_none : {Z : Type 0} (r c : ℕ) (runs : List (Arc Matrix Z)) → IsDimension r → IsDimension c → runs ≡ [] →
@@ -23,40 +22,6 @@ keeps_none {Z} r c runs rows cols none = subst (λ l. KeepsRuns r c 0 0 (values 
   fits = omega (arith, total-empty);
   few = omega (arith, len-empty place_cmp ℕ);
 })
-
--- one run more
-module _ {Z : Type 0} (old new : List (Arc Matrix Z)) (run : Arc Matrix Z) (held : List Matrix) (m : Matrix)
-    (push : new ≡ old ++ run ∷ []) (old_are : values old ≡ held) (run_is : arc_value run ≡ m) where
-  values-more : values new ≡ held ++ m ∷ []
-  values-more = pushed old new run push ∙ ap (λ l. l ++ arc_value run ∷ []) old_are
-      ∙ ap (λ (x : Matrix). held ++ x ∷ []) run_is
-
-  content-pushed : content (all_counts (values new)) ≡ ewise_add m.counts (content (all_counts held))
-  content-pushed =
-      ap (λ l. content (all_counts l)) values-more
-      ∙ ap content (map-append (λ (x : Matrix). x.counts) held (m ∷ []))
-      ∙ content-append (all_counts held) (m.counts ∷ [])
-      ∙ ap (ewise_add (content (all_counts held))) (ewise_add-empty m.counts)
-      ∙ ewise_add_comm (content (all_counts held)) m.counts
-
-  keeps_pushed : (r c sum most : ℕ) → IsDimension r → IsDimension c → HaveDims r c held → m.rows ≡ r →
-      m.cols ≡ c → sum ≡ total m.counts + total (content (all_counts held)) → sum < 2 ^ 64 →
-      len m.counts + len (content (all_counts held)) ≤ most → KeepsRuns r c sum most (values new)
-  keeps_pushed r c sum most is_rows is_cols dims rows cols sum_is fits few =
-      let all = ap total content-pushed ∙ total-ewise_add m.counts (content (all_counts held)) in
-      record {
-        is_rows = is_rows;
-        is_cols = is_cols;
-        dims = subst (HaveDims r c) (sym values-more) (dims-append r c held (m ∷ []) dims (rows, cols, tt));
-        total_is = omega (arith, all, sum_is);
-        fits = omega (arith, all, sum_is, fits);
-        few = omega (
-          arith,
-          few,
-          ap len content-pushed,
-          len-ewise_add-le m.counts (content (all_counts held)),
-        );
-      }
 
 -- the runs of two layers
 module _ {Z : Type 0} (all : List (Arc Matrix Z)) (held more : List Matrix) (are : values all ≡ held ++ more) where
@@ -87,24 +52,27 @@ module _ {Z : Type 0} (all : List (Arc Matrix Z)) (held more : List Matrix) (are
       }
 
 -- the only run
-module _ {Z : Type 0} (old new : List (Arc Matrix Z)) (run : Arc Matrix Z) (m : Matrix) (push : new ≡ old ++ run ∷ [])
-    (none : old ≡ []) (run_is : arc_value run ≡ m) where
-  pub of_one : (p : ℕ × ℕ) → p ≡ (m.rows, m.cols) → matrix p.0 p.1 (content (all_counts (values new))) ≡ m
-  of_one p dims = ap (λ (q : ℕ × ℕ). matrix q.0 q.1 (content (all_counts (values new)))) dims
-      ∙ ap (matrix m.rows m.cols) (content-pushed old new run [] m push (ap values none) run_is
-      ∙ ewise_add-empty m.counts)
+module _ {Z : Type 0} (runs : List (Arc Matrix Z)) (m : Matrix) (are : values runs ≡ m ∷ []) where
+  pub of_one : (p : ℕ × ℕ) → p ≡ (m.rows, m.cols) → matrix p.0 p.1 (content (all_counts (values runs))) ≡ m
+  of_one p dims = ap (λ (q : ℕ × ℕ). matrix q.0 q.1 (content (all_counts (values runs)))) dims
+      ∙ ap (λ l. matrix m.rows m.cols (content (all_counts l))) are
+      ∙ ap (matrix m.rows m.cols) (ewise_add-empty m.counts)
 
   pub keeps_one : (p : ℕ × ℕ) (sum most : ℕ) → p ≡ (m.rows, m.cols) → IsDimension m.rows → IsDimension m.cols →
-      sum ≡ total m.counts → total m.counts < 2 ^ 64 → most ≡ len m.counts → KeepsRuns p.0 p.1 sum most (values new)
+      sum ≡ total m.counts → total m.counts < 2 ^ 64 → most ≡ len m.counts → KeepsRuns p.0 p.1 sum most (values runs)
   keeps_one p sum most dims rows cols sum_is fits most_is =
-      subst (λ (q : ℕ × ℕ). KeepsRuns q.0 q.1 sum most (values new)) (sym dims)
-      (keeps_pushed old new run [] m push (ap values none) run_is m.rows m.cols sum most rows cols tt (λ i. m.rows)
-      (λ i. m.cols) (omega (arith, sum_is, total-empty)) (omega (arith, sum_is, fits))
-      (omega (arith, most_is, len-empty place_cmp ℕ)))
+      subst (λ (q : ℕ × ℕ). KeepsRuns q.0 q.1 sum most (values runs)) (sym dims)
+      (subst (KeepsRuns m.rows m.cols sum most) (sym are) (record {
+        is_rows = rows;
+        is_cols = cols;
+        dims = (λ i. m.rows, λ i. m.cols, tt);
+        total_is = sum_is ∙ sym (ap total (ewise_add-empty m.counts));
+        fits = omega (arith, fits, ap total (ewise_add-empty m.counts));
+        few = omega (arith, most_is, ap len (ewise_add-empty m.counts));
+      }))
 
-  pub counts_one : (places : ℕ) → places ≡ len m.counts → CountsPlaces 1 places (values new)
-  counts_one places are = subst (CountsPlaces 1 places)
-      (sym (values-more old new run [] m push (ap values none) run_is)) (record {
-        within = omega arith;
-        places_are = are ∙ sym (ap len (ewise_add-empty m.counts));
-      })
+  pub counts_one : (places : ℕ) → places ≡ len m.counts → CountsPlaces 1 places (values runs)
+  counts_one places counted = subst (CountsPlaces 1 places) (sym are) (record {
+    within = omega arith;
+    places_are = counted ∙ sym (ap len (ewise_add-empty m.counts));
+  })

@@ -3,11 +3,12 @@
 //! A look-up asks every run of every layer, and most have no entry at the place: a filter mostly answers that from one
 //! word, where a bisection reads several that no cache holds. A run that is soon added up with others, or whose filter
 //! would hold up an addition, goes without one, and may get it later. Only time rests on which have one.
-ghost use Rattle.std.specs.Prelude.{◌≡◌, ◌<◌, length, IfOk, IfSome};
+ghost use Rattle.std.specs.Prelude.{◌≡◌, ◌<◌, ◌∷◌, [], length, IfOk, IfSome};
+ghost use Rattle.std.specs.Arc.{arc_value};
 ghost use Rattle.layer_compaction.specs.Shared.{values};
 
 use crate::limits::FEWEST_FILTERED;
-use crate::runs::push_runs;
+use crate::runs::{run_of, shared_runs};
 use filtered_matrix::FilteredMatrix;
 use hyper_matrix::Hyper;
 use std::alloc::{AllocError, Global};
@@ -24,6 +25,28 @@ pub fn filtered_to(alloc: Global, m: Hyper, most: u64) -> Result<FilteredMatrix,
     FilteredMatrix::with_filter(alloc, m)
 }
 
+/// As `filtered_to`, as a run.
+pub fn filtered_run(alloc: Global, m: Hyper, most: u64) -> Result<Arc<FilteredMatrix>, AllocError>
+    ensures { IfOk result (λ run. arc_value run ≡ m) }
+{
+    let filtered = filtered_to(alloc, m, most)?;
+    run_of(alloc, filtered)
+}
+
+/// As `filtered_run`, as the only run.
+pub fn single_run(
+    alloc: Global,
+    m: Hyper,
+    most: u64,
+) -> Result<Vec<Arc<FilteredMatrix>>, AllocError>
+    ensures { IfOk result (λ runs. values runs.items ≡ m ∷ []) }
+{
+    let run = filtered_run(alloc, m, most)?;
+    let mut runs = Vec::with_capacity(alloc, 1)?;
+    runs.push(run)?;
+    Ok(runs)
+}
+
 /// The place of the first run without a filter that has `FEWEST_FILTERED` entries or more.
 pub fn first_unfiltered(runs: &[Arc<FilteredMatrix>]) -> Option<usize>
     ensures { IfSome result (λ place. place < length runs.now) }
@@ -37,6 +60,15 @@ pub fn first_unfiltered(runs: &[Arc<FilteredMatrix>]) -> Option<usize>
     None
 }
 
+// A copy of a run, which shares its blocks, with a filter.
+fn filtered_copy(run: &FilteredMatrix, alloc: Global) -> Result<Arc<FilteredMatrix>, AllocError>
+    ensures { IfOk result (λ copy. arc_value copy ≡ run.now) }
+{
+    let copy = run.matrix().copy(alloc)?;
+    let filtered = FilteredMatrix::with_filter(alloc, copy)?;
+    run_of(alloc, filtered)
+}
+
 /// The runs with a filter beside the one at a place, a copy that shares its blocks. All others are shared.
 pub fn with_filter_at(
     runs: &[Arc<FilteredMatrix>],
@@ -46,10 +78,8 @@ pub fn with_filter_at(
     requires { place < length runs.now }
     ensures { IfOk result (λ after. values after.items ≡ values runs.now) }
 {
-    let mut after = Vec::with_capacity(alloc, runs.len())?;
-    push_runs(&mut after, runs)?;
-    let copy = after[place].matrix().copy(alloc)?;
-    let filtered = FilteredMatrix::with_filter(alloc, copy)?;
-    after[place] = Arc::new(alloc, filtered)?;
+    let copy = filtered_copy(&runs[place], alloc)?;
+    let mut after = shared_runs(alloc, runs, runs.len())?;
+    after[place] = copy;
     Ok(after)
 }

@@ -17,12 +17,12 @@ ghost use Rattle.layer_compaction.specs.Shared.{content, values, all_counts, Hav
 ghost use Rattle.layer_compaction.specs.Runs.{CountsPlaces};
 ghost use Rattle.layer_compaction.specs.Steps.{joined, Takes};
 
-use crate::filters::{filtered_to, first_unfiltered, with_filter_at};
+use crate::filters::{first_unfiltered, single_run, with_filter_at};
 use crate::limits::{GATHERED_RUNS, KEPT_RUNS, MAX_COUNTED, MAX_LISTED, MAX_RUNS};
 use crate::lists::{add_runs, entries_bound, push_cells_of};
 use crate::pairs::{due_pair, kept_in_front, with_pair_added, with_rest_added};
 use crate::runs::{
-    added_to_runs, count_in, entries_in, places_to, push_runs, row_counts_in, sum_of_runs,
+    added_to_runs, count_in, entries_in, places_to, push_runs, row_counts_in, shared_runs,
 };
 use cells::Cell;
 use filtered_matrix::FilteredMatrix;
@@ -100,10 +100,7 @@ impl Layer {
     {
         let (rows, cols) = m.dims();
         let (total, most) = (m.total(), m.entries());
-        let filtered = filtered_to(alloc, m, most_filtered)?;
-        let run = Arc::new(alloc, filtered)?;
-        let mut runs = Vec::with_capacity(alloc, 1)?;
-        runs.push(run)?;
+        let runs = single_run(alloc, m, most_filtered)?;
         Ok(Layer {
             rows,
             cols,
@@ -224,8 +221,7 @@ impl Layer {
         let Some(most) = m.most.checked_add(self.most) else {
             return Err(AllocError);
         };
-        let mut runs = Vec::with_capacity(alloc, self.runs.len() + m.runs.len())?;
-        push_runs(&mut runs, &self.runs)?;
+        let mut runs = shared_runs(alloc, &self.runs, self.runs.len() + m.runs.len())?;
         push_runs(&mut runs, &m.runs)?;
         Ok(Layer {
             rows: self.rows,
@@ -285,8 +281,7 @@ impl Layer {
             .max(2)
             .min(self.runs.len());
         let places = places_to(alloc, &self.runs, self.counted, self.places, until)?;
-        let mut runs = Vec::with_capacity(alloc, self.runs.len())?;
-        push_runs(&mut runs, &self.runs)?;
+        let runs = shared_runs(alloc, &self.runs, self.runs.len())?;
         Ok(self.with_runs(runs, until, places))
     }
 

@@ -7,10 +7,10 @@ ghost use Rattle.cells.specs.Bounds.{IsDimension};
 ghost use Rattle.hyper_matrix.specs.Counts.{total};
 ghost use Rattle.layer_compaction.specs.Shared.{content, values, all_counts, HaveDims};
 
-use crate::filters::filtered_to;
+use crate::filters::filtered_run;
 use crate::limits::{FEWEST_KEPT, MAX_PAIRED, PAIR_RATIO};
 use crate::lists::entries_bound;
-use crate::runs::{added_to_runs, push_runs, sum_of_runs};
+use crate::runs::{added_to_runs, run_of, shared_runs, sum_of_runs, with_run_between};
 use filtered_matrix::FilteredMatrix;
 use hyper_matrix::Hyper;
 use std::alloc::{AllocError, Global};
@@ -57,12 +57,8 @@ pub fn with_pair_added(
     let (before, from) = runs.split_at(place);
     let (pair, behind) = from.split_at(2);
     let sum = sum_of_runs(pair, alloc, rows, cols)?;
-    let filtered = filtered_to(alloc, sum, u64::MAX)?;
-    let mut after = Vec::with_capacity(alloc, runs.len() - 1)?;
-    push_runs(&mut after, before)?;
-    let run = Arc::new(alloc, filtered)?;
-    after.push(run)?;
-    push_runs(&mut after, behind)?;
+    let run = filtered_run(alloc, sum, u64::MAX)?;
+    let after = with_run_between(alloc, before, run, behind)?;
     Ok(after)
 }
 
@@ -102,10 +98,8 @@ pub fn with_rest_added(
     let (front, rest) = runs.split_at(kept);
     let none = Hyper::new(alloc, rows, cols);
     let sum = added_to_runs(alloc, none, rest)?;
-    let mut after = Vec::with_capacity(alloc, kept + 1)?;
-    push_runs(&mut after, front)?;
-    let bare = FilteredMatrix::new(alloc, sum);
-    let run = Arc::new(alloc, bare)?;
+    let run = run_of(alloc, FilteredMatrix::new(alloc, sum))?;
+    let mut after = shared_runs(alloc, front, kept + 1)?;
     after.push(run)?;
     Ok(after)
 }

@@ -1,6 +1,6 @@
 //! The runs of a layer: matrices of the same dimensions side by side, each shared and never changed. They stand for
 //! their sum, which is built only where it has to be known what they hold together.
-ghost use Rattle.std.specs.Prelude.{◌≡◌, ℕ, ◌+◌, ◌<◌, ◌≤◌, ◌^◌, ◌⊎◌, ◌++◌, length, IfOk, OnOk};
+ghost use Rattle.std.specs.Prelude.{◌≡◌, ℕ, ◌+◌, ◌<◌, ◌≤◌, ◌^◌, ◌⊎◌, ◌++◌, ◌∷◌, length, IfOk, OnOk};
 ghost use Rattle.std.specs.Arc.{arc_value};
 ghost use Rattle.std.specs.FinMap.{get, len, entries};
 ghost use Rattle.cells.specs.Bounds.{IsDimension};
@@ -31,6 +31,42 @@ pub fn push_runs(
         out.push(copy)?;
     }
     Ok(())
+}
+
+/// A matrix as a run.
+pub fn run_of(alloc: Global, m: FilteredMatrix) -> Result<Arc<FilteredMatrix>, AllocError>
+    ensures { IfOk result (λ run. arc_value run ≡ m) }
+{
+    let run = Arc::new(alloc, m)?;
+    Ok(run)
+}
+
+/// These runs, shared, in a list with room for so many at least.
+pub fn shared_runs(
+    alloc: Global,
+    runs: &[Arc<FilteredMatrix>],
+    room: usize,
+) -> Result<Vec<Arc<FilteredMatrix>>, AllocError>
+    ensures { IfOk result (λ shared. values shared.items ≡ values runs.now) }
+{
+    let mut shared = Vec::with_capacity(alloc, room)?;
+    push_runs(&mut shared, runs)?;
+    Ok(shared)
+}
+
+/// A run between others, which are shared.
+pub fn with_run_between(
+    alloc: Global,
+    before: &[Arc<FilteredMatrix>],
+    run: Arc<FilteredMatrix>,
+    behind: &[Arc<FilteredMatrix>],
+) -> Result<Vec<Arc<FilteredMatrix>>, AllocError>
+    ensures { IfOk result (λ all. values all.items ≡ values before.now ++ arc_value run ∷ values behind.now) }
+{
+    let mut all = shared_runs(alloc, before, before.len() + behind.len() + 1)?;
+    all.push(run)?;
+    push_runs(&mut all, behind)?;
+    Ok(all)
 }
 
 /// The sum of runs: that of the first half and that of the second, added. So a cell is written as often as the runs can

@@ -25,17 +25,12 @@ sum_of_runs-requires-clause-fits c =
 pub returns-clause-content : goal.returns-clause-content
 returns-clause-content c =
     content-paired c.args.runs.now c.split_at.result.0.now c.split_at.result.1.now c.split_at-2.result.0.now
-    c.split_at-2.result.1.now c.split_at.ensures.by_index.0 c.split_at-2.ensures.by_index.0
-    c.in_ok-after.after.items c.push_runs.new.out.items c.push.new.self.items c.push_runs-2.new.out.items
-    c.in_ok-run.run' c.in_ok-sum.sum c.args.rows c.args.cols c.in_ok-after.ensures.items c.in_ok-push_runs.ensures
-    c.in_ok-push.ensures.items (c.in_ok-run.ensures.ok ∙ c.in_ok-filtered.ensures) c.in_ok-push_runs-2.ensures
-    c.in_ok-sum.ensures
+    c.split_at-2.result.1.now c.split_at.ensures.by_index.0 c.split_at-2.ensures.by_index.0 c.in_ok-after.after.items
+    c.in_ok-run.run' c.args.rows c.args.cols c.in_ok-after.ensures (c.in_ok-run.ensures ∙ c.in_ok-sum.ensures)
 
 pub returns-clause-dims : goal.returns-clause-dims
 returns-clause-dims c =
     dims-paired c.args.runs.now c.split_at.result.0.now c.split_at.result.1.now c.split_at-2.result.0.now
-    c.split_at-2.result.1.now c.split_at.ensures.by_index.0 c.split_at-2.ensures.by_index.0
-    c.in_ok-after.after.items c.push_runs.new.out.items c.push.new.self.items c.push_runs-2.new.out.items
-    c.in_ok-run.run' c.in_ok-sum.sum c.args.rows c.args.cols c.in_ok-after.ensures.items c.in_ok-push_runs.ensures
-    c.in_ok-push.ensures.items (c.in_ok-run.ensures.ok ∙ c.in_ok-filtered.ensures) c.in_ok-push_runs-2.ensures
-    c.in_ok-sum.ensures c.requires.dims
+    c.split_at-2.result.1.now c.split_at.ensures.by_index.0 c.split_at-2.ensures.by_index.0 c.in_ok-after.after.items
+    c.in_ok-run.run' c.args.rows c.args.cols c.in_ok-after.ensures (c.in_ok-run.ensures ∙ c.in_ok-sum.ensures)
+    c.requires.dims

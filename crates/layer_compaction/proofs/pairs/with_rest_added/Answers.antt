@@ -27,9 +27,8 @@ pub returns-clause-content : goal.returns-clause-content
 returns-clause-content c =
     let rest = content (all_counts (values c.split_at.result.1.now)) in
     content-settled c.args.runs.now c.split_at.result.0.now c.split_at.result.1.now c.split_at.ensures.by_index.0
-    c.in_ok-after.after.items c.push_runs.new.out.items c.push.new.self.items c.in_ok-run.run' c.in_ok-sum.sum
-    c.args.rows c.args.cols c.in_ok-after.ensures.items c.in_ok-push_runs.ensures c.in_ok-push.ensures.items
-    (c.in_ok-run.ensures.ok ∙ c.new-bare.ensures)
+    c.in_ok-after.after.items c.push.new.self.items c.in_ok-run.run' c.in_ok-sum.sum c.args.rows c.args.cols
+    c.in_ok-after.ensures c.in_ok-push.ensures.items (c.in_ok-run.ensures ∙ c.new.ensures)
     (c.in_ok-sum.ensures ∙ ap (λ (m : Matrix). matrix m.rows m.cols (ewise_add m.counts rest)) c.new-none.ensures
     ∙ ap (matrix c.args.rows c.args.cols) (empty-ewise_add rest))
 
@@ -37,9 +36,8 @@ pub returns-clause-dims : goal.returns-clause-dims
 returns-clause-dims c =
     let rest = content (all_counts (values c.split_at.result.1.now)) in
     dims-settled c.args.runs.now c.split_at.result.0.now c.split_at.result.1.now c.split_at.ensures.by_index.0
-    c.in_ok-after.after.items c.push_runs.new.out.items c.push.new.self.items c.in_ok-run.run' c.in_ok-sum.sum
-    c.args.rows c.args.cols c.in_ok-after.ensures.items c.in_ok-push_runs.ensures c.in_ok-push.ensures.items
-    (c.in_ok-run.ensures.ok ∙ c.new-bare.ensures)
+    c.in_ok-after.after.items c.push.new.self.items c.in_ok-run.run' c.in_ok-sum.sum c.args.rows c.args.cols
+    c.in_ok-after.ensures c.in_ok-push.ensures.items (c.in_ok-run.ensures ∙ c.new.ensures)
     (c.in_ok-sum.ensures ∙ ap (λ (m : Matrix). matrix m.rows m.cols (ewise_add m.counts rest)) c.new-none.ensures
     ∙ ap (matrix c.args.rows c.args.cols) (empty-ewise_add rest))
     c.requires.dims

@@ -11,16 +11,15 @@ use Rattle.layer_compaction.proofs.layer.Layer.beside.Goals as goal
 pub invariant_of-result : goal.invariant_of-result
 invariant_of-result c =
     let held = values c.self.inside.runs.items in
-    let all = c.in_ok-push_runs-2.ensures
-    ∙ ap (λ l. l ++ values c.deref-2.result.now) (c.in_ok-push_runs.ensures
-    ∙ ap (λ l. values l ++ values c.deref.result.now) c.in_ok-runs.ensures.items ∙ ap values c.deref.ensures.value)
+    let all = c.in_ok-push_runs.ensures
+    ∙ ap (λ l. l ++ values c.deref-2.result.now) (c.in_ok-runs.ensures ∙ ap values c.deref.ensures.value)
     ∙ ap (λ l. held ++ values l) c.deref-2.ensures.value in
     let rows = ap (λ (m : Matrix). m.rows) c.m.view_is ∙ c.requires.rows
     ∙ sym (ap (λ (m : Matrix). m.rows) c.self.view_is) in
     let cols = ap (λ (m : Matrix). m.cols) c.m.view_is ∙ c.requires.cols
     ∙ sym (ap (λ (m : Matrix). m.cols) c.self.view_is) in
     let most : c.in-Some.most ≡ c.m.inside.most + c.self.inside.most = omega (arith, c.in-Some.ensures) in (
-      keeps_beside c.push_runs-2.new.out.items held (values c.m.inside.runs.items) all _ _ _ _
+      keeps_beside c.push_runs.new.out.items held (values c.m.inside.runs.items) all _ _ _ _
           c.self.invariant.0.is_rows c.self.invariant.0.is_cols c.self.invariant.0.dims
           (subst (λ r. HaveDims r c.self.inside.cols (values c.m.inside.runs.items)) rows
           (subst (λ k. HaveDims c.m.inside.rows k (values c.m.inside.runs.items)) cols c.m.invariant.0.dims))
@@ -35,17 +34,16 @@ invariant_of-result c =
           ))
           (omega (arith, most, c.m.invariant.0.few, c.self.invariant.0.few)),
       counts_beside c.self.inside.counted c.self.inside.places held (values c.m.inside.runs.items)
-          (values c.push_runs-2.new.out.items) all c.self.invariant.1,
+          (values c.push_runs.new.out.items) all c.self.invariant.1,
     )
 
 pub returns : goal.returns
 returns c =
     let held = values c.self.inside.runs.items in
-    let all = c.in_ok-push_runs-2.ensures
-    ∙ ap (λ l. l ++ values c.deref-2.result.now) (c.in_ok-push_runs.ensures
-    ∙ ap (λ l. values l ++ values c.deref.result.now) c.in_ok-runs.ensures.items ∙ ap values c.deref.ensures.value)
+    let all = c.in_ok-push_runs.ensures
+    ∙ ap (λ l. l ++ values c.deref-2.result.now) (c.in_ok-runs.ensures ∙ ap values c.deref.ensures.value)
     ∙ ap (λ l. held ++ values l) c.deref-2.ensures.value in
-    ap (matrix c.self.inside.rows c.self.inside.cols) (content-beside c.push_runs-2.new.out.items held
+    ap (matrix c.self.inside.rows c.self.inside.cols) (content-beside c.push_runs.new.out.items held
     (values c.m.inside.runs.items) all)
     ∙ (λ i. matrix (c.self.view_is i).rows (c.self.view_is i).cols
     (ewise_add (c.m.view_is i).counts (c.self.view_is i).counts))
