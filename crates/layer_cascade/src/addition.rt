@@ -39,7 +39,25 @@ pub fn cascade_end(
         s.layer ≡ matrix m.now.rows m.now.cols (with_first (all_counts (values layers.now)) m.now.counts s.place)) }
 {
     let copy = m.copy(alloc)?;
-    let mut sum = Layer::of(alloc, copy, FILTERED_AT_ONCE)?;
+    let layer = Layer::of(alloc, copy, FILTERED_AT_ONCE)?;
+    end_of_carried(alloc, layers, cuts, layer)
+}
+
+// As `cascade_end`, for what a layer holds.
+fn end_of_carried(
+    alloc: Global,
+    layers: &[Arc<Layer>],
+    cuts: &[u64],
+    m: Layer,
+) -> Result<CascadeEnd, AllocError>
+    requires count { length layers.now ≡ length cuts.now + 1 }
+    requires dims { HaveDims m.rows m.cols (values layers.now) }
+    requires fits { total (content (all_counts (values layers.now))) + total m.counts < 2 ^ 64 }
+    ensures place { IfOk result (λ s. EndsAt (all_counts (values layers.now)) cuts.now m.counts s.place) }
+    ensures sum { IfOk result (λ s.
+        s.layer ≡ matrix m.rows m.cols (with_first (all_counts (values layers.now)) m.counts s.place)) }
+{
+    let mut sum = m;
     'places: for (place, cut) in cuts.iter().enumerate() {
         match layers[place].taking(alloc, sum, *cut)? {
             Step::Ends(layer) => return Ok(CascadeEnd { place, layer }),

@@ -2,7 +2,7 @@
 //!
 //! Layer 1 is compacted by itself. Of the layers behind it each call here finds the first in which something is due, and
 //! tells it as that layer's place, from 0, and the layer that is to stand there.
-ghost use Rattle.std.specs.Prelude.{◌≡◌, IfOk, IfSome, OnOk, Some, slice_get};
+ghost use Rattle.std.specs.Prelude.{◌≡◌, ◌<◌, IfOk, IfSome, OnOk, Some, length, slice_get};
 ghost use Rattle.layer_compaction.specs.Shared.{values};
 
 use layer_compaction::Layer;
@@ -82,5 +82,36 @@ pub fn exchange(
     ensures { values layers.new ≡ values layers.old }
 {
     layers[place] = Arc::new(alloc, layer)?;
+    Ok(())
+}
+
+// The matrices of layer 1 are added up, where they are many.
+fn gather_first(layers: &mut [Arc<Layer>], alloc: Global) -> Result<(), AllocError>
+    requires { 0 < length layers.old }
+    ensures { values layers.new ≡ values layers.old }
+{
+    if let Some(layer) = layers[0].gathered(alloc)? {
+        exchange(layers, 0, alloc, layer)?;
+    }
+    Ok(())
+}
+
+// What is due next behind layer 1 is done.
+fn compact_next(layers: &mut [Arc<Layer>], cuts: &[u64], alloc: Global) -> Result<(), AllocError>
+    ensures { values layers.new ≡ values layers.old }
+{
+    if let Some((place, layer)) = compacted(layers, cuts, alloc)? {
+        exchange(layers, place, alloc, layer)?;
+    }
+    Ok(())
+}
+
+/// Compacts layer 1, where it has many matrices, and then what is due next behind it. What the layers hold stays.
+pub fn compact(layers: &mut [Arc<Layer>], cuts: &[u64], alloc: Global) -> Result<(), AllocError>
+    requires { 0 < length layers.old }
+    ensures { values layers.new ≡ values layers.old }
+{
+    gather_first(layers, alloc)?;
+    compact_next(layers, cuts, alloc)?;
     Ok(())
 }

@@ -24,7 +24,7 @@ ghost use Rattle.hyper_matrix.specs.RowOf.{row_of};
 ghost use Rattle.layer_cascade.specs.Layering.{IsLayering, no_layers, entries_of_layer};
 
 use crate::addition::{cascade_end, layers_after, push_copies, push_layers};
-use crate::compaction::{compacted, exchange};
+use crate::compaction::compact;
 use crate::cuts::are_cuts;
 use crate::fault::CascadeFault;
 use crate::row_entries::columns_with_layer;
@@ -218,13 +218,7 @@ impl Layers {
     pub fn gather(&mut self, alloc: Global) -> Result<(), AllocError>
         ensures { self.new ≡ self.old }
     {
-        if let Some(layer) = self.layers[0].gathered(alloc)? {
-            exchange(&mut self.layers, 0, alloc, layer)?;
-        }
-        if let Some((place, layer)) = compacted(&self.layers, &self.cuts, alloc)? {
-            exchange(&mut self.layers, place, alloc, layer)?;
-        }
-        Ok(())
+        compact(&mut self.layers, &self.cuts, alloc)
     }
 
     /// The same layers once more, which share all matrices with these. Takes one growth, of a pointer for each layer.
