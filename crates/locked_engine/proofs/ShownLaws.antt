@@ -1,10 +1,9 @@
 -- What readers are shown of shards.
 use Rattle.std.proofs.Common.{◌≡◌, ℕ, zero, suc, ◌+◌, List, [], ◌∷◌, ◌++◌, length, length-append, Some, sym, subst}
 use Rattle.std.proofs.Common.{arith, slice_get, Option, None, ap, ◌∙◌}
-use Rattle.std.specs.Prelude.{◌⊎◌, IfSome, IfOk, OnOk, Result, Ok, Err, unwrap_or}
-use Rattle.std.specs.Result.{is_err}
+use Rattle.std.specs.Prelude.{◌⊎◌, IfSome, IfOk, Result, Ok, Err, unwrap_or}
 use Rattle.std.specs.Option.{option_flatten}
-use Rattle.std.proofs.Common.{inl, inr, false}
+use Rattle.std.proofs.Common.{inl, inr}
 use Rattle.std.specs.FinMap.{get, len}
 use Rattle.hyper_rows.specs.declared.search.RowSum.{RowSum}
 use Rattle.hyper_matrix.specs.Counts.{total}
@@ -120,8 +119,3 @@ setup_at v a i zero (y ∷ ys) x h is =
     let same : y ≡ x = cc is in
     subst (λ (w : Holding). w.setup ≡ v) same h.0.setup
 setup_at v a i (suc j) (y ∷ ys) x h is = setup_at v a (i + 1) j ys x h.1 is
-
--- what an Ok promises, where the answer is no Err
-pub on_ok_unless : {T E : Type 0} (r : Result T E) (P : Type 0) → is_err r ≡ false → OnOk r P → P
-on_ok_unless (Ok x) P h p = p
-on_ok_unless (Err e) P h p = absurd cc

@@ -3,7 +3,7 @@
 --     version_status es   how many entries there are, and the sum of their totals
 --     entry_verdict v es e
 --                         what the version says of a batch of this entry, under the setup's limits
-use Rattle.std.specs.Prelude.{ℕ, ◌≤◌, List, length}
+use Rattle.std.specs.Prelude.{◌≤◌, List, length}
 use Rattle.std.specs.List.{IsDistinct}
 use Rattle.batch_store.specs.declared.verdict.Entry.{Entry}
 use Rattle.batch_store.specs.declared.verdict.Verdict.{Verdict}

@@ -10,7 +10,7 @@ use crate::locked_book::LockedBook;
 use crate::locked_shard::LockedShard;
 use crate::names::{Named, Names};
 use crate::seat::Seat;
-use crate::shown::first_versions;
+use crate::shown::{FirstVersions, first_versions};
 use crate::version::{Version, VersionFactory, VersionWriter};
 use batch_store::Shard;
 use plain_engine::PlainEngine;
@@ -41,14 +41,8 @@ impl<N: Named, H: Ledger> Engine<N, H> {
             opened_seats (entries_in plain.book.state) (total_in plain.book.state) N.seats) }
         ensures err { IfErr result (λ r. (r.0 ≡ plain) × (r.1 ≡ names)) }
     {
-        let mut seats = Vec::new(alloc);
-        let mut shards = Vec::new(alloc);
         let count = names.seats();
-        let k = plain.setup().shards() as usize;
-        if seats.reserve(count).is_err() || shards.reserve(k).is_err() {
-            return Err((plain, names, AllocError));
-        }
-        let Ok(shown) = first_versions::<N>(alloc, &plain) else {
+        let Ok((mut seats, mut shards, shown)) = rooms::<N, H>(alloc, &plain, count) else {
             return Err((plain, names, AllocError));
         };
         let version: Version<N> = names.version(plain.status());
@@ -83,6 +77,31 @@ impl<N: Named, H: Ledger> Engine<N, H> {
         };
         Ok((engine, seats))
     }
+}
+
+// What opening grows for seats and shards: a place for each seat, a place for each shard, and of each shard what readers
+// are shown first.
+fn rooms<N: Named, H: Ledger>(
+    alloc: Global,
+    plain: &PlainEngine,
+    count: usize,
+) -> Result<
+    (
+        Vec<Seat<N, H>>,
+        Vec<Mutex<LockedShard<N, H>>>,
+        FirstVersions<N>,
+    ),
+    AllocError,
+>
+    requires { plain.now.setup ≡ N.setup }
+    ensures seats { IfOk result (λ r. (r.0.items ≡ []) × (count ≤ vec_capacity r.0)) }
+    ensures shards { IfOk result (λ r. (vec_len r.1 ≡ 0) × (N.setup.shards ≤ vec_capacity r.1)) }
+    ensures shown { IfOk result (λ r. vec_len r.2 ≡ N.setup.shards) }
+{
+    let seats = Vec::with_capacity(alloc, count)?;
+    let shards = Vec::with_capacity(alloc, plain.setup().shards() as usize)?;
+    let shown = first_versions::<N>(alloc, plain)?;
+    Ok((seats, shards, shown))
 }
 
 // Puts each shard behind a lock, with a part of the share and its total.

@@ -67,6 +67,9 @@ fn first_version<N: Named>(
     }
 }
 
+/// Of each shard, in order, what readers are shown, behind a lock.
+pub(crate) type FirstVersions<N> = Vec<Mutex<Arc<ShardVersion<N>>>>;
+
 /// A version of each shard of an engine of one thread, in order, each behind a lock.
 ///
 /// # Errors
@@ -75,7 +78,7 @@ fn first_version<N: Named>(
 pub(crate) fn first_versions<N: Named>(
     alloc: Global,
     plain: &PlainEngine,
-) -> Result<Vec<Mutex<Arc<ShardVersion<N>>>>, AllocError>
+) -> Result<FirstVersions<N>, AllocError>
     requires { plain.now.setup ≡ N.setup }
     ensures { IfOk result (λ versions. vec_len versions ≡ N.setup.shards) }
 {
