@@ -95,13 +95,14 @@ count_begun old taken pending taken1 pending1 n a b c h = omega arith
 
 -- the entry of one folded batch more
 pub entry_left : {S : Type 0} (step : S → List ℕ → Answer → S → Type 0) (failures : S → ℕ) (s t : S) (all : List ℕ)
-    (writer : WriterState) (es : List Entry) (i : ℕ) (d : Entry) (left : List ℕ) → i < length es → d ≡ get_or es i d →
+    (writer : WriterState) (es : List Entry) (i : ℕ) (d : Entry) (left : List ℕ) → i < length es →
     IsWriting step failures s t all writer (flat_map entry_bytes (drop i es) ++ left) →
-    IsWriting step failures s t all writer (entry_bytes d ++ (flat_map entry_bytes (drop (i + 1) es) ++ left))
-entry_left step failures s t all writer es i d left h is a =
-    let parts : drop i es ≡ d ∷ drop (i + 1) es = drop-cons es i d h ∙ rw (← is, add-one) refl in
+    IsWriting step failures s t all writer
+    (entry_bytes (get_or es i d) ++ (flat_map entry_bytes (drop (i + 1) es) ++ left))
+entry_left step failures s t all writer es i d left h a =
+    let parts : drop i es ≡ get_or es i d ∷ drop (i + 1) es = drop-cons es i d h ∙ rw add-one refl in
     subst (λ (l : List ℕ). IsWriting step failures s t all writer l)
-    (append_assoc (entry_bytes d) (flat_map entry_bytes (drop (i + 1) es)) left)
+    (append_assoc (entry_bytes (get_or es i d)) (flat_map entry_bytes (drop (i + 1) es)) left)
     (subst (λ (l : List Entry). IsWriting step failures s t all writer (flat_map entry_bytes l ++ left)) parts a)
 
 -- the bytes of what is left, in front of others
