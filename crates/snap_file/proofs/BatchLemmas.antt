@@ -1,7 +1,7 @@
 -- Lists of shared batches, up to a place and from it on.
 use Rattle.std.proofs.Common.{◌≡◌, ℕ, ◌+◌, ◌<◌, ◌≤◌, List, [], ◌∷◌, ◌++◌, length, take, drop, get_or, flat_map, refl}
 use Rattle.std.proofs.Common.{sym, ap, subst, ◌∙◌, arith, add-one, drop-cons}
-use Rattle.std.proofs.lemmas.List.{map-append, take-append-drop}
+use Rattle.std.proofs.lemmas.List.{map-append, take-append-drop, drop_all}
 use Rattle.std.specs.declared.sync.Arc.{Arc}
 use Rattle.std.specs.Arc.{arc_value}
 use Rattle.snap_file.specs.Writing.{WriterState}
@@ -49,3 +49,11 @@ pub batch_next : {Z S : Type 0} (step : S → List ℕ → Answer → S → Type
 batch_next step failures s t all writer bs i d b h is at a =
     subst (λ (l : List Submission). IsWriting step failures s t all writer (flat_map batch_bytes l))
     (one_more bs i d b h is at) a
+
+pub batch_last : {Z S : Type 0} (step : S → List ℕ → Answer → S → Type 0) (failures : S → ℕ) (s t : S) (all : List ℕ)
+    (writer : WriterState) (bs : List (Arc Submission Z)) (i : ℕ) → length bs ≤ i →
+    IsWriting step failures s t all writer (flat_map batch_bytes (values (drop i bs))) →
+    IsWriting step failures s t all writer []
+batch_last step failures s t all writer bs i h a =
+    subst (λ (l : List (Arc Submission _)). IsWriting step failures s t all writer (flat_map batch_bytes (values l)))
+    (drop_all i bs h) a

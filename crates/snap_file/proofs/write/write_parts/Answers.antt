@@ -1,12 +1,12 @@
 use Rattle.std.proofs.Common.{arith, sym, ap, ◌∙◌, ◌≡◌, ◌+◌, ◌++◌, length, ℕ, flat_map}
-use Rattle.std.proofs.lemmas.Result.{err_from_is_err_and}
+use Rattle.std.proofs.lemmas.Result.{err_from_is_err_and, on_ok_weaker, IfErr-weaker}
 use Rattle.std.proofs.lemmas.List.{length-map}
 use Rattle.batch_store.specs.Accepted.{accepted, total_in}
 use Rattle.snap_file.specs.Spelling.{version, head_bytes, past_bytes, batch_bytes}
 use Rattle.std.specs.Arc.{arc_value}
 use Rattle.batch_store.specs.Batches.{values}
 use Rattle.snap_file.proofs.WriteLemmas.{writing_begun}
-use Rattle.snap_file.proofs.BatchLemmas.{batch_next}
+use Rattle.snap_file.proofs.BatchLemmas.{batch_next, batch_last}
 use Rattle.snap_file.proofs.Kept.{total_parts, few_batches}
 use Rattle.snap_file.proofs.write.write_parts.Goals as goal
 
@@ -130,3 +130,25 @@ finish-requires-clause-countable g c =
           c.requires.accepted,
       length-map c.args.batches.now arc_value,
     )
+
+pub push_head-requires : goal.push_head-requires
+push_head-requires g c = record { empty = c.new-writer.ensures.pending }
+
+pub write_past-requires-clause-failures : goal.write_past-requires-clause-failures
+write_past-requires-clause-failures g c = c.requires.failures
+
+pub write_past-requires-clause-countable : goal.write_past-requires-clause-countable
+write_past-requires-clause-countable g c =
+    omega (arith, c.push_head.ensures.taken, c.push_head.ensures.length, c.new-writer.ensures.taken)
+
+pub returns-clause-ok : goal.returns-clause-ok
+returns-clause-ok g c =
+    on_ok_weaker c.finish.result (λ h. h c.args.w.now _
+    (batch_last _ _ c.args.w.now _ _ c.loop-batch.writer c.args.batches.now c.loop-batch.batch-index
+    c.loop-batch-test.false c.loop-batch.invariant.written)) c.finish.ensures.ok
+
+pub returns-clause-err : goal.returns-clause-err
+returns-clause-err g c =
+    IfErr-weaker c.finish.result _ _ (λ f h. h c.args.w.now _
+    (batch_last _ _ c.args.w.now _ _ c.loop-batch.writer c.args.batches.now c.loop-batch.batch-index
+    c.loop-batch-test.false c.loop-batch.invariant.written)) c.finish.ensures.err
