@@ -3,6 +3,7 @@ pub mod Table
 pub mod Outcomes
 pub mod Writing
 pub mod Fills
+pub mod Heads
 pub mod Tallies
 pub mod Lists
 pub mod Snapshots

@@ -2,8 +2,9 @@
 ghost use Rattle.std.specs.Prelude.{◌≡◌, ◌≢◌, ℕ, ◌+◌, ◌<◌, ◌≤◌, ◌^◌, List, [], length, take, Result, IfOk, OnOk, IfErr};
 ghost use Rattle.cells.specs.Bounds.{IsDimension};
 ghost use Rattle.layer_cascade.specs.Cuts.{AreCuts};
-ghost use Rattle.batch_store.specs.Setups.{setting};
+ghost use Rattle.batch_store.specs.Setups.{Setting, setting};
 ghost use Rattle.snap_file.specs.Table.{Reading, head, cuts_behind};
+ghost use Rattle.snap_file.specs.Heads.{setup_fields};
 ghost use Rattle.snap_file.specs.Outcomes.{HasJudged, Stops};
 
 use crate::fault::SnapFault;
@@ -76,6 +77,35 @@ fn read_cuts<R: Source>(
     Ok(cuts)
 }
 
+/// Reads the setup.
+fn read_setup<R: Source>(reader: &mut ByteReader, r: &mut R) -> Result<Setup, SnapFault>
+    requires failures { R.failure_count r.old + 1 < 2 ^ 64 }
+    ensures ok { IfOk result (λ setup. (s : R) (max_bytes : ℕ) (k : Setting → Reading) →
+        HasJudged R.read_gives R.failure_count max_bytes s r.old reader.old (setup_fields k) →
+        HasJudged R.read_gives R.failure_count max_bytes s r.new reader.new (k setup)) }
+    ensures err { IfErr result (λ f. (s : R) (max_bytes : ℕ) (k : Setting → Reading) →
+        HasJudged R.read_gives R.failure_count max_bytes s r.old reader.old (setup_fields k) →
+        Stops R.read_gives R.failure_count (R.at_end r.new) max_bytes s r.new f) }
+    ensures no_failure { OnOk result (R.failure_count r.new ≡ R.failure_count r.old) }
+{
+    let rows = reader.next_u64_in(r, 1, MAX_DIMENSION, SnapFault::BadHead)?;
+    let cols = reader.next_u64_in(r, 1, MAX_DIMENSION, SnapFault::BadHead)?;
+    let cut_count = reader.next_u8_in(r, 0, MAX_CUTS as u8, SnapFault::BadHead)?;
+    let cuts = read_cuts(reader, r, cut_count)?;
+    let shards = reader.next_u8_in(r, 1, MAX_SHARDS as u8, SnapFault::BadHead)?;
+    let limit = reader.next_u64_in(r, 1, u64::MAX, SnapFault::BadHead)?;
+    let max_batches = reader.next_u64_in(r, 1, MAX_BATCHES, SnapFault::BadHead)?;
+    Ok(setup_of(
+        rows,
+        cols,
+        cuts,
+        cut_count as usize,
+        shards as u64,
+        limit,
+        max_batches,
+    ))
+}
+
 /// Reads the head.
 pub fn read_head<R: Source>(reader: &mut ByteReader, r: &mut R) -> Result<Head, SnapFault>
     requires failures { R.failure_count r.old + 1 < 2 ^ 64 }
@@ -90,24 +120,9 @@ pub fn read_head<R: Source>(reader: &mut ByteReader, r: &mut R) -> Result<Head, 
 {
     let _mark = reader.next_u64_in(r, MARK, MARK, SnapFault::BadMark)?;
     let version = reader.next_u32_in(r, OLD_VERSION, VERSION, SnapFault::BadVersion)?;
-    let rows = reader.next_u64_in(r, 1, MAX_DIMENSION, SnapFault::BadHead)?;
-    let cols = reader.next_u64_in(r, 1, MAX_DIMENSION, SnapFault::BadHead)?;
-    let cut_count = reader.next_u8_in(r, 0, MAX_CUTS as u8, SnapFault::BadHead)?;
-    let cuts = read_cuts(reader, r, cut_count)?;
-    let shards = reader.next_u8_in(r, 1, MAX_SHARDS as u8, SnapFault::BadHead)?;
-    let limit = reader.next_u64_in(r, 1, u64::MAX, SnapFault::BadHead)?;
-    let max_batches = reader.next_u64_in(r, 1, MAX_BATCHES, SnapFault::BadHead)?;
-    let batches = reader.next_u64_in(r, 0, max_batches, SnapFault::BadHead)?;
-    let total = reader.next_u64_in(r, 0, limit, SnapFault::BadHead)?;
-    let setup = setup_of(
-        rows,
-        cols,
-        cuts,
-        cut_count as usize,
-        shards as u64,
-        limit,
-        max_batches,
-    );
+    let setup = read_setup(reader, r)?;
+    let batches = reader.next_u64_in(r, 0, setup.max_batches(), SnapFault::BadHead)?;
+    let total = reader.next_u64_in(r, 0, setup.limit(), SnapFault::BadHead)?;
     Ok(Head {
         setup,
         version,
