@@ -93,12 +93,10 @@ fn read_entry<R: Source>(
         Stops R.read_gives R.failure_count (R.at_end r.new) max_bytes s r.new f) }
     ensures no_failure { OnOk result (R.failure_count r.new ≡ R.failure_count r.old) }
 {
-    let client = reader.next_u64(r)?;
-    let number = reader.next_u64(r)?;
+    let (client, number) = reader.next_pair(r)?;
     let repeated = note_pair(&mut past.pairs, client, number)?;
     refuse(repeated, SnapFault::RepeatedNumber)?;
-    let cells = reader.next_u64(r)?;
-    let total = reader.next_u64(r)?;
+    let (cells, total) = reader.next_pair(r)?;
     let over = passes(head.total, past.counted, total);
     refuse(over, SnapFault::TotalDiffers)?;
     let entry = Entry {

@@ -340,6 +340,22 @@ impl ByteReader {
         Ok(self.take_u64())
     }
 
+    /// The next two fields of 8 bytes.
+    pub fn next_pair<R: Source>(&mut self, r: &mut R) -> Result<(u64, u64), SnapFault>
+        requires { R.failure_count r.old + 1 < 2 ^ 64 }
+        ensures ok { IfOk result (λ p. (s : R) (max_bytes : ℕ) (k : ℕ → ℕ → Reading) →
+            HasJudged R.read_gives R.failure_count max_bytes s r.old self.old (number w64 (λ n. number w64 (k n))) →
+            HasJudged R.read_gives R.failure_count max_bytes s r.new self.new (k p.0 p.1)) }
+        ensures err { IfErr result (λ f. (s : R) (max_bytes : ℕ) (k : ℕ → ℕ → Reading) →
+            HasJudged R.read_gives R.failure_count max_bytes s r.old self.old (number w64 (λ n. number w64 (k n))) →
+            Stops R.read_gives R.failure_count (R.at_end r.new) max_bytes s r.new f) }
+        ensures no_failure { OnOk result (R.failure_count r.new ≡ R.failure_count r.old) }
+    {
+        let first = self.next_u64(r)?;
+        let second = self.next_u64(r)?;
+        Ok((first, second))
+    }
+
     /// The next field of 8 bytes, which is to be from `low` to `high`.
     pub fn next_u64_in<R: Source>(
         &mut self,

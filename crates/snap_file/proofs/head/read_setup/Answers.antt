@@ -1,4 +1,4 @@
-use Rattle.std.proofs.Common.{arith, ◌∙◌, sym, subst}
+use Rattle.std.proofs.Common.{◌∙◌, sym, subst, arith}
 use Rattle.std.proofs.lemmas.Result.{err_from_is_err_and}
 use Rattle.batch_store.specs.Setups.{Setting}
 use Rattle.snap_file.specs.Outcomes.{HasJudged, IsOfBytes}
@@ -102,3 +102,18 @@ returns-clause-ok g c = λ s m k h.
 pub returns-clause-no_failure : goal.returns-clause-no_failure
 returns-clause-no_failure g c =
     c.in_ok-max_batches.ensures.no_failure ∙ c.in_ok-limit.ensures.no_failure ∙ c.in_ok-shards.ensures.no_failure ∙ c.in_ok-cuts.ensures.no_failure ∙ c.in_ok-cut_count.ensures.no_failure ∙ c.in_ok-cols.ensures.no_failure ∙ c.in_ok-rows.ensures.no_failure
+
+pub setup_of-requires-clause-limit : goal.setup_of-requires-clause-limit
+setup_of-requires-clause-limit g c = c.in_ok-limit.ensures.bounds.0
+
+pub setup_of-requires-clause-batches : goal.setup_of-requires-clause-batches
+setup_of-requires-clause-batches g c = c.in_ok-max_batches.ensures.bounds
+
+pub setup_of-requires-clause-shards : goal.setup_of-requires-clause-shards
+setup_of-requires-clause-shards g c = c.in_ok-shards.ensures.bounds
+
+pub setup_of-requires-clause-few : goal.setup_of-requires-clause-few
+setup_of-requires-clause-few g c = c.in_ok-cut_count.ensures.bounds.1
+
+pub setup_of-requires-clause-cuts : goal.setup_of-requires-clause-cuts
+setup_of-requires-clause-cuts g c = c.in_ok-cuts.ensures.cuts
