@@ -22,22 +22,30 @@ unfolding folded_past
 begins h k i = folded_past h k
 
 module _ {S : Type 0} (gives : S → Result (List ℕ) DeviceFault → S → Type 0) (failures : S → ℕ) (m : ℕ) (s t : S)
-    (reader : ReaderState) (h : Head) (k : Progress → Reading) (p : Progress) (none : p ≡ nothing_yet)
-    (read : HasJudged gives failures m s t reader (past h k)) where
+    (reader : ReaderState) (h : Head) (k : Progress → Reading) where
   -- nothing is folded
-  pub past_old : h.version ≡ old_version → HasJudged gives failures m s t reader (k p)
-  past_old old =
+  pub past_old : (p : Progress) → p ≡ nothing_yet → HasJudged gives failures m s t reader (past h k) →
+      h.version ≡ old_version → HasJudged gives failures m s t reader (k p)
+  past_old p none read old =
       subst (λ (x : Progress). HasJudged gives failures m s t reader (k x)) (sym none)
       (subst (λ (r : Reading). HasJudged gives failures m s t reader r) (chosen h k true (eq-eqb h.version old_version old)) read)
 
+  -- what is folded is read
+  pub past_new : HasJudged gives failures m s t reader (past h k) → (h.version ≡ old_version → ⊥) →
+      HasJudged gives failures m s t reader (folded_past h k)
+  past_new read new =
+      subst (λ (r : Reading). HasJudged gives failures m s t reader r)
+      (chosen h k false (ne_eqb h.version old_version new)) read
+
   -- the number of folded batches is read, where this is the most batches of all
-  pub past_new : (most : ℕ) → (h.version ≡ old_version → ⊥) → most ≡ h.setup.max_batches →
+  pub folded_begins : (p : Progress) → p ≡ nothing_yet → HasJudged gives failures m s t reader (folded_past h k) →
+      (most : ℕ) → most ≡ h.setup.max_batches →
       HasJudged gives failures m s t reader (field_in w64 0 (most - h.batches) BadHead
       (λ n. entries_behind h n p (λ q. base h q k)))
-  past_new most new is =
+  folded_begins p none read most is =
       subst (λ (x : ℕ). HasJudged gives failures m s t reader (field_in w64 0 (x - h.batches) BadHead
       (λ n. entries_behind h n p (λ q. base h q k)))) (sym is)
       (subst (λ (x : Progress). HasJudged gives failures m s t reader
       (field_in w64 0 (h.setup.max_batches - h.batches) BadHead
       (λ n. entries_behind h n x (λ q. base h q k)))) (sym none)
-      (subst (λ (r : Reading). HasJudged gives failures m s t reader r) (chosen h k false (ne_eqb h.version old_version new) ∙ begins h k) read))
+      (subst (λ (r : Reading). HasJudged gives failures m s t reader r) (begins h k) read))

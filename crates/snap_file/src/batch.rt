@@ -109,8 +109,7 @@ fn read_batch<R: Source>(
         Stops R.read_gives R.failure_count (R.at_end r.new) max_bytes s r.new f) }
     ensures no_failure { OnOk result (R.failure_count r.new ≡ R.failure_count r.old) }
 {
-    let client = reader.next_u64(r)?;
-    let number = reader.next_u64(r)?;
+    let (client, number) = reader.next_pair(r)?;
     let repeated = note_batch(&front.past, &mut list.pairs, client, number)?;
     refuse(repeated, SnapFault::RepeatedNumber)?;
     let count = reader.next_u64(r)?;

@@ -8,6 +8,7 @@ ghost use Rattle.batch_store.specs.Accepted.{accepted};
 ghost use Rattle.batch_store.specs.declared.verdict.Entry.{Entry};
 ghost use Rattle.snap_file.specs.Spelling.{stands_in};
 ghost use Rattle.snap_file.specs.Table.{Reading, Progress, head, entry, entries_behind, base, past, with_entry};
+ghost use Rattle.snap_file.specs.Table.{nothing_yet, folded_past};
 ghost use Rattle.snap_file.specs.Outcomes.{HasJudged, IsBehindHead, Stops};
 ghost use Rattle.snap_file.specs.Lists.{HasPairs, progress_in};
 ghost use Rattle.snap_file.specs.declared.fault.SnapFault.{SnapFault};
@@ -185,6 +186,38 @@ fn read_base<R: Source>(
     Ok(m)
 }
 
+/// Reads what is folded in a file of this version: how many batches, their entries, and their sum.
+fn read_into<R: Source>(
+    alloc: Global,
+    reader: &mut ByteReader,
+    r: &mut R,
+    head: &Head,
+    past: &mut Past,
+) -> Result<(), SnapFault>
+    requires failures { R.failure_count r.old + 1 < 2 ^ 64 }
+    requires few { head.now.batches ≤ head.now.setup.max_batches }
+    requires nothing { progress_in past.old ≡ nothing_yet }
+    requires pairs { HasPairs past.old.pairs past.old.folded.items }
+    ensures counted { OnOk result (past.new.counted ≤ head.now.total) }
+    ensures pairs { OnOk result (HasPairs past.new.pairs past.new.folded.items) }
+    ensures dims { OnOk result ((past.new.base.rows ≡ head.now.setup.rows) ×
+        (past.new.base.cols ≡ head.now.setup.cols)) }
+    ensures ok { OnOk result ((s : R) (max_bytes : ℕ) (k : Progress → Reading) →
+        HasJudged R.read_gives R.failure_count max_bytes s r.old reader.old (folded_past head.now k) →
+        HasJudged R.read_gives R.failure_count max_bytes s r.new reader.new (k (progress_in past.new))) }
+    ensures err { IfErr result (λ f. (s : R) (max_bytes : ℕ) (k : Progress → Reading) →
+        ((p : Progress) → IsBehindHead (k p)) →
+        HasJudged R.read_gives R.failure_count max_bytes s r.old reader.old (folded_past head.now k) →
+        Stops R.read_gives R.failure_count (R.at_end r.new) max_bytes s r.new f) }
+    ensures no_failure { OnOk result (R.failure_count r.new ≡ R.failure_count r.old) }
+{
+    let most = head.setup.max_batches() - head.batches;
+    let count = reader.next_u64_in(r, 0, most, SnapFault::BadHead)?;
+    read_folded(reader, r, head, past, count)?;
+    past.base = read_base(alloc, reader, r, head, past)?;
+    Ok(())
+}
+
 /// Reads what is folded. In a file of the old version that is nothing.
 fn read_past<R: Source>(
     alloc: Global,
@@ -215,10 +248,7 @@ fn read_past<R: Source>(
     if head.version == OLD_VERSION {
         return Ok(past);
     }
-    let most = head.setup.max_batches() - head.batches;
-    let count = reader.next_u64_in(r, 0, most, SnapFault::BadHead)?;
-    read_folded(reader, r, head, &mut past, count)?;
-    past.base = read_base(alloc, reader, r, head, &past)?;
+    read_into(alloc, reader, r, head, &mut past)?;
     Ok(past)
 }
 
