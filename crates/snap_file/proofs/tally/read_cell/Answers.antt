@@ -6,7 +6,7 @@ use Rattle.snap_file.specs.Table.{Tally, cells_behind}
 use Rattle.snap_file.specs.Outcomes.{IsOfBytes, HasJudged}
 use Rattle.snap_file.specs.declared.fault.SnapFault.TheVariants.{BadBatch, OutOfOrder, TotalDiffers}
 use Rattle.std.proofs.Common.{arith, ◌<◌}
-use Rattle.std.proofs.lemmas.Bool.{leb-false}
+use Rattle.std.proofs.lemmas.Bool.{leb-false, ltb-false}
 use Rattle.cells.specs.Sums.{cell_total}
 use Rattle.snap_file.specs.Tallies.{IsRun}
 use Rattle.cells.proofs.SumLaws.{total-push}
@@ -179,3 +179,12 @@ next_u64-requires-2 g c = omega (arith, c.requires.failures, c.in_ok-row.ensures
 pub next_u64-requires-3 : goal.next_u64-requires-3
 next_u64-requires-3 g c =
     omega (arith, c.requires.failures, c.in_ok-row.ensures.no_failure, c.in_ok-col.ensures.no_failure)
+
+pub returns-in-Ok-clause-counted : goal.returns-in-Ok-clause-counted
+returns-in-Ok-clause-counted g c =
+    ltb-false c.args.most (c.args.tally.now.counted + c.in_ok-count.count)
+    (sym c.passes-over.ensures ∙ c.in_ok-refuse-4.ensures.ok)
+
+pub returns-in-Ok-clause-no_failure : goal.returns-in-Ok-clause-no_failure
+returns-in-Ok-clause-no_failure g c =
+    c.in_ok-count.ensures.no_failure ∙ c.in_ok-col.ensures.no_failure ∙ c.in_ok-row.ensures.no_failure
