@@ -1,5 +1,5 @@
 -- The part of the head that makes the setup.
-use Rattle.std.specs.Prelude.{ℕ, ◌-◌, ◌^◌, List, []}
+use Rattle.std.specs.Prelude.{◌-◌, ◌^◌, []}
 use Rattle.std.specs.Int.{w8, w64}
 use Rattle.batch_store.specs.Setups.{Setting, setting}
 use Rattle.snap_file.specs.Table.{Part, ◌>>=◌, give, field_in, cuts_behind}

@@ -1,4 +1,3 @@
-use Rattle.std.proofs.Common.{ap, ◌∙◌, arith}
 use Rattle.std.proofs.lemmas.Result.{err_from_is_err_and}
 use Rattle.snap_file.specs.Outcomes.{IsOfBytes}
 use Rattle.snap_file.specs.declared.fault.SnapFault.TheVariants.{BadHead}
