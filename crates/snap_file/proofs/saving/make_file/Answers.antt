@@ -1,4 +1,4 @@
-use Rattle.std.proofs.Common.{◌≡◌, ◌∙◌, sym, false, is_err, refl}
+use Rattle.std.proofs.Common.{◌≡◌, ◌∙◌, sym, false, is_err, refl, arith}
 use Rattle.file_folder.proofs.FileLemmas.{told_then, told_map, made_holds, others_then}
 use Rattle.file_folder.proofs.RunLemmas.{taken_holds, stopped_keeps}
 use Rattle.batch_store.specs.Books.{accepted_in}
@@ -57,3 +57,38 @@ returns-in-Err-sync-clause-kept g c =
     told_then _ _ _ (λ x y z p q. others_then c.args.name.now x y z p.1 q) (g.F.Folder.files c.args.f.now)
     (g.F.Folder.files c.write_new.new.f) (g.F.Folder.files c.sync.new.self) whole.1
     (c.in-Err-sync.ensures.others c.args.name.now whole.0)
+
+pub write_new-requires-clause-failures : goal.write_new-requires-clause-failures
+write_new-requires-clause-failures g c =
+    let fine : is_err c.create.result ≡ false = sym c.is_err.ensures.value ∙ c.if-is_err.false in
+    omega (arith, c.requires.failures, on_ok c.create.result _ fine c.create.ensures.ok)
+
+pub returns-in-Err-clause-why : goal.returns-in-Err-clause-why
+returns-in-Err-clause-why g c =
+    let fine : is_err c.create.result ≡ false = sym c.is_err.ensures.value ∙ c.if-is_err.false in
+    (c.create.new.self, on_ok c.create.result _ fine c.create.ensures.ok, c.in-Err.ensures.err)
+
+pub sync-requires-clause-failures : goal.sync-requires-clause-failures
+sync-requires-clause-failures g c =
+    let fine : is_err c.create.result ≡ false = sym c.is_err.ensures.value ∙ c.if-is_err.false in
+    omega (
+      arith,
+      c.requires.failures,
+      on_ok c.create.result _ fine c.create.ensures.ok,
+      c.in_default.ensures.ok.none_failed,
+    )
+
+pub returns-in-Ok-clause-no_failure : goal.returns-in-Ok-clause-no_failure
+returns-in-Ok-clause-no_failure g c =
+    let fine : is_err c.create.result ≡ false = sym c.is_err.ensures.value ∙ c.if-is_err.false in
+    c.in-Ok.ensures.ok ∙ c.in_default.ensures.ok.none_failed ∙ on_ok c.create.result _ fine c.create.ensures.ok
+
+pub returns-in-Err-sync-clause-why : goal.returns-in-Err-sync-clause-why
+returns-in-Err-sync-clause-why g c =
+    let fine : is_err c.create.result ≡ false = sym c.is_err.ensures.value ∙ c.if-is_err.false in
+    omega (
+      arith,
+      c.in-Err-sync.ensures.err,
+      c.in_default.ensures.ok.none_failed,
+      on_ok c.create.result _ fine c.create.ensures.ok,
+    )
