@@ -28,25 +28,55 @@ next_u8_in-requires-clause-judged g c = judged
 
 pub read_cuts-requires-clause-failures : goal.read_cuts-requires-clause-failures
 read_cuts-requires-clause-failures g c =
-    omega (arith, c.requires.failures, c.in_ok-rows.ensures.no_failure, c.in_ok-cols.ensures.no_failure, c.in_ok-cut_count.ensures.no_failure)
+    omega (
+      arith,
+      c.requires.failures,
+      c.in_ok-rows.ensures.no_failure,
+      c.in_ok-cols.ensures.no_failure,
+      c.in_ok-cut_count.ensures.no_failure,
+    )
 
 pub next_u8_in-requires-2-clause-failures : goal.next_u8_in-requires-2-clause-failures
 next_u8_in-requires-2-clause-failures g c =
-    omega (arith, c.requires.failures, c.in_ok-rows.ensures.no_failure, c.in_ok-cols.ensures.no_failure, c.in_ok-cut_count.ensures.no_failure, c.in_ok-cuts.ensures.no_failure)
+    omega (
+      arith,
+      c.requires.failures,
+      c.in_ok-rows.ensures.no_failure,
+      c.in_ok-cols.ensures.no_failure,
+      c.in_ok-cut_count.ensures.no_failure,
+      c.in_ok-cuts.ensures.no_failure,
+    )
 
 pub next_u8_in-requires-2-clause-judged : goal.next_u8_in-requires-2-clause-judged
 next_u8_in-requires-2-clause-judged g c = judged
 
 pub next_u64_in-requires-3-clause-failures : goal.next_u64_in-requires-3-clause-failures
 next_u64_in-requires-3-clause-failures g c =
-    omega (arith, c.requires.failures, c.in_ok-rows.ensures.no_failure, c.in_ok-cols.ensures.no_failure, c.in_ok-cut_count.ensures.no_failure, c.in_ok-cuts.ensures.no_failure, c.in_ok-shards.ensures.no_failure)
+    omega (
+      arith,
+      c.requires.failures,
+      c.in_ok-rows.ensures.no_failure,
+      c.in_ok-cols.ensures.no_failure,
+      c.in_ok-cut_count.ensures.no_failure,
+      c.in_ok-cuts.ensures.no_failure,
+      c.in_ok-shards.ensures.no_failure,
+    )
 
 pub next_u64_in-requires-3-clause-judged : goal.next_u64_in-requires-3-clause-judged
 next_u64_in-requires-3-clause-judged g c = judged
 
 pub next_u64_in-requires-4-clause-failures : goal.next_u64_in-requires-4-clause-failures
 next_u64_in-requires-4-clause-failures g c =
-    omega (arith, c.requires.failures, c.in_ok-rows.ensures.no_failure, c.in_ok-cols.ensures.no_failure, c.in_ok-cut_count.ensures.no_failure, c.in_ok-cuts.ensures.no_failure, c.in_ok-shards.ensures.no_failure, c.in_ok-limit.ensures.no_failure)
+    omega (
+      arith,
+      c.requires.failures,
+      c.in_ok-rows.ensures.no_failure,
+      c.in_ok-cols.ensures.no_failure,
+      c.in_ok-cut_count.ensures.no_failure,
+      c.in_ok-cuts.ensures.no_failure,
+      c.in_ok-shards.ensures.no_failure,
+      c.in_ok-limit.ensures.no_failure,
+    )
 
 pub next_u64_in-requires-4-clause-judged : goal.next_u64_in-requires-4-clause-judged
 next_u64_in-requires-4-clause-judged g c = judged
@@ -73,35 +103,44 @@ pub returns-in_err-cuts-clause-err : goal.returns-in_err-cuts-clause-err
 returns-in_err-cuts-clause-err g c =
     let p = err_from_is_err_and c.from_residual-in_err-cuts.result c.from_residual-in_err-cuts.ensures.1 in
     rw (p.1, p.2) (λ s m k h.
-    c.in_err-cuts.ensures.err s m _ (c.in_ok-cut_count.ensures.ok s m _ (c.in_ok-cols.ensures.ok s m _ (c.in_ok-rows.ensures.ok s m _ h))))
+    c.in_err-cuts.ensures.err s m _ (c.in_ok-cut_count.ensures.ok s m _ (c.in_ok-cols.ensures.ok s m _
+    (c.in_ok-rows.ensures.ok s m _ h))))
 
 pub returns-in_err-shards-clause-err : goal.returns-in_err-shards-clause-err
 returns-in_err-shards-clause-err g c =
     let p = err_from_is_err_and c.from_residual-in_err-shards.result c.from_residual-in_err-shards.ensures.1 in
     rw (p.1, p.2) (λ s m k h.
-    c.in_err-shards.ensures.err s m _ (c.in_ok-cuts.ensures.ok s m _ (c.in_ok-cut_count.ensures.ok s m _ (c.in_ok-cols.ensures.ok s m _ (c.in_ok-rows.ensures.ok s m _ h)))))
+    c.in_err-shards.ensures.err s m _ (c.in_ok-cuts.ensures.ok s m _ (c.in_ok-cut_count.ensures.ok s m _
+    (c.in_ok-cols.ensures.ok s m _ (c.in_ok-rows.ensures.ok s m _ h)))))
 
 pub returns-in_err-limit-clause-err : goal.returns-in_err-limit-clause-err
 returns-in_err-limit-clause-err g c =
     let p = err_from_is_err_and c.from_residual-in_err-limit.result c.from_residual-in_err-limit.ensures.1 in
     rw (p.1, p.2) (λ s m k h.
-    c.in_err-limit.ensures.err s m _ (c.in_ok-shards.ensures.ok s m _ (c.in_ok-cuts.ensures.ok s m _ (c.in_ok-cut_count.ensures.ok s m _ (c.in_ok-cols.ensures.ok s m _ (c.in_ok-rows.ensures.ok s m _ h))))))
+    c.in_err-limit.ensures.err s m _ (c.in_ok-shards.ensures.ok s m _ (c.in_ok-cuts.ensures.ok s m _
+    (c.in_ok-cut_count.ensures.ok s m _ (c.in_ok-cols.ensures.ok s m _ (c.in_ok-rows.ensures.ok s m _ h))))))
 
 pub returns-in_err-max_batches-clause-err : goal.returns-in_err-max_batches-clause-err
 returns-in_err-max_batches-clause-err g c =
     let p = err_from_is_err_and c.from_residual-in_err-max_batches.result c.from_residual-in_err-max_batches.ensures.1 in
     rw (p.1, p.2) (λ s m k h.
-    c.in_err-max_batches.ensures.err s m _ (c.in_ok-limit.ensures.ok s m _ (c.in_ok-shards.ensures.ok s m _ (c.in_ok-cuts.ensures.ok s m _ (c.in_ok-cut_count.ensures.ok s m _ (c.in_ok-cols.ensures.ok s m _ (c.in_ok-rows.ensures.ok s m _ h)))))))
+    c.in_err-max_batches.ensures.err s m _ (c.in_ok-limit.ensures.ok s m _ (c.in_ok-shards.ensures.ok s m _
+    (c.in_ok-cuts.ensures.ok s m _ (c.in_ok-cut_count.ensures.ok s m _ (c.in_ok-cols.ensures.ok s m _
+    (c.in_ok-rows.ensures.ok s m _ h)))))))
 
 pub returns-clause-ok : goal.returns-clause-ok
 returns-clause-ok g c = λ s m k h.
     subst (λ (x : Setting). HasJudged {S = g.row.R.Denot} g.R.Source.read_gives g.R.Source.failure_count m s
     c.next_u64_in-4.new.r c.next_u64_in-4.new.self (k x)) (sym c.setup_of.ensures)
-    (c.in_ok-max_batches.ensures.ok s m _ (c.in_ok-limit.ensures.ok s m _ (c.in_ok-shards.ensures.ok s m _ (c.in_ok-cuts.ensures.ok s m _ (c.in_ok-cut_count.ensures.ok s m _ (c.in_ok-cols.ensures.ok s m _ (c.in_ok-rows.ensures.ok s m _ h)))))))
+    (c.in_ok-max_batches.ensures.ok s m _ (c.in_ok-limit.ensures.ok s m _ (c.in_ok-shards.ensures.ok s m _
+    (c.in_ok-cuts.ensures.ok s m _ (c.in_ok-cut_count.ensures.ok s m _ (c.in_ok-cols.ensures.ok s m _
+    (c.in_ok-rows.ensures.ok s m _ h)))))))
 
 pub returns-clause-no_failure : goal.returns-clause-no_failure
 returns-clause-no_failure g c =
-    c.in_ok-max_batches.ensures.no_failure ∙ c.in_ok-limit.ensures.no_failure ∙ c.in_ok-shards.ensures.no_failure ∙ c.in_ok-cuts.ensures.no_failure ∙ c.in_ok-cut_count.ensures.no_failure ∙ c.in_ok-cols.ensures.no_failure ∙ c.in_ok-rows.ensures.no_failure
+    c.in_ok-max_batches.ensures.no_failure ∙ c.in_ok-limit.ensures.no_failure ∙ c.in_ok-shards.ensures.no_failure
+    ∙ c.in_ok-cuts.ensures.no_failure ∙ c.in_ok-cut_count.ensures.no_failure ∙ c.in_ok-cols.ensures.no_failure
+    ∙ c.in_ok-rows.ensures.no_failure
 
 pub setup_of-requires-clause-limit : goal.setup_of-requires-clause-limit
 setup_of-requires-clause-limit g c = c.in_ok-limit.ensures.bounds.0
