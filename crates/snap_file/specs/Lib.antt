@@ -3,7 +3,6 @@ pub mod Table
 pub mod Outcomes
 pub mod Writing
 pub mod Fills
-pub mod Heads
 pub mod Tallies
 pub mod Lists
 pub mod Snapshots

@@ -83,10 +83,9 @@ cuts_behind (suc n) least cuts = do
   cut ← field_in w64 least (2 ^ 40) BadHead
   cuts_behind n (cut + 1) (cuts ++ cut ∷ [])
 
-unfoldable pub head : Part Head
-head = do
-  _ ← field_in w64 mark mark BadMark
-  file_version ← field_in w32 old_version version BadVersion
+-- the fields of the head that make the setup
+abbrev pub setup_fields : Part Setting
+setup_fields = do
   rows ← field_in w64 1 (2 ^ 60) BadHead
   cols ← field_in w64 1 (2 ^ 60) BadHead
   cut_count ← field_in w8 0 7 BadHead
@@ -94,14 +93,16 @@ head = do
   shards ← field_in w8 1 64 BadHead
   limit ← field_in w64 1 (2 ^ 64 - 1) BadHead
   max_batches ← field_in w64 1 1000000 BadHead
-  batches ← field_in w64 0 max_batches BadHead
-  total ← field_in w64 0 limit BadHead
-  give (record {
-    setup = record { rows = rows; cols = cols; cuts = cuts; shards = shards; limit = limit; max_batches = max_batches };
-    version = file_version;
-    batches = batches;
-    total = total;
-  })
+  give (record { rows = rows; cols = cols; cuts = cuts; shards = shards; limit = limit; max_batches = max_batches })
+
+unfoldable pub head : Part Head
+head = do
+  _ ← field_in w64 mark mark BadMark
+  file_version ← field_in w32 old_version version BadVersion
+  setup ← setup_fields
+  batches ← field_in w64 0 setup.max_batches BadHead
+  total ← field_in w64 0 setup.limit BadHead
+  give (record { setup = setup; version = file_version; batches = batches; total = total })
 
 -- the cells of a matrix that were read, the least place that the next one may have, and the sum of all counts so far
 pub record Tally : Type 0 where

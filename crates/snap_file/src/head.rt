@@ -3,8 +3,7 @@ ghost use Rattle.std.specs.Prelude.{◌≡◌, ◌≢◌, ℕ, ◌+◌, ◌<◌,
 ghost use Rattle.cells.specs.Bounds.{IsDimension};
 ghost use Rattle.layer_cascade.specs.Cuts.{AreCuts};
 ghost use Rattle.batch_store.specs.Setups.{Setting, setting};
-ghost use Rattle.snap_file.specs.Table.{Reading, head, cuts_behind};
-ghost use Rattle.snap_file.specs.Heads.{setup_fields};
+ghost use Rattle.snap_file.specs.Table.{Reading, head, setup_fields, cuts_behind};
 ghost use Rattle.snap_file.specs.Outcomes.{HasJudged, Stops};
 
 use crate::fault::SnapFault;
