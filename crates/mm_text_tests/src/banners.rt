@@ -2,6 +2,9 @@
 use crate::cases::Expected::{Fault, File};
 use crate::cases::{Expected, FAULTY_LINE_ENDS, check_all, check_line};
 use mm_text::MmKind::{BadBanner, BadSize, Unsupported};
+use std::alloc::Global;
+use std::io::Eprint;
+use std::process::Abort;
 
 static BAD: &[&str] = &[
     // Line 1 is judged also where it is blank.
@@ -102,6 +105,9 @@ static GOOD: &[&str] = &[
     "%%MatrixMarket \t matrix   coordinate\t\tinteger general  \t\r\n",
 ];
 
+/// What stands behind each of them.
+static BODY: &[(&str, Expected)] = &[("2 3 1\n2 3 7\n", File(2, 3, &[(1, 2, 7)]))];
+
 static TEXTS: &[(&str, Expected)] = &[
     // Where nothing follows, the size line is missing at the end of the text.
     (
@@ -141,39 +147,27 @@ static TEXTS: &[(&str, Expected)] = &[
     ),
 ];
 
-#[test]
-fn bad_banners(rt: HostRuntime) {
-    for line in BAD {
-        check_line(
-            &rt,
-            rt.alloc(),
-            "",
-            line,
-            &FAULTY_LINE_ENDS,
-            Fault(BadBanner, 1),
-        );
+/// Checks each banner line of a table, with each of the ends. All have this fault.
+fn check_banners(rt: &(impl Abort + Eprint), alloc: Global, table: &[&str], fault: Expected) {
+    for line in table {
+        check_line(rt, alloc, "", line, FAULTY_LINE_ENDS, fault);
     }
 }
 
 #[test]
+fn bad_banners(rt: HostRuntime) {
+    check_banners(&rt, rt.alloc(), BAD, Fault(BadBanner, 1));
+}
+
+#[test]
 fn unsupported_banners(rt: HostRuntime) {
-    for line in UNSUPPORTED {
-        check_line(
-            &rt,
-            rt.alloc(),
-            "",
-            line,
-            &FAULTY_LINE_ENDS,
-            Fault(Unsupported, 1),
-        );
-    }
+    check_banners(&rt, rt.alloc(), UNSUPPORTED, Fault(Unsupported, 1));
 }
 
 #[test]
 fn banners(rt: HostRuntime) {
     for banner in GOOD {
-        let body = [("2 3 1\n2 3 7\n", File(2, 3, &[(1, 2, 7)]))];
-        check_all(&rt, rt.alloc(), banner, &body);
+        check_all(&rt, rt.alloc(), banner, BODY);
     }
     check_all(&rt, rt.alloc(), "", TEXTS);
 }

@@ -55,10 +55,15 @@ fn count_blocks(
 
 /// Reads the text.
 fn count_cells(rt: &impl Abort, alloc: Global, reader: &mut TextReader) -> u64 {
-    let pieces = pieces(alloc, &text(rt, alloc), 6).expect(rt, "memory");
+    let text = text(rt, alloc);
+    let pieces = pieces(alloc, &text, 6).expect(rt, "memory");
+    drop(text);
     let mut source = Script::new(alloc, pieces, None, None);
     let mut block = Vec::with_capacity(alloc, 4095).expect(rt, "memory");
-    count_blocks(rt, &mut source, reader, &mut block)
+    let cells = count_blocks(rt, &mut source, reader, &mut block);
+    drop(source);
+    drop(block);
+    cells
 }
 
 /// Whether it is the size of the text.
@@ -72,8 +77,9 @@ fn is_declared(size: Option<Size>) -> bool {
 #[test]
 fn blocks(rt: HostRuntime) {
     let mut reader = TextReader::new(rt.alloc(), WIDE).expect(&rt, "memory");
-    assert!(rt; reader.size().is_none());
+    let before = reader.size().is_none();
     let cells = count_cells(&rt, rt.alloc(), &mut reader);
-    assert!(rt; same(&rt, &cells, &(2 * ENTRIES)));
-    assert!(rt; is_declared(reader.size()));
+    let behind = is_declared(reader.size());
+    drop(reader);
+    assert!(rt; same(&rt, &(before, cells, behind), &(true, 2 * ENTRIES, true)));
 }

@@ -17,10 +17,10 @@ pub const WIDE: TextLimits = TextLimits {
 };
 
 /// What may stand behind a faulty line, which is the last or not.
-pub const FAULTY_LINE_ENDS: [&str; 5] = ["", "\r", "\n", "\r\n", "\n1 1 1\n"];
+pub static FAULTY_LINE_ENDS: &[&str] = &["", "\r", "\n", "\r\n", "\n1 1 1\n"];
 
 /// What may stand behind the last entry line.
-pub const LAST_LINE_ENDS: [&str; 5] = ["", "\r", "\n", "\r\n", "\n% note\n\n"];
+pub static LAST_LINE_ENDS: &[&str] = &["", "\r", "\n", "\r\n", "\n% note\n\n"];
 
 /// What reading a text must give.
 #[derive(Clone, Copy, Debug)]
@@ -45,8 +45,10 @@ impl Expected {
 
 fn are_equal(expected: &[(u64, u64, u64)], cells: &[Cell]) -> bool {
     expected.len() == cells.len()
-        && expected.iter().zip(cells).all(|(&(row, col, count), cell)| *cell
-            == Cell { row, col, count })
+        && expected
+            .iter()
+            .zip(cells)
+            .all(|(want, cell)| *want == (cell.row, cell.col, cell.count))
 }
 
 /// How a text is cut into the pieces that reads give.
@@ -109,50 +111,58 @@ impl<'a> Case<'a> {
         }
     }
 
-    /// Reads the text in each way: whole, byte by byte, and in two pieces, cut at each place.
-    pub fn check(&self, rt: &(impl Abort + Eprint), alloc: Global) {
+    /// Reads the text in each way: whole, byte by byte, and in two pieces, cut at each place. Lets go of the text.
+    pub fn check(self, rt: &(impl Abort + Eprint), alloc: Global) {
         self.check_cut(rt, alloc, Cut::Nowhere);
         self.check_cut(rt, alloc, Cut::Everywhere);
         for place in 0..=self.text.len() {
             self.check_cut(rt, alloc, Cut::At(place));
         }
+        drop(self);
     }
 
     /// Reads the text in these pieces, with no more reads than the limits allow.
     pub fn check_cut(&self, rt: &(impl Abort + Eprint), alloc: Global, cut: Cut) {
         let most_reads = self.limits.max_bytes.checked_add(2);
-        let is_met = self
-            .expected
-            .is_met_by(&self.read(rt, alloc, cut, most_reads));
-        assert!(rt; holds_at(rt, &(self.name, self.limits, cut, self.expected), is_met));
+        self.check_read(rt, alloc, cut, most_reads, self.expected);
     }
 
     /// Lets each read fail in turn, of single bytes and of two pieces. The answer shows in byte `shown`, counted from
     /// 1, where the text's end is one byte more: whatever fails before it is `Read`. Each piece has to fit in one read.
-    pub fn check_failing_reads(&self, rt: &(impl Abort + Eprint), alloc: Global, shown: usize) {
+    /// Lets go of the text.
+    pub fn check_failing_reads(self, rt: &(impl Abort + Eprint), alloc: Global, shown: usize) {
         let len = self.text.len();
         let at_end = self.expected_behind(len, shown);
         for given in 0..=shown {
             let expected = self.expected_behind(given, shown);
-            self.check_failing_read(rt, alloc, Cut::Everywhere, given, expected);
+            self.check_read(rt, alloc, Cut::Everywhere, Some(given as u64), expected);
             if 0 < given && given < len {
-                self.check_failing_read(rt, alloc, Cut::At(given), 1, expected);
-                self.check_failing_read(rt, alloc, Cut::At(given), 2, at_end);
+                self.check_read(rt, alloc, Cut::At(given), Some(1), expected);
+                self.check_read(rt, alloc, Cut::At(given), Some(2), at_end);
             }
         }
+        drop(self);
     }
 
-    /// Lets the read of this number fail, counted from 0.
-    fn check_failing_read(
+    /// Reads the text from a source of which the read of this number fails, counted from 0.
+    fn check_read(
         &self,
         rt: &(impl Abort + Eprint),
         alloc: Global,
         cut: Cut,
-        number: usize,
+        fail_read: Option<u64>,
         expected: Expected,
     ) {
-        let is_met = expected.is_met_by(&self.read(rt, alloc, cut, Some(number as u64)));
-        assert!(rt; holds_at(rt, &(self.name, cut, number, expected), is_met));
+        let answer = self.read(rt, alloc, cut, fail_read);
+        let is_met = expected.is_met_by(&answer);
+        drop(answer);
+        assert!(rt;
+            holds_at(
+                rt,
+                &(self.name, self.limits, cut, fail_read, expected),
+                is_met
+            )
+        );
     }
 
     /// What a source must give that fails behind so many bytes.
@@ -160,9 +170,11 @@ impl<'a> Case<'a> {
         if given >= shown {
             return self.expected;
         }
-        let front = self.text.iter().take(given);
-        let line_feeds = front.filter(|byte| **byte == b'\n').count() as u64;
-        Expected::Fault(MmKind::Read, line_feeds.saturating_add(1))
+        let mut line = 1u64;
+        for byte in self.text.iter().take(given) {
+            line = line.saturating_add(u64::from(*byte == b'\n'));
+        }
+        Expected::Fault(MmKind::Read, line)
     }
 
     /// Reads the text from a source of which the read of this number and all later ones fail.
@@ -176,20 +188,27 @@ impl<'a> Case<'a> {
         assert!(rt; self.limits.max_bytes <= 1 << 63);
         let pieces = cut.pieces(alloc, self.text.as_slice()).expect(rt, "memory");
         let mut source = Script::new(alloc, pieces, fail_read, None);
-        read_matrix(alloc, &mut source, self.limits)
+        let answer = read_matrix(alloc, &mut source, self.limits);
+        drop(source);
+        answer
     }
 }
 
 /// A text in parts, each with how many times it stands there.
 pub type Parts = &'static [(&'static str, usize)];
 
+/// Appends a part so many times.
+fn append(rt: &impl Abort, text: &mut Vec<u8>, part: &str, count: usize) {
+    for _ in 0..count {
+        text.extend_from_slice(part.as_bytes()).expect(rt, "memory");
+    }
+}
+
 /// The text of these parts, behind a front.
-fn joined(rt: &impl Abort, alloc: Global, front: &str, parts: &[(&str, usize)]) -> Vec<u8> {
+pub fn joined(rt: &impl Abort, alloc: Global, front: &str, parts: &[(&str, usize)]) -> Vec<u8> {
     let mut text = front.as_bytes().to_vec(alloc).expect(rt, "memory");
     for (part, count) in parts {
-        for _ in 0..*count {
-            text.extend_from_slice(part.as_bytes()).expect(rt, "memory");
-        }
+        append(rt, &mut text, part, *count);
     }
     text
 }
@@ -203,6 +222,20 @@ pub fn check_all(
 ) {
     for (rest, expected) in table {
         Case::new(rt, alloc, front, rest, "", *expected).check(rt, alloc);
+    }
+}
+
+/// Checks each faulty line of a table, behind a front that all have, with each of the ends. The fault is of this line.
+pub fn check_faulty_lines(
+    rt: &(impl Abort + Eprint),
+    alloc: Global,
+    front: &str,
+    table: &[(&str, MmKind)],
+    number: u64,
+) {
+    for (line, kind) in table {
+        let fault = Expected::Fault(*kind, number);
+        check_line(rt, alloc, front, line, FAULTY_LINE_ENDS, fault);
     }
 }
 

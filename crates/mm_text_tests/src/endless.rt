@@ -1,6 +1,6 @@
 //! Sources without an end: the limits of a text end the reading.
 
-use crate::cases::GENERAL;
+use crate::cases::{GENERAL, joined};
 use byte_io::Endless;
 use mm_text::{MmFault, MmKind, TextLimits, read_matrix};
 use std::alloc::Global;
@@ -17,16 +17,15 @@ fn expect_fault(
     max_bytes: u32,
     fault: MmFault,
 ) {
-    let mut front = Vec::from_slice(alloc, GENERAL.as_bytes()).expect(rt, "memory");
-    front
-        .extend_from_slice(rest.as_bytes())
-        .expect(rt, "memory");
+    let front = joined(rt, alloc, GENERAL, &[(rest, 1)]);
     let mut source = Endless::new(front, byte);
     let limits = TextLimits {
         max_bytes: u64::from(max_bytes),
         max_entries: 1_000,
     };
-    let found = read_matrix(alloc, &mut source, limits).err();
+    let answer = read_matrix(alloc, &mut source, limits);
+    drop(source);
+    let found = answer.err();
     assert!(rt; same_at(rt, &(rest, byte, max_bytes), &found, &Some(fault)));
 }
 

@@ -1,7 +1,7 @@
 //! Entry lines, and what stands between and behind them.
 use crate::cases::Expected::{Fault, File};
 use crate::cases::{
-    Case, Expected, FAULTY_LINE_ENDS, GENERAL, LAST_LINE_ENDS, WIDE, check_all, check_line,
+    Case, Expected, GENERAL, LAST_LINE_ENDS, WIDE, check_all, check_faulty_lines, check_line,
 };
 use mm_text::MmKind;
 use mm_text::MmKind::{
@@ -240,22 +240,13 @@ const ONE_ENTRY: &str = "%%MatrixMarket matrix coordinate integer general\n3 4 1
 
 #[test]
 fn faulty_entries(rt: HostRuntime) {
-    for (line, kind) in FAULTY {
-        check_line(
-            &rt,
-            rt.alloc(),
-            ONE_ENTRY,
-            line,
-            &FAULTY_LINE_ENDS,
-            Fault(*kind, 3),
-        );
-    }
+    check_faulty_lines(&rt, rt.alloc(), ONE_ENTRY, FAULTY, 3);
 }
 
 #[test]
 fn entries(rt: HostRuntime) {
     for (line, expected) in GOOD {
-        check_line(&rt, rt.alloc(), ONE_ENTRY, line, &LAST_LINE_ENDS, *expected);
+        check_line(&rt, rt.alloc(), ONE_ENTRY, line, LAST_LINE_ENDS, *expected);
     }
     check_all(&rt, rt.alloc(), GENERAL, TEXTS);
 }

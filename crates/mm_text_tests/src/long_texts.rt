@@ -14,35 +14,47 @@ const BLOCKS: [usize; 3] = [4096, 8192, 65_536];
 /// What stands behind the filling, and what it lists.
 const REST: &str = "3 3 2\n1 2 5\n% note\n3 3 7\n";
 
+/// The same behind the end of a comment.
+const BEHIND_COMMENT: &str = "\r\n3 3 2\n1 2 5\n% note\n3 3 7\n";
+
 const MATRIX: Expected = File(3, 3, &[(0, 1, 5), (2, 2, 7)]);
 
-/// Checks texts with so many blank lines behind the banner.
-fn check_blank_lines(rt: &(impl Abort + Eprint), alloc: Global, count: usize) {
-    let last_line = (count as u64).saturating_add(5);
-    let mut case = Case::of_parts(
-        rt,
-        alloc,
-        "blank lines",
-        GENERAL,
-        &[("\n", count), (REST, 1)],
-        MATRIX,
-    );
+/// The same with a fault in its last line.
+const FAULTY_REST: &str = "3 3 2\n1 2 5\n% note\n0 3 7\n";
+
+/// Checks a text with a filling of so many equal bytes behind the banner, which is read whole.
+fn check_filled(
+    rt: &(impl Abort + Eprint),
+    alloc: Global,
+    filling: (&str, usize),
+    rest: &str,
+    expected: Expected,
+) {
+    let parts = [filling, (rest, 1)];
+    let case = Case::of_parts(rt, alloc, rest, GENERAL, &parts, expected);
+    case.check_cut(rt, alloc, Cut::Nowhere);
+    drop(case);
+}
+
+/// Checks a text with so many blank lines behind the banner, at the most bytes that it may have and at one less.
+fn check_limits(rt: &(impl Abort + Eprint), alloc: Global, count: usize, last_line: u64) {
+    let parts = [("\n", count), (REST, 1)];
+    let mut case = Case::of_parts(rt, alloc, "blank lines", GENERAL, &parts, MATRIX);
     case.limits.max_bytes = case.text.len() as u64;
     case.check_cut(rt, alloc, Cut::Nowhere);
     case.limits.max_bytes = case.limits.max_bytes.saturating_sub(1);
     case.expected = Fault(TooLong, last_line);
     case.check_cut(rt, alloc, Cut::Nowhere);
-    let parts = [("\n", count), ("3 3 2\n1 2 5\n% note\n0 3 7\n", 1)];
-    let fault = Fault(IndexOutOfRange, last_line);
-    let case = Case::of_parts(rt, alloc, "blank lines and a fault", GENERAL, &parts, fault);
-    case.check_cut(rt, alloc, Cut::Nowhere);
+    drop(case);
 }
 
-/// Checks a text with a comment of so many bytes behind the banner.
-fn check_comment(rt: &(impl Abort + Eprint), alloc: Global, count: usize) {
-    let parts = [("%", count), ("\r\n", 1), (REST, 1)];
-    let case = Case::of_parts(rt, alloc, "a comment", GENERAL, &parts, MATRIX);
-    case.check_cut(rt, alloc, Cut::Nowhere);
+/// Checks texts with so many blank lines behind the banner, and one with a comment of so many bytes.
+fn check_count(rt: &(impl Abort + Eprint), alloc: Global, count: usize) {
+    let last_line = (count as u64).saturating_add(5);
+    check_limits(rt, alloc, count, last_line);
+    let fault = Fault(IndexOutOfRange, last_line);
+    check_filled(rt, alloc, ("\n", count), FAULTY_REST, fault);
+    check_filled(rt, alloc, ("%", count), BEHIND_COMMENT, MATRIX);
 }
 
 /// The end of a block falls into each place of a line.
@@ -50,8 +62,7 @@ fn check_comment(rt: &(impl Abort + Eprint), alloc: Global, count: usize) {
 fn lines_across_blocks(rt: HostRuntime) {
     for block in BLOCKS {
         for count in block - 90..block - 40 {
-            check_blank_lines(&rt, rt.alloc(), count);
-            check_comment(&rt, rt.alloc(), count);
+            check_count(&rt, rt.alloc(), count);
         }
     }
 }
@@ -70,22 +81,25 @@ fn has_many(answer: &Result<MmFile, MmFault>) -> bool {
     }
 }
 
+/// Reads a text of so many cells in these pieces.
+fn check_many(rt: &(impl Abort + Eprint), alloc: Global, case: &Case, cut: Cut) {
+    let answer = case.read(rt, alloc, cut, None);
+    let has_many = has_many(&answer);
+    drop(answer);
+    assert!(rt; holds_at(rt, &cut, has_many));
+}
+
 #[test]
 fn many_entries(rt: HostRuntime) {
+    let alloc = rt.alloc();
     let parts = [("9 9 20000\n", 1), ("2 3 7\n", 20_000)];
     let fault = Fault(ExtraText, 20_003);
-    let mut case = Case::of_parts(
-        &rt,
-        rt.alloc(),
-        "one entry too many",
-        GENERAL,
-        &parts,
-        fault,
-    );
-    for cut in [Cut::Nowhere, Cut::Everywhere, Cut::At(60_000)] {
-        assert!(rt; holds_at(&rt, &cut, has_many(&case.read(&rt, rt.alloc(), cut, None))));
-    }
+    let mut case = Case::of_parts(&rt, alloc, "one entry too many", GENERAL, &parts, fault);
+    check_many(&rt, alloc, &case, Cut::Nowhere);
+    check_many(&rt, alloc, &case, Cut::Everywhere);
+    check_many(&rt, alloc, &case, Cut::At(60_000));
     case.text.push(b'x').expect(&rt, "memory");
-    case.check_cut(&rt, rt.alloc(), Cut::Nowhere);
-    case.check_cut(&rt, rt.alloc(), Cut::Everywhere);
+    case.check_cut(&rt, alloc, Cut::Nowhere);
+    case.check_cut(&rt, alloc, Cut::Everywhere);
+    drop(case);
 }

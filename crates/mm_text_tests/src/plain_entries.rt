@@ -1,6 +1,6 @@
 //! Entry lines of digits and single blanks, of each length of number, and lines that nearly are ones.
 use crate::cases::Expected::{Fault, File};
-use crate::cases::{Expected, GENERAL, check_all};
+use crate::cases::{Expected, check_all};
 use mm_text::MmKind::{BadEntry, IndexOutOfRange, Negative};
 
 const LARGEST: u64 = 1_152_921_504_606_846_976;
@@ -80,13 +80,10 @@ static ENTRIES: &[(&str, Expected)] = &[
     ("1 123456781234?678 1\n", Fault(BadEntry, 3)),
 ];
 
-/// The size line.
-const HEAD: &str = "3 1152921504606846976 1\n";
+/// The banner and the size line.
+const FRONT: &str = "%%MatrixMarket matrix coordinate integer general\n3 1152921504606846976 1\n";
 
 #[test]
 fn plain_entries(rt: HostRuntime) {
-    let mut front = String::new(rt.alloc());
-    front.push_str(GENERAL).expect(&rt, "memory");
-    front.push_str(HEAD).expect(&rt, "memory");
-    check_all(&rt, rt.alloc(), front.as_str(), ENTRIES);
+    check_all(&rt, rt.alloc(), FRONT, ENTRIES);
 }

@@ -1,6 +1,6 @@
 //! Size lines, and what may stand before them.
 use crate::cases::Expected::{Fault, File};
-use crate::cases::{Expected, FAULTY_LINE_ENDS, GENERAL, check_all, check_line};
+use crate::cases::{Expected, GENERAL, check_all, check_faulty_lines};
 use mm_text::MmKind;
 use mm_text::MmKind::{BadDimension, BadSize, NumberTooLarge, TooManyEntries};
 
@@ -114,16 +114,7 @@ static TEXTS: &[(&str, Expected)] = &[
 
 #[test]
 fn faulty_sizes(rt: HostRuntime) {
-    for (line, kind) in FAULTY {
-        check_line(
-            &rt,
-            rt.alloc(),
-            GENERAL,
-            line,
-            &FAULTY_LINE_ENDS,
-            Fault(*kind, 2),
-        );
-    }
+    check_faulty_lines(&rt, rt.alloc(), GENERAL, FAULTY, 2);
 }
 
 #[test]

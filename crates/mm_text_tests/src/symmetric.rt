@@ -1,6 +1,6 @@
 //! Symmetric texts.
 use crate::cases::Expected::{Fault, File};
-use crate::cases::{Expected, FAULTY_LINE_ENDS, SYMMETRIC, check_all, check_line};
+use crate::cases::{Expected, SYMMETRIC, check_all, check_faulty_lines};
 use mm_text::MmKind;
 use mm_text::MmKind::{
     BadDimension, BadEntry, BadSize, ExtraText, IndexOutOfRange, Negative, NotSquare,
@@ -93,16 +93,7 @@ static BANNERS: &[(&str, Expected)] = &[
 
 #[test]
 fn faulty_symmetric_sizes(rt: HostRuntime) {
-    for (line, kind) in FAULTY_SIZES {
-        check_line(
-            &rt,
-            rt.alloc(),
-            SYMMETRIC,
-            line,
-            &FAULTY_LINE_ENDS,
-            Fault(*kind, 2),
-        );
-    }
+    check_faulty_lines(&rt, rt.alloc(), SYMMETRIC, FAULTY_SIZES, 2);
 }
 
 #[test]

@@ -2,6 +2,7 @@
 ghost use Rattle.std.specs.Prelude.{◌≡◌, ℕ, ◌+◌, ◌<◌, ◌≤◌, ◌^◌, length, vec_len, IsTrue};
 ghost use Rattle.cells.specs.Bounds.{AreWithin, IsDimension};
 
+use crate::cases::{GENERAL, joined};
 use byte_io::{Counted, Script, Sink, WriteFault};
 use byte_io_tests::{Full, OneByte};
 use cells::Cell;
@@ -10,8 +11,6 @@ use std::alloc::Global;
 use std::io::Eprint;
 use std::process::Abort;
 use test_support::{same, same_at};
-
-const BANNER: &str = "%%MatrixMarket matrix coordinate integer general\n";
 
 const LARGEST: u64 = 1_152_921_504_606_846_976;
 
@@ -70,9 +69,17 @@ fn check_limit(
 ) {
     let mut script = Script::new(alloc, Vec::new(alloc), None, Some(limit as u64));
     let outcome = write(rt, &mut script, matrix);
-    let failures = Sink::failures(&script);
-    assert!(rt; same_at(rt, &limit, &(outcome, failures), &end_of(want.len(), limit)));
-    assert!(rt; script.written() == &want[..want.len().min(limit)]);
+    let end = (outcome, Sink::failures(&script));
+    let is_front = script.written() == &want[..want.len().min(limit)];
+    drop(script);
+    assert!(rt;
+        same_at(
+            rt,
+            &limit,
+            &(end, is_front),
+            &(end_of(want.len(), limit), true)
+        )
+    );
 }
 
 /// Writes a matrix into a sink of short writes.
@@ -80,8 +87,10 @@ fn check_slow(rt: &(impl Abort + Eprint), alloc: Global, matrix: Matrix, want: &
     let mut slow = OneByte {
         inner: Script::new(alloc, Vec::new(alloc), None, None),
     };
-    assert!(rt; same(rt, &write(rt, &mut slow, matrix), &Ok(())));
-    assert!(rt; slow.inner.written() == want);
+    let outcome = write(rt, &mut slow, matrix);
+    let is_whole = slow.inner.written() == want;
+    drop(slow);
+    assert!(rt; same(rt, &(outcome, is_whole), &(Ok(()), true)));
 }
 
 /// Writes a matrix and compares its text, also with a sink that fails at each byte and with one of short writes.
@@ -94,63 +103,104 @@ fn check_text(
     tail: &str,
 ) {
     let matrix = Matrix { rows, cols, cells };
-    let want = format!(in alloc; "{BANNER}{tail}").expect(rt, "memory");
+    let want = joined(rt, alloc, GENERAL, &[(tail, 1)]);
     for limit in 0..=want.len() {
-        check_limit(rt, alloc, matrix, want.as_bytes(), limit);
+        check_limit(rt, alloc, matrix, &want, limit);
     }
-    check_slow(rt, alloc, matrix, want.as_bytes());
+    check_slow(rt, alloc, matrix, &want);
+    drop(want);
 }
+
+/// Rows, columns and cells, and the text behind the banner.
+static SMALL: &[(u64, u64, &[Cell], &str)] = &[
+    (3, 3, &[], "3 3 0\n"),
+    (
+        3,
+        4,
+        &[Cell {
+            row: 0,
+            col: 1,
+            count: 5,
+        }],
+        "3 4 1\n1 2 5\n",
+    ),
+    (
+        3,
+        3,
+        &[
+            Cell {
+                row: 2,
+                col: 1,
+                count: 7,
+            },
+            Cell {
+                row: 0,
+                col: 0,
+                count: 1,
+            },
+            Cell {
+                row: 1,
+                col: 2,
+                count: 0,
+            },
+            Cell {
+                row: 0,
+                col: 0,
+                count: u64::MAX,
+            },
+        ],
+        "3 3 4\n3 2 7\n1 1 1\n2 3 0\n1 1 18446744073709551615\n",
+    ),
+    (
+        LARGEST,
+        LARGEST,
+        &[Cell {
+            row: LARGEST - 1,
+            col: LARGEST - 1,
+            count: 10,
+        }],
+        "1152921504606846976 1152921504606846976 1\n1152921504606846976 1152921504606846976 10\n",
+    ),
+];
 
 #[test]
 fn small_texts(rt: HostRuntime) {
-    let alloc = rt.alloc();
-    check_text(&rt, alloc, 3, 3, &[], "3 3 0\n");
-    check_text(&rt, alloc, 3, 4, &[cell(0, 1, 5)], "3 4 1\n1 2 5\n");
-    let cells = [
-        cell(2, 1, 7),
-        cell(0, 0, 1),
-        cell(1, 2, 0),
-        cell(0, 0, u64::MAX),
-    ];
-    let tail = "3 3 4\n3 2 7\n1 1 1\n2 3 0\n1 1 18446744073709551615\n";
-    check_text(&rt, alloc, 3, 3, &cells, tail);
-    let last = [cell(LARGEST - 1, LARGEST - 1, 10)];
-    let tail =
-        "1152921504606846976 1152921504606846976 1\n1152921504606846976 1152921504606846976 10\n";
-    check_text(&rt, alloc, LARGEST, LARGEST, &last, tail);
+    for (rows, cols, cells, tail) in SMALL {
+        check_text(&rt, rt.alloc(), *rows, *cols, cells, tail);
+    }
 }
 
-/// Many cells at one place.
-fn many_cells(rt: &impl Abort, alloc: Global, count: u64) -> Vec<Cell> {
+const MANY: usize = 4097;
+
+/// So many cells at one place.
+fn many_cells(rt: &impl Abort, alloc: Global) -> Vec<Cell> {
     let mut cells = Vec::new(alloc);
-    for _ in 0..count {
+    for _ in 0..MANY {
         cells.push(cell(0, 2, 1)).expect(rt, "memory");
     }
     cells
 }
 
 /// Their text.
-fn many_lines(rt: &impl Abort, alloc: Global, count: u64) -> String {
-    let mut want = format!(in alloc; "{BANNER}3 3 {count}\n").expect(rt, "memory");
-    for _ in 0..count {
-        want.push_str("1 3 1\n").expect(rt, "memory");
-    }
-    want
+fn many_lines(rt: &impl Abort, alloc: Global) -> Vec<u8> {
+    joined(rt, alloc, GENERAL, &[("3 3 4097\n", 1), ("1 3 1\n", MANY)])
 }
 
 /// A text that is handed on in several calls.
 #[test]
 fn long_text(rt: HostRuntime) {
-    let cells = many_cells(&rt, rt.alloc(), 4097);
-    let want = many_lines(&rt, rt.alloc(), 4097);
+    let cells = many_cells(&rt, rt.alloc());
+    let want = many_lines(&rt, rt.alloc());
     let matrix = Matrix {
         rows: 3,
         cols: 3,
         cells: cells.as_slice(),
     };
     for limit in [16_320, 16_384, 16_385, 24_000, 30_000] {
-        check_limit(&rt, rt.alloc(), matrix, want.as_bytes(), limit);
+        check_limit(&rt, rt.alloc(), matrix, &want, limit);
     }
+    drop(cells);
+    drop(want);
 }
 
 /// Writes three cells in two blocks, of which one is empty, and one by one.
@@ -176,7 +226,10 @@ fn blocks_of_cells(rt: HostRuntime) {
     let mut counted = Counted::new(Vec::new(rt.alloc()));
     write_blocks(&rt, &mut counted);
     let want = "%%MatrixMarket matrix coordinate integer general\n2 2 3\n1 1 1\n1 2 2\n2 2 3\n";
-    assert!(rt; counted.into_inner().as_slice() == want.as_bytes());
+    let text = counted.into_inner();
+    let is_wanted = text.as_slice() == want.as_bytes();
+    drop(text);
+    assert!(rt; is_wanted);
 }
 
 #[test]
