@@ -1,13 +1,17 @@
 //! Equal places added up, beside a plain map.
+ghost use Rattle.std.specs.Prelude.{ℕ, ◌+◌, ◌<◌, ◌≤◌, ◌^◌};
+ghost use Rattle.cells.specs.Sums.{cell_total};
+
 use crate::shapes::{COUNTS, GREAT_COUNTS, LONG_COUNTS, SHAPES, Shape, cell, listed};
 use cells::{Cell, checked_total, into_summed, rises, summed, total_of};
 use std::alloc::{AllocError, Global};
 use std::collections::BTreeMap;
-use std::test::Fail;
+use std::io::Eprint;
+use std::process::Abort;
 use test_support::holds_at;
 
 /// A list, and its places with the sums of their counts.
-static SUMS: [(&[(u64, u64, u64)], &[(u64, u64, u64)]); 5] = [
+static SUMS: &[(&[(u64, u64, u64)], &[(u64, u64, u64)])] = &[
     (&[], &[]),
     (&[(1, 1, 0)], &[(1, 1, 0)]),
     (&[(0, 0, 1), (0, 0, 2)], &[(0, 0, 3)]),
@@ -21,36 +25,60 @@ static SUMS: [(&[(u64, u64, u64)], &[(u64, u64, u64)]); 5] = [
     ),
 ];
 
-fn cells_of(alloc: Global, triples: &[(u64, u64, u64)]) -> Result<Vec<Cell>, AllocError> {
-    let mut cells = Vec::with_capacity(alloc, triples.len())?;
+fn cells_of(rt: &impl Abort, alloc: Global, triples: &[(u64, u64, u64)]) -> Vec<Cell> {
+    let mut cells = Vec::new(alloc);
     for triple in triples {
-        cells.push(cell(triple.0, triple.1, triple.2))?;
+        let cell = cell(triple.0, triple.1, triple.2);
+        cells.push(cell).expect(rt, "memory");
     }
-    Ok(cells)
+    cells
+}
+
+// Whether a list that is lent is summed to these cells.
+fn lent_sums_to(rt: &impl Abort, alloc: Global, cells: &[Cell], want: &[Cell]) -> bool
+    requires { cell_total cells.now < 2 ^ 64 }
+{
+    let list = summed(alloc, cells).expect(rt, "memory");
+    let same = list.as_slice() == want && rises(&list);
+    let total = checked_total(&list);
+    drop(list);
+    same && total == Some(total_of(cells))
+}
+
+// Whether a list that is given away is summed to these cells.
+fn given_sums_to(rt: &impl Abort, alloc: Global, cells: &[Cell], want: &[Cell]) -> bool
+    requires { cell_total cells.now < 2 ^ 64 }
+{
+    let list = into_summed(Vec::from_slice(alloc, cells).expect(rt, "memory"));
+    let same = list.as_slice() == want;
+    drop(list);
+    same
 }
 
 // Whether a list is summed to these cells, lent and given away. Its counts fit 64 bits together.
-fn sums_to(alloc: Global, cells: &[Cell], want: &[Cell]) -> Result<bool, AllocError> {
+fn sums_to(rt: &impl Abort, alloc: Global, cells: &[Cell], want: &[Cell]) -> bool {
     match checked_total(cells) {
         Some(total) => {
-            let list = summed(alloc, cells)?;
-            let same = list.as_slice() == want && rises(&list);
-            let given = into_summed(Vec::from_slice(alloc, cells)?);
-            let same = same && given.as_slice() == want;
-            Ok(same && total_of(cells) == total && checked_total(&list) == Some(total))
+            lent_sums_to(rt, alloc, cells, want)
+                && given_sums_to(rt, alloc, cells, want)
+                && total_of(cells) == total
         }
-        None => Ok(false),
+        None => false,
     }
 }
 
 fn adds_up(
+    rt: &impl Abort,
     alloc: Global,
     triples: &[(u64, u64, u64)],
     want: &[(u64, u64, u64)],
-) -> Result<bool, AllocError> {
-    let cells = cells_of(alloc, triples)?;
-    let want = cells_of(alloc, want)?;
-    sums_to(alloc, &cells, &want)
+) -> bool {
+    let cells = cells_of(rt, alloc, triples);
+    let want = cells_of(rt, alloc, want);
+    let adds_up = sums_to(rt, alloc, &cells, &want);
+    drop(cells);
+    drop(want);
+    adds_up
 }
 
 type Plain = BTreeMap<(u64, u64), u64>;
@@ -62,80 +90,81 @@ fn add(map: &mut Plain, cell: Cell) -> Result<(), AllocError> {
     Ok(())
 }
 
-fn plain_sums(alloc: Global, cells: &[Cell]) -> Result<Vec<Cell>, AllocError> {
+// The places of a map with their sums.
+fn cells_of_map(rt: &impl Abort, alloc: Global, map: &Plain) -> Vec<Cell> {
+    let mut list = Vec::new(alloc);
+    for (place, count) in map {
+        list.push(cell(place.0, place.1, *count))
+            .expect(rt, "memory");
+    }
+    list
+}
+
+fn plain_sums(rt: &impl Abort, alloc: Global, cells: &[Cell]) -> Vec<Cell> {
     let mut map = BTreeMap::new(alloc);
     for cell in cells {
-        add(&mut map, *cell)?;
+        add(&mut map, *cell).expect(rt, "memory");
     }
-    let mut list = Vec::new(alloc);
-    for (place, count) in &map {
-        list.push(cell(place.0, place.1, *count))?;
-    }
-    Ok(list)
+    let list = cells_of_map(rt, alloc, &map);
+    drop(map);
+    list
 }
 
-fn adds_up_shape(alloc: Global, shape: Shape, counts: &[u64]) -> Result<bool, AllocError> {
-    for count in counts {
-        let cells = listed(alloc, shape, *count)?;
-        let want = plain_sums(alloc, &cells)?;
-        if !sums_to(alloc, &cells, &want)? {
-            return Ok(false);
+// Checks a list of so many cells.
+fn check_count(rt: &(impl Abort + Eprint), alloc: Global, shape: Shape, count: u64) {
+    let cells = listed(rt, alloc, shape, count);
+    let want = plain_sums(rt, alloc, &cells);
+    let adds_up = sums_to(rt, alloc, &cells, &want);
+    drop(cells);
+    drop(want);
+    assert!(rt; holds_at(rt, &(shape, count), adds_up));
+}
+
+// Checks lists of these lengths, of each of these shapes.
+fn check_shapes(rt: &(impl Abort + Eprint), alloc: Global, shapes: &[Shape], counts: &[u64]) {
+    for shape in shapes {
+        for count in counts {
+            check_count(rt, alloc, *shape, *count);
         }
     }
-    Ok(true)
 }
 
 #[test]
-fn worked_rows(rt: HostRuntime) -> Result<(), Fail> {
+fn worked_rows(rt: HostRuntime) {
     for (triples, want) in SUMS {
-        assert!(rt; holds_at(&rt, &triples, adds_up(rt.alloc(), triples, want)?));
+        assert!(rt; holds_at(&rt, triples, adds_up(&rt, rt.alloc(), triples, want)));
     }
-    Ok(())
 }
 
 #[test]
-fn lists_of_each_shape(rt: HostRuntime) -> Result<(), Fail> {
-    for shape in SHAPES {
-        assert!(rt; holds_at(&rt, &shape, adds_up_shape(rt.alloc(), shape, &COUNTS)?));
-    }
-    assert!(rt; adds_up_shape(rt.alloc(), Shape::Within(90, 90), &GREAT_COUNTS)?);
-    Ok(())
+fn lists_of_each_shape(rt: HostRuntime) {
+    check_shapes(&rt, rt.alloc(), SHAPES, COUNTS);
+    check_shapes(&rt, rt.alloc(), &[Shape::Within(90, 90)], GREAT_COUNTS);
 }
 
 #[test]
-fn long_lists_of_few_places(rt: HostRuntime) -> Result<(), Fail> {
-    for shape in [
+fn long_lists_of_few_places(rt: HostRuntime) {
+    let shapes = [
         Shape::Within(90, 90),
         Shape::Within(1, 999),
         Shape::Within(3, 2),
         Shape::Same,
-    ] {
-        assert!(rt; holds_at(&rt, &shape, adds_up_shape(rt.alloc(), shape, &LONG_COUNTS)?));
-    }
-    Ok(())
+    ];
+    check_shapes(&rt, rt.alloc(), &shapes, LONG_COUNTS);
 }
 
 #[test]
-fn long_lists_of_many_places(rt: HostRuntime) -> Result<(), Fail> {
-    for shape in [
+fn long_lists_of_many_places(rt: HostRuntime) {
+    let shapes = [
         Shape::Within(1 << 60, 1 << 60),
         Shape::Powers,
         Shape::Falling,
-    ] {
-        assert!(rt;
-            holds_at(
-                &rt,
-                &shape,
-                adds_up_shape(rt.alloc(), shape, &LONG_COUNTS[..2])?
-            )
-        );
-    }
-    Ok(())
+    ];
+    check_shapes(&rt, rt.alloc(), &shapes, &LONG_COUNTS[..2]);
 }
 
 #[test]
-fn great_totals(rt: HostRuntime) -> Result<(), Fail> {
+fn great_totals(rt: HostRuntime) {
     let pair = [cell(0, 0, u64::MAX), cell(1, 1, 1)];
     assert!(rt; checked_total(&pair).is_none() && checked_total(&pair[..1]) == Some(u64::MAX));
-    Ok(())
 }

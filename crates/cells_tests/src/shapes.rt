@@ -1,6 +1,7 @@
 //! Lists of each shape, and of the lengths where the way to sort them changes.
 use cells::Cell;
-use std::alloc::{AllocError, Global};
+use std::alloc::Global;
+use std::process::Abort;
 
 pub fn cell(row: u64, col: u64, count: u64) -> Cell {
     Cell { row, col, count }
@@ -45,16 +46,16 @@ impl Shape {
     }
 }
 
-pub fn listed(alloc: Global, shape: Shape, count: u64) -> Result<Vec<Cell>, AllocError> {
+pub fn listed(rt: &impl Abort, alloc: Global, shape: Shape, count: u64) -> Vec<Cell> {
     let mut cells = Vec::new(alloc);
     for k in 0..count {
-        cells.push(shape.cell(k))?;
+        cells.push(shape.cell(k)).expect(rt, "memory");
     }
-    Ok(cells)
+    cells
 }
 
 /// All of them.
-pub const SHAPES: [Shape; 12] = [
+pub static SHAPES: &[Shape] = &[
     Shape::Within(1 << 60, 1 << 60),
     Shape::Within(u64::MAX, u64::MAX),
     Shape::Within(1, 1 << 60),
@@ -70,10 +71,10 @@ pub const SHAPES: [Shape; 12] = [
 ];
 
 /// Numbers of cells on both sides of each change of the way.
-pub const COUNTS: [u64; 9] = [0, 1, 2, 3, 100, 511, 512, 513, 4096];
+pub static COUNTS: &[u64] = &[0, 1, 2, 3, 100, 511, 512, 513, 4096];
 
 /// The same at the upper bound, for lists that are dealt and for those that give up.
-pub const GREAT_COUNTS: [u64; 4] = [16_383, 16_384, 16_385, 100_000];
+pub static GREAT_COUNTS: &[u64] = &[16_383, 16_384, 16_385, 100_000];
 
 /// Numbers of cells that are distributed to parts first.
-pub const LONG_COUNTS: [u64; 3] = [16_385, 40_000, 100_000];
+pub static LONG_COUNTS: &[u64] = &[16_385, 40_000, 100_000];
