@@ -1,12 +1,11 @@
 //! Readers and writers of std that are counted: what they move, and how often each is called where a call fails.
 ghost use Rattle.std.specs.Prelude.{◌≡◌, ℕ, ◌+◌, ◌<◌, ◌≤◌, ◌^◌, length, IfOk};
 
-use crate::scripts::read_all;
+use crate::scripts::reads_as;
 use byte_io::{Counted, DeviceFault, Link, Sink, Source};
 use std::alloc::Global;
 use std::io;
 use std::io::{Error, ErrorKind, Read, Write};
-use std::test::Fail;
 use test_support::{same, same_at};
 
 /// A reader and writer whose first call fails with an error of this kind. Later ones move nothing.
@@ -44,7 +43,7 @@ impl Write for FailsOnce {
     }
 }
 
-const KINDS: [ErrorKind; 6] = [
+static KINDS: &[ErrorKind] = &[
     ErrorKind::Interrupted,
     ErrorKind::WouldBlock,
     ErrorKind::TimedOut,
@@ -79,8 +78,8 @@ fn writes(kind: ErrorKind) -> Ends {
 #[test]
 fn errors_are_failures(rt: HostRuntime) {
     for kind in KINDS {
-        assert!(rt; same_at(&rt, &kind, &reads(kind), &FAILED_ONCE));
-        assert!(rt; same_at(&rt, &kind, &writes(kind), &FAILED_ONCE));
+        let found = [reads(*kind), writes(*kind)];
+        assert!(rt; same_at(&rt, kind, &found, &[FAILED_ONCE, FAILED_ONCE]));
     }
 }
 
@@ -89,7 +88,10 @@ fn list_takes(alloc: Global, bytes: &[u8]) -> (Result<usize, DeviceFault>, u64, 
     let mut writer = Counted::new(Vec::new(alloc));
     let taken = writer.write(bytes);
     let failures = Sink::failures(&writer);
-    (taken, failures, writer.into_inner().as_slice() == bytes)
+    let list = writer.into_inner();
+    let is_whole = list.as_slice() == bytes;
+    drop(list);
+    (taken, failures, is_whole)
 }
 
 // What room for two bytes takes of three, and then of one more.
@@ -100,13 +102,11 @@ fn room_takes() -> [Result<usize, DeviceFault>; 2] {
 }
 
 #[test]
-fn counted_devices(rt: HostRuntime) -> Result<(), Fail> {
+fn counted_devices(rt: HostRuntime) {
     let mut reader = Counted::new(b"abc".as_slice());
-    let got = read_all(rt.alloc(), &mut reader, 2)?;
-    assert!(rt; got.as_slice() == b"ab|c|".as_slice());
-    assert!(rt; same(&rt, &list_takes(rt.alloc(), b"abc"), &(Ok(3), 0, true)));
-    assert!(rt; same(&rt, &room_takes(), &[Ok(2), Ok(0)]));
-    Ok(())
+    let is_read = reads_as(&rt, rt.alloc(), &mut reader, 2, b"ab|c|");
+    let found = (is_read, list_takes(rt.alloc(), b"abc"), room_takes());
+    assert!(rt; same(&rt, &found, &(true, (Ok(3), 0, true), [Ok(2), Ok(0)])));
 }
 
 /// A device for both ways: what it read is written back, until a call fails.
@@ -120,12 +120,16 @@ fn echo<L: Link>(link: &mut L) -> bool
     }
 }
 
+// Whether a link that fails at once echoes a byte, and its failures as a source and as a sink.
+fn echoes(kind: ErrorKind) -> (bool, u64, u64) {
+    let mut link = Counted::new(FailsOnce { kind, calls: 0 });
+    let is_echoed = echo(&mut link);
+    (is_echoed, Source::failures(&link), Sink::failures(&link))
+}
+
 #[test]
 fn failures_of_a_link(rt: HostRuntime) {
     for kind in KINDS {
-        let mut link = Counted::new(FailsOnce { kind, calls: 0 });
-        assert!(rt; !echo(&mut link));
-        assert!(rt; same(&rt, &Source::failures(&link), &1));
-        assert!(rt; same(&rt, &Sink::failures(&link), &1));
+        assert!(rt; same_at(&rt, kind, &echoes(*kind), &(false, 1, 1)));
     }
 }

@@ -1,20 +1,20 @@
 //! Scripts, read and written in pieces.
 ghost use Rattle.std.specs.Prelude.{◌≡◌, ℕ, ◌+◌, ◌<◌, ◌≤◌, ◌^◌, length, vec_len, IfOk};
 
+use crate::splits::push_piece;
 use byte_io::{DeviceFault, Script, Sink, Source};
 use std::alloc::{AllocError, Global};
 use std::io::Eprint;
 use std::process::Abort;
-use std::test::Fail;
 use test_support::{holds_at, same};
 
 /// The pieces of a text that is cut at each `/`.
-fn cut(alloc: Global, text: &str) -> Result<Vec<Vec<u8>>, AllocError> {
+fn cut(rt: &impl Abort, alloc: Global, text: &str) -> Vec<Vec<u8>> {
     let mut pieces = Vec::new(alloc);
     for piece in text.split('/') {
-        pieces.push(Vec::from_slice(alloc, piece.as_bytes())?)?;
+        push_piece(&mut pieces, alloc, piece.as_bytes()).expect(rt, "memory");
     }
-    Ok(pieces)
+    pieces
 }
 
 /// Appends bytes that were read, and a `|` behind them.
@@ -42,11 +42,7 @@ fn push_read(
 
 /// What reads into a buffer give, one behind another with a `|` between, until one gives nothing or fails; then `!` if
 /// it failed.
-fn append_reads<R: Source>(
-    all: &mut Vec<u8>,
-    r: &mut R,
-    buffer: &mut [u8],
-) -> Result<(), AllocError>
+fn append_reads<R: Source>(rt: &impl Abort, all: &mut Vec<u8>, r: &mut R, buffer: &mut [u8])
     requires { R.failure_count r.old + 1 < 2 ^ 64 }
 {
     for _ in 0..100u64 {
@@ -54,21 +50,29 @@ fn append_reads<R: Source>(
             break;
         }
         let read = r.read(buffer);
-        if push_read(all, read, buffer)? {
+        if push_read(all, read, buffer).expect(rt, "memory") {
             break;
         }
     }
-    Ok(())
 }
 
-/// The same with a buffer of `size` bytes.
-pub fn read_all<R: Source>(alloc: Global, r: &mut R, size: usize) -> Result<Vec<u8>, AllocError>
+/// Whether that is this, with a buffer of `size` bytes.
+pub fn reads_as<R: Source>(
+    rt: &impl Abort,
+    alloc: Global,
+    r: &mut R,
+    size: usize,
+    want: &[u8],
+) -> bool
     requires { R.failure_count r.old + 1 < 2 ^ 64 }
 {
-    let mut buffer = vec![in alloc; 0u8; size]?;
+    let mut buffer = vec![in alloc; 0u8; size].expect(rt, "memory");
     let mut all = Vec::new(alloc);
-    append_reads(&mut all, r, buffer.as_mut_slice())?;
-    Ok(all)
+    append_reads(rt, &mut all, r, buffer.as_mut_slice());
+    drop(buffer);
+    let is_wanted = all.as_slice() == want;
+    drop(all);
+    is_wanted
 }
 
 /// Pieces, the size of the buffer, the read that fails, and what is read.
@@ -89,60 +93,63 @@ static ROWS: &[Row] = &[
     ("ab/c", 4, Some(3), "ab|c|"),
 ];
 
-fn reads_as(alloc: Global, row: &Row) -> Result<bool, AllocError> {
-    let pieces = cut(alloc, row.0)?;
-    let mut script = Script::new(alloc, pieces, row.2, None);
-    let got = read_all(alloc, &mut script, row.1)?;
-    Ok(got.as_slice() == row.3.as_bytes())
+fn row_holds(rt: &impl Abort, alloc: Global, row: &Row) -> bool {
+    let mut script = Script::new(alloc, cut(rt, alloc, row.0), row.2, None);
+    let holds = reads_as(rt, alloc, &mut script, row.1, row.3.as_bytes());
+    drop(script);
+    holds
 }
 
 #[test]
-fn script_reads(rt: HostRuntime) -> Result<(), Fail> {
+fn script_reads(rt: HostRuntime) {
     for row in ROWS {
-        assert!(rt; holds_at(&rt, &row.3, reads_as(rt.alloc(), row)?));
+        assert!(rt; holds_at(&rt, row, row_holds(&rt, rt.alloc(), row)));
     }
-    Ok(())
 }
 
 // Two bytes are read, and then none.
 fn read_and_fail(rt: &(impl Abort + Eprint), script: &mut Script)
-    requires { script.old.failures + 2 < 2 ^ 64 }
+    requires { script.old.failures + 3 < 2 ^ 64 }
     ensures { script.new.failures ≡ 2 }
 {
     let mut buffer = [0u8; 2];
-    assert!(rt; same(rt, &script.read(&mut buffer), &Ok(2)));
-    assert!(rt; same(rt, &buffer, b"ab"));
-    assert!(rt; same(rt, &script.read(&mut buffer), &Err(DeviceFault)));
-    assert!(rt; same(rt, &script.read(&mut buffer), &Err(DeviceFault)));
+    let first = script.read(&mut buffer);
+    let bytes = buffer;
+    let answers = [first, script.read(&mut buffer), script.read(&mut buffer)];
+    let want = ([Ok(2), Err(DeviceFault), Err(DeviceFault)], *b"ab");
+    assert!(rt; same(rt, &(answers, bytes), &want));
     assert!(rt; same(rt, &Source::failures(script), &2));
 }
 
-// A byte is written, and a write of none takes none.
-fn write_one(rt: &(impl Abort + Eprint), script: &mut Script, bytes: &[u8])
-    requires { script.old.failures ≡ 2 }
-    ensures { script.new.failures ≡ 2 }
-{
-    assert!(rt; same(rt, &script.write(bytes), &Ok(1)));
-    assert!(rt; same(rt, &script.write(b""), &Ok(0)));
-    assert!(rt; same(rt, &Sink::failures(script), &2));
-}
-
-// Two bytes are written, and then none.
+// Two bytes are written one by one, with a write of none behind each, and then none.
 fn write_and_fail(rt: &(impl Abort + Eprint), script: &mut Script)
     requires { script.old.failures ≡ 2 }
 {
-    write_one(rt, script, b"x");
-    write_one(rt, script, b"yz");
-    assert!(rt; same(rt, &script.write(b"z"), &Err(DeviceFault)));
-    assert!(rt; same(rt, &Sink::failures(script), &3));
-    assert!(rt; same(rt, &script.written(), &b"xy".as_slice()));
+    let first = script.write(b"x");
+    let first_none = script.write(b"");
+    let behind_first = Sink::failures(script);
+    let second = script.write(b"yz");
+    let second_none = script.write(b"");
+    let behind_second = Sink::failures(script);
+    let third = script.write(b"z");
+    let answers = [first, first_none, second, second_none, third];
+    let failures = [behind_first, behind_second, Sink::failures(script)];
+    let is_written = script.written() == b"xy".as_slice();
+    let want = [Ok(1), Ok(0), Ok(1), Ok(0), Err(DeviceFault)];
+    assert!(rt;
+        same(
+            rt,
+            &(answers, failures, is_written),
+            &(want, [2, 2, 3], true)
+        )
+    );
 }
 
 #[test]
-fn script_fails_on(rt: HostRuntime) -> Result<(), Fail> {
-    let pieces = cut(rt.alloc(), "abc")?;
+fn script_fails_on(rt: HostRuntime) {
+    let pieces = cut(&rt, rt.alloc(), "abc");
     let mut script = Script::new(rt.alloc(), pieces, Some(1), Some(2));
     read_and_fail(&rt, &mut script);
     write_and_fail(&rt, &mut script);
-    Ok(())
+    drop(script);
 }
