@@ -329,9 +329,9 @@ where
         Ok(self.take_in(rt, first, second, b, next, writer))
     }
 
-    // All that a fresh batch needs to be accepted: a free place in the book, the version with its entry, and the writer,
-    // which is taken out, with that version's place offered to readers. Should the history be longer than the book, to
-    // which nothing leads, an empty place is published, which shows nothing new.
+    // All that a fresh batch needs to be accepted: a free place in the book, the version with its entry, and the
+    // writer, which is taken out, with that version's place offered to readers. Should the history be longer than the
+    // book, to which nothing leads, an empty place is published, which shows nothing new.
     fn ready<R: Wait>(
         &mut self,
         rt: &R,

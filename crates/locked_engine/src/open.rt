@@ -79,8 +79,8 @@ impl<N: Named, H: Ledger> Engine<N, H> {
     }
 }
 
-// What opening grows for seats and shards: a place for each seat, a place for each shard, and of each shard what readers
-// are shown first.
+// What opening grows for seats and shards: a place for each seat and for each shard, and of each shard what readers are
+// shown first.
 fn rooms<N: Named, H: Ledger>(
     alloc: Global,
     plain: &PlainEngine,
