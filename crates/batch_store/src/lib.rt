@@ -38,6 +38,7 @@ pub use laws::{
     one_shard_more, records_grow_by_a_part, records_hold_the_part, shards_have_all,
     unconcerned_batches_add_nothing, unconcerned_shards_have_nothing, verdicts_are_exact,
 };
+pub use layer_cascade::Compaction;
 pub use limits::{MAX_BATCHES, MAX_CELLS, MAX_SHARDS};
 pub use setup::Setup;
 pub use shard::{Prepared, Shard};

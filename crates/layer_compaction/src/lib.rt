@@ -9,6 +9,7 @@
 //! matter of time and memory (`limits`).
 #![tactic(auto)]
 
+mod due;
 mod filters;
 mod layer;
 mod limits;
@@ -18,6 +19,7 @@ mod pairs;
 mod runs;
 mod walk;
 
+pub use due::Compaction;
 pub use layer::{Layer, Step};
 pub use limits::FILTERED_AT_ONCE;
 pub use lists::merged;
