@@ -18,7 +18,7 @@ ghost use Rattle.layer_compaction.specs.Runs.{CountsPlaces};
 ghost use Rattle.layer_compaction.specs.Steps.{joined, Takes};
 
 use crate::filters::{first_unfiltered, single_run, with_filter_at};
-use crate::limits::{GATHERED_RUNS, KEPT_RUNS, MAX_COUNTED, MAX_LISTED, MAX_RUNS};
+use crate::limits::{GATHERED_RUNS, KEPT_RUNS, MAX_COUNTED, MAX_LISTED, MAX_PAIRED, MAX_RUNS};
 use crate::lists::{add_runs, entries_bound, push_cells_of};
 use crate::pairs::{due_pair, kept_in_front, with_pair_added, with_rest_added};
 use crate::runs::{
@@ -329,7 +329,7 @@ impl Layer {
     pub fn paired(&self, alloc: Global) -> Result<Option<Layer>, AllocError>
         ensures { IfOk result (λ paired. IfSome paired (λ layer. layer ≡ self.now)) }
     {
-        let Some(place) = due_pair(&self.runs) else {
+        let Some(place) = due_pair(&self.runs, MAX_PAIRED) else {
             return Ok(None);
         };
         let runs = with_pair_added(&self.runs, place, alloc, self.rows, self.cols)?;
