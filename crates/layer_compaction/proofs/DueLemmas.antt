@@ -1,5 +1,5 @@
 -- Runs whose sum is yet to be made: what tells it, and what comes of the runs once it stands in their place.
-use Rattle.std.proofs.Common.{◌≡◌, ℕ, suc, ◌+◌, ◌-◌, ◌<◌, ◌≤◌, ◌^◌, List, [], ◌∷◌, ◌++◌, length, take, drop, Some, None}
+use Rattle.std.proofs.Common.{◌≡◌, ℕ, suc, ◌+◌, ◌-◌, ◌≤◌, List, [], ◌∷◌, ◌++◌, length, take, drop, Some, None}
 use Rattle.std.proofs.Common.{IfSome, sym, ◌∙◌, ap, subst, refl, arith}
 use Rattle.std.specs.Prelude.{Option}
 use Rattle.std.specs.declared.sync.Arc.{Arc}
@@ -8,7 +8,7 @@ use Rattle.std.specs.FinMap.{entries, len, same_entries_map}
 use Rattle.std.proofs.lemmas.List.{take-append-drop, take-append-le, drop-append-le, take-map}
 use Rattle.std.proofs.lemmas.List.{length-take-le, length-drop, length-map, length-append, map-append}
 use Rattle.std.proofs.Math.Seq.{take-append-add, take-append_seam, drop-append-add, drop-append_seam}
-use Rattle.hyper_matrix.specs.Counts.{Place, ewise_add, total}
+use Rattle.hyper_matrix.specs.Counts.{Place, ewise_add}
 use Rattle.hyper_matrix.specs.Matrix.{Matrix, matrix}
 use Rattle.hyper_matrix.proofs.CountLaws.{ewise_add-empty}
 use Rattle.layer_compaction.specs.Shared.{content, values, all_counts, HaveDims}
@@ -57,17 +57,17 @@ pub put_between : {Z : Type 0} (runs before rest part behind after : List (Arc M
     values after ≡ with_one d (arc_value one) (values runs)
 put_between runs before rest part behind after run one d cut cut_again front here made same =
     let all : values runs ≡ values before ++ (values part ++ values behind) =
-      ap values (cut ∙ ap (λ l. before ++ l) cut_again) ∙ map-append arc_value before (part ++ behind)
-      ∙ ap (λ l. values before ++ l) (map-append arc_value part behind)
+    ap values (cut ∙ ap (λ l. before ++ l) cut_again) ∙ map-append arc_value before (part ++ behind)
+    ∙ ap (λ l. values before ++ l) (map-append arc_value part behind)
     in
     let from : d.from ≡ length (values before) = omega (arith, front, length-map before arc_value) in
     let count : d.count ≡ length (values part) = omega (arith, here, length-map part arc_value) in
     let first : take d.from (values runs) ≡ values before = (λ i. take (from i) (all i))
-      ∙ take-append_seam (values before) (values part ++ values behind)
+    ∙ take-append_seam (values before) (values part ++ values behind)
     in
     let last : drop (d.from + d.count) (values runs) ≡ values behind = (λ i. drop (from i + count i) (all i))
-      ∙ drop-append-add (values before) (values part ++ values behind) (length (values part))
-      ∙ drop-append_seam (values part) (values behind)
+    ∙ drop-append-add (values before) (values part ++ values behind) (length (values part))
+    ∙ drop-append_seam (values part) (values behind)
     in
     made ∙ ap (λ (m : Matrix). values before ++ m ∷ values behind) same
     ∙ sym (λ i. first i ++ arc_value one ∷ last i)
@@ -167,3 +167,20 @@ module _ (d : DueRuns) (runs : List Matrix) (within : d.from + d.count ≤ lengt
         within = omega arith;
         places_are = are ∙ sym (ap len (ewise_add-empty sum.counts));
       })
+
+-- runs that are due stay so where more are put behind
+pub due_beside : (r c : ℕ) (due : Option DueRuns) (held more all : List Matrix) → all ≡ held ++ more →
+    IfSome due (λ d. IsDue r c d held) → IfSome due (λ d. IsDue r c d all)
+due_beside r c None held more all are h = h
+due_beside r c (Some d) held more all are h = record {
+  within = omega (arith, h.within, ap length are, length-append held more);
+  told = h.told ∙ ap (λ l. numbers_of (matrix r c (content (all_counts l)))) (sym
+      (ap (part_from d.from d.count) are
+      ∙ ap (take d.count) (drop-append-le d.from held more (omega (arith, h.within)))
+      ∙ take-append-le d.count (drop d.from held) more (omega (arith, h.within, length-drop d.from held))));
+}
+
+-- a sum that has the numbers that were told is the sum of the runs that are due
+pub sum_due : (r c : ℕ) (d : DueRuns) (runs : List Matrix) (sum : Matrix) → IsDue r c d runs →
+    numbers_of sum ≡ d.told → sum ≡ matrix r c (content (all_counts (part_from d.from d.count runs)))
+sum_due r c d runs sum due told = numbers_same sum _ (told ∙ due.told)
