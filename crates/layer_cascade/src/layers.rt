@@ -231,8 +231,9 @@ impl Layers {
     ///
     /// What `gather` would add up or give a filter is due, but two neighbours of like size in a deeper layer however
     /// large they are, since nobody waits for their sum. Each layer has its turn, so that none is forgotten. Sums that
-    /// were made and wait are taken over first. Where the next layer's turn finds a sum that was begun and not made, it
-    /// is begun again: so call this while such a sum is made only to have it made twice, or after it was given up.
+    /// were made are taken over first, as by `settle`. A sum that was begun and isn't made is begun again when its
+    /// layer's turn comes, since it may have been given up: who begins the next one before the last one is made may
+    /// have the same one made twice.
     ///
     /// Takes the time and memory of some pointers for each matrix of a layer, at most 32. To drop what it gives is to
     /// give it up, and does no harm, and neither does an addition that comes before the sum is taken over: where it
@@ -252,8 +253,8 @@ impl Layers {
         Ok(Some(compaction))
     }
 
-    /// Puts the sums that were made in the stead of their matrices. Whether any was. What the layers hold stays, also on
-    /// an error. Takes the time and memory of a pointer for each matrix of the layers that have such a sum, and else a
+    /// Puts the sums that were made in the stead of their matrices. Whether any was. What the layers hold stays, also
+    /// on an error. Takes the time and memory of a pointer for each matrix of the layers that have such a sum, and else a
     /// step for each layer; what nobody else shares of the matrices is freed.
     ///
     /// # Errors

@@ -1,7 +1,7 @@
 //! Layers whose matrices are added up apart from them, while additions go on, beside layers that are left alone.
 //!
-//! `rt try --test --fail-alloc N` refuses the growth number N: the step is made once more then, and what the layers hold
-//! is as before.
+//! `rt try --test --fail-alloc N` refuses the growth number N: the step is made once more then, and what the layers
+//! hold is as before.
 use crate::adding::add;
 use crate::streams::{add_matrix, have_same_sizes, holds_first};
 use cells::Cell;
@@ -225,11 +225,16 @@ fn each_layer_has_its_turn(rt: HostRuntime) -> Result<(), Fail> {
     Ok(())
 }
 
+/// What may be given to another thread, and be shared with it.
+fn for_any_thread<T: Send + Sync>(value: T) -> T {
+    value
+}
+
 /// Two have the same compaction: whether the first to end is taken over, and the second is not.
 fn made_twice(rt: &impl Abort, alloc: Global) -> [bool; 3] {
-    let mut layers = layers_with(rt, alloc, 0, 8);
-    let first = begun(rt, alloc, &mut layers);
-    let second = begun(rt, alloc, &mut layers);
+    let mut layers = for_any_thread(layers_with(rt, alloc, 0, 8));
+    let first = for_any_thread(begun(rt, alloc, &mut layers));
+    let second = for_any_thread(begun(rt, alloc, &mut layers));
     let made_second = made(rt, alloc, &mut layers, second);
     let made_first = made(rt, alloc, &mut layers, first);
     let holds = sizes(&layers, 8) == [Some(8), Some(0), Some(1)];

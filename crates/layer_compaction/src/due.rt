@@ -154,7 +154,8 @@ pub struct Compaction {
 
 impl Compaction {
     /// Adds the runs up, with a filter of the sum's places where it has from `FEWEST_FILTERED` entries on, and puts the
-    /// sum in its place, where the layer finds it. Where another compaction of the same place was faster, its sum stays.
+    /// sum in its place, where the layer finds it. Where another compaction of the same place was faster, its sum
+    /// stays.
     ///
     /// Takes the time and memory of the sum, which shares the blocks that meet no other, and 1 to 2 bytes and some
     /// nanoseconds for each of its entries for the filter. A single run is copied, which shares all its blocks. It

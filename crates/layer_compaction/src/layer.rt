@@ -311,8 +311,7 @@ impl Layer {
             .min(self.runs.len());
         let places = places_to(alloc, &self.runs, self.counted, self.places, until)?;
         let runs = shared_runs(alloc, &self.runs, self.runs.len())?;
-        let due = copied(&self.due)?;
-        Ok(self.with_due(runs, until, places, due))
+        Ok(self.with_due(runs, until, places, copied(&self.due)?))
     }
 
     /// Takes in what is carried to this layer, if both together have at most the cut of entries. That is judged
