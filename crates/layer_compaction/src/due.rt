@@ -292,7 +292,6 @@ impl Due {
         requires counts { CountsPlaces counted places (values runs.now) }
         ensures { CountsPlaces result.0 result.1 (with_one self.now sum.now (values runs.now)) }
     {
-        let _within = runs.len();
         if counted <= self.from {
             return (counted, places);
         }
