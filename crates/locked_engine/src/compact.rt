@@ -11,20 +11,22 @@ use std::sync::ledger::Ledger;
 use std::sync::{Arc, MutexGuard, Wait};
 
 impl<N: Named, H: Ledger> Engine<N, H> {
-    /// Makes the compaction that is due next in shard s, and answers whether one was made. It may wait for other
-    /// threads at the shard's lock.
+    /// Makes the compaction that is due next in shard s: some of what puts left side by side in its layers is added up.
+    /// It may wait for other threads at the shard's lock.
     ///
-    /// Under that lock the compaction is begun; without any lock it is made, which takes the time and memory of adding
-    /// up the cells concerned; then the lock is taken once more, to put what was made in its place and to show readers
-    /// the shard with it. Under the lock only pointers are copied, and no cell is read, copied or freed: what was
-    /// replaced is freed once it was given back. What the shard holds stays throughout, and puts go on meanwhile. Where
-    /// one of them has replaced what was to be compacted, the work is dropped, and the answer is false.
+    /// Under that lock the compaction is begun. It is made without any lock, in the time and memory of a sum of the
+    /// cells concerned. Then the lock is taken once more, to put the sum in the place of what was added up and to show
+    /// readers the shard with it. Under the lock only pointers are copied, and no cell: what readers were shown before
+    /// is freed once the lock was given back, with what only that shared. What the shard holds stays throughout, and
+    /// puts go on meanwhile. Where one of them has carried on what was added up, the sum is dropped.
     ///
-    /// Where memory is refused the answer is false, and the shard, or what readers are shown of it, stays as it is. A
-    /// later call tries again; it begins with putting in place what was made before and could not be put there.
+    /// It answers whether a sum was put in place. With no other call beside it and no refusal of memory, false says
+    /// that nothing is due in the shard. Where memory is refused, what the shard holds and what readers are shown stay
+    /// as they are, and a later call tries again. It begins with putting in place what was made before and could not
+    /// be.
     ///
-    /// Any number of threads may call it, and none has to (`put` says what is left then). Whoever calls it after puts
-    /// until it answers false leaves nothing that is due.
+    /// Any number of threads may call it, but one is enough for an engine: two at one shard may make the same sum
+    /// twice. None has to; `put` says what is left then.
     pub fn compact<R: Wait>(&self, rt: &R, alloc: Global, s: u64) -> bool
         requires { s < N.setup.shards }
     {

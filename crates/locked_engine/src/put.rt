@@ -33,9 +33,9 @@ impl<N: Named, H: Ledger> Engine<N, H> {
     /// look-ups find the batch once the put was answered. What they were shown before is freed once all locks are given
     /// back.
     ///
-    /// A put leaves its parts side by side in the layers: `compact` adds them up without a shard's lock. Where nobody
-    /// calls that, a put itself adds up the layers that it meets once too many parts stand in one of them, under the
-    /// shard's lock; until then look-ups go through all of them.
+    /// A put leaves its parts side by side in the layers, and `compact` adds them up without a shard's lock. Where
+    /// nobody calls that, a layer comes to have as many parts as it holds at most, of which a look-up asks each; the
+    /// put that meets such a layer adds it up, under the shard's lock.
     ///
     /// A first acceptance raises the seat's first share by the batch's total. After every other answer that share is as
     /// before, and so are, as far as this call goes, every shard and the book, but for free places.
