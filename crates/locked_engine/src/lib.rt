@@ -9,6 +9,10 @@
 //! Readers wait for none of that: `Engine::cell`, `row` and `export` read what a shard shows, its layers after its last
 //! commit. Whoever commits exchanges it before the shard's lock is given back, so a put that was answered is found.
 //!
+//! Nor do puts wait for the sums of what they leave side by side in the layers: `Engine::compact` makes these without
+//! a lock, and takes the shard's lock to begin and to put the sum in place, each time for as long as pointers are
+//! copied.
+//!
 //! What no lock can know, that the shards together hold exactly what the book accepted, is counted by two ledgers
 //! (`std::sync::ledger`), which take no bytes and no time: the book's total is the number of both. Of the first each
 //! seat holds a share, what its puts were the first to have accepted. Of the second each shard holds a share, which is
@@ -17,6 +21,7 @@
 #![tactic(auto)]
 
 mod close;
+mod compact;
 mod engine;
 mod export;
 mod fault;

@@ -31,8 +31,11 @@ impl<N: Named, H: Ledger> Engine<N, H> {
     /// lock, and under a shard's lock only those of the part and of the layers that it meets. Before a shard's lock is
     /// given back readers are shown the shard with the part, by a version that was made when the shard was prepared; so
     /// look-ups find the batch once the put was answered. What they were shown before is freed once all locks are given
-    /// back. Then one of these shards, another at each put, may be locked once more, to add up or count some of what
-    /// stands side by side in its layers (`Shard::gather`).
+    /// back.
+    ///
+    /// A put leaves its parts side by side in the layers, and `compact` adds them up without a shard's lock. Where
+    /// nobody calls that, a layer comes to have as many parts as it holds at most, of which a look-up asks each; the
+    /// put that meets such a layer adds it up, under the shard's lock.
     ///
     /// A first acceptance raises the seat's first share by the batch's total. After every other answer that share is as
     /// before, and so are, as far as this call goes, every shard and the book, but for free places.
@@ -165,30 +168,7 @@ impl<N: Named, H: Ledger> Engine<N, H> {
         let kept = self.put_from(
             rt, alloc, first, second, seen, place, own, &parts, &mut past, 0,
         )?;
-        drop(past);
-        let due = kept.index % self.setup.shards();
-        if let Some(Some(_)) = parts.get(due as usize) {
-            self.gather(rt, alloc, due);
-        }
         Ok(kept)
-    }
-
-    // Adds up parts that stand side by side in a shard, or counts their places, while no other lock is held. Each
-    // accepted batch takes one such step in at most one of the shards that it concerns, another in turn: so a put finds
-    // few to add up or count in its shards. Readers are shown the shard with these sums, so that what they replace is
-    // freed, once the lock is given back. What the shard holds stays, and where memory is refused the parts, or what is
-    // shown, stay as they are.
-    fn gather<R: Wait>(&self, rt: &R, alloc: Global, s: u64)
-        requires { s < N.setup.shards }
-    {
-        let mut guard = self.shards[s as usize].lock(rt);
-        let locked = &mut *guard;
-        let Some(version) = locked.gather(alloc, s) else {
-            return;
-        };
-        let replaced = self.show(rt, s, version);
-        let _ = MutexGuard::unlock(guard);
-        drop(replaced);
     }
 
     // The shards from s on: each that the batch concerns is locked and made ready, then the book accepts, and on the
