@@ -143,6 +143,26 @@ impl PlainEngine {
         Ok(())
     }
 
+    // The engine that has put these batches behind those that were accepted.
+    fn with_batches(self, alloc: Global, batches: &[Arc<Batch>]) -> Result<PlainEngine, LoadFault>
+        requires { HaveDims self.setup.rows self.setup.cols (values batches.now) }
+        ensures setup { IfOk result (λ e. e.setup ≡ self.setup) }
+        ensures state { IfOk result (λ e. e.book.state ≡ accepted self.book.state.base self.book.state.folded
+            (self.book.state.list ++ values batches.now)) }
+        ensures ok { OnOk result (first_refusal self.setup (entries_in self.book.state)
+            (entries_of (values batches.now)) ≡ None) }
+        ensures err { IfErr result (λ fault. (fault ≡ LoadFault.Memory → ⊥) →
+            first_refusal self.setup (entries_in self.book.state) (entries_of (values batches.now)) ≡ Some fault) }
+        ensures accepted { first_refusal self.setup (entries_in self.book.state) (entries_of (values batches.now)) ≡ None →
+            IfErr result (λ fault. fault ≡ LoadFault.Memory) }
+    {
+        let mut engine = self;
+        match engine.load_all(alloc, batches) {
+            Ok(()) => Ok(engine),
+            Err(fault) => Err(fault),
+        }
+    }
+
     /// An engine that has put these batches in order: that of `from_folded` where nothing is folded.
     ///
     /// # Errors
@@ -164,9 +184,8 @@ impl PlainEngine {
             first_refusal setup [] (entries_of (values list.now)) ≡ Some fault) }
         ensures accepted { AreAccepted setup (unfolded (values list.now)) → IfErr result (λ fault. fault ≡ LoadFault.Memory) }
     {
-        let mut engine = PlainEngine::new(rt, alloc, setup)?;
-        engine.load_all(alloc, list)?;
-        Ok(engine)
+        let engine = PlainEngine::new(rt, alloc, setup)?;
+        engine.with_batches(alloc, list)
     }
 
     /// An engine that has accepted what this list tells: its folded batches by their entries, over its base, which is
@@ -193,8 +212,7 @@ impl PlainEngine {
         ensures accepted { AreAccepted setup (accepted_in list.now) → IfErr result (λ fault. fault ≡ LoadFault.Memory) }
     {
         judge_folded(alloc, &setup, &list.folded)?;
-        let mut engine = PlainEngine::with_folded(rt, alloc, setup, &list.base, &list.folded)?;
-        engine.load_all(alloc, &list.batches)?;
-        Ok(engine)
+        let engine = PlainEngine::with_folded(rt, alloc, setup, &list.base, &list.folded)?;
+        engine.with_batches(alloc, &list.batches)
     }
 }

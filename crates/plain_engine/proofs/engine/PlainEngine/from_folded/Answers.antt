@@ -17,9 +17,8 @@ returns-in_err-judge_folded-clause-accepted g c = λ accepted.
     (λ other. ap (λ (l : List Entry). first_refusal c.args.setup [] (l ++ entries_of c.args.list.now.list))
     (sym (c.deref.ensures.value ∙ ap (λ (l : Listing). l.folded) c.list.view_is)) ∙ c.in_err-judge_folded.ensures.err other (entries_of c.args.list.now.list)))
 
-pub returns-in_err-load_all-clause-accepted : goal.returns-in_err-load_all-clause-accepted
-returns-in_err-load_all-clause-accepted g c = λ accepted.
-    let p = err_from_is_err_and c.from_residual-in_err-load_all.result c.from_residual-in_err-load_all.ensures.1 in
+pub returns-clause-accepted : goal.returns-clause-accepted
+returns-clause-accepted g c = λ accepted.
     let made = c.in_ok-engine.ensures in
     let folded = c.args.list.now.folded in
     let es = entries_of c.args.list.now.list in
@@ -34,7 +33,6 @@ returns-in_err-load_all-clause-accepted g c = λ accepted.
     ∙ none_refused c.args.setup (accepted_in c.args.list.now) accepted in
     let batches : values c.deref-3.result.now ≡ c.args.list.now.list = ap values c.deref-3.ensures.value
     ∙ ap (λ (l : Listing). l.list) c.list.view_is in
-    rw (p.1, p.2) (memory_alone _ c.in_err-load_all.field-0.0 none (λ other.
-    ap (λ (l : List Submission). first_refusal c.in_ok-engine.engine.setup
-    (entries_in c.in_ok-engine.engine.book.state) (entries_of l)) (sym batches)
-    ∙ c.in_err-load_all.ensures.err other))
+    c.with_batches.ensures.accepted
+    (ap (λ (l : List Submission). first_refusal c.in_ok-engine.engine.setup
+    (entries_in c.in_ok-engine.engine.book.state) (entries_of l)) batches ∙ none)
