@@ -18,7 +18,7 @@ size_of reader = declared_size reader.lines.progress.stage
 
 -- the bytes that the source gave and that aren't judged yet
 abbrev pub pending : TextReader → List ℕ
-pending reader = take (reader.end - reader.start) (drop reader.start reader.piece.items)
+pending reader = reader.buffer
 
 -- The reader works under these limits, the source has given it these answers, and it has handed out these cells:
 -- those of the whole lines that it has judged, which bear no fault.

@@ -1,4 +1,5 @@
-use Rattle.mm_text.proofs.WriterLemmas.{on_ok_both, written_whole}
+use Rattle.byte_io.proofs.BufferLemmas.{written_whole}
+use Rattle.mm_text.proofs.WriterLemmas.{on_ok_both}
 use Rattle.mm_text.proofs.writer.TextWriter.finish.Goals as goal
 
 pub returns-clause-ok : goal.returns-clause-ok
