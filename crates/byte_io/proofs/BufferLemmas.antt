@@ -76,10 +76,10 @@ moved_front old new start count n within len same copied =
     get_or-take count new k d less ∙ copied k d (omega arith) (omega arith) ∙ ap (λ i. get_or old i d) there ∙
     sym (get_or-drop start old k d) ∙ sym (get_or-take count (drop start old) k d less))
 
-bytes_behind : (n : ℕ) (bytes : List ℕ) → IsBytes bytes → IsBytes (drop n bytes)
+pub bytes_behind : (n : ℕ) (bytes : List ℕ) → IsBytes bytes → IsBytes (drop n bytes)
 bytes_behind n bytes h i = rw get_or-drop (h (n + i))
 
-bytes_before : (n : ℕ) (bytes : List ℕ) → IsBytes bytes → IsBytes (take n bytes)
+pub bytes_before : (n : ℕ) (bytes : List ℕ) → IsBytes bytes → IsBytes (take n bytes)
 bytes_before n bytes h i =
     elim (cases_lt i n) [
       | inl lt ↦ rw (get_or-take n bytes i 0 lt) (h i)

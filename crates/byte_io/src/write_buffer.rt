@@ -63,7 +63,7 @@ impl WriteBuffer {
         requires failures { W.failure_count w.old + 1 < 2 ^ 64 }
         requires countable { self.old.taken + length self.old.pending < 2 ^ 127 }
         ensures pending { OnOk result (self.new.pending ≡ []) }
-        ensures count { OnOk result (self.new.taken ≡ self.old.taken + length self.old.pending) }
+        ensures count { self.new.taken + length self.new.pending ≡ self.old.taken + length self.old.pending }
         ensures ok { OnOk result ((s : W) (text : List ℕ) →
             HasWritten W.write_takes W.failure_count s w.old text self.old →
             HasWritten W.write_takes W.failure_count s w.new text self.new) }
@@ -93,8 +93,7 @@ impl WriteBuffer {
         requires countable { self.old.taken + length self.old.pending < 2 ^ 127 }
         requires len { len ≤ WRITE_CAPACITY }
         ensures room { OnOk result (length self.new.pending + len ≤ WRITE_CAPACITY) }
-        ensures count { OnOk result (self.new.taken + length self.new.pending ≡
-            self.old.taken + length self.old.pending) }
+        ensures count { self.new.taken + length self.new.pending ≡ self.old.taken + length self.old.pending }
         ensures ok { OnOk result ((s : W) (text : List ℕ) →
             HasWritten W.write_takes W.failure_count s w.old text self.old →
             HasWritten W.write_takes W.failure_count s w.new text self.new) }

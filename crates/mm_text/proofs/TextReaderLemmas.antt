@@ -1,7 +1,7 @@
 -- What a reader has read, after each of its steps.
-use Rattle.std.proofs.Common.{inl, inr, ◌≡◌, ℕ, zero, suc, ◌+◌, ◌-◌, ◌<◌, ◌≤◌, ◌⊎◌, List, [], ◌∷◌, ◌++◌, length, take}
+use Rattle.std.proofs.Common.{inl, inr, ◌≡◌, ℕ, zero, suc, ◌+◌, ◌<◌, ◌≤◌, ◌⊎◌, List, [], ◌∷◌, ◌++◌, length, take}
 use Rattle.std.proofs.Common.{drop, refl, sym, ◌∙◌, ap, arith, append_assoc, length-append, length-take, length-drop}
-use Rattle.std.proofs.lemmas.List.{append-nil, take-append-drop, drop-take, drop-drop, take-take}
+use Rattle.std.proofs.lemmas.List.{append-nil, take-append-drop}
 use Rattle.std.specs.Prelude.{Ok, Err, Some}
 use Rattle.mm_text.specs.Stages.{state_of, Holds, Advances, StopsWithin, BeginsWith, EndsText, EndsWithin}
 use Rattle.mm_text.specs.Stages.{declared_size}

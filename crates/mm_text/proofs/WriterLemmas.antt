@@ -1,10 +1,10 @@
 -- A TextWriter: the lines of the cells that were appended.
-use Rattle.std.proofs.Common.{◌≡◌, ℕ, ◌+◌, ◌<◌, List, [], ◌++◌, length, take, drop, Result, Ok, Err, sym, ap, subst}
-use Rattle.std.proofs.Common.{◌∙◌, arith, append_assoc, length-append, get_or, OnOk}
-use Rattle.std.proofs.lemmas.List.{append-nil, take-append-drop, take_more, flat_map_more}
+use Rattle.std.proofs.Common.{◌≡◌, ℕ, ◌+◌, ◌<◌, List, ◌++◌, length, take, drop, Result, Ok, Err, sym, ap, subst}
+use Rattle.std.proofs.Common.{◌∙◌, append_assoc, get_or, OnOk}
+use Rattle.std.proofs.lemmas.List.{take-append-drop, take_more, flat_map_more}
 use Rattle.std.proofs.lemmas.Grind.{flat_map-append}
 use Rattle.mm_text.specs.Canonical.{entry_line, entry_lines}
-use Rattle.mm_text.specs.Writing.{HasWritten, WriterState}
+use Rattle.byte_io.specs.Buffers.{HasWritten, Unwritten}
 use Rattle.byte_io.specs.Writing.{HasStopped}
 use Rattle.byte_io.proofs.SinkLemmas.{has_stopped_longer}
 use Rattle.cells.specs.declared.cell.Cell.{Cell}
@@ -30,11 +30,11 @@ on_ok_both (Err e) f p q = tt
 
 -- one line more, or a stop within it
 pub written_next : {S : Type 0} (step : S → List ℕ → Answer → S → Type 0) (failures : S → ℕ) (s t : S) (text : List ℕ)
-    (cells : List Cell) (i : ℕ) (d : Cell) (writer : WriterState) → i < length cells →
-    HasWritten step failures s t ((text ++ entry_lines (take i cells)) ++ entry_line (get_or cells i d)) writer →
-    HasWritten step failures s t (text ++ entry_lines (take (i + 1) cells)) writer
-written_next step failures s t text cells i d writer within a =
-    subst (λ v. HasWritten step failures s t v writer) (entry_lines_more text cells i d within) a
+    (cells : List Cell) (i : ℕ) (d : Cell) (buffer : Unwritten) → i < length cells →
+    HasWritten step failures s t ((text ++ entry_lines (take i cells)) ++ entry_line (get_or cells i d)) buffer →
+    HasWritten step failures s t (text ++ entry_lines (take (i + 1) cells)) buffer
+written_next step failures s t text cells i d buffer within a =
+    subst (λ v. HasWritten step failures s t v buffer) (entry_lines_more text cells i d within) a
 
 pub stopped_within : {S : Type 0} (step : S → List ℕ → Answer → S → Type 0) (failures : S → ℕ) (s t : S)
     (text : List ℕ) (cells : List Cell) (i : ℕ) (d : Cell) (n : ℕ) → i < length cells →

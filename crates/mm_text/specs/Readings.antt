@@ -1,5 +1,5 @@
 -- What a reader of texts has read of its source, and what one more block adds to it.
-use Rattle.std.specs.Prelude.{◌≡◌, ℕ, ◌+◌, ◌-◌, ◌<◌, ◌≤◌, Bool, true, false, List, [], ◌∷◌, ◌++◌, length, take, drop}
+use Rattle.std.specs.Prelude.{◌≡◌, ℕ, ◌+◌, ◌<◌, ◌≤◌, Bool, true, false, List, [], ◌∷◌, ◌++◌, length}
 use Rattle.std.specs.Prelude.{Option, Some, None, Ok}
 use Rattle.cells.specs.Bounds.{IsDimension, AreWithin}
 use Rattle.byte_io.specs.Streams.{Answer, Calls, bytes_of_calls}

@@ -3,20 +3,15 @@ use Rattle.std.specs.Prelude.{ℕ, List}
 use Rattle.byte_io.specs.Streams.{Answer}
 use Rattle.byte_io.specs.Buffers.{Unwritten, HasWritten as BufferHasWritten}
 
--- what a TextWriter knows: the dimensions that it wrote, how many bytes the sink took, those that it still has to hand
--- on, and how many entry lines are still to come
+-- what a TextWriter knows: the dimensions that it wrote, what its buffer holds, and how many entry lines are still to
+-- come
 pub record WriterState : Type 0 where
   pub rows : ℕ
   pub cols : ℕ
-  pub taken : ℕ
-  pub pending : List ℕ
+  pub buffer : Unwritten
   pub left : ℕ
-
--- what its buffer holds
-abbrev pub unwritten : WriterState → Unwritten
-unwritten writer = record { taken = writer.taken; pending = writer.pending }
 
 -- The calls that led from s to t took the front of the text, and the rest of it is pending.
 abbrev pub HasWritten : {S : Type 0} → (S → List ℕ → Answer → S → Type 0) → (S → ℕ) → S → S → List ℕ → WriterState →
     Type 0
-HasWritten step failures s t text writer = BufferHasWritten step failures s t text (unwritten writer)
+HasWritten step failures s t text writer = BufferHasWritten step failures s t text writer.buffer

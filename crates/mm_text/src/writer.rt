@@ -38,8 +38,8 @@ fn push_line(buffer: &mut WriteBuffer, first: u64, second: u64, third: u64)
 ///
 /// Every call is to be given the same sink. The writer holds a buffer of 16,384 bytes in itself and takes no memory.
 /// After a call that answered Err it is of no more use, and what it still held is lost. Contracts see it as a
-/// `WriterState`: the dimensions of the text, within which all cells lie, the bytes that the sink took, those that are
-/// pending, and how many entry lines are still to come.
+/// `WriterState`: the dimensions of the text, within which all cells lie, the bytes that the sink took and those that
+/// are pending, and how many entry lines are still to come.
 #[derive(Drop)]
 pub struct TextWriter {
     rows: u64,
@@ -58,8 +58,7 @@ impl Model for TextWriter {
     ghost view = { λ w. record {
       rows = w.rows;
       cols = w.cols;
-      taken = w.buffer.taken;
-      pending = w.buffer.pending;
+      buffer = w.buffer;
       left = w.left;
     } };
 
@@ -73,8 +72,8 @@ impl TextWriter {
         requires rows { IsDimension rows }
         requires cols { IsDimension cols }
         ensures dims { (result.rows ≡ rows) × (result.cols ≡ cols) }
-        ensures taken { result.taken ≡ 0 }
-        ensures pending { result.pending ≡ canonical_head rows cols entries }
+        ensures taken { result.buffer.taken ≡ 0 }
+        ensures pending { result.buffer.pending ≡ canonical_head rows cols entries }
         ensures left { result.left ≡ entries }
     {
         let mut buffer = WriteBuffer::new();
@@ -92,10 +91,10 @@ impl TextWriter {
     fn push_cell(&mut self, cell: Cell)
         requires within { IsWithin self.old.rows self.old.cols cell }
         requires declared { 0 < self.old.left }
-        requires room { length self.old.pending + LONGEST_LINE ≤ WRITE_CAPACITY }
+        requires room { length self.old.buffer.pending + LONGEST_LINE ≤ WRITE_CAPACITY }
         ensures dims { (self.new.rows ≡ self.old.rows) × (self.new.cols ≡ self.old.cols) }
-        ensures taken { self.new.taken ≡ self.old.taken }
-        ensures pending { self.new.pending ≡ self.old.pending ++ entry_line cell }
+        ensures taken { self.new.buffer.taken ≡ self.old.buffer.taken }
+        ensures pending { self.new.buffer.pending ≡ self.old.buffer.pending ++ entry_line cell }
         ensures left { self.new.left + 1 ≡ self.old.left }
     {
         push_line(&mut self.buffer, cell.row + 1, cell.col + 1, cell.count);
@@ -107,7 +106,7 @@ impl TextWriter {
         requires { W.failure_count w.old + 1 < 2 ^ 64 }
         ensures dims { OnOk result ((self.new.rows ≡ self.old.rows) × (self.new.cols ≡ self.old.cols)) }
         ensures left { OnOk result (self.new.left ≡ self.old.left) }
-        ensures room { OnOk result (length self.new.pending + LONGEST_LINE ≤ WRITE_CAPACITY) }
+        ensures room { OnOk result (length self.new.buffer.pending + LONGEST_LINE ≤ WRITE_CAPACITY) }
         ensures ok { OnOk result ((s : W) (text : List ℕ) →
             HasWritten W.write_takes W.failure_count s w.old text self.old →
             HasWritten W.write_takes W.failure_count s w.new text self.new) }

@@ -1,4 +1,4 @@
-use Rattle.std.proofs.Common.{ap, arith, refl, length, ◌∙◌}
+use Rattle.std.proofs.Common.{ap, arith, refl, length}
 use Rattle.std.specs.Prelude.{Result, Ok, Err, IfErr}
 use Rattle.std.proofs.lemmas.Result.{on_ok_weaker}
 use Rattle.std.proofs.lemmas.List.{take_all}
