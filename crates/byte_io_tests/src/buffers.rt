@@ -1,10 +1,9 @@
 //! Buffers in front of a source and of a sink.
-ghost use Rattle.std.specs.Prelude.{◌≡◌, ◌+◌, ◌<◌, ◌≤◌, ◌^◌, length, IfOk};
+ghost use Rattle.std.specs.Prelude.{◌≤◌};
 
 use crate::splits::push_piece;
 use byte_io::{
-    DeviceFault, READ_CAPACITY, ReadBuffer, Script, Sink, Source, WRITE_CAPACITY, WriteBuffer,
-    WriteFault,
+    DeviceFault, READ_CAPACITY, ReadBuffer, Script, Source, WRITE_CAPACITY, WriteBuffer, WriteFault,
 };
 use std::alloc::Global;
 use std::io::Eprint;
@@ -12,9 +11,7 @@ use std::process::Abort;
 use test_support::{same, same_at};
 
 // A script that gives these pieces, of which one read fails.
-fn giving(rt: &impl Abort, alloc: Global, given: &[&str], fail_read: Option<u64>) -> Script
-    ensures { result.failures ≡ 0 }
-{
+fn giving(rt: &impl Abort, alloc: Global, given: &[&str], fail_read: Option<u64>) -> Script {
     let mut pieces = Vec::new(alloc);
     for piece in given {
         push_piece(&mut pieces, alloc, piece.as_bytes()).expect(rt, "memory");
@@ -28,10 +25,8 @@ fn fill_leaves(
     script: &mut Script,
     most: usize,
     pending: &str,
-) -> (Result<usize, DeviceFault>, bool)
-    requires { script.old.failures + 1 < 2 ^ 64 }
-{
-    if buffer.pending().len() >= READ_CAPACITY {
+) -> (Result<usize, DeviceFault>, bool) {
+    if buffer.pending().len() >= READ_CAPACITY || Source::failures(script) > 9 {
         return (Ok(0), false);
     }
     let came = buffer.fill(script, most);
