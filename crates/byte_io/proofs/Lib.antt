@@ -3,3 +3,4 @@ pub mod SinkLemmas
 pub mod ScriptLemmas
 pub mod KnownLemmas
 pub mod WrapperLemmas
+pub mod BufferLemmas

@@ -1,7 +1,7 @@
 -- What a reader has read, after each of its steps.
-use Rattle.std.proofs.Common.{inl, inr, ◌≡◌, ℕ, zero, suc, ◌+◌, ◌-◌, ◌<◌, ◌≤◌, ◌⊎◌, List, [], ◌∷◌, ◌++◌, length, take}
+use Rattle.std.proofs.Common.{inl, inr, ◌≡◌, ℕ, zero, suc, ◌+◌, ◌<◌, ◌≤◌, ◌⊎◌, List, [], ◌∷◌, ◌++◌, length, take}
 use Rattle.std.proofs.Common.{drop, refl, sym, ◌∙◌, ap, arith, append_assoc, length-append, length-take, length-drop}
-use Rattle.std.proofs.lemmas.List.{append-nil, take-append-drop, drop-take, drop-drop, take-take}
+use Rattle.std.proofs.lemmas.List.{append-nil, take-append-drop}
 use Rattle.std.specs.Prelude.{Ok, Err, Some}
 use Rattle.mm_text.specs.Stages.{state_of, Holds, Advances, StopsWithin, BeginsWith, EndsText, EndsWithin}
 use Rattle.mm_text.specs.Stages.{declared_size}
@@ -21,18 +21,6 @@ use Rattle.mm_text.proofs.PiecesLemmas.{explains_read, explains_cut, holds_none,
 use Rattle.mm_text.proofs.ExplainLemmas.{explains_weaker}
 use Rattle.byte_io.proofs.StreamLemmas.{calls-append, bytes_of_calls-append}
 
-drop_two : (bytes : List ℕ) (s n : ℕ) → drop (s + n) bytes ≡ drop n (drop s bytes)
-drop_two bytes s n = sym (drop-drop n s bytes)
-
--- what is pending behind n bytes of it
-pub pending_rest : (bytes : List ℕ) (s e n : ℕ) → n ≤ e - s →
-    take (e - (s + n)) (drop (s + n) bytes) ≡ drop n (take (e - s) (drop s bytes))
-pending_rest bytes s e n h =
-    let m : e - (s + n) ≡ e - s - n = omega arith in
-    let k : n + (e - s - n) ≡ e - s = omega arith in
-    rw (m, drop_two bytes s n) (sym (ap (λ x. drop n (take x (drop s bytes))) (sym k)
-    ∙ drop-take n (e - s - n) (drop s bytes)))
-
 module _ (reader : TextReader) (limits : TextLimits) (answers : List Answer) (given : List Cell)
     (h : HasRead limits answers given reader) where
   pub read_fits : length h.judged + length (pending reader) ≤ limits.max_bytes
@@ -49,19 +37,15 @@ module _ (reader : TextReader) (limits : TextLimits) (answers : List Answer) (gi
 
 -- the reader has judged n of the bytes that were pending
 pub takes_pending : (reader reader' : TextReader) (n : ℕ) (block block' : List Cell) → reader'.limits ≡ reader.limits →
-    reader'.piece.items ≡ reader.piece.items → reader'.end ≡ reader.end →
-    reader'.room ≡ reader.room → reader'.start ≡ reader.start + n → n ≤ length (pending reader) →
+    reader'.room ≡ reader.room → pending reader' ≡ drop n (pending reader) → n ≤ length (pending reader) →
     Advances reader.limits (take n (pending reader)) (state_of reader.lines) block (state_of reader'.lines) block' →
     TakesPending reader reader' block block'
 unfolding size_of
-takes_pending reader reader' n block block' limits_e piece_e end_e room_e start_e n_fits a = record {
+takes_pending reader reader' n block block' limits_e room_e rest n_fits a = record {
   cells = a.cells;
   block_is = a.block_is;
   has_read = λ limits answers given h.
       let fits = read_fits reader limits answers given h in
-      let rest : pending reader' ≡ drop n (pending reader) =
-      rw (piece_e, end_e, start_e) (pending_rest reader.piece.items reader.start reader.end n
-      (omega (arith, length-take (reader.end - reader.start) (drop reader.start reader.piece.items)))) in
       let a' = rw h.limits_are at a.holds in
       record {
         limits_are = limits_e ∙ h.limits_are;
@@ -145,14 +129,11 @@ takes_twice r0 r1 r2 b0 b1 b2 x y = record {
   size_kept = λ s e. y.size_kept s (x.size_kept s e);
 }
 
-pending_none : (reader : TextReader) → reader.start ≡ reader.end → pending reader ≡ []
-pending_none reader e = let z : reader.end - reader.start ≡ 0 = omega arith in rw z refl
-
 -- byte number max_bytes + 1 was read, and all before it is judged
-pub shows_too_long : (reader : TextReader) (line : ℕ) → reader.start ≡ reader.end → reader.room ≡ 0 →
+pub shows_too_long : (reader : TextReader) (line : ℕ) → pending reader ≡ [] → reader.room ≡ 0 →
     line ≡ reader.lines.progress.lines + 1 → ShowsRead reader ⊥ ⊥ TooLong line
 shows_too_long reader line e none line_is = λ limits answers given h.
-    let p = pending_none reader e in
+    let p = e in
     let text : bytes_of_calls answers ≡ h.judged ++ h.beyond = h.text_is
     ∙ ap (λ t. t ++ h.beyond) (ap (λ t. h.judged ++ t) p ∙ append-nil h.judged) in
     let one = h.one_beyond none in
@@ -163,13 +144,13 @@ shows_too_long reader line e none line_is = λ limits answers given h.
 
 -- where nothing is pending and more may come, all that was read is judged
 read_all : (reader : TextReader) (limits : TextLimits) (answers : List Answer) (given : List Cell)
-    (h : HasRead limits answers given reader) → reader.start ≡ reader.end → 0 < reader.room →
+    (h : HasRead limits answers given reader) → pending reader ≡ [] → 0 < reader.room →
     bytes_of_calls answers ≡ h.judged
 read_all reader limits answers given h e some =
-    h.text_is ∙ ap (λ t. t ++ h.beyond) (ap (λ t. h.judged ++ t) (pending_none reader e) ∙ append-nil h.judged)
+    h.text_is ∙ ap (λ t. t ++ h.beyond) (ap (λ t. h.judged ++ t) e ∙ append-nil h.judged)
     ∙ ap (λ t. h.judged ++ t) (h.none_beyond some) ∙ append-nil h.judged
 
-pub first_end : (reader : TextReader) (block block' : List Cell) → reader.start ≡ reader.end → 0 < reader.room →
+pub first_end : (reader : TextReader) (block block' : List Cell) → pending reader ≡ [] → 0 < reader.room →
     EndsWithin reader.limits (state_of reader.lines) block block' → AddsFirst reader block block'
 first_end reader block block' e some t = record {
   cells = t.cells;
@@ -178,14 +159,14 @@ first_end reader block block' e some t = record {
       rw (read_all reader limits answers given h e some) (s h.judged given h.holds);
 }
 
-pub shows_failure : (reader : TextReader) (line : ℕ) → reader.start ≡ reader.end → 0 < reader.room →
+pub shows_failure : (reader : TextReader) (line : ℕ) → pending reader ≡ [] → 0 < reader.room →
     line ≡ reader.lines.progress.lines + 1 → ShowsRead reader ⊥ (Unit {0}) Read line
 shows_failure reader line e some line_is = λ limits answers given h.
     rw (read_all reader limits answers given h e some)
     (explains_read limits h.judged reader.lines.carry.items reader.lines.progress.stage given
     reader.lines.progress.lines h.holds ⊥ (Unit {0}) line tt line_is)
 
-pub finishes : (reader reader' : TextReader) (block block' : List Cell) → reader.start ≡ reader.end → 0 < reader.room →
+pub finishes : (reader reader' : TextReader) (block block' : List Cell) → pending reader ≡ [] → 0 < reader.room →
     EndsText reader.limits (state_of reader.lines) block reader'.lines.progress.stage block' →
     Finishes reader reader' block block'
 unfolding size_of
@@ -199,53 +180,52 @@ finishes reader reader' block block' e some t = record {
   size_kept = t.size_kept;
 }
 
-pub shows_end : (reader : TextReader) (kind : MmKind) (line : ℕ) → reader.start ≡ reader.end → 0 < reader.room →
+pub shows_end : (reader : TextReader) (kind : MmKind) (line : ℕ) → pending reader ≡ [] → 0 < reader.room →
     ((text : List ℕ) (given : List Cell) → Holds reader.limits text (state_of reader.lines) given →
     Explains text reader.limits (Unit {0}) ⊥ kind line) →
     ShowsRead reader (Unit {0}) ⊥ kind line
 shows_end reader kind line e some f = λ limits answers given h. let s = rw h.limits_are at f in
     rw (read_all reader limits answers given h e some) (s h.judged given h.holds)
 
--- n bytes came, of which the last may be the one that is too many
-module _ {S : Type 0} (gives : S → Answer → S → Type 0) (source source' : S) (reader reader' : TextReader) (n : ℕ)
+-- n bytes came, of which the last may be the one that is too many, and the first m are pending
+module _ {S : Type 0} (gives : S → Answer → S → Type 0) (source source' : S) (reader reader' : TextReader) (n m : ℕ)
     (bytes : List ℕ) where
-  pub fills : gives source (Ok bytes) source' → length bytes ≡ n → bytes ≡ take n reader'.piece.items →
+  pub fills : gives source (Ok bytes) source' → length bytes ≡ n → pending reader' ≡ take m bytes →
       reader'.limits ≡ reader.limits → reader'.lines.carry.items ≡ reader.lines.carry.items →
       reader'.lines.progress ≡ reader.lines.progress →
-      reader.start ≡ reader.end → 0 < reader.room → reader'.start ≡ 0 → reader'.room + n ≡ reader.room →
-      reader'.end ≤ n →
-      (0 < reader'.room → reader'.end ≡ n) → (reader'.room ≡ 0 → reader'.end + 1 ≡ n) →
+      pending reader ≡ [] → 0 < reader.room → reader'.room + n ≡ reader.room →
+      (0 < reader'.room → m ≡ n) → (reader'.room ≡ 0 → m + 1 ≡ n) →
       Fills gives source source' reader reader' n
-  fills gave size_is bytes_are limits_e carry_e reading_e empty some start_e room_e end_e more last = record {
+  fills gave size_is front limits_e carry_e reading_e empty some room_e more last = record {
     bytes = bytes;
     gave = gave;
     size_is = size_is;
     some = λ n_some limits answers given h. record {
       limits_are = limits_e ∙ h.limits_are;
       judged = h.judged;
-      beyond = drop reader'.end bytes;
+      beyond = drop m bytes;
       text_is = calls answers ∙ ap (λ t. t ++ bytes) (read_all reader limits answers given h empty some)
-          ∙ ap (λ t. h.judged ++ t) (sym (take-append-drop reader'.end bytes)
-          ∙ ap (λ t. t ++ drop reader'.end bytes) (sym front))
-          ∙ sym (append_assoc h.judged (pending reader') (drop reader'.end bytes));
+          ∙ ap (λ t. h.judged ++ t) (sym (take-append-drop m bytes)
+          ∙ ap (λ t. t ++ drop m bytes) (sym front))
+          ∙ sym (append_assoc h.judged (pending reader') (drop m bytes));
       holds = rw (carry_e, reading_e) h.holds;
       room_is = let c = ap length (calls answers) in let r = h.room_is in
           omega (arith, length-append (bytes_of_calls answers) bytes);
-      none_beyond = λ s. let m = more s in let e : drop n bytes ≡ [] = drop_end bytes n (omega arith) in rw m e;
-      one_beyond = λ s. let m = last s in omega (arith, length-drop reader'.end bytes);
+      none_beyond = λ s. let same = more s in drop_end bytes m (omega arith);
+      one_beyond = λ s. let less = last s in omega (arith, length-drop m bytes);
       reads = let c = ap length (calls answers) in let r = h.reads in
           omega (arith, length-append (bytes_of_calls answers) bytes, length-append answers (Ok bytes ∷ []));
     };
     none = λ none limits answers given h.
         let some' : 0 < reader'.room = omega arith in
-        let m = more some' in
-        let empty' : reader'.start ≡ reader'.end = omega arith in
+        let zero_m : m ≡ 0 = let same = more some' in omega arith in
+        let empty' : pending reader' ≡ [] = front ∙ ap (λ k. take k bytes) zero_m in
         record {
           limits_are = limits_e ∙ h.limits_are;
           judged = h.judged;
           beyond = [];
           text_is = read_all reader limits answers given h empty some ∙ sym (append-nil h.judged)
-              ∙ ap (λ t. h.judged ++ t) (sym (pending_none reader' empty'))
+              ∙ ap (λ t. h.judged ++ t) (sym empty')
               ∙ sym (append-nil (h.judged ++ pending reader'));
           holds = rw (carry_e, reading_e) h.holds;
           room_is = let r = h.room_is in omega arith;
@@ -265,19 +245,14 @@ module _ {S : Type 0} (gives : S → Answer → S → Type 0) (source source' : 
       calls answers = bytes_of_calls-append answers (Ok bytes ∷ [])
           ∙ ap (λ t. bytes_of_calls answers ++ t) (append-nil bytes)
 
-      front : pending reader' ≡ take reader'.end bytes
-      front =
-          let z : reader'.end - 0 ≡ reader'.end = omega arith in
-          rw (start_e, z, bytes_are) (sym (take-take reader'.end n reader'.piece.items end_e))
-
-pub has_read_none : (limits : TextLimits) (reader : TextReader) → reader.limits ≡ limits → reader.start ≡ reader.end →
+pub has_read_none : (limits : TextLimits) (reader : TextReader) → reader.limits ≡ limits → pending reader ≡ [] →
     reader.lines.carry.items ≡ [] → reader.lines.progress.stage ≡ AtBanner → reader.lines.progress.lines ≡ 0 →
     reader.room ≡ limits.max_bytes + 1 → HasRead limits [] [] reader
 has_read_none limits reader limits_e empty carry_e stage_e lines_e room_e = record {
   limits_are = limits_e;
   judged = [];
   beyond = [];
-  text_is = rw (pending_none reader empty) refl;
+  text_is = rw empty refl;
   holds = rw (carry_e, stage_e, lines_e) (holds_none limits);
   room_is = omega arith;
   none_beyond = λ s. refl;

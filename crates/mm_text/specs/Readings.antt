@@ -1,5 +1,5 @@
 -- What a reader of texts has read of its source, and what one more block adds to it.
-use Rattle.std.specs.Prelude.{◌≡◌, ℕ, ◌+◌, ◌-◌, ◌<◌, ◌≤◌, Bool, true, false, List, [], ◌∷◌, ◌++◌, length, take, drop}
+use Rattle.std.specs.Prelude.{◌≡◌, ℕ, ◌+◌, ◌<◌, ◌≤◌, Bool, true, false, List, [], ◌∷◌, ◌++◌, length}
 use Rattle.std.specs.Prelude.{Option, Some, None, Ok}
 use Rattle.cells.specs.Bounds.{IsDimension, AreWithin}
 use Rattle.byte_io.specs.Streams.{Answer, Calls, bytes_of_calls}
@@ -18,7 +18,7 @@ size_of reader = declared_size reader.lines.progress.stage
 
 -- the bytes that the source gave and that aren't judged yet
 abbrev pub pending : TextReader → List ℕ
-pending reader = take (reader.end - reader.start) (drop reader.start reader.piece.items)
+pending reader = reader.buffer
 
 -- The reader works under these limits, the source has given it these answers, and it has handed out these cells:
 -- those of the whole lines that it has judged, which bear no fault.

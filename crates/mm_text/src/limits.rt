@@ -18,17 +18,11 @@ pub const MAX_LINE: usize = 1024;
 /// The most bytes that are carried of a line: one of full length, and a CR that may end it.
 pub const CARRY: usize = 1025;
 
-/// How many bytes are asked of a source at once.
-pub const PIECE: usize = 65_536;
-
 /// The most digits of a number that is read with no test for 64 bits: the largest has 20.
 pub const MAX_DIGITS: usize = 19;
 
 /// How many digits are read at once.
 pub const WORD_DIGITS: usize = 8;
-
-/// The bytes of a writer's buffer. More would take room on the stack and save few calls.
-pub const CAPACITY: usize = 16_384;
 
 /// The bytes of the longest line that is written: three numbers of at most 20 digits, two spaces and LF.
 pub const LONGEST_LINE: usize = 63;

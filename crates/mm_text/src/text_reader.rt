@@ -17,11 +17,11 @@ ghost use Rattle.byte_io.specs.declared.fault.DeviceFault.{DeviceFault};
 ghost use Rattle.byte_io.specs.Streams.{Answer};
 
 use crate::fault::{MmFault, MmKind};
-use crate::limits::{MAX_BYTES, PIECE, TextLimits};
+use crate::limits::{MAX_BYTES, TextLimits};
 use crate::line_reader::LineReader;
 use crate::size::Size;
 use crate::stages::Stage;
-use byte_io::{DeviceFault, Source};
+use byte_io::{READ_CAPACITY, ReadBuffer, Source};
 use cells::Cell;
 use std::alloc::{AllocError, Global};
 use std::cmp;
@@ -35,60 +35,19 @@ use std::cmp;
 pub struct TextReader {
     limits: TextLimits,
     lines: LineReader,
-    // The last piece. Its bytes from `start` to `end` are pending: within the limit, and not judged yet.
-    piece: Vec<u8>,
-    start: usize,
-    end: usize,
+    // Its bytes are within the limit, and not judged yet.
+    buffer: ReadBuffer,
     // How many bytes may still be asked for: with the one that is too many, which is judged by being there.
     room: u64,
-    ghost one_piece: { length piece.items ≡ 65536 },
-    ghost in_piece: { (start ≤ end) × (end ≤ length piece.items) },
-    ghost countable: { lines.progress.lines + (end + room) ≤ 2 ^ 63 + 1 + start },
-}
-
-/// A buffer of so many bytes.
-fn empty_piece(alloc: Global, len: usize) -> Result<Vec<u8>, AllocError>
-    ensures { IfOk result (λ v. length v.items ≡ len) }
-{
-    vec![in alloc; 0u8; len]
+    ghost countable: { lines.progress.lines + length buffer + room ≤ 2 ^ 63 + 1 },
 }
 
 /// How many bytes to ask for at once.
-fn bytes_wanted(len: usize, room: u64) -> usize
-    ensures len { result ≤ len }
+fn bytes_wanted(room: u64) -> usize
     ensures room { result ≤ room }
-    ensures some { 0 < len → 0 < room → 0 < result }
+    ensures some { 0 < room → 0 < result }
 {
-    cmp::min(len as u64, room) as usize
-}
-
-/// Reads at most so many bytes into the front of the buffer.
-fn read_front<R: Source>(r: &mut R, buf: &mut [u8], most: usize) -> Result<usize, DeviceFault>
-    requires failures { R.failure_count r.old + 1 < 2 ^ 64 }
-    requires most { most ≤ length buf.old }
-    ensures bound { IfOk result (λ n. n ≤ most) }
-    ensures gives { IfOk result (λ n. R.read_gives r.old (Ok (take n buf.new)) r.new) }
-    ensures end { IfOk result (λ n. n ≡ 0 → 0 < most → R.at_end r.new) }
-    ensures fails { IfErr result (λ e. R.read_gives r.old (Err e) r.new) }
-    ensures ok { OnOk result (R.failure_count r.new ≡ R.failure_count r.old) }
-    ensures err { OnErr result (R.failure_count r.new ≡ R.failure_count r.old + 1) }
-{
-    r.read(&mut buf[..most])
-}
-
-/// Reads at most so many bytes into the front of the buffer.
-fn read_piece<R: Source>(r: &mut R, piece: &mut Vec<u8>, most: usize) -> Result<usize, DeviceFault>
-    requires failures { R.failure_count r.old + 1 < 2 ^ 64 }
-    requires most { most ≤ length piece.old.items }
-    ensures len { length piece.new.items ≡ length piece.old.items }
-    ensures bound { IfOk result (λ n. n ≤ most) }
-    ensures gives { IfOk result (λ n. R.read_gives r.old (Ok (take n piece.new.items)) r.new) }
-    ensures end { IfOk result (λ n. n ≡ 0 → 0 < most → R.at_end r.new) }
-    ensures fails { IfErr result (λ e. R.read_gives r.old (Err e) r.new) }
-    ensures ok { OnOk result (R.failure_count r.new ≡ R.failure_count r.old) }
-    ensures err { OnErr result (R.failure_count r.new ≡ R.failure_count r.old + 1) }
-{
-    read_front(r, piece.as_mut_slice(), most)
+    cmp::min(READ_CAPACITY as u64, room) as usize
 }
 
 /// How many of the bytes that came are within the limit: all but the last, where no more may come.
@@ -112,14 +71,12 @@ impl TextReader {
         requires { limits.max_bytes ≤ MAX_BYTES }
         ensures { IfOk result (λ reader. HasRead limits [] [] reader) }
     {
-        let piece = empty_piece(alloc, PIECE)?;
+        let buffer = ReadBuffer::new(alloc)?;
         let lines = LineReader::new(alloc)?;
         Ok(TextReader {
             limits,
             lines,
-            piece,
-            start: 0,
-            end: 0,
+            buffer,
             room: limits.max_bytes + 1,
         })
     }
@@ -150,28 +107,35 @@ impl TextReader {
         ensures lacks { IfErr result (λ f. f.kind ≡ MmKind.Memory → vec_capacity block.old < most) }
         ensures grows { vec_capacity block.old ≤ vec_capacity block.new }
     {
-        // Where the lines bear a fault nothing is pending any more.
-        let start = self.start;
-        self.start = self.end;
-        let taken = self
-            .lines
-            .take_lines(self.limits, &self.piece[start..self.end], block, most)?;
-        self.start = start + taken;
-        Ok(())
+        let pending = self.buffer.pending();
+        let all = pending.len();
+        match self.lines.take_lines(self.limits, pending, block, most) {
+            Ok(taken) => {
+                self.buffer.consume(taken);
+                Ok(())
+            }
+            Err(fault) => {
+                // Where the lines bear a fault nothing is pending any more.
+                self.buffer.consume(all);
+                Err(fault)
+            }
+        }
     }
 
     /// Carries what is pending, the front of a line.
     fn take_front(&mut self) -> Result<(), MmFault>
         ensures same { self.new.room ≡ self.old.room }
-        ensures empty { self.new.start ≡ self.new.end }
+        ensures empty { pending self.new ≡ [] }
         ensures ok { OnOk result (IsLine (pending self.old) → (block : List Cell) →
             TakesPending self.old self.new block block) }
         ensures err { IfErr result (λ f. IsLine (pending self.old) → ShowsRead self.old ⊥ ⊥ f.kind f.line) }
         ensures kind { IfErr result (λ f. f.kind ≡ MmKind.LineTooLong) }
     {
-        let start = self.start;
-        self.start = self.end;
-        self.lines.carry_on(&self.piece[start..self.end])
+        let pending = self.buffer.pending();
+        let all = pending.len();
+        let carried = self.lines.carry_on(pending);
+        self.buffer.consume(all);
+        carried
     }
 
     /// Judges what is pending, as long as the block has room for two cells.
@@ -180,7 +144,7 @@ impl TextReader {
         ensures same { self.new.room ≡ self.old.room }
         ensures ok { OnOk result (TakesPending self.old self.new block.old.items block.new.items) }
         ensures room { OnOk result (length block.new.items ≤ most) }
-        ensures empty { OnOk result (length block.new.items + 1 < most → (self.new.start ≡ self.new.end) ×
+        ensures empty { OnOk result (length block.new.items + 1 < most → (pending self.new ≡ []) ×
             (0 < self.new.room)) }
         ensures err { IfErr result (λ f. ShowsRead self.old ⊥ ⊥ f.kind f.line) }
         ensures kept { OnErr result (AddsFirst self.old block.old.items block.new.items) }
@@ -201,11 +165,11 @@ impl TextReader {
     /// Reads the next piece of the text, where nothing is pending, and gives how many bytes came.
     fn fill<R: Source>(&mut self, r: &mut R) -> Result<usize, MmFault>
         requires failures { R.failure_count r.old + 1 < 2 ^ 64 }
-        requires empty { self.old.start ≡ self.old.end }
+        requires empty { pending self.old ≡ [] }
         requires room { 0 < self.old.room }
         ensures ok { IfOk result (λ n. Fills R.read_gives r.old r.new self.old self.new n) }
         ensures room { IfOk result (λ n. self.new.room + n ≡ self.old.room) }
-        ensures end { IfOk result (λ n. n ≡ 0 → R.at_end r.new × (self.new.start ≡ self.new.end)) }
+        ensures end { IfOk result (λ n. n ≡ 0 → R.at_end r.new × (pending self.new ≡ [])) }
         ensures same { OnOk result (self.new.lines.progress ≡ self.old.lines.progress) }
         ensures no_failure { OnOk result (R.failure_count r.new ≡ R.failure_count r.old) }
         ensures failure { OnErr result (R.failure_count r.new ≡ R.failure_count r.old + 1) }
@@ -213,13 +177,11 @@ impl TextReader {
             ((e : DeviceFault) × R.read_gives r.old (Err e) r.new) ×
             ShowsRead self.old ⊥ (Unit {0}) MmKind.Read f.line) }
     {
-        let most = bytes_wanted(self.piece.len(), self.room);
-        match read_piece(r, &mut self.piece, most) {
+        match self.buffer.fill(r, bytes_wanted(self.room)) {
             Err(_) => Err(self.lines.progress.fault_here(MmKind::Read)),
             Ok(n) => {
                 self.room -= n as u64;
-                self.start = 0;
-                self.end = bytes_within(n, self.room);
+                self.buffer.truncate(bytes_within(n, self.room));
                 Ok(n)
             }
         }
@@ -227,7 +189,7 @@ impl TextReader {
 
     /// Judges the end of the text, where nothing is pending.
     fn finish(&mut self, block: &mut Vec<Cell>) -> Result<(), MmFault>
-        requires empty { self.old.start ≡ self.old.end }
+        requires empty { pending self.old ≡ [] }
         requires room { 0 < self.old.room }
         ensures ok { OnOk result (Finishes self.old self.new block.old.items block.new.items) }
         ensures room { OnOk result (length block.new.items ≤ length block.old.items + 2) }

@@ -1,38 +1,36 @@
 //! Writes matrices as canonical texts in the Matrix Market coordinate format (NIST) with field `integer` and symmetry
 //! `general`: the banner, the size line, and one line for each cell in the order given.
 //!
-//! Lines are formatted into a buffer in the writer itself, which is handed on when another line might not fit. So a
-//! text is written in one pass with no memory, and a sink that takes what it is offered gets about 16 KiB a call: a
-//! call for each line would cost more than the formatting.
+//! Lines are formatted into the writer's buffer, which is handed on when another line might not fit. So a text is
+//! written in one pass with no memory, and a sink that takes what it is offered gets about 16 KiB a call.
 ghost use Rattle.std.specs.Prelude.{◌≡◌, ℕ, ◌+◌, ◌-◌, ◌*◌, ◌<◌, ◌≤◌, ◌^◌, List, [], ◌++◌, length, drop, IfOk, OnOk};
 ghost use Rattle.std.specs.Prelude.{IfErr};
-ghost use Rattle.arrayvec.specs.ArrayString.{array_string_len};
 ghost use Rattle.cells.specs.Bounds.{IsDimension, IsWithin, AreWithin};
 ghost use Rattle.mm_text.specs.Canonical.{numbers_line, canonical_head, entry_line, entry_lines, canonical};
 ghost use Rattle.byte_io.specs.Writing.{HasTaken, HasStopped};
 ghost use Rattle.mm_text.specs.Writing.{HasWritten};
 
-use crate::limits::{CAPACITY, LONGEST_LINE};
-use arrayvec::ArrayString;
-use byte_io::{Sink, WriteFault, write_all};
+use crate::limits::LONGEST_LINE;
+use byte_io::{Sink, WRITE_CAPACITY, WriteBuffer, WriteFault};
 use cells::Cell;
 use std::marker::Model;
 
 const BANNER: &str = "%%MatrixMarket matrix coordinate integer general\n";
 
 /// Appends a line of three numbers.
-fn push_line(buffer: &mut ArrayString<CAPACITY>, first: u64, second: u64, third: u64)
-    requires { array_string_len buffer.old + LONGEST_LINE ≤ CAPACITY }
-    ensures bytes { buffer.new.bytes ≡ buffer.old.bytes ++ numbers_line first second third }
-    ensures short { array_string_len buffer.new ≤ array_string_len buffer.old + LONGEST_LINE }
+fn push_line(buffer: &mut WriteBuffer, first: u64, second: u64, third: u64)
+    requires { length buffer.old.pending + LONGEST_LINE ≤ WRITE_CAPACITY }
+    ensures taken { buffer.new.taken ≡ buffer.old.taken }
+    ensures bytes { buffer.new.pending ≡ buffer.old.pending ++ numbers_line first second third }
+    ensures short { length buffer.new.pending ≤ length buffer.old.pending + LONGEST_LINE }
 {
     let mut digits = itoa::Buffer::new();
-    buffer.push_str(digits.format(first));
-    buffer.push_str(" ");
-    buffer.push_str(digits.format(second));
-    buffer.push_str(" ");
-    buffer.push_str(digits.format(third));
-    buffer.push_str("\n");
+    buffer.push(digits.format(first).as_bytes());
+    buffer.push(b" ");
+    buffer.push(digits.format(second).as_bytes());
+    buffer.push(b" ");
+    buffer.push(digits.format(third).as_bytes());
+    buffer.push(b"\n");
 }
 
 /// A text on its way to a sink, for cells that come one after the other or in blocks: `new`, `write_cell` for each cell
@@ -40,14 +38,13 @@ fn push_line(buffer: &mut ArrayString<CAPACITY>, first: u64, second: u64, third:
 ///
 /// Every call is to be given the same sink. The writer holds a buffer of 16,384 bytes in itself and takes no memory.
 /// After a call that answered Err it is of no more use, and what it still held is lost. Contracts see it as a
-/// `WriterState`: the dimensions of the text, within which all cells lie, the bytes that the sink took, those that are
-/// pending, and how many entry lines are still to come.
+/// `WriterState`: the dimensions of the text, within which all cells lie, the bytes that the sink took and those that
+/// are pending, and how many entry lines are still to come.
 #[derive(Drop)]
 pub struct TextWriter {
     rows: u64,
     cols: u64,
-    buffer: ArrayString<CAPACITY>,
-    taken: u128,
+    buffer: WriteBuffer,
     left: u64,
 }
 
@@ -61,13 +58,12 @@ impl Model for TextWriter {
     ghost view = { λ w. record {
       rows = w.rows;
       cols = w.cols;
-      taken = w.taken;
-      pending = w.buffer.bytes;
+      buffer = w.buffer;
       left = w.left;
     } };
 
     ghost invariant = { λ w. IsDimension w.rows × IsDimension w.cols ×
-        (w.taken + length w.buffer.bytes + 63 * w.left < 2 ^ 80) };
+        (w.buffer.taken + length w.buffer.pending + 63 * w.left < 2 ^ 80) };
 }
 
 impl TextWriter {
@@ -76,57 +72,29 @@ impl TextWriter {
         requires rows { IsDimension rows }
         requires cols { IsDimension cols }
         ensures dims { (result.rows ≡ rows) × (result.cols ≡ cols) }
-        ensures taken { result.taken ≡ 0 }
-        ensures pending { result.pending ≡ canonical_head rows cols entries }
+        ensures taken { result.buffer.taken ≡ 0 }
+        ensures pending { result.buffer.pending ≡ canonical_head rows cols entries }
         ensures left { result.left ≡ entries }
     {
-        let mut buffer = ArrayString::new();
-        buffer.push_str(BANNER);
+        let mut buffer = WriteBuffer::new();
+        buffer.push(BANNER.as_bytes());
         push_line(&mut buffer, rows, cols, entries);
         TextWriter {
             rows,
             cols,
             buffer,
-            taken: 0,
             left: entries,
         }
-    }
-
-    /// Hands on all that is pending.
-    fn flush<W: Sink>(&mut self, w: &mut W) -> Result<(), WriteFault>
-        requires { W.failure_count w.old + 1 < 2 ^ 64 }
-        ensures dims { OnOk result ((self.new.rows ≡ self.old.rows) × (self.new.cols ≡ self.old.cols)) }
-        ensures left { OnOk result (self.new.left ≡ self.old.left) }
-        ensures pending { OnOk result (self.new.pending ≡ []) }
-        ensures ok { OnOk result ((s : W) (text : List ℕ) →
-            HasWritten W.write_takes W.failure_count s w.old text self.old →
-            HasWritten W.write_takes W.failure_count s w.new text self.new) }
-        ensures err { IfErr result (λ f. (s : W) (text : List ℕ) →
-            HasWritten W.write_takes W.failure_count s w.old text self.old →
-            HasStopped W.write_takes W.failure_count s w.new text f.written) }
-        ensures failures { OnOk result (W.failure_count w.new ≡ W.failure_count w.old) }
-    {
-        let bytes = self.buffer.as_str().as_bytes();
-        let taken = self.taken;
-        let count = bytes.len() as u128;
-        if let Err(fault) = write_all(w, bytes) {
-            return Err(WriteFault {
-                written: taken + fault.written,
-            });
-        }
-        self.taken = taken + count;
-        self.buffer.clear();
-        Ok(())
     }
 
     /// Appends the line of one cell.
     fn push_cell(&mut self, cell: Cell)
         requires within { IsWithin self.old.rows self.old.cols cell }
         requires declared { 0 < self.old.left }
-        requires room { length self.old.pending + LONGEST_LINE ≤ CAPACITY }
+        requires room { length self.old.buffer.pending + LONGEST_LINE ≤ WRITE_CAPACITY }
         ensures dims { (self.new.rows ≡ self.old.rows) × (self.new.cols ≡ self.old.cols) }
-        ensures taken { self.new.taken ≡ self.old.taken }
-        ensures pending { self.new.pending ≡ self.old.pending ++ entry_line cell }
+        ensures taken { self.new.buffer.taken ≡ self.old.buffer.taken }
+        ensures pending { self.new.buffer.pending ≡ self.old.buffer.pending ++ entry_line cell }
         ensures left { self.new.left + 1 ≡ self.old.left }
     {
         push_line(&mut self.buffer, cell.row + 1, cell.col + 1, cell.count);
@@ -138,7 +106,7 @@ impl TextWriter {
         requires { W.failure_count w.old + 1 < 2 ^ 64 }
         ensures dims { OnOk result ((self.new.rows ≡ self.old.rows) × (self.new.cols ≡ self.old.cols)) }
         ensures left { OnOk result (self.new.left ≡ self.old.left) }
-        ensures room { OnOk result (length self.new.pending + LONGEST_LINE ≤ CAPACITY) }
+        ensures room { OnOk result (length self.new.buffer.pending + LONGEST_LINE ≤ WRITE_CAPACITY) }
         ensures ok { OnOk result ((s : W) (text : List ℕ) →
             HasWritten W.write_takes W.failure_count s w.old text self.old →
             HasWritten W.write_takes W.failure_count s w.new text self.new) }
@@ -147,10 +115,7 @@ impl TextWriter {
             HasStopped W.write_takes W.failure_count s w.new text f.written) }
         ensures failures { OnOk result (W.failure_count w.new ≡ W.failure_count w.old) }
     {
-        if self.buffer.remaining_capacity() < LONGEST_LINE {
-            return self.flush(w);
-        }
-        Ok(())
+        self.buffer.make_room(w, LONGEST_LINE)
     }
 
     /// Appends the line of one cell: row and column counted from 1, and the count.
@@ -214,7 +179,7 @@ impl TextWriter {
             HasStopped W.write_takes W.failure_count s w.new text f.written) }
         ensures failures { OnOk result (W.failure_count w.new ≡ W.failure_count w.old) }
     {
-        self.flush(w)
+        self.buffer.flush(w)
     }
 }
 

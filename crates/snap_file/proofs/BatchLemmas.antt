@@ -4,7 +4,7 @@ use Rattle.std.proofs.Common.{sym, ap, subst, ◌∙◌, arith, add-one, drop-co
 use Rattle.std.proofs.lemmas.List.{map-append, take-append-drop, drop_all}
 use Rattle.std.specs.declared.sync.Arc.{Arc}
 use Rattle.std.specs.Arc.{arc_value}
-use Rattle.snap_file.specs.Writing.{WriterState}
+use Rattle.byte_io.specs.Buffers.{Unwritten}
 use Rattle.byte_io.specs.Streams.{Answer}
 use Rattle.hyper_matrix.specs.Counts.{total}
 use Rattle.batch_store.specs.Books.{list_total}
@@ -42,7 +42,7 @@ pub total_fits : {Z : Type 0} (bs : List (Arc Submission Z)) (i : ℕ) →
 total_fits bs i = let a = total_split bs i in omega arith
 
 pub batch_next : {Z S : Type 0} (step : S → List ℕ → Answer → S → Type 0) (failures : S → ℕ) (s t : S) (all : List ℕ)
-    (writer : WriterState) (bs : List (Arc Submission Z)) (i : ℕ) (d : Arc Submission Z) (b : Submission) →
+    (writer : Unwritten) (bs : List (Arc Submission Z)) (i : ℕ) (d : Arc Submission Z) (b : Submission) →
     i < length bs → d ≡ get_or bs i d → b ≡ arc_value d →
     IsWriting step failures s t all writer (flat_map batch_bytes (values (drop i bs))) →
     IsWriting step failures s t all writer (batch_bytes b ++ flat_map batch_bytes (values (drop (i + 1) bs)))
@@ -51,7 +51,7 @@ batch_next step failures s t all writer bs i d b h is at a =
     (one_more bs i d b h is at) a
 
 pub batch_last : {Z S : Type 0} (step : S → List ℕ → Answer → S → Type 0) (failures : S → ℕ) (s t : S) (all : List ℕ)
-    (writer : WriterState) (bs : List (Arc Submission Z)) (i : ℕ) → length bs ≤ i →
+    (writer : Unwritten) (bs : List (Arc Submission Z)) (i : ℕ) → length bs ≤ i →
     IsWriting step failures s t all writer (flat_map batch_bytes (values (drop i bs))) →
     IsWriting step failures s t all writer []
 batch_last step failures s t all writer bs i h a =

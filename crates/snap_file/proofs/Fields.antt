@@ -9,19 +9,10 @@ use Rattle.std.proofs.lemmas.Bool.Decides.{nat_tests}
 use Rattle.std.proofs.lemmas.List.{take_at, drop_at, take-append-drop, length-append, length-take, get_or-drop}
 use Rattle.std.proofs.lemmas.List.{get_or-take, get_or_past}
 use Rattle.std.proofs.lemmas.Nat.{be_bytes_4, be_bytes_8, from_be_bytes-to_be_bytes_4, from_be_bytes-to_be_bytes_8}
+use Rattle.byte_io.proofs.BufferLemmas.{bytes_before, bytes_behind}
 use Rattle.snap_file.specs.Spelling.{IsBytes, number_bytes}
 use Rattle.snap_file.specs.Table.{Input, Contents, Reading, Part, ◌>>=◌, give, fault_at, number, refuse_if, outside}
 use Rattle.snap_file.specs.declared.fault.SnapFault.{SnapFault}
-
-pub bytes_behind : (n : ℕ) (bytes : List ℕ) → IsBytes bytes → IsBytes (drop n bytes)
-bytes_behind n bytes h i = rw get_or-drop (h (n + i))
-
-pub bytes_before : (n : ℕ) (bytes : List ℕ) → IsBytes bytes → IsBytes (take n bytes)
-bytes_before n bytes h i =
-    elim (cases_lt i n) [
-      | inl lt ↦ rw (get_or-take n bytes i 0 lt) (h i)
-      | inr le ↦ rw (get_or_past (take n bytes) i 0 (omega (arith, length-take n bytes))) (omega arith)
-    ]
 
 pub record IsWide (w : Width) (limit : ℕ) : Type 0 where
   pub len : (n : ℕ) → length (number_bytes w n) ≡ byte_len w

@@ -11,7 +11,6 @@ pub mod BatchLemmas
 pub mod Steady
 pub mod ReadLemmas
 pub mod StopLemmas
-pub mod FieldBytes
 pub mod CutLemmas
 pub mod EndLemmas
 pub mod StayLemmas

@@ -13,26 +13,7 @@ use Rattle.byte_io.proofs.KnownLemmas.{calls_at_most_bytes}
 use Rattle.snap_file.specs.Spelling.{IsBytes}
 use Rattle.snap_file.specs.Table.{Reading}
 use Rattle.snap_file.specs.Outcomes.{ReaderState, HasRead, HasJudged, HasAsked, HasEnded, piece_bytes}
-use Rattle.snap_file.specs.Fills.{Fills}
-use Rattle.snap_file.proofs.Fields.{bytes_before, bytes_behind}
-
--- one byte more was moved to the front
-pub moved_on : (p0 p : List ℕ) (start i d : ℕ) → take i p ≡ take i (drop start p0) → drop i p ≡ drop i p0 →
-    length p ≡ length p0 → start + i < length p0 →
-    (take (i + 1) (set p i (get_or p (start + i) d)) ≡ take (i + 1) (drop start p0)) ×
-    (drop (i + 1) (set p i (get_or p (start + i) d)) ≡ drop (i + 1) p0)
-moved_on p0 p start i d done kept len h =
-    let v = get_or p (start + i) d in
-    let there : get_or p (start + i) d ≡ get_or (drop start p0) i d =
-    ap (λ (n : ℕ). get_or p n d) (omega arith) ∙ sym (get_or-drop i p start d) ∙
-    ap (λ (l : List ℕ). get_or l start d) kept ∙ get_or-drop i p0 start d ∙
-    ap (λ (n : ℕ). get_or p0 n d) (omega arith) ∙ sym (get_or-drop start p0 i d) in (
-      take_more_set p i v (omega arith) ∙ ap (λ (l : List ℕ). l ++ v ∷ []) done ∙
-          ap (λ (x : ℕ). take i (drop start p0) ++ x ∷ []) there ∙
-          sym (take_more (drop start p0) i d (let e = length-drop start p0 in omega arith)),
-      drop-set-lt (i + 1) p i v (omega arith) ∙ sym (drop-drop 1 i p) ∙ ap (λ (l : List ℕ). drop 1 l) kept ∙
-          drop-drop 1 i p0,
-    )
+use Rattle.byte_io.specs.Buffers.{Fills}
 
 are_bytes-append : (xs ys : List ℕ) → IsBytes xs → IsBytes ys → IsBytes (xs ++ ys)
 are_bytes-append xs ys a b i = elim (cases_lt i (length xs)) [
@@ -147,25 +128,4 @@ read_ended gives failures ended max_bytes s m t old new left n a f none at_end t
       gave = subst (λ (l : List ℕ). gives m (Ok l) t) empty f.gave;
       at_end = at_end;
       none_failed = same;
-    }
-
-pub filled : {S : Type 0} (gives : S → Result (List ℕ) DeviceFault → S → Type 0) (s t : S) (p0 p1 p2 old : List ℕ)
-    (start end n : ℕ) →
-    old ≡ take (end - start) (drop start p0) → take (end - start) p1 ≡ take (end - start) (drop start p0) →
-    take (end - start) p2 ≡ take (end - start) p1 → (end - start) + n ≤ length p2 →
-    gives s (Ok (take n (drop (end - start) p2))) t → IsBytes p2 →
-    Fills gives s t old (take ((end - start) + n - 0) p2) n
-filled gives s t p0 p1 p2 old start end n is moved same fits gave bytes =
-    at_count gives s t p2 old (end - start) n (is ∙ sym moved ∙ sym same) fits gave bytes
-  where
-    at_count : {S : Type 0} (gives : S → Result (List ℕ) DeviceFault → S → Type 0) (s t : S) (p old : List ℕ)
-        (c n : ℕ) → old ≡ take c p → c + n ≤ length p → gives s (Ok (take n (drop c p))) t → IsBytes p →
-        Fills gives s t old (take (c + n - 0) p) n
-    at_count gives s t p old c n is fits gave bytes = record {
-      bytes = take n (drop c p);
-      gave = gave;
-      count = length-take-le n (drop c p) (let e = length-drop c p in omega arith);
-      are_bytes = bytes_before n (drop c p) (bytes_behind c p bytes);
-      pending_is = ap (λ (i : ℕ). take i p) (omega arith) ∙ take_further c n p (omega arith) ∙
-          ap (λ (l : List ℕ). l ++ take n (drop c p)) (sym is);
     }

@@ -12,10 +12,7 @@ use Rattle.batch_store.specs.Batches.{Submission}
 use Rattle.batch_store.specs.Accepted.{Accepted, unfolded, total_in}
 use Rattle.batch_store.specs.Books.{list_total, AreAccepted}
 use Rattle.batch_store.specs.declared.verdict.Entry.{Entry}
-
--- each element is a byte
-abbrev pub IsBytes : List ℕ → Type 0
-IsBytes bytes = (i : ℕ) → slice_index bytes i < 256
+pub use Rattle.byte_io.specs.Buffers.{IsBytes}
 
 -- a field of this width
 unfoldable pub number_bytes : Width → ℕ → List ℕ

@@ -2,110 +2,34 @@
 ghost use Rattle.std.specs.Prelude.{◌≡◌, ℕ, ◌+◌, ◌-◌, ◌<◌, ◌≤◌, ◌^◌, List, [], ◌++◌, length, take, drop, Result};
 ghost use Rattle.std.specs.Prelude.{Ok, Err, IfOk, OnOk, IfErr, OnErr, IsTrue, IsFalse, true, false};
 ghost use Rattle.std.specs.Int.{Width, w8, w32, w64, byte_len, from_be_bytes};
-ghost use Rattle.snap_file.specs.Spelling.{IsBytes};
 ghost use Rattle.snap_file.specs.Table.{Reading, Contents, number, refuse_if, outside, field_in, end};
 ghost use Rattle.snap_file.specs.Outcomes.{HasJudged, HasAsked, HasEnded, HasFailed, IsOfBytes, Stops, ReadsSnapshot};
 ghost use Rattle.snap_file.specs.Outcomes.{piece_bytes};
-ghost use Rattle.snap_file.specs.Fills.{Fills};
+ghost use Rattle.byte_io.specs.Buffers.{Fills};
 ghost use Rattle.snap_file.specs.declared.fault.SnapFault.{SnapFault};
 
 use crate::fault::SnapFault;
-use byte_io::{DeviceFault, Source};
+use byte_io::{DeviceFault, READ_CAPACITY, ReadBuffer, Source};
 use std::alloc::{AllocError, Global};
 use std::marker::Model;
-
-/// How many bytes are asked of the source at once, less those that are pending.
-const PIECE: usize = 65_536;
 
 /// Bytes that came from a source and were not judged yet.
 #[derive(Drop)]
 pub struct ByteReader {
-    piece: Vec<u8>,
-    start: usize,
-    end: usize,
+    buffer: ReadBuffer,
     taken: u64,
     max_bytes: u64,
 }
 
 impl Model for ByteReader {
-    ghost use Rattle.std.specs.Prelude.{◌≡◌, ℕ, ◌-◌, ◌≤◌, length, take, drop};
-    ghost use Rattle.snap_file.specs.Outcomes.{ReaderState, piece_bytes};
+    ghost use Rattle.std.specs.Prelude.{◌≤◌};
+    ghost use Rattle.snap_file.specs.Outcomes.{ReaderState};
 
     ghost Value = { ReaderState };
 
-    ghost view = { λ r. record {
-      pending = take (r.end - r.start) (drop r.start r.piece.items);
-      taken = r.taken;
-      max_bytes = r.max_bytes;
-    } };
+    ghost view = { λ r. record { pending = r.buffer; taken = r.taken; max_bytes = r.max_bytes } };
 
-    ghost invariant = { λ r. (r.start ≤ r.end) × (r.end ≤ length r.piece.items) × (length r.piece.items ≡ piece_bytes) ×
-        (r.taken ≤ r.max_bytes) };
-}
-
-/// Moves so many bytes from `start` on to the front.
-fn move_front(piece: &mut [u8], start: usize, count: usize)
-    requires { start + count ≤ length piece.old }
-    ensures len { length piece.new ≡ length piece.old }
-    ensures front { take count piece.new ≡ take count (drop start piece.old) }
-{
-    for i in 0..count {
-        piece[i] = piece[start + i];
-    }
-}
-
-/// The same of a buffer that grows elsewhere.
-fn move_bytes(piece: &mut Vec<u8>, start: usize, count: usize)
-    requires { start + count ≤ length piece.old.items }
-    ensures len { length piece.new.items ≡ length piece.old.items }
-    ensures front { take count piece.new.items ≡ take count (drop start piece.old.items) }
-{
-    move_front(piece.as_mut_slice(), start, count);
-}
-
-/// Reads behind the first bytes of the buffer.
-fn read_back<R: Source>(r: &mut R, piece: &mut [u8], count: usize) -> Result<usize, DeviceFault>
-    requires failures { R.failure_count r.old + 1 < 2 ^ 64 }
-    requires room { count < length piece.old }
-    ensures len { length piece.new ≡ length piece.old }
-    ensures front { take count piece.new ≡ take count piece.old }
-    ensures bound { IfOk result (λ n. count + n ≤ length piece.new) }
-    ensures bytes { IsBytes piece.new }
-    ensures gives { IfOk result (λ n. R.read_gives r.old (Ok (take n (drop count piece.new))) r.new) }
-    ensures end { IfOk result (λ n. n ≡ 0 → R.at_end r.new) }
-    ensures fails { IfErr result (λ e. R.read_gives r.old (Err e) r.new) }
-    ensures ok { OnOk result (R.failure_count r.new ≡ R.failure_count r.old) }
-    ensures err { OnErr result (R.failure_count r.new ≡ R.failure_count r.old + 1) }
-{
-    r.read(&mut piece[count..])
-}
-
-/// The same of a buffer that grows elsewhere.
-fn read_behind<R: Source>(
-    r: &mut R,
-    piece: &mut Vec<u8>,
-    count: usize,
-) -> Result<usize, DeviceFault>
-    requires failures { R.failure_count r.old + 1 < 2 ^ 64 }
-    requires room { count < length piece.old.items }
-    ensures len { length piece.new.items ≡ length piece.old.items }
-    ensures front { take count piece.new.items ≡ take count piece.old.items }
-    ensures bound { IfOk result (λ n. count + n ≤ length piece.new.items) }
-    ensures bytes { IsBytes piece.new.items }
-    ensures gives { IfOk result (λ n. R.read_gives r.old (Ok (take n (drop count piece.new.items))) r.new) }
-    ensures end { IfOk result (λ n. n ≡ 0 → R.at_end r.new) }
-    ensures fails { IfErr result (λ e. R.read_gives r.old (Err e) r.new) }
-    ensures ok { OnOk result (R.failure_count r.new ≡ R.failure_count r.old) }
-    ensures err { OnErr result (R.failure_count r.new ≡ R.failure_count r.old + 1) }
-{
-    read_back(r, piece.as_mut_slice(), count)
-}
-
-/// A buffer of so many bytes.
-fn empty_piece(alloc: Global, len: usize) -> Result<Vec<u8>, AllocError>
-    ensures { IfOk result (λ v. length v.items ≡ len) }
-{
-    vec![in alloc; 0u8; len]
+    ghost invariant = { λ r. r.taken ≤ r.max_bytes };
 }
 
 /// The judgement of a field.
@@ -167,11 +91,9 @@ impl ByteReader {
         ensures taken { IfOk result (λ reader. reader.taken ≡ 0) }
         ensures limit { IfOk result (λ reader. reader.max_bytes ≡ max_bytes) }
     {
-        let piece = empty_piece(alloc, PIECE)?;
+        let buffer = ReadBuffer::new(alloc)?;
         Ok(ByteReader {
-            piece,
-            start: 0,
-            end: 0,
+            buffer,
             taken: 0,
             max_bytes,
         })
@@ -181,7 +103,7 @@ impl ByteReader {
     fn len(&self) -> usize
         ensures { result ≡ length self.now.pending }
     {
-        self.end - self.start
+        self.buffer.pending().len()
     }
 
     /// How many bytes may still be judged.
@@ -204,18 +126,7 @@ impl ByteReader {
         ensures no_failure { OnOk result (R.failure_count r.new ≡ R.failure_count r.old) }
         ensures failure { OnErr result (R.failure_count r.new ≡ R.failure_count r.old + 1) }
     {
-        let start = self.start;
-        let count = self.end - start;
-        move_bytes(&mut self.piece, start, count);
-        self.start = 0;
-        self.end = count;
-        match read_behind(r, &mut self.piece, count) {
-            Ok(n) => {
-                self.end = count + n;
-                Ok(n)
-            }
-            Err(e) => Err(e),
-        }
+        self.buffer.fill(r, READ_CAPACITY)
     }
 
     /// Reads until so many bytes are pending (true), or the source has ended (false).
@@ -286,9 +197,8 @@ impl ByteReader {
         ensures taken { self.new.taken ≡ self.old.taken + 8 }
         ensures limit { self.new.max_bytes ≡ self.old.max_bytes }
     {
-        let start = self.start;
-        let n = u64_at(&self.piece[start..start + 8]);
-        self.start = start + 8;
+        let n = u64_at(&self.buffer.pending()[..8]);
+        self.buffer.consume(8);
         self.taken += 8;
         n
     }
@@ -302,9 +212,8 @@ impl ByteReader {
         ensures taken { self.new.taken ≡ self.old.taken + 4 }
         ensures limit { self.new.max_bytes ≡ self.old.max_bytes }
     {
-        let start = self.start;
-        let n = u32_at(&self.piece[start..start + 4]);
-        self.start = start + 4;
+        let n = u32_at(&self.buffer.pending()[..4]);
+        self.buffer.consume(4);
         self.taken += 4;
         n
     }
@@ -318,9 +227,8 @@ impl ByteReader {
         ensures taken { self.new.taken ≡ self.old.taken + 1 }
         ensures limit { self.new.max_bytes ≡ self.old.max_bytes }
     {
-        let start = self.start;
-        let n = u8_at(&self.piece[start..start + 1]);
-        self.start = start + 1;
+        let n = u8_at(&self.buffer.pending()[..1]);
+        self.buffer.consume(1);
         self.taken += 1;
         n
     }

@@ -17,7 +17,7 @@ ghost use Rattle.byte_io.specs.Writing.{HasTaken, HasStopped};
 use crate::limits::{MARK, VERSION};
 use crate::writer::ByteWriter;
 use batch_store::{Batch, BookList, Entry, Setup};
-use byte_io::{Sink, WriteFault};
+use byte_io::{Sink, WRITE_CAPACITY, WriteFault};
 use cells::Cell;
 use hyper_matrix::Hyper;
 use std::sync::Arc;
@@ -43,7 +43,7 @@ fn total_of(batches: &[Arc<Batch>]) -> u64
 
 /// Appends the cuts.
 fn push_cuts(writer: &mut ByteWriter, cuts: &[u64])
-    requires { length writer.old.pending + 8 * length cuts.now ≤ 16384 }
+    requires { length writer.old.pending + 8 * length cuts.now ≤ WRITE_CAPACITY }
     ensures taken { writer.new.taken ≡ writer.old.taken }
     ensures pending { writer.new.pending ≡ writer.old.pending ++ flat_map (number_bytes w64) cuts.now }
     ensures length { length writer.new.pending ≡ length writer.old.pending + 8 * length cuts.now }

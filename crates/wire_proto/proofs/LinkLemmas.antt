@@ -1,5 +1,5 @@
 -- What a link gave and took, a call or a reply further.
-use Rattle.std.proofs.Common.{◌≡◌, ℕ, ◌+◌, List, [], ◌∷◌, ◌++◌, take, refl, sym, ◌∙◌, ap, subst, arith, append_assoc}
+use Rattle.std.proofs.Common.{◌≡◌, ℕ, ◌+◌, List, [], ◌∷◌, ◌++◌, length, take, refl, sym, ◌∙◌, ap, subst, arith, append_assoc}
 use Rattle.std.proofs.Common.{Ok, Err}
 use Rattle.std.proofs.lemmas.List.{append-nil}
 use Rattle.byte_io.specs.Streams.{Answer, Calls, bytes_of_calls}
@@ -25,8 +25,10 @@ reads_append [] ys = omega arith
 reads_append (gave a ∷ xs) ys = let e = reads_append xs ys in omega arith
 reads_append (took o a ∷ xs) ys = reads_append xs ys
 
-pub none_given : (n : ℕ) (items : List ℕ) → n ≡ 0 → bytes_given (gave (Ok (take n items)) ∷ []) ≡ []
-none_given n items e = append-nil (take n items) ∙ ap (λ k. take k items) e
+-- a read that gave nothing
+pub none_given : (bytes : List ℕ) → length bytes ≡ 0 → bytes_given (gave (Ok bytes) ∷ []) ≡ []
+none_given [] e = refl
+none_given (b ∷ bytes) e = absurd (omega arith)
 
 module _ {L : Type 0} (reads : L → Answer → L → Type 0) (writes : L → List ℕ → Answer → L → Type 0) where
   moves_append : (s m t : L) (xs ys : List Move) → Moves reads writes s xs m → Moves reads writes m ys t →

@@ -1,24 +1,15 @@
 //! A session: reads a link turn by turn, and answers each whole request.
 ghost use Rattle.std.specs.Prelude.{◌≡◌, ℕ, ◌+◌, ◌*◌, ◌<◌, ◌≤◌, ◌^◌, List, length, ◌++◌, None, IfOk, IfErr, OnOk};
-ghost use Rattle.std.specs.Prelude.{OnErr};
-ghost use Rattle.byte_io.specs.Streams.{answer_of};
+ghost use Rattle.std.specs.Prelude.{OnErr, [], Ok, Err};
 ghost use Rattle.wire_frames.specs.Frames.{front};
 ghost use Rattle.wire_proto.specs.Sessions.{Ends, Carries, CarriesToEnd, TurnEnds};
 
 use crate::answering::{answer_all, refuse};
 use crate::ended::Ended;
 use crate::keeper::Keeper;
-use crate::limits::PIECE;
-use byte_io::{DeviceFault, Link, Source};
-use std::alloc::{AllocError, Global};
+use byte_io::{DeviceFault, Link, READ_CAPACITY, ReadBuffer};
+use std::alloc::Global;
 use wire_frames::{FrameFault, Frames};
-
-/// A buffer for one read.
-fn empty_piece(alloc: Global) -> Result<Vec<u8>, AllocError>
-    ensures { IfOk result (λ v. length v.items ≡ 65536) }
-{
-    vec![in alloc; 0u8; PIECE]
-}
 
 /// Takes in what one read gave, and answers each request that is whole then.
 fn take_piece<L: Link, K: Keeper>(
@@ -56,15 +47,15 @@ fn take_turn<L: Link, K: Keeper>(
     link: &mut L,
     keeper: &mut K,
     frames: &mut Frames,
-    piece: &mut Vec<u8>,
+    buffer: &mut ReadBuffer,
     written: u128,
 ) -> Result<u128, Ended>
     requires ready { L.Sink.failure_count link.old + 1 < 2 ^ 64 }
     requires fact { K.fact keeper.old }
-    requires piece { length piece.old.items ≡ 65536 }
+    requires empty { buffer.old ≡ [] }
     requires none { front frames.old ≡ None }
     requires room { written + 2 ^ 27 * (length frames.old + 65536) < 2 ^ 127 }
-    ensures piece { length piece.new.items ≡ 65536 }
+    ensures empty { OnOk result (buffer.new ≡ []) }
     ensures ok { IfOk result (λ w. Carries L.Source.read_gives L.Sink.write_takes L.Sink.failure_count K.gives
         (K.setup_of keeper.old) link.old link.new keeper.old keeper.new frames.old frames.new written w 1) }
     ensures none { OnOk result (front frames.new ≡ None) }
@@ -75,26 +66,32 @@ fn take_turn<L: Link, K: Keeper>(
     ensures fact { K.fact keeper.new }
     ensures setup { K.setup_of keeper.new ≡ K.setup_of keeper.old }
 {
-    match read_piece(link, piece) {
+    match read_piece(link, buffer) {
         Err(_) => Err(Ended::ReadFault),
         Ok(0) => Err(Ended::Closed {
             rest: frames.len() as u64,
         }),
-        Ok(count) => take_piece(alloc, link, keeper, frames, &piece[..count], written),
+        Ok(count) => {
+            let answered = take_piece(alloc, link, keeper, frames, buffer.pending(), written);
+            buffer.consume(count);
+            answered
+        }
     }
 }
 
-/// Reads into a buffer.
-fn read_piece<L: Link>(link: &mut L, piece: &mut Vec<u8>) -> Result<usize, DeviceFault>
-    requires { L.Sink.failure_count link.old + 1 < 2 ^ 64 }
-    ensures len { length piece.new.items ≡ length piece.old.items }
-    ensures bound { IfOk result (λ n. n ≤ length piece.old.items) }
-    ensures gives { L.Source.read_gives link.old (answer_of result piece.new.items) link.new }
-    ensures end { IfOk result (λ n. n ≡ 0 → 0 < length piece.old.items → L.Source.at_end link.new) }
+/// Reads the next piece, where nothing is pending.
+fn read_piece<L: Link>(link: &mut L, buffer: &mut ReadBuffer) -> Result<usize, DeviceFault>
+    requires failures { L.Sink.failure_count link.old + 1 < 2 ^ 64 }
+    requires empty { buffer.old ≡ [] }
+    ensures count { IfOk result (λ n. length buffer.new ≡ n) }
+    ensures bound { IfOk result (λ n. n ≤ READ_CAPACITY) }
+    ensures gives { IfOk result (λ n. L.Source.read_gives link.old (Ok buffer.new) link.new) }
+    ensures fails { IfErr result (λ e. L.Source.read_gives link.old (Err e) link.new) }
+    ensures end { IfOk result (λ n. n ≡ 0 → L.Source.at_end link.new) }
     ensures ok { OnOk result (L.Sink.failure_count link.new ≡ L.Sink.failure_count link.old) }
     ensures err { OnErr result (L.Sink.failure_count link.new ≡ L.Sink.failure_count link.old + 1) }
 {
-    link.read(piece.as_mut_slice())
+    buffer.fill(link, READ_CAPACITY)
 }
 
 /// Serves one link until the session ends.
@@ -117,12 +114,12 @@ pub fn serve<L: Link, K: Keeper>(
 {
     let mut frames = Frames::new(alloc);
     let mut written = 0;
-    let mut piece = match empty_piece(alloc) {
-        Ok(piece) => piece,
+    let mut buffer = match ReadBuffer::new(alloc) {
+        Ok(buffer) => buffer,
         Err(_) => return refuse(link, FrameFault::Memory, written),
     };
     for turn in 0..max_turns {
-        match take_turn(alloc, link, keeper, &mut frames, &mut piece, written) {
+        match take_turn(alloc, link, keeper, &mut frames, &mut buffer, written) {
             Ok(sum) => written = sum,
             Err(ended) => return ended,
         }

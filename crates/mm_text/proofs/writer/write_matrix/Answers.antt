@@ -1,5 +1,5 @@
 use Rattle.std.proofs.lemmas.Result.{err_from_is_err_and, on_ok_weaker, IfErr-weaker}
-use Rattle.mm_text.proofs.WriterLemmas.{written_nothing}
+use Rattle.byte_io.proofs.BufferLemmas.{written_nothing}
 use Rattle.mm_text.proofs.writer.write_matrix.Goals as goal
 
 pub returns-in_err-write_cells-clause-err : goal.returns-in_err-write_cells-clause-err

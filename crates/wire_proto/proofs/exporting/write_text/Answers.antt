@@ -4,7 +4,7 @@ use Rattle.std.specs.FinMap.{entries}
 use Rattle.std.proofs.lemmas.Result.{err_from_is_err_and}
 use Rattle.mm_text.specs.Canonical.{canonical_head, entry_line, entry_lines}
 use Rattle.byte_io.specs.Writing.{HasStopped}
-use Rattle.mm_text.proofs.WriterLemmas.{written_nothing}
+use Rattle.byte_io.proofs.BufferLemmas.{written_nothing}
 use Rattle.byte_io.proofs.SinkLemmas.{has_stopped_longer}
 use Rattle.hyper_matrix.specs.Shared.{LiesWithin}
 use Rattle.mm_laws.specs.MatrixText.{cell_of}
@@ -29,7 +29,7 @@ loop-cell-init g c =
       within = rw same c.requires.within;
       written = (
         head,
-        written_nothing _ _ c.args.w.now head c.new-writer.result c.new-writer.ensures.taken
+        written_nothing _ _ c.args.w.now head c.new-writer.result.buffer c.new-writer.ensures.taken
             c.new-writer.ensures.pending,
         text_begins c.args.sum.now _ _ c.args.entries _ c.dims-rows.ensures.value c.requires.entries order,
       );

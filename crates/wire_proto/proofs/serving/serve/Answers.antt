@@ -21,7 +21,7 @@ pub loop-turn-init : goal.loop-turn-init
 loop-turn-init g c = record {
   fact = c.requires.fact;
   setup = refl;
-  piece = c.in-Ok.ensures;
+  empty = c.in-Ok.ensures;
   failures = refl;
   none = rw c.new-frames.ensures (front_short [] (omega arith));
   room = rw c.new-frames.ensures (omega arith);

@@ -1,4 +1,4 @@
-use Rattle.std.proofs.Common.{◌≡◌, ◌+◌, ◌*◌, ◌≤◌, length, None}
+use Rattle.std.proofs.Common.{◌≡◌, ◌+◌, ◌*◌, ◌≤◌, [], length, None}
 use Rattle.wire_frames.specs.Frames.{front}
 use Rattle.wire_proto.specs.Sessions.{Stands}
 use Rattle.wire_proto.proofs.serving.serve.Given as goal
@@ -8,7 +8,7 @@ invariant-loop-turn g l = record {
   failures : g.L.Sink.failure_count l.link ≡ g.L.Sink.failure_count l.initial.link;
   fact : g.K.Keeper.fact l.keeper;
   setup : g.K.Keeper.setup_of l.keeper ≡ g.K.Keeper.setup_of l.initial.keeper;
-  piece : length l.piece.items ≡ 65536;
+  empty : l.buffer ≡ [];
   none : front l.frames ≡ None;
   room : l.written + 134217728 * length l.frames ≤ 8796093022208 * l.turn;
   stands : Stands g.L.Source.read_gives g.L.Sink.write_takes g.L.Sink.failure_count g.K.Keeper.gives

@@ -1,4 +1,4 @@
-use Rattle.std.proofs.Common.{ap, arith, refl, ◌≡◌, ◌-◌, length, drop, ◌∙◌, length-take, length-drop}
+use Rattle.std.proofs.Common.{ap, arith, refl, length}
 use Rattle.std.specs.Prelude.{Result, Ok, Err, IfErr}
 use Rattle.std.proofs.lemmas.Result.{on_ok_weaker}
 use Rattle.std.proofs.lemmas.List.{take_all}
@@ -14,21 +14,17 @@ both (Err e) f p q s = f e p q s
 
 pub returns-clause-ok : goal.returns-clause-ok
 returns-clause-ok c =
-    let bounds = c.args.self.now.in_piece in
-    let size_is : length (pending c.args.self.now) ≡ c.args.self.now.end - c.args.self.now.start =
-    length-take (c.args.self.now.end - c.args.self.now.start) (drop c.args.self.now.start c.args.self.now.piece.items)
-    ∙ omega (arith, length-drop c.args.self.now.start c.args.self.now.piece.items) in
-    on_ok_weaker c.carry_on.result (λ goes line block.
-    takes_pending c.args.self.now _ (length (pending c.args.self.now)) block block refl refl refl refl (omega arith)
-    (omega arith)
+    on_ok_weaker c.carry_on-carried.result (λ goes line block.
+    takes_pending c.args.self.now _ (length (pending c.args.self.now)) block block refl refl
+    (rw c.pending-pending.ensures.value at c.consume.ensures) (omega arith)
     (rw (take_all (length (pending c.args.self.now)) (pending c.args.self.now) (omega arith))
     (advances_front c.args.self.now.limits (pending c.args.self.now) c.args.self.now.lines.carry.items _ _ block _ _ _
-    (ap (λ p. p.stage) c.carry_on.ensures.progress) (ap (λ p. p.lines) c.carry_on.ensures.progress) line
-    (rw c.deref.ensures.value at goes)))) c.carry_on.ensures.ok
+    (ap (λ p. p.stage) c.carry_on-carried.ensures.progress) (ap (λ p. p.lines) c.carry_on-carried.ensures.progress) line
+    (rw c.pending-pending.ensures.value at goes)))) c.carry_on-carried.ensures.ok
 
 pub returns-clause-err : goal.returns-clause-err
 returns-clause-err c =
-    both c.carry_on.result (λ f kind line err is. shows_pending c.args.self.now f.kind f.line
+    both c.carry_on-carried.result (λ f kind line err is. shows_pending c.args.self.now f.kind f.line
     (shows_overrun c.args.self.now.limits (pending c.args.self.now) c.args.self.now.lines.carry.items _ _ f.kind f.line
-    is kind line (rw c.deref.ensures.value at err)))
-    c.carry_on.ensures.kind c.carry_on.ensures.line c.carry_on.ensures.err
+    is kind line (rw c.pending-pending.ensures.value at err)))
+    c.carry_on-carried.ensures.kind c.carry_on-carried.ensures.line c.carry_on-carried.ensures.err

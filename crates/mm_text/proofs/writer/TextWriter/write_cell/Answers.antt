@@ -1,6 +1,6 @@
 use Rattle.std.proofs.lemmas.Result.{err_from_is_err_and}
 use Rattle.byte_io.proofs.SinkLemmas.{has_stopped_longer}
-use Rattle.mm_text.proofs.WriterLemmas.{written_more}
+use Rattle.byte_io.proofs.BufferLemmas.{written_more}
 use Rattle.mm_text.proofs.writer.TextWriter.write_cell.Goals as goal
 
 pub returns-in_err-make_room-clause-err : goal.returns-in_err-make_room-clause-err
