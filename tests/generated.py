@@ -6,7 +6,8 @@
 The model is a list of what was accepted, searched from the front, and a dictionary of all cells; its replies are
 spelled from docs/FORMATS.md. Frames are mostly puts, as texts and as cells, with repeats, numbers that are used again,
 totals at the limit, full books, texts with faults and bad headers; they are cut anywhere, or end too early. Between two
-starts a server's snapshot is folded. It prints a line for each check that fails and at the end `N passed, M failed`;
+starts a server's snapshot is folded. Of clients that put at once some share their cells, and some have cells of their
+own and read them back. It prints a line for each check that fails and at the end `N passed, M failed`;
 the status is 1 where one fails. With `--long` there are ten times as many sessions and puts. Linux, and nothing but
 Python's own library, the client of clients/python and the server of tests/server.py.
 """
@@ -379,12 +380,82 @@ def clients_agree_with_a_model(factor):
     compare_saved(path, batches)
 
 
+# Several connections each put into columns of their own, so that each knows what its cells have.
+OWN = {"rows": 3000, "columns": 8, "clients": 3, "puts": 250, "cells": 120}
+OWN_WORDS = ["--rows", str(OWN["rows"]), "--cols", str(OWN["columns"] * OWN["clients"]), "--cuts", "200,1500,12000",
+             "--shards", "3", "--workers", "5"]  # fmt: skip
+
+
+def ask(link, stream, frame):
+    link.sendall(frame)
+    return read_reply(stream)
+
+
+def ask_cell(link, stream, row, col):
+    """The count of a cell, 0 where it isn't stored."""
+    kind, body = ask(link, stream, struct.pack(">IBQQ", 16, 2, row, col))
+    return struct.unpack(">Q", body[1:])[0] if kind == 0x82 else None
+
+
+def put_and_read_back(link, number, puts, sums, faults):
+    """Puts into columns of its own, and asks for a cell of each batch once that was answered, and for one of before."""
+    draw, stream = random.Random(f"own {number}"), link.makefile("rb")
+    columns = [number * OWN["columns"] + k for k in range(OWN["columns"])]
+    for batch in range(puts):
+        cells = [(draw.randrange(OWN["rows"]), draw.choice(columns), draw.randrange(1, 9)) for _ in range(OWN["cells"])]
+        kind, _ = ask(link, stream, put_cells_frame(number, batch, cells))
+        for row, col, count in cells:
+            sums[row, col] = sums.get((row, col), 0) + count
+        asked = [cells[0][:2], draw.choice(list(sums))]
+        found = [ask_cell(link, stream, *place) for place in asked]
+        if kind != 0x81 or found != [sums[place] for place in asked]:
+            faults.append((number, batch, kind, found))
+
+
+def watch_cells(link, ended, faults):
+    """Asks for the same cells again and again: none is ever less than before."""
+    stream = link.makefile("rb")
+    places = [(row, col) for row in range(0, OWN["rows"], 500) for col in range(OWN["columns"] * OWN["clients"])]
+    last = {}
+    while not ended.is_set():
+        for place in places:
+            count = ask_cell(link, stream, *place)
+            if count is None or count < last.get(place, 0):
+                faults.append((place, last.get(place), count))
+            last[place] = count
+
+
+def own_puts_are_read_back(factor):
+    """What a client put and was answered, it finds, while others put and what all left side by side is added up."""
+    sums, faults, ended = [{} for _ in range(OWN["clients"])], [], threading.Event()
+    with Server(OWN_WORDS) as server:
+        links = [server.link(n % 2 == 0) for n in range(OWN["clients"] + 1)]
+        reader = threading.Thread(target=watch_cells, args=(links[-1], ended, faults))
+        puts = factor * OWN["puts"]
+        writers = [threading.Thread(target=put_and_read_back, args=(links[n], n, puts, sums[n], faults))
+                   for n in range(OWN["clients"])]  # fmt: skip
+        for thread in [reader, *writers]:
+            thread.start()
+        for thread in writers:
+            thread.join()
+        ended.set()
+        reader.join()
+        check("own puts are read back, and no cell goes back", faults, [])
+        exported = ask(links[0], links[0].makefile("rb"), EXPORT)
+        all_sums = added_up(sums)
+        check("the sum of all", exported, (0x85, spelled(OWN["rows"], OWN["columns"] * OWN["clients"], all_sums)))
+        for link in links:
+            link.close()
+        server.stop("own puts", OWN["clients"] * puts, sum(all_sums.values()))
+
+
 def main():
     servers.PROGRAM = os.path.abspath(sys.argv[1])
     factor = 10 if "--long" in sys.argv[2:] else 1
     with tempfile.TemporaryDirectory() as servers.FOLDER:
         sessions_are_answered_alike(60 * factor)
         clients_agree_with_a_model(factor)
+        own_puts_are_read_back(factor)
     print(f"{servers.passed} passed, {servers.failed} failed")
     return 1 if servers.failed else 0
 
