@@ -5,12 +5,12 @@
 //! stands there in the stead of the runs. Nothing is compared for that: a place takes nothing but the sum of its runs,
 //! so whoever finds it full knows what it has. Where the runs went on meanwhile, or were added up otherwise, nobody
 //! looks at the place any more.
-ghost use Rattle.std.specs.Prelude.{◌≡◌, ◌+◌, ◌-◌, ◌≤◌, IfOk, IfSome, length, ℕ};
+ghost use Rattle.std.specs.Prelude.{◌≡◌, ◌+◌, ◌≤◌, IfOk, IfSome, length};
 ghost use Rattle.std.specs.Arc.{arc_value};
 ghost use Rattle.hyper_matrix.specs.Matrix.{matrix};
-ghost use Rattle.layer_compaction.specs.Shared.{content, values, all_counts, HaveDims};
+ghost use Rattle.layer_compaction.specs.Shared.{content, values, all_counts};
 ghost use Rattle.layer_compaction.specs.Runs.{CountsPlaces};
-ghost use Rattle.layer_compaction.specs.Due.{numbers_of, AddUp, IsDue, DueRuns, part_from, with_one};
+ghost use Rattle.layer_compaction.specs.Due.{numbers_of, AddUp, IsDue, part_from, with_one};
 
 use crate::filters::{filtered_run, first_unfiltered};
 use crate::limits::GATHERED_RUNS;
