@@ -18,6 +18,7 @@ pub mod RunLemmas
 pub mod ListLemmas
 pub mod PastLemmas
 pub mod BehindLemmas
+pub mod BelowLemmas
 pub mod MemoryLaws
 pub mod StartLemmas
 pub mod SaveLemmas

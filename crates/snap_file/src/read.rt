@@ -1,5 +1,5 @@
 //! Reads snapshots.
-ghost use Rattle.std.specs.Prelude.{◌≡◌, ◌+◌, ◌<◌, ◌^◌, IfOk, IfErr};
+ghost use Rattle.std.specs.Prelude.{◌≡◌, ◌+◌, ◌<◌, ◌^◌, [], IfOk, IfErr};
 ghost use Rattle.std.specs.Arc.{arc_value};
 ghost use Rattle.batch_store.specs.Books.{accepted_in};
 ghost use Rattle.snap_file.specs.declared.fault.SnapFault.{SnapFault};
@@ -38,6 +38,38 @@ fn share(alloc: Global, m: Hyper) -> Result<Arc<Hyper>, SnapFault>
     }
 }
 
+// Reads a snapshot from `r` to its end, by a reader that has read nothing.
+fn read_whole<R: Source>(
+    alloc: Global,
+    reader: &mut ByteReader,
+    r: &mut R,
+) -> Result<Snapshot, SnapFault>
+    requires failures { R.failure_count r.old + 1 < 2 ^ 64 }
+    requires pending { reader.old.pending ≡ [] }
+    requires taken { reader.old.taken ≡ 0 }
+    ensures ok { IfOk result (λ snapshot.
+        ReadsSnapshot R.read_gives R.failure_count
+        (R.at_end r.new) reader.old.max_bytes r.old r.new snapshot.setup (accepted_in snapshot.list)) }
+    ensures err { IfErr result (λ fault.
+        Stops R.read_gives R.failure_count (R.at_end r.new) reader.old.max_bytes r.old r.new fault) }
+{
+    let head = read_front(alloc, reader, r)?;
+    let batches = read_batches(alloc, reader, r, &head)?;
+    let Front { head, past } = head;
+    let Past { base, folded, .. } = past;
+    let base = share(alloc, base)?;
+    reader.expect_end(r)?;
+    let list = BookList {
+        base,
+        folded,
+        batches,
+    };
+    Ok(Snapshot {
+        setup: head.setup,
+        list,
+    })
+}
+
 /// Reads a snapshot of either version from `r` to its end, of at most `max_bytes` bytes, in at most `max_bytes + 2`
 /// reads.
 ///
@@ -68,19 +100,5 @@ pub fn read_snapshot<R: Source>(
         Stops R.read_gives R.failure_count (R.at_end r.new) max_bytes r.old r.new fault) }
 {
     let mut reader = ByteReader::new(alloc, max_bytes)?;
-    let head = read_front(alloc, &mut reader, r)?;
-    let batches = read_batches(alloc, &mut reader, r, &head)?;
-    let Front { head, past } = head;
-    let Past { base, folded, .. } = past;
-    let base = share(alloc, base)?;
-    reader.expect_end(r)?;
-    let list = BookList {
-        base,
-        folded,
-        batches,
-    };
-    Ok(Snapshot {
-        setup: head.setup,
-        list,
-    })
+    read_whole(alloc, &mut reader, r)
 }

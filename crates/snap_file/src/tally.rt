@@ -80,17 +80,11 @@ pub fn read_cell<R: Source>(
         Stops R.read_gives R.failure_count (R.at_end r.new) max_bytes s r.new f) }
     ensures no_failure { OnOk result (R.failure_count r.new ≡ R.failure_count r.old) }
 {
-    let row = reader.next_u64(r)?;
-    let far_row = row >= head.setup.rows();
-    refuse(far_row, SnapFault::BadBatch)?;
-    let col = reader.next_u64(r)?;
-    let far_col = col >= head.setup.cols();
-    refuse(far_col, SnapFault::BadBatch)?;
+    let row = reader.next_u64_in(r, 0, head.setup.rows() - 1, SnapFault::BadBatch)?;
+    let col = reader.next_u64_in(r, 0, head.setup.cols() - 1, SnapFault::BadBatch)?;
     let early = stands_before(row, col, tally.least_row, tally.least_col);
     refuse(early, SnapFault::OutOfOrder)?;
-    let count = reader.next_u64(r)?;
-    let over = passes(most, tally.counted, count);
-    refuse(over, SnapFault::TotalDiffers)?;
+    let count = reader.next_u64_in(r, 0, most - tally.counted, SnapFault::TotalDiffers)?;
     match tally.cells.push(Cell { row, col, count }) {
         Err(_) => Err(SnapFault::Memory),
         Ok(()) => {

@@ -1,4 +1,4 @@
-use Rattle.std.proofs.Common.{sym, ap, subst, ◌∙◌}
+use Rattle.std.proofs.Common.{refl, sym, ap, subst, ◌∙◌}
 use Rattle.std.proofs.lemmas.Result.{err_from_is_err_and}
 use Rattle.hyper_matrix.specs.Counts.{Counts}
 use Rattle.hyper_matrix.specs.Matrix.{Matrix}
@@ -10,72 +10,72 @@ use Rattle.snap_file.specs.Table.{contents, rest_of}
 use Rattle.snap_file.proofs.StartLemmas.{read_begun}
 use Rattle.snap_file.proofs.StopLemmas.{stops_memory}
 use Rattle.snap_file.proofs.BehindLemmas.{behind_rest, behind_end}
-use Rattle.snap_file.proofs.read.read_snapshot.Goals as goal
+use Rattle.snap_file.proofs.read.read_whole.Goals as goal
 
 pub returns-in_err-head-clause-err : goal.returns-in_err-head-clause-err
 returns-in_err-head-clause-err g c =
-    let p = err_from_is_err_and c.from_residual-in_err-head.result c.from_residual-in_err-head.ensures.1 in
+    let p = err_from_is_err_and c.from_residual.result c.from_residual.ensures.1 in
     rw (p.1, p.2)
-    (c.in_err-head.ensures.err c.args.r.now c.args.max_bytes rest_of (λ h p. behind_rest h p)
-    (read_begun {S = g.row.R.Denot} g.R.Source.read_gives g.R.Source.failure_count c.args.max_bytes c.args.r.now
-    c.in_ok-reader.reader c.in_ok-reader.ensures.pending c.in_ok-reader.ensures.taken c.in_ok-reader.ensures.limit))
+    (c.in_err-head.ensures.err c.args.r.now c.args.reader.now.max_bytes rest_of (λ h p. behind_rest h p)
+    (read_begun {S = g.row.R.Denot} g.R.Source.read_gives g.R.Source.failure_count c.args.reader.now.max_bytes c.args.r.now
+    c.args.reader.now c.requires.pending c.requires.taken refl))
 
 pub returns-in_err-batches-clause-err : goal.returns-in_err-batches-clause-err
 returns-in_err-batches-clause-err g c =
     let p = err_from_is_err_and c.from_residual-in_err-batches.result c.from_residual-in_err-batches.ensures.1 in
     rw (p.1, p.2)
-    (c.in_err-batches.ensures.err c.args.r.now c.args.max_bytes
-    (c.in_ok-head.ensures.ok c.args.r.now c.args.max_bytes rest_of
-    (read_begun {S = g.row.R.Denot} g.R.Source.read_gives g.R.Source.failure_count c.args.max_bytes c.args.r.now
-    c.in_ok-reader.reader c.in_ok-reader.ensures.pending c.in_ok-reader.ensures.taken c.in_ok-reader.ensures.limit)))
+    (c.in_err-batches.ensures.err c.args.r.now c.args.reader.now.max_bytes
+    (c.in_ok-head.ensures.ok c.args.r.now c.args.reader.now.max_bytes rest_of
+    (read_begun {S = g.row.R.Denot} g.R.Source.read_gives g.R.Source.failure_count c.args.reader.now.max_bytes c.args.r.now
+    c.args.reader.now c.requires.pending c.requires.taken refl)))
 
 pub returns-in_err-base-clause-err : goal.returns-in_err-base-clause-err
 returns-in_err-base-clause-err g c =
     let p = err_from_is_err_and c.from_residual-in_err-base.result c.from_residual-in_err-base.ensures.1 in
     rw (p.1, p.2, c.in_err-base.ensures.err)
     (stops_memory {S = g.row.R.Denot} g.R.Source.read_gives g.R.Source.failure_count
-    (g.R.Source.at_end c.read_batches.new.r) c.args.max_bytes c.args.r.now c.read_batches.new.r
+    (g.R.Source.at_end c.read_batches.new.r) c.args.reader.now.max_bytes c.args.r.now c.read_batches.new.r
     c.read_batches.new.reader _
-    (c.in_ok-batches.ensures.ok c.args.r.now c.args.max_bytes
-    (c.in_ok-head.ensures.ok c.args.r.now c.args.max_bytes rest_of
-    (read_begun {S = g.row.R.Denot} g.R.Source.read_gives g.R.Source.failure_count c.args.max_bytes c.args.r.now
-    c.in_ok-reader.reader c.in_ok-reader.ensures.pending c.in_ok-reader.ensures.taken c.in_ok-reader.ensures.limit))) (behind_end _))
+    (c.in_ok-batches.ensures.ok c.args.r.now c.args.reader.now.max_bytes
+    (c.in_ok-head.ensures.ok c.args.r.now c.args.reader.now.max_bytes rest_of
+    (read_begun {S = g.row.R.Denot} g.R.Source.read_gives g.R.Source.failure_count c.args.reader.now.max_bytes c.args.r.now
+    c.args.reader.now c.requires.pending c.requires.taken refl))) (behind_end _))
 
 pub returns-in_err-expect_end-clause-err : goal.returns-in_err-expect_end-clause-err
 returns-in_err-expect_end-clause-err g c =
     let p = err_from_is_err_and c.from_residual-in_err-expect_end.result c.from_residual-in_err-expect_end.ensures.1 in
     rw (p.1, p.2)
-    (c.in_err-expect_end.ensures.err c.args.r.now c.args.max_bytes
+    (c.in_err-expect_end.ensures.err c.args.r.now c.args.reader.now.max_bytes
     (contents c.in_ok-head.head.head.setup (accepted c.in_ok-head.head.past.base.counts c.in_ok-head.head.past.folded.items
     (values c.in_ok-batches.batches.items)))
-    (c.in_ok-batches.ensures.ok c.args.r.now c.args.max_bytes
-    (c.in_ok-head.ensures.ok c.args.r.now c.args.max_bytes rest_of
-    (read_begun {S = g.row.R.Denot} g.R.Source.read_gives g.R.Source.failure_count c.args.max_bytes c.args.r.now
-    c.in_ok-reader.reader c.in_ok-reader.ensures.pending c.in_ok-reader.ensures.taken c.in_ok-reader.ensures.limit))))
+    (c.in_ok-batches.ensures.ok c.args.r.now c.args.reader.now.max_bytes
+    (c.in_ok-head.ensures.ok c.args.r.now c.args.reader.now.max_bytes rest_of
+    (read_begun {S = g.row.R.Denot} g.R.Source.read_gives g.R.Source.failure_count c.args.reader.now.max_bytes c.args.r.now
+    c.args.reader.now c.requires.pending c.requires.taken refl))))
 
 pub invariant_of-list : goal.invariant_of-list
 invariant_of-list g c =
     subst (λ (m : Counts). IsBase m c.in_ok-head.head.past.folded.items)
     (sym (ap (λ (m : Matrix). m.counts) c.in_ok-base.ensures.ok))
-    (c.in_ok-expect_end.ensures.ok c.args.r.now c.args.max_bytes
+    (c.in_ok-expect_end.ensures.ok c.args.r.now c.args.reader.now.max_bytes
     (contents c.in_ok-head.head.head.setup (accepted c.in_ok-head.head.past.base.counts c.in_ok-head.head.past.folded.items
     (values c.in_ok-batches.batches.items)))
-    (c.in_ok-batches.ensures.ok c.args.r.now c.args.max_bytes
-    (c.in_ok-head.ensures.ok c.args.r.now c.args.max_bytes rest_of
-    (read_begun {S = g.row.R.Denot} g.R.Source.read_gives g.R.Source.failure_count c.args.max_bytes c.args.r.now
-    c.in_ok-reader.reader c.in_ok-reader.ensures.pending c.in_ok-reader.ensures.taken c.in_ok-reader.ensures.limit)))).snapshot.kept.accepted.based
+    (c.in_ok-batches.ensures.ok c.args.r.now c.args.reader.now.max_bytes
+    (c.in_ok-head.ensures.ok c.args.r.now c.args.reader.now.max_bytes rest_of
+    (read_begun {S = g.row.R.Denot} g.R.Source.read_gives g.R.Source.failure_count c.args.reader.now.max_bytes c.args.r.now
+    c.args.reader.now c.requires.pending c.requires.taken refl)))).snapshot.kept.accepted.based
 
 pub invariant_of-result : goal.invariant_of-result
 invariant_of-result g c = record {
   kept = subst (λ (m : Counts). IsKept c.in_ok-head.head.head.setup (accepted m c.in_ok-head.head.past.folded.items
       (values c.in_ok-batches.batches.items))) (sym (ap (λ (m : Matrix). m.counts) c.in_ok-base.ensures.ok))
-      (c.in_ok-expect_end.ensures.ok c.args.r.now c.args.max_bytes
+      (c.in_ok-expect_end.ensures.ok c.args.r.now c.args.reader.now.max_bytes
       (contents c.in_ok-head.head.head.setup (accepted c.in_ok-head.head.past.base.counts c.in_ok-head.head.past.folded.items
       (values c.in_ok-batches.batches.items)))
-      (c.in_ok-batches.ensures.ok c.args.r.now c.args.max_bytes
-      (c.in_ok-head.ensures.ok c.args.r.now c.args.max_bytes rest_of
-      (read_begun {S = g.row.R.Denot} g.R.Source.read_gives g.R.Source.failure_count c.args.max_bytes c.args.r.now
-      c.in_ok-reader.reader c.in_ok-reader.ensures.pending c.in_ok-reader.ensures.taken c.in_ok-reader.ensures.limit)))).snapshot.kept;
+      (c.in_ok-batches.ensures.ok c.args.r.now c.args.reader.now.max_bytes
+      (c.in_ok-head.ensures.ok c.args.r.now c.args.reader.now.max_bytes rest_of
+      (read_begun {S = g.row.R.Denot} g.R.Source.read_gives g.R.Source.failure_count c.args.reader.now.max_bytes c.args.r.now
+      c.args.reader.now c.requires.pending c.requires.taken refl)))).snapshot.kept;
   based = record {
     rows = ap (λ (m : Matrix). m.rows) c.in_ok-base.ensures.ok ∙ c.in_ok-head.ensures.dims.0;
     cols = ap (λ (m : Matrix). m.cols) c.in_ok-base.ensures.ok ∙ c.in_ok-head.ensures.dims.1;
@@ -85,14 +85,14 @@ invariant_of-result g c = record {
 pub returns-clause-ok : goal.returns-clause-ok
 returns-clause-ok g c =
     subst (λ (m : Counts). ReadsSnapshot {S = g.row.R.Denot} g.R.Source.read_gives g.R.Source.failure_count
-    (g.R.Source.at_end c.expect_end.new.r) c.args.max_bytes c.args.r.now c.expect_end.new.r
+    (g.R.Source.at_end c.expect_end.new.r) c.args.reader.now.max_bytes c.args.r.now c.expect_end.new.r
     c.in_ok-head.head.head.setup (accepted m c.in_ok-head.head.past.folded.items
     (values c.in_ok-batches.batches.items)))
     (sym (ap (λ (m : Matrix). m.counts) c.in_ok-base.ensures.ok))
-    (c.in_ok-expect_end.ensures.ok c.args.r.now c.args.max_bytes
+    (c.in_ok-expect_end.ensures.ok c.args.r.now c.args.reader.now.max_bytes
     (contents c.in_ok-head.head.head.setup (accepted c.in_ok-head.head.past.base.counts c.in_ok-head.head.past.folded.items
     (values c.in_ok-batches.batches.items)))
-    (c.in_ok-batches.ensures.ok c.args.r.now c.args.max_bytes
-    (c.in_ok-head.ensures.ok c.args.r.now c.args.max_bytes rest_of
-    (read_begun {S = g.row.R.Denot} g.R.Source.read_gives g.R.Source.failure_count c.args.max_bytes c.args.r.now
-    c.in_ok-reader.reader c.in_ok-reader.ensures.pending c.in_ok-reader.ensures.taken c.in_ok-reader.ensures.limit))))
+    (c.in_ok-batches.ensures.ok c.args.r.now c.args.reader.now.max_bytes
+    (c.in_ok-head.ensures.ok c.args.r.now c.args.reader.now.max_bytes rest_of
+    (read_begun {S = g.row.R.Denot} g.R.Source.read_gives g.R.Source.failure_count c.args.reader.now.max_bytes c.args.r.now
+    c.args.reader.now c.requires.pending c.requires.taken refl))))
