@@ -1,0 +1,7 @@
+//! Devices, run over pieces that are given and taken as tables say.
+
+mod counted;
+mod endless;
+mod scripts;
+mod wrappers;
+mod writes;
