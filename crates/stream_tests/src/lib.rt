@@ -1,0 +1,11 @@
+//! Snapshots, and sums of texts, over devices in memory each of whose calls fails in turn, and snapshots in real files.
+//!
+//! What is to be read and written was worked out by hand from the formats, not taken from a run.
+#![tactic(auto)]
+
+#[cfg(test)]
+mod snapshots;
+#[cfg(test)]
+mod sources;
+#[cfg(test)]
+mod sums;

@@ -1,0 +1,67 @@
+//! Reads and writes that fail in mid-stream.
+
+use crate::snapshots::bytes::{BOTH, FOLDED, MAX_BYTES, NEW_ONE, NEW_TWO, ONE, TWO, read};
+use crate::sources::source;
+use byte_io::{Script, Source, WriteFault};
+use snap_file::{SnapFault, Snapshot, read_snapshot, write_snapshot};
+use std::alloc::Global;
+use std::process::Abort;
+use test_support::{holds_at, same, same_at};
+
+// The fault of these bytes, one byte a read, of which that number `failing` fails, and how often one failed.
+fn fault_failing(
+    rt: &impl Abort,
+    alloc: Global,
+    bytes: &[u8],
+    failing: u64,
+) -> (Option<SnapFault>, u64) {
+    let mut script = source(rt, alloc, bytes, 1, Some(failing));
+    let fault = read_snapshot(alloc, &mut script, MAX_BYTES).err();
+    let failures = script.failures();
+    drop(script);
+    (fault, failures)
+}
+
+#[test]
+fn each_read_fails_in_turn(rt: HostRuntime) {
+    for bytes in [ONE, TWO, NEW_ONE, BOTH] {
+        // One byte a read, and one read more at the end.
+        for failing in 0..=bytes.len() as u64 {
+            let found = fault_failing(&rt, rt.alloc(), bytes, failing);
+            assert!(rt; same_at(&rt, &failing, &found, &(Some(SnapFault::Read), 1)));
+        }
+    }
+}
+
+#[test]
+fn no_read_follows_the_end(rt: HostRuntime) {
+    for bytes in [ONE, TWO, NEW_ONE, BOTH] {
+        let found = fault_failing(&rt, rt.alloc(), bytes, bytes.len() as u64 + 1);
+        assert!(rt; same(&rt, &found, &(None, 0)));
+    }
+}
+
+// Whether the writing of a snapshot whose file these bytes are stops where the sink takes no more than `room`.
+fn stops_at(alloc: Global, snapshot: &Snapshot, bytes: &[u8], room: usize) -> bool {
+    let mut script = Script::new(alloc, Vec::new(alloc), None, Some(room as u64));
+    // Any use of it tells what it keeps.
+    let list = &snapshot.list;
+    let answer = write_snapshot(&mut script, &snapshot.setup, list);
+    let fault = WriteFault {
+        written: room as u128,
+    };
+    let stops = answer == Err(fault) && script.written() == &bytes[..room.min(bytes.len())];
+    drop(script);
+    stops
+}
+
+#[test]
+fn each_write_fails_in_turn(rt: HostRuntime) {
+    for bytes in [NEW_ONE, NEW_TWO, FOLDED, BOTH] {
+        let snapshot = read(&rt, rt.alloc(), bytes, bytes.len());
+        for room in 0..bytes.len() {
+            assert!(rt; holds_at(&rt, &room, stops_at(rt.alloc(), &snapshot, bytes, room)));
+        }
+        drop(snapshot);
+    }
+}

@@ -1,0 +1,145 @@
+//! Saves in a folder in memory, each of whose calls fails in turn.
+ghost use Rattle.std.specs.Prelude.{◌≡◌, ◌+◌, ◌<◌, ◌^◌};
+
+use crate::snapshots::bytes::{NEW_ONE, ONE, read};
+use byte_io::{DeviceFault, WriteFault};
+use snap_file::{Folder, MemoryFolder, SaveFault, Snapshot, save_in};
+use std::alloc::Global;
+use std::io::Eprint;
+use std::process::Abort;
+use test_support::{same, same_at};
+
+// A folder of files, of which call number `fail_at` fails.
+fn folder(
+    rt: &impl Abort,
+    alloc: Global,
+    files: &[(&str, &[u8])],
+    fail_at: Option<u64>,
+) -> MemoryFolder
+    ensures { result.failures ≡ 0 }
+{
+    let mut list = Vec::new(alloc);
+    for (name, bytes) in files {
+        let name = String::from_str(alloc, *name).expect(rt, "memory");
+        let bytes = Vec::from_slice(alloc, *bytes).expect(rt, "memory");
+        list.push((name, bytes)).expect(rt, "memory");
+    }
+    MemoryFolder::new(alloc, list, fail_at)
+}
+
+fn saved(alloc: Global, folder: &mut MemoryFolder, snapshot: &Snapshot) -> Result<(), SaveFault>
+    requires { folder.old.failures + 1 < 2 ^ 64 }
+{
+    // Any use of it tells what it keeps.
+    let list = &snapshot.list;
+    save_in(alloc, folder, "a", &snapshot.setup, list)
+}
+
+// Whether a file has these bytes.
+fn holds(f: &MemoryFolder, name: &str, bytes: &[u8]) -> bool {
+    match f.file(name) {
+        Some(held) => held == bytes,
+        None => false,
+    }
+}
+
+// What a save is answered in a folder whose call number `fail_at` fails, and what stands under `a` and `b` then.
+fn expect_save(
+    rt: &(impl Abort + Eprint),
+    alloc: Global,
+    snapshot: &Snapshot,
+    fail_at: Option<u64>,
+    expected: Result<(), SaveFault>,
+    held: &[u8],
+) {
+    let mut f = folder(rt, alloc, &[("a", b"old"), ("b", b"other")], fail_at);
+    let answer = saved(alloc, &mut f, snapshot);
+    let are_held = [holds(&f, "a", held), holds(&f, "b", b"other")];
+    let failures = f.failures();
+    drop(f);
+    let wanted = (expected, [true; 2], u64::from(expected.is_err()));
+    assert!(rt; same_at(rt, &fail_at, &(answer, are_held, failures), &wanted));
+}
+
+// The calls of a save, from 0, each with its fault: a file of up to 16 KiB is one write.
+static FAULTS: &[(u64, SaveFault)] = &[
+    (0, SaveFault::Create),
+    (1, SaveFault::Write(WriteFault { written: 0 })),
+    (2, SaveFault::Sync),
+    (3, SaveFault::Rename),
+];
+
+#[test]
+fn each_call_fails_in_turn(rt: HostRuntime) {
+    let snapshot = read(&rt, rt.alloc(), ONE, ONE.len());
+    for (call, fault) in FAULTS {
+        expect_save(&rt, rt.alloc(), &snapshot, Some(*call), Err(*fault), b"old");
+    }
+    expect_save(&rt, rt.alloc(), &snapshot, Some(4), Ok(()), NEW_ONE);
+    expect_save(&rt, rt.alloc(), &snapshot, None, Ok(()), NEW_ONE);
+    drop(snapshot);
+}
+
+#[test]
+fn what_was_left_over_is_written_over(rt: HostRuntime) {
+    let snapshot = read(&rt, rt.alloc(), ONE, ONE.len());
+    let mut f = folder(
+        &rt,
+        rt.alloc(),
+        &[("a.new", b"left over"), ("a", b"old")],
+        None,
+    );
+    let answer = saved(rt.alloc(), &mut f, &snapshot);
+    drop(snapshot);
+    let is_saved = holds(&f, "a", NEW_ONE);
+    let is_moved = f.file("a.new").is_none();
+    drop(f);
+    assert!(rt; same(&rt, &(answer, is_saved, is_moved), &(Ok(()), true, true)));
+}
+
+// A file is made in the place of one that has its name.
+#[test]
+fn a_created_file_is_empty(rt: HostRuntime) {
+    let mut f = folder(&rt, rt.alloc(), &[("new", b"was there")], None);
+    let found = (f.create("new"), holds(&f, "new", b""));
+    drop(f);
+    assert!(rt; same(&rt, &found, &(Ok(()), true)));
+}
+
+// The first of two files of one name is told.
+#[test]
+fn the_first_of_a_name_counts(rt: HostRuntime) {
+    let f = folder(
+        &rt,
+        rt.alloc(),
+        &[("name", b"first"), ("name", b"second")],
+        None,
+    );
+    let found = (
+        holds(&f, "name", b"first"),
+        f.file("other").is_none(),
+        f.failures(),
+    );
+    drop(f);
+    assert!(rt; same(&rt, &found, &(true, true, 0)));
+}
+
+// Call number 1 fails, and no other; it leaves the file.
+#[test]
+fn one_call_fails(rt: HostRuntime) {
+    let mut f = folder(&rt, rt.alloc(), &[("name", b"old")], Some(1));
+    let first = f.create("new");
+    let second = f.create("name");
+    let is_left = holds(&f, "name", b"old");
+    let third = f.create("name");
+    let failures = f.failures();
+    drop(f);
+    assert!(rt;
+        same(
+            &rt,
+            &[first, second, third],
+            &[Ok(()), Err(DeviceFault), Ok(())]
+        )
+    );
+    assert!(rt; same(&rt, &(is_left, failures), &(true, 1)));
+}
