@@ -55,15 +55,9 @@ can_take rows cols cells block (Fits m) is within =
     subst (λ (x : Matrix). AreWithin x.rows x.cols block) (sym is) within
 can_take rows cols cells block TooLarge is within = tt
 
--- what isn't judged yet is at most a piece
+-- what isn't judged yet is at most what a buffer holds
 pending_short : (reader : TextReader) → length (pending reader) ≤ 65536
-pending_short reader =
-    omega (
-      arith,
-      length-take (reader.end - reader.start) (drop reader.start reader.piece.items),
-      reader.in_piece.1,
-      reader.one_piece,
-    )
+pending_short reader = reader.short
 
 -- and what is beyond the limit at most a byte
 beyond_short : (room : ℕ) (beyond : List ℕ) → (0 < room → beyond ≡ []) → (room ≡ 0 → length beyond ≡ 1) →

@@ -39,6 +39,7 @@ pub struct TextReader {
     buffer: ReadBuffer,
     // How many bytes may still be asked for: with the one that is too many, which is judged by being there.
     room: u64,
+    ghost short: { length buffer ≤ 65536 },
     ghost countable: { lines.progress.lines + length buffer + room ≤ 2 ^ 63 + 1 },
 }
 

@@ -1,5 +1,0 @@
-use Rattle.std.proofs.Common.{◌≡◌}
-use Rattle.plain_engine_tests.proofs.puts.put_all.Given as goal
-
-abbrev pub invariant-steps : goal.invariant-steps
-invariant-steps g l = l.engine.setup ≡ l.setup

@@ -1,0 +1,9 @@
+//! Worked examples of the engine of one thread.
+
+mod batches;
+mod expected;
+mod folds;
+mod loads;
+mod lookups;
+mod parts;
+mod puts;

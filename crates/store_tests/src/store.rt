@@ -1,0 +1,9 @@
+//! Worked examples of setups, batches, books and shards, as tables of steps and answers.
+
+mod batches;
+mod books;
+mod folds;
+mod lists;
+pub mod setups;
+mod shards;
+pub mod views;
