@@ -2,15 +2,21 @@
 //!
 //! Layer 1 is compacted by itself. Of the layers behind it each call here finds the first in which something is due, and
 //! tells it as that layer's place, from 0, and the layer that is to stand there.
+//!
+//! Sums can also be made apart from the layers: the layer that is to stand there then has a place for the sum, and once
+//! that is full, one with the sum takes its place.
 ghost use Rattle.std.specs.Prelude.{◌≡◌, ◌<◌, IfOk, IfSome, OnOk, Some, length, slice_get};
 ghost use Rattle.layer_compaction.specs.Shared.{values};
 
-use layer_compaction::Layer;
+use layer_compaction::{Compaction, Layer};
 use std::alloc::{AllocError, Global};
 use std::sync::Arc;
 
 /// A place, and a layer that holds the same as the one there.
 type Exchange = (usize, Layer);
+
+/// As `Exchange`, where that layer has a place for a sum, and what is to make it.
+type Beginning = (usize, Layer, Compaction);
 
 // Two neighbouring matrices are added up.
 fn first_paired(layers: &[Arc<Layer>], alloc: Global) -> Result<Option<Exchange>, AllocError>
@@ -114,4 +120,74 @@ pub fn compact(layers: &mut [Arc<Layer>], cuts: &[u64], alloc: Global) -> Result
     gather_first(layers, alloc)?;
     compact_next(layers, cuts, alloc)?;
     Ok(())
+}
+
+// The first layer with something due, from one place up to another.
+fn first_begun(
+    layers: &[Arc<Layer>],
+    from: usize,
+    until: usize,
+    alloc: Global,
+) -> Result<Option<Beginning>, AllocError>
+    ensures { IfOk result (λ next. IfSome next (λ n. slice_get (values layers.now) n.0 ≡ Some n.1)) }
+{
+    for place in from..until.min(layers.len()) {
+        if let Some((layer, compaction)) = layers[place].begun(alloc, place == 0)? {
+            return Ok(Some((place, layer, compaction)));
+        }
+    }
+    Ok(None)
+}
+
+// The same, from the layer on whose turn it is, and then up to that one.
+fn next_begun(
+    layers: &[Arc<Layer>],
+    turn: usize,
+    alloc: Global,
+) -> Result<Option<Beginning>, AllocError>
+    ensures { IfOk result (λ next. IfSome next (λ n. slice_get (values layers.now) n.0 ≡ Some n.1)) }
+{
+    if let Some(next) = first_begun(layers, turn, layers.len(), alloc)? {
+        return Ok(Some(next));
+    }
+    first_begun(layers, 0, turn, alloc)
+}
+
+/// Begins what is due next, and tells in which layer that is. What the layers hold stays.
+pub fn begin_next(
+    layers: &mut [Arc<Layer>],
+    turn: usize,
+    alloc: Global,
+) -> Result<Option<(usize, Compaction)>, AllocError>
+    ensures same { values layers.new ≡ values layers.old }
+    ensures place { IfOk result (λ begun. IfSome begun (λ b. b.0 < length layers.old)) }
+{
+    let Some((place, layer, compaction)) = next_begun(layers, turn, alloc)? else {
+        return Ok(None);
+    };
+    exchange(layers, place, alloc, layer)?;
+    Ok(Some((place, compaction)))
+}
+
+// A layer takes over the sum that was made for it, if one was.
+fn settle_at(layers: &mut [Arc<Layer>], place: usize, alloc: Global) -> Result<bool, AllocError>
+    requires { place < length layers.old }
+    ensures same { values layers.new ≡ values layers.old }
+{
+    let Some(layer) = layers[place].compacted(alloc)? else {
+        return Ok(false);
+    };
+    exchange(layers, place, alloc, layer)?;
+    Ok(true)
+}
+
+/// Each layer takes over the sum that was made for it. Whether any was. What the layers hold stays.
+pub fn settle(layers: &mut [Arc<Layer>], alloc: Global) -> Result<bool, AllocError>
+    ensures { values layers.new ≡ values layers.old }
+{
+    let mut settled = false;
+    'layers: for place in 0..layers.len() {
+        settled = settle_at(layers, place, alloc)? || settled;
+    }
+    Ok(settled)
 }

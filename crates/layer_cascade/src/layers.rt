@@ -24,7 +24,7 @@ ghost use Rattle.hyper_matrix.specs.RowOf.{row_of};
 ghost use Rattle.layer_cascade.specs.Layering.{IsLayering, no_layers, entries_of_layer};
 
 use crate::addition::{cascade_end, layers_after, push_copies, push_layers};
-use crate::compaction::compact;
+use crate::compaction::{begin_next, compact, settle};
 use crate::cuts::are_cuts;
 use crate::fault::CascadeFault;
 use crate::row_entries::columns_with_layer;
@@ -49,6 +49,8 @@ pub struct Layers {
     // The empty layer, shared by all that hold nothing.
     empty: Arc<Layer>,
     layers: Vec<Arc<Layer>>,
+    // From which layer on, counted from 0, `begin` looks for what is due.
+    turn: usize,
 }
 
 impl Model for Layers {
@@ -103,6 +105,7 @@ fn empty_layers(alloc: Global, rows: u64, cols: u64, cuts: &[u64]) -> Result<Lay
         cuts,
         empty,
         layers,
+        turn: 0,
     })
 }
 
@@ -184,6 +187,7 @@ impl Layers {
             cuts,
             empty,
             layers,
+            turn: self.turn,
         };
         Ok(Plan { after })
     }
@@ -221,9 +225,19 @@ impl Layers {
         compact(&mut self.layers, &self.cuts, alloc)
     }
 
-    /// Chooses the runs that are due next and makes a place for their sum; None where nothing is due. What the layers
-    /// hold stays, also on an error. Takes the time and memory of a pointer for each matrix of a layer, and no lock is
-    /// needed for what it gives (`Compaction::run`).
+    /// Chooses matrices that stand side by side and are to be added up, and makes a place for their sum; None where
+    /// nothing is due. `Compaction::run` makes the sum, without these layers and whatever lock they are behind, and
+    /// `settle` takes it over. What the layers hold stays, also on an error.
+    ///
+    /// What `gather` would add up or give a filter is due, but two neighbours of like size in a deeper layer however
+    /// large they are, since nobody waits for their sum. Each layer has its turn, so that none is forgotten. Sums that
+    /// were made are taken over first, as by `settle`. A sum that was begun and isn't made is begun again when its
+    /// layer's turn comes, since it may have been given up: who begins the next one before the last one is made may
+    /// have the same one made twice.
+    ///
+    /// Takes the time and memory of some pointers for each matrix of a layer, at most 32. To drop what it gives is to
+    /// give it up, and does no harm, and neither does an addition that comes before the sum is taken over: where it
+    /// carries the matrices on, the sum isn't used.
     ///
     /// # Errors
     ///
@@ -231,21 +245,25 @@ impl Layers {
     pub fn begin(&mut self, alloc: Global) -> Result<Option<Compaction>, AllocError>
         ensures { self.new ≡ self.old }
     {
-        let _ = alloc;
-        Ok(None)
+        settle(&mut self.layers, alloc)?;
+        let Some((place, compaction)) = begin_next(&mut self.layers, self.turn, alloc)? else {
+            return Ok(None);
+        };
+        self.turn = place + 1;
+        Ok(Some(compaction))
     }
 
-    /// Puts the sums that were made in the place of their runs. Whether any was. What the layers hold stays, also on an
-    /// error. Takes the time and memory of a pointer for each matrix.
+    /// Puts the sums that were made in the stead of their matrices. Whether any was. What the layers hold stays, also
+    /// on an error. Takes the time and memory of a pointer for each matrix of the layers that have such a sum, and else a
+    /// step for each layer; what nobody else shares of the matrices is freed.
     ///
     /// # Errors
     ///
-    /// A growth was refused.
+    /// A growth was refused. Sums that weren't taken over wait for the next call.
     pub fn settle(&mut self, alloc: Global) -> Result<bool, AllocError>
         ensures { self.new ≡ self.old }
     {
-        let _ = alloc;
-        Ok(false)
+        settle(&mut self.layers, alloc)
     }
 
     /// The same layers once more, which share all matrices with these. Takes one growth, of a pointer for each layer.
@@ -262,6 +280,7 @@ impl Layers {
             cuts,
             empty,
             layers,
+            turn: self.turn,
         })
     }
 

@@ -4,6 +4,8 @@
 #[cfg(test)]
 mod adding;
 #[cfg(test)]
+mod compactions;
+#[cfg(test)]
 mod gathers;
 #[cfg(test)]
 mod layers;

@@ -6,3 +6,4 @@ pub mod CountedLemmas
 pub mod PairLemmas
 pub mod WalkLemmas
 pub mod WithoutLemmas
+pub mod DueLemmas

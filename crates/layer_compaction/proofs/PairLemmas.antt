@@ -11,7 +11,7 @@ use Rattle.layer_compaction.specs.Shared.{content, values, all_counts, HaveDims}
 use Rattle.layer_compaction.proofs.LayerLemmas.{content-append, dims-append, pushed, value_at}
 use Rattle.layer_compaction.proofs.RunLemmas.{content-parts, have_parts}
 
-content-both : (a b : List Matrix) →
+pub content-both : (a b : List Matrix) →
     content (all_counts (a ++ b)) ≡ ewise_add (content (all_counts a)) (content (all_counts b))
 content-both a b = ap content (map-append (λ (m : Matrix). m.counts) a b)
     ∙ content-append (all_counts a) (all_counts b)

@@ -113,7 +113,7 @@ len-take layers i = omega (
   len-ewise_add (content (take i layers)) (content (drop i layers)),
 )
 
-dims-parts : (r c : ℕ) (a b : List Matrix) → HaveDims r c (a ++ b) → HaveDims r c a × HaveDims r c b
+pub dims-parts : (r c : ℕ) (a b : List Matrix) → HaveDims r c (a ++ b) → HaveDims r c a × HaveDims r c b
 dims-parts r c [] b h = (tt, h)
 dims-parts r c (m ∷ a) b h = let rest = dims-parts r c a b h.2 in ((h.0, h.1, rest.0), rest.1)
 

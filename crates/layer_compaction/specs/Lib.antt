@@ -1,3 +1,4 @@
 pub mod Shared
 pub mod Runs
 pub mod Steps
+pub mod Due

@@ -16,9 +16,11 @@ ghost use Rattle.merged_cells.specs.Within.{LieWithin};
 ghost use Rattle.layer_compaction.specs.Shared.{content, values, all_counts, HaveDims};
 ghost use Rattle.layer_compaction.specs.Runs.{CountsPlaces};
 ghost use Rattle.layer_compaction.specs.Steps.{joined, Takes};
+ghost use Rattle.layer_compaction.specs.Due.{IsDue};
 
+use crate::due::{Compaction, Due, begun, copied};
 use crate::filters::{first_unfiltered, single_run, with_filter_at};
-use crate::limits::{GATHERED_RUNS, KEPT_RUNS, MAX_COUNTED, MAX_LISTED, MAX_RUNS};
+use crate::limits::{GATHERED_RUNS, KEPT_RUNS, MAX_COUNTED, MAX_LISTED, MAX_PAIRED, MAX_RUNS};
 use crate::lists::{add_runs, entries_bound, push_cells_of};
 use crate::pairs::{due_pair, kept_in_front, with_pair_added, with_rest_added};
 use crate::runs::{
@@ -49,12 +51,16 @@ pub struct Layer {
     counted: usize,
     places: u64,
     runs: Vec<Arc<FilteredMatrix>>,
+    // The runs that a compaction was begun of, and the place for their sum.
+    due: Option<Due>,
 }
 
 impl Model for Layer {
     ghost use Rattle.hyper_matrix.specs.Matrix.{Matrix, matrix, coded_matrix};
     ghost use Rattle.layer_compaction.specs.Shared.{content, values, all_counts};
     ghost use Rattle.layer_compaction.specs.Runs.{KeepsRuns, CountsPlaces};
+    ghost use Rattle.layer_compaction.specs.Due.{IsDue};
+    ghost use Rattle.std.specs.Prelude.{IfSome};
 
     ghost Value = { Matrix };
 
@@ -64,7 +70,8 @@ impl Model for Layer {
 
     ghost invariant = { λ a.
         KeepsRuns a.rows a.cols a.total a.most (values a.runs.items)
-        × CountsPlaces a.counted a.places (values a.runs.items) };
+        × CountsPlaces a.counted a.places (values a.runs.items)
+        × IfSome a.due (λ d. IsDue a.rows a.cols d (values a.runs.items)) };
 }
 
 /// What an addition comes to at one layer.
@@ -91,6 +98,7 @@ impl Layer {
             counted: 0,
             places: 0,
             runs: Vec::new(alloc),
+            due: None,
         }
     }
 
@@ -109,6 +117,7 @@ impl Layer {
             counted: 1,
             places: most,
             runs,
+            due: None,
         })
     }
 
@@ -223,6 +232,7 @@ impl Layer {
         };
         let mut runs = shared_runs(alloc, &self.runs, self.runs.len() + m.runs.len())?;
         push_runs(&mut runs, &m.runs)?;
+        let due = copied(&self.due)?;
         Ok(Layer {
             rows: self.rows,
             cols: self.cols,
@@ -231,14 +241,32 @@ impl Layer {
             counted: self.counted,
             places: self.places,
             runs,
+            due,
         })
     }
 
-    // The same layer with other runs, whose sum is the same, or with more of them counted.
+    // The same layer with other runs, whose sum is the same. None of them is due.
     fn with_runs(&self, runs: Vec<Arc<FilteredMatrix>>, counted: usize, places: u64) -> Layer
         requires content { content (all_counts (values runs.items)) ≡ self.now.counts }
         requires dims { HaveDims self.now.rows self.now.cols (values runs.items) }
         requires counts { CountsPlaces counted places (values runs.items) }
+        ensures { result ≡ self.now }
+    {
+        self.with_due(runs, counted, places, None)
+    }
+
+    // The same layer with other runs, whose sum is the same, or with more of them counted, or with some of them due.
+    fn with_due(
+        &self,
+        runs: Vec<Arc<FilteredMatrix>>,
+        counted: usize,
+        places: u64,
+        due: Option<Due>,
+    ) -> Layer
+        requires content { content (all_counts (values runs.items)) ≡ self.now.counts }
+        requires dims { HaveDims self.now.rows self.now.cols (values runs.items) }
+        requires counts { CountsPlaces counted places (values runs.items) }
+        requires due { IfSome due (λ d. IsDue self.now.rows self.now.cols d (values runs.items)) }
         ensures { result ≡ self.now }
     {
         let bound = places.saturating_add(entries_bound(&runs[counted..]));
@@ -251,6 +279,7 @@ impl Layer {
             counted,
             places,
             runs,
+            due,
         }
     }
 
@@ -282,7 +311,7 @@ impl Layer {
             .min(self.runs.len());
         let places = places_to(alloc, &self.runs, self.counted, self.places, until)?;
         let runs = shared_runs(alloc, &self.runs, self.runs.len())?;
-        Ok(self.with_runs(runs, until, places))
+        Ok(self.with_due(runs, until, places, copied(&self.due)?))
     }
 
     /// Takes in what is carried to this layer, if both together have at most the cut of entries. That is judged
@@ -329,7 +358,7 @@ impl Layer {
     pub fn paired(&self, alloc: Global) -> Result<Option<Layer>, AllocError>
         ensures { IfOk result (λ paired. IfSome paired (λ layer. layer ≡ self.now)) }
     {
-        let Some(place) = due_pair(&self.runs) else {
+        let Some(place) = due_pair(&self.runs, MAX_PAIRED) else {
             return Ok(None);
         };
         let runs = with_pair_added(&self.runs, place, alloc, self.rows, self.cols)?;
@@ -349,6 +378,55 @@ impl Layer {
         };
         let runs = with_filter_at(&self.runs, place, alloc)?;
         Ok(Some(self.with_runs(runs, self.counted, self.places)))
+    }
+
+    /// The same layer with a place for the sum of the runs that are due, and their compaction; `is_first` tells whether
+    /// it is layer 1. There all runs are due where they are `GATHERED_RUNS` or more. In a deeper layer the first two
+    /// neighbours are of which the earlier one has fewer than `PAIR_RATIO` times as many entries as the later one, or
+    /// else the first run that has no filter and is to have one.
+    ///
+    /// Where runs were begun before and their place is still empty, it is a compaction of the same runs for the same
+    /// place: the earlier one may have been given up. None where nothing is due, or where a sum waits to be taken over
+    /// (`compacted`).
+    ///
+    /// The runs are shared: takes the time and memory of some pointers for each of them.
+    pub fn begun(
+        &self,
+        alloc: Global,
+        is_first: bool,
+    ) -> Result<Option<(Layer, Compaction)>, AllocError>
+        ensures { IfOk result (λ begun. IfSome begun (λ b. b.0 ≡ self.now)) }
+    {
+        let Some((due, compaction)) = begun(
+            alloc, &self.runs, &self.due, is_first, self.rows, self.cols,
+        )?
+        else {
+            return Ok(None);
+        };
+        let runs = shared_runs(alloc, &self.runs, self.runs.len())?;
+        let layer = self.with_due(runs, self.counted, self.places, Some(due));
+        Ok(Some((layer, compaction)))
+    }
+
+    /// The same layer with the sum that a compaction made in the stead of its runs. None where no compaction was begun,
+    /// or where the last one hasn't ended. The other runs are shared: takes the time and memory of a pointer for each.
+    pub fn compacted(&self, alloc: Global) -> Result<Option<Layer>, AllocError>
+        ensures { IfOk result (λ compacted. IfSome compacted (λ layer. layer ≡ self.now)) }
+    {
+        let Some(due) = &self.due else {
+            return Ok(None);
+        };
+        let Some(sum) = due.sum() else {
+            return Ok(None);
+        };
+        let (counted, places) = due.known_after(
+            &self.runs,
+            sum.matrix(),
+            self.counted,
+            self.places,
+        );
+        let runs = due.exchanged(alloc, &self.runs, sum)?;
+        Ok(Some(self.with_runs(runs, counted, places)))
     }
 
     /// Takes in what is carried to this layer, whatever it has: the last layer has no cut. More than `MAX_RUNS` runs

@@ -5,6 +5,10 @@
 //! Runs are compacted, that is added up into one, where there are many of them, where two neighbours are of like size,
 //! or where it has to be known how many places they have together. Each may have a filter of its places beside it.
 //!
+//! That is done while an addition waits for it, or apart from all additions: `Layer::begun` gives the runs that are due
+//! as a `Compaction`, which whoever has time runs without the lock that the layer is behind, and `Layer::compacted`
+//! takes their sum over.
+//!
 //! Contracts see a layer as the sum of its runs alone: which of them are added up, counted or filtered, and when, is a
 //! matter of time and memory (`limits`).
 #![tactic(auto)]

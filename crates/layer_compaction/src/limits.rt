@@ -8,10 +8,11 @@ pub const MAX_RUNS: usize = 32;
 /// places are counted by walks through all of them.
 pub const KEPT_RUNS: usize = 16;
 
-/// The fewest runs that `Layer::gathered` adds up.
+/// The fewest runs of layer 1 that are added up, all at once (`Layer::gathered`, `Layer::begun`).
 pub const GATHERED_RUNS: usize = 8;
 
-/// The most entries of two runs together that `Layer::paired` adds up: about a millisecond.
+/// The most entries of two runs together that `Layer::paired` adds up: about a millisecond, for which an addition
+/// waits. For what `Layer::begun` gives nobody waits, so that has no such bound.
 pub const MAX_PAIRED: u64 = 28_000;
 
 /// The most entries of a layer, as its bound tells them, whose places are counted before it passes its cut.

@@ -8,7 +8,7 @@ ghost use Rattle.hyper_matrix.specs.Counts.{total};
 ghost use Rattle.layer_compaction.specs.Shared.{content, values, all_counts, HaveDims};
 
 use crate::filters::filtered_run;
-use crate::limits::{FEWEST_KEPT, MAX_PAIRED, PAIR_RATIO};
+use crate::limits::{FEWEST_KEPT, PAIR_RATIO};
 use crate::lists::entries_bound;
 use crate::runs::{added_to_runs, run_of, shared_runs, sum_of_runs, with_run_between};
 use filtered_matrix::FilteredMatrix;
@@ -17,8 +17,8 @@ use std::alloc::{AllocError, Global};
 use std::sync::Arc;
 
 /// The place of the first run that is to be added up with the next one: it has fewer than `PAIR_RATIO` times as many
-/// entries, and together they have at most `MAX_PAIRED`. Only time rests on which it is.
-pub fn due_pair(runs: &[Arc<FilteredMatrix>]) -> Option<usize>
+/// entries, and together they have at most `most`. Only time rests on which it is.
+pub fn due_pair(runs: &[Arc<FilteredMatrix>], most: u64) -> Option<usize>
     ensures { IfSome result (λ place. place + 1 < length runs.now) }
 {
     for next in 1..runs.len() {
@@ -28,7 +28,7 @@ pub fn due_pair(runs: &[Arc<FilteredMatrix>]) -> Option<usize>
             runs[next].matrix().entries(),
         );
         let is_alike = earlier < later.saturating_mul(PAIR_RATIO);
-        if is_alike && earlier.saturating_add(later) <= MAX_PAIRED {
+        if is_alike && earlier.saturating_add(later) <= most {
             return Some(place);
         }
     }

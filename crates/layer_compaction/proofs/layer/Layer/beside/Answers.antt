@@ -1,10 +1,12 @@
-use Rattle.std.proofs.Common.{◌≡◌, ◌+◌, ◌++◌, length, ap, ◌∙◌, sym, subst, arith}
+use Rattle.std.proofs.Common.{◌≡◌, ◌+◌, ◌++◌, IfSome, length, ap, ◌∙◌, sym, subst, arith}
 use Rattle.std.proofs.lemmas.Bool.Decides.{nat_tests}
 use Rattle.hyper_matrix.specs.Counts.{ewise_add, total}
 use Rattle.hyper_matrix.specs.Matrix.{Matrix, matrix}
 use Rattle.layer_compaction.specs.Shared.{values, HaveDims}
 use Rattle.layer_compaction.proofs.CountedLemmas.{counts_beside}
 use Rattle.layer_compaction.proofs.KeptRunLemmas.{keeps_beside, content-beside}
+use Rattle.layer_compaction.specs.Due.{IsDue}
+use Rattle.layer_compaction.proofs.DueLemmas.{due_beside}
 use Rattle.layer_compaction.proofs.RunLemmas.{no_runs}
 use Rattle.layer_compaction.proofs.layer.Layer.beside.Goals as goal
 
@@ -35,6 +37,9 @@ invariant_of-result c =
           (omega (arith, most, c.m.invariant.0.few, c.self.invariant.0.few)),
       counts_beside c.self.inside.counted c.self.inside.places held (values c.m.inside.runs.items)
           (values c.push_runs.new.out.items) all c.self.invariant.1,
+      due_beside c.self.inside.rows c.self.inside.cols c.in_ok-due.due held (values c.m.inside.runs.items)
+          (values c.push_runs.new.out.items) all (subst (λ due. IfSome due (λ d. IsDue c.self.inside.rows
+          c.self.inside.cols d held)) (sym c.in_ok-due.ensures) c.self.invariant.2),
     )
 
 pub returns : goal.returns

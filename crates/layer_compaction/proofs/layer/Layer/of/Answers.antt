@@ -7,6 +7,7 @@ invariant_of-result c = (
       c.dims-rows.ensures.rows c.dims-rows.ensures.cols c.total-total.ensures.value c.total-total.ensures.fits
       c.entries-most.ensures,
   counts_one c.in_ok-runs.runs.items c.args.m c.in_ok-runs.ensures _ c.entries-most.ensures,
+  tt,
 )
 
 pub returns : goal.returns

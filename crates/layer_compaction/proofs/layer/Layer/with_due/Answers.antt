@@ -1,11 +1,12 @@
-use Rattle.std.proofs.Common.{ap, ◌∙◌, sym, subst, arith}
+use Rattle.std.proofs.Common.{IfSome, ap, ◌∙◌, sym, subst, arith}
 use Rattle.std.proofs.lemmas.List.{take_rest}
 use Rattle.std.specs.FinMap.{len}
 use Rattle.hyper_matrix.specs.Counts.{total}
 use Rattle.hyper_matrix.specs.Matrix.{Matrix}
 use Rattle.layer_compaction.specs.Shared.{values, HaveDims}
+use Rattle.layer_compaction.specs.Due.{IsDue}
 use Rattle.layer_compaction.proofs.CountedLemmas.{few_behind}
-use Rattle.layer_compaction.proofs.layer.Layer.with_runs.Goals as goal
+use Rattle.layer_compaction.proofs.layer.Layer.with_due.Goals as goal
 
 pub invariant_of-result : goal.invariant_of-result
 invariant_of-result c =
@@ -30,4 +31,6 @@ invariant_of-result c =
         );
       },
       c.requires.counts,
+      subst (λ (m : Matrix). IfSome c.args.due (λ d. IsDue m.rows m.cols d (values runs))) (sym c.self.view_is)
+          c.requires.due,
     )

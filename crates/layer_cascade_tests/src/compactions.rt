@@ -1,0 +1,294 @@
+//! Layers whose matrices are added up apart from them, while additions go on, beside layers that are left alone.
+//!
+//! `rt try --test --fail-alloc N` refuses the growth number N: the step is made once more then, and what the layers
+//! hold is as before.
+use crate::adding::add;
+use crate::streams::{add_matrix, have_same_sizes, holds_first};
+use cells::Cell;
+use hyper_matrix::Hyper;
+use layer_cascade::{Compaction, Layers};
+use std::alloc::Global;
+use std::process::Abort;
+use std::test::Fail;
+use test_support::{same, same_at};
+
+/// What is due next, once more where memory is refused.
+fn begun(rt: &impl Abort, alloc: Global, layers: &mut Layers) -> Option<Compaction> {
+    match layers.begin(alloc) {
+        Ok(compaction) => compaction,
+        Err(_) => layers.begin(alloc).expect(rt, "memory"),
+    }
+}
+
+/// Has the layers take over what was made. Whether anything was.
+fn settled(rt: &impl Abort, alloc: Global, layers: &mut Layers) -> bool {
+    match layers.settle(alloc) {
+        Ok(settled) => settled,
+        Err(_) => layers.settle(alloc).expect(rt, "memory"),
+    }
+}
+
+/// Makes a sum, if one was begun, and has the layers take it over. Whether they did. Where memory is refused, it is
+/// given up.
+fn made(
+    rt: &impl Abort,
+    alloc: Global,
+    layers: &mut Layers,
+    compaction: Option<Compaction>,
+) -> bool {
+    let Some(compaction) = compaction else {
+        return false;
+    };
+    let ran = compaction.run(alloc).is_ok();
+    settled(rt, alloc, layers) && ran
+}
+
+/// Compacts until nothing is due any more, and tells how often a sum was taken over. None where one was not, or where
+/// it didn't end.
+fn compacted(rt: &impl Abort, alloc: Global, layers: &mut Layers) -> Option<u64> {
+    for sums in 0..100u64 {
+        let compaction = begun(rt, alloc, layers);
+        if compaction.is_none() {
+            return Some(sums);
+        }
+        if !made(rt, alloc, layers, compaction) {
+            return None;
+        }
+    }
+    None
+}
+
+/// So many additions that each layer but the last passes its cut, and the last has many matrices.
+const MANY: u64 = 60;
+
+/// Adds the stream to both, where each sum that is begun of the one is made and taken over only after the next
+/// addition. The first of the matrices behind which they hold something else, and how many sums were taken over.
+fn first_difference(
+    rt: &impl Abort,
+    alloc: Global,
+    layers: &mut Layers,
+    others: &mut Layers,
+) -> (Option<u64>, u64) {
+    let mut pending = None;
+    let mut sums = 0u64;
+    for i in 0..MANY {
+        add_matrix(rt, alloc, layers, i);
+        add_matrix(rt, alloc, others, i);
+        if made(rt, alloc, layers, pending) {
+            sums = sums.wrapping_add(1);
+        }
+        pending = begun(rt, alloc, layers);
+        if !have_same_sizes(layers, others) || !holds_first(rt, alloc, layers, i.wrapping_add(1)) {
+            drop(pending);
+            return (Some(i), sums);
+        }
+    }
+    drop(pending);
+    (None, sums)
+}
+
+/// What differs, whether any sum was taken over on the way, and whether all is compacted at the end and still the same.
+fn differences(rt: &impl Abort, alloc: Global, cuts: &[u64]) -> (Option<u64>, bool, bool) {
+    let mut layers = Layers::new(alloc, 9, 9, cuts).expect(rt, "layers");
+    let mut others = Layers::new(alloc, 9, 9, cuts).expect(rt, "layers");
+    let (first, sums) = first_difference(rt, alloc, &mut layers, &mut others);
+    let ends = compacted(rt, alloc, &mut layers).is_some();
+    let held = have_same_sizes(&layers, &others) && holds_first(rt, alloc, &layers, MANY);
+    drop(layers);
+    drop(others);
+    (first, sums > 3, ends && held)
+}
+
+/// Cuts with which matrices stand side by side in the first layer, in the second, in both and in the third.
+const CUTS: [&[u64]; 5] = [&[], &[4], &[12], &[15, 60], &[2, 4]];
+
+#[test]
+fn layers_agree_while_sums_are_made(rt: HostRuntime) -> Result<(), Fail> {
+    for cuts in CUTS {
+        let found = differences(&rt, rt.alloc(), cuts);
+        assert!(rt; same_at(&rt, &cuts, &found, &(None, true, true)));
+    }
+    Ok(())
+}
+
+/// How many rows and columns the matrices below have.
+const SIDE: u64 = 1 << 16;
+
+/// Adds a matrix with so many cells of count 1 in one row.
+fn add_row(rt: &impl Abort, alloc: Global, layers: &mut Layers, row: u64, cells: u64) {
+    let mut list = Vec::new(alloc);
+    for col in 0..cells {
+        list.push(Cell { row, col, count: 1 }).expect(rt, "memory");
+    }
+    let m = Hyper::build(alloc, SIDE, SIDE, &list).expect(rt, "a matrix");
+    add(rt, alloc, layers, &m);
+    drop(list);
+    drop(m);
+}
+
+/// Layers with the cut 20 and one row of 30 cells for each of so many, which all pass it, and then so many of one cell,
+/// which stay in layer 1.
+fn layers_with(rt: &impl Abort, alloc: Global, long: u64, short: u64) -> Layers {
+    let mut layers = Layers::new(alloc, SIDE, SIDE, &[20]).expect(rt, "layers");
+    for row in 0..long {
+        add_row(rt, alloc, &mut layers, row, 30);
+    }
+    for row in 0..short {
+        add_row(rt, alloc, &mut layers, row.wrapping_add(100), 1);
+    }
+    layers
+}
+
+/// The entries of both layers, and the count of the last short row.
+fn sizes(layers: &Layers, short: u64) -> [Option<u64>; 3] {
+    [
+        layers.layer_entries(1),
+        layers.layer_entries(2),
+        layers.get(short.wrapping_add(99), 0),
+    ]
+}
+
+/// How often sums are taken over until nothing is due, and what the layers hold then.
+fn rest(rt: &impl Abort, alloc: Global, long: u64, short: u64) -> (Option<u64>, [Option<u64>; 3]) {
+    let mut layers = layers_with(rt, alloc, long, short);
+    let sums = compacted(rt, alloc, &mut layers);
+    let found = sizes(&layers, short);
+    drop(layers);
+    (sums, found)
+}
+
+/// Long rows, short ones, how many sums are made, and the entries of both layers. In layer 1 eight matrices are added
+/// up at once. In layer 2 two of like size are, and one that has a third of the other's entries or less stays.
+const RESTS: [(u64, u64, u64, u64); 6] = [
+    (0, 1, 0, 0),
+    (1, 7, 0, 30),
+    (1, 8, 1, 30),
+    (2, 8, 2, 60),
+    (3, 1, 2, 90),
+    (4, 1, 2, 120),
+];
+
+#[test]
+fn what_is_due_is_compacted_once(rt: HostRuntime) -> Result<(), Fail> {
+    for (long, short, sums, deep) in RESTS {
+        let found = rest(&rt, rt.alloc(), long, short);
+        let want = (Some(sums), [Some(short), Some(deep), Some(1)]);
+        assert!(rt; same_at(&rt, &(long, short), &found, &want));
+    }
+    Ok(())
+}
+
+/// A compaction is given up, and then made: whether each step of that gave something.
+fn given_up(rt: &impl Abort, alloc: Global) -> [bool; 5] {
+    let mut layers = layers_with(rt, alloc, 0, 8);
+    let first = begun(rt, alloc, &mut layers);
+    let had = first.is_some();
+    drop(first);
+    let settles = settled(rt, alloc, &mut layers);
+    let again = begun(rt, alloc, &mut layers);
+    let makes = made(rt, alloc, &mut layers, again);
+    let more = begun(rt, alloc, &mut layers);
+    let has_more = more.is_some();
+    drop(more);
+    let holds = sizes(&layers, 8) == [Some(8), Some(0), Some(1)];
+    drop(layers);
+    [had, settles, makes, has_more, holds]
+}
+
+#[test]
+fn what_is_given_up_is_begun_again(rt: HostRuntime) -> Result<(), Fail> {
+    let found = given_up(&rt, rt.alloc());
+    assert!(rt; same(&rt, &found, &[true, false, true, false, true]));
+    Ok(())
+}
+
+/// Both layers have something due: whether each is begun, and made by itself, the second one first.
+fn in_turn(rt: &impl Abort, alloc: Global) -> [bool; 5] {
+    let mut layers = layers_with(rt, alloc, 2, 8);
+    let first = begun(rt, alloc, &mut layers);
+    let second = begun(rt, alloc, &mut layers);
+    let made_second = made(rt, alloc, &mut layers, second);
+    let made_first = made(rt, alloc, &mut layers, first);
+    let settles = settled(rt, alloc, &mut layers);
+    let more = begun(rt, alloc, &mut layers);
+    let has_more = more.is_some();
+    drop(more);
+    let holds = sizes(&layers, 8) == [Some(8), Some(60), Some(1)];
+    drop(layers);
+    [made_second, made_first, settles, has_more, holds]
+}
+
+#[test]
+fn each_layer_has_its_turn(rt: HostRuntime) -> Result<(), Fail> {
+    let found = in_turn(&rt, rt.alloc());
+    assert!(rt; same(&rt, &found, &[true, true, false, false, true]));
+    Ok(())
+}
+
+/// What may be given to another thread, and be shared with it.
+fn for_any_thread<T: Send + Sync>(value: T) -> T {
+    value
+}
+
+/// Two have the same compaction: whether the first to end is taken over, and the second is not.
+fn made_twice(rt: &impl Abort, alloc: Global) -> [bool; 3] {
+    let mut layers = for_any_thread(layers_with(rt, alloc, 0, 8));
+    let first = for_any_thread(begun(rt, alloc, &mut layers));
+    let second = for_any_thread(begun(rt, alloc, &mut layers));
+    let made_second = made(rt, alloc, &mut layers, second);
+    let made_first = made(rt, alloc, &mut layers, first);
+    let holds = sizes(&layers, 8) == [Some(8), Some(0), Some(1)];
+    drop(layers);
+    [made_second, made_first, holds]
+}
+
+#[test]
+fn the_sum_that_is_made_first_stays(rt: HostRuntime) -> Result<(), Fail> {
+    let found = made_twice(&rt, rt.alloc());
+    assert!(rt; same(&rt, &found, &[true, false, true]));
+    Ok(())
+}
+
+/// Layer 1 goes on to layer 2 before its sum is taken over: whether the sum is used, and what the layers hold.
+fn carried(rt: &impl Abort, alloc: Global) -> (bool, [Option<u64>; 3]) {
+    let mut layers = layers_with(rt, alloc, 1, 8);
+    let compaction = begun(rt, alloc, &mut layers);
+    add_row(rt, alloc, &mut layers, 50, 30);
+    let used = made(rt, alloc, &mut layers, compaction);
+    let found = sizes(&layers, 8);
+    drop(layers);
+    (used, found)
+}
+
+#[test]
+fn a_sum_of_what_went_on_is_not_used(rt: HostRuntime) -> Result<(), Fail> {
+    let found = carried(&rt, rt.alloc());
+    assert!(rt; same(&rt, &found, &(false, [Some(0), Some(68), Some(1)])));
+    Ok(())
+}
+
+/// More entries than a matrix may have that gets its filter when it is added.
+const UNFILTERED: u64 = 33_000;
+
+/// A matrix without a filter in layer 2, between steps that have it made: how many, and what stands there.
+fn filtered(rt: &impl Abort, alloc: Global) -> (Option<u64>, [Option<u64>; 3]) {
+    let mut layers = Layers::new(alloc, SIDE, SIDE, &[20]).expect(rt, "layers");
+    add_row(rt, alloc, &mut layers, 99, UNFILTERED);
+    let sums = compacted(rt, alloc, &mut layers);
+    let found = sizes(&layers, 0);
+    drop(layers);
+    (sums, found)
+}
+
+#[test]
+fn a_filter_is_made_once(rt: HostRuntime) -> Result<(), Fail> {
+    let found = filtered(&rt, rt.alloc());
+    assert!(rt;
+        same(
+            &rt,
+            &found,
+            &(Some(1), [Some(0), Some(UNFILTERED), Some(1)])
+        )
+    );
+    Ok(())
+}
