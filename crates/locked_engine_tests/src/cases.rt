@@ -6,7 +6,7 @@ ghost use Rattle.locked_engine.specs.Opened.{NamesEngine};
 use crate::batches::Cells;
 use crate::expected::{expect_batches, expect_closed};
 use crate::opened::{Step, close_at_last, closed, opened};
-use crate::{folds, looks, puts, seats, several, versions};
+use crate::{compactions, folds, looks, puts, seats, several, versions};
 use batch_store::Setup;
 use locked_engine::{Engine, Named, Names, Seat};
 use plain_engine::PlainEngine;
@@ -43,6 +43,10 @@ pub enum Act {
     PutAndFind,
     /// Two threads put while a third reads.
     Watch,
+    /// Two threads put small batches while a third compacts.
+    CompactBesidePuts,
+    /// Both seats put small batches, and then the shards are compacted.
+    CompactAfterPuts,
 }
 
 /// The client, the number and the cells of a batch.
@@ -134,5 +138,7 @@ fn perform<
         Act::ReadInsideALook => versions::read_inside_a_look(rt, alloc, engine, seats),
         Act::PutAndFind => versions::put_and_find(rt, alloc, engine, seats),
         Act::Watch => versions::watch_from_seats(rt, alloc, engine, seats),
+        Act::CompactBesidePuts => compactions::compact_beside_puts(rt, alloc, engine, seats),
+        Act::CompactAfterPuts => compactions::compact_after_puts(rt, alloc, engine, seats),
     }
 }

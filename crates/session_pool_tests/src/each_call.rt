@@ -201,7 +201,7 @@ fn found_at<R: Wait + Disk + RandomSource + Abort>(
     );
     let mut whole = link(rt, alloc);
     let second = if again { Some(&mut whole) } else { None };
-    let sessions = sessions_in_turn(rt, alloc, 2, &mut once, second);
+    let sessions = sessions_in_turn(rt, alloc, 2, &mut once, second, None);
     let calls = (once.calls(), Source::failures(&once));
     let taken = taken_of(rt, alloc, once.inner().inner());
     let taken = [taken, taken_of(rt, alloc, &whole)];

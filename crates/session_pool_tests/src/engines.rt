@@ -186,10 +186,11 @@ fn serve_link<N: Named, H: Ledger, L: Link, R: Wait + Disk + Abort>(
     engine: &Engine<N, H>,
     seat: &mut Seat<N, H>,
     link: &mut L,
+    compactor: Option<&Sender<()>>,
 ) -> After {
     assert!(rt; Sink::failures(link) == 0);
     let saver = Saver::new(None);
-    let mut keeper = SeatKeeper::new(rt, engine, seat, &saver);
+    let mut keeper = SeatKeeper::new(rt, engine, seat, &saver, compactor);
     let ended = serve(alloc, link, &mut keeper, 1 << 40);
     drop(saver);
     let status = engine.status(seat);
@@ -215,6 +216,7 @@ fn served_in_turn<N: Named, H: Ledger, L: Link, R: Wait + Disk + Abort>(
     names: Names,
     first: &mut L,
     second: Option<&mut Script>,
+    compactor: Option<&Sender<()>>,
 ) -> InTurn
     requires named { NamesEngine names N.setup N.seats N.history N.name N.parts H.name H.parts }
     requires made_from { plain.setup ≡ names.setup }
@@ -222,9 +224,9 @@ fn served_in_turn<N: Named, H: Ledger, L: Link, R: Wait + Disk + Abort>(
 {
     let (engine, mut seats) = opened::<N, H>(rt, alloc, plain, names);
     let seat = seats.first_mut().expect(rt, "a seat");
-    let after_first = serve_link(rt, alloc, &engine, seat, first);
+    let after_first = serve_link(rt, alloc, &engine, seat, first, compactor);
     let after_second = match second {
-        Some(link) => Some(serve_link(rt, alloc, &engine, seat, link)),
+        Some(link) => Some(serve_link(rt, alloc, &engine, seat, link, compactor)),
         None => None,
     };
     let closed = closed(rt, alloc, engine, seats);
@@ -235,13 +237,15 @@ fn served_in_turn<N: Named, H: Ledger, L: Link, R: Wait + Disk + Abort>(
 }
 
 /// Serves a session over the first link and then one over the second, if there is one, by one of a new engine's seats.
+/// Their puts wake whoever receives from `compactor`, where there is one.
 pub fn sessions_in_turn<L: Link, R: Wait + Disk + RandomSource + Abort>(
     rt: &R,
     alloc: Global,
     seats: usize,
     first: &mut L,
     second: Option<&mut Script>,
+    compactor: Option<&Sender<()>>,
 ) -> InTurn {
     let (plain, names) = unopened(rt, alloc, seats);
-    served_in_turn::<Brand, Brand, L, R>(rt, alloc, plain, names, first, second)
+    served_in_turn::<Brand, Brand, L, R>(rt, alloc, plain, names, first, second, compactor)
 }

@@ -86,7 +86,7 @@ type Found = (InTurn, [bool; 2]);
 fn found_of<R: Wait + Disk + RandomSource + Abort>(rt: &R, alloc: Global, case: &Case) -> Found {
     let mut first = link_of(rt, alloc, case);
     let mut second = link_of(rt, alloc, &WHOLE);
-    let sessions = sessions_in_turn(rt, alloc, 1, &mut first, Some(&mut second));
+    let sessions = sessions_in_turn(rt, alloc, 1, &mut first, Some(&mut second), None);
     let taken = [has_taken(&first, case), has_taken(&second, &WHOLE)];
     drop(first);
     drop(second);

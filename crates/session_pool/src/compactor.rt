@@ -1,0 +1,69 @@
+//! The thread that compacts an engine's shards beside the workers of a pool, and how they wake it.
+
+use batch_store::Kept;
+use crossbeam_channel::{Receiver, Sender, TryRecvError};
+use locked_engine::{Engine, Named, PutFault};
+use std::alloc::Global;
+use std::sync::Wait;
+use std::sync::ledger::Ledger;
+use std::thread::{Scope, Threads};
+
+/// Wakes whoever compacts, if anyone does, after a put that was answered so. It waits for no room: where there is none,
+/// a message is there that hasn't been seen. One that is lost is made up for by the next.
+pub(crate) fn wake_after<R: Wait>(
+    rt: &R,
+    compactor: Option<&Sender<()>>,
+    answer: &Result<Kept, PutFault>,
+) {
+    if let (Some(compactor), Ok(_)) = (compactor, answer) {
+        let _ = compactor.try_send(rt, ());
+    }
+}
+
+/// Starts the thread that compacts. Where it can't be started its receiver is dropped, and what wakes it does nothing.
+pub(crate) fn start_compactor<
+    's,
+    E,
+    N: Named + Send + Sync,
+    H: Ledger + Send + Sync,
+    R: Threads + Wait + Sync,
+>(scope: &Scope<'s, E>, rt: &'s R, alloc: Global, engine: &'s Engine<N, H>, woken: Receiver<()>) {
+    let started = scope.spawn(move || compact_when_woken(rt, alloc, engine, woken));
+    drop(started);
+}
+
+// Goes over all shards on each message, again and again until nothing is due in any, and ends when all senders are
+// gone.
+fn compact_when_woken<N: Named, H: Ledger, R: Wait>(
+    rt: &R,
+    alloc: Global,
+    engine: &Engine<N, H>,
+    woken: Receiver<()>,
+) {
+    let mut is_due = false;
+    for _ in rt.forever() {
+        let goes_on = if is_due {
+            woken.try_recv(rt) != Err(TryRecvError::Disconnected)
+        } else {
+            woken.recv(rt).is_ok()
+        };
+        if !goes_on {
+            break;
+        }
+        is_due = compact_each(rt, alloc, engine);
+    }
+}
+
+// Goes over all shards once, and answers whether a compaction was made in any.
+fn compact_each<N: Named, H: Ledger, R: Wait>(
+    rt: &R,
+    alloc: Global,
+    engine: &Engine<N, H>,
+) -> bool {
+    let mut is_any = false;
+    let shards = engine.setup().shards();
+    for s in 0..shards {
+        is_any |= engine.compact(rt, alloc, s);
+    }
+    is_any
+}

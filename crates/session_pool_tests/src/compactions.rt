@@ -1,0 +1,87 @@
+//! The thread that compacts beside a pool's workers: which sessions wake it, and that its sums change no answer.
+
+use crate::engines::{Accepted, pool_over, sessions_in_turn};
+use crate::frames::TWO_PUTS_AND_A_CELL;
+use crate::gates::OpenGate;
+use crate::links::{Kind, links};
+use byte_io::Script;
+use byte_io_tests::pieces;
+use crossbeam_channel::bounded;
+use session_pool::{Disk, PoolFault, PoolReport, Saver};
+use std::alloc::Global;
+use std::process::Abort;
+use std::random::RandomSource;
+use std::sync::Wait;
+use std::test::Fail;
+use std::thread::Threads;
+use test_support::{same, same_at};
+
+// A Cell at row 0 and column 0.
+const CELL: &[u8] = b"\0\0\0\x10\x02\0\0\0\0\0\0\0\0\0\0\0\0\0\0\0\0";
+
+// A Put of client 7, number 1, with one count of 1,001, which is more than the limit.
+const TOO_MUCH: &[u8] = b"\0\0\0\x50\x01\0\0\0\0\0\0\0\x07\0\0\0\0\0\0\0\x01\
+%%MatrixMarket matrix coordinate integer general\n3 3 1\n1 1 1001\n";
+
+// The frames of a session, what is accepted then, and whether a message waits for whoever compacts, and a second one.
+static WAKES: &[(&[u8], Accepted, [bool; 2])] = &[
+    // The channel has one place.
+    (TWO_PUTS_AND_A_CELL, (2, 8), [true, false]),
+    (CELL, (0, 0), [false, false]),
+    (TOO_MUCH, (0, 0), [false, false]),
+    (b"", (0, 0), [false, false]),
+];
+
+// Serves a session of these frames.
+fn waking<R: Wait + Disk + RandomSource + Abort>(
+    rt: &R,
+    alloc: Global,
+    frames: &[u8],
+) -> (Accepted, [bool; 2]) {
+    let (compactor, woken) = bounded(alloc, 1).expect(rt, "channel");
+    let pieces = pieces(alloc, frames, 1_000).expect(rt, "memory");
+    let mut link = Script::new(alloc, pieces, None, None);
+    let served = sessions_in_turn(rt, alloc, 1, &mut link, None, Some(&compactor));
+    drop(link);
+    drop(compactor);
+    let messages = [woken.try_recv(rt).is_ok(), woken.try_recv(rt).is_ok()];
+    drop(woken);
+    (served.2, messages)
+}
+
+#[test]
+fn accepted_puts_wake_whoever_compacts(rt: HostRuntime) -> Result<(), Fail> {
+    let mut i = 0u64;
+    for (frames, accepted, messages) in WAKES {
+        let found = waking(&rt, rt.alloc(), frames);
+        assert!(rt; same_at(&rt, &i, &found, &(*accepted, *messages)));
+        i = i.saturating_add(1);
+    }
+    Ok(())
+}
+
+// What a pool did over so many Puts of a count of 1 at one place, and the count there and in the next column then.
+fn put_by_pool<R: Threads + Wait + Disk + RandomSource + Abort + Sync>(
+    rt: &R,
+    alloc: Global,
+    count: u8,
+) -> (Result<PoolReport, PoolFault>, [Option<u64>; 2]) {
+    let saver = Saver::new(None);
+    let links = links(rt, alloc, Kind::Put, count);
+    let (report, closed) = pool_over(rt, alloc, 4, 4, &OpenGate, &saver, links);
+    let counts = [closed.cell(0, 0), closed.cell(0, 1)];
+    drop(closed);
+    drop(saver);
+    (report, counts)
+}
+
+#[test]
+fn sums_beside_puts_change_no_count(rt: HostRuntime) -> Result<(), Fail> {
+    let found = put_by_pool(&rt, rt.alloc(), 100);
+    let report = PoolReport {
+        started: 4,
+        served: 100,
+    };
+    assert!(rt; same(&rt, &found, &(Ok(report), [Some(100), None])));
+    Ok(())
+}
