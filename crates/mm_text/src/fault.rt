@@ -1,36 +1,43 @@
 //! What can be wrong with a text.
 
-use std::{error, fmt};
 use thiserror::Error;
 
-/// What is wrong with a text, or with the reading of it. Each is shown by its name.
-#[derive(Clone, Copy, Debug, PartialEq, Eq)]
+/// What is wrong with a text, or with the reading of it.
+#[derive(Clone, Copy, Debug, PartialEq, Eq, Error)]
 pub enum MmKind {
+    #[error("Read")]
     Read,
+    #[error("Memory")]
     Memory,
+    #[error("BadBanner")]
     BadBanner,
+    #[error("Unsupported")]
     Unsupported,
+    #[error("LineTooLong")]
     LineTooLong,
+    #[error("BadSize")]
     BadSize,
+    #[error("BadDimension")]
     BadDimension,
+    #[error("NotSquare")]
     NotSquare,
+    #[error("TooManyEntries")]
     TooManyEntries,
+    #[error("BadEntry")]
     BadEntry,
+    #[error("Negative")]
     Negative,
+    #[error("NumberTooLarge")]
     NumberTooLarge,
+    #[error("IndexOutOfRange")]
     IndexOutOfRange,
+    #[error("TooFewEntries")]
     TooFewEntries,
+    #[error("ExtraText")]
     ExtraText,
+    #[error("TooLong")]
     TooLong,
 }
-
-impl fmt::Display for MmKind {
-    fn fmt<W: fmt::Write>(&self, f: &mut fmt::Formatter<W>) -> fmt::Result {
-        fmt::Debug::fmt(self, f)
-    }
-}
-
-impl error::Error for MmKind {}
 
 /// A fault, and the line on which it stands. Lines count from 1.
 #[derive(Clone, Copy, Debug, PartialEq, Eq, Error)]
