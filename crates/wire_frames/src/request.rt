@@ -5,7 +5,6 @@ ghost use Rattle.wire_frames.specs.Frames.{number, head_bytes, kind_of, body_of,
 use crate::limits::MAX_BODY;
 use bytes::Bytes;
 use std::alloc::{AllocError, Global};
-use std::{error, fmt};
 use thiserror::Error;
 
 /// What a client asks. Rows and columns count from 0.
@@ -37,26 +36,17 @@ pub enum Request {
 }
 
 /// What is wrong with the bytes of a link, or that memory ran out.
-#[derive(Clone, Copy, Debug, PartialEq, Eq)]
+#[derive(Clone, Copy, Debug, PartialEq, Eq, Error)]
 pub enum FrameFault {
+    #[error("no memory for a frame")]
     Memory,
+    #[error("a frame is longer than it may be")]
     TooLarge,
+    #[error("a frame has an unknown kind")]
     UnknownKind,
+    #[error("a frame's length isn't one of its kind")]
     BadLength,
 }
-
-impl fmt::Display for FrameFault {
-    fn fmt<W: fmt::Write>(&self, f: &mut fmt::Formatter<W>) -> fmt::Result {
-        f.write_str(match self {
-            FrameFault::Memory => "no memory for a frame",
-            FrameFault::TooLarge => "a frame is longer than it may be",
-            FrameFault::UnknownKind => "a frame has an unknown kind",
-            FrameFault::BadLength => "a frame's length isn't one of its kind",
-        })
-    }
-}
-
-impl error::Error for FrameFault {}
 
 /// Why a request has no frame, or that memory ran out.
 #[derive(Clone, Copy, Debug, PartialEq, Eq, Error)]

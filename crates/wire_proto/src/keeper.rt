@@ -13,30 +13,21 @@ use hyper_matrix::RowSum;
 use plain_engine::{PutFault, Status, ViewedSum};
 use std::alloc::{AllocError, Global};
 use std::sync::Arc;
-use std::{error, fmt};
+use thiserror::Error;
 
 /// Why nothing was saved.
-#[derive(Clone, Copy, Debug, PartialEq, Eq)]
+#[derive(Clone, Copy, Debug, PartialEq, Eq, Error)]
 pub enum SaveRefusal {
     /// A growth was refused.
+    #[error("no memory for a save")]
     Memory,
     /// There is no place to save to.
+    #[error("there is no place to save to")]
     SaveOff,
     /// The place refused it. What was saved before stands as it was.
+    #[error("the save failed")]
     SaveFailed,
 }
-
-impl fmt::Display for SaveRefusal {
-    fn fmt<W: fmt::Write>(&self, f: &mut fmt::Formatter<W>) -> fmt::Result {
-        f.write_str(match self {
-            SaveRefusal::Memory => "no memory for a save",
-            SaveRefusal::SaveOff => "there is no place to save to",
-            SaveRefusal::SaveFailed => "the save failed",
-        })
-    }
-}
-
-impl error::Error for SaveRefusal {}
 
 /// A store of batches as a session sees it.
 ///
