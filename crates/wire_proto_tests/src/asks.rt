@@ -4,14 +4,16 @@ ghost use Rattle.wire_frames.specs.Frames.{HasWholeCells};
 
 use crate::hex::bytes_of;
 use crate::replies::spells_replies;
-use batch_store::{Setup, SetupFault};
+use batch_store::Setup;
 use byte_io_tests::{halves, pieces};
 use bytes::Bytes;
 use mm_text::Script;
 use plain_engine::PlainEngine;
 use std::alloc::Global;
+use std::io::Eprint;
 use std::process::Abort;
 use std::random::RandomSource;
+use test_support::same_at;
 use wire_proto::{Ended, Request, encode_request, serve_engine};
 
 const BANNER: &str = "%%MatrixMarket matrix coordinate integer general\n";
@@ -39,8 +41,8 @@ pub enum Ask {
 pub type Session = (&'static [Ask], &'static str, Ended, (u64, u64));
 
 /// Three rows, three columns, two shards, a limit of 100 and at most 10 batches.
-pub fn small_setup() -> Result<Setup, SetupFault> {
-    Setup::new(3, 3, &[2, 4], 2, 100, 10)
+pub fn small_setup(rt: &impl Abort) -> Setup {
+    Setup::new(3, 3, &[2, 4], 2, 100, 10).expect(rt, "a setup")
 }
 
 /// The request of a put of this text.
@@ -159,26 +161,29 @@ pub fn sizes(rt: &impl Abort, alloc: Global, session: &Session) -> (usize, usize
     lens
 }
 
-/// The frames of a session in pieces of one size.
-pub fn in_pieces(rt: &impl Abort, alloc: Global, session: &Session, size: usize) -> Vec<Vec<u8>> {
-    let sent = frames(rt, alloc, session.0);
-    let answer = pieces(alloc, sent.as_slice(), size);
-    drop(sent);
-    answer.expect(rt, "memory")
+/// How the frames of a session come.
+#[derive(Clone, Copy)]
+pub enum Cut {
+    /// In pieces of this size.
+    Pieces(usize),
+    /// In two pieces, of which the first has so many bytes.
+    Halves(usize),
 }
 
-/// The frames of a session in two pieces.
-pub fn in_halves(rt: &impl Abort, alloc: Global, session: &Session, at: usize) -> Vec<Vec<u8>> {
+/// The frames of a session in pieces.
+pub fn cut_frames(rt: &impl Abort, alloc: Global, session: &Session, cut: Cut) -> Vec<Vec<u8>> {
     let sent = frames(rt, alloc, session.0);
-    let answer = halves(alloc, sent.as_slice(), at);
+    let answer = match cut {
+        Cut::Pieces(size) => pieces(alloc, sent.as_slice(), size),
+        Cut::Halves(at) => halves(alloc, sent.as_slice(), at),
+    };
     drop(sent);
     answer.expect(rt, "memory")
 }
 
 /// A new engine of the small setup.
 pub fn small_engine<R: RandomSource + Abort>(rt: &R, alloc: Global) -> PlainEngine {
-    let setup = small_setup().expect(rt, "a setup");
-    PlainEngine::new(rt, alloc, setup).expect(rt, "memory")
+    PlainEngine::new(rt, alloc, small_setup(rt)).expect(rt, "memory")
 }
 
 /// What fails of a link's calls: the read with this number, and writes after so many bytes.
@@ -261,7 +266,7 @@ pub fn told(
     engine: &mut PlainEngine,
     session: &Session,
 ) -> Checked {
-    let list = in_pieces(rt, alloc, session, usize::MAX);
+    let list = cut_frames(rt, alloc, session, Cut::Pieces(usize::MAX));
     let all = (session.1, usize::MAX);
     let outcome = served(rt, alloc, engine, list, (None, None), all);
     (outcome, spells_replies(rt, alloc, session.1))
@@ -301,4 +306,30 @@ pub fn served_twice<R: RandomSource + Abort>(
     let second = told(rt, alloc, &mut engine, session);
     drop(engine);
     (first, second)
+}
+
+/// The same where the frames of the whole session come so.
+pub fn served_cut<R: RandomSource + Abort>(
+    rt: &R,
+    alloc: Global,
+    session: &Session,
+    cut: Cut,
+    failing: Failing,
+    len: usize,
+) -> (Outcome, Checked) {
+    let list = cut_frames(rt, alloc, session, cut);
+    served_twice(rt, alloc, session, list, failing, len)
+}
+
+/// Compares what becomes of each of these sessions over a new engine.
+pub fn check_sessions<R: RandomSource + Abort + Eprint>(
+    rt: &R,
+    alloc: Global,
+    setup: Setup,
+    sessions: &[Session],
+) {
+    for session in sessions {
+        let found = told_anew(rt, alloc, setup, session);
+        assert!(rt; same_at(rt, &session.1, &found, &wanted(session)));
+    }
 }

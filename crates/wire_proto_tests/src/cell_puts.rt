@@ -2,17 +2,15 @@
 //! failing.
 
 use crate::asks::{
-    Ask, Checked, Outcome, Session, answered, answered_anew, cells_frame, frame, in_halves,
-    in_pieces, put_frame, run, served_twice, sizes, small_engine, small_setup, told, told_anew,
-    wanted,
+    Ask, Checked, Cut, Outcome, Session, answered, answered_anew, cells_frame, check_sessions,
+    cut_frames, frame, put_frame, run, served_cut, sizes, small_engine, small_setup, told, wanted,
 };
 use crate::hex::bytes_of;
-use batch_store::{Setup, SetupFault};
+use batch_store::Setup;
 use plain_engine::PlainEngine;
 use std::alloc::Global;
 use std::process::Abort;
 use std::random::RandomSource;
-use std::test::Fail;
 use test_support::{same, same_at};
 use wire_proto::Ended;
 
@@ -105,30 +103,23 @@ static SESSIONS: &[Session] = &[
 ];
 
 #[test]
-fn puts_of_cells_are_answered(rt: HostRuntime) -> Result<(), Fail> {
-    let setup = small_setup()?;
-    for session in SESSIONS {
-        let found = told_anew(&rt, rt.alloc(), setup, session);
-        assert!(rt; same_at(&rt, &session.1, &found, &wanted(session)));
-    }
-    Ok(())
+fn puts_of_cells_are_answered(rt: HostRuntime) {
+    check_sessions(&rt, rt.alloc(), small_setup(&rt), SESSIONS);
 }
 
 #[test]
-fn the_frames_have_193_bytes_and_their_replies_71(rt: HostRuntime) -> Result<(), Fail> {
+fn the_frames_have_193_bytes_and_their_replies_71(rt: HostRuntime) {
     let found = sizes(&rt, rt.alloc(), &MIXED);
     assert!(rt; same(&rt, &found, &(193, 71)));
-    Ok(())
 }
 
 #[test]
-fn cut_at_each_byte(rt: HostRuntime) -> Result<(), Fail> {
+fn cut_at_each_byte(rt: HostRuntime) {
     for at in 0..193usize {
-        let list = in_halves(&rt, rt.alloc(), &MIXED, at);
-        let found = served_twice(&rt, rt.alloc(), &MIXED, list, (None, None), 71);
+        let cut = Cut::Halves(at);
+        let found = served_cut(&rt, rt.alloc(), &MIXED, cut, (None, None), 71);
         assert!(rt; same_at(&rt, &at, &found, &((CLOSED, true, (1, 5)), wanted(&MIXED))));
     }
-    Ok(())
 }
 
 // What becomes of both where the write fails behind so many bytes. The first batch is accepted before its reply.
@@ -140,14 +131,13 @@ fn failed_write(room: u64) -> (Outcome, Checked) {
 }
 
 #[test]
-fn each_write_fails_in_turn(rt: HostRuntime) -> Result<(), Fail> {
+fn each_write_fails_in_turn(rt: HostRuntime) {
     for room in 0..71u64 {
-        let list = in_pieces(&rt, rt.alloc(), &MIXED, 1_000);
         let failing = (None, Some(room));
-        let found = served_twice(&rt, rt.alloc(), &MIXED, list, failing, room as usize);
+        let cut = Cut::Pieces(1_000);
+        let found = served_cut(&rt, rt.alloc(), &MIXED, cut, failing, room as usize);
         assert!(rt; same_at(&rt, &room, &found, &failed_write(room)));
     }
-    Ok(())
 }
 
 // How many bytes are written once so many were read, and what is accepted.
@@ -162,15 +152,14 @@ fn answered_after(reads: u64) -> (usize, (u64, u64)) {
 }
 
 #[test]
-fn each_read_fails_in_turn(rt: HostRuntime) -> Result<(), Fail> {
+fn each_read_fails_in_turn(rt: HostRuntime) {
     for reads in 0..194u64 {
         let end = answered_after(reads);
-        let list = in_pieces(&rt, rt.alloc(), &MIXED, 1);
-        let found = served_twice(&rt, rt.alloc(), &MIXED, list, (Some(reads), None), end.0);
+        let cut = Cut::Pieces(1);
+        let found = served_cut(&rt, rt.alloc(), &MIXED, cut, (Some(reads), None), end.0);
         let first = (Ended::ReadFault, true, end.1);
         assert!(rt; same_at(&rt, &reads, &found, &(first, wanted(&MIXED))));
     }
-    Ok(())
 }
 
 // What is written where memory ran out.
@@ -195,7 +184,7 @@ fn ended_well(ended: Ended, written: &[u8], replies: &[u8]) -> bool {
 // Whether a session of an engine ends as it is to.
 fn is_served(rt: &impl Abort, alloc: Global, engine: &mut PlainEngine) -> bool {
     let replies = bytes_of(rt, alloc, MIXED.1);
-    let list = in_pieces(rt, alloc, &MIXED, 60);
+    let list = cut_frames(rt, alloc, &MIXED, Cut::Pieces(60));
     let (ended, link) = run(alloc, engine, list, (None, None));
     let well = ended_well(ended, link.written(), replies.as_slice());
     drop(link);
@@ -214,15 +203,14 @@ fn served_and_again<R: RandomSource + Abort>(rt: &R, alloc: Global) -> (bool, Ch
 
 // `rt try --test --fail-alloc N` refuses the Nth growth of each test.
 #[test]
-fn a_session_without_memory_says_so(rt: HostRuntime) -> Result<(), Fail> {
+fn a_session_without_memory_says_so(rt: HostRuntime) {
     let found = served_and_again(&rt, rt.alloc());
     assert!(rt; same(&rt, &found, &(true, wanted(&MIXED))));
-    Ok(())
 }
 
 // An engine that takes what comes to 64 bits.
-fn large_setup() -> Result<Setup, SetupFault> {
-    Setup::new(3, 3, &[], 1, u64::MAX, 10)
+fn large_setup(rt: &impl Abort) -> Setup {
+    Setup::new(3, 3, &[], 1, u64::MAX, 10).expect(rt, "a setup")
 }
 
 // Puts as many cells as a batch may have, and these behind them.
@@ -256,10 +244,9 @@ fn most_and_one_more<R: RandomSource + Abort>(rt: &R, alloc: Global, setup: Setu
 }
 
 #[test]
-fn as_many_cells_as_a_batch_may_have_and_one_more(rt: HostRuntime) -> Result<(), Fail> {
-    let found = most_and_one_more(&rt, rt.alloc(), large_setup()?);
+fn as_many_cells_as_a_batch_may_have_and_one_more(rt: HostRuntime) {
+    let found = most_and_one_more(&rt, rt.alloc(), large_setup(&rt));
     assert!(rt; same(&rt, &found, &[(CLOSED, true, (1, 0x30_0000)); 2]));
-    Ok(())
 }
 
 // The frame of a put whose text has this comment.
@@ -274,14 +261,13 @@ fn frame_with_comment(rt: &impl Abort, alloc: Global, len: usize) -> Vec<u8> {
 
 // A comment may have any length, so that a text may have more than 16 MiB.
 #[test]
-fn a_text_of_more_than_16_mib_is_read(rt: HostRuntime) -> Result<(), Fail> {
-    let setup = small_setup()?;
+fn a_text_of_more_than_16_mib_is_read(rt: HostRuntime) {
+    let setup = small_setup(&rt);
     let reply = "00000010 81 0000000000000000 0000000000000005";
     let sent = frame_with_comment(&rt, rt.alloc(), 16_777_216);
     let found = answered_anew(&rt, rt.alloc(), setup, sent.as_slice(), reply);
     drop(sent);
     assert!(rt; same(&rt, &found, &(CLOSED, true, (1, 5))));
-    Ok(())
 }
 
 // Three puts of 30,000 cells, a query behind each.
@@ -310,11 +296,10 @@ const BY_TURNS: &str = "00000010 81 0000000000000000 0000000000007530
 
 // One session with large and small bodies in turn.
 #[test]
-fn large_bodies_and_small_ones_in_turn(rt: HostRuntime) -> Result<(), Fail> {
-    let setup = large_setup()?;
+fn large_bodies_and_small_ones_in_turn(rt: HostRuntime) {
+    let setup = large_setup(&rt);
     let sent = large_and_small(&rt, rt.alloc());
     let found = answered_anew(&rt, rt.alloc(), setup, sent.as_slice(), BY_TURNS);
     drop(sent);
     assert!(rt; same(&rt, &found, &(CLOSED, true, (3, 90_000))));
-    Ok(())
 }

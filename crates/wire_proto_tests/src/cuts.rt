@@ -1,10 +1,7 @@
 //! One session cut in every way gives the same bytes.
 
-use crate::asks::{
-    Ask, Outcome, Session, frames, in_halves, in_pieces, served_twice, sizes, wanted,
-};
+use crate::asks::{Ask, Cut, Outcome, Session, frames, served_cut, served_twice, sizes, wanted};
 use byte_io_tests::pieces;
-use std::test::Fail;
 use test_support::{same, same_at};
 use wire_proto::Ended;
 
@@ -23,38 +20,35 @@ pub static TWO_PUTS: Session = (
 );
 
 #[test]
-fn the_frames_have_185_bytes_and_their_replies_56(rt: HostRuntime) -> Result<(), Fail> {
+fn the_frames_have_185_bytes_and_their_replies_56(rt: HostRuntime) {
     let found = sizes(&rt, rt.alloc(), &TWO_PUTS);
     assert!(rt; same(&rt, &found, &(185, 56)));
-    Ok(())
 }
 
 const WHOLE: Outcome = (Ended::Closed { rest: 0 }, true, (2, 8));
 
 #[test]
-fn a_session_in_pieces_of_one_size(rt: HostRuntime) -> Result<(), Fail> {
+fn a_session_in_pieces_of_one_size(rt: HostRuntime) {
     for size in 1..186usize {
-        let list = in_pieces(&rt, rt.alloc(), &TWO_PUTS, size);
-        let found = served_twice(&rt, rt.alloc(), &TWO_PUTS, list, (None, None), 56);
+        let cut = Cut::Pieces(size);
+        let found = served_cut(&rt, rt.alloc(), &TWO_PUTS, cut, (None, None), 56);
         assert!(rt; same_at(&rt, &size, &found, &(WHOLE, wanted(&TWO_PUTS))));
     }
-    Ok(())
 }
 
 #[test]
-fn a_session_cut_at_each_byte(rt: HostRuntime) -> Result<(), Fail> {
+fn a_session_cut_at_each_byte(rt: HostRuntime) {
     for at in 0..185usize {
-        let list = in_halves(&rt, rt.alloc(), &TWO_PUTS, at);
-        let found = served_twice(&rt, rt.alloc(), &TWO_PUTS, list, (None, None), 56);
+        let cut = Cut::Halves(at);
+        let found = served_cut(&rt, rt.alloc(), &TWO_PUTS, cut, (None, None), 56);
         assert!(rt; same_at(&rt, &at, &found, &(WHOLE, wanted(&TWO_PUTS))));
     }
-    Ok(())
 }
 
 const CUT: Outcome = (Ended::Closed { rest: 20 }, true, (2, 8));
 
 #[test]
-fn the_last_byte_of_the_last_frame_is_missing(rt: HostRuntime) -> Result<(), Fail> {
+fn the_last_byte_of_the_last_frame_is_missing(rt: HostRuntime) {
     for size in [1usize, 184] {
         let mut sent = frames(&rt, rt.alloc(), TWO_PUTS.0);
         sent.truncate(184);
@@ -63,5 +57,4 @@ fn the_last_byte_of_the_last_frame_is_missing(rt: HostRuntime) -> Result<(), Fai
         let found = served_twice(&rt, rt.alloc(), &TWO_PUTS, list, (None, None), 42);
         assert!(rt; same_at(&rt, &size, &found, &(CUT, wanted(&TWO_PUTS))));
     }
-    Ok(())
 }

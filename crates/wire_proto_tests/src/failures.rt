@@ -1,9 +1,8 @@
 //! Each read and each write of a session fails in turn.
 
-use crate::asks::{Ask, Checked, Outcome, Session, frame, in_pieces, served_twice, wanted};
+use crate::asks::{Ask, Checked, Cut, Outcome, Session, frame, served_cut, served_twice, wanted};
 use crate::cuts::TWO_PUTS;
 use byte_io_tests::pieces;
-use std::test::Fail;
 use test_support::{same, same_at};
 use wire_proto::Ended;
 
@@ -18,24 +17,22 @@ fn failed_write(room: u64) -> (Outcome, Checked) {
 }
 
 #[test]
-fn each_write_fails_in_turn(rt: HostRuntime) -> Result<(), Fail> {
+fn each_write_fails_in_turn(rt: HostRuntime) {
     for room in 0..56u64 {
-        let list = in_pieces(&rt, rt.alloc(), &TWO_PUTS, 1_000);
         let failing = (None, Some(room));
-        let found = served_twice(&rt, rt.alloc(), &TWO_PUTS, list, failing, room as usize);
+        let cut = Cut::Pieces(1_000);
+        let found = served_cut(&rt, rt.alloc(), &TWO_PUTS, cut, failing, room as usize);
         assert!(rt; same_at(&rt, &room, &found, &failed_write(room)));
     }
-    Ok(())
 }
 
 // There is room for all replies, and for no byte more.
 #[test]
-fn the_last_write_does_not_fail(rt: HostRuntime) -> Result<(), Fail> {
-    let list = in_pieces(&rt, rt.alloc(), &TWO_PUTS, 1_000);
-    let found = served_twice(&rt, rt.alloc(), &TWO_PUTS, list, (None, Some(56)), 56);
+fn the_last_write_does_not_fail(rt: HostRuntime) {
+    let cut = Cut::Pieces(1_000);
+    let found = served_cut(&rt, rt.alloc(), &TWO_PUTS, cut, (None, Some(56)), 56);
     let whole = (Ended::Closed { rest: 0 }, true, (2, 8));
     assert!(rt; same(&rt, &found, &(whole, wanted(&TWO_PUTS))));
-    Ok(())
 }
 
 // How many bytes are written, and what is accepted, once so many bytes were read.
@@ -49,15 +46,14 @@ fn answered_after(reads: u64) -> (usize, (u64, u64)) {
 }
 
 #[test]
-fn each_read_fails_in_turn(rt: HostRuntime) -> Result<(), Fail> {
+fn each_read_fails_in_turn(rt: HostRuntime) {
     for reads in 0..186u64 {
         let end = answered_after(reads);
-        let list = in_pieces(&rt, rt.alloc(), &TWO_PUTS, 1);
-        let found = served_twice(&rt, rt.alloc(), &TWO_PUTS, list, (Some(reads), None), end.0);
+        let cut = Cut::Pieces(1);
+        let found = served_cut(&rt, rt.alloc(), &TWO_PUTS, cut, (Some(reads), None), end.0);
         let first = (Ended::ReadFault, true, end.1);
         assert!(rt; same_at(&rt, &reads, &found, &(first, wanted(&TWO_PUTS))));
     }
-    Ok(())
 }
 
 const FIVE: Ask = Ask::Put(7, 1, "3 3 1\n1 1 5\n");
@@ -75,11 +71,10 @@ static ONCE_MORE: Session = (
 const LOST: Outcome = (Ended::WriteFault { written: 3 }, true, (1, 5));
 
 #[test]
-fn a_batch_whose_reply_was_lost_counts_once(rt: HostRuntime) -> Result<(), Fail> {
+fn a_batch_whose_reply_was_lost_counts_once(rt: HostRuntime) {
     let sent = frame(&rt, rt.alloc(), FIVE);
     let list = pieces(rt.alloc(), sent.as_slice(), 100).expect(&rt, "memory");
     drop(sent);
     let found = served_twice(&rt, rt.alloc(), &ONCE_MORE, list, (None, Some(3)), 3);
     assert!(rt; same(&rt, &found, &(LOST, wanted(&ONCE_MORE))));
-    Ok(())
 }

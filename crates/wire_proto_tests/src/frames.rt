@@ -4,7 +4,6 @@ use crate::asks::{Ask, frame, put_request, text_frame};
 use crate::hex::bytes_of;
 use std::alloc::Global;
 use std::process::Abort;
-use std::test::Fail;
 use test_support::{holds_at, same, same_at};
 use wire_proto::{EncodeFault, FrameFault, Frames, Request, encode_request};
 
@@ -126,13 +125,12 @@ fn stays(expected: Judged) -> Option<Judged> {
 }
 
 #[test]
-fn headers_are_judged_at_their_fifth_byte(rt: HostRuntime) -> Result<(), Fail> {
+fn headers_are_judged_at_their_fifth_byte(rt: HostRuntime) {
     for (digits, expected) in HEADERS {
         let found = judge(&rt, rt.alloc(), digits);
         let wanted = (true, *expected, stays(*expected));
         assert!(rt; same_at(&rt, digits, &found, &wanted));
     }
-    Ok(())
 }
 
 // The text of a request, where it is a put of this pair.
@@ -165,12 +163,11 @@ fn comes_whole(rt: &impl Abort, alloc: Global, text: &[u8]) -> [bool; 3] {
 }
 
 #[test]
-fn a_longest_put_comes_whole_in_pieces(rt: HostRuntime) -> Result<(), Fail> {
+fn a_longest_put_comes_whole_in_pieces(rt: HostRuntime) {
     let text = vec![in rt.alloc(); 37u8; 67_108_848].expect(&rt, "memory");
     let found = comes_whole(&rt, rt.alloc(), text.as_slice());
     drop(text);
     assert!(rt; same(&rt, &found, &[true; 3]));
-    Ok(())
 }
 
 // Why a put of a text of so many bytes has no frame.
@@ -184,10 +181,9 @@ fn fault_of_put(rt: &impl Abort, alloc: Global, len: usize) -> Option<EncodeFaul
 }
 
 #[test]
-fn a_put_that_is_one_byte_longer_has_no_frame(rt: HostRuntime) -> Result<(), Fail> {
+fn a_put_that_is_one_byte_longer_has_no_frame(rt: HostRuntime) {
     let fault = fault_of_put(&rt, rt.alloc(), 67_108_849);
     assert!(rt; same(&rt, &fault, &Some(EncodeFault::TooLarge)));
-    Ok(())
 }
 
 // The spelling of each request.
@@ -229,10 +225,9 @@ fn is_spelled(rt: &impl Abort, alloc: Global, ask: Ask, digits: &str) -> bool {
 }
 
 #[test]
-fn requests_are_spelled(rt: HostRuntime) -> Result<(), Fail> {
+fn requests_are_spelled(rt: HostRuntime) {
     for (ask, digits) in SPELLED {
         let spelled = is_spelled(&rt, rt.alloc(), *ask, digits);
         assert!(rt; holds_at(&rt, digits, spelled));
     }
-    Ok(())
 }

@@ -9,7 +9,6 @@ use plain_engine::PlainEngine;
 use std::alloc::Global;
 use std::process::Abort;
 use std::random::RandomSource;
-use std::test::Fail;
 use test_support::same;
 use wire_proto::Ended;
 
@@ -109,10 +108,9 @@ fn longest_and_longer<R: RandomSource + Abort>(
 }
 
 #[test]
-fn the_longest_text_is_sent_and_no_longer_one(rt: HostRuntime) -> Result<(), Fail> {
-    let setup = Setup::new(MOST, MOST, &[4_096], 1, u64::MAX, 10)?;
+fn the_longest_text_is_sent_and_no_longer_one(rt: HostRuntime) {
+    let setup = Setup::new(MOST, MOST, &[4_096], 1, u64::MAX, 10).expect(&rt, "a setup");
     let found = longest_and_longer(&rt, rt.alloc(), setup);
     let first = (CLOSED, Some(67_108_864));
     assert!(rt; same(&rt, &found, &(first, wanted(&LONGER))));
-    Ok(())
 }

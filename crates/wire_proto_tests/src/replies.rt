@@ -9,7 +9,6 @@ use plain_engine::Status;
 use std::alloc::Global;
 use std::process::Abort;
 use std::random::RandomSource;
-use std::test::Fail;
 use test_support::{holds_at, same, same_at};
 use wire_proto::{Reply, decode_reply};
 
@@ -108,12 +107,11 @@ fn is_read_alone(rt: &impl Abort, alloc: Global, digits: &str, reply: Reply) -> 
 }
 
 #[test]
-fn replies_are_read(rt: HostRuntime) -> Result<(), Fail> {
+fn replies_are_read(rt: HostRuntime) {
     for (digits, expected) in REPLIES {
         let read = is_read_alone(&rt, rt.alloc(), digits, *expected);
         assert!(rt; same_at(&rt, digits, &read, &[true; 3]));
     }
-    Ok(())
 }
 
 // Whether each frame of some bytes is a reply, and nothing stands behind the last.
@@ -206,10 +204,9 @@ fn answers<R: RandomSource + Abort>(rt: &R, alloc: Global) -> (usize, bool) {
 }
 
 #[test]
-fn the_replies_of_a_session_are_read(rt: HostRuntime) -> Result<(), Fail> {
+fn the_replies_of_a_session_are_read(rt: HostRuntime) {
     let found = answers(&rt, rt.alloc());
     assert!(rt; same(&rt, &found, &(132, true)));
-    Ok(())
 }
 
 static NONE: &[&str] = &[
@@ -231,14 +228,13 @@ static NONE: &[&str] = &[
 ];
 
 #[test]
-fn other_bytes_are_no_reply(rt: HostRuntime) -> Result<(), Fail> {
+fn other_bytes_are_no_reply(rt: HostRuntime) {
     for digits in NONE {
         let bytes = bytes_of(&rt, rt.alloc(), digits);
         let is_one = is_reply(bytes.as_slice());
         drop(bytes);
         assert!(rt; holds_at(&rt, digits, !is_one));
     }
-    Ok(())
 }
 
 /// The length of the text that these bytes carry.
@@ -262,12 +258,11 @@ fn with_head(rt: &impl Abort, alloc: Global, head: &[u8], len: usize) -> Vec<u8>
 
 // The length of the longest text, and whether one that is a byte longer is a reply.
 #[test]
-fn a_text_is_read_up_to_the_longest_body(rt: HostRuntime) -> Result<(), Fail> {
+fn a_text_is_read_up_to_the_longest_body(rt: HostRuntime) {
     let longest = with_head(&rt, rt.alloc(), &[4, 0, 0, 0, 0x85], 67_108_864);
     let longer = with_head(&rt, rt.alloc(), &[4, 0, 0, 1, 0x85], 67_108_865);
     let found = (text_len(longest.as_slice()), is_reply(longer.as_slice()));
     drop(longer);
     drop(longest);
     assert!(rt; same(&rt, &found, &(Some(67_108_864), false)));
-    Ok(())
 }

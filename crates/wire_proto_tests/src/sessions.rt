@@ -1,8 +1,8 @@
 //! Whole sessions, each over a new engine of three rows, three columns, a limit of 100 and at most 10 batches.
 
 use crate::asks::{
-    Ask, Outcome, Session, answered_anew, frame, put_frame, small_engine, small_setup, told_anew,
-    wanted,
+    Ask, Outcome, Session, answered_anew, check_sessions, frame, put_frame, small_engine,
+    small_setup, told_anew, wanted,
 };
 use batch_store::Setup;
 use byte_io_tests::pieces;
@@ -10,7 +10,6 @@ use mm_text::Script;
 use std::alloc::Global;
 use std::process::Abort;
 use std::random::RandomSource;
-use std::test::Fail;
 use test_support::{same, same_at};
 use wire_proto::{Ended, serve_engine};
 
@@ -164,13 +163,8 @@ static SESSIONS: &[Session] = &[
 ];
 
 #[test]
-fn sessions_are_answered(rt: HostRuntime) -> Result<(), Fail> {
-    let setup = small_setup()?;
-    for session in SESSIONS {
-        let found = told_anew(&rt, rt.alloc(), setup, session);
-        assert!(rt; same_at(&rt, &session.1, &found, &wanted(session)));
-    }
-    Ok(())
+fn sessions_are_answered(rt: HostRuntime) {
+    check_sessions(&rt, rt.alloc(), small_setup(&rt), SESSIONS);
 }
 
 // A put that is refused for its text, with its reply, which tells a code and a detail.
@@ -256,27 +250,25 @@ static REFUSED_TEXTS: &[(Ask, &str)] = &[
 const REFUSED: Outcome = (Ended::Closed { rest: 0 }, true, (0, 0));
 
 #[test]
-fn texts_are_refused(rt: HostRuntime) -> Result<(), Fail> {
-    let setup = small_setup()?;
+fn texts_are_refused(rt: HostRuntime) {
+    let setup = small_setup(&rt);
     for (ask, digits) in REFUSED_TEXTS {
         let sent = frame(&rt, rt.alloc(), *ask);
         let found = answered_anew(&rt, rt.alloc(), setup, sent.as_slice(), digits);
         drop(sent);
         assert!(rt; same_at(&rt, digits, &found, &REFUSED));
     }
-    Ok(())
 }
 
 // A put of a line of 1,025 blanks.
 #[test]
-fn a_line_of_a_put_has_at_most_1024_bytes(rt: HostRuntime) -> Result<(), Fail> {
-    let setup = small_setup()?;
+fn a_line_of_a_put_has_at_most_1024_bytes(rt: HostRuntime) {
+    let setup = small_setup(&rt);
     let reply = "0000000a ff 0069 0000000000000002";
     let sent = put_frame(&rt, rt.alloc(), (7, 1), &[b' '; 1_025]);
     let found = answered_anew(&rt, rt.alloc(), setup, sent.as_slice(), reply);
     drop(sent);
     assert!(rt; same(&rt, &found, &REFUSED));
-    Ok(())
 }
 
 static ONE_BATCH: Session = (
@@ -298,11 +290,10 @@ static ONE_BATCH: Session = (
 
 // A book that holds one batch.
 #[test]
-fn a_full_book_is_told_last(rt: HostRuntime) -> Result<(), Fail> {
-    let setup = Setup::new(3, 3, &[], 1, 100, 1)?;
+fn a_full_book_is_told_last(rt: HostRuntime) {
+    let setup = Setup::new(3, 3, &[], 1, 100, 1).expect(&rt, "a setup");
     let found = told_anew(&rt, rt.alloc(), setup, &ONE_BATCH);
     assert!(rt; same(&rt, &found, &wanted(&ONE_BATCH)));
-    Ok(())
 }
 
 // Serves four bytes in as many reads, of which so many are allowed: how it ends, and how many bytes are written.
@@ -318,8 +309,7 @@ fn ends_after<R: RandomSource + Abort>(rt: &R, alloc: Global, turns: u64) -> (En
 }
 
 #[test]
-fn turns_are_counted(rt: HostRuntime) -> Result<(), Fail> {
+fn turns_are_counted(rt: HostRuntime) {
     let found = ends_after(&rt, rt.alloc(), 3);
     assert!(rt; same(&rt, &found, &(Ended::TooManyTurns, 0)));
-    Ok(())
 }

@@ -148,8 +148,8 @@ fn served(rt: &impl Abort, alloc: Global, store: &mut Told, case: &Case) -> (End
 }
 
 #[test]
-fn stores_are_answered_for(rt: HostRuntime) -> Result<(), Fail> {
-    let setup = small_setup()?;
+fn stores_are_answered_for(rt: HostRuntime) {
+    let setup = small_setup(&rt);
     for case in CASES {
         let mut store = Told {
             setup,
@@ -159,5 +159,4 @@ fn stores_are_answered_for(rt: HostRuntime) -> Result<(), Fail> {
         let found = served(&rt, rt.alloc(), &mut store, case);
         assert!(rt; same_at(&rt, &case.3, &found, &(case.4, true)));
     }
-    Ok(())
 }

@@ -1,7 +1,7 @@
 //! A session over a link that moves one byte a call, and of which each call fails in turn.
 ghost use Rattle.std.specs.Prelude.{◌≡◌, ◌+◌, ◌-◌, ◌<◌, ◌≤◌, ◌^◌};
 
-use crate::asks::{Checked, in_pieces, small_engine, told, wanted};
+use crate::asks::{Checked, Cut, cut_frames, small_engine, told, wanted};
 use crate::cuts::TWO_PUTS;
 use crate::hex::bytes_of;
 use byte_io::{Link, Once, Script, Sink, Source, Trickle};
@@ -9,7 +9,6 @@ use plain_engine::PlainEngine;
 use std::alloc::Global;
 use std::process::Abort;
 use std::random::RandomSource;
-use std::test::Fail;
 use test_support::{same, same_at};
 use wire_proto::{Ended, serve_engine};
 
@@ -18,7 +17,7 @@ const TURNS: u64 = 1_000_000;
 
 // The two puts and the query in one piece, a byte a call.
 fn slow_link(rt: &impl Abort, alloc: Global) -> Trickle<Script> {
-    let list = in_pieces(rt, alloc, &TWO_PUTS, 1_000);
+    let list = cut_frames(rt, alloc, &TWO_PUTS, Cut::Pieces(1_000));
     Trickle::new(Script::new(alloc, list, None, None), 1)
 }
 
@@ -62,11 +61,10 @@ fn served_anew<R: RandomSource + Abort>(rt: &R, alloc: Global, call: u32) -> Fou
 }
 
 #[test]
-fn a_session_byte_by_byte(rt: HostRuntime) -> Result<(), Fail> {
+fn a_session_byte_by_byte(rt: HostRuntime) {
     let found = served_anew(&rt, rt.alloc(), 1_000_000);
     let slow = (Ended::Closed { rest: 0 }, (242, 0), (56, true));
     assert!(rt; same(&rt, &found, &(slow, (2, 8), wanted(&TWO_PUTS))));
-    Ok(())
 }
 
 // How a session ends behind so many bytes.
@@ -102,10 +100,9 @@ fn ends_at(call: u32) -> Found {
 }
 
 #[test]
-fn each_call_fails_in_turn(rt: HostRuntime) -> Result<(), Fail> {
+fn each_call_fails_in_turn(rt: HostRuntime) {
     for call in 0..=242u32 {
         let found = served_anew(&rt, rt.alloc(), call);
         assert!(rt; same_at(&rt, &call, &found, &ends_at(call)));
     }
-    Ok(())
 }
