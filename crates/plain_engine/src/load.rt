@@ -153,8 +153,8 @@ impl PlainEngine {
             (entries_of (values batches.now)) ≡ None) }
         ensures err { IfErr result (λ fault. (fault ≡ LoadFault.Memory → ⊥) →
             first_refusal self.setup (entries_in self.book.state) (entries_of (values batches.now)) ≡ Some fault) }
-        ensures accepted { first_refusal self.setup (entries_in self.book.state) (entries_of (values batches.now)) ≡ None →
-            IfErr result (λ fault. fault ≡ LoadFault.Memory) }
+        ensures accepted { first_refusal self.setup (entries_in self.book.state)
+            (entries_of (values batches.now)) ≡ None → IfErr result (λ fault. fault ≡ LoadFault.Memory) }
     {
         let mut engine = self;
         match engine.load_all(alloc, batches) {

@@ -17,8 +17,8 @@ returns-in_err-head-clause-err g c =
     let p = err_from_is_err_and c.from_residual.result c.from_residual.ensures.1 in
     rw (p.1, p.2)
     (c.in_err-head.ensures.err c.args.r.now c.args.reader.now.max_bytes rest_of (λ h p. behind_rest h p)
-    (read_begun {S = g.row.R.Denot} g.R.Source.read_gives g.R.Source.failure_count c.args.reader.now.max_bytes c.args.r.now
-    c.args.reader.now c.requires.pending c.requires.taken refl))
+    (read_begun {S = g.row.R.Denot} g.R.Source.read_gives g.R.Source.failure_count c.args.reader.now.max_bytes
+    c.args.r.now c.args.reader.now c.requires.pending c.requires.taken refl))
 
 pub returns-in_err-batches-clause-err : goal.returns-in_err-batches-clause-err
 returns-in_err-batches-clause-err g c =
@@ -26,8 +26,8 @@ returns-in_err-batches-clause-err g c =
     rw (p.1, p.2)
     (c.in_err-batches.ensures.err c.args.r.now c.args.reader.now.max_bytes
     (c.in_ok-head.ensures.ok c.args.r.now c.args.reader.now.max_bytes rest_of
-    (read_begun {S = g.row.R.Denot} g.R.Source.read_gives g.R.Source.failure_count c.args.reader.now.max_bytes c.args.r.now
-    c.args.reader.now c.requires.pending c.requires.taken refl)))
+    (read_begun {S = g.row.R.Denot} g.R.Source.read_gives g.R.Source.failure_count c.args.reader.now.max_bytes
+    c.args.r.now c.args.reader.now c.requires.pending c.requires.taken refl)))
 
 pub returns-in_err-base-clause-err : goal.returns-in_err-base-clause-err
 returns-in_err-base-clause-err g c =
@@ -38,44 +38,44 @@ returns-in_err-base-clause-err g c =
     c.read_batches.new.reader _
     (c.in_ok-batches.ensures.ok c.args.r.now c.args.reader.now.max_bytes
     (c.in_ok-head.ensures.ok c.args.r.now c.args.reader.now.max_bytes rest_of
-    (read_begun {S = g.row.R.Denot} g.R.Source.read_gives g.R.Source.failure_count c.args.reader.now.max_bytes c.args.r.now
-    c.args.reader.now c.requires.pending c.requires.taken refl))) (behind_end _))
+    (read_begun {S = g.row.R.Denot} g.R.Source.read_gives g.R.Source.failure_count c.args.reader.now.max_bytes
+    c.args.r.now c.args.reader.now c.requires.pending c.requires.taken refl))) (behind_end _))
 
 pub returns-in_err-expect_end-clause-err : goal.returns-in_err-expect_end-clause-err
 returns-in_err-expect_end-clause-err g c =
     let p = err_from_is_err_and c.from_residual-in_err-expect_end.result c.from_residual-in_err-expect_end.ensures.1 in
     rw (p.1, p.2)
     (c.in_err-expect_end.ensures.err c.args.r.now c.args.reader.now.max_bytes
-    (contents c.in_ok-head.head.head.setup (accepted c.in_ok-head.head.past.base.counts c.in_ok-head.head.past.folded.items
-    (values c.in_ok-batches.batches.items)))
+    (contents c.in_ok-head.head.head.setup (accepted c.in_ok-head.head.past.base.counts
+    c.in_ok-head.head.past.folded.items (values c.in_ok-batches.batches.items)))
     (c.in_ok-batches.ensures.ok c.args.r.now c.args.reader.now.max_bytes
     (c.in_ok-head.ensures.ok c.args.r.now c.args.reader.now.max_bytes rest_of
-    (read_begun {S = g.row.R.Denot} g.R.Source.read_gives g.R.Source.failure_count c.args.reader.now.max_bytes c.args.r.now
-    c.args.reader.now c.requires.pending c.requires.taken refl))))
+    (read_begun {S = g.row.R.Denot} g.R.Source.read_gives g.R.Source.failure_count c.args.reader.now.max_bytes
+    c.args.r.now c.args.reader.now c.requires.pending c.requires.taken refl))))
 
 pub invariant_of-list : goal.invariant_of-list
 invariant_of-list g c =
     subst (λ (m : Counts). IsBase m c.in_ok-head.head.past.folded.items)
     (sym (ap (λ (m : Matrix). m.counts) c.in_ok-base.ensures.ok))
     (c.in_ok-expect_end.ensures.ok c.args.r.now c.args.reader.now.max_bytes
-    (contents c.in_ok-head.head.head.setup (accepted c.in_ok-head.head.past.base.counts c.in_ok-head.head.past.folded.items
-    (values c.in_ok-batches.batches.items)))
+    (contents c.in_ok-head.head.head.setup (accepted c.in_ok-head.head.past.base.counts
+    c.in_ok-head.head.past.folded.items (values c.in_ok-batches.batches.items)))
     (c.in_ok-batches.ensures.ok c.args.r.now c.args.reader.now.max_bytes
     (c.in_ok-head.ensures.ok c.args.r.now c.args.reader.now.max_bytes rest_of
-    (read_begun {S = g.row.R.Denot} g.R.Source.read_gives g.R.Source.failure_count c.args.reader.now.max_bytes c.args.r.now
-    c.args.reader.now c.requires.pending c.requires.taken refl)))).snapshot.kept.accepted.based
+    (read_begun {S = g.row.R.Denot} g.R.Source.read_gives g.R.Source.failure_count c.args.reader.now.max_bytes
+    c.args.r.now c.args.reader.now c.requires.pending c.requires.taken refl)))).snapshot.kept.accepted.based
 
 pub invariant_of-result : goal.invariant_of-result
 invariant_of-result g c = record {
   kept = subst (λ (m : Counts). IsKept c.in_ok-head.head.head.setup (accepted m c.in_ok-head.head.past.folded.items
       (values c.in_ok-batches.batches.items))) (sym (ap (λ (m : Matrix). m.counts) c.in_ok-base.ensures.ok))
       (c.in_ok-expect_end.ensures.ok c.args.r.now c.args.reader.now.max_bytes
-      (contents c.in_ok-head.head.head.setup (accepted c.in_ok-head.head.past.base.counts c.in_ok-head.head.past.folded.items
-      (values c.in_ok-batches.batches.items)))
+      (contents c.in_ok-head.head.head.setup (accepted c.in_ok-head.head.past.base.counts
+      c.in_ok-head.head.past.folded.items (values c.in_ok-batches.batches.items)))
       (c.in_ok-batches.ensures.ok c.args.r.now c.args.reader.now.max_bytes
       (c.in_ok-head.ensures.ok c.args.r.now c.args.reader.now.max_bytes rest_of
-      (read_begun {S = g.row.R.Denot} g.R.Source.read_gives g.R.Source.failure_count c.args.reader.now.max_bytes c.args.r.now
-      c.args.reader.now c.requires.pending c.requires.taken refl)))).snapshot.kept;
+      (read_begun {S = g.row.R.Denot} g.R.Source.read_gives g.R.Source.failure_count c.args.reader.now.max_bytes
+      c.args.r.now c.args.reader.now c.requires.pending c.requires.taken refl)))).snapshot.kept;
   based = record {
     rows = ap (λ (m : Matrix). m.rows) c.in_ok-base.ensures.ok ∙ c.in_ok-head.ensures.dims.0;
     cols = ap (λ (m : Matrix). m.cols) c.in_ok-base.ensures.ok ∙ c.in_ok-head.ensures.dims.1;
@@ -90,9 +90,9 @@ returns-clause-ok g c =
     (values c.in_ok-batches.batches.items)))
     (sym (ap (λ (m : Matrix). m.counts) c.in_ok-base.ensures.ok))
     (c.in_ok-expect_end.ensures.ok c.args.r.now c.args.reader.now.max_bytes
-    (contents c.in_ok-head.head.head.setup (accepted c.in_ok-head.head.past.base.counts c.in_ok-head.head.past.folded.items
-    (values c.in_ok-batches.batches.items)))
+    (contents c.in_ok-head.head.head.setup (accepted c.in_ok-head.head.past.base.counts
+    c.in_ok-head.head.past.folded.items (values c.in_ok-batches.batches.items)))
     (c.in_ok-batches.ensures.ok c.args.r.now c.args.reader.now.max_bytes
     (c.in_ok-head.ensures.ok c.args.r.now c.args.reader.now.max_bytes rest_of
-    (read_begun {S = g.row.R.Denot} g.R.Source.read_gives g.R.Source.failure_count c.args.reader.now.max_bytes c.args.r.now
-    c.args.reader.now c.requires.pending c.requires.taken refl))))
+    (read_begun {S = g.row.R.Denot} g.R.Source.read_gives g.R.Source.failure_count c.args.reader.now.max_bytes
+    c.args.r.now c.args.reader.now c.requires.pending c.requires.taken refl))))

@@ -20,8 +20,8 @@ returns-in_err-row-clause-err g c =
     let p = err_from_is_err_and c.from_residual.result c.from_residual.ensures.1 in
     let some : 0 < c.rows.result = let d = c.rows.ensures.kept.dims in let v = c.rows.ensures.value in omega arith in
     rw (p.1, p.2) (λ s m n done k b h. c.in_err-row.ensures.err s m _
-    (read_below {S = g.row.R.Denot} g.R.Source.read_gives g.R.Source.failure_count m s c.args.r.now c.args.reader.now _ _
-    BadBatch _ c.rows.ensures.value some h))
+    (read_below {S = g.row.R.Denot} g.R.Source.read_gives g.R.Source.failure_count m s c.args.r.now c.args.reader.now
+    _ _ BadBatch _ c.rows.ensures.value some h))
 
 pub returns-in_err-col-clause-err : goal.returns-in_err-col-clause-err
 unfolding cells_behind
@@ -33,8 +33,8 @@ returns-in_err-col-clause-err g c =
     (read_below {S = g.row.R.Denot} g.R.Source.read_gives g.R.Source.failure_count m s c.next_u64_in.new.r
     c.next_u64_in.new.self _ _ BadBatch _ c.cols.ensures.value any
     (c.in_ok-row.ensures.ok s m _
-    (read_below {S = g.row.R.Denot} g.R.Source.read_gives g.R.Source.failure_count m s c.args.r.now c.args.reader.now _ _
-    BadBatch _ c.rows.ensures.value some h))))
+    (read_below {S = g.row.R.Denot} g.R.Source.read_gives g.R.Source.failure_count m s c.args.r.now c.args.reader.now
+    _ _ BadBatch _ c.rows.ensures.value some h))))
 
 pub returns-in_err-refuse-clause-err : goal.returns-in_err-refuse-clause-err
 unfolding cells_behind
@@ -50,8 +50,8 @@ returns-in_err-refuse-clause-err g c =
     (read_below {S = g.row.R.Denot} g.R.Source.read_gives g.R.Source.failure_count m s c.next_u64_in.new.r
     c.next_u64_in.new.self _ _ BadBatch _ c.cols.ensures.value any
     (c.in_ok-row.ensures.ok s m _
-    (read_below {S = g.row.R.Denot} g.R.Source.read_gives g.R.Source.failure_count m s c.args.r.now c.args.reader.now _ _
-    BadBatch _ c.rows.ensures.value some h))))
+    (read_below {S = g.row.R.Denot} g.R.Source.read_gives g.R.Source.failure_count m s c.args.r.now c.args.reader.now
+    _ _ BadBatch _ c.rows.ensures.value some h))))
     (sym c.stands_before-early.ensures ∙ x.1) order_judged)
 
 pub returns-in_err-count-clause-err : goal.returns-in_err-count-clause-err
@@ -68,8 +68,8 @@ returns-in_err-count-clause-err g c =
     (read_below {S = g.row.R.Denot} g.R.Source.read_gives g.R.Source.failure_count m s c.next_u64_in.new.r
     c.next_u64_in.new.self _ _ BadBatch _ c.cols.ensures.value any
     (c.in_ok-row.ensures.ok s m _
-    (read_below {S = g.row.R.Denot} g.R.Source.read_gives g.R.Source.failure_count m s c.args.r.now c.args.reader.now _ _
-    BadBatch _ c.rows.ensures.value some h))))
+    (read_below {S = g.row.R.Denot} g.R.Source.read_gives g.R.Source.failure_count m s c.args.r.now c.args.reader.now
+    _ _ BadBatch _ c.rows.ensures.value some h))))
     (sym c.stands_before-early.ensures ∙ c.in_ok-refuse.ensures.ok))))
 
 pub returns-in-Err-clause-err : goal.returns-in-Err-clause-err
@@ -88,9 +88,10 @@ returns-in-Err-clause-err g c =
     (read_below {S = g.row.R.Denot} g.R.Source.read_gives g.R.Source.failure_count m s c.next_u64_in.new.r
     c.next_u64_in.new.self _ _ BadBatch _ c.cols.ensures.value any
     (c.in_ok-row.ensures.ok s m _
-    (read_below {S = g.row.R.Denot} g.R.Source.read_gives g.R.Source.failure_count m s c.args.r.now c.args.reader.now _ _
-    BadBatch _ c.rows.ensures.value some h))))
-    (sym c.stands_before-early.ensures ∙ c.in_ok-refuse.ensures.ok)))) (behind_cells c.args.head.now c.args.most n _ k b)
+    (read_below {S = g.row.R.Denot} g.R.Source.read_gives g.R.Source.failure_count m s c.args.r.now c.args.reader.now
+    _ _ BadBatch _ c.rows.ensures.value some h))))
+    (sym c.stands_before-early.ensures ∙ c.in_ok-refuse.ensures.ok))))
+    (behind_cells c.args.head.now c.args.most n _ k b)
 
 pub returns-in-Ok-clause-ok : goal.returns-in-Ok-clause-ok
 unfolding cells_behind
@@ -116,8 +117,8 @@ returns-in-Ok-clause-ok g c =
     (read_below {S = g.row.R.Denot} g.R.Source.read_gives g.R.Source.failure_count m s c.next_u64_in.new.r
     c.next_u64_in.new.self _ _ BadBatch _ c.cols.ensures.value any
     (c.in_ok-row.ensures.ok s m _
-    (read_below {S = g.row.R.Denot} g.R.Source.read_gives g.R.Source.failure_count m s c.args.r.now c.args.reader.now _ _
-    BadBatch _ c.rows.ensures.value some h))))
+    (read_below {S = g.row.R.Denot} g.R.Source.read_gives g.R.Source.failure_count m s c.args.r.now c.args.reader.now
+    _ _ BadBatch _ c.rows.ensures.value some h))))
     (sym c.stands_before-early.ensures ∙ c.in_ok-refuse.ensures.ok))))
 
 pub returns-in-Ok-clause-added : goal.returns-in-Ok-clause-added
