@@ -1,5 +1,6 @@
 //! Compactions beside puts and after them: what the engine holds stays, each seat reads its own puts, and at last
 //! nothing is due in any shard.
+ghost use Rattle.std.specs.Prelude.{◌<◌};
 
 use crate::cases::{Act, Case, NOTHING, play};
 use crate::opened::{put, two_seats};
@@ -192,7 +193,8 @@ fn compact_until<N: Named, H: Ledger, R: Wait>(
 }
 
 fn compact_each<N: Named, H: Ledger, R: Wait>(rt: &R, alloc: Global, engine: &Engine<N, H>) {
-    for s in 0..engine.setup().shards() {
+    let shards = engine.setup().shards();
+    for s in 0..shards {
         let _ = engine.compact(rt, alloc, s);
     }
 }
@@ -206,7 +208,9 @@ fn compactions_of<N: Named, H: Ledger, R: Wait>(
     alloc: Global,
     engine: &Engine<N, H>,
     s: u64,
-) -> Option<u64> {
+) -> Option<u64>
+    requires { s < N.setup.shards }
+{
     for made in 0..MAX_COMPACTIONS {
         if !engine.compact(rt, alloc, s) {
             return Some(made);
@@ -222,7 +226,8 @@ fn expect_settled<N: Named, H: Ledger, R: Wait + Abort + Eprint>(
     engine: &Engine<N, H>,
     fewest: u64,
 ) {
-    for s in 0..engine.setup().shards() {
+    let shards = engine.setup().shards();
+    for s in 0..shards {
         let made = compactions_of(rt, alloc, engine, s);
         assert!(rt; same_at(rt, &s, &made.map(|made| made >= fewest), &Some(true)));
     }
