@@ -440,16 +440,16 @@ impl Shard {
         self.layers.gather(alloc)
     }
 
-    /// Chooses parts that stand side by side in the layers to be added up, and makes a place for their sum; None where
-    /// nothing is due (`Layers::begin`). What the shard holds stays, also on an error.
+    /// Chooses parts that stand side by side in one of the first `depth` layers to be added up, and makes a place for
+    /// their sum; None where nothing is due there (`Layers::begin`). What the shard holds stays, also on an error.
     ///
     /// # Errors
     ///
     /// A growth was refused.
-    pub fn begin(&mut self, alloc: Global) -> Result<Option<Compaction>, AllocError>
+    pub fn begin(&mut self, alloc: Global, depth: usize) -> Result<Option<Compaction>, AllocError>
         ensures { self.new ≡ self.old }
     {
-        self.layers.begin(alloc)
+        self.layers.begin(alloc, depth)
     }
 
     /// Puts the sums that were made in the place of their parts (`Layers::settle`). Whether any was. What the shard

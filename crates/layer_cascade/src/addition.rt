@@ -11,7 +11,7 @@ ghost use Rattle.layer_compaction.specs.Shared.{content, values, all_counts, Hav
 ghost use Rattle.layer_cascade.specs.Cascade.{with_first, EndsAt};
 
 use hyper_matrix::Hyper;
-use layer_compaction::{FILTERED_AT_ONCE, Layer, Step};
+use layer_compaction::{Layer, Step};
 use std::alloc::{AllocError, Global};
 use std::sync::Arc;
 
@@ -39,7 +39,7 @@ pub fn cascade_end(
         s.layer ≡ matrix m.now.rows m.now.cols (with_first (all_counts (values layers.now)) m.now.counts s.place)) }
 {
     let copy = m.copy(alloc)?;
-    let layer = Layer::of(alloc, copy, FILTERED_AT_ONCE)?;
+    let layer = Layer::of(alloc, copy)?;
     end_of_carried(alloc, layers, cuts, layer)
 }
 

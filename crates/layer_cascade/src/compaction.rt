@@ -125,6 +125,7 @@ pub fn compact(layers: &mut [Arc<Layer>], cuts: &[u64], alloc: Global) -> Result
 // The first layer with something due, from one place up to another.
 fn first_begun(
     layers: &[Arc<Layer>],
+    cuts: &[u64],
     from: usize,
     until: usize,
     alloc: Global,
@@ -132,37 +133,43 @@ fn first_begun(
     ensures { IfOk result (λ next. IfSome next (λ n. slice_get (values layers.now) n.0 ≡ Some n.1)) }
 {
     for place in from..until.min(layers.len()) {
-        if let Some((layer, compaction)) = layers[place].begun(alloc, place == 0)? {
+        // The last layer has no cut.
+        let cut = cuts.get(place).copied().unwrap_or(u64::MAX);
+        if let Some((layer, compaction)) = layers[place].begun(alloc, place == 0, cut)? {
             return Ok(Some((place, layer, compaction)));
         }
     }
     Ok(None)
 }
 
-// The same, from the layer on whose turn it is, and then up to that one.
+// The same of the first `depth` layers, from the one on whose turn it is, and then up to that one.
 fn next_begun(
     layers: &[Arc<Layer>],
+    cuts: &[u64],
     turn: usize,
+    depth: usize,
     alloc: Global,
 ) -> Result<Option<Beginning>, AllocError>
     ensures { IfOk result (λ next. IfSome next (λ n. slice_get (values layers.now) n.0 ≡ Some n.1)) }
 {
-    if let Some(next) = first_begun(layers, turn, layers.len(), alloc)? {
+    if let Some(next) = first_begun(layers, cuts, turn, depth, alloc)? {
         return Ok(Some(next));
     }
-    first_begun(layers, 0, turn, alloc)
+    first_begun(layers, cuts, 0, turn.min(depth), alloc)
 }
 
-/// Begins what is due next, and tells in which layer that is. What the layers hold stays.
+/// Begins what is due next in the first `depth` layers, and tells in which that is. What the layers hold stays.
 pub fn begin_next(
     layers: &mut [Arc<Layer>],
+    cuts: &[u64],
     turn: usize,
+    depth: usize,
     alloc: Global,
 ) -> Result<Option<(usize, Compaction)>, AllocError>
     ensures same { values layers.new ≡ values layers.old }
     ensures place { IfOk result (λ begun. IfSome begun (λ b. b.0 < length layers.old)) }
 {
-    let Some((place, layer, compaction)) = next_begun(layers, turn, alloc)? else {
+    let Some((place, layer, compaction)) = next_begun(layers, cuts, turn, depth, alloc)? else {
         return Ok(None);
     };
     exchange(layers, place, alloc, layer)?;

@@ -155,17 +155,15 @@ impl Layers {
     /// that the dimensions are equal and that both totals together stay below 2^64.
     ///
     /// Where `m` is put beside the matrices of a layer, that takes the time of a pointer for each of these, at most 32.
-    /// Where all together may pass its cut, their places are counted, and they stay or go on. At most 16 matrices that
-    /// may have more than 16,384 entries are counted as they are, but for those of which the places are known
-    /// (`gather`): each takes a list of its cells, of 24 bytes for each, and a step for each cell of it and of the
-    /// matrices before it. Else they are first added up into one matrix; or all but the first, where it has a third of
-    /// what the others have, or more, and all have more than 2,048 entries, which takes a step for each cell then. In
-    /// sums blocks that meet no other are shared; where the first matrix has no more than the others together, one list
-    /// of all cells is made, of at most 2^21: it takes 24 bytes for each, and as much again while it is sorted. The
-    /// layers above that one aren't read.
+    /// Where all together may pass its cut, their places are counted, and they stay or go on. At most 16 matrices are
+    /// counted as they are, but for those of which the places are known (`begin`, `gather`): each takes a list of its
+    /// cells, of 24 bytes for each, and a step for each cell of it and of the matrices before it. Else they are first
+    /// added up into one matrix; or all but the first, where it has a third of what the others have, or more, and all
+    /// have more than 2,048 entries, which takes a step for each cell then. In sums blocks that meet no other are shared;
+    /// where the first matrix has no more than the others together, one list of all cells is made, of at most 2^21: it
+    /// takes 24 bytes for each, and as much again while it is sorted. The layers above that one aren't read.
     ///
-    /// A filter for look-ups is made of the places of `m` alone, where it has from 256 to 32,768 entries: it takes 1 to
-    /// 2 bytes and some nanoseconds for each. Sums that are built here get theirs by `gather`.
+    /// No filter for look-ups is made here: matrices get theirs by `begin` or `gather`.
     ///
     /// # Errors
     ///
@@ -225,15 +223,16 @@ impl Layers {
         compact(&mut self.layers, &self.cuts, alloc)
     }
 
-    /// Chooses matrices that stand side by side and are to be added up, and makes a place for their sum; None where
-    /// nothing is due. `Compaction::run` makes the sum, without these layers and whatever lock they are behind, and
-    /// `settle` takes it over. What the layers hold stays, also on an error.
+    /// Chooses matrices that stand side by side in one of the first `depth` layers and are to be added up, and makes a
+    /// place for their sum; None where nothing is due there. `Compaction::run` makes the sum, without these layers and
+    /// whatever lock they are behind, and `settle` takes it over. What the layers hold stays, also on an error.
     ///
-    /// What `gather` would add up or give a filter is due, but two neighbours of like size in a deeper layer however
-    /// large they are, since nobody waits for their sum. Each layer has its turn, so that none is forgotten. Sums that
-    /// were made are taken over first, as by `settle`. A sum that was begun and isn't made is begun again when its
-    /// layer's turn comes, since it may have been given up: who begins the next one before the last one is made may
-    /// have the same one made twice.
+    /// In layer 1 matrices are due where they are 24 or more. In any layer all are, where it is about to pass its cut and
+    /// has at most 131,072 entries; else the last ones, from the first on that has fewer entries than those behind it
+    /// together, where these are no more; else two neighbours of like size, however large they are, since nobody waits
+    /// for their sum; else one that is to have a filter. Each layer has its turn, so that none is forgotten. A sum that was begun and isn't made is begun again when its layer's turn comes, since
+    /// it may have been given up: who begins the next one before the last one is made may have the same one made twice.
+    /// In a layer whose sum was made and not taken over nothing is due.
     ///
     /// Takes the time and memory of some pointers for each matrix of a layer, at most 32. To drop what it gives is to
     /// give it up, and does no harm, and neither does an addition that comes before the sum is taken over: where it
@@ -242,11 +241,11 @@ impl Layers {
     /// # Errors
     ///
     /// A growth was refused.
-    pub fn begin(&mut self, alloc: Global) -> Result<Option<Compaction>, AllocError>
+    pub fn begin(&mut self, alloc: Global, depth: usize) -> Result<Option<Compaction>, AllocError>
         ensures { self.new ≡ self.old }
     {
-        settle(&mut self.layers, alloc)?;
-        let Some((place, compaction)) = begin_next(&mut self.layers, self.turn, alloc)? else {
+        let begun = begin_next(&mut self.layers, &self.cuts, self.turn, depth, alloc)?;
+        let Some((place, compaction)) = begun else {
             return Ok(None);
         };
         self.turn = place + 1;

@@ -14,7 +14,7 @@ ghost use Rattle.layer_compaction.specs.Due.{numbers_of, AddUp, IsDue, part_from
 
 use crate::filters::{filtered_run, first_unfiltered};
 use crate::limits::GATHERED_RUNS;
-use crate::pairs::due_pair;
+use crate::pairs::{due_pair, due_tail};
 use crate::runs::{added_to_runs, shared_runs, sum_of_runs, with_run_between};
 use boxcar::slot::{OnceSlot, SlotRule};
 use boxcar::tag::{Names, Tag};
@@ -167,7 +167,7 @@ impl Compaction {
     pub fn run(self, alloc: Global) -> Result<(), AllocError> {
         let Compaction { inputs, place } = self;
         let sum = inputs.sum(alloc)?;
-        let run = filtered_run(alloc, sum, u64::MAX)?;
+        let run = filtered_run(alloc, sum)?;
         place.fill(run);
         Ok(())
     }
@@ -305,18 +305,25 @@ impl Due {
     }
 }
 
-// Which runs are to be added up next: the place of the first, and how many. In the first layer all, where they are
-// many. In deeper ones two neighbours of like size, however large: nobody waits for their sum. Where there are none, a
-// single one that has no filter and is to have one.
-fn due_runs(runs: &[Arc<FilteredMatrix>], is_first: bool) -> Option<(usize, usize)>
+/// Which runs are to be added up next: the place of the first, and how many. In layer 1 none, where they are fewer than
+/// `GATHERED_RUNS`. All, where the layer is about to pass its cut. Else a tail of them (`due_tail`), or two neighbours of
+/// like size, however large: nobody waits for their sum. Where there are none, a single one that has no filter and is to
+/// have one.
+pub(crate) fn due_runs(
+    runs: &[Arc<FilteredMatrix>],
+    is_first: bool,
+    is_filling: bool,
+) -> Option<(usize, usize)>
     ensures { IfSome result (λ due. due.0 + due.1 ≤ length runs.now) }
 {
-    if is_first {
-        return if runs.len() < GATHERED_RUNS {
-            None
-        } else {
-            Some((0, runs.len()))
-        };
+    if is_first && runs.len() < GATHERED_RUNS {
+        return None;
+    }
+    if is_filling && runs.len() > 1 {
+        return Some((0, runs.len()));
+    }
+    if let Some(place) = due_tail(runs) {
+        return Some((place, runs.len() - place));
     }
     if let Some(place) = due_pair(runs, u64::MAX) {
         return Some((place, 2));
@@ -325,24 +332,26 @@ fn due_runs(runs: &[Arc<FilteredMatrix>], is_first: bool) -> Option<(usize, usiz
     Some((place, 1))
 }
 
-/// What is due of a layer's runs, `due` of which a place is there already: a new place, or the same. None where nothing
-/// is due, or a sum waits to be put in the stead of its runs.
+/// What is due of a layer's runs, `due` of which a place is there already: the same place, or a new one for the sum of
+/// those that are `next`, the place of the first and their number. None where nothing is due, or a sum waits to be put
+/// in the stead of its runs.
 pub(crate) fn begun(
     alloc: Global,
     runs: &[Arc<FilteredMatrix>],
     due: &Option<Due>,
-    is_first: bool,
+    next: Option<(usize, usize)>,
     rows: u64,
     cols: u64,
 ) -> Result<Option<Begun>, AllocError>
     requires due { IfSome due.now (λ d. IsDue rows cols d (values runs.now)) }
+    requires next { IfSome next (λ n. n.0 + n.1 ≤ length runs.now) }
     requires runs { AddUp rows cols (values runs.now) }
     ensures { IfOk result (λ begun. IfSome begun (λ b. IsDue rows cols b.0 (values runs.now))) }
 {
     if let Some(due) = due {
         return due.again(alloc, runs, rows, cols);
     }
-    let Some((from, count)) = due_runs(runs, is_first) else {
+    let Some((from, count)) = next else {
         return Ok(None);
     };
     let begun = Due::new(alloc, runs, from, count, rows, cols)?;

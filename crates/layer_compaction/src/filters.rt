@@ -14,34 +14,31 @@ use hyper_matrix::Hyper;
 use std::alloc::{AllocError, Global};
 use std::sync::Arc;
 
-/// The matrix with a filter, where it has from `FEWEST_FILTERED` to `most` entries, and else without one.
-pub fn filtered_to(alloc: Global, m: Hyper, most: u64) -> Result<FilteredMatrix, AllocError>
+// The matrix with a filter, where it has `FEWEST_FILTERED` entries or more, and else without one.
+fn filtered(alloc: Global, m: Hyper) -> Result<FilteredMatrix, AllocError>
     ensures { IfOk result (λ filtered. filtered ≡ m) }
 {
-    let entries = m.entries();
-    if entries < FEWEST_FILTERED || entries > most {
+    if m.entries() < FEWEST_FILTERED {
         return Ok(FilteredMatrix::new(alloc, m));
     }
     FilteredMatrix::with_filter(alloc, m)
 }
 
-/// As `filtered_to`, as a run.
-pub fn filtered_run(alloc: Global, m: Hyper, most: u64) -> Result<Arc<FilteredMatrix>, AllocError>
+/// As `filtered`, as a run.
+pub fn filtered_run(alloc: Global, m: Hyper) -> Result<Arc<FilteredMatrix>, AllocError>
     ensures { IfOk result (λ run. arc_value run ≡ m) }
 {
-    let filtered = filtered_to(alloc, m, most)?;
+    let filtered = filtered(alloc, m)?;
     run_of(alloc, filtered)
 }
 
-/// As `filtered_run`, as the only run.
+/// A run as the only one.
 pub fn single_run(
     alloc: Global,
-    m: Hyper,
-    most: u64,
+    run: Arc<FilteredMatrix>,
 ) -> Result<Vec<Arc<FilteredMatrix>>, AllocError>
-    ensures { IfOk result (λ runs. values runs.items ≡ m ∷ []) }
+    ensures { IfOk result (λ runs. values runs.items ≡ arc_value run ∷ []) }
 {
-    let run = filtered_run(alloc, m, most)?;
     let mut runs = Vec::with_capacity(alloc, 1)?;
     runs.push(run)?;
     Ok(runs)

@@ -6,6 +6,7 @@
 //! large first one, unless they are few; and the places are counted: whether the layer keeps them or they go on, their
 //! sum isn't built. What was counted stays known as long as the same runs stand in front.
 ghost use Rattle.std.specs.Prelude.{◌≡◌, ℕ, ◌+◌, ◌<◌, ◌≤◌, ◌^◌, ◌⊎◌, IfOk, OnOk, IfSome};
+ghost use Rattle.std.specs.Arc.{arc_value};
 ghost use Rattle.std.specs.FinMap.{empty, get, len};
 ghost use Rattle.cells.specs.Bounds.{IsDimension, AreWithin};
 ghost use Rattle.hyper_matrix.specs.Cells.{built_of};
@@ -18,13 +19,13 @@ ghost use Rattle.layer_compaction.specs.Runs.{CountsPlaces};
 ghost use Rattle.layer_compaction.specs.Steps.{joined, Takes};
 ghost use Rattle.layer_compaction.specs.Due.{IsDue};
 
-use crate::due::{Compaction, Due, begun, copied};
-use crate::filters::{first_unfiltered, single_run, with_filter_at};
-use crate::limits::{GATHERED_RUNS, KEPT_RUNS, MAX_COUNTED, MAX_LISTED, MAX_PAIRED, MAX_RUNS};
+use crate::due::{Compaction, Due, begun, copied, due_runs};
+use crate::filters::{filtered_run, first_unfiltered, single_run, with_filter_at};
+use crate::limits::{GATHERED_RUNS, KEPT_RUNS, MAX_COUNTED, MAX_PAIRED, MAX_RUNS};
 use crate::lists::{add_runs, entries_bound, push_cells_of};
 use crate::pairs::{due_pair, kept_in_front, with_pair_added, with_rest_added};
 use crate::runs::{
-    added_to_runs, count_in, entries_in, places_to, push_runs, row_counts_in, shared_runs,
+    added_to_runs, count_in, entries_in, places_to, push_runs, row_counts_in, run_of, shared_runs,
 };
 use cells::Cell;
 use filtered_matrix::FilteredMatrix;
@@ -102,13 +103,22 @@ impl Layer {
         }
     }
 
-    /// The layer of one matrix, which gets a filter where it has from `FEWEST_FILTERED` entries to `most_filtered`.
-    pub fn of(alloc: Global, m: Hyper, most_filtered: u64) -> Result<Layer, AllocError>
+    /// The layer of one matrix, without a filter: an addition waits for it.
+    pub fn of(alloc: Global, m: Hyper) -> Result<Layer, AllocError>
         ensures { IfOk result (λ layer. layer ≡ m) }
     {
+        let run = run_of(alloc, FilteredMatrix::new(alloc, m))?;
+        Layer::of_run(alloc, run)
+    }
+
+    // The layer of one run.
+    fn of_run(alloc: Global, run: Arc<FilteredMatrix>) -> Result<Layer, AllocError>
+        ensures { IfOk result (λ layer. layer ≡ arc_value run) }
+    {
+        let m = run.matrix();
         let (rows, cols) = m.dims();
         let (total, most) = (m.total(), m.entries());
-        let runs = single_run(alloc, m, most_filtered)?;
+        let runs = single_run(alloc, run)?;
         Ok(Layer {
             rows,
             cols,
@@ -283,14 +293,13 @@ impl Layer {
         }
     }
 
-    // The same layer in one or two runs (`kept_in_front`), or as it is, where it has at most `KEPT_RUNS` that may be
-    // large together: to walk through so few takes less time than to add them up.
+    // The same layer in one or two runs (`kept_in_front`), or as it is, where it has at most `KEPT_RUNS`: to walk through
+    // so few takes less time than to add them up.
     fn settled(self, alloc: Global) -> Result<Layer, AllocError>
         ensures { IfOk result (λ layer. layer ≡ self) }
     {
-        let stays = self.runs.len() <= KEPT_RUNS && self.most > MAX_LISTED;
         let kept = kept_in_front(&self.runs);
-        if stays || self.runs.len() <= kept + 1 {
+        if self.runs.len() <= KEPT_RUNS || self.runs.len() <= kept + 1 {
             return Ok(self);
         }
         let runs = with_rest_added(&self.runs, kept, alloc, self.rows, self.cols)?;
@@ -316,8 +325,8 @@ impl Layer {
 
     /// Takes in what is carried to this layer, if both together have at most the cut of entries. That is judged
     /// exactly: by a bound of the entries, and where that is more than the cut, or there are more than `MAX_RUNS` runs,
-    /// by a count of the places. At most `KEPT_RUNS` runs of more than `MAX_LISTED` entries are counted as they are,
-    /// from where the last count ended; else all runs but a large first one are added up before.
+    /// by a count of the places. At most `KEPT_RUNS` runs are counted as they are, from where the last count ended; else
+    /// all runs but a large first one are added up before.
     pub fn taking(&self, alloc: Global, m: Layer, cut: u64) -> Result<Step, AllocError>
         requires rows { m.rows ≡ self.now.rows }
         requires cols { m.cols ≡ self.now.cols }
@@ -350,7 +359,8 @@ impl Layer {
             return Ok(None);
         }
         let sum = self.sum(alloc)?;
-        let layer = Layer::of(alloc, sum, u64::MAX)?;
+        let run = filtered_run(alloc, sum)?;
+        let layer = Layer::of_run(alloc, run)?;
         Ok(Some(layer))
     }
 
@@ -380,10 +390,22 @@ impl Layer {
         Ok(Some(self.with_runs(runs, self.counted, self.places)))
     }
 
+    // Whether the layer is about to pass its cut, isn't large, and much of it isn't counted: the bound is more than three
+    // quarters of the cut, and the runs that aren't counted have more than an eighth of it. Once all are added up, what
+    // is left to be counted while an addition waits is little.
+    fn is_filling(&self, cut: u64) -> bool {
+        self.most <= MAX_COUNTED
+            && self.most > cut - cut / 4
+            && entries_bound(&self.runs[self.counted..]) > cut / 8
+    }
+
     /// The same layer with a place for the sum of the runs that are due, and their compaction; `is_first` tells whether
-    /// it is layer 1. There all runs are due where they are `GATHERED_RUNS` or more. In a deeper layer the first two
-    /// neighbours are of which the earlier one has fewer than `PAIR_RATIO` times as many entries as the later one, or
-    /// else the first run that has no filter and is to have one.
+    /// it is layer 1, and u64::MAX stands for no cut. In layer 1 none are due as long as there are fewer than
+    /// `GATHERED_RUNS`. All are due where a layer that isn't large is about to pass its cut, so that the addition that
+    /// does has few places to count. Else all from the first run on that has fewer entries than those behind it
+    /// together, where these are at most `MAX_TAIL`; or else the first two neighbours of which the earlier one has fewer
+    /// than `PAIR_RATIO` times as many entries as the later one; or else the first run that has no filter and is to have
+    /// one.
     ///
     /// Where runs were begun before and their place is still empty, it is a compaction of the same runs for the same
     /// place: the earlier one may have been given up. None where nothing is due, or where a sum waits to be taken over
@@ -394,11 +416,13 @@ impl Layer {
         &self,
         alloc: Global,
         is_first: bool,
+        cut: u64,
     ) -> Result<Option<(Layer, Compaction)>, AllocError>
         ensures { IfOk result (λ begun. IfSome begun (λ b. b.0 ≡ self.now)) }
     {
+        let next = due_runs(&self.runs, is_first, self.is_filling(cut));
         let Some((due, compaction)) = begun(
-            alloc, &self.runs, &self.due, is_first, self.rows, self.cols,
+            alloc, &self.runs, &self.due, next, self.rows, self.cols,
         )?
         else {
             return Ok(None);

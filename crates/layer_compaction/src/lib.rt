@@ -25,6 +25,5 @@ mod walk;
 
 pub use due::Compaction;
 pub use layer::{Layer, Step};
-pub use limits::FILTERED_AT_ONCE;
 pub use lists::merged;
 pub use lookup::plus;

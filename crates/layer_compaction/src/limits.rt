@@ -4,12 +4,14 @@
 /// moves each of their cells five times at most.
 pub const MAX_RUNS: usize = 32;
 
-/// The most matrices that go on as they are where a layer passes its cut with more than `MAX_LISTED` entries. Their
-/// places are counted by walks through all of them.
+/// The most matrices that go on as they are where a layer passes its cut. Their places are counted by walks through all
+/// of them.
 pub const KEPT_RUNS: usize = 16;
 
-/// The fewest runs of layer 1 that are added up, all at once (`Layer::gathered`, `Layer::begun`).
-pub const GATHERED_RUNS: usize = 8;
+/// The fewest runs of layer 1 that are added up at once (`Layer::gathered`, `Layer::begun`). With fewer each of its cells
+/// is written more often, and with more an addition meets more than `KEPT_RUNS` sooner, where nobody was in time to add
+/// them up.
+pub const GATHERED_RUNS: usize = 24;
 
 /// The most entries of two runs together that `Layer::paired` adds up: about a millisecond, for which an addition
 /// waits. For what `Layer::begun` gives nobody waits, so that has no such bound.
@@ -18,18 +20,18 @@ pub const MAX_PAIRED: u64 = 28_000;
 /// The most entries of a layer, as its bound tells them, whose places are counted before it passes its cut.
 pub const MAX_COUNTED: u64 = 1 << 17;
 
-/// The fewest entries of a matrix that gets a filter of its places. A bisection in fewer is short, and so small a
-/// matrix is soon added up with others. Only time rests on it.
-pub const FEWEST_FILTERED: u64 = 256;
-
-/// The most entries of a matrix that gets its filter when it is put into the first layer: a filter takes some
-/// nanoseconds for each entry, and the addition waits for it. A matrix with more gets it later, by `Layer::filtered`.
+/// The fewest entries of a matrix that gets a filter of its places, once it was added up. A bisection in fewer is short,
+/// and so small a matrix is soon added up with others: the filters of all would take a third of the time of their sums.
 /// Only time rests on it.
-pub const FILTERED_AT_ONCE: u64 = 1 << 15;
+pub const FEWEST_FILTERED: u64 = 16_384;
 
 /// Two matrices side by side are added up where the earlier one has fewer entries than so many times the later one. So
 /// a cell is written anew with matrices that are not much smaller than its own, and a layer ends with few matrices.
 pub const PAIR_RATIO: u64 = 3;
+
+/// The most entries of runs that `Layer::begun` gives together, but for two neighbours, which may have any number: while
+/// one thread adds up so many, the others of its layers wait.
+pub const MAX_TAIL: u64 = 1 << 17;
 
 /// Where the matrices before another have, for each of them, more than so many times its entries, each of its cells is
 /// looked up in them, and else all are walked through, to tell how many places are new: a look-up takes as long as so

@@ -1,14 +1,14 @@
-//! Two runs of a layer that stand side by side, added up while the others stay as they are.
+//! Some runs of a layer that stand side by side, added up while the others stay as they are: two neighbours, or all from
+//! a place on.
 //!
-//! Done again and again, it leaves few runs, each several times as large as the next, in the manner of a binary
-//! counter.
+//! Done again and again, it leaves few runs, each larger than the next, in the manner of a binary counter.
 ghost use Rattle.std.specs.Prelude.{◌≡◌, ◌+◌, ◌<◌, ◌≤◌, ◌^◌, length, take, IfOk, IfSome};
 ghost use Rattle.cells.specs.Bounds.{IsDimension};
 ghost use Rattle.hyper_matrix.specs.Counts.{total};
 ghost use Rattle.layer_compaction.specs.Shared.{content, values, all_counts, HaveDims};
 
 use crate::filters::filtered_run;
-use crate::limits::{FEWEST_KEPT, PAIR_RATIO};
+use crate::limits::{FEWEST_KEPT, MAX_TAIL, PAIR_RATIO};
 use crate::lists::entries_bound;
 use crate::runs::{added_to_runs, run_of, shared_runs, sum_of_runs, with_run_between};
 use filtered_matrix::FilteredMatrix;
@@ -35,6 +35,23 @@ pub fn due_pair(runs: &[Arc<FilteredMatrix>], most: u64) -> Option<usize>
     None
 }
 
+/// The place of the first run that has fewer entries than all behind it together, where these are at most `MAX_TAIL`
+/// with it: from there on all are to be added up. Only time rests on which it is.
+pub fn due_tail(runs: &[Arc<FilteredMatrix>]) -> Option<usize>
+    ensures { IfSome result (λ place. place + 1 < length runs.now) }
+{
+    let mut tail = entries_bound(runs);
+    for place in 0..runs.len() {
+        let entries = runs[place].matrix().entries();
+        let behind = tail.saturating_sub(entries);
+        if place + 1 < runs.len() && entries < behind && tail <= MAX_TAIL {
+            return Some(place);
+        }
+        tail = behind;
+    }
+    None
+}
+
 /// The runs with the one at a place and the next added up, in their stead, with a filter where the sum isn't too small
 /// for one. All others are shared.
 pub fn with_pair_added(
@@ -57,7 +74,7 @@ pub fn with_pair_added(
     let (before, from) = runs.split_at(place);
     let (pair, behind) = from.split_at(2);
     let sum = sum_of_runs(pair, alloc, rows, cols)?;
-    let run = filtered_run(alloc, sum, u64::MAX)?;
+    let run = filtered_run(alloc, sum)?;
     let after = with_run_between(alloc, before, run, behind)?;
     Ok(after)
 }

@@ -34,6 +34,9 @@ const COMPACTED: Case = Case {
 // Cuts that the streams pass, and one that they don't, so that each part stands in the first layer.
 const PASSED: &[u64] = &[10, 60];
 
+// A cut that they pass so that many parts stand in the last layer.
+const PASSED_LATER: &[u64] = &[20];
+
 const NOT_PASSED: &[u64] = &[1_000];
 
 fn setup(cuts: &[u64]) -> Result<Setup, SetupFault> {
@@ -54,7 +57,7 @@ const COMPACTED_LATER: Case = Case {
 
 #[test]
 fn compactions_after_puts_leave_nothing_due(rt: HostRuntime) -> Result<(), Fail> {
-    play(&rt, rt.alloc(), setup(NOT_PASSED)?, &COMPACTED_LATER);
+    play(&rt, rt.alloc(), setup(PASSED_LATER)?, &COMPACTED_LATER);
     Ok(())
 }
 
@@ -93,7 +96,7 @@ pub fn compact_after_puts<N: Named, H: Ledger, R: Wait + Abort + Eprint>(
     );
     assert!(rt; same(rt, &found, &(true, true)));
     expect_all(rt, alloc, engine);
-    // Eight parts side by side in the first layer are due, and puts leave up to 32 there.
+    // Puts leave up to 32 matrices side by side in the last layer, and any that is smaller than those behind it is due.
     expect_settled(rt, alloc, engine, 1);
     expect_all(rt, alloc, engine);
 }
@@ -195,7 +198,7 @@ fn compact_until<N: Named, H: Ledger, R: Wait>(
 fn compact_each<N: Named, H: Ledger, R: Wait>(rt: &R, alloc: Global, engine: &Engine<N, H>) {
     let shards = engine.setup().shards();
     for s in 0..shards {
-        let _ = engine.compact(rt, alloc, s);
+        let _ = engine.compact(rt, alloc, s, usize::MAX);
     }
 }
 
@@ -212,7 +215,7 @@ fn compactions_of<N: Named, H: Ledger, R: Wait>(
     requires { s < N.setup.shards }
 {
     for made in 0..MAX_COMPACTIONS {
-        if !engine.compact(rt, alloc, s) {
+        if !engine.compact(rt, alloc, s, usize::MAX) {
             return Some(made);
         }
     }

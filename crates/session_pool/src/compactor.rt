@@ -32,14 +32,15 @@ pub(crate) fn start_compactor<
     drop(started);
 }
 
-// Goes over all shards on each message, again and again until nothing is due in any, and ends when all senders are
-// gone.
+// Compacts on each message until nothing is due in any shard, and ends when all senders are gone. Layer 1 of all shards
+// comes first, and of what is due in the layers behind it one sum at a time, which may take as long as many puts.
 fn compact_when_woken<N: Named, H: Ledger, R: Wait>(
     rt: &R,
     alloc: Global,
     engine: &Engine<N, H>,
     woken: Receiver<()>,
 ) {
+    let mut turn = 0;
     let mut is_due = false;
     for _ in rt.forever() {
         let goes_on = if is_due {
@@ -50,12 +51,16 @@ fn compact_when_woken<N: Named, H: Ledger, R: Wait>(
         if !goes_on {
             break;
         }
-        is_due = compact_each(rt, alloc, engine);
+        is_due = compact_first_layers(rt, alloc, engine);
+        if let Some(s) = compact_next(rt, alloc, engine, turn) {
+            turn = s.saturating_add(1);
+            is_due = true;
+        }
     }
 }
 
-// Goes over all shards once, and answers whether a compaction was made in any.
-fn compact_each<N: Named, H: Ledger, R: Wait>(
+// Makes what is due in layer 1 of each shard, and answers whether anything was in any.
+fn compact_first_layers<N: Named, H: Ledger, R: Wait>(
     rt: &R,
     alloc: Global,
     engine: &Engine<N, H>,
@@ -63,7 +68,38 @@ fn compact_each<N: Named, H: Ledger, R: Wait>(
     let mut is_any = false;
     let shards = engine.setup().shards();
     for s in 0..shards {
-        is_any |= engine.compact(rt, alloc, s);
+        is_any |= engine.compact(rt, alloc, s, 1);
     }
     is_any
+}
+
+// Makes what is due in whatever layer of the first shard that has something, from one shard up to another, and answers
+// which shard that is.
+fn compact_first<N: Named, H: Ledger, R: Wait>(
+    rt: &R,
+    alloc: Global,
+    engine: &Engine<N, H>,
+    from: u64,
+    until: u64,
+) -> Option<u64> {
+    let shards = engine.setup().shards();
+    for s in from..until.min(shards) {
+        if engine.compact(rt, alloc, s, usize::MAX) {
+            return Some(s);
+        }
+    }
+    None
+}
+
+// The same, from the shard on whose turn it is, and then up to that one.
+fn compact_next<N: Named, H: Ledger, R: Wait>(
+    rt: &R,
+    alloc: Global,
+    engine: &Engine<N, H>,
+    turn: u64,
+) -> Option<u64> {
+    if let Some(s) = compact_first(rt, alloc, engine, turn, u64::MAX) {
+        return Some(s);
+    }
+    compact_first(rt, alloc, engine, 0, turn)
 }
