@@ -7,6 +7,7 @@
 #![tactic(auto)]
 
 mod book;
+mod compacting;
 mod examples;
 mod folding;
 mod frames;
@@ -30,7 +31,15 @@ use std::{env, io};
 
 /// The scenarios, in the order in which they are run.
 static NAMES: &[&str] = &[
-    "plain", "reads", "folding", "book", "locked", "frames", "session", "snapshot",
+    "plain",
+    "reads",
+    "folding",
+    "book",
+    "compacting",
+    "locked",
+    "frames",
+    "session",
+    "snapshot",
 ];
 
 fn main(rt: HostRuntime) -> ExitCode {
@@ -89,6 +98,7 @@ fn run_scenario<R: Wait + Print + RandomSource + Files>(
         "reads" => reads::run(rt, alloc),
         "folding" => folding::run(rt, alloc),
         "book" => book::run(rt, alloc),
+        "compacting" => compacting::run(rt, alloc),
         "locked" => locked::run(rt, alloc),
         "frames" => frames::run(rt, alloc),
         "session" => session::run(rt, alloc),
