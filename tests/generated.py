@@ -8,8 +8,9 @@ spelled from docs/FORMATS.md. Frames are mostly puts, as texts and as cells, wit
 totals at the limit, full books, texts with faults and bad headers; they are cut anywhere, or end too early. Between two
 starts a server's snapshot is folded. Of clients that put at once some share their cells, and some have cells of their
 own and read them back. It prints a line for each check that fails and at the end `N passed, M failed`;
-the status is 1 where one fails. With `--long` there are ten times as many sessions and puts. Linux, and nothing but
-Python's own library, the client of clients/python and the server of tests/server.py.
+the status is 1 where one fails. With `--long` there are ten times as many sessions and puts, and clients with cells of
+their own put for a minute or more. Linux, and nothing but Python's own library, the client of clients/python and the
+server of tests/server.py.
 """
 import os
 import random
@@ -380,8 +381,10 @@ def clients_agree_with_a_model(factor):
     compare_saved(path, batches)
 
 
-# Several connections each put into columns of their own, so that each knows what its cells have.
+# Several connections each put into columns of their own, so that each knows what its cells have; so many times as many
+# puts take a minute or more.
 OWN = {"rows": 3000, "columns": 8, "clients": 3, "puts": 250, "cells": 120}
+FOR_A_MINUTE = 90
 OWN_WORDS = ["--rows", str(OWN["rows"]), "--cols", str(OWN["columns"] * OWN["clients"]), "--cuts", "200,1500,12000",
              "--shards", "3", "--workers", "5"]  # fmt: skip
 
@@ -399,25 +402,35 @@ def ask_cell(link, stream, row, col):
 
 def put_and_read_back(link, number, puts, sums, faults):
     """Puts into columns of its own, and asks for a cell of each batch once that was answered, and for one of before."""
-    draw, stream = random.Random(f"own {number}"), link.makefile("rb")
+    draw, stream, places = random.Random(f"own {number}"), link.makefile("rb"), []
     columns = [number * OWN["columns"] + k for k in range(OWN["columns"])]
     for batch in range(puts):
         cells = [(draw.randrange(OWN["rows"]), draw.choice(columns), draw.randrange(1, 9)) for _ in range(OWN["cells"])]
         kind, _ = ask(link, stream, put_cells_frame(number, batch, cells))
         for row, col, count in cells:
             sums[row, col] = sums.get((row, col), 0) + count
-        asked = [cells[0][:2], draw.choice(list(sums))]
+        places.append(cells[0][:2])
+        asked = [places[-1], draw.choice(places)]
         found = [ask_cell(link, stream, *place) for place in asked]
         if kind != 0x81 or found != [sums[place] for place in asked]:
             faults.append((number, batch, kind, found))
 
 
+def exported_entries(link, stream):
+    """The number of entries in an export of all, from its size line."""
+    kind, body = ask(link, stream, EXPORT)
+    return int(body.split(b"\n", 2)[1].split()[2]) if kind == 0x85 else -1
+
+
 def watch_cells(link, ended, faults):
-    """Asks for the same cells again and again: none is ever less than before."""
+    """Asks for the same cells and for an export again and again: no cell, and no number of entries, is ever less."""
     stream = link.makefile("rb")
     places = [(row, col) for row in range(0, OWN["rows"], 500) for col in range(OWN["columns"] * OWN["clients"])]
-    last = {}
+    last, entries = {}, 0
     while not ended.is_set():
+        before, entries = entries, exported_entries(link, stream)
+        if entries < before:
+            faults.append(("entries", before, entries))
         for place in places:
             count = ask_cell(link, stream, *place)
             if count is None or count < last.get(place, 0):
@@ -455,7 +468,7 @@ def main():
     with tempfile.TemporaryDirectory() as servers.FOLDER:
         sessions_are_answered_alike(60 * factor)
         clients_agree_with_a_model(factor)
-        own_puts_are_read_back(factor)
+        own_puts_are_read_back(1 if factor == 1 else FOR_A_MINUTE)
     print(f"{servers.passed} passed, {servers.failed} failed")
     return 1 if servers.failed else 0
 
