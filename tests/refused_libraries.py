@@ -54,8 +54,8 @@ CELLS = ["row 0 column 0 count 5", "row 1 column 0 count 4"]
 KEPT = "put kept 0 total 9"
 EXPORT = Step([["export refused"]], ["export of entries 2", *CELLS])
 LIST = Step([["list refused"]], ["list of batches 1"])
-# A shard of three batches with the counts 1, 2 and 3 in row 0.
-COMPACTED = "shard 0 batches 3 total 18"
+# A shard of five batches, each with the counts 1, 2 and 3 in row 0.
+COMPACTED = "shard 0 batches 5 total 30"
 
 
 def listed(folded, batches, base):
@@ -125,7 +125,7 @@ SCENARIOS = {
     "compacting": [
         Step([["begin refused", COMPACTED]], []),
         Step([["run refused", COMPACTED]], []),
-        Step([["settle refused", COMPACTED]], ["settled", COMPACTED, "row 0 entries 3 total 18"]),
+        Step([["settle refused", COMPACTED]], ["settled", COMPACTED, "row 0 entries 3 total 30"]),
     ],
     "locked": [
         Step([["open refused", *NOTHING]], []),

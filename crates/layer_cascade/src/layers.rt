@@ -155,13 +155,12 @@ impl Layers {
     /// that the dimensions are equal and that both totals together stay below 2^64.
     ///
     /// Where `m` is put beside the matrices of a layer, that takes the time of a pointer for each of these, at most 32.
-    /// Where all together may pass its cut, their places are counted, and they stay or go on. At most 16 matrices are
-    /// counted as they are, but for those of which the places are known (`begin`, `gather`): each takes a list of its
-    /// cells, of 24 bytes for each, and a step for each cell of it and of the matrices before it. Else they are first
-    /// added up into one matrix; or all but the first, where it has a third of what the others have, or more, and all
-    /// have more than 2,048 entries, which takes a step for each cell then. In sums blocks that meet no other are shared;
-    /// where the first matrix has no more than the others together, one list of all cells is made, of at most 2^21: it
-    /// takes 24 bytes for each, and as much again while it is sorted. The layers above that one aren't read.
+    /// Where all together may pass its cut, their places are counted, and they stay or go on. Those of which the places
+    /// aren't known yet (`begin`, `gather`), but for a large first one, are added up before where they have at most 16,384
+    /// cells together; more are counted by one list of their cells and a walk through each of the others. Where there are
+    /// more than 32, all are added up, or all but a large first one: one that has a third of what the others have, or more,
+    /// where all have more than 2,048 entries. A list takes 24 bytes for each of its cells, at most 2^21, and at most as
+    /// much again while it is sorted. In sums blocks that meet no other are shared. The layers above that one aren't read.
     ///
     /// No filter for look-ups is made here: matrices get theirs by `begin` or `gather`.
     ///
@@ -228,11 +227,12 @@ impl Layers {
     /// whatever lock they are behind, and `settle` takes it over. What the layers hold stays, also on an error.
     ///
     /// In layer 1 matrices are due where they are 24 or more. In any layer all are, where it is about to pass its cut and
-    /// has at most 131,072 entries; else the last ones, from the first on that has fewer entries than those behind it
-    /// together, where these are no more; else two neighbours of like size, however large they are, since nobody waits
-    /// for their sum; else one that is to have a filter. Each layer has its turn, so that none is forgotten. A sum that was begun and isn't made is begun again when its layer's turn comes, since
-    /// it may have been given up: who begins the next one before the last one is made may have the same one made twice.
-    /// In a layer whose sum was made and not taken over nothing is due.
+    /// has at most 131,072 entries; else the last ones, from the first on of which those behind it have more than three
+    /// times the entries, where all these are no more than 131,072; else two neighbours of like size with more than that,
+    /// however large they are, since nobody waits for their sum; else one that is to have a filter. Each layer has its
+    /// turn, so that none is forgotten. A sum that was begun and isn't made is begun again when its layer's turn comes,
+    /// since it may have been given up: who begins the next one before the last one is made may have the same one made
+    /// twice. In a layer whose sum was made and not taken over nothing is due.
     ///
     /// Takes the time and memory of some pointers for each matrix of a layer, at most 32. To drop what it gives is to
     /// give it up, and does no harm, and neither does an addition that comes before the sum is taken over: where it

@@ -1,15 +1,21 @@
 -- How many places the first runs of a layer have, which is kept beside the runs.
-use Rattle.std.proofs.Common.{◌≡◌, ℕ, ◌+◌, ◌<◌, ◌≤◌, ◌^◌, List, ◌++◌, length, take, drop, get_or, sym, ◌∙◌, ap, arith}
+use Rattle.std.proofs.Common.{◌≡◌, ℕ, ◌+◌, ◌<◌, ◌≤◌, ◌^◌, List, ◌++◌, length, map, take, drop, get_or, sym, ◌∙◌, ap}
+use Rattle.std.proofs.Common.{arith, append_assoc, length-append}
 use Rattle.std.specs.declared.sync.Arc.{Arc}
 use Rattle.std.specs.Arc.{arc_value}
 use Rattle.std.specs.FinMap.{len, len-empty, entries}
+use Rattle.cells.specs.declared.cell.Cell.{Cell}
+use Rattle.cells.specs.Order.{Rise}
 use Rattle.std.proofs.lemmas.List.{take-append-drop, take-append-le, take-map, length-take, length-map}
+use Rattle.hyper_matrix.specs.Cells.{built_of, entry_of}
 use Rattle.hyper_matrix.specs.Counts.{place_cmp, ewise_add}
 use Rattle.hyper_matrix.specs.Matrix.{Matrix}
 use Rattle.hyper_matrix.proofs.CountLaws.{ewise_add_comm}
+use Rattle.hyper_rows.proofs.PlaceOrderLaws.{sorted_rising}
+use Rattle.hyper_rows.proofs.SortedListLaws.{built-in_order, entries-in_order}
 use Rattle.layer_compaction.specs.Shared.{content, values, all_counts}
 use Rattle.layer_compaction.specs.Runs.{CountsPlaces, count_new}
-use Rattle.layer_compaction.proofs.LayerLemmas.{sum_more}
+use Rattle.layer_compaction.proofs.LayerLemmas.{sum_more, take-front}
 use Rattle.layer_compaction.proofs.RunLemmas.{len-ewise_add, len-ewise_add-le, content-parts, counts-take}
 
 -- nothing is counted
@@ -87,3 +93,35 @@ module _ {Z : Type 0} (runs : List (Arc Matrix Z)) (i : ℕ) (item : Arc Matrix 
     within = omega (arith, h, length-map runs arc_value);
     places_are = places_more counts.places_are;
   }
+
+-- the places with those of several runs more
+module _ {Z : Type 0} (runs known behind before rest : List (Arc Matrix Z)) (cut : runs ≡ known ++ behind)
+    (cut_again : known ≡ before ++ rest) (k n places new : ℕ) (k_is : k ≡ length before) (n_is : n ≡ length known)
+    (told : new ≡ count_new (content (all_counts (values before))) (entries (content (all_counts (values rest))))) where
+  first_counts : (i : ℕ) (a b : List (Arc Matrix Z)) → runs ≡ a ++ b → i ≡ length a →
+      content (take i (all_counts (values runs))) ≡ content (all_counts (values a))
+  first_counts i a b is size = ap content (sym (counts-take i runs))
+      ∙ ap (λ l. content (all_counts (values l))) (take-front i runs a b is size)
+
+  pub counts_together : CountsPlaces k places (values runs) → CountsPlaces n (places + new) (values runs)
+  counts_together counts =
+      let left = content (all_counts (values before)) in
+      let all_before = cut ∙ ap (λ l. l ++ behind) cut_again ∙ append_assoc before rest behind in
+      record {
+        within = omega (arith, n_is, ap length cut, length-append known behind, length-map runs arc_value);
+        places_are = omega (
+          arith,
+          counts.places_are,
+          ap len (first_counts k before (rest ++ behind) all_before k_is),
+          told,
+          len-ewise_add left (content (all_counts (values rest))),
+          ap len (content-parts known before rest cut_again),
+          ap len (first_counts n known behind cut n_is),
+        );
+      }
+
+-- the cells of a list in order are the entries of what it builds
+pub entries-rising : (cells : List Cell) → Rise cells → entries (built_of cells) ≡ map entry_of cells
+entries-rising cells rises =
+    let sorted = sorted_rising cells rises in
+    ap entries (built-in_order (map entry_of cells) sorted) ∙ entries-in_order (map entry_of cells) sorted

@@ -4,7 +4,7 @@ use Rattle.std.proofs.Common.{get_or, sym, ◌∙◌, ap, subst, refl, arith, ap
 use Rattle.std.specs.declared.sync.Arc.{Arc}
 use Rattle.std.specs.Arc.{arc_value}
 use Rattle.std.specs.FinMap.{empty}
-use Rattle.std.proofs.lemmas.List.{take_more, length-map, map-append}
+use Rattle.std.proofs.lemmas.List.{take_more, take_all, take-append-le, length-map, map-append}
 use Rattle.hyper_matrix.specs.Counts.{Counts, ewise_add, total}
 use Rattle.hyper_matrix.specs.Matrix.{Matrix, matrix}
 use Rattle.hyper_matrix.proofs.CountLaws.{ewise_add_comm, ewise_add_assoc, ewise_add-empty, total-ewise_add, total-empty}
@@ -17,6 +17,10 @@ pub content-append : (a b : List Counts) → content (a ++ b) ≡ ewise_add (con
 content-append [] b = sym (empty-ewise_add (content b))
 content-append (layer ∷ a) b = ap (ewise_add layer) (content-append a b)
     ∙ sym (ewise_add_assoc layer (content a) (content b))
+
+-- the first part of a list
+pub take-front : {X : Type 0} (n : ℕ) (l a b : List X) → l ≡ a ++ b → n ≡ length a → take n l ≡ a
+take-front n l a b is size = ap (take n) is ∙ take-append-le n a b (omega (arith, size)) ∙ take_all n a (omega (arith, size))
 
 -- one layer more
 pub content-more : (layers : List Counts) (i : ℕ) (d : Counts) → i < length layers →

@@ -1,5 +1,6 @@
 -- Two runs of a layer that are added up while the others stay.
-use Rattle.std.proofs.Common.{◌≡◌, ℕ, zero, suc, ◌<◌, List, [], ◌∷◌, ◌++◌, length, get_or, sym, ◌∙◌, ap, subst, arith}
+use Rattle.std.proofs.Common.{◌≡◌, ℕ, zero, suc, ◌<◌, List, [], ◌∷◌, ◌++◌, length, take, get_or, sym, ◌∙◌}
+use Rattle.std.proofs.Common.{ap, subst, arith}
 use Rattle.std.proofs.Math.ListN.{set}
 use Rattle.std.specs.declared.sync.Arc.{Arc}
 use Rattle.std.specs.Arc.{arc_value}
@@ -8,7 +9,7 @@ use Rattle.hyper_matrix.specs.Counts.{ewise_add}
 use Rattle.hyper_matrix.specs.Matrix.{Matrix, matrix}
 use Rattle.hyper_matrix.proofs.CountLaws.{ewise_add-empty}
 use Rattle.layer_compaction.specs.Shared.{content, values, all_counts, HaveDims}
-use Rattle.layer_compaction.proofs.LayerLemmas.{content-append, dims-append, pushed, value_at}
+use Rattle.layer_compaction.proofs.LayerLemmas.{content-append, dims-append, pushed, take-front, value_at}
 use Rattle.layer_compaction.proofs.RunLemmas.{content-parts, have_parts}
 
 pub content-both : (a b : List Matrix) →
@@ -46,6 +47,12 @@ module _ {Z : Type 0} (runs front rest : List (Arc Matrix Z)) (cut : runs ≡ fr
   values-settled : values all ≡ values front ++ m ∷ []
   values-settled = pushed first all run push ∙ ap (λ (x : Matrix). values first ++ x ∷ []) run_is
       ∙ ap (λ l. l ++ m ∷ []) shared
+
+  pub before-settled : (n : ℕ) → n ≡ length front → take n (values all) ≡ take n (values runs)
+  before-settled n size =
+      let fits : n ≡ length (values front) = omega (arith, size, length-map front arc_value) in
+      take-front n (values all) (values front) (m ∷ []) values-settled fits
+      ∙ sym (take-front n (values runs) (values front) (values rest) (ap values cut ∙ map-append arc_value front rest) fits)
 
   pub content-settled : content (all_counts (values all)) ≡ content (all_counts (values runs))
   content-settled =

@@ -13,7 +13,7 @@ ghost use Rattle.layer_compaction.specs.Runs.{CountsPlaces};
 ghost use Rattle.layer_compaction.specs.Due.{numbers_of, AddUp, IsDue, part_from, with_one};
 
 use crate::filters::{filtered_run, first_unfiltered};
-use crate::limits::GATHERED_RUNS;
+use crate::limits::{GATHERED_RUNS, MAX_TAIL};
 use crate::pairs::{due_pair, due_tail};
 use crate::runs::{added_to_runs, shared_runs, sum_of_runs, with_run_between};
 use boxcar::slot::{OnceSlot, SlotRule};
@@ -307,8 +307,8 @@ impl Due {
 
 /// Which runs are to be added up next: the place of the first, and how many. In layer 1 none, where they are fewer than
 /// `GATHERED_RUNS`. All, where the layer is about to pass its cut. Else a tail of them (`due_tail`), or two neighbours of
-/// like size, however large: nobody waits for their sum. Where there are none, a single one that has no filter and is to
-/// have one.
+/// like size that are too large for that: nobody waits for their sum. Where there are none, a single one that has no
+/// filter and is to have one.
 pub(crate) fn due_runs(
     runs: &[Arc<FilteredMatrix>],
     is_first: bool,
@@ -325,7 +325,7 @@ pub(crate) fn due_runs(
     if let Some(place) = due_tail(runs) {
         return Some((place, runs.len() - place));
     }
-    if let Some(place) = due_pair(runs, u64::MAX) {
+    if let Some(place) = due_pair(runs, MAX_TAIL, u64::MAX) {
         return Some((place, 2));
     }
     let place = first_unfiltered(runs)?;

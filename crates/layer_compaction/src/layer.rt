@@ -21,7 +21,7 @@ ghost use Rattle.layer_compaction.specs.Due.{IsDue};
 
 use crate::due::{Compaction, Due, begun, copied, due_runs};
 use crate::filters::{filtered_run, first_unfiltered, single_run, with_filter_at};
-use crate::limits::{GATHERED_RUNS, KEPT_RUNS, MAX_COUNTED, MAX_PAIRED, MAX_RUNS};
+use crate::limits::{GATHERED_RUNS, MAX_COUNTED, MAX_LISTED, MAX_PAIRED, MAX_RUNS};
 use crate::lists::{add_runs, entries_bound, push_cells_of};
 use crate::pairs::{due_pair, kept_in_front, with_pair_added, with_rest_added};
 use crate::runs::{
@@ -293,17 +293,24 @@ impl Layer {
         }
     }
 
-    // The same layer in one or two runs (`kept_in_front`), or as it is, where it has at most `KEPT_RUNS`: to walk through
-    // so few takes less time than to add them up.
+    // The same layer with the runs added up whose places aren't known, but for a large first one (`kept_in_front`), where
+    // they have few cells: they are listed to be counted, and the layer behind has fewer runs then. Where it has more than
+    // `MAX_RUNS`, all but a large first one are, however long they are.
     fn settled(self, alloc: Global) -> Result<Layer, AllocError>
         ensures { IfOk result (λ layer. layer ≡ self) }
     {
         let kept = kept_in_front(&self.runs);
-        if self.runs.len() <= KEPT_RUNS || self.runs.len() <= kept + 1 {
+        if self.runs.len() > MAX_RUNS {
+            let runs = with_rest_added(&self.runs, kept, alloc, self.rows, self.cols)?;
+            return Ok(self.with_runs(runs, 0, 0));
+        }
+        let from = self.counted.max(kept);
+        let rest = &self.runs[from..];
+        if rest.len() <= 1 || entries_bound(rest) > MAX_LISTED {
             return Ok(self);
         }
-        let runs = with_rest_added(&self.runs, kept, alloc, self.rows, self.cols)?;
-        Ok(self.with_runs(runs, 0, 0))
+        let runs = with_rest_added(&self.runs, from, alloc, self.rows, self.cols)?;
+        Ok(self.with_runs(runs, self.counted, self.places))
     }
 
     /// The same layer with the places of so many more of its runs counted, or of all where there are fewer. Where none
@@ -325,8 +332,9 @@ impl Layer {
 
     /// Takes in what is carried to this layer, if both together have at most the cut of entries. That is judged
     /// exactly: by a bound of the entries, and where that is more than the cut, or there are more than `MAX_RUNS` runs,
-    /// by a count of the places. At most `KEPT_RUNS` runs are counted as they are, from where the last count ended; else
-    /// all runs but a large first one are added up before.
+    /// by a count of the places, from where the last count ended. Runs that aren't counted are added up first where they
+    /// have at most `MAX_LISTED` cells together, but for a large first one; and where there are more than `MAX_RUNS`, all
+    /// are but for that.
     pub fn taking(&self, alloc: Global, m: Layer, cut: u64) -> Result<Step, AllocError>
         requires rows { m.rows ≡ self.now.rows }
         requires cols { m.cols ≡ self.now.cols }
@@ -368,7 +376,7 @@ impl Layer {
     pub fn paired(&self, alloc: Global) -> Result<Option<Layer>, AllocError>
         ensures { IfOk result (λ paired. IfSome paired (λ layer. layer ≡ self.now)) }
     {
-        let Some(place) = due_pair(&self.runs, MAX_PAIRED) else {
+        let Some(place) = due_pair(&self.runs, 0, MAX_PAIRED) else {
             return Ok(None);
         };
         let runs = with_pair_added(&self.runs, place, alloc, self.rows, self.cols)?;
@@ -402,10 +410,10 @@ impl Layer {
     /// The same layer with a place for the sum of the runs that are due, and their compaction; `is_first` tells whether
     /// it is layer 1, and u64::MAX stands for no cut. In layer 1 none are due as long as there are fewer than
     /// `GATHERED_RUNS`. All are due where a layer that isn't large is about to pass its cut, so that the addition that
-    /// does has few places to count. Else all from the first run on that has fewer entries than those behind it
-    /// together, where these are at most `MAX_TAIL`; or else the first two neighbours of which the earlier one has fewer
-    /// than `PAIR_RATIO` times as many entries as the later one; or else the first run that has no filter and is to have
-    /// one.
+    /// does has few places to count. Else all from the first run on of which those behind it have more than `TAIL_RATIO`
+    /// times the entries together, where these are at most `MAX_TAIL`; or else the first two neighbours with `MAX_TAIL` or
+    /// more of which the earlier one has fewer than `PAIR_RATIO` times as many entries as the later one; or else the first
+    /// run that has no filter and is to have one.
     ///
     /// Where runs were begun before and their place is still empty, it is a compaction of the same runs for the same
     /// place: the earlier one may have been given up. None where nothing is due, or where a sum waits to be taken over

@@ -4,13 +4,8 @@
 /// moves each of their cells five times at most.
 pub const MAX_RUNS: usize = 32;
 
-/// The most matrices that go on as they are where a layer passes its cut. Their places are counted by walks through all
-/// of them.
-pub const KEPT_RUNS: usize = 16;
-
 /// The fewest runs of layer 1 that are added up at once (`Layer::gathered`, `Layer::begun`). With fewer each of its cells
-/// is written more often, and with more an addition meets more than `KEPT_RUNS` sooner, where nobody was in time to add
-/// them up.
+/// is written more often, and with more an addition has more to add up, where nobody was in time to do it.
 pub const GATHERED_RUNS: usize = 24;
 
 /// The most entries of two runs together that `Layer::paired` adds up: about a millisecond, for which an addition
@@ -21,24 +16,28 @@ pub const MAX_PAIRED: u64 = 28_000;
 pub const MAX_COUNTED: u64 = 1 << 17;
 
 /// The fewest entries of a matrix that gets a filter of its places, once it was added up. A bisection in fewer is short,
-/// and so small a matrix is soon added up with others: the filters of all would take a third of the time of their sums.
-/// Only time rests on it.
+/// and so small a matrix is soon added up with others. Only time rests on it.
 pub const FEWEST_FILTERED: u64 = 16_384;
 
 /// Two matrices side by side are added up where the earlier one has fewer entries than so many times the later one. So
 /// a cell is written anew with matrices that are not much smaller than its own, and a layer ends with few matrices.
 pub const PAIR_RATIO: u64 = 3;
 
-/// The most entries of runs that `Layer::begun` gives together, but for two neighbours, which may have any number: while
-/// one thread adds up so many, the others of its layers wait.
+/// The most entries of runs that `Layer::begun` gives together, but for two neighbours, which may have any number from
+/// there on: while one thread adds up so many, the others of its layers wait.
 pub const MAX_TAIL: u64 = 1 << 17;
+
+/// A run is added up with all behind it where these have more than so many times its entries together. So five of like
+/// size are added up at once, and a cell is written less often than where two always are.
+pub const TAIL_RATIO: u64 = 3;
 
 /// Where the matrices before another have, for each of them, more than so many times its entries, each of its cells is
 /// looked up in them, and else all are walked through, to tell how many places are new: a look-up takes as long as so
 /// many steps.
 pub const WALKED_RATIO: u64 = 16;
 
-/// The most cells of more than two matrices that are added up by a list of all. So many are sorted in a few passes.
+/// The most cells of more than two matrices that are added up by a list of all. So many are sorted in a few passes. An
+/// addition that passes a cut adds up as many, and counts the places of more without adding them up.
 pub const MAX_LISTED: u64 = 16_384;
 
 /// Entries of all matrices of a layer together: with no more, what may pass its cut becomes one matrix. With more, a

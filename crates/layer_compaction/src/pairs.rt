@@ -8,7 +8,7 @@ ghost use Rattle.hyper_matrix.specs.Counts.{total};
 ghost use Rattle.layer_compaction.specs.Shared.{content, values, all_counts, HaveDims};
 
 use crate::filters::filtered_run;
-use crate::limits::{FEWEST_KEPT, MAX_TAIL, PAIR_RATIO};
+use crate::limits::{FEWEST_KEPT, MAX_TAIL, PAIR_RATIO, TAIL_RATIO};
 use crate::lists::entries_bound;
 use crate::runs::{added_to_runs, run_of, shared_runs, sum_of_runs, with_run_between};
 use filtered_matrix::FilteredMatrix;
@@ -17,8 +17,8 @@ use std::alloc::{AllocError, Global};
 use std::sync::Arc;
 
 /// The place of the first run that is to be added up with the next one: it has fewer than `PAIR_RATIO` times as many
-/// entries, and together they have at most `most`. Only time rests on which it is.
-pub fn due_pair(runs: &[Arc<FilteredMatrix>], most: u64) -> Option<usize>
+/// entries, and together they have from `fewest` to `most`. Only time rests on which it is.
+pub fn due_pair(runs: &[Arc<FilteredMatrix>], fewest: u64, most: u64) -> Option<usize>
     ensures { IfSome result (λ place. place + 1 < length runs.now) }
 {
     for next in 1..runs.len() {
@@ -28,15 +28,16 @@ pub fn due_pair(runs: &[Arc<FilteredMatrix>], most: u64) -> Option<usize>
             runs[next].matrix().entries(),
         );
         let is_alike = earlier < later.saturating_mul(PAIR_RATIO);
-        if is_alike && earlier.saturating_add(later) <= most {
+        let both = earlier.saturating_add(later);
+        if is_alike && fewest <= both && both <= most {
             return Some(place);
         }
     }
     None
 }
 
-/// The place of the first run that has fewer entries than all behind it together, where these are at most `MAX_TAIL`
-/// with it: from there on all are to be added up. Only time rests on which it is.
+/// The place of the first run of which all behind it together have more than `TAIL_RATIO` times the entries, where these
+/// are at most `MAX_TAIL` with it: from there on all are to be added up. Only time rests on which it is.
 pub fn due_tail(runs: &[Arc<FilteredMatrix>]) -> Option<usize>
     ensures { IfSome result (λ place. place + 1 < length runs.now) }
 {
@@ -44,7 +45,7 @@ pub fn due_tail(runs: &[Arc<FilteredMatrix>]) -> Option<usize>
     for place in 0..runs.len() {
         let entries = runs[place].matrix().entries();
         let behind = tail.saturating_sub(entries);
-        if place + 1 < runs.len() && entries < behind && tail <= MAX_TAIL {
+        if place + 1 < runs.len() && entries < behind / TAIL_RATIO && tail <= MAX_TAIL {
             return Some(place);
         }
         tail = behind;
@@ -111,6 +112,7 @@ pub fn with_rest_added(
     ensures content { IfOk result (λ after.
         content (all_counts (values after.items)) ≡ content (all_counts (values runs.now))) }
     ensures dims { IfOk result (λ after. HaveDims rows cols (values after.items)) }
+    ensures before { IfOk result (λ after. take kept (values after.items) ≡ take kept (values runs.now)) }
 {
     let (front, rest) = runs.split_at(kept);
     let none = Hyper::new(alloc, rows, cols);

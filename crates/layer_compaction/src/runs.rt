@@ -1,19 +1,22 @@
 //! The runs of a layer: matrices of the same dimensions side by side, each shared and never changed. They stand for
 //! their sum, which is built only where it has to be known what they hold together.
-ghost use Rattle.std.specs.Prelude.{◌≡◌, ℕ, ◌+◌, ◌<◌, ◌≤◌, ◌^◌, ◌⊎◌, ◌++◌, ◌∷◌, length, IfOk, OnOk};
+ghost use Rattle.std.specs.Prelude.{◌≡◌, ℕ, ◌+◌, ◌<◌, ◌≤◌, ◌^◌, ◌⊎◌, ◌++◌, ◌∷◌, T, length, map, IfOk, OnOk};
 ghost use Rattle.std.specs.Arc.{arc_value};
-ghost use Rattle.std.specs.FinMap.{get, len, entries};
+ghost use Rattle.std.specs.FinMap.{get, len, entries, is_sorted};
 ghost use Rattle.cells.specs.Bounds.{IsDimension};
+ghost use Rattle.hyper_matrix.specs.Cells.{entry_of};
 ghost use Rattle.hyper_matrix.specs.Counts.{ewise_add, total};
 ghost use Rattle.hyper_matrix.specs.Matrix.{matrix};
 ghost use Rattle.hyper_matrix.specs.RowOf.{row_of};
+ghost use Rattle.hyper_rows.specs.Counts.{place_cmp};
 ghost use Rattle.layer_compaction.specs.Shared.{content, values, all_counts, HaveDims};
 ghost use Rattle.layer_compaction.specs.Runs.{count_new, CountsPlaces};
 
 use crate::limits::{LONGEST_LIST, MAX_LISTED, WALKED_RATIO};
-use crate::lists::{entries_bound, sum_by_list};
+use crate::lists::{entries_bound, merged, push_cells_of, sum_by_list};
 use crate::lookup::plus;
 use crate::walk::{keep_new, new_beside};
+use cells::Cell;
 use filtered_matrix::FilteredMatrix;
 use hyper_matrix::Hyper;
 use std::alloc::{AllocError, Global};
@@ -106,8 +109,9 @@ pub fn sum_of_runs(
     }
 }
 
-/// The sum of a matrix and runs. Where the first run is the larger part, all others are added up with the matrix, and
-/// the sum to that run, whose blocks it shares but for those that it touches. Else one list of cells is merged.
+/// The sum of a matrix and runs. Where the first run is the larger part, and they aren't few cells, all others are added
+/// up with the matrix, and the sum to that run, whose blocks it shares but for those that it touches. Else one list of
+/// cells is merged.
 pub fn added_to_runs(
     alloc: Global,
     m: Hyper,
@@ -125,8 +129,10 @@ pub fn added_to_runs(
     let all = m
         .entries()
         .saturating_add(front.entries().saturating_add(behind));
-    // Many are merged in one list. Where the first run has more than those behind it, the sum may share its blocks.
-    if MAX_LISTED < all && all <= LONGEST_LIST && front.entries() <= behind {
+    // Many are merged in one list. Where the first run has more than those behind it, and isn't short, the sum may share
+    // its blocks.
+    let is_short = runs.len() > 2 && all <= MAX_LISTED;
+    if is_short || all <= LONGEST_LIST && front.entries() <= behind {
         let merged = sum_by_list(alloc, m, runs)?;
         return Ok(merged);
     }
@@ -214,16 +220,44 @@ pub fn new_by_walks(
     }
     let mut cells = Vec::new(alloc);
     m.push_cells(&mut cells)?;
+    let new = new_in_list(before, cells);
+    Ok(new)
+}
+
+// How many cells of a list in order stand at places where none of these runs has an entry: a walk through each run and
+// what is left of the list.
+fn new_in_list(before: &[Arc<FilteredMatrix>], cells: Vec<Cell>) -> u64
+    requires order { T (is_sorted place_cmp (map entry_of cells.items)) }
+    ensures { result ≡ count_new (content (all_counts (values before.now))) (map entry_of cells.items) }
+{
+    let mut cells = cells;
     'runs: for run in before {
         let kept = keep_new(&mut cells, run.matrix());
         cells.truncate(kept);
     }
-    Ok(cells.len() as u64)
+    cells.len() as u64
 }
 
-/// The number of entries of the sum of the first `until` runs, of which `places` are those of the first `counted`
-/// together. Takes the time and memory of `new_by_walks` for each run between.
-pub fn places_to(
+// How many entries the sum of runs has at places where none of those before them has one. The sum is made as a list.
+fn new_together(
+    alloc: Global,
+    before: &[Arc<FilteredMatrix>],
+    rest: &[Arc<FilteredMatrix>],
+) -> Result<u64, AllocError>
+    requires { total (content (all_counts (values rest.now))) < 2 ^ 64 }
+    ensures { IfOk result (λ new. new
+        ≡ count_new (content (all_counts (values before.now))) (entries (content (all_counts (values rest.now))))) }
+{
+    let mut cells = Vec::new(alloc);
+    push_cells_of(&mut cells, rest)?;
+    let cells = merged(alloc, cells)?;
+    let new = new_in_list(before, cells);
+    Ok(new)
+}
+
+// The number of entries of the sum of the first `until` runs, of which `places` are those of the first `counted`
+// together: each run between is counted by `new_by_walks`.
+fn places_by_walks(
     alloc: Global,
     runs: &[Arc<FilteredMatrix>],
     counted: usize,
@@ -242,6 +276,58 @@ pub fn places_to(
         places += new_by_walks(alloc, &runs[..i], runs[i].matrix())?;
     }
     Ok(places)
+}
+
+// The same, where all between are counted together.
+fn places_by_list(
+    alloc: Global,
+    runs: &[Arc<FilteredMatrix>],
+    counted: usize,
+    places: u64,
+    until: usize,
+) -> Result<u64, AllocError>
+    requires counts { CountsPlaces counted places (values runs.now) }
+    requires order { counted ≤ until }
+    requires within { until ≤ length runs.now }
+    requires fits { total (content (all_counts (values runs.now))) < 2 ^ 64 }
+    requires few { len (content (all_counts (values runs.now))) < 2 ^ 64 }
+    ensures { IfOk result (λ all. CountsPlaces until all (values runs.now)) }
+{
+    let (known, _behind) = runs.split_at(until);
+    let (before, rest) = known.split_at(counted);
+    let new = new_together(alloc, before, rest)?;
+    Ok(places + new)
+}
+
+/// The number of entries of the sum of the first `until` runs, of which `places` are those of the first `counted`
+/// together.
+///
+/// Where none is counted, the first takes no time. A single one between is counted as `new_by_walks` does it, and so is
+/// each of several that have more than `LONGEST_LIST` cells. Else these are counted together, which takes a list of their
+/// cells, 24 bytes for each and half as much again while it is sorted, and a walk through each run before.
+pub fn places_to(
+    alloc: Global,
+    runs: &[Arc<FilteredMatrix>],
+    counted: usize,
+    places: u64,
+    until: usize,
+) -> Result<u64, AllocError>
+    requires counts { CountsPlaces counted places (values runs.now) }
+    requires order { counted ≤ until }
+    requires within { until ≤ length runs.now }
+    requires fits { total (content (all_counts (values runs.now))) < 2 ^ 64 }
+    requires few { len (content (all_counts (values runs.now))) < 2 ^ 64 }
+    ensures { IfOk result (λ all. CountsPlaces until all (values runs.now)) }
+{
+    let first = counted.max(1).min(until);
+    let places = places_by_walks(alloc, runs, counted, places, first)?;
+    let rest = &runs[first..until];
+    if rest.len() <= 1 || entries_bound(rest) > LONGEST_LIST {
+        let all = places_by_walks(alloc, runs, first, places, until)?;
+        return Ok(all);
+    }
+    let all = places_by_list(alloc, runs, first, places, until)?;
+    Ok(all)
 }
 
 /// The number of entries of the runs' sum, which isn't built: `places`, those of the first `counted` runs together, and

@@ -30,7 +30,7 @@ static ROW: [Cell; 3] = [
     },
 ];
 
-/// Has a shard take three batches in, whose parts stand side by side in layer 2 then, and adds these up.
+/// Has a shard take five batches in, whose parts stand side by side in layer 2 then, and adds these up.
 pub fn run(rt: &(impl RandomSource + Print), alloc: Global) -> Result<(), Stop> {
     let setup = small_setup()?;
     let mut shard = Shard::new(rt, alloc, &setup, 0)?;
@@ -45,6 +45,8 @@ fn run_example(rt: &impl Print, alloc: Global, setup: &Setup, shard: &mut Shard)
     take_in(alloc, setup, shard, 1)?;
     take_in(alloc, setup, shard, 2)?;
     take_in(alloc, setup, shard, 3)?;
+    take_in(alloc, setup, shard, 4)?;
+    take_in(alloc, setup, shard, 5)?;
     compact(rt, alloc, shard)
 }
 

@@ -10,4 +10,4 @@ pub const HEAD: usize = 5;
 pub const CELL: usize = 24;
 
 /// How many bytes a buffer may have held and still be kept for the next frames.
-pub const ROOMY: usize = 262_144;
+pub const ROOMY: usize = 4_194_304;

@@ -161,14 +161,15 @@ fn rest(rt: &impl Abort, alloc: Global, long: u64, short: u64) -> (Option<u64>, 
 }
 
 /// Long rows, short ones, how many sums are made, and the entries of layer 2. In layer 1 twenty-four matrices are added
-/// up at once. In layer 2 two are that are as large as each other, and three or four at once.
-const RESTS: [(u64, u64, u64, u64); 6] = [
+/// up at once. In layer 2 those are that have more than three times as many entries behind them: five of like size.
+const RESTS: [(u64, u64, u64, u64); 7] = [
     (0, 1, 0, 0),
     (1, 23, 0, 40),
     (1, 24, 1, 40),
-    (2, 24, 2, 80),
-    (3, 24, 2, 120),
-    (4, 1, 1, 160),
+    (2, 24, 1, 80),
+    (4, 1, 0, 160),
+    (5, 1, 1, 200),
+    (5, 24, 2, 200),
 ];
 
 #[test]
@@ -207,7 +208,7 @@ fn what_is_given_up_is_begun_again(rt: HostRuntime) -> Result<(), Fail> {
 
 /// Both layers have something due: whether each is begun, and made by itself, the second one first.
 fn in_turn(rt: &impl Abort, alloc: Global) -> [bool; 5] {
-    let mut layers = layers_with(rt, alloc, 3, MANY_RUNS);
+    let mut layers = layers_with(rt, alloc, 5, MANY_RUNS);
     let first = begun(rt, alloc, &mut layers);
     let second = begun(rt, alloc, &mut layers);
     let made_second = made(rt, alloc, &mut layers, second);
@@ -216,7 +217,7 @@ fn in_turn(rt: &impl Abort, alloc: Global) -> [bool; 5] {
     let more = begun(rt, alloc, &mut layers);
     let has_more = more.is_some();
     drop(more);
-    let holds = sizes(&layers, MANY_RUNS) == [Some(MANY_RUNS), Some(120), Some(1)];
+    let holds = sizes(&layers, MANY_RUNS) == [Some(MANY_RUNS), Some(200), Some(1)];
     drop(layers);
     [made_second, made_first, settles, has_more, holds]
 }

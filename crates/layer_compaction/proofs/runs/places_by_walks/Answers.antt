@@ -4,7 +4,7 @@ use Rattle.layer_compaction.specs.Shared.{content, values, all_counts}
 use Rattle.layer_compaction.proofs.CountedLemmas.{counts_more}
 use Rattle.layer_compaction.proofs.LayerLemmas.{total-take}
 use Rattle.layer_compaction.proofs.RunLemmas.{len-take, counts-take}
-use Rattle.layer_compaction.proofs.runs.places_to.Goals as goal
+use Rattle.layer_compaction.proofs.runs.places_by_walks.Goals as goal
 
 pub new_by_walks-requires : goal.new_by_walks-requires
 new_by_walks-requires c = omega (
