@@ -1,9 +1,9 @@
 //! The thread that compacts beside a pool's workers: which sessions wake it, and that its sums change no answer.
 
-use crate::engines::{Accepted, pool_over, sessions_in_turn};
-use crate::frames::TWO_PUTS_AND_A_CELL;
-use crate::gates::OpenGate;
-use crate::links::{Kind, links};
+use crate::pool::engines::{Accepted, pool_over, sessions_in_turn};
+use crate::pool::frames::TWO_PUTS_AND_A_CELL;
+use crate::pool::gates::OpenGate;
+use crate::pool::links::{Kind, links};
 use byte_io::Script;
 use byte_io_tests::pieces;
 use crossbeam_channel::bounded;

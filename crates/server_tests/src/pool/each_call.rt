@@ -1,7 +1,7 @@
 //! A session of a dozen frames over the keeper of a seat, and over a link that moves at most eight bytes a call and of
 //! which each call fails in turn.
 
-use crate::engines::{Accepted, InTurn, sessions_in_turn};
+use crate::pool::engines::{Accepted, InTurn, sessions_in_turn};
 use byte_io::{Once, Script, Source, Trickle};
 use byte_io_tests::pieces;
 use session_pool::Disk;

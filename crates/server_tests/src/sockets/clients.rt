@@ -1,7 +1,7 @@
 //! Clients, which learn from what a server says where it is.
 
-use crate::frames::{Turn, are_answered};
-use crate::said::await_line;
+use crate::sockets::frames::{Turn, are_answered};
+use crate::sockets::said::await_line;
 use std::alloc::Global;
 use std::io;
 use std::net::{Net, TcpListener, TcpStream};

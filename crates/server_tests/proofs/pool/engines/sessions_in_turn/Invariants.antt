@@ -1,5 +1,5 @@
 use Rattle.std.proofs.Common.{◌+◌}
-use Rattle.session_pool_tests.proofs.engines.sessions_in_turn.Given as goal
+use Rattle.server_tests.proofs.pool.engines.sessions_in_turn.Given as goal
 
 -- the engine that these names name
 abbrev pub ghosts-served_in_turn-N-Ledger : goal.ghosts-served_in_turn-N-Ledger

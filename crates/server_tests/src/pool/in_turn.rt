@@ -1,8 +1,8 @@
 //! A session over the keeper of a seat, each read and each write of which fails in turn, and then one without faults.
 
-use crate::engines::{Accepted, InTurn, sessions_in_turn};
-use crate::frames::{REPLIES, TWO_PUTS_AND_A_CELL};
-use crate::gates::end_after;
+use crate::pool::engines::{Accepted, InTurn, sessions_in_turn};
+use crate::pool::frames::{REPLIES, TWO_PUTS_AND_A_CELL};
+use crate::pool::gates::end_after;
 use byte_io::Script;
 use byte_io_tests::pieces;
 use session_pool::Disk;

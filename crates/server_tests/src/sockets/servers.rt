@@ -1,12 +1,12 @@
 //! Servers with a client in another thread.
 
-use crate::clients::{Over, is_served};
-use crate::frames::{
+use crate::sockets::clients::{Over, is_served};
+use crate::sockets::frames::{
     ACCEPTED_FIRST, ACCEPTED_SECOND, CELL, COUNTS_NONE, COUNTS_ONE, COUNTS_TWO, EXPORT, FIVE,
     NUMBER_REUSED, ROW, SAVE, SAVE_FAILED, SAVE_OFF, SAVED_TWO, SIX, STATUS, STOP, THREE, Turn,
 };
-use crate::said::Said;
-use crate::settings::{ANY_PORT, PLAIN, Plan, settings};
+use crate::sockets::said::Said;
+use crate::sockets::settings::{ANY_PORT, PLAIN, Plan, settings};
 use byte_io::Counted;
 use locked_engine::Status;
 use session_pool::Disk;

@@ -1,6 +1,6 @@
 //! Servers that are refused, and servers whose output fails.
 
-use crate::settings::{ANY_PORT, PLAIN, Plan, settings};
+use crate::sockets::settings::{ANY_PORT, PLAIN, Plan, settings};
 use byte_io::{Script, WriteFault};
 use session_pool::Disk;
 use snap_file::{FileFault, SnapFault};
