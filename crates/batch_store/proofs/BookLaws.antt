@@ -1,12 +1,12 @@
 -- What the book's lines say of the accepted batches.
-use Rattle.std.proofs.Common.{◌≡◌, ℕ, zero, suc, ◌+◌, false, cond, not, eqb, ◌&&◌, List, [], ◌∷◌, ◌++◌, map, length}
+use Rattle.std.proofs.Common.{◌≡◌, ℕ, zero, suc, ◌+◌, false, cond, not, eqb, ◌&&◌, List, [], ◌∷◌, ◌++◌, length}
 use Rattle.std.proofs.Common.{take, slice_get, None, Some, position, refl, sym, ◌∙◌, ap, subst, arith, length-append}
 use Rattle.std.proofs.Common.{append_assoc, append-nil, ◌-◌, ◌≤◌}
 use Rattle.std.specs.Prelude.{Result, Ok, Err, IsOk, OnOk, slice_index_or, nat_lt}
 use Rattle.std.specs.FinMap.{empty}
 use Rattle.std.specs.List.{position_or_len, AllByRecursion, IsDistinct}
 use Rattle.std.specs.Arc.{arc_value}
-use Rattle.std.specs.Map.{keys_of, values_of, lookup}
+use Rattle.std.specs.Map.{keys_of, lookup}
 use Rattle.std.proofs.lemmas.List.{map-append}
 use Rattle.std.proofs.lemmas.Option.{none-some, same_Some}
 use Rattle.hyper_matrix.specs.Counts.{Counts}
@@ -275,10 +275,29 @@ pub on_ok_at : {T E : Type 0} (r : Result T E) (P : Type 0) → IsOk r → OnOk 
 on_ok_at (Ok x) P h p = p
 on_ok_at (Err e) P h p = cc
 
-pub batches_of-values : (lines : List (Pair × Line)) →
-    map (λ (l : Line). arc_value l.batch) (values_of lines) ≡ batches_of lines
-batches_of-values [] = refl
-batches_of-values (e ∷ es) = ap (λ l. arc_value e.1.batch ∷ l) (batches_of-values es)
+-- ---- a walk by place
+-- one item more
+one_more : {X : Type 0} (xs : List X) (i : ℕ) (x : X) → Some x ≡ slice_get xs i →
+    take i xs ++ x ∷ [] ≡ take (suc i) xs
+one_more [] i x h = absurd (none-some _ (sym h))
+one_more (y ∷ xs) zero x h = ap (λ z. z ∷ []) (same_Some x y h)
+one_more (y ∷ xs) (suc i) x h = ap (λ l. y ∷ l) (one_more xs i x h)
+
+pub next_item : {X : Type 0} (xs : List X) (i : ℕ) (x : X) → Some x ≡ slice_get xs i →
+    take i xs ++ x ∷ [] ≡ take (i + 1) xs
+next_item xs i x h = one_more xs i x h ∙ ap (λ k. take k xs) {x = suc i} {y = i + 1} (omega arith)
+
+-- past the last there is none
+pub none_past : {X : Type 0} (xs : List X) (i : ℕ) → None ≡ slice_get xs i → length xs ≤ i
+none_past [] i h = omega arith
+none_past (x ∷ xs) zero h = absurd (none-some _ h)
+none_past (x ∷ xs) (suc i) h = omega (arith, none_past xs i h)
+
+pub get_batch : (lines : List (Pair × Line)) (j : ℕ) (k : Pair) (line : Line) → Some (k, line) ≡ slice_get lines j →
+    Some (arc_value line.batch) ≡ slice_get (batches_of lines) j
+get_batch [] j k line h = absurd (none-some _ (sym h))
+get_batch (e ∷ es) zero k line h = ap (λ (x : Pair × Line). Some (arc_value x.1.batch)) (same_Some (k, line) e h)
+get_batch (e ∷ es) (suc j) k line h = get_batch es j k line h
 
 -- ---- the entry at a place behind the folded batches
 get_behind : (xs ys : List Entry) (i j : ℕ) → i ≡ length xs + j → slice_get (xs ++ ys) i ≡ slice_get ys j
@@ -286,7 +305,7 @@ get_behind [] ys i j h = ap (slice_get ys) {x = i} {y = j} (omega (arith, h))
 get_behind (x ∷ xs) ys zero j h = absurd (omega (arith, h))
 get_behind (x ∷ xs) ys (suc i) j h = get_behind xs ys i j (omega (arith, h))
 
-get_entry : (lines : List (Pair × Line)) (j : ℕ) (k : Pair) (line : Line) → Some (k, line) ≡ slice_get lines j →
+pub get_entry : (lines : List (Pair × Line)) (j : ℕ) (k : Pair) (line : Line) → Some (k, line) ≡ slice_get lines j →
     Some (entry_of (arc_value line.batch)) ≡ slice_get (all_entries lines) j
 get_entry [] j k line h = absurd (none-some _ (sym h))
 get_entry (e ∷ es) zero k line h =
@@ -299,11 +318,6 @@ pub entry_behind : (past : List Entry) (lines : List (Pair × Line)) (i n : ℕ)
 entry_behind past lines i n k line is behind h =
     get_entry lines (i - n) k line h
     ∙ sym (get_behind past (all_entries lines) i (i - n) (omega (arith, is, behind)))
-
-pub entries_of-values : (lines : List (Pair × Line)) →
-    map (λ (l : Line). entry_of (arc_value l.batch)) (values_of lines) ≡ all_entries lines
-entries_of-values [] = refl
-entries_of-values (e ∷ es) = ap (λ l. entry_of (arc_value e.1.batch) ∷ l) (entries_of-values es)
 
 -- all batches folded
 pub keeps_folded : (s : Setting) (t free : ℕ) (past now : Fold) (lines none : List (Pair × Line)) (v : Register)

@@ -2,9 +2,9 @@
 //! behind what is kept of the batches that were folded.
 //!
 //! A verdict is one look-up, and one more where batches are folded. The keys are hashed with seeds drawn for each book,
-//! since clients choose them. What a reply tells is kept beside its batch, so no call but `list`, `book_list` and `fold`
-//! walks over the book.
-ghost use Rattle.std.specs.Prelude.{◌≡◌, ℕ, ◌+◌, ◌<◌, ◌≤◌, ◌^◌, ◌++◌, [], ◌∷◌, IfOk, OnOk, OnErr, None, length, slice_get};
+//! since clients choose them. What a reply tells is kept beside its batch, so no call but `list`, `book_list` and
+//! `fold` walks over the book.
+ghost use Rattle.std.specs.Prelude.{◌≡◌, ℕ, ◌+◌, ◌<◌, ◌≤◌, ◌^◌, [], IfOk, OnOk, OnErr, None, length, slice_get};
 ghost use Rattle.std.specs.Option.{option_map};
 ghost use Rattle.std.specs.Arc.{arc_value};
 ghost use Rattle.hyper_matrix.specs.Matrix.{matrix};
@@ -12,8 +12,7 @@ ghost use Rattle.batch_store.specs.Accepted.{accepted, unfolded, entries_in, cou
 ghost use Rattle.batch_store.specs.Accepted.{folded_into, batch_at, summed};
 ghost use Rattle.batch_store.specs.Batches.{entry_of, entries_of, batch_total, values};
 ghost use Rattle.batch_store.specs.Verdicts.{verdict_on_new, kept};
-ghost use Rattle.indexmap.specs.IndexMap.{get, spare};
-ghost use Rattle.batch_store.specs.Books.{AreAccepted, same_key, batches_of, verdict_on, listed_in};
+ghost use Rattle.batch_store.specs.Books.{AreAccepted, batches_of, verdict_on, listed_in};
 
 use crate::batch::Batch;
 use crate::book_list::BookList;
@@ -23,7 +22,7 @@ use crate::pair::Pair;
 use crate::setup::Setup;
 use crate::verdict::{Entry, Kept, Verdict};
 use hyper_matrix::Hyper;
-use indexmap::IndexMap;
+use segmented_map::SegmentedMap;
 use std::alloc::{AllocError, Global};
 use std::collections::hash_map::RandomState;
 use std::marker::Model;
@@ -34,14 +33,14 @@ use std::sync::Arc;
 ///
 /// Contracts see the setup, what was accepted, and how many batches more the book takes without memory. No client and
 /// number stands twice, each batch that isn't folded has the setup's dimensions, and both limits of the setup hold. The
-/// batches are shared with whoever else has them; beside each the book takes some 50 bytes. Of a folded batch some 60
-/// bytes are all that is kept.
+/// batches are shared with whoever else has them; beside each the book takes some 50 bytes, and 20 more just after
+/// its map grew. Of a folded batch some 60 bytes are all that is kept.
 #[derive(Drop)]
 pub struct Book {
     setup: Setup,
     total: u64,
     past: Folded,
-    lines: IndexMap<Pair, Line, RandomState>,
+    lines: SegmentedMap<Pair, Line, RandomState>,
 }
 
 impl Model for Book {
@@ -117,7 +116,7 @@ impl Book {
                 setup: *setup,
                 total: past.total(),
                 past,
-                lines: IndexMap::with_hasher(alloc, hasher),
+                lines: SegmentedMap::with_hasher(alloc, hasher),
             }),
             Err(_) => Err(AllocError),
         }
@@ -192,18 +191,10 @@ impl Book {
     }
 }
 
-// Appends a line under a new pair, where there is room: it takes no memory.
-fn push_line(lines: &mut IndexMap<Pair, Line, RandomState>, pair: Pair, line: Line)
-    requires absent { get same_key lines.old pair ≡ None }
-    requires room { 0 < spare lines.old }
-    ensures lines { lines.new.entries ≡ lines.old.entries ++ (pair, line) ∷ [] }
-{
-    let _ = lines.insert(pair, line);
-}
-
 impl Book {
     /// Makes a free place, so that the next `admit` takes no memory; where there is one, nothing is done. The batches
-    /// stay, also on an error. The map doubles when it grows, so a batch costs constant time on average.
+    /// stay, also on an error. From 65,536 batches on the map grows by a further segment, so nothing that it holds is
+    /// moved (`SegmentedMap::reserve_one`). On average a batch costs constant time.
     ///
     /// # Errors
     ///
@@ -214,7 +205,7 @@ impl Book {
         ensures ok { OnOk result (0 < self.new.free) }
         ensures room { self.old.free ≤ self.new.free }
     {
-        self.lines.reserve(1)
+        self.lines.reserve_one()
     }
 
     /// Appends a batch, and tells its place and the total with it: the reply that is kept for it. It can't fail, and
@@ -240,8 +231,7 @@ impl Book {
         };
         let index = self.len();
         let total_after = self.total + batch.total;
-        push_line(
-            &mut self.lines,
+        self.lines.push(
             pair,
             Line {
                 batch: b,
@@ -332,7 +322,6 @@ impl Book {
         self.past.push_all(&entries);
         self.past.set_base(base);
         self.lines.clear();
-        self.lines.shrink_to_fit();
         Ok(())
     }
 }
@@ -340,14 +329,16 @@ impl Book {
 // The batches of all lines, shared.
 fn share_all(
     alloc: Global,
-    lines: &IndexMap<Pair, Line, RandomState>,
+    lines: &SegmentedMap<Pair, Line, RandomState>,
 ) -> Result<Vec<Arc<Batch>>, AllocError>
     ensures { IfOk result (λ list. values list.items ≡ batches_of lines.now.entries) }
 {
     let mut list = Vec::with_capacity(alloc, lines.len())?;
-    'lines: for line in lines.values() {
+    let mut place = 0;
+    'lines: while let Some((_, line)) = lines.get_index(place) {
         let batch = Arc::try_clone(&line.batch)?;
         list.push(batch)?;
+        place += 1;
     }
     Ok(list)
 }
@@ -355,13 +346,15 @@ fn share_all(
 // The entries of all lines.
 fn entries_of_batches(
     alloc: Global,
-    lines: &IndexMap<Pair, Line, RandomState>,
+    lines: &SegmentedMap<Pair, Line, RandomState>,
 ) -> Result<Vec<Entry>, AllocError>
     ensures { IfOk result (λ list. list.items ≡ entries_of (batches_of lines.now.entries)) }
 {
     let mut list = Vec::with_capacity(alloc, lines.len())?;
-    'lines: for line in lines.values() {
+    let mut place = 0;
+    'lines: while let Some((_, line)) = lines.get_index(place) {
         list.push(line.batch.entry())?;
+        place += 1;
     }
     Ok(list)
 }

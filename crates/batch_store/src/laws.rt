@@ -52,8 +52,8 @@ pub fn one_shard_more()
         below_in (s + 1) k a ≡ below_in s k a + total (record_content s k (part a.base s k) a.list) }
 {}
 
-/// A record of what was accepted holds the part of all of it: the part of the base, and those of the batches that have a
-/// cell in the shard.
+/// A record of what was accepted holds the part of all of it: the part of the base, and those of the batches that have
+/// a cell in the shard.
 pub fn records_hold_the_part()
     ensures { (s k : ℕ) (a : Accepted) →
         record_content s k (part a.base s k) (concerned s k a.list) ≡ part (summed a) s k }

@@ -8,7 +8,6 @@ ghost use Rattle.std.specs.Prelude.{◌≡◌, ℕ, ◌+◌, ◌<◌, ◌≤◌,
 ghost use Rattle.std.specs.Prelude.{option_map, replicate, length, slice_get};
 ghost use Rattle.std.specs.Arc.{arc_value};
 ghost use Rattle.std.specs.FinMap.{empty, get as get_count, len};
-ghost use Rattle.indexmap.specs.IndexMap.{get, spare};
 ghost use Rattle.hyper_matrix.specs.Counts.{total as total_of, part};
 ghost use Rattle.hyper_matrix.specs.Matrix.{matrix};
 ghost use Rattle.hyper_matrix.specs.RowOf.{row_of};
@@ -16,7 +15,6 @@ ghost use Rattle.layer_compaction.specs.Shared.{content};
 ghost use Rattle.layer_cascade.specs.Cascade.{cascade};
 ghost use Rattle.layer_cascade.specs.Layering.{entries_of_layer, no_layers};
 ghost use Rattle.batch_store.specs.Parts.{part_of};
-ghost use Rattle.batch_store.specs.Books.{same_key};
 ghost use Rattle.batch_store.specs.Shards.{AreHeld, stands, Refuses, IsReady, shard_total, part_in, amount_in};
 ghost use Rattle.batch_store.specs.Shards.{layering_of, layering_with, HasDims, matrix_in, Stays, KeepsShard};
 
@@ -27,8 +25,8 @@ use crate::part::part_total;
 use crate::setup::Setup;
 use crate::view::ShardView;
 use hyper_matrix::{Hyper, RowSum};
-use indexmap::IndexMap;
 use layer_cascade::{Compaction, Layers, Plan};
+use segmented_map::SegmentedMap;
 use std::alloc::{AllocError, Global};
 use std::collections::hash_map::RandomState;
 use std::marker::Model;
@@ -37,18 +35,18 @@ use std::sync::Arc;
 
 /// The parts of one shard, the base of those that are folded, and the record of the batches that the others are of.
 ///
-/// Contracts see the setup, the shard's number, what each layer holds, the base, the batches of the record in order, and
-/// how many more it takes without memory. At any time the layers add up to the base and the parts of the record's
+/// Contracts see the setup, the shard's number, what each layer holds, the base, the batches of the record in order,
+/// and how many more it takes without memory. At any time the layers add up to the base and the parts of the record's
 /// batches, each layer but the last keeps its cut, no client and number stands twice in the record, and the total is
 /// within the setup's limit. The base and the batches are shared with whoever else has them; beside each batch the
-/// record takes some 40 bytes.
+/// record takes some 40 bytes, and 20 more just after its map grew.
 #[derive(Drop)]
 pub struct Shard {
     setup: Setup,
     number: u64,
     layers: Layers,
     base: Arc<Hyper>,
-    held: IndexMap<Pair, Arc<Batch>, RandomState>,
+    held: SegmentedMap<Pair, Arc<Batch>, RandomState>,
 }
 
 impl Model for Shard {
@@ -95,15 +93,6 @@ impl Prepared {
     {
         self.amount
     }
-}
-
-// Appends a batch under a new pair, where there is room: it takes no memory.
-fn push_held(held: &mut IndexMap<Pair, Arc<Batch>, RandomState>, pair: Pair, batch: Arc<Batch>)
-    requires absent { get same_key held.old pair ≡ None }
-    requires room { 0 < spare held.old }
-    ensures held { held.new.entries ≡ held.old.entries ++ (pair, batch) ∷ [] }
-{
-    let _ = held.insert(pair, batch);
 }
 
 // The layers of a setup, empty.
@@ -199,7 +188,7 @@ impl Shard {
                 number: s,
                 layers,
                 base,
-                held: IndexMap::with_hasher(alloc, hasher),
+                held: SegmentedMap::with_hasher(alloc, hasher),
             }),
             Err(_) => Err(AllocError),
         }
@@ -373,7 +362,7 @@ impl Shard {
         ensures ready { IfOk result (IsReady self.new) }
     {
         let plan = self.layers.plan(alloc, part)?;
-        self.held.reserve(1)?;
+        self.held.reserve_one()?;
         let batch = Arc::try_clone(b)?;
         Ok(Prepared {
             batch,
@@ -405,7 +394,7 @@ impl Shard {
             client: taken.client,
             number: taken.number,
         };
-        push_held(&mut self.held, pair, batch);
+        self.held.push(pair, batch);
         self.layers.commit(plan);
     }
 }
@@ -425,7 +414,6 @@ impl Shard {
     {
         self.base = base;
         self.held.clear();
-        self.held.shrink_to_fit();
     }
 
     /// Adds up parts that stand side by side in the layers, or counts their places, so that the batch that needs that

@@ -7,4 +7,4 @@ invariant_of-self-2 c =
     keeps_folded _ _ _ _ _ _ _ _ _ c.self.invariant c.self.view_is c.requires c.set_base.ensures.base
     (c.set_base.ensures.entries ∙ c.push_all.ensures.entries
     ∙ (λ j. c.reserve.ensures.entries j ++ (c.deref.ensures.value ∙ c.in_ok-entries.ensures) j))
-    (c.shrink_to_fit.ensures.entries ∙ c.clear.ensures.empty)
+    c.clear.ensures.empty

@@ -4,8 +4,8 @@ use Rattle.batch_store.specs.Shards.{Preparation}
 use Rattle.batch_store.proofs.ShardLaws.{absent_held, total_committed, keeps_committed}
 use Rattle.batch_store.proofs.shard.Shard.commit.Goals as goal
 
-pub push_held-requires-clause-absent : goal.push_held-requires-clause-absent
-push_held-requires-clause-absent c =
+pub push-requires-clause-absent : goal.push-requires-clause-absent
+push-requires-clause-absent c =
     let same = c.taken.view_is ∙ c.deref-taken.ensures ∙ ap (λ (q : Preparation). q.batch) c.p.view_is in
     absent_held _ _ _ _ _ _ _ c.self.invariant c.self.view_is _ c.args.p (ap (λ (b : Submission). b.client) same)
     (ap (λ (b : Submission). b.number) same) c.requires.absent
@@ -15,8 +15,8 @@ invariant_of-self c =
     let same = c.taken.view_is ∙ c.deref-taken.ensures ∙ ap (λ (q : Preparation). q.batch) c.p.view_is in
     keeps_committed _ _ _ _ _ _ _ c.self.invariant c.self.view_is c.args.p c.requires c.commit.new.self c.p.inside.plan
     (ap (λ (q : Preparation). q.planned) c.p.view_is) c.commit.ensures
-    c.push_held.new.held.entries _ c.p.inside.batch (ap (λ (q : Preparation). q.batch) c.p.view_is)
-    (ap (λ (b : Submission). b.client) same) (ap (λ (b : Submission). b.number) same) c.push_held.ensures.held
+    c.push.new.self.entries _ c.p.inside.batch (ap (λ (q : Preparation). q.batch) c.p.view_is)
+    (ap (λ (b : Submission). b.client) same) (ap (λ (b : Submission). b.number) same) c.push.ensures.entries
 
 pub returns-clause-total : goal.returns-clause-total
 returns-clause-total c =

@@ -1,8 +1,7 @@
-use Rattle.std.proofs.Common.{◌∙◌}
 use Rattle.batch_store.proofs.ShardLaws.{shard_rebased}
 use Rattle.batch_store.proofs.shard.Shard.rebase.Goals as goal
 
 pub invariant_of-self : goal.invariant_of-self
 invariant_of-self c =
     shard_rebased _ _ _ _ _ _ _ _ _ c.self.invariant c.self.view_is c.requires
-    (c.shrink_to_fit.ensures.entries ∙ c.clear.ensures.empty)
+    c.clear.ensures.empty

@@ -1,0 +1,3 @@
+pub mod Positions
+pub mod SegmentLaws
+pub mod MapLaws
