@@ -1,7 +1,7 @@
 //! Reads matrices.
 //!
 //! The cells of one stand in order, each once. So they go into it a run at a time, without a sort and without a list of
-//! them all: the memory is that of the matrix and of one run.
+//! them all: the memory is that of the matrix and of one run, which is short beside the matrix.
 ghost use Rattle.std.specs.Prelude.{◌≡◌, ℕ, ◌+◌, ◌<◌, ◌≤◌, ◌^◌, IfOk, OnOk, IfErr};
 ghost use Rattle.cells.specs.Sums.{cell_total};
 ghost use Rattle.hyper_matrix.specs.Counts.{total, ewise_add};
@@ -14,7 +14,7 @@ ghost use Rattle.snap_file.specs.declared.fault.SnapFault.{SnapFault};
 
 use crate::fault::SnapFault;
 use crate::head::Head;
-use crate::limits::BLOCK_CELLS;
+use crate::limits::{CELLS_A_RUN, SHORTEST_RUN};
 use crate::reader::ByteReader;
 use crate::tally::{CellTally, read_cells};
 use byte_io::Source;
@@ -34,7 +34,15 @@ fn with_run(alloc: Global, m: Hyper, tally: &CellTally) -> Result<Hyper, SnapFau
     }
 }
 
-/// Reads the cells of a matrix, at most `BLOCK_CELLS` at a time; the counts together may come to `most`.
+// How many cells are read at a time where a matrix has so many. An addition goes through all blocks that the matrix
+// has, so runs of one length would take time as the square of the cells.
+fn run_behind(entries: u64) -> u64
+    ensures { 0 < result }
+{
+    (entries / CELLS_A_RUN).max(SHORTEST_RUN)
+}
+
+/// Reads the cells of a matrix, a run at a time; the counts together may come to `most`.
 pub fn read_entries<R: Source>(
     alloc: Global,
     reader: &mut ByteReader,
@@ -66,7 +74,7 @@ pub fn read_entries<R: Source>(
     tally.least_col = 0;
     let mut left = count;
     'runs: while left > 0 {
-        let run = left.min(BLOCK_CELLS);
+        let run = left.min(run_behind(m.entries()));
         tally.cells.clear();
         read_cells(reader, r, head, most, tally, run)?;
         m = with_run(alloc, m, tally)?;

@@ -9,5 +9,8 @@ pub const OLD_VERSION: u32 = 1;
 /// The version of the files that are written.
 pub const VERSION: u32 = 2;
 
-/// The most cells that are read before they go into a matrix.
-pub const BLOCK_CELLS: u64 = 4_096;
+/// How many cells are read at a time before they go into a matrix, where it has few.
+pub const SHORTEST_RUN: u64 = 4_096;
+
+/// Where a matrix has many cells, one more for so many of them is read at a time.
+pub const CELLS_A_RUN: u64 = 16;
