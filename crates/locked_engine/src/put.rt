@@ -17,9 +17,40 @@ use crate::version::{NextPlace, Version};
 use batch_store::{Batch, Kept};
 use hyper_matrix::Hyper;
 use plain_engine::PutFault;
-use std::alloc::Global;
+use std::alloc::{AllocError, Global};
 use std::sync::ledger::{Ledger, Share};
 use std::sync::{Arc, MutexGuard, Wait};
+
+// All that a put makes before it takes a lock.
+#[derive(Drop)]
+struct Made<N: Named> {
+    // The batch lives on behind the put, so no lock is held while its cells are given back.
+    own: Arc<Batch>,
+    // For what readers were shown before, to be freed when no lock is held.
+    past: Vec<Arc<ShardVersion<N>>>,
+    place: NextPlace<N>,
+    parts: Vec<Option<Hyper>>,
+}
+
+// Makes it for a put into so many shards.
+fn make<N: Named>(alloc: Global, shards: u64, b: &Arc<Batch>) -> Result<Made<N>, AllocError>
+    requires { 0 < shards }
+    ensures own { IfOk result (λ m. arc_value m.own ≡ arc_value b.now) }
+    ensures empty { IfOk result (λ m. vec_len m.past ≡ 0) }
+    ensures room { IfOk result (λ m. shards ≤ vec_capacity m.past) }
+    ensures parts { IfOk result (λ m. m.parts.items ≡ parts_if_any shards shards (arc_value b.now)) }
+{
+    let own = Arc::try_clone(b)?;
+    let past = Vec::with_capacity(alloc, shards as usize)?;
+    let place = NextPlace::make(alloc)?;
+    let parts = b.parts(alloc, shards)?;
+    Ok(Made {
+        own,
+        past,
+        place,
+        parts,
+    })
+}
 
 impl<N: Named, H: Ledger> Engine<N, H> {
     /// Puts a batch of the setup's dimensions. It may wait for other threads at each lock.
@@ -160,11 +191,12 @@ impl<N: Named, H: Ledger> Engine<N, H> {
         ensures err { IfErr result (λ u. IsTold N.setup (entry_of (arc_value b.now)) seen.new (answer_of u)) }
     {
         self.ask(rt, seen, b)?;
-        let parts = b.parts(alloc, self.setup.shards())?;
-        let place = NextPlace::make(alloc)?;
-        // The batch lives on behind this call, so no lock is held while its cells are given back.
-        let own = Arc::try_clone(b)?;
-        let mut past = Vec::with_capacity(alloc, self.setup.shards() as usize)?;
+        let Made {
+            own,
+            mut past,
+            place,
+            parts,
+        } = make(alloc, self.setup.shards(), b)?;
         let kept = self.put_from(
             rt, alloc, first, second, seen, place, own, &parts, &mut past, 0,
         )?;
