@@ -31,8 +31,8 @@ pub enum CloseFault<N: Named, H: Ledger> {
         engine: Engine<N, H>,
         seats: Vec<Seat<N, H>>,
     },
-    /// Some shard's base isn't the book's cut to its rows, or its record isn't, in order, the book's batches that aren't
-    /// folded and concern it. The totals agree all the same. Puts alone never lead to it.
+    /// Some shard's base isn't the book's cut to its rows, or its record isn't, in order, the book's batches that
+    /// aren't folded and concern it. The totals agree all the same. Puts alone never lead to it.
     RecordsDiffer {
         shards: Vec<Shard>,
         book: Book,

@@ -11,8 +11,8 @@ use std::sync::ledger::Ledger;
 use std::sync::{Arc, MutexGuard, Wait};
 
 impl<N: Named, H: Ledger> Engine<N, H> {
-    /// Makes the compaction that is due next in the first `depth` layers of shard s: some of what puts left side by side
-    /// there is added up. It may wait for other threads at the shard's lock.
+    /// Makes the compaction that is due next in the first `depth` layers of shard s: some of what puts left side by
+    /// side there is added up. It may wait for other threads at the shard's lock.
     ///
     /// Under that lock the compaction is begun. It is made without any lock, in the time and memory of a sum of the
     /// cells concerned. Then the lock is taken once more, to put the sum in the place of what was added up and to show
@@ -21,9 +21,9 @@ impl<N: Named, H: Ledger> Engine<N, H> {
     /// puts go on meanwhile. Where one of them has carried on what was added up, the sum is dropped.
     ///
     /// It answers whether a sum was put in place. With no other call beside it and no refusal of memory, false says
-    /// that nothing is due in these layers. Where memory is refused, what the shard holds and what readers are shown stay
-    /// as they are, and a later call tries again. It begins with putting in place what was made before and could not
-    /// be.
+    /// that nothing is due in these layers. Where memory is refused, what the shard holds and what readers are shown
+    /// stay as they are, and a later call tries again. It begins with putting in place what was made before and could
+    /// not be.
     ///
     /// Any number of threads may call it, but one is enough for an engine: two at one shard may make the same sum
     /// twice. None has to; `put` says what is left then.

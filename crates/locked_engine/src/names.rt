@@ -14,8 +14,8 @@ use std::marker::{Brand, Model};
 use std::sync::ledger::{Blank, Ledger};
 
 /// Which engine it is: the first of its two ledgers, its setup and its number of seats, what had been accepted when it
-/// was opened, and the history of the entries that it accepts from then on. It has no functions: what it names exists in proofs
-/// alone.
+/// was opened, and the history of the entries that it accepts from then on. It has no functions: what it names exists
+/// in proofs alone.
 ///
 /// Whoever opens an engine takes `Brand` for it, and for the second ledger, and tells in the call's proof which names
 /// are meant. A function over an engine takes them as type parameters.

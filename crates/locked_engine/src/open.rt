@@ -23,8 +23,8 @@ impl<N: Named, H: Ledger> Engine<N, H> {
     /// first seat's share starts with all that was accepted, the others' with nothing. It grows two places and a
     /// version for each shard, a place for each seat, and what shows readers the status.
     ///
-    /// N and H name `names`, which were made from `plain`, and N what `plain` has accepted: whoever calls with `Brand` for
-    /// both picks them so. Each seat is shown the entries of that. Nothing is folded while the engine is open.
+    /// N and H name `names`, which were made from `plain`, and N what `plain` has accepted: whoever calls with `Brand`
+    /// for both picks them so. Each seat is shown the entries of that. Nothing is folded while the engine is open.
     ///
     /// # Errors
     ///

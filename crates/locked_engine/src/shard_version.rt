@@ -17,8 +17,8 @@ use std::sync::Arc;
 /// A shard as it was at one moment: its number, and a view of its layers, which it shares.
 ///
 /// Contracts see the number, the layers, and how many batches the record had. They are those of a shard of N's setup,
-/// as it keeps itself behind its lock: the layers add up to the base and the parts of the record's batches, each but the
-/// last within its cut, no batch twice.
+/// as it keeps itself behind its lock: the layers add up to the base and the parts of the record's batches, each but
+/// the last within its cut, no batch twice.
 #[derive(Drop)]
 pub struct ShardVersion<N: Named> {
     number: u64,

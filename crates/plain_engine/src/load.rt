@@ -75,8 +75,8 @@ fn noted(pairs: &mut BTreeSet<(u64, u64)>, entry: &Entry) -> Option<bool>
     }
 }
 
-// Why these entries aren't those of what a book accepts, put in order. The pairs are kept in a tree meanwhile, of some 30
-// bytes each.
+// Why these entries aren't those of what a book accepts, put in order. The pairs are kept in a tree meanwhile, of some
+// 30 bytes each.
 fn judge_folded(alloc: Global, setup: &Setup, folded: &[Entry]) -> Result<(), LoadFault>
     ensures distinct { OnOk result (IsDistinct same_pair folded.now) }
     ensures few { OnOk result (length folded.now ≤ setup.now.max_batches) }

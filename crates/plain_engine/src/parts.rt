@@ -6,15 +6,14 @@ use crate::engine::PlainEngine;
 use crate::same::{is_part, record_follows};
 use batch_store::{Book, Setup, Shard};
 
-/// An engine of a book and its shards, which were made with this setup. It takes no memory: it reads the book and its base
-/// once for each shard, and each batch that concerns the shard cell by cell.
+/// An engine of a book and its shards, which were made with this setup. It takes no memory: it reads the book and its
+/// base once for each shard, and each batch that concerns the shard cell by cell.
 ///
 /// # Errors
 ///
 /// There isn't a shard for each number below the setup's shards, a shard's number isn't its place, its base isn't the
-/// book's cut to its rows, or its record isn't, in order, the book's batches that aren't folded and concern it, compared
-/// by client, number and matrix, cell by cell.
-/// Book and shards are handed back as they were.
+/// book's cut to its rows, or its record isn't, in order, the book's batches that aren't folded and concern it,
+/// compared by client, number and matrix, cell by cell. Book and shards are handed back as they were.
 pub fn join_parts(
     setup: Setup,
     book: Book,

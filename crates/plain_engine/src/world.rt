@@ -19,11 +19,11 @@ ghost use Rattle.plain_engine.specs.World.{World, Event, Starts, Runs, RunsLocke
 ghost use Rattle.plain_engine.specs.World.{deliveries, held_in, records_content, flight_content};
 ghost use Rattle.plain_engine.specs.World.Event.{Admit};
 
-/// After every lawful run, cell by cell, the sum of all that was accepted is the sum of the records' contents, each with
-/// its part of the base, and of the parts in flight, and no client and number stands twice in a record. With nothing in
-/// flight the records' contents add up to exactly the accepted matrix. And after a locked run, where each admission also
-/// finds no part in flight for a shard that its batch concerns, with nothing in flight each record is, in order, the
-/// accepted batches that aren't folded and concern its shard.
+/// After every lawful run, cell by cell, the sum of all that was accepted is the sum of the records' contents, each
+/// with its part of the base, and of the parts in flight, and no client and number stands twice in a record. With
+/// nothing in flight the records' contents add up to exactly the accepted matrix. And after a locked run, where each
+/// admission also finds no part in flight for a shard that its batch concerns, with nothing in flight each record is,
+/// in order, the accepted batches that aren't folded and concern its shard.
 pub fn sums_agree()
     ensures cells { (v : Setting) (w : World) (es : List Event) (u : World) (q : Place) → Starts v w → Runs v w es u →
         get (summed u.book) q ≡

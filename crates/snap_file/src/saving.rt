@@ -95,8 +95,8 @@ fn make_file<F: Folder>(
 /// renames it to `path`. What stood under the other name is written over.
 ///
 /// The list is one that a book of the setup hands out: no client and number twice, the setup's dimensions, and within
-/// both limits. The folder must have failed less than 2^64 - 1 times before. Takes memory for the name alone, and time in proportion to
-/// the bytes.
+/// both limits. The folder must have failed less than 2^64 - 1 times before. Takes memory for the name alone, and time
+/// in proportion to the bytes.
 ///
 /// # Errors
 ///

@@ -71,8 +71,8 @@ fn write_export<W: Sink>(
     write_sum(alloc, w, setup, &list.base, &list.batches)
 }
 
-/// Reads the snapshot under `path`, and writes the canonical text of the sum of its batches, folded ones too: a Matrix Market text in
-/// the dimensions of its setup, with the cells by row and then by column.
+/// Reads the snapshot under `path`, and writes the canonical text of the sum of its batches, folded ones too: a Matrix
+/// Market text in the dimensions of its setup, with the cells by row and then by column.
 ///
 /// Takes the memory of `run_check`, and its time and that of the text's bytes. `w` is not flushed.
 ///

@@ -13,8 +13,8 @@ use std::marker::Model;
 ///
 /// A Put's text and the cells of a PutCells are a view of the buffer: no byte of it is copied. The buffer grows by
 /// doubling, so a frame that comes in many pieces takes time in proportion to its bytes, and what a header declares
-/// takes no memory. As a frame of more than 4 MiB is handed out, what is left is moved to a new buffer, so that its memory
-/// goes with the last view of it. Else the buffer is used again, once the view is gone.
+/// takes no memory. As a frame of more than 4 MiB is handed out, what is left is moved to a new buffer, so that its
+/// memory goes with the last view of it. Else the buffer is used again, once the view is gone.
 #[derive(Drop)]
 pub struct Frames {
     bytes: BytesMut,

@@ -12,8 +12,8 @@ pub enum Kind {
     Put,
     /// The same, and a Save.
     PutAndSave,
-    /// The same Put, and one that each link gives. Read number 0 gives the first, number 1 the second, number 2 the end;
-    /// the one with the link's number modulo 4 fails.
+    /// The same Put, and one that each link gives. Read number 0 gives the first, number 1 the second, number 2 the
+    /// end; the one with the link's number modulo 4 fails.
     FailedRead,
     /// The same two Puts. The link takes as many bytes as its number.
     FailedWrite,

@@ -106,8 +106,8 @@ fn folded_batches_are_known_again(rt: HostRuntime) {
     assert!(rt; same(&rt, &found, &expected));
 }
 
-// Cells of the sum, its rows' totals, whether it is exported whole, and of each shard its number, its total, and how many
-// batches are in its record.
+// Cells of the sum, its rows' totals, whether it is exported whole, and of each shard its number, its total, and how
+// many batches are in its record.
 type Sum = (
     [Option<u64>; 3],
     [(u64, u64); 3],
