@@ -10,6 +10,7 @@ use Rattle.hyper_rows.specs.Rows.{heads_moved, Fit, KeysAbove, AreRising}
 use Rattle.hyper_matrix.specs.Blocks.{EndsIn, split_heads}
 use Rattle.hyper_rows.proofs.BuildLaws.{rising_from}
 use Rattle.hyper_rows.proofs.RowLaws.{ends-append, ends-take, ends-drop, ends_le, ends_within, moved_rows, moved_ends}
+use Rattle.hyper_rows.proofs.RowLaws.{number_read}
 
 -- two parts, one behind the other
 pub two_parts : {X : Type 0} (xs : List X) (i j k : ℕ) → i ≤ j → j ≤ k →
@@ -109,7 +110,7 @@ module _ (hs : List (ℕ × ℕ)) (es : Entries) (row from last to n : ℕ) (end
       ∙ ap (λ (p : Entries). at_places h.0 p ++ cells_of (rows_from to rest es)) (nothing_between es to))
 
   -- heads that are to be moved to the front can be
-  pub split_fits : to < 2 ^ 64 → (k : ℕ) (d : ℕ × ℕ) → k < length (slice_range hs row last) →
+  pub split_fits : to - from < 2 ^ 32 → (k : ℕ) (d : ℕ × ℕ) → k < length (slice_range hs row last) →
       Fit from 0 (get_or (slice_range hs row last) k d).1
   split_fits h k d lt =
       let within = ends_within from (slice_range hs row last) (start_from from (drop row hs) (last - row))
@@ -143,6 +144,14 @@ module _ (hs : List (ℕ × ℕ)) (es : Entries) (row from last to n : ℕ) (end
             ∙ ap (λ k. rows_from k (heads_moved from 0 gs) (slice_range es from to)) {x = 0} {y = from - from + 0}
             (omega arith) ∙ moved_rows [] es from to from gs (omega arith) split_ends,
       )
+
+-- the heads of a part: those moved behind none, and the last with the end that the part has
+pub part_heads : (hs : List (ℕ × ℕ)) (last : ℕ) (none some all moved : List (ℕ × ℕ)) (read new : ℕ × ℕ) (number : ℕ)
+    {end : ℕ} → last < length hs → none ≡ [] → some ≡ none ++ moved → read ≡ get_or hs last read → number ≡ read.0 →
+    new ≡ (number, end) → all ≡ some ++ new ∷ [] → all ≡ moved ++ ((get_or hs last (0, 0)).0, end) ∷ []
+part_heads hs last none some all moved read new number {end} lt is_none is_some is_read is_number is_new is_all =
+    rw (is_all, is_some, is_none, is_new) (ap (λ (n : ℕ). moved ++ (n, end) ∷ [])
+    (number_read hs last read number lt is_read is_number))
 
 above_cut : {X : Type 0} (j : ℕ) (xs : List (ℕ × X)) (k : ℕ) (d : ℕ × X) (v : X) → KeysAbove j xs → k < length xs →
     KeysAbove j (take k xs ++ ((get_or xs k d).0, v) ∷ [])

@@ -9,12 +9,12 @@ ghost use Rattle.hyper_matrix.specs.Blocks.{AreBlocks, Grows, EndsIn, split_head
 
 use crate::block::Block;
 use crate::limits::BLOCK_CELLS;
-use hyper_rows::{Rows, push_heads, row_room};
+use hyper_rows::{Head, Rows, check_end, push_heads, row_room};
 use std::alloc::{AllocError, Global};
 
 // The row in which the cell before `to` stands, where row `row` begins at `from`.
 fn row_ending(
-    heads: &[(u64, usize)],
+    heads: &[Head],
     entries: &[(u64, u64)],
     row: usize,
     from: usize,
@@ -26,7 +26,7 @@ fn row_ending(
     ensures { EndsIn heads.now row from result to }
 {
     let mut last = row;
-    'seek: while heads[last].1 < to {
+    'seek: while heads[last].end() < to {
         last += 1;
     }
     last
@@ -35,7 +35,7 @@ fn row_ending(
 // The cells from `from` to `to`, where the first stands in row `row` and the last in row `last`.
 fn part(
     alloc: Global,
-    heads: &[(u64, usize)],
+    heads: &[Head],
     entries: &[(u64, u64)],
     row: usize,
     last: usize,
@@ -48,9 +48,10 @@ fn part(
     requires within { to ≤ length entries.now }
     ensures { IfOk result (λ rows. rows ≡ rows_from from (split_heads heads.now row last to) entries.now) }
 {
+    check_end(to - from)?;
     let mut part_heads = Vec::with_capacity(alloc, row_room(last - row + 1, BLOCK_CELLS))?;
     push_heads(&mut part_heads, &heads[row..last], from, 0)?;
-    part_heads.push((heads[last].0, to - from))?;
+    part_heads.push(Head::new(heads[last].number(), to - from))?;
     let mut part_entries = Vec::with_capacity(alloc, BLOCK_CELLS)?;
     part_entries.extend_from_slice(&entries[from..to])?;
     Ok(Rows::from_parts(part_heads, part_entries))
@@ -58,7 +59,7 @@ fn part(
 
 // The row in which the cell at `to` stands, where the cell before it stands in row `last`.
 fn row_behind(
-    heads: &[(u64, usize)],
+    heads: &[Head],
     entries: &[(u64, u64)],
     row: usize,
     last: usize,
@@ -72,7 +73,7 @@ fn row_behind(
         cells_of (rows_from from (split_heads heads.now row last to) entries.now) ++
         cells_of (rows_from to (drop result heads.now) entries.now) }
 {
-    if heads[last].1 == to { last + 1 } else { last }
+    if heads[last].end() == to { last + 1 } else { last }
 }
 
 // Appends a block, unless it is empty.

@@ -3,7 +3,7 @@ use Rattle.std.proofs.Common.{◌≡◌, ℕ, zero, suc, ◌+◌, ◌-◌, ◌<�
 use Rattle.std.proofs.Common.{drop, sym, ◌∙◌, ap, subst, refl, arith, add_comm, length-append, length-take, length-drop}
 use Rattle.std.specs.List.{slice_range}
 use Rattle.std.proofs.lemmas.List.{drop_more, length-map, drop_at, drop-drop, drop-take, take-take, take-append-le}
-use Rattle.std.proofs.lemmas.List.{drop-append-le, take_all}
+use Rattle.std.proofs.lemmas.List.{drop-append-le, take_all, get_or_default}
 use Rattle.hyper_rows.specs.Counts.{Place}
 use Rattle.hyper_rows.specs.Rows.{Entries, Rows, rows_from, EndsAt, start_from, rows_of, AreRows, start_of, heads_moved}
 use Rattle.hyper_rows.specs.Rows.{Appends, Fit, KeysBelow, cells_of, at_places}
@@ -24,6 +24,15 @@ part_of_one xs i d k = first_of_part xs i (i + 1) d (omega arith) k ∙
 pub row_at : (rows : Rows) (i n : ℕ) (es : Entries) → i < length rows → n ≡ (get_or rows i (0, [])).0 →
     es ≡ (get_or rows i (0, [])).1 → (n, es) ∷ [] ≡ slice_range rows i (i + 1)
 row_at rows i n es h is_number is_entries = rw (is_number, is_entries) (sym (part_of_one rows i (0, []) h))
+
+-- what is read off head i
+pub number_read : (hs : List (ℕ × ℕ)) (i : ℕ) (h : ℕ × ℕ) (n : ℕ) → i < length hs → h ≡ get_or hs i h → n ≡ h.0 →
+    n ≡ (get_or hs i (0, 0)).0
+number_read hs i h n lt is told = told ∙ ap (λ (x : ℕ × ℕ). x.0) (is ∙ get_or_default hs i h (0, 0) lt)
+
+pub end_read : (hs : List (ℕ × ℕ)) (i : ℕ) (h : ℕ × ℕ) (n : ℕ) → i < length hs → h ≡ get_or hs i h → n ≡ h.1 →
+    n ≡ (get_or hs i (0, 0)).1
+end_read hs i h n lt is told = told ∙ ap (λ (x : ℕ × ℕ). x.1) (is ∙ get_or_default hs i h (0, 0) lt)
 
 -- a list of one
 pub one_item : {X : Type 0} (xs : List X) (d : X) → length xs ≡ 1 → xs ≡ get_or xs 0 d ∷ []
@@ -265,7 +274,7 @@ ends_within at (x ∷ hs) n e (suc k) d h = let rest = ends_within x.1 hs n e.1 
 
 -- heads that are to be moved can be
 pub run_fits : (gs : List (ℕ × ℕ)) (fs : Entries) (i j base : ℕ) → AreRows gs fs → i ≤ j → j ≤ length gs →
-    base + (start_of gs j - start_of gs i) < 2 ^ 64 → (k : ℕ) (d : ℕ × ℕ) → k < length (slice_range gs i j) →
+    base + (start_of gs j - start_of gs i) < 2 ^ 32 → (k : ℕ) (d : ℕ × ℕ) → k < length (slice_range gs i j) →
     Fit (start_of gs i) base (get_or (slice_range gs i j) k d).1
 unfolding AreRows start_of
 run_fits gs fs i j base well h m bound k d in_range =

@@ -1,6 +1,7 @@
 pub mod Counts
 pub mod Merged
 pub mod Rows
+pub mod Heads
 pub mod Places
 pub mod Cells
 pub mod Search

@@ -57,9 +57,9 @@ cells_of (row ∷ rows) = at_places row.0 row.1 ++ cells_of rows
 abbrev pub heads_moved : ℕ → ℕ → List (ℕ × ℕ) → List (ℕ × ℕ)
 heads_moved first base hs = map (λ h. (h.0, h.1 - first + base)) hs
 
--- an end that can be moved so
+-- an end that can be moved so, and kept by a head
 abbrev pub Fit : ℕ → ℕ → ℕ → Type 0
-Fit first base end = (first ≤ end) × (end - first + base < 2 ^ 64)
+Fit first base end = (first ≤ end) × (end - first + base < 2 ^ 32)
 
 -- the sum of all counts
 abbrev pub rows_total : Rows → ℕ

@@ -4,6 +4,7 @@ ghost use Rattle.hyper_rows.specs.Cells.{cell_total};
 ghost use Rattle.hyper_rows.specs.InPlace.{StandsAtEntry, AddsFirst};
 ghost use Rattle.hyper_rows.specs.Rows.{AreRows, rows_of, rows_total};
 
+use crate::head::{Head, heads_below};
 use crate::merge::end_below;
 use crate::rows::bounds;
 use cells::Cell;
@@ -11,7 +12,7 @@ use cells::Cell;
 // The row and the entry of a cell's place, from a row and an entry on.
 #[inline(always)]
 fn find(
-    heads: &[(u64, usize)],
+    heads: &[Head],
     entries: &[(u64, u64)],
     from: (usize, usize),
     cell: Cell,
@@ -20,8 +21,8 @@ fn find(
     requires within { from.0 ≤ length heads.now }
     ensures { IfSome result (λ at. StandsAtEntry heads.now entries.now cell at.0 at.1) }
 {
-    let row = end_below(heads, from.0, cell.row);
-    if row == heads.len() || heads[row].0 != cell.row {
+    let row = heads_below(heads, from.0, cell.row);
+    if row == heads.len() || heads[row].number() != cell.row {
         return None;
     }
     let (start, end) = bounds(heads, entries, row, row + 1);
@@ -35,7 +36,7 @@ fn find(
 /// Adds the counts of the first cells of a list in order to the entries that stand at their places, up to the first
 /// cell whose place has none, and gives the number of the cells before it. The search goes from each place on to the
 /// next, so it takes at most a pass over the heads and the entries.
-pub fn add_found(heads: &[(u64, usize)], entries: &mut [(u64, u64)], cells: &[Cell]) -> usize
+pub fn add_found(heads: &[Head], entries: &mut [(u64, u64)], cells: &[Cell]) -> usize
     requires well { AreRows heads.now entries.old }
     requires fits { rows_total (rows_of heads.now entries.old) + cell_total cells.now < 2 ^ 64 }
     ensures well { AreRows heads.now entries.new }

@@ -7,6 +7,7 @@ ghost use Rattle.hyper_rows.specs.Rows.{AreRows, AreRising, EndsAt, InOrder, row
 ghost use Rattle.hyper_rows.specs.Cells.{entry_of, entries_in};
 ghost use Rattle.cells.specs.Order.{Rise};
 
+use crate::head::{Head, check_end};
 use crate::rows::{Rows, row_room};
 use cells::Cell;
 use std::alloc::{AllocError, Global};
@@ -20,7 +21,7 @@ fn push_entries(entries: &mut Vec<(u64, u64)>, cells: &[Cell]) -> Result<(), All
 }
 
 // A head for each row of the cells, where their entries stand as the cells do.
-fn push_row_heads(heads: &mut Vec<(u64, usize)>, cells: &[Cell]) -> Result<(), AllocError>
+fn push_row_heads(heads: &mut Vec<Head>, cells: &[Cell]) -> Result<(), AllocError>
     requires no_heads { heads.old.items ≡ [] }
     requires some { 0 < length cells.now }
     requires sorted { Rise cells.now }
@@ -28,23 +29,24 @@ fn push_row_heads(heads: &mut Vec<(u64, usize)>, cells: &[Cell]) -> Result<(), A
     ensures rising { OnOk result (AreRising heads.new.items) }
     ensures told { OnOk result (cells_of (rows_of heads.new.items (entries_in cells.now)) ≡ map entry_of cells.now) }
 {
+    check_end(cells.len())?;
     let mut row = cells[0].row;
     let mut i = 1;
     'cells: while i < cells.len() {
         let next = cells[i].row;
         if next != row {
-            heads.push((row, i))?;
+            heads.push(Head::new(row, i))?;
             row = next;
         }
         i += 1;
     }
-    heads.push((row, cells.len()))?;
+    heads.push(Head::new(row, cells.len()))?;
     Ok(())
 }
 
 // The rows of cells.
 fn push_cells(
-    heads: &mut Vec<(u64, usize)>,
+    heads: &mut Vec<Head>,
     entries: &mut Vec<(u64, u64)>,
     cells: &[Cell],
 ) -> Result<(), AllocError>

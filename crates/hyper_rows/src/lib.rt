@@ -4,6 +4,7 @@
 
 mod add_in_place;
 mod build;
+mod head;
 mod merge;
 mod part;
 mod rows;
@@ -11,6 +12,7 @@ mod run_cells;
 mod search;
 
 pub use build::rows_of_sorted;
+pub use head::{Head, check_end};
 pub use part::shard_of;
 pub use rows::{Rows, push_heads, row_room};
 pub use run_cells::RunCells;

@@ -10,16 +10,16 @@ ghost use Rattle.hyper_rows.specs.Rows.{sum_entries, KeysBelow, HeadFrom};
 
 use std::alloc::AllocError;
 
-/// The end of the items from `from` on whose keys are below `key`.
+/// The end of the entries from `from` on whose columns are below `col`.
 #[inline(always)]
-pub fn end_below<T>(items: &[(u64, T)], from: usize, key: u64) -> usize
-    requires { from ≤ length items.now }
-    ensures range { (from ≤ result) × (result ≤ length items.now) }
-    ensures below { KeysBelow key (slice_range items.now from result) }
-    ensures rest { HeadFrom key (drop result items.now) }
+pub fn end_below(entries: &[(u64, u64)], from: usize, col: u64) -> usize
+    requires { from ≤ length entries.now }
+    ensures range { (from ≤ result) × (result ≤ length entries.now) }
+    ensures below { KeysBelow col (slice_range entries.now from result) }
+    ensures rest { HeadFrom col (drop result entries.now) }
 {
     let mut end = from;
-    'seek: while end < items.len() && items[end].0 < key {
+    'seek: while end < entries.len() && entries[end].0 < col {
         end += 1;
     }
     end

@@ -1,8 +1,8 @@
 //! A run of compressed nonempty rows ("hypersparse" of SuiteSparse:GraphBLAS, DCSR elsewhere), and the sum of two runs.
 //!
-//! A run is two vectors: the heads, each a row's number and where its entries end, and the entries of all rows, each a
-//! column and a count. A head keeps the end and not the start, so that a row pushed behind touches nothing before it.
-//! Columns and counts stand side by side: one copy moves both.
+//! A run is two vectors: the heads, each a row's number and where its entries end in 12 bytes, and the entries of all
+//! rows, each a column and a count. A head keeps the end and not the start, so that a row pushed behind touches nothing
+//! before it. Columns and counts stand side by side: one copy moves both.
 //!
 //! The sum is a merge by row number. Three rows or more that stand in one run alone are copied together, one slice of
 //! heads and one of entries; a row that stands in both is merged by column. So the time is that of a copy of both runs,
@@ -18,7 +18,8 @@ ghost use Rattle.hyper_rows.specs.InPlace.{AddsFirst};
 ghost use Rattle.hyper_rows.specs.Places.{IsFirst};
 
 use crate::add_in_place::add_found;
-use crate::merge::{end_below, push_entry_sums};
+use crate::head::{Head, check_end, heads_below};
+use crate::merge::push_entry_sums;
 use cells::Cell;
 use std::alloc::{AllocError, Global};
 use std::marker::Model;
@@ -30,7 +31,7 @@ use std::mem;
 /// function that needs it asks for it.
 #[derive(Drop)]
 pub struct Rows {
-    heads: Vec<(u64, usize)>,
+    heads: Vec<Head>,
     entries: Vec<(u64, u64)>,
 }
 
@@ -45,25 +46,26 @@ impl Model for Rows {
 }
 
 // Where row i begins.
-fn start(heads: &[(u64, usize)], i: usize) -> usize
+fn start(heads: &[Head], i: usize) -> usize
     requires { i ≤ length heads.now }
     ensures { result ≡ start_of heads.now i }
 {
-    if i == 0 { 0 } else { heads[i - 1].1 }
+    if i == 0 { 0 } else { heads[i - 1].end() }
 }
 
 // Ends a row: what was pushed after the last row's end is its entries.
-fn end_row(heads: &mut Vec<(u64, usize)>, row: u64, end: usize) -> Result<(), AllocError>
+fn end_row(heads: &mut Vec<Head>, row: u64, end: usize) -> Result<(), AllocError>
     ensures { OnOk result (heads.new.items ≡ heads.old.items ++ (row, end) ∷ []) }
 {
-    heads.push((row, end))?;
+    check_end(end)?;
+    heads.push(Head::new(row, end))?;
     Ok(())
 }
 
 // Appends heads, moved to where their entries now lie. Heads that stay where they were are copied as they stand.
 pub fn push_heads(
-    heads: &mut Vec<(u64, usize)>,
-    from: &[(u64, usize)],
+    heads: &mut Vec<Head>,
+    from: &[Head],
     first: usize,
     base: usize,
 ) -> Result<(), AllocError>
@@ -74,12 +76,12 @@ pub fn push_heads(
         heads.extend_from_slice(from)?;
         return Ok(());
     }
-    heads.extend(from.iter().map(|h| (h.0, h.1 - first + base)))?;
+    heads.extend(from.iter().map(|head| head.moved(first, base)))?;
     Ok(())
 }
 
 // Where the entries of rows i to j begin and end.
-pub fn bounds(heads: &[(u64, usize)], entries: &[(u64, u64)], i: usize, j: usize) -> (usize, usize)
+pub fn bounds(heads: &[Head], entries: &[(u64, u64)], i: usize, j: usize) -> (usize, usize)
     requires well { AreRows heads.now entries.now }
     requires order { i ≤ j }
     requires within { j ≤ length heads.now }
@@ -92,24 +94,24 @@ pub fn bounds(heads: &[(u64, usize)], entries: &[(u64, u64)], i: usize, j: usize
 }
 
 // The number of row i.
-fn row_number(heads: &[(u64, usize)], entries: &[(u64, u64)], i: usize) -> u64
+fn row_number(heads: &[Head], entries: &[(u64, u64)], i: usize) -> u64
     requires { i < length heads.now }
     ensures { result ≡ (slice_index_or (rows_of heads.now entries.now) i (0, [])).0 }
 {
-    heads[i].0
+    heads[i].number()
 }
 
 // How many entries the rows up to row i have, row i with them.
-fn cells_up_to(heads: &[(u64, usize)], entries: &[(u64, u64)], i: usize) -> usize
+fn cells_up_to(heads: &[Head], entries: &[(u64, u64)], i: usize) -> usize
     requires well { AreRows heads.now entries.now }
     requires within { i < length heads.now }
     ensures { result ≡ length (cells_of (take (i + 1) (rows_of heads.now entries.now))) }
 {
-    heads[i].1
+    heads[i].end()
 }
 
 // The entries of row i.
-fn row_entries<'a>(heads: &[(u64, usize)], entries: &'a [(u64, u64)], i: usize) -> &'a [(u64, u64)]
+fn row_entries<'a>(heads: &[Head], entries: &'a [(u64, u64)], i: usize) -> &'a [(u64, u64)]
     requires well { AreRows heads.now entries.now }
     requires within { i < length heads.now }
     ensures value { result.now ≡ (slice_index_or (rows_of heads.now entries.now) i (0, [])).1 }
@@ -121,9 +123,9 @@ fn row_entries<'a>(heads: &[(u64, usize)], entries: &'a [(u64, u64)], i: usize) 
 
 // Appends rows i to j of others.
 fn push_run(
-    heads: &mut Vec<(u64, usize)>,
+    heads: &mut Vec<Head>,
     entries: &mut Vec<(u64, u64)>,
-    from_heads: &[(u64, usize)],
+    from_heads: &[Head],
     from_entries: &[(u64, u64)],
     i: usize,
     j: usize,
@@ -138,18 +140,18 @@ fn push_run(
     let (first, last) = bounds(from_heads, from_entries, i, j);
     let base = entries.len();
     entries.extend_from_slice(&from_entries[first..last])?;
-    let _end = entries.len();
+    check_end(entries.len())?;
     push_heads(heads, &from_heads[i..j], first, base)?;
     Ok(())
 }
 
 // The place of the first cell.
-fn first_place(heads: &[(u64, usize)], entries: &[(u64, u64)]) -> (u64, u64)
+fn first_place(heads: &[Head], entries: &[(u64, u64)]) -> (u64, u64)
     requires well { AreRows heads.now entries.now }
     requires some { 0 < length heads.now }
     ensures { IsFirst result (cells_of (rows_of heads.now entries.now)) }
 {
-    (heads[0].0, entries[0].0)
+    (heads[0].number(), entries[0].0)
 }
 
 // Appends the cells of a row. A row of one entry, as most are in many streams, is a plain push.
@@ -173,7 +175,7 @@ pub fn push_row(out: &mut Vec<Cell>, row: u64, entries: &[(u64, u64)]) -> Result
 
 // Appends rows i to j of `from`.
 pub fn push_rows(
-    heads: &mut Vec<(u64, usize)>,
+    heads: &mut Vec<Head>,
     entries: &mut Vec<(u64, u64)>,
     from: &Rows,
     i: usize,
@@ -192,7 +194,7 @@ pub fn push_rows(
 // Appends a row.
 #[inline(always)]
 fn push_one(
-    heads: &mut Vec<(u64, usize)>,
+    heads: &mut Vec<Head>,
     entries: &mut Vec<(u64, u64)>,
     row: u64,
     from: &[(u64, u64)],
@@ -219,14 +221,14 @@ fn rows_below(rows: &Rows, from: usize, row: u64) -> usize
     ensures range { (from ≤ result) × (result ≤ length rows.now) }
     ensures below { KeysBelow row (slice_range rows.now from result) }
 {
-    end_below(&rows.heads, from, row)
+    heads_below(&rows.heads, from, row)
 }
 
 // Appends rows from i on that are below `row`, and gives their end: all of them where there are three or more, and else
 // the first alone, since a copy costs more than two pushes.
 #[inline(always)]
 fn push_rows_below(
-    heads: &mut Vec<(u64, usize)>,
+    heads: &mut Vec<Head>,
     entries: &mut Vec<(u64, u64)>,
     from: &Rows,
     i: usize,
@@ -251,7 +253,7 @@ fn push_rows_below(
 
 // Appends a row, the sum of two.
 fn push_sum(
-    heads: &mut Vec<(u64, usize)>,
+    heads: &mut Vec<Head>,
     entries: &mut Vec<(u64, u64)>,
     row: u64,
     xs: &[(u64, u64)],
@@ -271,7 +273,7 @@ fn push_sum(
 
 // Appends the sum of two runs of rows.
 fn push_sums(
-    heads: &mut Vec<(u64, usize)>,
+    heads: &mut Vec<Head>,
     entries: &mut Vec<(u64, u64)>,
     a: &Rows,
     b: &Rows,
@@ -333,7 +335,7 @@ impl Rows {
     }
 
     /// Leaves no rows, and hands out the memory that they had, to be filled anew.
-    pub fn take_memory(&mut self, alloc: Global) -> (Vec<(u64, usize)>, Vec<(u64, u64)>)
+    pub fn take_memory(&mut self, alloc: Global) -> (Vec<Head>, Vec<(u64, u64)>)
         ensures heads { result.0.items ≡ [] }
         ensures entries { result.1.items ≡ [] }
         ensures rest { self.new ≡ [] }
@@ -439,7 +441,7 @@ impl Rows {
     }
 
     /// The heads and the entries, as they stand, to be read.
-    pub fn parts(&self) -> (&[(u64, usize)], &[(u64, u64)])
+    pub fn parts(&self) -> (&[Head], &[(u64, u64)])
         ensures well { AreRows result.0.now result.1.now }
         ensures rows { rows_of result.0.now result.1.now ≡ self.now }
     {
@@ -447,7 +449,7 @@ impl Rows {
     }
 
     /// The rows that heads cut the entries into. It takes no memory.
-    pub fn from_parts(heads: Vec<(u64, usize)>, entries: Vec<(u64, u64)>) -> Rows
+    pub fn from_parts(heads: Vec<Head>, entries: Vec<(u64, u64)>) -> Rows
         requires { AreRows heads.items entries.items }
         ensures { result ≡ rows_of heads.items entries.items }
     {

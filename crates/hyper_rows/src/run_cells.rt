@@ -7,6 +7,7 @@ ghost use Rattle.hyper_rows.specs.Rows.{cells_of};
 ghost use Rattle.hyper_rows.specs.Cells.{entry_of};
 ghost use Rattle.hyper_rows.specs.Search.{RowsFull};
 
+use crate::head::Head;
 use crate::rows::Rows;
 use cells::Cell;
 use std::marker::Model;
@@ -17,7 +18,7 @@ use std::marker::Model;
 #[derive(Drop)]
 pub struct RunCells<'a> {
     // The heads behind the current row, of which the entries from `at` to `end` are still to come.
-    heads: &'a [(u64, usize)],
+    heads: &'a [Head],
     entries: &'a [(u64, u64)],
     row: u64,
     at: usize,
@@ -78,8 +79,8 @@ impl<'a> Iterator for RunCells<'a> {
         if self.at == self.end {
             let (head, heads) = self.heads.split_first()?;
             self.heads = heads;
-            self.row = head.0;
-            self.end = head.1;
+            self.row = head.number();
+            self.end = head.end();
         }
         let (col, count) = self.entries[self.at];
         self.at += 1;

@@ -1,4 +1,4 @@
-use Rattle.std.proofs.Common.{◌∙◌, sym, ap, subst, length, map, get_or, arith}
+use Rattle.std.proofs.Common.{◌≡◌, [], ◌∷◌, ◌++◌, ◌∙◌, sym, ap, subst, length, map, get_or, arith}
 use Rattle.std.proofs.lemmas.List.{get_or_default, take_all}
 use Rattle.cells.specs.declared.cell.Cell.{Cell}
 use Rattle.hyper_rows.specs.Cells.{entry_of}
@@ -45,15 +45,20 @@ cells-preserved c =
       }
     ]
 
+-- the last row's head
+last_head : (c : goal.In_ok-push-2) → c.push-2.new.self.items ≡
+    c.cells.heads.items ++ (c.cells.row, length c.args.cells.now) ∷ []
+last_head c = c.in_ok-push-2.ensures.items ∙ ap (λ h. c.cells.heads.items ++ h ∷ []) c.new-2.ensures
+
 pub returns-clause-ends : goal.returns-clause-ends
 returns-clause-ends c = (all_done _ c.args.cells.now _ c.cells.row c.cells.i c.cells.invariant.state.1 _
-    c.cells.invariant.within c.cells-test.false c.in_ok-push-2.ensures.items).ends
+    c.cells.invariant.within c.cells-test.false (last_head c)).ends
 
 pub returns-clause-rising : goal.returns-clause-rising
 returns-clause-rising c = (all_done _ c.args.cells.now _ c.cells.row c.cells.i c.cells.invariant.state.1 _
-    c.cells.invariant.within c.cells-test.false c.in_ok-push-2.ensures.items).rising
+    c.cells.invariant.within c.cells-test.false (last_head c)).rising
 
 pub returns-clause-told : goal.returns-clause-told
 returns-clause-told c = (all_done _ c.args.cells.now _ c.cells.row c.cells.i c.cells.invariant.state.1 _
-    c.cells.invariant.within c.cells-test.false c.in_ok-push-2.ensures.items).told ∙
+    c.cells.invariant.within c.cells-test.false (last_head c)).told ∙
     ap (map entry_of) (take_all (length c.args.cells.now) c.args.cells.now (omega arith))

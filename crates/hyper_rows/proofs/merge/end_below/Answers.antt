@@ -5,10 +5,10 @@ use Rattle.hyper_rows.proofs.RowLaws.{KeysBelow-push}
 use Rattle.hyper_rows.proofs.merge.end_below.Goals as goal
 
 pub seek-preserved : goal.seek-preserved
-seek-preserved g c = record {
+seek-preserved c = record {
   begins = omega arith;
   within = omega arith;
-  below = subst (KeysBelow c.args.key)
-      (sym (between_more c.args.items.now c.args.from c.seek.end c.index-items-end.result c.seek.invariant.begins
-      (omega arith))) (KeysBelow-push c.args.key _ _ c.seek.invariant.below (omega arith));
+  below = subst (KeysBelow c.args.col)
+      (sym (between_more c.args.entries.now c.args.from c.seek.end (0, 0) c.seek.invariant.begins
+      (omega arith))) (KeysBelow-push c.args.col _ _ c.seek.invariant.below (omega arith));
 }

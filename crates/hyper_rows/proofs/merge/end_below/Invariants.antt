@@ -4,11 +4,11 @@ use Rattle.hyper_rows.specs.Rows.{KeysBelow}
 use Rattle.hyper_rows.proofs.merge.end_below.Given as goal
 
 abbrev pub invariant-seek : goal.invariant-seek
-invariant-seek g l = record {
+invariant-seek l = record {
   begins : l.from ≤ l.end;
-  within : l.end ≤ length l.items;
-  below : KeysBelow l.key (slice_range l.items l.from l.end);
+  within : l.end ≤ length l.entries;
+  below : KeysBelow l.col (slice_range l.entries l.from l.end);
 }
 
 abbrev pub decreases-seek : goal.decreases-seek
-decreases-seek g l = length l.items - l.end
+decreases-seek l = length l.entries - l.end

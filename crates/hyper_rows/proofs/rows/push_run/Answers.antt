@@ -7,9 +7,10 @@ use Rattle.hyper_rows.proofs.rows.push_run.Goals as goal
 pub push_heads-requires : goal.push_heads-requires
 push_heads-requires c k d h =
     let bound : c.len-base.result +
-    (start_of c.args.from_heads.now c.args.j - start_of c.args.from_heads.now c.args.i) < 2 ^ 64 =
+    (start_of c.args.from_heads.now c.args.j - start_of c.args.from_heads.now c.args.i) < 2 ^ 32 =
     omega (
       arith,
+      c.in_ok-check_end.ensures,
       c.in_ok-extend_from_slice.ensures.len,
       c.bounds-first.ensures.first,
       c.bounds-first.ensures.last,

@@ -7,7 +7,7 @@ pub bounds-self-inside-self-inside : goal.bounds-self-inside-self-inside
 bounds-self-inside-self-inside c =
     let run = c.if-self.self-inside in
     let begun : IsBegun run.heads.now run.entries.now run.row run.at run.end c.args.self.now = elim c.if-self.branch [
-      | then-self+in_ok-head w ↦ rw w.self-inside-is
+      | then-self+in_ok-head w ↦ rw (w.self-inside-is, w.number-self-inside.ensures, w.end-self-inside.ensures)
           (row_begins _ _ _ _ _ _ _ _ w.if-self.true w.in_ok-head.ensures.cases.0 c.self.invariant.1 c.self.view_is)
       | else-self w ↦ rw w.self-inside-is
           (row_goes_on _ _ _ _ _ _ w.if-self.false c.self.invariant.0 c.self.invariant.1 c.self.view_is)
@@ -21,7 +21,7 @@ pub returns-clause-steps : goal.returns-clause-steps
 returns-clause-steps c =
     let run = c.if-self.self-inside in
     let begun : IsBegun run.heads.now run.entries.now run.row run.at run.end c.args.self.now = elim c.if-self.branch [
-      | then-self+in_ok-head w ↦ rw w.self-inside-is
+      | then-self+in_ok-head w ↦ rw (w.self-inside-is, w.number-self-inside.ensures, w.end-self-inside.ensures)
           (row_begins _ _ _ _ _ _ _ _ w.if-self.true w.in_ok-head.ensures.cases.0 c.self.invariant.1 c.self.view_is)
       | else-self w ↦ rw w.self-inside-is
           (row_goes_on _ _ _ _ _ _ w.if-self.false c.self.invariant.0 c.self.invariant.1 c.self.view_is)
