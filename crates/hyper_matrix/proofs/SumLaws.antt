@@ -1,7 +1,10 @@
 -- The sum of blocks and cells, a block at a time.
 use Rattle.std.proofs.Common.{◌≡◌, ℕ, ◌+◌, ◌<◌, ◌≤◌, T, List, [], ◌∷◌, ◌++◌, length, get_or, take, drop, map, sym, ◌∙◌}
-use Rattle.std.proofs.Common.{ap, subst, refl, inl, inr, arith}
+use Rattle.std.proofs.Common.{ap, subst, refl, inl, inr, arith, append_assoc, Bool, true, false, not, cond, Option}
+use Rattle.std.proofs.Common.{Some, None}
 use Rattle.std.specs.List.{slice_range}
+use Rattle.std.specs.Option.{option_map, is_some}
+use Rattle.std.specs.Bool.{IsTrue}
 use Rattle.std.specs.FinMap.{is_sorted, empty}
 use Rattle.std.proofs.lemmas.Bool.{cases_order}
 use Rattle.std.proofs.lemmas.List.{map-append, take-append-drop}
@@ -11,6 +14,7 @@ use Rattle.hyper_rows.specs.Rows.{Rows, InOrder, cells_of, counts_of, sum_entrie
 use Rattle.hyper_rows.specs.Merged.{merged}
 use Rattle.hyper_matrix.specs.Blocks.{all_cells, IsBlock, Grows, GrowsBySum}
 use Rattle.hyper_rows.specs.Places.{Less, AllPlaces, Precede, IsFirst, BeginsFrom}
+use Rattle.hyper_rows.specs.Search.{is_before, first_from}
 use Rattle.hyper_rows.specs.Cells.{entry_of, built_of, cell_total}
 use Rattle.hyper_rows.specs.InPlace.{AddsFirst}
 use Rattle.cells.specs.declared.cell.Cell.{Cell}
@@ -22,7 +26,7 @@ use Rattle.hyper_rows.proofs.CellLaws.{total-counts_of}
 use Rattle.hyper_rows.proofs.BuiltOfLaws.{counts_of-built, entries_total}
 use Rattle.hyper_rows.proofs.MergeLaws.{split_at, merged-nil, merged_less, merged_greater, merged_same}
 use Rattle.hyper_rows.proofs.PlaceOrderLaws.{all_map, precedes, before_first, before_begin, below_first, columns_rise}
-use Rattle.hyper_rows.proofs.PlaceOrderLaws.{next_left, next_right, next_sum, sorted_back}
+use Rattle.hyper_rows.proofs.PlaceOrderLaws.{next_left, next_right, next_sum, sorted_back, sorted_join}
 use Rattle.hyper_rows.proofs.InPlaceLaws.{still_rising, same_rows, total_moves, sum_rest}
 
 pub built-nil : built [] ≡ empty
@@ -53,6 +57,45 @@ pub ends_right : (block left right : List (Place × ℕ)) (k : Place) → IsFirs
 ends_right block left right k first order begins order_right =
     all_map (λ p. Less p k) (λ p. AllPlaces (Less p) right) (λ p h. before_begin p k right begins order_right h) block
     (below_first block k left first (precedes block left order))
+
+-- where none comes at a place or behind it, all stand before it
+none_from : (q : Place) (es : List (Place × ℕ)) → first_from q es ≡ None → AllPlaces (λ p. Less p q) es
+none_from q [] h = tt
+none_from q (e ∷ es) h = by (is_before e.0 q) refl (none_from q es) h
+  where
+    by : (b : Bool) → is_before e.0 q ≡ b → (first_from q es ≡ None → AllPlaces (λ p. Less p q) es) →
+        cond b (first_from q es) (Some e) ≡ None → Less e.0 q × AllPlaces (λ p. Less p q) es
+    by true is rest none = (subst T (sym is) tt, rest none)
+    by false is rest none = absurd (cc)
+
+-- cells of which the first has none of a block's at its place or behind it
+pub cells_behind : (block read : Rows) (cells : List Cell) (d : Cell) (found : Option Cell) (behind : Bool) →
+    T (is_sorted place_cmp (map entry_of cells)) → 0 < length cells → read ≡ block →
+    option_map entry_of found ≡ first_from ((get_or cells 0 d).row, (get_or cells 0 d).col) (cells_of read) →
+    is_some found ≡ not behind → IsTrue behind → Precede (cells_of block) (map entry_of cells)
+cells_behind block read [] d found behind sorted some is told none holds = absurd (omega arith)
+cells_behind block read (x ∷ cells) d (Some y) behind sorted some is told none holds = absurd (cc (none, holds))
+cells_behind block read (x ∷ cells) d None behind sorted some is told none holds =
+    ends_left (cells_of block) (map entry_of (x ∷ cells)) (x.row, x.col) refl sorted
+    (none_from (x.row, x.col) (cells_of block) (sym (told ∙
+    ap (λ (r : Rows). first_from (x.row, x.col) (cells_of r)) is)))
+
+-- a block, and cells behind it in blocks of their own
+pub grows_apart : (old mid new : List Rows) (block : Rows) (cells : List Cell) →
+    T (is_sorted place_cmp (cells_of block)) →
+    T (is_sorted place_cmp (map entry_of cells)) → Precede (cells_of block) (map entry_of cells) →
+    Grows old mid (cells_of block) → Grows mid new (map entry_of cells) →
+    GrowsBySum old new (cells_of block) (map entry_of cells)
+grows_apart old mid new block cells sorted other order first second = record {
+  cells = cells_of block ++ map entry_of cells;
+  grows = record {
+    blocks = second.blocks;
+    told = second.told ∙ ap (λ (r : List (Place × ℕ)). r ++ map entry_of cells) first.told ∙
+        append_assoc (all_cells old) (cells_of block) (map entry_of cells);
+  };
+  sorted = sorted_join (cells_of block) (map entry_of cells) sorted other order;
+  sums = built-append (cells_of block) (map entry_of cells);
+}
 
 in_block : (block : Rows) → IsBlock block → T (is_sorted place_cmp (cells_of block)) → InOrder block
 in_block block b sorted = record { numbers = b.numbers; columns = columns_rise block sorted }

@@ -47,8 +47,8 @@ pub fn count_ends(alloc: Global, blocks: &[Block]) -> Result<Vec<u64>, AllocErro
     Ok(ends)
 }
 
-// How many cells the blocks have, to make room for them.
-fn count_cells(blocks: &[Block]) -> usize {
+/// How many cells the blocks have, to make room for them.
+pub fn count_cells(blocks: &[Block]) -> usize {
     let mut count = 0usize;
     for block in blocks {
         count = count.saturating_add(block.cell_count());

@@ -28,8 +28,8 @@ use std::marker::Model;
 /// below 2^64.
 ///
 /// The cells lie in blocks of up to 256, mostly of more than half of that. Other matrices may share a block, and nobody
-/// changes one that is shared. Each has room for 256 entries of 16 bytes, 4 KiB, takes another 16 bytes for each of its
-/// nonempty rows, 4 KiB where they are more than 128, and about 150 beside: so a cell takes 17 to 65 bytes. A matrix of
+/// changes one that is shared. Each has room for 256 entries of 16 bytes, 4 KiB, takes another 12 bytes for each of its
+/// nonempty rows, 3 KiB where they are more than 128, and about 150 beside: so a cell takes 17 to 57 bytes. A matrix of
 /// one block takes the room that its cells need, and one that is a sum of such no more than both together did.
 #[derive(Drop)]
 pub struct Hyper {

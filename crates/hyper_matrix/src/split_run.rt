@@ -13,13 +13,7 @@ use hyper_rows::{Head, Rows, check_end, push_heads, row_room};
 use std::alloc::{AllocError, Global};
 
 // The row in which the cell before `to` stands, where row `row` begins at `from`.
-fn row_ending(
-    heads: &[Head],
-    entries: &[(u64, u64)],
-    row: usize,
-    from: usize,
-    to: usize,
-) -> usize
+fn row_ending(heads: &[Head], entries: &[(u64, u64)], row: usize, from: usize, to: usize) -> usize
     requires ends { EndsAt from (drop row heads.now) (length entries.now) }
     requires more { from < to }
     requires within { to ≤ length entries.now }
@@ -73,7 +67,11 @@ fn row_behind(
         cells_of (rows_from from (split_heads heads.now row last to) entries.now) ++
         cells_of (rows_from to (drop result heads.now) entries.now) }
 {
-    if heads[last].end() == to { last + 1 } else { last }
+    if heads[last].end() == to {
+        last + 1
+    } else {
+        last
+    }
 }
 
 // Appends a block, unless it is empty.

@@ -7,13 +7,15 @@
 //! exchange theirs, so that the next sum is made in the memory that the block had. So a block that nobody shares takes
 //! memory for a sum of up to `BLOCK_CELLS` cells only where its rows are more than that memory has room for, which is
 //! once or twice in its life (`row_room`). A block that is shared stays as it was where it is shared, and the sum takes
-//! memory of its own; a sum of more cells is split into new blocks, and the old one is freed.
+//! memory of its own; a sum of more cells is split into new blocks, and the old one is freed. Cells enough for a block
+//! that all stand behind the block's are not added to it, but make blocks of their own: so a list that goes on where a
+//! matrix ends is written once.
 //!
 //! So a small matrix joins a large one for the price of the blocks that it touches and of a pointer for each other. A
 //! sum takes no entry away, so blocks never crumble. Another matrix comes as a list of its cells: any part of it is a
 //! slice, also one that begins inside a row.
 ghost use Rattle.std.specs.Prelude.{◌≡◌, ℕ, List, [], ◌+◌, ◌-◌, ◌<◌, ◌≤◌, ◌^◌, ◌++◌, T, OnOk, IfOk, length};
-ghost use Rattle.std.specs.Prelude.{slice_range, drop, map};
+ghost use Rattle.std.specs.Prelude.{slice_range, drop, map, IsTrue};
 ghost use Rattle.std.specs.FinMap.{is_sorted};
 ghost use Rattle.std.specs.Ordering.{is_lt};
 ghost use Rattle.hyper_rows.specs.Counts.{Place, place_cmp, count_sum, built, ewise_add};
@@ -25,9 +27,10 @@ ghost use Rattle.hyper_matrix.specs.Blocks.{all_cells, IsBlock, AreBlocks, Grows
 use crate::block::Block;
 use crate::blocks::push_all_cells;
 use crate::limits::{BLOCK_CELLS, FEWEST_LISTED, LISTED_BLOCKS, LISTED_PARTS};
+use crate::split::push_blocks;
 use crate::split_run::push_run;
 use cells::Cell;
-use hyper_rows::{Rows, row_room};
+use hyper_rows::{Rows, first_from, row_room};
 use std::alloc::{AllocError, Global};
 use std::collections::VecDeque;
 
@@ -137,8 +140,40 @@ fn push_merged(
     Ok(())
 }
 
-// Appends the sum of a block and cells. Counts are added in the block itself while the cells stand there, and what is
-// left of the cells is merged with it.
+// Whether cells stand behind all that a block has.
+fn stand_behind(block: &Block, cells: &[Cell]) -> bool
+    requires sorted { T (is_sorted place_cmp (cells_of block.now)) }
+    requires some { 0 < length cells.now }
+    requires cells { T (is_sorted place_cmp (map entry_of cells.now)) }
+    ensures { IsTrue result → Precede (cells_of block.now) (map entry_of cells.now) }
+{
+    let first = cells[0];
+    first_from(block.rows(), (first.row, first.col)).is_none()
+}
+
+// Appends a block as it is, and cells that stand behind it in blocks of their own.
+fn push_apart(
+    alloc: Global,
+    out: &mut Vec<Block>,
+    block: Block,
+    cells: &[Cell],
+) -> Result<(), AllocError>
+    requires blocks { AreBlocks out.old.items }
+    requires other { IsBlock block }
+    requires sorted { T (is_sorted place_cmp (cells_of block)) }
+    requires some { 0 < length cells.now }
+    requires cells { T (is_sorted place_cmp (map entry_of cells.now)) }
+    requires order { Precede (cells_of block) (map entry_of cells.now) }
+    ensures sum { OnOk result (GrowsBySum out.old.items out.new.items (cells_of block) (map entry_of cells.now)) }
+    ensures some { OnOk result (0 < length out.new.items) }
+{
+    out.push(block)?;
+    push_blocks(alloc, out, cells)?;
+    Ok(())
+}
+
+// Appends the sum of a block and cells. Cells enough for a block that stand behind it make blocks of their own. Counts
+// of others are added in the block itself while the cells stand there, and what is left of them is merged with it.
 fn push_sum(
     alloc: Global,
     out: &mut Vec<Block>,
@@ -154,6 +189,10 @@ fn push_sum(
     ensures sum { OnOk result (GrowsBySum out.old.items out.new.items (cells_of block) (map entry_of cells.now)) }
     ensures some { OnOk result (0 < length out.new.items) }
 {
+    if cells.len() >= BLOCK_CELLS && stand_behind(&block, cells) {
+        push_apart(alloc, out, block, cells)?;
+        return Ok(());
+    }
     let mut block = block;
     let added = block.add_found(cells);
     push_merged(alloc, out, block, &cells[added..], spare)?;

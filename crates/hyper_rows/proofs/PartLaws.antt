@@ -1,11 +1,11 @@
 -- The entries of one shard, and those of all shards, row by row.
-use Rattle.std.proofs.Common.{◌≡◌, ℕ, zero, suc, ◌+◌, ◌-◌, ◌*◌, ◌<◌, ◌%◌, ◌^◌, bit_and, true, false, cond, eqb, List, [], ◌∷◌, ◌++◌, map}
-use Rattle.std.proofs.Common.{drop, set, get_or, length, replicate, append_assoc, refl, sym, ◌∙◌, ap, arith}
+use Rattle.std.proofs.Common.{◌≡◌, ℕ, zero, suc, ◌+◌, ◌-◌, ◌*◌, ◌<◌, ◌%◌, ◌^◌, bit_and, true, false, cond, eqb}
+use Rattle.std.proofs.Common.{List, [], ◌∷◌, ◌++◌, map, drop, set, get_or, length, append_assoc, refl, sym, ◌∙◌, ap, arith}
 use Rattle.std.specs.declared.vec.Vec.{Vec}
 use Rattle.std.proofs.Math.Nat.{mod-eq_of_lt}
 use Rattle.std.proofs.Math.Pow.{pow-lt}
 use Rattle.std.proofs.lemmas.Nat.{and_mask}
-use Rattle.std.proofs.lemmas.List.{append-nil, get_or-replicate, length-map, length-replicate, map-set}
+use Rattle.std.proofs.lemmas.List.{append-nil, length-map, map-set}
 use Rattle.std.proofs.lemmas.List.Elements.{filter-append}
 use Rattle.std.proofs.lemmas.Bool.{eq-eqb, ne_eqb}
 use Rattle.cells.specs.declared.cell.Cell.{Cell}
@@ -125,21 +125,3 @@ row_listed k i j rows lists d new within place here is =
     (omega (arith, place, length-map lists entries_in))))
     ∙ with_parts-append 0 k (listed lists) (at_places row.0 row.1) rest
     ∙ ap (with_parts 0 k (listed lists)) (sym (cells_behind rows i within))
-
--- the list at place j has the entries of its shard behind it
-with_parts-at : (s k j : ℕ) (ls : List (List (Place × ℕ))) (es : List (Place × ℕ)) → j < length ls →
-    get_or (with_parts s k ls es) j [] ≡ get_or ls j [] ++ part_entries (s + j) k es
-with_parts-at s k j [] es within = absurd (omega (arith, within))
-with_parts-at s k zero (l ∷ ls) es within = ap (λ n. l ++ part_entries n k es) (omega arith)
-with_parts-at s k (suc j) (l ∷ ls) es within = with_parts-at (s + 1) k j ls es (omega (arith, within))
-    ∙ ap (λ n. get_or ls j [] ++ part_entries n k es) (omega arith)
-
--- lists that were empty have the entries of their shards
-pub part_at : {Z : Type 0} → (k s : ℕ) (lists : List (Vec Cell Z)) (d : Vec Cell Z) (es : List (Place × ℕ)) →
-    listed lists ≡ with_parts 0 k (replicate k []) es → s < length lists → s < k →
-    map entry_of (get_or lists s d).items ≡ part_entries s k es
-part_at k s lists d es are within below =
-    sym (listed-at lists s d within) ∙ ap (λ ls. get_or ls s []) are
-    ∙ with_parts-at 0 k s (replicate k []) es (omega (arith, below, length-replicate {A = List (Place × ℕ)} k []))
-    ∙ ap (λ l. l ++ part_entries (0 + s) k es) (get_or-replicate k s [] [] below)
-    ∙ ap (λ n. part_entries n k es) (omega arith)

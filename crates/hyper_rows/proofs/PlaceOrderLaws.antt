@@ -80,7 +80,7 @@ pub to_all : (p : Place) (es : List (Place × ℕ)) → T (below_all place_cmp p
 to_all p [] h = tt
 to_all p (e ∷ es) h = (T_first _ _ h, to_all p es (T_second _ _ h))
 
-of_all : (p : Place) (es : List (Place × ℕ)) → AllPlaces (Less p) es → T (below_all place_cmp p es)
+pub of_all : (p : Place) (es : List (Place × ℕ)) → AllPlaces (Less p) es → T (below_all place_cmp p es)
 of_all p [] h = tt
 of_all p (e ∷ es) h = T_both _ _ h.0 (of_all p es h.1)
 

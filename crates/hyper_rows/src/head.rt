@@ -34,7 +34,11 @@ impl Model for Head {
 
     ghost inverse = { λ d. record { high = d.0 / 2 ^ 32; low = d.0 % 2 ^ 32; end = d.1 } };
 
-    ghost inverse_ok = { λ h w i. record { high = halves_high h.high h.low w.1 i; low = halves_low h.high h.low w.1 i; end = h.end } };
+    ghost inverse_ok = { λ h w i. record {
+      high = halves_high h.high h.low w.1 i;
+      low = halves_low h.high h.low w.1 i;
+      end = h.end;
+    } };
 }
 
 impl Head {

@@ -67,9 +67,11 @@ fn based_shards(
         Stand setup.now (accepted base.now.counts folded []) 0 v.items) }
 {
     let k = setup.shards();
+    let parts = base.parts(alloc, k)?;
     let mut shards = Vec::with_capacity(alloc, k as usize)?;
     'make: for s in 0..k {
-        let part = base.part(alloc, s, k)?;
+        // The same blocks: those of `parts` are let go of behind the loop.
+        let part = parts[s as usize].copy(alloc)?;
         let own = Arc::new(alloc, part)?;
         let shard = Shard::with_base(rt, alloc, setup, s, own)?;
         // Any call on a shard tells what it keeps.

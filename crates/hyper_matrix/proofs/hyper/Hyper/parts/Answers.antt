@@ -1,8 +1,11 @@
-use Rattle.std.proofs.Common.{◌∙◌, ap, arith}
-use Rattle.hyper_rows.specs.Counts.{total}
+use Rattle.std.proofs.Common.{List, ap, ◌∙◌, arith}
+use Rattle.hyper_rows.specs.Counts.{Counts, built, count_sum, total}
+use Rattle.hyper_rows.specs.Rows.{Rows}
+use Rattle.hyper_rows.proofs.SortedListLaws.{built-in_order}
+use Rattle.hyper_matrix.specs.Blocks.{all_cells}
 use Rattle.hyper_matrix.specs.Matrix.{Matrix, matrix}
-use Rattle.hyper_matrix.specs.Parts.{shard_part}
-use Rattle.hyper_matrix.proofs.PartLaws.{list_at, part_sorted, part_within, part_fits, part_built, parts_more}
+use Rattle.hyper_matrix.specs.Parts.{parts_below}
+use Rattle.hyper_matrix.proofs.MatrixLaws.{kept_total}
 use Rattle.hyper_matrix.proofs.PartLaws.{parts-one}
 use Rattle.hyper_matrix.proofs.hyper.Hyper.parts.Goals as goal
 
@@ -10,34 +13,20 @@ pub returns-then-k-eq1 : goal.returns-then-k-eq1
 returns-then-k-eq1 c = parts-one c.args.k c.args.self.now c.in_ok-copy.field-0 c.in_ok-parts.parts.items
     c.push.new.self.items c.if-k-eq1.true c.in_ok-copy.ensures c.in_ok-parts.ensures.items c.in_ok-push.ensures.items
 
-pub of_sorted-requires : goal.of_sorted-requires
-of_sorted-requires c =
-    let blocks = c.self.inside.blocks.items in
-    let is = list_at c.args.k c.shards.list-index blocks c.deref.result.now c.in_ok-lists.lists.items
-    c.deref-list-items.result.now c.list-item.result c.deref-in-shards.result.now c.in_ok-lists.ensures.parts
-    c.deref.ensures.value c.in_ok-lists.ensures.count c.deref-list-items.ensures.value (omega arith) c.list-item.is
-    c.deref-in-shards.ensures.value in record {
-      rows = c.self.invariant.holds.is_rows;
-      cols = c.self.invariant.holds.is_cols;
-      sorted = part_sorted _ _ _ c.shards.list-index c.args.k blocks c.self.invariant.holds _ is;
-      within = part_within _ _ _ c.shards.list-index c.args.k blocks c.self.invariant.holds _ is;
-      fits = omega (
-        arith,
-        part_fits _ _ _ c.shards.list-index c.args.k blocks c.self.invariant.holds _ is,
-        ap (λ (m : Matrix). total m.counts) c.self.view_is,
-        c.total-bound.ensures.fits,
-      );
-    }
+pub parts_of-requires-clause-fits : goal.parts_of-requires-clause-fits
+parts_of-requires-clause-fits c = omega (
+  arith,
+  kept_total _ _ _ _ c.self.invariant.holds,
+  c.self.invariant.holds.kept,
+  ap (λ (m : Matrix). total m.counts) c.self.view_is,
+  c.total-bound.ensures.fits,
+  ap (λ (bs : List Rows). count_sum (all_cells bs)) c.deref.ensures.value,
+)
 
-pub shards-preserved : goal.shards-preserved
-shards-preserved c =
+pub returns : goal.returns
+returns c =
     let blocks = c.self.inside.blocks.items in
-    let is = list_at c.args.k c.shards.list-index blocks c.deref.result.now c.in_ok-lists.lists.items
-    c.deref-list-items.result.now c.list-item.result c.deref-in-shards.result.now c.in_ok-lists.ensures.parts
-    c.deref.ensures.value c.in_ok-lists.ensures.count c.deref-list-items.ensures.value (omega arith) c.list-item.is
-    c.deref-in-shards.ensures.value in
-    parts_more c.shards.list-index c.args.k c.args.self.now c.in_ok-of_sorted.field-0 c.shards.parts.items
-    c.push-in-shards.new.self.items c.shards.invariant
-    (c.in_ok-of_sorted.ensures ∙ ap (matrix c.self.inside.rows c.self.inside.cols)
-    (part_built _ _ _ c.shards.list-index c.args.k blocks c.self.invariant.holds _ is)
-    ∙ ap (shard_part c.shards.list-index c.args.k) c.self.view_is) c.in_ok-push-2.ensures.items
+    let whole = λ (m : Counts). parts_below c.args.k c.args.k (matrix c.self.inside.rows c.self.inside.cols m) in
+    c.in_ok-parts-2.ensures ∙ ap (λ (bs : List Rows). whole (built (all_cells bs))) c.deref.ensures.value
+    ∙ ap whole (built-in_order (all_cells blocks) c.self.invariant.holds.sorted)
+    ∙ ap (parts_below c.args.k c.args.k) c.self.view_is
