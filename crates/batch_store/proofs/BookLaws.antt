@@ -271,10 +271,6 @@ state_admitted s free past lines lines' v p line view more =
     ap (state_of past) more ∙ state_push past lines (p, line)
     ∙ ap (λ (w : Register). with_batch w.state (arc_value line.batch)) view
 
-pub on_ok_at : {T E : Type 0} (r : Result T E) (P : Type 0) → IsOk r → OnOk r P → P
-on_ok_at (Ok x) P h p = p
-on_ok_at (Err e) P h p = cc
-
 -- ---- a walk by place
 -- one item more
 one_more : {X : Type 0} (xs : List X) (i : ℕ) (x : X) → Some x ≡ slice_get xs i →

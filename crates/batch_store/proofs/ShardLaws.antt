@@ -16,6 +16,7 @@ use Rattle.layer_compaction.specs.Shared.{content}
 use Rattle.layer_cascade.specs.Cascade.{cascade, KeepsCuts}
 use Rattle.layer_cascade.specs.Layering.{Layering, layering, no_layers}
 use Rattle.layer_cascade.proofs.CascadeLaws.{content-cascade, cuts-cascade, length-cascade}
+use Rattle.layer_cascade.proofs.KeptLemmas.{cuts-replicate}
 use Rattle.layer_compaction.proofs.LayerLemmas.{empty-ewise_add}
 use Rattle.batch_store.specs.declared.pair.Pair.{Pair}
 use Rattle.batch_store.specs.declared.verdict.Entry.{Entry}
@@ -81,11 +82,6 @@ keyed_push [] e h c n = (c, n, tt)
 keyed_push (x ∷ xs) e h c n = (h.0, h.1, keyed_push xs e h.2 c n)
 
 -- empty layers keep any cuts
-keeps_none : (n : ℕ) (cuts : List ℕ) → KeepsCuts (replicate n empty) cuts
-keeps_none zero cuts = tt
-keeps_none (suc n) [] = tt
-keeps_none (suc n) (c ∷ cs) = (omega (arith, len-empty place_cmp ℕ), keeps_none n cs)
-
 abbrev no_layer : Counts
 no_layer = empty
 
@@ -126,7 +122,7 @@ shard_begins v s layers base sound here is based =
     (subst (λ (m : Matrix). KeepsShard v s (no_layers v.rows v.cols v.cuts) m []) (sym based)
     (begins v s (replicate (length v.cuts + 1) empty) (matrix v.rows v.cols empty) sound here refl refl
     (part-empty s v.shards) (omega (arith, total-empty)) (content-empty (length v.cuts + 1))
-    (keeps_none (length v.cuts + 1) v.cuts) (count_none (length v.cuts + 1))))
+    (cuts-replicate (length v.cuts + 1) v.cuts) (count_none (length v.cuts + 1))))
 
 -- empty layers have nothing
 pub none_held : (v : Setting) (layers : Layering) → layers ≡ no_layers v.rows v.cols v.cuts →
@@ -148,7 +144,7 @@ shard_based v s old plan layers base sound here rows cols own within begun plann
     (content-cascade none v.cuts base.counts count
     ∙ ap (λ (m : Counts). ewise_add m base.counts) (content-empty (length v.cuts + 1))
     ∙ empty-ewise_add base.counts)
-    (cuts-cascade none v.cuts base.counts (keeps_none (length v.cuts + 1) v.cuts))
+    (cuts-cascade none v.cuts base.counts (cuts-replicate (length v.cuts + 1) v.cuts))
     (length-cascade none v.cuts base.counts ∙ count))
 
 -- a shard whose base is what its layers hold

@@ -5,6 +5,7 @@ use Rattle.std.specs.FinMap.{empty, get, get-empty}
 use Rattle.hyper_matrix.specs.Counts.{Place, place_cmp, Counts, plus, total, ewise_add, part, in_part}
 use Rattle.hyper_matrix.proofs.CountLaws.{same_counts, get-part, get-ewise_add, ewise_add-empty}
 use Rattle.hyper_matrix.proofs.CountLaws.{ewise_add_assoc, total-empty, total-ewise_add}
+use Rattle.hyper_matrix.proofs.PartLaws.{part-ewise_add}
 use Rattle.layer_compaction.specs.Shared.{content}
 use Rattle.layer_compaction.proofs.LayerLemmas.{empty-ewise_add}
 use Rattle.batch_store.specs.declared.verdict.Entry.{Entry}
@@ -14,18 +15,6 @@ use Rattle.batch_store.specs.Books.{list_total}
 use Rattle.batch_store.specs.Parts.{record_content, concerned, parts_of}
 use Rattle.batch_store.proofs.PartLaws.{record_content-concerned}
 use Rattle.batch_store.proofs.VerdictLaws.{total_of-append}
-
-pub part-ewise_add : (a b : Counts) (s k : ℕ) → part (ewise_add a b) s k ≡ ewise_add (part a s k) (part b s k)
-part-ewise_add a b s k = same_counts _ _ (λ q.
-    get-part (ewise_add a b) s k q ∙ ap (λ (o : Option ℕ). cond (in_part s k q) o None) (get-ewise_add a b q)
-    ∙ both (in_part s k q) (get a q) (get b q)
-    ∙ sym (get-ewise_add (part a s k) (part b s k) q
-    ∙ ap (λ (o : Option ℕ). plus o (get (part b s k) q)) (get-part a s k q)
-    ∙ ap (plus (cond (in_part s k q) (get a q) None)) (get-part b s k q)))
-  where
-    both : (t : Bool) (x y : Option ℕ) → cond t (plus x y) None ≡ plus (cond t x None) (cond t y None)
-    both true x y = refl
-    both false x y = refl
 
 -- the part of a part is that part
 pub part-part : (a : Counts) (s k : ℕ) → part (part a s k) s k ≡ part a s k

@@ -27,7 +27,7 @@ pub content-no_layers : (n : ℕ) → content (replicate n empty) ≡ empty
 content-no_layers zero = refl
 content-no_layers (suc n) = ap (ewise_add empty) (content-no_layers n) ∙ ewise_add-empty empty
 
-cuts-replicate : (n : ℕ) (cuts : List ℕ) → KeepsCuts (replicate n empty) cuts
+pub cuts-replicate : (n : ℕ) (cuts : List ℕ) → KeepsCuts (replicate n empty) cuts
 cuts-replicate zero cuts = tt
 cuts-replicate (suc n) [] = tt
 cuts-replicate (suc n) (cut ∷ cuts) = (omega (arith, len-empty place_cmp ℕ), cuts-replicate n cuts)

@@ -20,7 +20,7 @@ use Rattle.hyper_rows.proofs.BuildLaws.{not_below}
 use Rattle.hyper_rows.proofs.CountLaws.{places_total, same_counts, get-ewise_add, get-built, built-append, ewise_add_assoc}
 use Rattle.hyper_rows.proofs.CountLaws.{ewise_add_comm, ewise_add-empty, T_both, total-ewise_add, total-built, total-empty}
 use Rattle.hyper_rows.proofs.SortedListLaws.{entries-in_order, built-in_order, places_of_sum, places_of_built}
-use Rattle.hyper_rows.proofs.PlaceOrderLaws.{before_first, before_from}
+use Rattle.hyper_rows.proofs.PlaceOrderLaws.{before_first, before_from, of_all}
 use Rattle.merged_cells.specs.declared.front.Front.{Front}
 use Rattle.merged_cells.specs.Fronts.{front_cmp, left_of, fronts_of, fronts_sum, AreRising, NoneBefore, AreFronts}
 use Rattle.merged_cells.specs.Fronts.{AreSources, IsMerge, IsElsewhere}
@@ -37,15 +37,11 @@ built_again m = built-in_order (entries m) (entries_sorted m) ∙ again m
 no_entries : entries (empty {X = ℕ} {R = place_cmp}) ≡ []
 no_entries = no_items _ (sym (len-entries empty) ∙ len-empty place_cmp ℕ)
 
-below : (p : Place) (es : List (Place × ℕ)) → AllPlaces (Less p) es → T (below_all place_cmp p es)
-below p [] h = tt
-below p (e ∷ es) h = T_both _ _ h.0 (below p es h.1)
-
 -- an entry before all others of a sum is its first
 first_entry : (e : Place × ℕ) (m : Counts) → AllPlaces (Less e.0) (entries m) →
     entries (ewise_add (built (e ∷ [])) m) ≡ e ∷ entries m
 first_entry e m all =
-    let sorted : T (is_sorted place_cmp (e ∷ entries m)) = T_both _ _ (below e.0 (entries m) all) (entries_sorted m) in
+    let sorted : T (is_sorted place_cmp (e ∷ entries m)) = T_both _ _ (of_all e.0 (entries m) all) (entries_sorted m) in
     ap entries (ap (ewise_add (built (e ∷ []))) (sym (built_again m)) ∙ sym (built-append (e ∷ []) (entries m))
     ∙ built-in_order (e ∷ entries m) sorted) ∙ entries-in_order (e ∷ entries m) sorted
 

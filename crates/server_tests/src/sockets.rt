@@ -2,7 +2,7 @@
 //!
 //! The replies were worked out by hand from the frames' layout, not taken from a run.
 mod clients;
-mod frames;
+pub mod frames;
 mod refusals;
 mod said;
 mod servers;

@@ -12,6 +12,7 @@ use Rattle.snap_file.specs.declared.head.Head.{Head}
 use Rattle.snap_file.specs.declared.fault.SnapFault.{SnapFault}
 use Rattle.snap_file.specs.declared.fault.SnapFault.TheVariants.{BadMark, BadVersion, BadHead, BadBatch, OutOfOrder}
 use Rattle.snap_file.specs.declared.fault.SnapFault.TheVariants.{RepeatedNumber, TotalDiffers, Truncated, ExtraBytes}
+use Rattle.snap_file.proofs.EndLemmas.{end_here}
 use Rattle.snap_file.proofs.Steady.{place_same, kind_same, number_short, refused_at, goes_on, end_more}
 
 abbrev outcome : Type 0
@@ -151,10 +152,6 @@ pub behind_batches : (h : Head) (n : ℕ) (p : Progress) (k : Progress → Readi
 unfolding batches_behind
 behind_batches h zero p k each = each p
 behind_batches h (suc n) p k each = behind_batch h p _ (λ q. behind_batches h n q k each)
-
-end_here : (c : Contents) (at : ℕ) → end c (record { at = at; rest = [] }) ≡ Ok c
-unfolding end
-end_here c at = refl
 
 ended : (c : Contents) (at : ℕ) (rest : List ℕ) (kind : SnapFault) (shown : ℕ) →
     end c (record { at = at; rest = rest }) ≡ fault_at kind shown → ShowsBehind at shown kind

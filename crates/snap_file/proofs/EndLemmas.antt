@@ -18,7 +18,7 @@ none : (l : List ℕ) → length l < 1 → l ≡ []
 none [] h = refl
 none (x ∷ l) h = absurd (omega arith)
 
-end_here : (c : Contents) (at : ℕ) → end c (record { at = at; rest = [] }) ≡ Ok c
+pub end_here : (c : Contents) (at : ℕ) → end c (record { at = at; rest = [] }) ≡ Ok c
 unfolding end
 end_here c at = refl
 

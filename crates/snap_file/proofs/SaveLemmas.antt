@@ -7,10 +7,6 @@ use Rattle.byte_io.specs.declared.fault.WriteFault.{WriteFault}
 use Rattle.file_folder.proofs.RunLemmas.{taken_mapped, stopped_mapped, calls_keep}
 use Rattle.snap_file.specs.Saving.{unfinished}
 
-pub on_ok : {T E : Type 0} (r : Result T E) (P : Type 0) → is_err r ≡ false → OnOk r P → P
-on_ok (Ok x) P e h = h
-on_ok (Err x) P e h = absurd (cc)
-
 pub unfinished_differs : (path : List ℕ) → unfinished path ≡ path → ⊥
 unfinished_differs path e =
     let longer = length-append path (codes ".new") in

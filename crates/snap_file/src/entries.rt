@@ -14,7 +14,7 @@ ghost use Rattle.snap_file.specs.declared.fault.SnapFault.{SnapFault};
 
 use crate::fault::SnapFault;
 use crate::head::Head;
-use crate::limits::{CELLS_A_RUN, SHORTEST_RUN};
+use crate::limits::{RUN_SHARE, SHORTEST_RUN};
 use crate::reader::ByteReader;
 use crate::tally::{CellTally, read_cells};
 use byte_io::Source;
@@ -39,7 +39,7 @@ fn with_run(alloc: Global, m: Hyper, tally: &CellTally) -> Result<Hyper, SnapFau
 fn run_behind(entries: u64) -> u64
     ensures { 0 < result }
 {
-    (entries / CELLS_A_RUN).max(SHORTEST_RUN)
+    (entries / RUN_SHARE).max(SHORTEST_RUN)
 }
 
 /// Reads the cells of a matrix, a run at a time; the counts together may come to `most`.

@@ -12,5 +12,5 @@ pub const VERSION: u32 = 2;
 /// How many cells are read at a time before they go into a matrix, where it has few.
 pub const SHORTEST_RUN: u64 = 4_096;
 
-/// Where a matrix has many cells, one more for so many of them is read at a time.
-pub const CELLS_A_RUN: u64 = 16;
+/// Where a matrix has many cells, a run of one in so many of them is read at a time.
+pub const RUN_SHARE: u64 = 16;

@@ -1,6 +1,7 @@
 //! Links for the sessions of a pool.
 
-use crate::pool::frames::{SAVE, TWO_PUTS_AND_A_CELL, put_frame};
+use crate::pool::frames::{TWO_PUTS_AND_A_CELL, put_frame};
+use crate::sockets::frames::SAVE;
 use byte_io::Script;
 use std::alloc::Global;
 use std::process::Abort;

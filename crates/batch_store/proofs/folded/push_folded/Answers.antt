@@ -1,7 +1,7 @@
 use Rattle.std.proofs.Common.{◌∙◌}
 use Rattle.indexmap.proofs.CallerLemmas.{insert_entry-new}
 use Rattle.batch_store.specs.Books.{same_key}
-use Rattle.batch_store.proofs.BookLaws.{on_ok_at}
+use Rattle.segmented_map.proofs.MapLaws.{on_ok_at}
 use Rattle.batch_store.proofs.folded.push_folded.Goals as goal
 
 pub returns-clause-lines : goal.returns-clause-lines

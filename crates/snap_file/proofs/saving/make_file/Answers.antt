@@ -3,7 +3,7 @@ use Rattle.file_folder.proofs.FileLemmas.{told_then, told_map, made_holds, other
 use Rattle.file_folder.proofs.RunLemmas.{taken_holds, stopped_keeps}
 use Rattle.batch_store.specs.Books.{accepted_in}
 use Rattle.snap_file.specs.Spelling.{file}
-use Rattle.snap_file.proofs.SaveLemmas.{on_ok}
+use Rattle.file_folder.proofs.MemoryLemmas.{on_ok}
 use Rattle.snap_file.proofs.saving.make_file.Goals as goal
 
 pub returns-in-Err-clause-kept : goal.returns-in-Err-clause-kept
