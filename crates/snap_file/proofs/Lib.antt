@@ -19,6 +19,7 @@ pub mod ListLemmas
 pub mod PastLemmas
 pub mod BehindLemmas
 pub mod BelowLemmas
+pub mod AheadLemmas
 pub mod MemoryLaws
 pub mod StartLemmas
 pub mod SaveLemmas

@@ -1,5 +1,5 @@
 -- Saves: what a writer did to the file that was lent to it, and the name of that file.
-use Rattle.std.proofs.Common.{◌≡◌, ℕ, List, length, Result, Ok, Err, OnOk, IfErr, is_err, refl, ap, false, arith}
+use Rattle.std.proofs.Common.{◌≡◌, ℕ, List, length, Result, Ok, Err, OnOk, IfErr, refl, ap, arith}
 use Rattle.std.proofs.Common.{length-append, codes, ◌∙◌}
 use Rattle.byte_io.specs.Streams.{Answer}
 use Rattle.byte_io.specs.Writing.{AnyOffer, HasTaken, HasStopped}

@@ -1,6 +1,6 @@
 -- A file on its way: what is pending handed on, more appended, and a stop.
 use Rattle.std.proofs.Common.{◌≡◌, ℕ, ◌+◌, ◌*◌, ◌^◌, ◌<◌, ◌≤◌, List, [], ◌∷◌, ◌++◌, length, flat_map, refl, sym, ap}
-use Rattle.std.proofs.Common.{drop, get_or, drop-cons, add-one, subst, ◌∙◌, append_assoc, length-append, arith}
+use Rattle.std.proofs.Common.{drop, get_or, drop-cons, add-one, subst, ◌∙◌, append_assoc, arith}
 use Rattle.std.proofs.lemmas.List.{append-nil}
 use Rattle.byte_io.specs.Streams.{Answer}
 use Rattle.byte_io.specs.Writing.{HasTaken, HasStopped}

@@ -1,5 +1,5 @@
 -- The first fault of a list of bytes, and what a reader of a source tells of one.
-use Rattle.std.specs.Prelude.{◌≡◌, ◌≢◌, ℕ, ◌+◌, ◌*◌, ◌<◌, ◌≤◌, ◌⊎◌, List, [], ◌∷◌, ◌++◌, length, Result, Ok, Err}
+use Rattle.std.specs.Prelude.{◌≡◌, ◌≢◌, ℕ, ◌+◌, ◌*◌, ◌<◌, ◌≤◌, ◌⊎◌, List, [], ◌∷◌, ◌++◌, length, drop, Result, Ok, Err}
 use Rattle.byte_io.specs.Streams.{Answer, Calls, bytes_of_calls}
 use Rattle.byte_io.specs.Writing.{EachTakes}
 use Rattle.byte_io.specs.declared.fault.DeviceFault.{DeviceFault}
@@ -101,6 +101,12 @@ pub record ReaderState : Type 0 where
   pub pending : List ℕ
   pub taken : ℕ
   pub max_bytes : ℕ
+
+-- So many more bytes are judged, which were the first that were pending.
+pub record IsPassed (old new : ReaderState) (n : ℕ) : Type 0 where
+  pub pending_is : new.pending ≡ drop n old.pending
+  pub taken_is : new.taken ≡ old.taken + n
+  pub limit_is : new.max_bytes ≡ old.max_bytes
 
 -- The calls that led from s to t gave bytes of which the front was judged without a fault; `left` is still to be read.
 pub record HasRead {S : Type 0} (gives : S → Result (List ℕ) DeviceFault → S → Type 0) (failures : S → ℕ)

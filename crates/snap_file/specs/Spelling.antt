@@ -1,6 +1,6 @@
 -- The spellings of a setup and of what was accepted: one in version 2, which is written, and, where nothing is folded,
 -- one in version 1. Numbers are unsigned, the highest byte first.
-use Rattle.std.specs.Prelude.{◌≡◌, ℕ, ◌<◌, ◌≤◌, ◌^◌, ◌⊎◌, List, [], ◌∷◌, ◌++◌, length, flat_map, Bool, slice_index}
+use Rattle.std.specs.Prelude.{◌≡◌, ℕ, ◌<◌, ◌≤◌, ◌^◌, ◌⊎◌, List, [], ◌∷◌, ◌++◌, length, flat_map, Bool}
 use Rattle.std.specs.Prelude.{◌&&◌, ◌==◌}
 use Rattle.std.specs.List.{concat, AllByRecursion, list_any}
 use Rattle.std.specs.Int.{Width, w8, w32, w64, to_be_bytes}

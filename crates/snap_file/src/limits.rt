@@ -14,3 +14,6 @@ pub const SHORTEST_RUN: u64 = 4_096;
 
 /// Where a matrix has many cells, a run of one in so many of them is read at a time.
 pub const RUN_SHARE: u64 = 16;
+
+/// Bytes: those of a cell.
+pub const CELL_BYTES: usize = 24;

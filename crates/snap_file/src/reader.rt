@@ -1,15 +1,19 @@
 //! Fields of numbers, read from a source in pieces.
 ghost use Rattle.std.specs.Prelude.{◌≡◌, ℕ, ◌+◌, ◌-◌, ◌<◌, ◌≤◌, ◌^◌, List, [], ◌++◌, length, take, drop, Result};
-ghost use Rattle.std.specs.Prelude.{Ok, Err, IfOk, OnOk, IfErr, OnErr, IsTrue, IsFalse, true, false};
+ghost use Rattle.std.specs.Prelude.{Ok, Err, IfOk, OnOk, IfErr, OnErr, IfSome, IsTrue, IsFalse, true, false};
 ghost use Rattle.std.specs.Int.{Width, w8, w32, w64, byte_len, from_be_bytes};
 ghost use Rattle.snap_file.specs.Table.{Reading, Contents, number, refuse_if, outside, field_in, end};
 ghost use Rattle.snap_file.specs.Outcomes.{HasJudged, HasAsked, HasEnded, HasFailed, IsOfBytes, Stops, ReadsSnapshot};
-ghost use Rattle.snap_file.specs.Outcomes.{piece_bytes};
+ghost use Rattle.snap_file.specs.Outcomes.{piece_bytes, IsPassed};
+ghost use Rattle.snap_file.specs.Tallies.{IsAhead};
+ghost use Rattle.snap_file.specs.declared.limits.TheConstants.{CELL_BYTES};
 ghost use Rattle.byte_io.specs.Buffers.{Fills};
 ghost use Rattle.snap_file.specs.declared.fault.SnapFault.{SnapFault};
 
 use crate::fault::SnapFault;
+use crate::limits::CELL_BYTES;
 use byte_io::{DeviceFault, READ_CAPACITY, ReadBuffer, Source};
+use cells::Cell;
 use std::alloc::{AllocError, Global};
 use std::marker::Model;
 
@@ -67,7 +71,10 @@ fn u64_at(p: &[u8]) -> u64
     requires { length p.now ≡ 8 }
     ensures { result ≡ from_be_bytes w64 p.now }
 {
-    u64::from_be_bytes([p[0], p[1], p[2], p[3], p[4], p[5], p[6], p[7]])
+    match p.first_chunk::<8>() {
+        Some(number) => u64::from_be_bytes(*number),
+        None => unreachable!(),
+    }
 }
 
 fn u32_at(p: &[u8]) -> u32
@@ -246,6 +253,33 @@ impl ByteReader {
     {
         self.need_field(r, 8)?;
         Ok(self.take_u64())
+    }
+
+    /// The cell whose three fields are next, where all their bytes came and none is one too many.
+    #[inline(always)]
+    pub fn cell_ahead(&self) -> Option<Cell>
+        ensures { IfSome result (IsAhead self.now) }
+    {
+        let bytes = self.buffer.pending();
+        if bytes.len() < CELL_BYTES || self.room() < CELL_BYTES as u64 {
+            return None;
+        }
+        Some(Cell {
+            row: u64_at(&bytes[..8]),
+            col: u64_at(&bytes[8..16]),
+            count: u64_at(&bytes[16..24]),
+        })
+    }
+
+    /// Goes on behind a cell that is next.
+    #[inline(always)]
+    pub fn pass_cell(&mut self)
+        requires pending { CELL_BYTES ≤ length self.old.pending }
+        requires room { self.old.taken + CELL_BYTES ≤ self.old.max_bytes }
+        ensures { IsPassed self.old self.new CELL_BYTES }
+    {
+        self.buffer.consume(CELL_BYTES);
+        self.taken += CELL_BYTES as u64;
     }
 
     /// The next two fields of 8 bytes.

@@ -18,8 +18,10 @@ fn number_in(bytes: &[u8], place: usize) -> u64
     requires { place + 8 ≤ length bytes.now }
     ensures { result ≡ number_at place bytes.now }
 {
-    let p = &bytes[place..place + 8];
-    u64::from_be_bytes([p[0], p[1], p[2], p[3], p[4], p[5], p[6], p[7]])
+    match bytes[place..place + 8].first_chunk::<8>() {
+        Some(number) => u64::from_be_bytes(*number),
+        None => unreachable!(),
+    }
 }
 
 /// The cell at a place.
