@@ -125,15 +125,16 @@ impl Rows {
     }
 }
 
-// In how many rows a list of cells in order lies.
+// In how many rows a list of cells in order lies. The sum never wraps: there are no more rows than cells.
 fn count_rows(cells: &[Cell]) -> usize {
-    let mut rows = 0usize;
-    let mut last = None;
+    let Some(first) = cells.first() else {
+        return 0;
+    };
+    let mut last = first.row;
+    let mut rows = 1usize;
     for cell in cells {
-        if last != Some(cell.row) {
-            last = Some(cell.row);
-            rows = rows.saturating_add(1);
-        }
+        rows = rows.wrapping_add((cell.row != last) as usize);
+        last = cell.row;
     }
     rows
 }
