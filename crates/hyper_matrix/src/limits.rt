@@ -5,6 +5,10 @@
 /// copies.
 pub const BLOCK_CELLS: usize = 256;
 
+/// Cells: the fewest behind a block that make blocks of their own, enough for four. A list is split evenly, so each of
+/// these blocks but the last is at least four fifths full. 256 cells would make two that are half full.
+pub const APART_CELLS: usize = 4 * BLOCK_CELLS;
+
 /// Blocks: the most of one matrix that are added to another at once, as a list of their cells: some 100,000, 24 bytes
 /// each. Each such part takes another walk over the other matrix's blocks.
 pub const LISTED_BLOCKS: usize = 512;

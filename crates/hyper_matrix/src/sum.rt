@@ -7,9 +7,9 @@
 //! exchange theirs, so that the next sum is made in the memory that the block had. So a block that nobody shares takes
 //! memory for a sum of up to `BLOCK_CELLS` cells only where its rows are more than that memory has room for, which is
 //! once or twice in its life (`row_room`). A block that is shared stays as it was where it is shared, and the sum takes
-//! memory of its own; a sum of more cells is split into new blocks, and the old one is freed. Cells enough for a block
-//! that all stand behind the block's are not added to it, but make blocks of their own: so a list that goes on where a
-//! matrix ends is written once.
+//! memory of its own; a sum of more cells is split into new blocks, and the old one is freed. From `APART_CELLS` on,
+//! cells that all stand behind the block's are not added to it, but make blocks of their own: so a long list that goes
+//! on where a matrix ends is written once.
 //!
 //! So a small matrix joins a large one for the price of the blocks that it touches and of a pointer for each other. A
 //! sum takes no entry away, so blocks never crumble. Another matrix comes as a list of its cells: any part of it is a
@@ -26,7 +26,7 @@ ghost use Rattle.hyper_matrix.specs.Blocks.{all_cells, IsBlock, AreBlocks, Grows
 
 use crate::block::Block;
 use crate::blocks::push_all_cells;
-use crate::limits::{BLOCK_CELLS, FEWEST_LISTED, LISTED_BLOCKS, LISTED_PARTS};
+use crate::limits::{APART_CELLS, BLOCK_CELLS, FEWEST_LISTED, LISTED_BLOCKS, LISTED_PARTS};
 use crate::split::push_blocks;
 use crate::split_run::push_run;
 use cells::Cell;
@@ -172,7 +172,7 @@ fn push_apart(
     Ok(())
 }
 
-// Appends the sum of a block and cells. Cells enough for a block that stand behind it make blocks of their own. Counts
+// Appends the sum of a block and cells. `APART_CELLS` or more that all stand behind it make blocks of their own. Counts
 // of others are added in the block itself while the cells stand there, and what is left of them is merged with it.
 fn push_sum(
     alloc: Global,
@@ -189,7 +189,7 @@ fn push_sum(
     ensures sum { OnOk result (GrowsBySum out.old.items out.new.items (cells_of block) (map entry_of cells.now)) }
     ensures some { OnOk result (0 < length out.new.items) }
 {
-    if cells.len() >= BLOCK_CELLS && stand_behind(&block, cells) {
+    if cells.len() >= APART_CELLS && stand_behind(&block, cells) {
         push_apart(alloc, out, block, cells)?;
         return Ok(());
     }

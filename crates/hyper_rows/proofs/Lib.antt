@@ -9,5 +9,6 @@ pub mod RowEndLaws
 pub mod SearchLaws
 pub mod BuiltOfLaws
 pub mod RunCellLaws
+pub mod RowHeadLaws
 pub mod PartLaws
 pub mod InPlaceLaws

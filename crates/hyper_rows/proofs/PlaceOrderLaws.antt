@@ -216,7 +216,7 @@ rises (x ∷ y ∷ cells) h (suc k) d m =
 less_cell : (x y : Cell) → Precedes x y → Less (x.row, x.col) (y.row, y.col)
 less_cell x y h = less_place x.row x.col y.row y.col h
 
-rise_tail : (x : Cell) (cells : List Cell) → Rise (x ∷ cells) → Rise cells
+pub rise_tail : (x : Cell) (cells : List Cell) → Rise (x ∷ cells) → Rise cells
 rise_tail x cells r k d h = subst (λ n. Precedes (get_or cells k d) (get_or (x ∷ cells) n d)) {x = suc k + 1} {y = suc
     (k + 1)} (omega arith) (r (suc k) d (omega arith))
 

@@ -358,11 +358,6 @@ pub length-cells_of : (hs : List (ℕ × ℕ)) (es : Entries) → AreRows hs es 
 unfolding AreRows rows_of
 length-cells_of hs es well = omega (arith, length-cells_from 0 hs es (length es) well (omega arith))
 
--- the cells of row i, and then those of the rows behind it
-pub cells_at : (rows : Rows) (i : ℕ) (d : ℕ × Entries) → i < length rows →
-    cells_of (drop i rows) ≡ at_places (get_or rows i d).0 (get_or rows i d).1 ++ cells_of (drop (i + 1) rows)
-cells_at rows i d h = ap cells_of (drop_more rows i d h)
-
 -- no row is empty
 pub start_lt : (hs : List (ℕ × ℕ)) (es : Entries) (i : ℕ) → AreRows hs es → i < length hs →
     start_of hs i < start_of hs (i + 1)

@@ -1,16 +1,18 @@
 //! Rows from a list of cells in strict order.
 //!
-//! One pass writes the entries, and one the heads. Each is a plain loop, and both together are quicker than one loop
-//! that writes an entry or a head as the next cell's row decides.
-ghost use Rattle.std.specs.Prelude.{◌≡◌, ℕ, [], ◌<◌, ◌++◌, OnOk, IfOk, length, map};
+//! One pass writes the entries, and one the heads, both by `extend`, which fills the room that there is before it looks
+//! for more. They are quicker than one loop that writes an entry or a head as the next cell's row decides.
+ghost use Rattle.std.specs.Prelude.{◌≡◌, ℕ, [], ◌∷◌, ◌<◌, ◌≤◌, ◌^◌, ◌++◌, OnOk, IfOk, drop, length, map};
+ghost use Rattle.std.specs.Iterator.{YieldsFirst, item_count};
 ghost use Rattle.hyper_rows.specs.Rows.{AreRows, AreRising, EndsAt, InOrder, rows_of, cells_of};
-ghost use Rattle.hyper_rows.specs.Cells.{entry_of, entries_in};
+ghost use Rattle.hyper_rows.specs.Cells.{entry_of, entries_in, heads_in};
 ghost use Rattle.cells.specs.Order.{Rise};
 
 use crate::head::{Head, check_end};
 use crate::rows::{Rows, row_room};
 use cells::Cell;
 use std::alloc::{AllocError, Global};
+use std::marker::Model;
 
 // Appends the entries of cells.
 fn push_entries(entries: &mut Vec<(u64, u64)>, cells: &[Cell]) -> Result<(), AllocError>
@@ -18,6 +20,58 @@ fn push_entries(entries: &mut Vec<(u64, u64)>, cells: &[Cell]) -> Result<(), All
 {
     entries.extend(cells.iter().map(|cell| (cell.col, cell.count)))?;
     Ok(())
+}
+
+// The head of the row that begins at `at`.
+#[inline(always)]
+fn head_at(cells: &[Cell], at: usize) -> Head
+    requires some { at < length cells.now }
+    requires fits { length cells.now < 2 ^ 32 }
+    ensures within { result.1 ≤ length cells.now }
+    ensures first { heads_in at (drop at cells.now) ≡ result ∷ heads_in result.1 (drop result.1 cells.now) }
+{
+    let row = cells[at].row;
+    let mut end = at + 1;
+    'same: while end < cells.len() && cells[end].row == row {
+        end += 1;
+    }
+    Head::new(row, end)
+}
+
+// The heads of the rows that are still to come, of the cells from `at` on.
+#[derive(Drop)]
+struct RowHeads<'a> {
+    cells: &'a [Cell],
+    at: usize,
+}
+
+impl<'a> Model for RowHeads<'a> {
+    ghost use Rattle.std.specs.Prelude.{ℕ, ◌≤◌, ◌<◌, ◌^◌, List, drop, length};
+    ghost use Rattle.hyper_rows.specs.Cells.{heads_in};
+
+    ghost Value = { List (ℕ × ℕ) };
+
+    ghost view = { λ r. heads_in r.at (drop r.at r.cells.now) };
+
+    ghost invariant = { λ r. (r.at ≤ length r.cells.now) × (length r.cells.now < 2 ^ 32) };
+}
+
+impl<'a> Iterator for RowHeads<'a> {
+    type Item = Head;
+
+    ghost next_gives = { YieldsFirst (λ left. left) };
+
+    ghost remaining = { item_count (λ left. left) };
+
+    #[inline(always)]
+    fn next(&mut self) -> Option<Head> {
+        if self.at >= self.cells.len() {
+            return None;
+        }
+        let head = head_at(self.cells, self.at);
+        self.at = head.end();
+        Some(head)
+    }
 }
 
 // A head for each row of the cells, where their entries stand as the cells do.
@@ -30,17 +84,7 @@ fn push_row_heads(heads: &mut Vec<Head>, cells: &[Cell]) -> Result<(), AllocErro
     ensures told { OnOk result (cells_of (rows_of heads.new.items (entries_in cells.now)) ≡ map entry_of cells.now) }
 {
     check_end(cells.len())?;
-    let mut row = cells[0].row;
-    let mut i = 1;
-    'cells: while i < cells.len() {
-        let next = cells[i].row;
-        if next != row {
-            heads.push(Head::new(row, i))?;
-            row = next;
-        }
-        i += 1;
-    }
-    heads.push(Head::new(row, cells.len()))?;
+    heads.extend(RowHeads { cells, at: 0 })?;
     Ok(())
 }
 
@@ -81,15 +125,16 @@ impl Rows {
     }
 }
 
-// In how many rows a list of cells in order lies.
+// In how many rows a list of cells in order lies. The sum never wraps: there are no more rows than cells.
 fn count_rows(cells: &[Cell]) -> usize {
-    let mut rows = 0usize;
-    let mut last = None;
+    let Some(first) = cells.first() else {
+        return 0;
+    };
+    let mut last = first.row;
+    let mut rows = 1usize;
     for cell in cells {
-        if last != Some(cell.row) {
-            last = Some(cell.row);
-            rows = rows.saturating_add(1);
-        }
+        rows = rows.wrapping_add((cell.row != last) as usize);
+        last = cell.row;
     }
     rows
 }

@@ -1,5 +1,5 @@
 //! The head of a row: its number, and where its entries end.
-ghost use Rattle.std.specs.Prelude.{◌≡◌, ◌+◌, ◌-◌, ◌<◌, ◌≤◌, ◌^◌, OnOk, length, drop, slice_range};
+ghost use Rattle.std.specs.Prelude.{◌≡◌, ◌+◌, ◌-◌, ◌<◌, ◌≤◌, ◌^◌, ◌↔◌, IsOk, length, drop, slice_range};
 ghost use Rattle.hyper_rows.specs.Rows.{Fit, KeysBelow, HeadFrom};
 
 use std::alloc::AllocError;
@@ -85,10 +85,10 @@ impl Head {
     }
 }
 
-/// Whether a head can keep this end. More entries, 64 GiB of them in one run, are refused as memory is.
+/// Ok exactly where a head can keep this end. More entries, 64 GiB of them in one run, are refused as memory is.
 #[inline(always)]
 pub fn check_end(end: usize) -> Result<(), AllocError>
-    ensures { OnOk result (end < 2 ^ 32) }
+    ensures { IsOk result ↔ (end < 2 ^ 32) }
 {
     if end < ENDS { Ok(()) } else { Err(AllocError) }
 }

@@ -155,6 +155,7 @@ fn first_place(heads: &[Head], entries: &[(u64, u64)]) -> (u64, u64)
 }
 
 // Appends the cells of a row. A row of one entry, as most are in many streams, is a plain push.
+#[inline(always)]
 pub fn push_row(out: &mut Vec<Cell>, row: u64, entries: &[(u64, u64)]) -> Result<(), AllocError>
     ensures { OnOk result (map entry_of out.new.items ≡ map entry_of out.old.items ++ at_places row entries.now) }
 {
@@ -350,6 +351,7 @@ impl Rows {
     }
 
     /// The number of rows.
+    #[inline(always)]
     pub fn row_count(&self) -> usize
         ensures count { result ≡ length self.now }
         ensures full { RowsFull self.now }
@@ -366,6 +368,7 @@ impl Rows {
     }
 
     /// The number of row i.
+    #[inline(always)]
     pub fn row(&self, i: usize) -> u64
         requires { i < length self.now }
         ensures { result ≡ (slice_index_or self.now i (0, [])).0 }
@@ -374,6 +377,7 @@ impl Rows {
     }
 
     /// The entries of row i.
+    #[inline(always)]
     pub fn entries(&self, i: usize) -> &[(u64, u64)]
         requires { i < length self.now }
         ensures value { result.now ≡ (slice_index_or self.now i (0, [])).1 }
@@ -418,18 +422,6 @@ impl Rows {
         ensures { result ≡ length (cells_of self.now) }
     {
         self.entries.len()
-    }
-
-    /// Appends the cells, by row and then by column.
-    pub fn push_cells(&self, out: &mut Vec<Cell>) -> Result<(), AllocError>
-        ensures { OnOk result (map entry_of out.new.items ≡ map entry_of out.old.items ++ cells_of self.now) }
-    {
-        let mut i = 0;
-        'rows: while i < self.row_count() {
-            push_row(out, self.row(i), self.entries(i))?;
-            i += 1;
-        }
-        Ok(())
     }
 
     /// The place of the first cell.

@@ -1,7 +1,7 @@
 //! The cells of a run one after the other, read from its heads and entries as they lie.
 //!
 //! A row's head is looked at once, when its first cell is due, so a cell costs a comparison and the read of its entry.
-ghost use Rattle.std.specs.Prelude.{◌≡◌, []};
+ghost use Rattle.std.specs.Prelude.{◌≡◌, [], ◌++◌, OnOk, map};
 ghost use Rattle.std.specs.Iterator.{YieldsFirstBy, item_count};
 ghost use Rattle.hyper_rows.specs.Rows.{cells_of};
 ghost use Rattle.hyper_rows.specs.Cells.{entry_of};
@@ -10,6 +10,7 @@ ghost use Rattle.hyper_rows.specs.Search.{RowsFull};
 use crate::head::Head;
 use crate::rows::Rows;
 use cells::Cell;
+use std::alloc::AllocError;
 use std::marker::Model;
 
 /// The cells of a run of rows that are still to come, by row and then by column. It borrows the run.
@@ -75,6 +76,7 @@ impl<'a> Iterator for RunCells<'a> {
 
     ghost remaining = { item_count (λ left. left) };
 
+    #[inline(always)]
     fn next(&mut self) -> Option<Cell> {
         if self.at == self.end {
             let (head, heads) = self.heads.split_first()?;
@@ -89,5 +91,16 @@ impl<'a> Iterator for RunCells<'a> {
             col,
             count,
         })
+    }
+}
+
+impl Rows {
+    /// Appends the cells, by row and then by column.
+    pub fn push_cells(&self, out: &mut Vec<Cell>) -> Result<(), AllocError>
+        ensures { OnOk result (map entry_of out.new.items ≡ map entry_of out.old.items ++ cells_of self.now) }
+    {
+        // Quicker than a push for each row: `extend` fills the room that there is before it looks for more.
+        out.extend(RunCells::new(self))?;
+        Ok(())
     }
 }

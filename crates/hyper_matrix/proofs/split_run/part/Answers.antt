@@ -1,11 +1,11 @@
-use Rattle.std.proofs.Common.{◌++◌, length, ap, ◌∙◌}
+use Rattle.std.proofs.Common.{◌++◌, length, refl, ap, ◌∙◌}
 use Rattle.std.specs.List.{slice_range}
 use Rattle.hyper_matrix.proofs.SplitRunLaws.{split_fits, split_rows, part_heads}
 use Rattle.hyper_matrix.proofs.split_run.part.Goals as goal
 
 pub push_heads-requires : goal.push_heads-requires
 push_heads-requires c = split_fits c.args.heads.now c.args.entries.now c.args.row c.args.from c.args.last c.args.to
-    (length c.args.entries.now) c.requires.ends c.requires.split c.in_ok-check_end.ensures
+    (length c.args.entries.now) c.requires.ends c.requires.split (c.in_ok-check_end.ensures.0 refl)
 
 pub from_parts-requires : goal.from_parts-requires
 from_parts-requires c = (split_rows c.args.heads.now c.args.entries.now c.args.row c.args.from c.args.last c.args.to

@@ -1,4 +1,4 @@
-use Rattle.std.proofs.Common.{◌+◌, ◌-◌, ◌<◌, ◌^◌, arith, length-take, length-drop}
+use Rattle.std.proofs.Common.{◌+◌, ◌-◌, ◌<◌, ◌^◌, refl, arith, length-take, length-drop}
 use Rattle.std.specs.Prelude.{drop}
 use Rattle.hyper_rows.specs.Rows.{start_of}
 use Rattle.hyper_rows.proofs.RowLaws.{run_fits, appended_run}
@@ -10,7 +10,7 @@ push_heads-requires c k d h =
     (start_of c.args.from_heads.now c.args.j - start_of c.args.from_heads.now c.args.i) < 2 ^ 32 =
     omega (
       arith,
-      c.in_ok-check_end.ensures,
+      c.in_ok-check_end.ensures.0 refl,
       c.in_ok-extend_from_slice.ensures.len,
       c.bounds-first.ensures.first,
       c.bounds-first.ensures.last,
