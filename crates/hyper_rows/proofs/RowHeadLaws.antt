@@ -1,10 +1,12 @@
 -- The heads of the rows of a list of cells: they cut the cells' entries into rows that hold these cells.
-use Rattle.std.proofs.Common.{◌≡◌, ℕ, ◌+◌, ◌<◌, ◌≤◌, ◌==◌, true, not, List, [], ◌∷◌, ◌++◌, length, get_or}
-use Rattle.std.proofs.Common.{map, drop, sym, ◌∙◌, ap, subst, refl, inl, inr, arith, append_assoc, length-drop}
+use Rattle.std.proofs.Common.{◌≡◌, ℕ, ◌+◌, ◌<◌, ◌≤◌, ◌==◌, ◌-◌, true, not, List, [], ◌∷◌, ◌++◌, length, get_or}
+use Rattle.std.proofs.Common.{map, drop, take, set, sym, ◌∙◌, ap, subst, refl, inl, inr, arith, append_assoc, length-drop}
+use Rattle.std.proofs.Common.{length-take, length-append}
 use Rattle.std.specs.List.{slice_range}
 use Rattle.std.proofs.lemmas.Bool.{cond_both, cond-true, cond-false, not-true, not-false, not_from_true, not_from_false}
 use Rattle.std.proofs.lemmas.Bool.{eqb-true, eqb-false, eq-eqb, ne_eqb, cases_lt}
-use Rattle.std.proofs.lemmas.List.{drop_more, drop_all, map-append}
+use Rattle.std.proofs.lemmas.List.{drop_more, drop_all, map-append, append-nil, length-set, take-set, take_more_set}
+use Rattle.std.proofs.lemmas.List.{take-take, take-append-le}
 use Rattle.std.proofs.lemmas.List.Edits.{between_more, between_none}
 use Rattle.hyper_rows.specs.Counts.{Place}
 use Rattle.hyper_rows.specs.Rows.{Entries, EndsAt, rows_of, rows_from, KeysAbove, AreRising, cells_of, at_places}
@@ -12,6 +14,10 @@ use Rattle.hyper_rows.specs.Cells.{entry_of, entries_in, ends_row, heads_in}
 use Rattle.cells.specs.Order.{Precedes, Rise}
 use Rattle.cells.specs.declared.cell.Cell.{Cell}
 use Rattle.hyper_rows.proofs.PlaceOrderLaws.{rise_tail}
+
+-- what stands past the end of a list of cells
+abbrev pub none : Cell
+none = record { row = 0; col = 0; count = 0 }
 
 -- the ends rise up to the number of the cells
 pub heads_end : (base at : ℕ) (cell : Cell) (cells : List Cell) → base ≤ at →
@@ -136,3 +142,99 @@ heads_of_cells (cell ∷ cells) some rise = (
   heads_rise 0 cell cells rise,
   heads_tell (entries_in (cell ∷ cells)) 0 0 cell cells (omega arith) refl,
 )
+
+-- a list has a row for each cell at most, and one at least where it has a cell
+pub rows_most : (at : ℕ) (cells : List Cell) → length (heads_in at cells) ≤ length cells
+rows_most at [] = omega arith
+rows_most at (cell ∷ cells) =
+    let rest = rows_most (at + 1) cells in
+    cond_both (ends_row cell.row cells) _ _ (λ (hs : List (ℕ × ℕ)). length hs ≤ length (cell ∷ cells))
+    (λ h. omega (arith, rest)) (λ h. omega (arith, rest))
+
+rows_some : (at : ℕ) (cell : Cell) (cells : List Cell) → 0 < length (heads_in at (cell ∷ cells))
+rows_some at cell [] = omega arith
+rows_some at cell (next ∷ cells) =
+    let rest = rows_some (at + 1) next cells in
+    cond_both (not (next.row == cell.row)) _ _ (λ (hs : List (ℕ × ℕ)). 0 < length hs)
+    (λ h. omega arith) (λ h. rest)
+
+-- from cell i on there is a row
+pub rows_from_here : (cells : List Cell) (at i : ℕ) (d : Cell) → i < length cells →
+    0 < length (heads_in at (drop i cells))
+rows_from_here cells at i d lt = subst (λ (rest : List Cell). 0 < length (heads_in at rest)) (sym (drop_more cells i d lt))
+    (rows_some at (get_or cells i d) (drop (i + 1) cells))
+
+-- of the heads hs the first are those of the rows of the first i cells, where the last of these rows, which has the
+-- head `at`, may go on
+pub record AreWritten (hs : List (ℕ × ℕ)) (cells : List Cell) (at i row : ℕ) : Type 0 where
+  pub room : at < length hs
+  pub here : take (at + 1) hs ≡ take at hs ++ (row, i) ∷ []
+  pub told : take at hs ++ heads_in (i - 1) (drop (i - 1) cells) ≡ heads_in 0 cells
+
+pub written_first : (hs hs' : List (ℕ × ℕ)) (cells : List Cell) (row : ℕ) → 0 < length cells →
+    length (heads_in 0 cells) ≤ length hs → hs' ≡ set hs 0 (row, 1) → AreWritten hs' cells 0 1 row
+written_first hs hs' [] row some room is = absurd (omega arith)
+written_first hs hs' (cell ∷ cells) row some room is =
+    let some : 0 < length hs = omega (arith, rows_some 0 cell cells) in
+    rw is record {
+      room = omega (arith, length-set hs 0 (row, 1));
+      here = take_more_set hs 0 (row, 1) some;
+      told = refl;
+    }
+
+-- the head of cell i, which is written over that of its row or behind it
+written_next : (hs hs' : List (ℕ × ℕ)) (cells : List Cell) (at i row : ℕ) → at < length hs → hs' ≡ set hs at (row, i + 1) →
+    take at hs ++ heads_in i (drop i cells) ≡ heads_in 0 cells → AreWritten hs' cells at (i + 1) row
+written_next hs hs' cells at i row room is told =
+    let before : take at (set hs at (row, i + 1)) ≡ take at hs = take-set hs at (row, i + 1) in
+    rw is record {
+      room = omega (arith, room, length-set hs at (row, i + 1));
+      here = take_more_set hs at (row, i + 1) room ∙ ap (λ (t : List (ℕ × ℕ)). t ++ (row, i + 1) ∷ []) (sym before);
+      told = ap (λ (n : ℕ). take at (set hs at (row, i + 1)) ++ heads_in n (drop n cells)) {x = i + 1 - 1} {y = i}
+          (omega arith) ∙ ap (λ (t : List (ℕ × ℕ)). t ++ heads_in i (drop i cells)) before ∙ told;
+    }
+
+module _ (hs : List (ℕ × ℕ)) (cells : List Cell) (at i row : ℕ) (state : AreWritten hs cells at i row) (begun : 0 < i)
+    (d : Cell) (here : row ≡ (get_or cells (i - 1) d).row) where
+  pub written_same : (hs' : List (ℕ × ℕ)) (next : ℕ) → i < length cells → (get_or cells i d).row ≡ row →
+      hs' ≡ set hs at (next, i + 1) → AreWritten hs' cells at (i + 1) next
+  written_same hs' next lt same is = written_next hs hs' cells at i next state.room is
+      (ap (λ (t : List (ℕ × ℕ)). take at hs ++ t) (sym (row_goes_on cells (i - 1) i i d (omega arith) refl lt
+      (same ∙ here))) ∙ state.told)
+
+  -- with the head of the row that ends
+  pub ended : i ≤ length cells → (i < length cells → (get_or cells i d).row ≡ row → ⊥) →
+      take (at + 1) hs ++ heads_in i (drop i cells) ≡ heads_in 0 cells
+  ended le other = ap (λ (t : List (ℕ × ℕ)). t ++ heads_in i (drop i cells)) state.here
+      ∙ append_assoc (take at hs) ((row, i) ∷ []) (heads_in i (drop i cells))
+      ∙ ap (λ (t : List (ℕ × ℕ)). take at hs ++ t)
+      (sym (row_ends cells (i - 1) i row d (omega arith) (omega arith) here other))
+      ∙ state.told
+
+  pub room_other : length (heads_in 0 cells) ≤ length hs → i < length cells → ((get_or cells i d).row ≡ row → ⊥) →
+      at + 1 < length hs
+  room_other room lt other = omega (
+    arith,
+    state.room,
+    room,
+    rows_from_here cells i i d lt,
+    length-take (at + 1) hs,
+    length-append (take (at + 1) hs) (heads_in i (drop i cells)),
+    ap length (ended (omega arith) (λ l. other)),
+  )
+
+  pub written_other : (hs' : List (ℕ × ℕ)) (next : ℕ) → length (heads_in 0 cells) ≤ length hs → i < length cells →
+      ((get_or cells i d).row ≡ row → ⊥) → hs' ≡ set hs (at + 1) (next, i + 1) →
+      AreWritten hs' cells (at + 1) (i + 1) next
+  written_other hs' next room lt other is = written_next hs hs' cells (at + 1) i next (room_other room lt other) is
+      (ended (omega arith) (λ l. other))
+
+  pub written_all : i ≤ length cells → length cells ≤ i → take (at + 1) hs ≡ heads_in 0 cells
+  written_all le ge = sym (append-nil (take (at + 1) hs))
+      ∙ ap (λ (rest : List Cell). take (at + 1) hs ++ heads_in i rest) (sym (drop_all i cells ge))
+      ∙ ended le (λ l. absurd (omega arith))
+
+-- what a vector that is cut to its first n items has of them, where these were written in its slice
+pub cut_front : {X : Type 0} (n len : ℕ) (xs rest : List X) → n ≤ len → n ≤ length xs →
+    take n (take len (xs ++ rest)) ≡ take n xs
+cut_front n len xs rest le within = take-take n len (xs ++ rest) le ∙ take-append-le n xs rest within

@@ -14,11 +14,12 @@ const ENDS: usize = 1 << 32;
 /// The head of a row: its number, and where its entries end, below 2^32. Contracts see the two as a pair.
 ///
 /// It takes 12 bytes. The number is kept in halves: as one of 64 bits it would have each head take 16, of which 4 are
-/// empty, and in many streams most rows have a single entry.
+/// empty, and in many streams most rows have a single entry. The low half stands first, as in a number of a
+/// little-endian processor, so that the compiler reads and writes both at once.
 #[derive(Clone, Copy)]
 pub struct Head {
-    high: u32,
     low: u32,
+    high: u32,
     end: u32,
 }
 

@@ -1,17 +1,13 @@
-use Rattle.std.proofs.Common.{◌≡◌, ℕ, List, ◌++◌, ◌∙◌, sym, ap, refl, subst, length, rules}
-use Rattle.std.proofs.lemmas.Iterator.Consumers.{YieldsList-from_first}
-use Rattle.std.proofs.lemmas.Iterator.Adapters.{items_from_extend}
+use Rattle.std.proofs.Common.{◌≡◌, ℕ, List, ◌∙◌, sym, ap, subst, length, arith}
 use Rattle.hyper_rows.specs.Rows.{EndsAt, AreRising, rows_of, cells_of}
 use Rattle.hyper_rows.specs.Cells.{entries_in, heads_in}
-use Rattle.hyper_rows.proofs.RowHeadLaws.{heads_of_cells}
+use Rattle.hyper_rows.proofs.RowHeadLaws.{heads_of_cells, cut_front}
 use Rattle.hyper_rows.proofs.build.push_row_heads.Goals as goal
 
-heads_are : (c : goal.In_ok-extend) → c.extend.new.self.items ≡ heads_in 0 c.args.cells.now
-heads_are c =
-    let h = items_from_extend c.extend.result c.extend.ensures.ran
-    (YieldsList-from_first (λ (h : ℕ × ℕ). h) (λ (left : List (ℕ × ℕ)). left) (heads_in 0 c.args.cells.now) refl) in
-    let told : c.extend.new.self.items ≡ c.args.heads.now.items ++ heads_in 0 c.args.cells.now = search rules in
-    told ∙ ap (λ (hs : List (ℕ × ℕ)). hs ++ heads_in 0 c.args.cells.now) c.requires.no_heads
+heads_are : (c : goal.After-truncate) → c.truncate.new.self.items ≡ heads_in 0 c.args.cells.now
+heads_are c = c.truncate.ensures.items ∙ cut_front _ _ c.write_heads-count.new.heads _
+    (omega (arith, c.write_heads-count.ensures.within, c.write_heads-count.auto.heads, c.deref_mut.ensures.len))
+    c.write_heads-count.ensures.within ∙ c.write_heads-count.ensures.told
 
 pub returns-clause-ends : goal.returns-clause-ends
 returns-clause-ends c = subst (λ (hs : List (ℕ × ℕ)). EndsAt 0 hs (length c.args.cells.now)) (sym (heads_are c))
