@@ -1,11 +1,11 @@
 -- Cells in blocks: what a push adds, and what stands from a block on.
 use Rattle.std.proofs.Common.{◌≡◌, ℕ, zero, suc, ◌+◌, ◌<◌, ◌≤◌, List, [], ◌∷◌, ◌++◌, length, get_or, take, sym, ◌∙◌, ap}
-use Rattle.std.proofs.Common.{subst, refl, arith, append_assoc}
+use Rattle.std.proofs.Common.{subst, refl, arith, append_assoc, length-append}
 use Rattle.std.proofs.lemmas.List.{append-nil, take_more}
 use Rattle.hyper_rows.specs.Counts.{Place}
 use Rattle.hyper_rows.specs.Rows.{Rows, cells_of}
 use Rattle.hyper_rows.specs.Places.{IsFirst}
-use Rattle.hyper_matrix.specs.Blocks.{all_cells, IsBlock, AreBlocks, Grows}
+use Rattle.hyper_matrix.specs.Blocks.{all_cells, IsBlock, AreBlocks, Grows, ends_from}
 
 -- the first of two lists begins where both do
 pub first_front : (k : Place) (xs ys : List (Place × ℕ)) → IsFirst k xs → IsFirst k (xs ++ ys)
@@ -48,3 +48,25 @@ one_block_more blocks i d cells h is =
     ap all_cells (take_more blocks i d h) ∙ all_cells-append (take i blocks) (get_or blocks i d ∷ []) ∙
     ap (λ (r : List (Place × ℕ)). all_cells (take i blocks) ++ r)
     (append-nil (cells_of (get_or blocks i d)) ∙ sym is)
+
+-- the numbers of cells up to each block, of blocks and of others behind them
+pub ends-append : (at : ℕ) (a b : List Rows) → ends_from at (a ++ b) ≡ ends_from at a ++
+    ends_from (at + length (all_cells a)) b
+ends-append at [] b = ap (λ n. ends_from n b) (omega arith)
+ends-append at (x ∷ a) b =
+    let e = at + length (cells_of x) in
+    ap (λ (r : List ℕ). e ∷ r) (ends-append e a b ∙ ap (λ n. ends_from e a ++ ends_from n b)
+    (omega (arith, length-append (cells_of x) (all_cells a))))
+
+all_blocks : (a b : List Rows) → AreBlocks a → AreBlocks b → AreBlocks (a ++ b)
+all_blocks [] b f g = g
+all_blocks (x ∷ a) b f g = (f.0, all_blocks a b f.1 g)
+
+-- blocks of their own were added behind
+pub grows_behind : (old more new none : List Rows) (cells : List (Place × ℕ)) → AreBlocks old → none ≡ [] →
+    Grows none more cells → new ≡ old ++ more → Grows old new cells
+grows_behind old more new none cells f empty g is = record {
+  blocks = subst AreBlocks (sym is) (all_blocks old more f g.blocks);
+  told = ap all_cells is ∙ all_cells-append old more ∙ ap (λ (r : List (Place × ℕ)). all_cells old ++ r)
+      (g.told ∙ ap (λ (b : List Rows). all_cells b ++ cells) empty);
+}

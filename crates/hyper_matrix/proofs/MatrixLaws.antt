@@ -11,9 +11,11 @@ use Rattle.hyper_matrix.specs.Matrix.{Matrix, matrix}
 use Rattle.hyper_rows.specs.Cells.{entry_of, built_of, cell_total}
 use Rattle.hyper_rows.proofs.BuiltOfLaws.{total-built_of}
 use Rattle.cells.specs.declared.cell.Cell.{Cell}
-use Rattle.hyper_matrix.specs.Blocks.{all_cells, AreBlocks, ends_from}
+use Rattle.hyper_rows.specs.Places.{Precede}
+use Rattle.hyper_rows.proofs.PlaceOrderLaws.{sorted_join}
+use Rattle.hyper_matrix.specs.Blocks.{all_cells, AreBlocks, Grows, ends_from}
 use Rattle.hyper_matrix.specs.Shared.{shared_counts, LiesWithin, Holds, Keeps}
-use Rattle.hyper_rows.proofs.CountLaws.{total-ewise_add, ewise_add_comm, ewise_add-empty}
+use Rattle.hyper_rows.proofs.CountLaws.{total-ewise_add, ewise_add_comm, ewise_add-empty, built-append}
 use Rattle.hyper_rows.proofs.SortedListLaws.{built-in_order, total-in_order, len-in_order, places_of_sum}
 
 pub keeps_none : (r c : ℕ) (blocks : List Rows) (ends : List ℕ) → IsDimension r → IsDimension c → blocks ≡ [] →
@@ -57,16 +59,26 @@ end_of at block (x ∷ blocks) d =
     ap (λ k. get_or (e ∷ es) k d) {x = length (e ∷ es) - 1} {y = suc (length es - 1)} (omega arith) ∙
     end_of e x blocks d ∙ omega (arith, length-append (cells_of block) (all_cells (x ∷ blocks)))
 
+-- the last of the ends is the number of all cells
+pub last_of_ends : (blocks : List Rows) (ends : List ℕ) (d : ℕ) → ends ≡ ends_from 0 blocks → 0 < length ends →
+    get_or ends (length ends - 1) d ≡ length (all_cells blocks)
+last_of_ends [] ends d told h = absurd (omega (arith, ap length told))
+last_of_ends (x ∷ blocks) ends d told h = ap (λ (e : List ℕ). get_or e (length e - 1) d) told ∙ end_of 0 x blocks d ∙
+    omega arith
+
+pub no_ends : (blocks : List Rows) (ends : List ℕ) → ends ≡ ends_from 0 blocks → length ends ≡ 0 →
+    0 ≡ length (all_cells blocks)
+no_ends [] ends told h = refl
+no_ends (x ∷ blocks) ends told h = absurd (omega (arith, ap length told))
+
 pub last_end : (r c s : ℕ) (blocks : List Rows) (ends : List ℕ) (d : ℕ) → Keeps r c s blocks ends → 0 < length ends →
     get_or ends (length ends - 1) d ≡ len (shared_counts blocks)
-last_end r c s [] ends d k h = absurd (omega (arith, ap length k.told))
-last_end r c s (x ∷ blocks) ends d k h = ap (λ (e : List ℕ). get_or e (length e - 1) d) k.told ∙ end_of 0 x blocks d ∙
-    omega (arith, len-in_order (all_cells (x ∷ blocks)) k.holds.sorted)
+last_end r c s blocks ends d k h = last_of_ends blocks ends d k.told h ∙
+    sym (len-in_order (all_cells blocks) k.holds.sorted)
 
 pub no_end : (r c s : ℕ) (blocks : List Rows) (ends : List ℕ) → Keeps r c s blocks ends → length ends ≡ 0 →
     0 ≡ len (shared_counts blocks)
-no_end r c s [] ends k h = sym (len-in_order [] tt)
-no_end r c s (x ∷ blocks) ends k h = absurd (omega (arith, ap length k.told))
+no_end r c s blocks ends k h = no_ends blocks ends k.told h ∙ sym (len-in_order (all_cells blocks) k.holds.sorted)
 
 pub counts_sum : (r c m r' c' n : ℕ) (a b s : List Rows) (cells : List (Place × ℕ)) → Holds r c m a → Holds r' c' n b →
     T (is_sorted place_cmp (all_cells s)) → cells ≡ all_cells b →
@@ -127,6 +139,17 @@ holds_added r c m a s cells x order within blocks sorted sums =
       },
       told,
     )
+
+-- a matrix's blocks, and cells behind all of them in blocks of their own
+pub holds_behind : (r c m : ℕ) (a s : List Rows) (cells : List Cell) → Holds r c m a →
+    T (is_sorted place_cmp (map entry_of cells)) → AllByRecursion (LiesWithin r c) (map entry_of cells) →
+    Precede (all_cells a) (map entry_of cells) → Grows a s (map entry_of cells) →
+    Holds r c (m + cell_total cells) s × (shared_counts s ≡ ewise_add (shared_counts a) (built_of cells))
+holds_behind r c m a s cells x order within behind grows =
+    holds_added r c m a s cells x order within grows.blocks
+    (subst (λ l. T (is_sorted place_cmp l)) (sym grows.told)
+    (sorted_join (all_cells a) (map entry_of cells) x.sorted order behind))
+    (ap built grows.told ∙ built-append (all_cells a) (map entry_of cells))
 
 -- nothing and a list of cells
 pub added_to_none : (r c : ℕ) (a : Counts) (x s : Matrix) (cells : List Cell) → matrix r c a ≡ x → x.counts ≡ empty →

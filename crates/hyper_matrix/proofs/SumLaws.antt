@@ -1,5 +1,5 @@
 -- The sum of blocks and cells, a block at a time.
-use Rattle.std.proofs.Common.{◌≡◌, ℕ, ◌+◌, ◌<◌, ◌≤◌, T, List, [], ◌∷◌, ◌++◌, length, get_or, take, drop, map, sym, ◌∙◌}
+use Rattle.std.proofs.Common.{◌≡◌, ℕ, ◌+◌, ◌-◌, ◌<◌, ◌≤◌, T, List, [], ◌∷◌, ◌++◌, length, get_or, take, drop, map, sym, ◌∙◌}
 use Rattle.std.proofs.Common.{ap, subst, refl, inl, inr, arith, append_assoc, Bool, true, false, not, cond, Option}
 use Rattle.std.proofs.Common.{Some, None}
 use Rattle.std.specs.List.{slice_range}
@@ -7,7 +7,7 @@ use Rattle.std.specs.Option.{option_map, is_some}
 use Rattle.std.specs.Bool.{IsTrue}
 use Rattle.std.specs.FinMap.{is_sorted, empty}
 use Rattle.std.proofs.lemmas.Bool.{cases_order}
-use Rattle.std.proofs.lemmas.List.{map-append, take-append-drop}
+use Rattle.std.proofs.lemmas.List.{map-append, take-append-drop, take_all}
 use Rattle.std.proofs.lemmas.Slice.{between_to_end}
 use Rattle.hyper_rows.specs.Counts.{count_sum, Place, place_cmp, Counts, built, ewise_add, total}
 use Rattle.hyper_rows.specs.Rows.{Rows, InOrder, cells_of, counts_of, sum_entries, sum_rows, rows_total, AreRising}
@@ -18,7 +18,7 @@ use Rattle.hyper_rows.specs.Search.{is_before, first_from}
 use Rattle.hyper_rows.specs.Cells.{entry_of, built_of, cell_total}
 use Rattle.hyper_rows.specs.InPlace.{AddsFirst}
 use Rattle.cells.specs.declared.cell.Cell.{Cell}
-use Rattle.hyper_matrix.proofs.BlockLaws.{all_cells-append, first_front}
+use Rattle.hyper_matrix.proofs.BlockLaws.{all_cells-append, first_front, one_block_more}
 use Rattle.hyper_rows.proofs.CountLaws.{ewise_add_assoc, built-append, total-ewise_add, ewise_add_comm, ewise_add-empty}
 use Rattle.hyper_rows.proofs.CountLaws.{total-built, total-ewise_add}
 use Rattle.hyper_rows.proofs.CellLaws.{counts_of-sum_rows, in_order-sum_rows, sorted_rows, sum_of_cells}
@@ -26,6 +26,7 @@ use Rattle.hyper_rows.proofs.CellLaws.{total-counts_of}
 use Rattle.hyper_rows.proofs.BuiltOfLaws.{counts_of-built, entries_total}
 use Rattle.hyper_rows.proofs.MergeLaws.{split_at, merged-nil, merged_less, merged_greater, merged_same}
 use Rattle.hyper_rows.proofs.PlaceOrderLaws.{all_map, precedes, before_first, before_begin, below_first, columns_rise}
+use Rattle.hyper_rows.proofs.PlaceOrderLaws.{all_append, before_before}
 use Rattle.hyper_rows.proofs.PlaceOrderLaws.{next_left, next_right, next_sum, sorted_back, sorted_join}
 use Rattle.hyper_rows.proofs.InPlaceLaws.{still_rising, same_rows, total_moves, sum_rest}
 
@@ -79,6 +80,24 @@ cells_behind block read (x ∷ cells) d None behind sorted some is told none hol
     ends_left (cells_of block) (map entry_of (x ∷ cells)) (x.row, x.col) refl sorted
     (none_from (x.row, x.col) (cells_of block) (sym (told ∙
     ap (λ (r : Rows). first_from (x.row, x.col) (cells_of r)) is)))
+
+-- what stands behind the end of a list in order stands behind the whole list
+pub behind_end : (front back cells : List (Place × ℕ)) (k : Place) → IsFirst k back →
+    T (is_sorted place_cmp (front ++ back)) → Precede back cells → Precede (front ++ back) cells
+behind_end front [] cells k first sorted behind = absurd first
+behind_end front (e ∷ back) cells k first sorted behind =
+    all_append (λ p. AllPlaces (Less p) cells) front (e ∷ back)
+    (all_map (λ p. Less p e.0) (λ p. AllPlaces (Less p) cells)
+    (λ p h. all_map (Less e.0) (Less p) (λ q g. before_before p e.0 q h g) cells behind.0) front
+    (below_first front e.0 (e ∷ back) refl (precedes front (e ∷ back) sorted))) behind
+
+-- the cells of the last block stand at the end
+pub last_cells : (blocks : List Rows) (block : Rows) (d : Rows) → 0 < length blocks →
+    block ≡ get_or blocks (length blocks - 1) d → all_cells blocks ≡
+    all_cells (take (length blocks - 1) blocks) ++ cells_of block
+last_cells blocks block d some is =
+    ap all_cells (sym (take_all (length blocks - 1 + 1) blocks (omega arith))) ∙
+    one_block_more blocks (length blocks - 1) d (cells_of block) (omega arith) (ap cells_of is)
 
 -- a block, and cells behind it in blocks of their own
 pub grows_apart : (old mid new : List Rows) (block : Rows) (cells : List Cell) →

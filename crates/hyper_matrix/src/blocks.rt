@@ -32,18 +32,26 @@ pub fn share_all(alloc: Global, blocks: &[Block]) -> Result<Vec<Block>, AllocErr
     Ok(shared)
 }
 
-/// The number of cells up to each block, from the front. More cells than 64 bits can count would need more memory than
-/// there is, and stand for a want of it.
-pub fn count_ends(alloc: Global, blocks: &[Block]) -> Result<Vec<u64>, AllocError>
-    ensures { IfOk result (λ ends. ends.items ≡ ends_from 0 blocks.now) }
+/// Appends the number of cells up to each block, from the front, with `before` cells before the first. More cells than
+/// 64 bits can count would need more memory than there is, and stand for a want of it.
+pub fn push_ends(ends: &mut Vec<u64>, before: u64, blocks: &[Block]) -> Result<(), AllocError>
+    ensures { OnOk result (ends.new.items ≡ ends.old.items ++ ends_from before blocks.now) }
 {
-    let mut ends = Vec::with_capacity(alloc, blocks.len())?;
-    let mut at = 0u64;
+    let mut at = before;
     for block in blocks {
         let end = at.checked_add(block.cell_count() as u64).ok_or(AllocError)?;
         ends.push(end)?;
         at = end;
     }
+    Ok(())
+}
+
+/// The number of cells up to each block, from the front.
+pub fn count_ends(alloc: Global, blocks: &[Block]) -> Result<Vec<u64>, AllocError>
+    ensures { IfOk result (λ ends. ends.items ≡ ends_from 0 blocks.now) }
+{
+    let mut ends = Vec::with_capacity(alloc, blocks.len())?;
+    push_ends(&mut ends, 0, blocks)?;
     Ok(ends)
 }
 

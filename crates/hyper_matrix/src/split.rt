@@ -6,9 +6,10 @@ ghost use Rattle.std.specs.Prelude.{◌≡◌, ℕ, ◌+◌, ◌-◌, ◌<◌, �
 ghost use Rattle.std.specs.FinMap.{is_sorted};
 ghost use Rattle.hyper_rows.specs.Counts.{place_cmp};
 ghost use Rattle.hyper_rows.specs.Cells.{entry_of};
-ghost use Rattle.hyper_matrix.specs.Blocks.{AreBlocks, Grows};
+ghost use Rattle.hyper_matrix.specs.Blocks.{AreBlocks, Grows, all_cells, ends_from};
 
 use crate::block::Block;
+use crate::blocks::push_ends;
 use crate::limits::BLOCK_CELLS;
 use cells::Cell;
 use hyper_rows::rows_of_sorted;
@@ -41,7 +42,8 @@ pub fn push_blocks(alloc: Global, out: &mut Vec<Block>, cells: &[Cell]) -> Resul
     requires cells { T (is_sorted place_cmp (map entry_of cells.now)) }
     ensures { OnOk result (Grows out.old.items out.new.items (map entry_of cells.now)) }
 {
-    let size = cells.len() / (cells.len() / BLOCK_CELLS + 1) + 1;
+    let count = cells.len().div_ceil(BLOCK_CELLS).max(1);
+    let size = cells.len().div_ceil(count);
     let room = if cells.len() <= size { 0 } else { BLOCK_CELLS };
     let mut from = 0;
     'split: while from < cells.len() {
@@ -49,5 +51,37 @@ pub fn push_blocks(alloc: Global, out: &mut Vec<Block>, cells: &[Cell]) -> Resul
         push_block(alloc, out, &cells[from..to], room)?;
         from = to;
     }
+    Ok(())
+}
+
+// The last of the numbers of cells up to each block.
+fn last_end(ends: &[u64], blocks: &[Block]) -> u64
+    requires { ends.now ≡ ends_from 0 blocks.now }
+    ensures { result ≡ length (all_cells blocks.now) }
+{
+    match ends.last() {
+        Some(end) => *end,
+        None => 0,
+    }
+}
+
+/// Appends the cells of a list in blocks, as `push_blocks`, and beside them the number of cells up to each.
+pub fn append(
+    alloc: Global,
+    blocks: &mut Vec<Block>,
+    ends: &mut Vec<u64>,
+    cells: &[Cell],
+) -> Result<(), AllocError>
+    requires blocks { AreBlocks blocks.old.items }
+    requires ends { ends.old.items ≡ ends_from 0 blocks.old.items }
+    requires cells { T (is_sorted place_cmp (map entry_of cells.now)) }
+    ensures grows { OnOk result (Grows blocks.old.items blocks.new.items (map entry_of cells.now)) }
+    ensures ends { OnOk result (ends.new.items ≡ ends_from 0 blocks.new.items) }
+{
+    let mut more = Vec::new(alloc);
+    push_blocks(alloc, &mut more, cells)?;
+    let before = last_end(ends, blocks);
+    push_ends(ends, before, &more)?;
+    blocks.append(&mut more)?;
     Ok(())
 }

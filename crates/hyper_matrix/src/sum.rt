@@ -151,6 +151,30 @@ fn stand_behind(block: &Block, cells: &[Cell]) -> bool
     first_from(block.rows(), (first.row, first.col)).is_none()
 }
 
+// Whether a cell stands before this place.
+fn is_below(cell: Cell, row: u64, col: u64) -> bool
+    ensures { result ≡ is_lt (place_cmp (place_of cell) (row, col)) }
+{
+    cell.row < row || (cell.row == row && cell.col < col)
+}
+
+/// Whether cells stand behind all that blocks have, enough of them for blocks of their own.
+pub fn go_behind(blocks: &[Block], cells: &[Cell]) -> bool
+    requires sorted { T (is_sorted place_cmp (all_cells blocks.now)) }
+    requires cells { T (is_sorted place_cmp (map entry_of cells.now)) }
+    ensures { IsTrue result → Precede (all_cells blocks.now) (map entry_of cells.now) }
+{
+    let Some(last) = blocks.last() else {
+        return false;
+    };
+    if cells.len() < APART_CELLS {
+        return false;
+    }
+    // Where the last block begins stands beside its pointer, and tells of most lists that aren't behind it.
+    let (row, col) = last.first();
+    !is_below(cells[0], row, col) && stand_behind(last, cells)
+}
+
 // Appends a block as it is, and cells that stand behind it in blocks of their own.
 fn push_apart(
     alloc: Global,
@@ -197,13 +221,6 @@ fn push_sum(
     let added = block.add_found(cells);
     push_merged(alloc, out, block, &cells[added..], spare)?;
     Ok(())
-}
-
-// Whether a cell stands before this place.
-fn is_below(cell: Cell, row: u64, col: u64) -> bool
-    ensures { result ≡ is_lt (place_cmp (place_of cell) (row, col)) }
-{
-    cell.row < row || (cell.row == row && cell.col < col)
 }
 
 // The end of the cells from `from` on that stand before this place. It stands apart so that its loop, a step a cell,

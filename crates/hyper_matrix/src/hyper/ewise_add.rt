@@ -12,7 +12,8 @@ use super::build::of_list;
 use crate::block::Block;
 use crate::blocks::share_all;
 use crate::hyper::Hyper;
-use crate::sum::{sum_all, sum_blocks};
+use crate::split::append;
+use crate::sum::{go_behind, sum_all, sum_blocks};
 use cells::{Cell, total_of};
 use std::alloc::{AllocError, Global};
 
@@ -69,7 +70,8 @@ impl Hyper {
     /// `into_sum` with the matrix that the list builds, and that matrix isn't made.
     ///
     /// A block into whose range no cell falls is moved. The time is that of a pass over the list, of a pointer for each
-    /// block, and of a copy of the blocks that are touched.
+    /// block, and of a copy of the blocks that are touched. A thousand cells or more that stand behind all of the matrix
+    /// take the time of their own blocks alone.
     ///
     /// # Errors
     ///
@@ -85,6 +87,23 @@ impl Hyper {
             return Ok(sum);
         }
         let sum = self.sum + total_of(cells);
+        if go_behind(&self.blocks, cells) {
+            let Hyper {
+                rows,
+                cols,
+                sum: _,
+                mut blocks,
+                mut ends,
+            } = self;
+            append(alloc, &mut blocks, &mut ends, cells)?;
+            return Ok(Hyper {
+                rows,
+                cols,
+                sum,
+                blocks,
+                ends,
+            });
+        }
         let blocks = sum_blocks(alloc, self.blocks, cells)?;
         let m = assemble(alloc, self.rows, self.cols, sum, blocks)?;
         Ok(m)
