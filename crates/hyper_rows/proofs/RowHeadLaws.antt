@@ -171,6 +171,7 @@ pub record AreWritten (hs : List (ℕ × ℕ)) (cells : List Cell) (at i row : �
   pub here : take (at + 1) hs ≡ take at hs ++ (row, i) ∷ []
   pub told : take at hs ++ heads_in (i - 1) (drop (i - 1) cells) ≡ heads_in 0 cells
 
+-- the head of the first cell
 pub written_first : (hs hs' : List (ℕ × ℕ)) (cells : List Cell) (row : ℕ) → 0 < length cells →
     length (heads_in 0 cells) ≤ length hs → hs' ≡ set hs 0 (row, 1) → AreWritten hs' cells 0 1 row
 written_first hs hs' [] row some room is = absurd (omega arith)
@@ -196,6 +197,7 @@ written_next hs hs' cells at i row room is told =
 
 module _ (hs : List (ℕ × ℕ)) (cells : List Cell) (at i row : ℕ) (state : AreWritten hs cells at i row) (begun : 0 < i)
     (d : Cell) (here : row ≡ (get_or cells (i - 1) d).row) where
+  -- with a cell more of the same row
   pub written_same : (hs' : List (ℕ × ℕ)) (next : ℕ) → i < length cells → (get_or cells i d).row ≡ row →
       hs' ≡ set hs at (next, i + 1) → AreWritten hs' cells at (i + 1) next
   written_same hs' next lt same is = written_next hs hs' cells at i next state.room is
@@ -203,7 +205,7 @@ module _ (hs : List (ℕ × ℕ)) (cells : List Cell) (at i row : ℕ) (state : 
       (same ∙ here))) ∙ state.told)
 
   -- with the head of the row that ends
-  pub ended : i ≤ length cells → (i < length cells → (get_or cells i d).row ≡ row → ⊥) →
+  ended : i ≤ length cells → (i < length cells → (get_or cells i d).row ≡ row → ⊥) →
       take (at + 1) hs ++ heads_in i (drop i cells) ≡ heads_in 0 cells
   ended le other = ap (λ (t : List (ℕ × ℕ)). t ++ heads_in i (drop i cells)) state.here
       ∙ append_assoc (take at hs) ((row, i) ∷ []) (heads_in i (drop i cells))
@@ -211,6 +213,7 @@ module _ (hs : List (ℕ × ℕ)) (cells : List Cell) (at i row : ℕ) (state : 
       (sym (row_ends cells (i - 1) i row d (omega arith) (omega arith) here other))
       ∙ state.told
 
+  -- there is room for the head of another row
   pub room_other : length (heads_in 0 cells) ≤ length hs → i < length cells → ((get_or cells i d).row ≡ row → ⊥) →
       at + 1 < length hs
   room_other room lt other = omega (
@@ -223,12 +226,14 @@ module _ (hs : List (ℕ × ℕ)) (cells : List Cell) (at i row : ℕ) (state : 
     ap length (ended (omega arith) (λ l. other)),
   )
 
+  -- with a cell of another row
   pub written_other : (hs' : List (ℕ × ℕ)) (next : ℕ) → length (heads_in 0 cells) ≤ length hs → i < length cells →
       ((get_or cells i d).row ≡ row → ⊥) → hs' ≡ set hs (at + 1) (next, i + 1) →
       AreWritten hs' cells (at + 1) (i + 1) next
   written_other hs' next room lt other is = written_next hs hs' cells (at + 1) i next (room_other room lt other) is
       (ended (omega arith) (λ l. other))
 
+  -- all cells are read
   pub written_all : i ≤ length cells → length cells ≤ i → take (at + 1) hs ≡ heads_in 0 cells
   written_all le ge = sym (append-nil (take (at + 1) hs))
       ∙ ap (λ (rest : List Cell). take (at + 1) hs ++ heads_in i rest) (sym (drop_all i cells ge))
