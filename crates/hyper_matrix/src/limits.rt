@@ -20,9 +20,9 @@ pub const FEWEST_LISTED: usize = 16;
 /// Parts: about so many in which a matrix is added to another, each of `FEWEST_LISTED` to `LISTED_BLOCKS` blocks.
 pub const LISTED_PARTS: usize = 8;
 
-/// Blocks for each shard: so many of a matrix are cut for the shards at a time, by lists of some 16,000 cells for each,
-/// 24 bytes each. They stay in the processor's own memory, which a list of a whole part of millions doesn't.
-pub const RUN_BLOCKS: usize = 64;
+/// Blocks for each shard: so many of a matrix are cut for the shards at a time, by lists of some 4,000 cells for each,
+/// 24 bytes each. For eight shards they stay in the processor's own memory, which a list of a whole part doesn't.
+pub const RUN_BLOCKS: usize = 16;
 
 /// Times the cells that a block gets: a block of more cells isn't looked through for their places. Measured: 2, 4 and 8
 /// take the same time.

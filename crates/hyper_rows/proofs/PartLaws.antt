@@ -5,7 +5,7 @@ use Rattle.std.specs.declared.vec.Vec.{Vec}
 use Rattle.std.proofs.Math.Nat.{mod-eq_of_lt}
 use Rattle.std.proofs.Math.Pow.{pow-lt}
 use Rattle.std.proofs.lemmas.Nat.{and_mask}
-use Rattle.std.proofs.lemmas.List.{append-nil, length-map, map-set}
+use Rattle.std.proofs.lemmas.List.{append-nil, length-map, map-append, map-set}
 use Rattle.std.proofs.lemmas.List.Elements.{filter-append}
 use Rattle.std.proofs.lemmas.Bool.{eq-eqb, ne_eqb}
 use Rattle.cells.specs.declared.cell.Cell.{Cell}
@@ -107,21 +107,19 @@ listed-at [] j d within = absurd (omega (arith, within))
 listed-at (l ∷ ls) zero d within = refl
 listed-at (l ∷ ls) (suc j) d within = listed-at ls j d (omega (arith, within))
 
--- row i, added to the list of its shard
-pub row_listed : {Z : Type 0} → (k i j : ℕ) (rows : Rows) (lists : List (Vec Cell Z)) (d new : Vec Cell Z) →
-    i < length rows → j < length lists → (get_or rows i (0, [])).0 % k ≡ j →
-    map entry_of new.items ≡ map entry_of (get_or lists j d).items ++
-    at_places (get_or rows i (0, [])).0 (get_or rows i (0, [])).1 →
-    with_parts 0 k (listed (set lists j new)) (cells_of (drop (i + 1) rows)) ≡
-    with_parts 0 k (listed lists) (cells_of (drop i rows))
-row_listed k i j rows lists d new within place here is =
-    let row = get_or rows i (0, []) in
-    let rest = cells_of (drop (i + 1) rows) in
+-- a cell, added to the list of its row's shard
+pub cell_listed : {Z : Type 0} → (k j : ℕ) (lists : List (Vec Cell Z)) (d new : Vec Cell Z) (cell : Cell)
+    (rest : List (Place × ℕ)) → j < length lists → cell.row % k ≡ j →
+    new.items ≡ (get_or lists j d).items ++ cell ∷ [] →
+    with_parts 0 k (listed (set lists j new)) rest ≡ with_parts 0 k (listed lists) (entry_of cell ∷ rest)
+cell_listed k j lists d new cell rest place here is =
+    let one : Entries = (cell.col, cell.count) ∷ [] in
     let entries_in = λ (list : Vec Cell _). map entry_of list.items in
+    let more : map entry_of new.items ≡ map entry_of (get_or lists j d).items ++ at_places cell.row one =
+    ap (map entry_of) is ∙ map-append entry_of (get_or lists j d).items (cell ∷ []) in
     ap (λ ls. with_parts 0 k ls rest)
     (map-set entries_in lists j new
-    ∙ ap (λ l. set (listed lists) j l) (is ∙ ap (λ l. l ++ at_places row.0 row.1) (sym (listed-at lists j d place)))
-    ∙ sym (with_parts-row 0 k row.0 j (listed lists) row.1 (omega (arith, here))
+    ∙ ap (λ l. set (listed lists) j l) (more ∙ ap (λ l. l ++ at_places cell.row one) (sym (listed-at lists j d place)))
+    ∙ sym (with_parts-row 0 k cell.row j (listed lists) one (omega (arith, here))
     (omega (arith, place, length-map lists entries_in))))
-    ∙ with_parts-append 0 k (listed lists) (at_places row.0 row.1) rest
-    ∙ ap (with_parts 0 k (listed lists)) (sym (cells_behind rows i within))
+    ∙ with_parts-append 0 k (listed lists) (at_places cell.row one) rest

@@ -5,6 +5,7 @@ ghost use Rattle.hyper_rows.specs.Cells.{entry_of};
 ghost use Rattle.hyper_rows.specs.Parts.{listed, part_entries, with_parts};
 
 use crate::rows::{Rows, push_row};
+use crate::run_cells::RunCells;
 use cells::Cell;
 use std::alloc::AllocError;
 
@@ -43,20 +44,16 @@ impl Rows {
         Ok(())
     }
 
-    /// Appends the cells of each row to the list of its shard, of as many shards as there are lists: by row and then by
-    /// column. Each row is asked for its shard once.
+    /// Appends each cell to the list of its row's shard, of as many shards as there are lists: by row and then by column.
     pub fn push_parts(&self, lists: &mut [Vec<Cell>]) -> Result<(), AllocError>
         requires { 0 < length lists.old }
         ensures { OnOk result (listed lists.new ≡
             with_parts 0 (length lists.old) (listed lists.old) (cells_of self.now)) }
     {
         let k = lists.len() as u64;
-        let mut i = 0;
-        'rows: while i < self.row_count() {
-            let row = self.row(i);
-            let list = &mut lists[shard_of(row, k) as usize];
-            push_row(list, row, self.entries(i))?;
-            i += 1;
+        for cell in RunCells::new(self) {
+            let list = &mut lists[shard_of(cell.row, k) as usize];
+            list.push(cell)?;
         }
         Ok(())
     }

@@ -14,7 +14,7 @@ ghost use Rattle.snap_file.specs.declared.fault.SnapFault.{SnapFault};
 
 use crate::fault::SnapFault;
 use crate::head::Head;
-use crate::limits::{RUN_SHARE, SHORTEST_RUN};
+use crate::limits::RUN_CELLS;
 use crate::reader::ByteReader;
 use crate::tally::{CellTally, read_cells};
 use byte_io::Source;
@@ -32,14 +32,6 @@ fn with_run(alloc: Global, m: Hyper, tally: &CellTally) -> Result<Hyper, SnapFau
         Ok(sum) => Ok(sum),
         Err(_) => Err(SnapFault::Memory),
     }
-}
-
-// How many cells are read at a time where a matrix has so many. An addition goes through all blocks that the matrix
-// has, so runs of one length would take time as the square of the cells.
-fn run_behind(entries: u64) -> u64
-    ensures { 0 < result }
-{
-    (entries / RUN_SHARE).max(SHORTEST_RUN)
 }
 
 /// Reads the cells of a matrix, a run at a time; the counts together may come to `most`.
@@ -74,7 +66,7 @@ pub fn read_entries<R: Source>(
     tally.least_col = 0;
     let mut left = count;
     'runs: while left > 0 {
-        let run = left.min(run_behind(m.entries()));
+        let run = left.min(RUN_CELLS);
         tally.cells.clear();
         read_cells(reader, r, head, most, tally, run)?;
         m = with_run(alloc, m, tally)?;

@@ -9,11 +9,9 @@ pub const OLD_VERSION: u32 = 1;
 /// The version of the files that are written.
 pub const VERSION: u32 = 2;
 
-/// How many cells are read at a time before they go into a matrix, where it has few.
-pub const SHORTEST_RUN: u64 = 4_096;
-
-/// Where a matrix has many cells, a run of one in so many of them is read at a time.
-pub const RUN_SHARE: u64 = 16;
+/// Cells: so many of a matrix are read at a time, 96 KiB of them, which stay in the processor's own memory until they
+/// stand in the matrix.
+pub const RUN_CELLS: u64 = 4_096;
 
 /// Bytes: those of a cell.
 pub const CELL_BYTES: usize = 24;
