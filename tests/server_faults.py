@@ -400,11 +400,12 @@ def the_last_line_is_not_taken():
 def memory_is_refused():
     """A snapshot of more cells than the process has room for."""
     path = in_folder("large.snap")
-    cells = [(n, n, 1) for n in range(200_000)]
+    # Two million cells take 56 MB at least, each in a row of its own.
+    cells, total = [(n, n, 1) for n in range(200_000)], 2 * 10**6
     with open(path, "wb") as file:
-        file.write(program.snapshot([(1, n, cells) for n in range(5)], 10**6, 10**6, 10**6, (), 1, 10**6))
+        file.write(program.snapshot([(1, n, cells) for n in range(10)], total, 10**6, 10**6, (), 1, total))
     words = ["--unix", in_folder("unused"), "--rows", str(10**6), "--cols", str(10**6), "--cuts", "none",
-             "--shards", "1", "--limit", str(10**6), "--max-batches", "10", "--snapshot", path]
+             "--shards", "1", "--limit", str(total), "--max-batches", "10", "--snapshot", path]
     room = 1 << 25
     ended = run(words, preexec_fn=lambda: resource.setrlimit(resource.RLIMIT_AS, (room, room)))
     check("little memory", ended, ("", "hhm: memory\n", 5))
