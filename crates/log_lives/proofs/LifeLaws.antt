@@ -369,8 +369,8 @@ outcome_known limit most w s l a h o among =
 pub started_prefix : (w u : World) (list : List Entry) → KeepsAll w → Begins w list u → IsPrefix list w.book
 started_prefix w u list h b =
     let covers = restored_covers w.snapshot w.log w.book (h.listed w.snapshot (inl refl))
-        (prefix_front (up_to_end w.log) w.log.torn w.book (h.logged w.log (inl refl)))
-        (h.linked w.snapshot w.log (inl refl) (inl refl)) in
+    (prefix_front (up_to_end w.log) w.log.torn w.book (h.logged w.log (inl refl)))
+    (h.linked w.snapshot w.log (inl refl) (inl refl)) in
     subst (λ x. IsPrefix x w.book) (sym b.list_is) covers.begins
 
 pub answer_known : (limit most : ℕ) (w : World) (a : Answer) → KeepsAll w → IsAmong a w.answers →

@@ -58,12 +58,12 @@ joined_longer s front whole zs p q le up =
     let rest = prefix_shorter s (front ++ whole) zs p q up in
     let begun = prefix_shorter front s zs (prefix_front front whole zs q) p le in
     let parts : begun.0 ++ rest.0 ≡ whole =
-        append_cancel_left front (begun.0 ++ rest.0) whole
-        (sym (append_assoc front begun.0 rest.0) ∙ ap (λ l. l ++ rest.0) begun.1 ∙ rest.1) in
+    append_cancel_left front (begun.0 ++ rest.0) whole
+    (sym (append_assoc front begun.0 rest.0) ∙ ap (λ l. l ++ rest.0) begun.1 ∙ rest.1) in
     let count : length s - length front ≡ length begun.0 =
-        omega (arith, length-append front begun.0, ap length begun.1) in
+    omega (arith, length-append front begun.0, ap length begun.1) in
     let behind : drop (length s - length front) whole ≡ rest.0 =
-        ap (λ n. drop n whole) count ∙ ap (drop (length begun.0)) (sym parts) ∙ drop-append_seam begun.0 rest.0 in
+    ap (λ n. drop n whole) count ∙ ap (drop (length begun.0)) (sym parts) ∙ drop-append_seam begun.0 rest.0 in
     ap (λ l. s ++ l) behind ∙ rest.1
 
 pub joined_shorter : {A : Type 0} (s front whole : List A) → length (front ++ whole) ≤ length s →

@@ -1,6 +1,6 @@
 -- Sessions over a keeper whose state is what was accepted, and nothing else.
 use Rattle.std.proofs.Common.{◌≡◌, ◌⊎◌, inl, inr, ℕ, ◌+◌, ◌≤◌, List, [], ◌∷◌, ◌++◌, length, take, map, refl, sym, ◌∙◌}
-use Rattle.std.proofs.Common.{ap, subst, append_assoc, None, Ok, Err}
+use Rattle.std.proofs.Common.{ap, subst, append_assoc, None, Ok, Err, ◌<◌, arith}
 use Rattle.std.proofs.lemmas.List.{append-nil}
 use Rattle.byte_io.specs.Streams.{Answer}
 use Rattle.batch_store.specs.Setups.{Setting}
@@ -12,7 +12,9 @@ use Rattle.wire_proto.specs.Replies.{refused, reply_of}
 use Rattle.wire_proto.specs.Answering.{Answers, asked, unasked, RunsOut, before_call, in_call}
 use Rattle.wire_proto.specs.Sessions.{Talks, AnswersAll, LacksMemory, NextReply, Then, Breaks, Rests, Ends}
 use Rattle.wire_proto.specs.Sessions.{unasked as no_call, asked as a_call, answer as answered, stop, bad, out}
+use Rattle.wire_proto.specs.Sessions.{AsksToPut, Unsent, CutOff, alone, among_puts}
 use Rattle.wire_proto.specs.Plain.{PlainGives, AnswersMessages, IsAnswered, Between, WithLast, Partly, Broken}
+use Rattle.wire_proto.specs.Plain.{PutsUnsent}
 use Rattle.wire_proto.specs.Plain.{EndsPlain}
 use Rattle.wire_frames.specs.declared.request.Request.{Request}
 use Rattle.wire_frames.specs.declared.request.Request.TheVariants.{Put, Cell, Row, Status, Export, Save, Stop}
@@ -231,13 +233,94 @@ module _ {L S N : Type 0} (reads : L → Answer → L → Type 0) (writes : L �
   )
   reply_seen kept reply s t e (out h is) = let k = lacks_seen name setup_of state v kept s t e h in (inr (is, k.0), k.1)
 
+  put_goes_on : (r : Request) → AsksToPut r → r ≡ Stop → ⊥
+  put_goes_on (Put x y z) h is = cc
+  put_goes_on (PutCells x y z) h is = cc
+  put_goes_on (Cell x y) h is = h
+  put_goes_on (Row x) h is = h
+  put_goes_on Status h is = h
+  put_goes_on Export h is = h
+  put_goes_on Save h is = h
+  put_goes_on Stop h is = h
+
+  ended_seen : (m t : S) → setup_of m ≡ v →
+      ((t ≡ m) ⊎ ((r : Request) × RunsOut (Steps name setup_of state) v r m t)) →
+      (state t ≡ state m) × Is name setup_of state v m t
+  ended_seen m t e (inl is) = (ap state is, record { same = ap name is; setup = ap setup_of is ∙ e })
+  ended_seen m t e (inr (r, h)) = runs_out_seen name setup_of state v r m t e h
+
+  unsent_seen : (bytes : List ℕ) (s t : S) → setup_of s ≡ v →
+      Unsent (Steps name setup_of state) v bytes s t →
+      PutsUnsent v (state s) (state t) (messages bytes) × Is name setup_of state v s t
+  unsent_seen bytes s t e a =
+      let seen = all_seen name setup_of state v s a.mid a.puts a.replies e a.answered in
+      let end = ended_seen a.mid t seen.1.setup a.end_is in (
+        record {
+          puts = a.puts;
+          all_put = a.all_put;
+          few = a.few;
+          replies = a.replies;
+          answered = subst (λ x. IsAnswered v (state s) (map (λ r. Ok r) a.puts) a.replies x) (sym end.0)
+              (all_answered (PlainGives v) v (state s) (state a.mid) a.puts a.replies seen.0);
+          rest = messages a.rest;
+          stand = split_is s a.mid bytes a.rest a.replies a.puts a.stand a.answered;
+        },
+        record { same = end.1.same ∙ seen.1.same; setup = end.1.setup },
+      )
+
+  none_unsent : (state' : Accepted) (behind : List Message) → PutsUnsent v state' state' behind
+  none_unsent state' behind = record {
+    puts = [];
+    all_put = tt;
+    few = omega arith;
+    replies = [];
+    answered = (refl, refl);
+    rest = behind;
+    stand = refl;
+  }
+
+  -- what a reply that was cut off answers, of these messages, and what was accepted with it and behind it
+  abbrev CutMessage : Accepted → Accepted → List Message → List ℕ → Type 0
+  CutMessage mid after rest reply =
+      ((m : Message) × (others : List Message) × (next : Accepted) × (rest ≡ m ∷ others) ×
+      IsAnswered v mid (m ∷ []) reply next × PutsUnsent v next after others)
+      ⊎ ((reply ≡ refused 1 0) × (after ≡ mid))
+
+  next_cut : (mid after : Accepted) (rest : List Message) (reply : List ℕ) →
+      ((m : Message) × (others : List Message) × (rest ≡ m ∷ others) × IsAnswered v mid (m ∷ []) reply after)
+      ⊎ ((reply ≡ refused 1 0) × (after ≡ mid)) → CutMessage mid after rest reply
+  next_cut mid after rest reply (inl a) = inl (a.0, a.1, after, a.2, a.3, none_unsent after a.1)
+  next_cut mid after rest reply (inr a) = inr a
+
+  cut_seen : (kept reply : List ℕ) (s t : S) → setup_of s ≡ v →
+      CutOff (Steps name setup_of state) v kept reply s t →
+      CutMessage (state s) (state t) (messages kept) reply × Is name setup_of state v s t
+  cut_seen kept reply s t e (alone h) =
+      let next = reply_seen kept reply s t e h in
+      (next_cut (state s) (state t) (messages kept) reply next.0, next.1)
+  cut_seen kept reply s t e (among_puts r rest m f is_put a behind) =
+      let one = one_seen name setup_of state v r reply s m e a in
+      let goes = put_goes_on r is_put in
+      let unsent = unsent_seen rest m t one.1.setup behind in (
+        inl (
+          Ok r,
+          messages rest,
+          state m,
+          messages_request kept r rest f goes,
+          one_more (PlainGives v) v (state s) (state m) (state m) r reply [] [] reply goes one.0
+              (sym (append-nil reply)) (refl, refl),
+          unsent.0,
+        ),
+        record { same = unsent.1.same ∙ one.1.same; setup = unsent.1.setup },
+      )
+
   breaks_seen : (l l' : L) (s t : S) (turns n : ℕ) → setup_of s ≡ v →
       Breaks reads writes failures (Steps name setup_of state) v l l' s t turns n →
       Broken reads writes failures v l l' (state s) (state t) turns n × Is name setup_of state v s t
   breaks_seen l l' s t turns n e a =
       let part = partly_seen l l' s a.mid a.kept (take a.some a.reply)
       (take a.some a.reply) a.written turns e refl a.before in
-      let next = reply_seen a.kept a.reply a.mid t part.1.setup a.next in (
+      let next = cut_seen a.kept a.reply a.mid t part.1.setup a.next in (
         record {
           replies = a.before.replies;
           reply = a.reply;
@@ -250,6 +333,10 @@ module _ {L S N : Type 0} (reads : L → Answer → L → Type 0) (writes : L �
           reply_is = next.0;
           at = a.at;
           unfailed = a.unfailed;
+          text = a.text;
+          earlier = a.earlier;
+          later = a.later;
+          text_is = a.text_is;
           refused_by = a.refused_by;
         },
         record { same = next.1.same ∙ part.1.same; setup = next.1.setup },

@@ -1,8 +1,12 @@
 -- Sessions, one step further.
 use Rattle.std.proofs.Common.{◌≡◌, ℕ, ◌+◌, ◌<◌, ◌≤◌, List, [], ◌∷◌, ◌++◌, length, refl, sym, ◌∙◌, ap, subst, arith}
-use Rattle.std.proofs.Common.{append_assoc, length-append, Some, None, Result, Ok, Err, IfOk, IfErr}
-use Rattle.std.proofs.lemmas.List.{append-nil}
+use Rattle.std.proofs.Common.{append_assoc, length-append, Some, None, Result, Ok, Err, IfOk, IfErr, ◌⊎◌, inl, inr, take}
+use Rattle.std.proofs.Common.{◌-◌}
+use Rattle.std.proofs.lemmas.Bool.{cases_lt}
+use Rattle.std.proofs.lemmas.List.{append-nil, take-append-le}
+use Rattle.std.proofs.Math.Seq.{take-append-add}
 use Rattle.byte_io.specs.Streams.{Answer}
+use Rattle.byte_io.specs.Writing.{HasTaken, HasStopped}
 use Rattle.byte_io.specs.declared.fault.DeviceFault.{DeviceFault}
 use Rattle.batch_store.specs.Setups.{Setting}
 use Rattle.wire_frames.specs.Frames.{front, Gives, NextGives}
@@ -10,13 +14,14 @@ use Rattle.wire_frames.specs.declared.request.Request.{Request}
 use Rattle.wire_frames.specs.declared.request.FrameFault.{FrameFault}
 use Rattle.wire_frames.specs.declared.request.FrameFault.TheVariants.{Memory as NoMemory, TooLarge, UnknownKind}
 use Rattle.wire_frames.specs.declared.request.FrameFault.TheVariants.{BadLength}
-use Rattle.wire_proto.specs.Closing.{Closes, whole, part, Sends, ended_of}
+use Rattle.wire_proto.specs.Closing.{Closes, whole, part, ClosesBehind, held_sent, held_cut, Sends, ended_of}
 use Rattle.wire_proto.specs.Keeping.{Event}
 use Rattle.wire_proto.specs.Replies.{refused, fault_code}
-use Rattle.wire_proto.specs.Answering.{Answers}
+use Rattle.wire_proto.specs.Answering.{Answers, RunsOut}
 use Rattle.wire_proto.specs.Sessions.{gave, bytes_given, Talks, AnswersAll, Stands, unasked, NextReply}
 use Rattle.wire_proto.specs.Sessions.{answer as answered, bad, out, LastReply, Carries, CarriesToEnd, TurnEnds, Says}
 use Rattle.wire_proto.specs.Sessions.{Rests, FailsToRead, Stops, Ends, OneEnds, says, breaks, OneAnswered}
+use Rattle.wire_proto.specs.Sessions.{AsksToPut, AllPut, Holds, Hands, HandsToEnd, CarriesHeld, alone, among_puts}
 use Rattle.wire_proto.specs.declared.ended.Ended.{Ended}
 use Rattle.wire_proto.specs.declared.ended.Ended.TheVariants.{Closed, ReadFault, WriteFault, BadFrame, Memory, Stopped}
 use Rattle.wire_proto.specs.declared.ended.Ended.TheVariants.{TooManyTurns}
@@ -44,6 +49,136 @@ answers_snoc gives setup s m t (x ∷ rs) bytes reply r a h = (
   ap (λ l. l ++ reply) a.4 ∙ append_assoc a.1 a.2 reply,
   answers_snoc gives setup a.0 m t rs a.2 reply r a.5 h,
 )
+
+pub answers_append : {S : Type 0} (gives : S → Event → S → Type 0) (setup : Setting) (s m t : S) (rs qs : List Request)
+    (bytes more : List ℕ) →
+    AnswersAll gives setup s rs bytes m → AnswersAll gives setup m qs more t →
+    AnswersAll gives setup s (rs ++ qs) (bytes ++ more) t
+answers_append gives setup s m t [] qs bytes more a b =
+    subst (λ v. AnswersAll gives setup v qs (bytes ++ more) t) (sym a.0)
+    (subst (λ l. AnswersAll gives setup m qs (l ++ more) t) (sym a.1) b)
+answers_append gives setup s m t (x ∷ rs) qs bytes more a b = (
+  a.0,
+  a.1,
+  a.2 ++ more,
+  a.3,
+  ap (λ l. l ++ more) a.4 ∙ append_assoc a.1 a.2 more,
+  answers_append gives setup a.0 m t rs qs a.2 more a.5 b,
+)
+
+-- requests that were handed out, up to one of them
+gives_split : (bytes : List ℕ) (rs qs : List Request) (kept : List ℕ) → Gives bytes (rs ++ qs) kept →
+    (m : List ℕ) × Gives bytes rs m × Gives m qs kept
+gives_split bytes [] qs kept a = (bytes, refl, a)
+gives_split bytes (r ∷ rs) qs kept a =
+    let rest = gives_split a.0 rs qs kept a.2 in (rest.0, (a.0, a.1, rest.1), rest.2)
+
+all_put_at : (rs : List Request) (r : Request) (qs : List Request) → AllPut (rs ++ r ∷ qs) → AsksToPut r
+all_put_at [] r qs h = h.0
+all_put_at (x ∷ rs) r qs h = all_put_at rs r qs h.1
+
+all_put_behind : (rs : List Request) (r : Request) (qs : List Request) → AllPut (rs ++ r ∷ qs) → AllPut qs
+all_put_behind [] r qs h = h.1
+all_put_behind (x ∷ rs) r qs h = all_put_behind rs r qs h.1
+
+all_put_snoc : (rs : List Request) (r : Request) → AllPut rs → AsksToPut r → AllPut (rs ++ r ∷ [])
+all_put_snoc [] r h put = (put, tt)
+all_put_snoc (x ∷ rs) r h put = (h.0, all_put_snoc rs r h.1 put)
+
+-- Puts with their replies, where so many bytes of these were sent: the replies sent whole, the one that is cut off, and
+-- those behind.
+pub record Split {S : Type 0} (gives : S → Event → S → Type 0) (setup : Setting) (s t : S) (puts : List Request)
+    (bytes : List ℕ) (i : ℕ) : Type 0 where
+  pub sent : List Request
+  pub sent_bytes : List ℕ
+  pub mid : S
+  pub request : Request
+  pub reply : List ℕ
+  pub after : S
+  pub behind : List Request
+  pub unsent : List ℕ
+  pub puts_are : puts ≡ sent ++ request ∷ behind
+  pub sent_all : AnswersAll gives setup s sent sent_bytes mid
+  pub one : Answers gives setup request reply mid after
+  pub behind_all : AnswersAll gives setup after behind unsent t
+  pub bytes_are : bytes ≡ sent_bytes ++ (reply ++ unsent)
+  pub some : ℕ
+  pub place : i ≡ length sent_bytes + some
+  pub proper : some < length reply
+
+split_here : {S : Type 0} (gives : S → Event → S → Type 0) (setup : Setting) (s t : S) (r : Request) (rs : List Request)
+    (bytes : List ℕ) (i : ℕ) (a : AnswersAll gives setup s (r ∷ rs) bytes t) → i < length a.1 →
+    Split gives setup s t (r ∷ rs) bytes i
+split_here gives setup s t r rs bytes i a less = record {
+  sent = [];
+  sent_bytes = [];
+  mid = s;
+  request = r;
+  reply = a.1;
+  after = a.0;
+  behind = rs;
+  unsent = a.2;
+  puts_are = refl;
+  sent_all = (refl, refl);
+  one = a.3;
+  behind_all = a.5;
+  bytes_are = a.4;
+  some = i;
+  place = omega arith;
+  proper = less;
+}
+
+split_later : {S : Type 0} (gives : S → Event → S → Type 0) (setup : Setting) (s t : S) (r : Request) (rs : List Request)
+    (bytes : List ℕ) (i : ℕ) (a : AnswersAll gives setup s (r ∷ rs) bytes t) → length a.1 ≤ i →
+    Split gives setup a.0 t rs a.2 (i - length a.1) → Split gives setup s t (r ∷ rs) bytes i
+split_later gives setup s t r rs bytes i a ge rest =
+    let long = length-append a.1 rest.sent_bytes in
+    let place = rest.place in
+    record {
+      sent = r ∷ rest.sent;
+      sent_bytes = a.1 ++ rest.sent_bytes;
+      mid = rest.mid;
+      request = rest.request;
+      reply = rest.reply;
+      after = rest.after;
+      behind = rest.behind;
+      unsent = rest.unsent;
+      puts_are = ap (λ l. r ∷ l) rest.puts_are;
+      sent_all = (a.0, a.1, rest.sent_bytes, a.3, refl, rest.sent_all);
+      one = rest.one;
+      behind_all = rest.behind_all;
+      bytes_are = a.4 ∙ ap (λ l. a.1 ++ l) rest.bytes_are
+          ∙ sym (append_assoc a.1 rest.sent_bytes (rest.reply ++ rest.unsent));
+      some = rest.some;
+      place = omega (arith, ge, place, long);
+      proper = rest.proper;
+    }
+
+split_by : {S : Type 0} (gives : S → Event → S → Type 0) (setup : Setting) (s t : S) (r : Request) (rs : List Request)
+    (bytes : List ℕ) (i : ℕ) (a : AnswersAll gives setup s (r ∷ rs) bytes t) →
+    (length a.1 ≤ i → Split gives setup a.0 t rs a.2 (i - length a.1)) → (i < length a.1) ⊎ (length a.1 ≤ i) →
+    Split gives setup s t (r ∷ rs) bytes i
+split_by gives setup s t r rs bytes i a again (inl less) = split_here gives setup s t r rs bytes i a less
+split_by gives setup s t r rs bytes i a again (inr ge) = split_later gives setup s t r rs bytes i a ge (again ge)
+
+split_at : {S : Type 0} (gives : S → Event → S → Type 0) (setup : Setting) (s t : S) (puts : List Request)
+    (bytes : List ℕ) (i : ℕ) → AnswersAll gives setup s puts bytes t → i < length bytes →
+    Split gives setup s t puts bytes i
+split_at gives setup s t [] bytes i a less = absurd (let e = ap length a.1 in omega (arith, e, less))
+split_at gives setup s t (r ∷ rs) bytes i a less =
+    let total = ap length a.4 ∙ length-append a.1 a.2 in
+    split_by gives setup s t r rs bytes i a
+    (λ ge. split_at gives setup a.0 t rs a.2 (i - length a.1) a.5 (omega (arith, ge, less, total)))
+    (cases_lt i (length a.1))
+
+-- the bytes that were sent are the replies sent whole and the front of the next
+split_sent : {S : Type 0} (gives : S → Event → S → Type 0) (setup : Setting) (s t : S) (puts : List Request)
+    (bytes : List ℕ) (i : ℕ) (p : Split gives setup s t puts bytes i) →
+    take i bytes ≡ p.sent_bytes ++ take p.some p.reply
+split_sent gives setup s t puts bytes i p =
+    ap (λ n. take n bytes) p.place ∙ ap (take (length p.sent_bytes + p.some)) p.bytes_are
+    ∙ take-append-add p.sent_bytes (p.reply ++ p.unsent) p.some
+    ∙ ap (λ l. p.sent_bytes ++ l) (take-append-le p.some p.reply p.unsent (let n = p.proper in omega (arith, n)))
 
 -- ---- one reply
 module _ {L S : Type 0} (writes : L → List ℕ → Answer → L → Type 0) (failures : L → ℕ) (gives : S → Event → S → Type 0)
@@ -158,33 +293,238 @@ module _ {L S : Type 0} (reads : L → Answer → L → Type 0) (writes : L → 
           answered = a.answered;
           written_is = a.written_is;
         };
-        next = next;
+        next = alone next;
         proper = stopped.some_left;
         count = refl;
         at = l;
         unfailed = a.none_failed;
-        refused_by = stopped;
+        text = reply;
+        earlier = [];
+        later = [];
+        text_is = sym (append-nil reply);
+        refused_by = subst (λ n. HasStopped writes failures l l' reply n) {x = i} {y = 0 + i} (omega arith) stopped;
       })
 
-  -- ---- whatever session stood here
-  pub carries_answered : (setup' : Setting) (l l' l'' : L) (s s' s'' : S) (kept kept' rest : List ℕ) (r : Request)
-      (written written' w : ℕ) →
-      Carries reads writes failures gives setup l l' s s' kept kept' written written' 0 → setup' ≡ setup →
-      front kept' ≡ Some (Ok r, rest) → OneAnswered writes failures gives setup' r l' l'' s' s'' written' w →
-      Carries reads writes failures gives setup l l'' s s'' kept rest written w 0
-  carries_answered setup' l l' l'' s s' s'' kept kept' rest r written written' w a e h one = λ l0 s0 turns st.
-      stands_answered l0 l' l'' s0 s' s'' kept' rest r written' w (turns + 0) h
-      (subst (λ v. OneAnswered writes failures gives v r l' l'' s' s'' written' w) e one) (a l0 s0 turns st)
+  -- ---- replies that are held back
+  pub stands_holds : (l0 l : L) (s0 s : S) (kept : List ℕ) (written turns : ℕ) →
+      Stands reads writes failures gives setup l0 l s0 s kept written turns →
+      Holds reads writes failures gives setup l0 l s0 s kept [] 0 written turns
+  stands_holds l0 l s0 s kept written turns a = record {
+    given = a.given;
+    replies = a.replies;
+    requests = a.requests;
+    puts = [];
+    mid = s;
+    talks = a.talks;
+    cut = subst (λ rs. Gives a.given rs kept) (sym (append-nil a.requests)) a.cut;
+    answered = a.answered;
+    behind = (refl, refl);
+    all_put = tt;
+    count_is = refl;
+    written_is = a.written_is;
+    each_gave = a.each_gave;
+    none_failed = a.none_failed;
+  }
 
-  pub carries_ended : (setup' : Setting) (l l' l'' : L) (s s' s'' : S) (kept kept' : List ℕ) (written written' : ℕ)
-      (e : Ended) →
-      Carries reads writes failures gives setup l l' s s' kept kept' written written' 0 → setup' ≡ setup →
-      OneEnds writes failures gives setup' kept' l' l'' s' s'' written' e →
+  -- one more is held back
+  pub holds_more : (l0 l : L) (s0 s s' : S) (kept rest held reply : List ℕ) (r : Request) (count written turns : ℕ) →
+      front kept ≡ Some (Ok r, rest) → AsksToPut r → Answers gives setup r reply s s' →
+      Holds reads writes failures gives setup l0 l s0 s kept held count written turns →
+      Holds reads writes failures gives setup l0 l s0 s' rest (held ++ reply) (count + 1) written turns
+  holds_more l0 l s0 s s' kept rest held reply r count written turns h put one a = record {
+    given = a.given;
+    replies = a.replies;
+    requests = a.requests;
+    puts = a.puts ++ r ∷ [];
+    mid = a.mid;
+    talks = a.talks;
+    cut = subst (λ rs. Gives a.given rs rest) (append_assoc a.requests a.puts (r ∷ []))
+        (gives_snoc a.given (a.requests ++ a.puts) kept r rest a.cut h);
+    answered = a.answered;
+    behind = answers_snoc gives setup a.mid s s' a.puts held reply r a.behind one;
+    all_put = all_put_snoc a.puts r a.all_put put;
+    count_is = length-append a.puts (r ∷ []) ∙ ap (λ n. n + 1) a.count_is;
+    written_is = a.written_is;
+    each_gave = a.each_gave;
+    none_failed = a.none_failed;
+  }
+
+  -- what was held back is sent
+  pub holds_sent : (l0 l l' : L) (s0 s : S) (kept held : List ℕ) (count written w turns : ℕ) →
+      HasTaken writes failures l l' held → w ≡ written + length held →
+      Holds reads writes failures gives setup l0 l s0 s kept held count written turns →
+      Stands reads writes failures gives setup l0 l' s0 s kept w turns
+  holds_sent l0 l l' s0 s kept held count written w turns taken is a = record {
+    given = a.given;
+    replies = a.replies ++ held;
+    requests = a.requests ++ a.puts;
+    talks = talks_taken reads writes failures l0 l l' a.given a.replies held turns a.talks taken;
+    cut = a.cut;
+    answered = answers_append gives setup s0 a.mid s a.requests a.puts a.replies held a.answered a.behind;
+    written_is = is ∙ rw a.written_is (sym (length-append a.replies held));
+    each_gave = a.each_gave;
+    none_failed = taken.none_failed ∙ a.none_failed;
+  }
+
+  -- the link took a part of what was held back
+  pub holds_cut : (l0 l l' : L) (s0 s s' : S) (kept held : List ℕ) (count written turns i : ℕ) (e : Ended) →
+      count ≤ 64 → HasStopped writes failures l l' held i → e ≡ WriteFault (written + i) →
+      ((s' ≡ s) ⊎ ((r : Request) × RunsOut gives setup r s s')) →
+      Holds reads writes failures gives setup l0 l s0 s kept held count written turns →
+      Stops reads writes failures gives setup l0 l' s0 s' turns e
+  holds_cut l0 l l' s0 s s' kept held count written turns i e few stopped is end a =
+      subst (λ v. Stops reads writes failures gives setup l0 l' s0 s' turns v) (sym is) (record {
+        kept = cut.0;
+        reply = p.reply;
+        mid = p.mid;
+        written = written + length p.sent_bytes;
+        some = p.some;
+        before = record {
+          given = a.given;
+          replies = a.replies ++ p.sent_bytes;
+          requests = a.requests ++ p.sent;
+          talks = subst (λ x. Talks reads writes l0 l' a.given x turns) taken_is
+              (talks_stopped reads writes failures l0 l l' a.given a.replies held turns i a.talks stopped);
+          cut = cut.1;
+          answered = answers_append gives setup s0 a.mid p.mid a.requests p.sent a.replies p.sent_bytes a.answered p.sent_all;
+          written_is = rw a.written_is (sym (length-append a.replies p.sent_bytes));
+        };
+        next = among_puts p.request cut.2.0 p.after cut.2.1 (all_put_at p.sent p.request p.behind puts) p.one (record {
+          puts = p.behind;
+          all_put = all_put_behind p.sent p.request p.behind puts;
+          few = let n = ap length p.puts_are ∙ length-append p.sent (p.request ∷ p.behind) in
+              let m = a.count_is in omega (arith, n, m, few);
+          rest = kept;
+          stand = cut.2.2;
+          replies = p.unsent;
+          mid = s;
+          answered = p.behind_all;
+          end_is = end;
+        });
+        proper = p.proper;
+        count = let n = p.place in omega (arith, n);
+        at = l;
+        unfailed = a.none_failed;
+        text = held;
+        earlier = p.sent_bytes;
+        later = p.unsent;
+        text_is = p.bytes_are;
+        refused_by = subst (λ n. HasStopped writes failures l l' held n) p.place stopped;
+      })
+    where
+      p : Split gives setup a.mid s a.puts held i
+      p = split_at gives setup a.mid s a.puts held i a.behind stopped.some_left
+
+      puts : AllPut (p.sent ++ p.request ∷ p.behind)
+      puts = subst AllPut p.puts_are a.all_put
+
+      cut : (m : List ℕ) × Gives a.given (a.requests ++ p.sent) m × Gives m (p.request ∷ p.behind) kept
+      cut = gives_split a.given (a.requests ++ p.sent) (p.request ∷ p.behind) kept
+          (subst (λ rs. Gives a.given rs kept)
+          (ap (λ l. a.requests ++ l) p.puts_are ∙ sym (append_assoc a.requests p.sent (p.request ∷ p.behind))) a.cut)
+
+      taken_is : a.replies ++ take i held ≡ (a.replies ++ p.sent_bytes) ++ take p.some p.reply
+      taken_is = ap (λ l. a.replies ++ l) (split_sent gives setup a.mid s a.puts held i p)
+          ∙ sym (append_assoc a.replies p.sent_bytes (take p.some p.reply))
+
+  -- a request was answered behind what was sent first
+  pub hands_answered : (l m l' : L) (s s' : S) (held : List ℕ) (count written sent : ℕ) (r : Request)
+      (result : Result ℕ Ended) → HasTaken writes failures l m held → sent ≡ written + length held →
+      IfOk result (λ w. OneAnswered writes failures gives setup r m l' s s' sent w) →
+      IfOk result (λ w. (kept rest : List ℕ) → front kept ≡ Some (Ok r, rest) →
+      Hands reads writes failures gives setup l l' s s' kept rest held [] count 0 written w)
+  hands_answered l m l' s s' held count written sent r (Ok w) taken is one = λ kept rest h l0 s0 turns st.
+      stands_holds l0 l' s0 s' rest w turns (stands_answered l0 m l' s0 s s' kept rest r sent w turns h one
+      (holds_sent l0 l m s0 s kept held count written sent turns taken is st))
+  hands_answered l m l' s s' held count written sent r (Err e) taken is one = tt
+
+  pub hands_ended : (l m l' : L) (s s' : S) (held : List ℕ) (count written sent : ℕ) (r : Request)
+      (result : Result ℕ Ended) → HasTaken writes failures l m held → sent ≡ written + length held →
+      IfErr result (λ e. (kept rest : List ℕ) → front kept ≡ Some (Ok r, rest) →
+      OneEnds writes failures gives setup kept m l' s s' sent e) →
+      IfErr result (λ e. (kept rest : List ℕ) → front kept ≡ Some (Ok r, rest) →
+      HandsToEnd reads writes failures gives setup l l' s s' kept held count written e)
+  hands_ended l m l' s s' held count written sent r (Ok w) taken is one = tt
+  hands_ended l m l' s s' held count written sent r (Err e) taken is one = λ kept rest h l0 s0 turns st.
+      stands_ended l0 m l' s0 s s' kept sent turns e (one kept rest h)
+      (holds_sent l0 l m s0 s kept held count written sent turns taken is st)
+
+  -- what was held back was sent, and a put was answered then
+  pub hands_behind : (l m l' : L) (s s' : S) (held held' : List ℕ) (count count' written sent : ℕ) (r : Request)
+      (result : Result ℕ Ended) → HasTaken writes failures l m held → sent ≡ written + length held →
+      IfOk result (λ w. (kept rest : List ℕ) → front kept ≡ Some (Ok r, rest) →
+      Hands reads writes failures gives setup m l' s s' kept rest [] held' 0 count' sent w) →
+      IfOk result (λ w. (kept rest : List ℕ) → front kept ≡ Some (Ok r, rest) →
+      Hands reads writes failures gives setup l l' s s' kept rest held held' count count' written w)
+  hands_behind l m l' s s' held held' count count' written sent r (Ok w) taken is a = λ kept rest h l0 s0 turns st.
+      a kept rest h l0 s0 turns (stands_holds l0 m s0 s kept sent turns
+      (holds_sent l0 l m s0 s kept held count written sent turns taken is st))
+  hands_behind l m l' s s' held held' count count' written sent r (Err e) taken is a = tt
+
+  pub hands_ended_behind : (l m l' : L) (s s' : S) (held : List ℕ) (count written sent : ℕ) (r : Request)
+      (result : Result ℕ Ended) → HasTaken writes failures l m held → sent ≡ written + length held →
+      IfErr result (λ e. (kept rest : List ℕ) → front kept ≡ Some (Ok r, rest) →
+      HandsToEnd reads writes failures gives setup m l' s s' kept [] 0 sent e) →
+      IfErr result (λ e. (kept rest : List ℕ) → front kept ≡ Some (Ok r, rest) →
+      HandsToEnd reads writes failures gives setup l l' s s' kept held count written e)
+  hands_ended_behind l m l' s s' held count written sent r (Ok w) taken is a = tt
+  hands_ended_behind l m l' s s' held count written sent r (Err e) taken is a = λ kept rest h l0 s0 turns st.
+      a kept rest h l0 s0 turns (stands_holds l0 m s0 s kept sent turns
+      (holds_sent l0 l m s0 s kept held count written sent turns taken is st))
+
+  -- ---- whatever session stood here
+  pub carries_handed : (setup' : Setting) (l l' l'' : L) (s s' s'' : S) (kept kept' rest held held' : List ℕ)
+      (count count' written written' w : ℕ) →
+      CarriesHeld reads writes failures gives setup l l' s s' kept kept' held count written written' → setup' ≡ setup →
+      Hands reads writes failures gives setup' l' l'' s' s'' kept' rest held held' count count' written' w →
+      CarriesHeld reads writes failures gives setup l l'' s s'' kept rest held' count' written w
+  carries_handed setup' l l' l'' s s' s'' kept kept' rest held held' count count' written written' w a is h =
+      λ l0 s0 turns st.
+      let hands = subst (λ v. Hands reads writes failures gives v l' l'' s' s'' kept' rest held held' count count'
+      written' w) is h in hands l0 s0 turns (a l0 s0 turns st)
+
+  pub carries_handed_end : (setup' : Setting) (l l' l'' : L) (s s' s'' : S) (kept kept' held : List ℕ)
+      (count written written' : ℕ) (e : Ended) →
+      CarriesHeld reads writes failures gives setup l l' s s' kept kept' held count written written' → setup' ≡ setup →
+      HandsToEnd reads writes failures gives setup' l' l'' s' s'' kept' held count written' e →
       CarriesToEnd reads writes failures gives setup l l'' s s'' kept written e
-  carries_ended setup' l l' l'' s s' s'' kept kept' written written' e a is one = λ l0 s0 turns st.
-      subst (λ n. Stops reads writes failures gives setup l0 l'' s0 s'' n e) (omega arith)
-      (stands_ended l0 l' l'' s0 s' s'' kept' written' (turns + 0) e
-      (subst (λ v. OneEnds writes failures gives v kept' l' l'' s' s'' written' e) is one) (a l0 s0 turns st))
+  carries_handed_end setup' l l' l'' s s' s'' kept kept' held count written written' e a is h = λ l0 s0 turns st.
+      let hands = subst (λ v. HandsToEnd reads writes failures gives v l' l'' s' s'' kept' held count written' e) is h in
+      hands l0 s0 turns (a l0 s0 turns st)
+
+  -- what is held back at the end is sent
+  pub carries_sent : (l l' l'' : L) (s s' : S) (kept kept' held : List ℕ) (count written written' : ℕ)
+      (result : Result ℕ Ended) →
+      CarriesHeld reads writes failures gives setup l l' s s' kept kept' held count written written' →
+      Sends writes failures l' l'' held written' result →
+      IfOk result (λ w. Carries reads writes failures gives setup l l'' s s' kept kept' written w 0)
+  carries_sent l l' l'' s s' kept kept' held count written written' (Ok w) a h = λ l0 s0 turns st.
+      subst (λ n. Stands reads writes failures gives setup l0 l'' s0 s' kept' w n) {x = turns} {y = turns + 0} (omega arith)
+      (holds_sent l0 l' l'' s0 s' kept' held count written' w turns h.1 h.0 (a l0 s0 turns st))
+  carries_sent l l' l'' s s' kept kept' held count written written' (Err e) a h = tt
+
+  pub carries_cut : (l l' l'' : L) (s s' : S) (kept kept' held : List ℕ) (count written written' : ℕ)
+      (result : Result ℕ Ended) → count ≤ 64 →
+      CarriesHeld reads writes failures gives setup l l' s s' kept kept' held count written written' →
+      Sends writes failures l' l'' held written' result →
+      IfErr result (λ e. CarriesToEnd reads writes failures gives setup l l'' s s' kept written e)
+  carries_cut l l' l'' s s' kept kept' held count written written' (Ok w) few a h = tt
+  carries_cut l l' l'' s s' kept kept' held count written written' (Err e) few a h = λ l0 s0 turns st.
+      holds_cut l0 l' l'' s0 s' s' kept' held count written' turns h.0 e few h.2 h.1 (inl refl) (a l0 s0 turns st)
+
+  pub carries_refused : (old new : List ℕ) (fault : FrameFault) (l l' l'' : L) (s s' : S) (kept held : List ℕ)
+      (count written written' : ℕ) (result : Ended) → count ≤ 64 → NextGives old (Err fault) new →
+      CarriesHeld reads writes failures gives setup l l' s s' kept old held count written written' →
+      ClosesBehind writes failures l' l'' held (refused (fault_code fault) 0) written' (ended_of fault) result →
+      CarriesToEnd reads writes failures gives setup l l'' s s' kept written result
+  carries_refused old new fault l l' l'' s s' kept held count written written' result few n a (held_sent m taken c) =
+      λ l0 s0 turns st.
+      stands_ended l0 m l'' s0 s' s' old (written' + length held) turns result
+      (closes_fault writes failures gives setup old new fault m l'' s' (written' + length held) result n c)
+      (holds_sent l0 l' m s0 s' old held count written' (written' + length held) turns taken refl (a l0 s0 turns st))
+  carries_refused old new fault l l' l'' s s' kept held count written written' result few n a (held_cut i stopped is) =
+      λ l0 s0 turns st.
+      holds_cut l0 l' l'' s0 s' s' old held count written' turns i result few stopped is (inl refl) (a l0 s0 turns st)
 
   -- ---- turns
   pub stands_read : (l0 l l' : L) (s0 s : S) (kept bytes : List ℕ) (written turns : ℕ) →

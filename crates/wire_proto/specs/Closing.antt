@@ -22,6 +22,14 @@ pub data Closes {L : Type 0} (step : L → List ℕ → Answer → L → Type 0)
   part : (i : ℕ) → HasStopped step failures l l' reply i → result ≡ WriteFault (written + i) →
       Closes step failures l l' reply written ended result
 
+-- Replies that were held back were taken whole, and the session ended as above; or they were taken in part.
+pub data ClosesBehind {L : Type 0} (step : L → List ℕ → Answer → L → Type 0) (failures : L → ℕ) (l l' : L)
+    (held reply : List ℕ) (written : ℕ) (ended result : Ended) : Type 0 where
+  held_sent : (m : L) → HasTaken step failures l m held → Closes step failures m l' reply (written + length held) ended result →
+      ClosesBehind step failures l l' held reply written ended result
+  held_cut : (i : ℕ) → HasStopped step failures l l' held i → result ≡ WriteFault (written + i) →
+      ClosesBehind step failures l l' held reply written ended result
+
 -- how a session ends that refuses what came, or finds no memory for it
 abbrev pub ended_of : FrameFault → Ended
 ended_of NoMemory = Memory

@@ -21,7 +21,7 @@ use Rattle.wire_frames.specs.Frames.{Message, front, Gives, messages}
 use Rattle.wire_proto.specs.Keeping.{Event, put, cell, row, status, export, save}
 use Rattle.wire_proto.specs.Replies.{stopping, refused, fault_code}
 use Rattle.wire_proto.specs.Answering.{Answers, PutsBatch, PutsCells}
-use Rattle.wire_proto.specs.Sessions.{Talks}
+use Rattle.wire_proto.specs.Sessions.{Talks, AllPut}
 use Rattle.wire_frames.specs.declared.request.Request.{Request}
 use Rattle.wire_frames.specs.declared.request.Request.TheVariants.{Put, PutCells, Stop}
 use Rattle.wire_frames.specs.declared.request.FrameFault.{FrameFault}
@@ -88,6 +88,16 @@ abbrev pub GoOn : List Request → Type 0
 GoOn [] = Unit {0}
 GoOn (r ∷ rs) = (r ≡ Stop → ⊥) × GoOn rs
 
+-- Behind a message, puts that were answered, and whose replies weren't sent: at most 63. Their batches stay accepted.
+pub record PutsUnsent (v : Setting) (state after : Accepted) (behind : List Message) : Type 0 where
+  pub puts : List Request
+  pub all_put : AllPut puts
+  pub few : length puts < 64
+  pub replies : List ℕ
+  pub answered : IsAnswered v state (map (λ r. Ok r) puts) replies after
+  pub rest : List Message
+  pub stand : behind ≡ map (λ r. Ok r) puts ++ rest
+
 module _ {L : Type 0} (reads : L → Answer → L → Type 0) (writes : L → List ℕ → Answer → L → Type 0) (failures : L → ℕ)
     (v : Setting) where
   -- The link gave these bytes, and took the answers to their messages.
@@ -151,11 +161,16 @@ module _ {L : Type 0} (reads : L → Answer → L → Type 0) (writes : L → Li
     pub proper : some < length reply
     pub count : n ≡ length replies + some
     pub reply_is :
-        ((m : Message) × (others : List Message) × (rest ≡ m ∷ others) × IsAnswered v mid (m ∷ []) reply after)
+        ((m : Message) × (others : List Message) × (next : Accepted) × (rest ≡ m ∷ others) ×
+        IsAnswered v mid (m ∷ []) reply next × PutsUnsent v next after others)
         ⊎ ((reply ≡ refused 1 0) × (after ≡ mid))
     pub at : L
     pub unfailed : failures at ≡ failures l
-    pub refused_by : HasStopped writes failures at l' reply some
+    pub text : List ℕ
+    pub earlier : List ℕ
+    pub later : List ℕ
+    pub text_is : text ≡ earlier ++ (reply ++ later)
+    pub refused_by : HasStopped writes failures at l' text (length earlier + some)
 
   -- how a session of at most `most` turns ends
   abbrev pub EndsPlain : (L → Type 0) → L → L → Accepted → Accepted → ℕ → ℕ → Ended → Type 0

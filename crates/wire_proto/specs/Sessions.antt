@@ -1,15 +1,18 @@
 -- Sessions: what a link gave and took, and how its requests were answered.
 --     Talks           the calls that led a link from one state to another: what it gave and took, and how many reads
 --     AnswersAll      requests, one after another, are answered by these bytes
+--     AsksToPut       a request that puts a batch; AllPut: requests, each of which does
 --     Stands          a session under way, between two replies
+--     Holds           a session under way, which holds back the replies to the last puts; Stands is one that holds none
 --     NextReply       a reply that may come next; LastReply: with which a session ends so
 --     Rests           a session that ended between two replies
 --     FailsToRead     a session that stood between two replies, and whose last call was a read that failed
 --     Says            a session whose last reply was taken whole
+--     CutOff          a reply that was cut off; Unsent: puts that were answered behind it, whose own weren't sent
 --     Breaks          a session that ended in the middle of a reply, since the link refused to take more
 --     Ends            how a session ends, by cases
 -- A reader of `serve`'s contract reads Ends first.
-use Rattle.std.specs.Prelude.{◌≡◌, ℕ, ◌+◌, ◌<◌, ◌≤◌, List, [], ◌∷◌, ◌++◌, length, take, Some, None, Ok, Err}
+use Rattle.std.specs.Prelude.{◌≡◌, ◌⊎◌, ℕ, ◌+◌, ◌<◌, ◌≤◌, List, [], ◌∷◌, ◌++◌, length, take, Some, None, Ok, Err}
 use Rattle.byte_io.specs.Streams.{Answer}
 use Rattle.byte_io.specs.declared.fault.DeviceFault.{DeviceFault}
 use Rattle.byte_io.specs.Writing.{HasTaken, HasStopped}
@@ -19,7 +22,7 @@ use Rattle.wire_proto.specs.Keeping.{Event}
 use Rattle.wire_proto.specs.Replies.{stopping, refused, fault_code}
 use Rattle.wire_proto.specs.Answering.{Answers, RunsOut}
 use Rattle.wire_frames.specs.declared.request.Request.{Request}
-use Rattle.wire_frames.specs.declared.request.Request.TheVariants.{Stop}
+use Rattle.wire_frames.specs.declared.request.Request.TheVariants.{Put, PutCells, Stop}
 use Rattle.wire_frames.specs.declared.request.FrameFault.{FrameFault}
 use Rattle.wire_proto.specs.declared.ended.Ended.{Ended}
 use Rattle.wire_proto.specs.declared.ended.Ended.TheVariants.{Closed, ReadFault, WriteFault, BadFrame, Memory, Stopped}
@@ -69,6 +72,16 @@ AnswersAll gives setup s (r ∷ rs) bytes t =
     (m : _) × (reply : List ℕ) × (more : List ℕ) × Answers gives setup r reply s m × (bytes ≡ reply ++ more) ×
     AnswersAll gives setup m rs more t
 
+-- a request that puts a batch, as a text or as cells
+abbrev pub AsksToPut : Request → Type 0
+AsksToPut (Put client n bytes) = Unit {0}
+AsksToPut (PutCells client n bytes) = Unit {0}
+AsksToPut r = ⊥
+
+abbrev pub AllPut : List Request → Type 0
+AllPut [] = Unit {0}
+AllPut (r ∷ rs) = AsksToPut r × AllPut rs
+
 -- Memory ran out: nothing was asked, or it ran out for the request in front.
 pub data LacksMemory {S : Type 0} (gives : S → Event → S → Type 0) (setup : Setting) (kept : List ℕ)
     (s t : S) : Type 0 where
@@ -86,6 +99,27 @@ pub data NextReply {S : Type 0} (gives : S → Event → S → Type 0) (setup : 
   bad : (fault : FrameFault) → front kept ≡ Some (Err fault, kept) → t ≡ s → reply ≡ refused (fault_code fault) 0 →
       NextReply gives setup kept reply s t
   out : LacksMemory gives setup kept s t → reply ≡ refused 1 0 → NextReply gives setup kept reply s t
+
+-- At most 63 puts that stand in front of these bytes were answered, and their replies weren't sent. Memory may have run
+-- out for one more.
+pub record Unsent {S : Type 0} (gives : S → Event → S → Type 0) (setup : Setting) (bytes : List ℕ) (s t : S) :
+    Type 0 where
+  pub puts : List Request
+  pub all_put : AllPut puts
+  pub few : length puts < 64
+  pub rest : List ℕ
+  pub stand : Gives bytes puts rest
+  pub replies : List ℕ
+  pub mid : S
+  pub answered : AnswersAll gives setup s puts replies mid
+  pub end_is : (t ≡ mid) ⊎ ((r : Request) × RunsOut gives setup r mid t)
+
+-- a reply that was cut off: one that comes next, or that to a put, behind which others were answered
+pub data CutOff {S : Type 0} (gives : S → Event → S → Type 0) (setup : Setting) (kept reply : List ℕ)
+    (s t : S) : Type 0 where
+  alone : NextReply gives setup kept reply s t → CutOff gives setup kept reply s t
+  among_puts : (r : Request) (rest : List ℕ) (m : S) → front kept ≡ Some (Ok r, rest) → AsksToPut r →
+      Answers gives setup r reply s m → Unsent gives setup rest m t → CutOff gives setup kept reply s t
 
 -- the last reply of a session that ends so
 abbrev pub LastReply : {S : Type 0} → (S → Event → S → Type 0) → Setting → List ℕ → List ℕ → S → S → Ended → Type 0
@@ -128,6 +162,23 @@ module _ {L S : Type 0} (reads : L → Answer → L → Type 0) (writes : L → 
     pub each_gave : turns ≤ length given
     pub none_failed : failures l' ≡ failures l
 
+  -- The same, but that the replies to the last requests, each a put, are held back: these bytes, of so many.
+  pub record Holds (l l' : L) (s s' : S) (kept held : List ℕ) (count written turns : ℕ) : Type 0 where
+    pub given : List ℕ
+    pub replies : List ℕ
+    pub requests : List Request
+    pub puts : List Request
+    pub mid : S
+    pub talks : Talks reads writes l l' given replies turns
+    pub cut : Gives given (requests ++ puts) kept
+    pub answered : AnswersAll gives setup s requests replies mid
+    pub behind : AnswersAll gives setup mid puts held s'
+    pub all_put : AllPut puts
+    pub count_is : length puts ≡ count
+    pub written_is : written ≡ length replies
+    pub each_gave : turns ≤ length given
+    pub none_failed : failures l' ≡ failures l
+
   -- A session that stood so, and whose link took these bytes more: all of a last reply, or its front.
   pub record Then (l l' : L) (s m : S) (kept last : List ℕ) (written turns : ℕ) : Type 0 where
     pub given : List ℕ
@@ -153,13 +204,18 @@ module _ {L S : Type 0} (reads : L → Answer → L → Type 0) (writes : L → 
     pub written : ℕ
     pub some : ℕ
     pub before : Then l l' s mid kept (take some reply) written turns
-    pub next : NextReply gives setup kept reply mid s'
+    pub next : CutOff gives setup kept reply mid s'
     pub proper : some < length reply
     pub count : n ≡ written + some
-    -- why: the last write failed, or took nothing of what it was offered; and no call before it failed
+    -- Why: the last write failed, or took nothing of what it was offered, and no call before it failed. It was of a
+    -- text in which the reply stands, and may stand behind other replies and before some.
     pub at : L
     pub unfailed : failures at ≡ failures l
-    pub refused_by : HasStopped writes failures at l' reply some
+    pub text : List ℕ
+    pub earlier : List ℕ
+    pub later : List ℕ
+    pub text_is : text ≡ earlier ++ (reply ++ later)
+    pub refused_by : HasStopped writes failures at l' text (length earlier + some)
 
   -- Every whole request was answered, and no bad header came.
   pub record Rests (l l' : L) (s s' : S) (kept : List ℕ) (turns : ℕ) : Type 0 where
@@ -205,6 +261,19 @@ module _ {L S : Type 0} (reads : L → Answer → L → Type 0) (writes : L → 
   abbrev pub CarriesToEnd : L → L → S → S → List ℕ → ℕ → Ended → Type 0
   CarriesToEnd l l' s s' kept written e = (l0 : L) (s0 : S) (turns : ℕ) →
       Stands l0 l s0 s kept written turns → Stops l0 l' s0 s' turns e
+
+  -- Whatever session stood, or held replies back, at the one place holds them back at the other; or ends so.
+  abbrev pub CarriesHeld : L → L → S → S → List ℕ → List ℕ → List ℕ → ℕ → ℕ → ℕ → Type 0
+  CarriesHeld l l' s s' kept kept' held count written written' = (l0 : L) (s0 : S) (turns : ℕ) →
+      Stands l0 l s0 s kept written turns → Holds l0 l' s0 s' kept' held count written' turns
+
+  abbrev pub Hands : L → L → S → S → List ℕ → List ℕ → List ℕ → List ℕ → ℕ → ℕ → ℕ → ℕ → Type 0
+  Hands l l' s s' kept kept' held held' count count' written written' = (l0 : L) (s0 : S) (turns : ℕ) →
+      Holds l0 l s0 s kept held count written turns → Holds l0 l' s0 s' kept' held' count' written' turns
+
+  abbrev pub HandsToEnd : L → L → S → S → List ℕ → List ℕ → ℕ → ℕ → Ended → Type 0
+  HandsToEnd l l' s s' kept held count written e = (l0 : L) (s0 : S) (turns : ℕ) →
+      Holds l0 l s0 s kept held count written turns → Stops l0 l' s0 s' turns e
 
   -- Whatever session stood here, of at most `most` turns, ends so after one turn more.
   abbrev pub TurnEnds : (L → Type 0) → L → L → S → S → List ℕ → ℕ → Ended → Type 0

@@ -1,14 +1,17 @@
 //! Answers the requests that have come.
 ghost use Rattle.std.specs.Prelude.{◌≡◌, ℕ, ◌+◌, ◌*◌, ◌<◌, ◌≤◌, ◌^◌, List, length, Some, None, Ok, Err, IfOk, IfErr};
 ghost use Rattle.std.specs.Prelude.{OnOk};
+ghost use Rattle.std.specs.Bool.{OnTrue};
 ghost use Rattle.wire_frames.specs.Frames.{front};
-ghost use Rattle.wire_proto.specs.Closing.{Closes, ended_of};
+ghost use Rattle.wire_proto.specs.Closing.{Closes, ClosesBehind, ended_of};
 ghost use Rattle.wire_proto.specs.Replies.{refused as refused_reply, fault_code};
-ghost use Rattle.wire_proto.specs.Sessions.{OneAnswered, OneEnds, Carries, CarriesToEnd};
+ghost use Rattle.wire_proto.specs.Sessions.{OneAnswered, OneEnds, Carries, CarriesToEnd, AsksToPut, Hands, HandsToEnd};
 
 use crate::asking::ask;
 use crate::ended::Ended;
+use crate::held::{Held, send_held};
 use crate::keeper::Keeper;
+use crate::limits::HELD_BODY;
 use crate::replies::{refused, stopping};
 use crate::sending::{close, send_reply, send_sum};
 use byte_io::{Link, Sink};
@@ -105,7 +108,112 @@ pub fn refuse<L: Sink>(link: &mut L, fault: FrameFault, written: u128) -> Ended
     close(link, &refused(code_of(fault), 0), written, end_of(fault))
 }
 
-/// Answers each whole request that has come, in order.
+/// Whether a request is a put whose reply may be held back: one with a short body.
+fn is_short_put(request: &Request) -> bool
+    ensures { OnTrue result (AsksToPut request.now) }
+{
+    match request {
+        Request::Put { text: body, .. } | Request::PutCells { cells: body, .. } => {
+            body.len() + 16 <= HELD_BODY
+        }
+        _ => false,
+    }
+}
+
+/// Answers a put, and holds its reply back. Where memory runs out, what is held back is sent first, and then that it
+/// did.
+fn answer_put<L: Link, K: Keeper>(
+    alloc: Global,
+    link: &mut L,
+    keeper: &mut K,
+    request: Request,
+    held: &mut Held,
+    written: u128,
+) -> Result<u128, Ended>
+    requires ready { L.Sink.failure_count link.old + 1 < 2 ^ 64 }
+    requires fact { K.fact keeper.old }
+    requires room { written + 2 ^ 28 < 2 ^ 128 }
+    requires put { AsksToPut request }
+    requires space { held.old.count < 64 }
+    ensures ok { IfOk result (λ w. (kept rest : List ℕ) → front kept ≡ Some (Ok request, rest) →
+        Hands L.Source.read_gives L.Sink.write_takes L.Sink.failure_count K.gives (K.setup_of keeper.old)
+        link.old link.new keeper.old keeper.new kept rest held.old.bytes.items held.new.bytes.items
+        held.old.count held.new.count written w) }
+    ensures room { IfOk result (λ w. w + length held.new.bytes.items ≤ written + length held.old.bytes.items + 2 ^ 27) }
+    ensures failures { OnOk result (L.Sink.failure_count link.new ≡ L.Sink.failure_count link.old) }
+    ensures err { IfErr result (λ e. (kept rest : List ℕ) → front kept ≡ Some (Ok request, rest) →
+        HandsToEnd L.Source.read_gives L.Sink.write_takes L.Sink.failure_count K.gives (K.setup_of keeper.old)
+        link.old link.new keeper.old keeper.new kept held.old.bytes.items held.old.count written e) }
+    ensures fact { K.fact keeper.new }
+    ensures setup { K.setup_of keeper.new ≡ K.setup_of keeper.old }
+{
+    match ask(alloc, keeper, request) {
+        Ok(reply) => {
+            held.push(&reply);
+            Ok(written)
+        }
+        Err(_) => match send_held(link, held, written) {
+            Ok(sent) => Err(close(link, &refused(1, 0), sent, Ended::Memory)),
+            Err(ended) => Err(ended),
+        },
+    }
+}
+
+/// Answers one request, and gives how many bytes are written then. The reply to a short put is held back. Before any
+/// other request, and where as many are held back as may be, they are sent.
+fn answer_next<L: Link, K: Keeper>(
+    alloc: Global,
+    link: &mut L,
+    keeper: &mut K,
+    request: Request,
+    held: &mut Held,
+    written: u128,
+) -> Result<u128, Ended>
+    requires ready { L.Sink.failure_count link.old + 1 < 2 ^ 64 }
+    requires fact { K.fact keeper.old }
+    requires room { written + 2 ^ 29 < 2 ^ 128 }
+    ensures ok { IfOk result (λ w. (kept rest : List ℕ) → front kept ≡ Some (Ok request, rest) →
+        Hands L.Source.read_gives L.Sink.write_takes L.Sink.failure_count K.gives (K.setup_of keeper.old)
+        link.old link.new keeper.old keeper.new kept rest held.old.bytes.items held.new.bytes.items
+        held.old.count held.new.count written w) }
+    ensures room { IfOk result (λ w. w + length held.new.bytes.items ≤ written + length held.old.bytes.items + 2 ^ 27) }
+    ensures failures { OnOk result (L.Sink.failure_count link.new ≡ L.Sink.failure_count link.old) }
+    ensures err { IfErr result (λ e. (kept rest : List ℕ) → front kept ≡ Some (Ok request, rest) →
+        HandsToEnd L.Source.read_gives L.Sink.write_takes L.Sink.failure_count K.gives (K.setup_of keeper.old)
+        link.old link.new keeper.old keeper.new kept held.old.bytes.items held.old.count written e) }
+    ensures fact { K.fact keeper.new }
+    ensures setup { K.setup_of keeper.new ≡ K.setup_of keeper.old }
+{
+    if !is_short_put(&request) {
+        return match send_held(link, held, written) {
+            Ok(sent) => answer(alloc, link, keeper, request, sent),
+            Err(ended) => Err(ended),
+        };
+    }
+    if held.is_full() {
+        return match send_held(link, held, written) {
+            Ok(sent) => answer_put(alloc, link, keeper, request, held, sent),
+            Err(ended) => Err(ended),
+        };
+    }
+    answer_put(alloc, link, keeper, request, held, written)
+}
+
+/// Sends what is held back, and then refuses a bad header, or says that memory ran out.
+fn refuse_behind<L: Sink>(link: &mut L, held: &mut Held, fault: FrameFault, written: u128) -> Ended
+    requires ready { L.failure_count link.old + 1 < 2 ^ 64 }
+    requires room { written + 2 ^ 28 < 2 ^ 128 }
+    ensures { ClosesBehind L.write_takes L.failure_count link.old link.new held.old.bytes.items
+        (refused_reply (fault_code fault) 0) written (ended_of fault) result }
+{
+    match send_held(link, held, written) {
+        Ok(sent) => refuse(link, fault, sent),
+        Err(ended) => ended,
+    }
+}
+
+/// Answers each whole request that has come, in order. The replies to short puts that come one behind the other are
+/// sent together: before any other reply, at most 64 of them, and in any case before this returns.
 pub fn answer_all<L: Link, K: Keeper>(
     alloc: Global,
     link: &mut L,
@@ -127,14 +235,17 @@ pub fn answer_all<L: Link, K: Keeper>(
     ensures setup { K.setup_of keeper.new ≡ K.setup_of keeper.old }
 {
     let mut written = before;
+    let mut held = Held::new();
     'requests: loop {
         match frames.next(alloc) {
-            Ok(None) => return Ok(written),
-            Ok(Some(request)) => match answer(alloc, link, keeper, request, written) {
-                Ok(sum) => written = sum,
-                Err(ended) => return Err(ended),
-            },
-            Err(fault) => return Err(refuse(link, fault, written)),
+            Ok(None) => return send_held(link, &mut held, written),
+            Ok(Some(request)) => {
+                match answer_next(alloc, link, keeper, request, &mut held, written) {
+                    Ok(sum) => written = sum,
+                    Err(ended) => return Err(ended),
+                }
+            }
+            Err(fault) => return Err(refuse_behind(link, &mut held, fault, written)),
         }
     }
 }

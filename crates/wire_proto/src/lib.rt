@@ -19,6 +19,7 @@ mod cell_bodies;
 mod decoding;
 mod ended;
 mod exporting;
+mod held;
 mod keeper;
 mod laws;
 mod limits;

@@ -15,7 +15,7 @@ use plain_engine::ViewedSum;
 use std::alloc::{AllocError, Global};
 
 /// Writes bytes, and gives how many the session has written with them.
-fn send<L: Sink>(link: &mut L, bytes: &[u8], written: u128) -> Result<u128, Ended>
+pub fn send<L: Sink>(link: &mut L, bytes: &[u8], written: u128) -> Result<u128, Ended>
     requires ready { L.failure_count link.old + 1 < 2 ^ 64 }
     requires room { written + length bytes.now < 2 ^ 128 }
     ensures { Sends L.write_takes L.failure_count link.old link.new bytes.now written result }

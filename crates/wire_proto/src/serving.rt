@@ -96,8 +96,8 @@ fn read_piece<L: Link>(link: &mut L, buffer: &mut ReadBuffer) -> Result<usize, D
 
 /// Serves one link until the session ends.
 ///
-/// A turn is one read of at most 65,536 bytes. All whole frames read so far are answered in order, each reply written
-/// whole before the next frame is looked at.
+/// A turn is one read of at most 65,536 bytes. All whole frames read so far are answered in order before the next. The
+/// replies to puts that came one behind the other are sent together: at most 64, of bodies of at most 65,536 bytes.
 pub fn serve<L: Link, K: Keeper>(
     alloc: Global,
     link: &mut L,

@@ -7,13 +7,13 @@ use test_support::{same, same_at};
 use wire_proto::Ended;
 
 // What becomes of the session where the write fails behind so many bytes, and of the session again: whatever failed
-// before, the replies are the same. The second batch is accepted before the first byte of its reply is written.
+// before, the replies are the same. Both puts came at once, so both batches are accepted before the first byte of their
+// replies is written.
 fn failed_write(room: u64) -> (Outcome, Checked) {
-    let accepted = if room < 21 { (1, 5) } else { (2, 8) };
     let ended = Ended::WriteFault {
         written: u128::from(room),
     };
-    ((ended, true, accepted), wanted(&TWO_PUTS))
+    ((ended, true, (2, 8)), wanted(&TWO_PUTS))
 }
 
 #[test]

@@ -24,4 +24,6 @@ mod sessions;
 #[cfg(test)]
 mod stores;
 #[cfg(test)]
+mod together;
+#[cfg(test)]
 mod wrapped;
