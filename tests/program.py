@@ -300,6 +300,9 @@ NO_COMMANDS = [
     ["fold"],
     ["fold", "a", "b"],
     ["fold", "--cuts", "1", "a"],
+    ["check", ""],
+    ["export", ""],
+    ["fold", ""],
 ]
 
 
@@ -540,11 +543,20 @@ def folds(program):
         with open(path, "wb") as file:
             file.write(snapshot(ONE, 5))
         case = checked("fold with room for 50 bytes", path, "file: Write", 4, "fold")
-        yield case.name, run(program, case, preexec_fn=lambda: leave_room(50)) + unlike(path, snapshot(ONE, 5))
+        wrong = run(program, case, preexec_fn=lambda: leave_room(50)) + unlike(path, snapshot(ONE, 5))
+        yield case.name, wrong + left_beside(folder)
+        case = checked("fold of nothing leaves no lock", os.path.join(folder, "nothing"), "file: NotFound", 4, "fold")
+        yield case.name, run(program, case) + left_beside(folder)
         case = checked("fold on a closed output", path, "output failed after 0 bytes", 4, "fold")
         with tempfile.TemporaryFile() as output:
             wrong = run(program, case, stdout=output, preexec_fn=lambda: os.close(1))
         yield case.name, wrong + unlike(path, folded)
+
+
+def left_beside(folder):
+    """What is wrong with the files of a folder in which `file` was folded: its lock stays, and nothing else."""
+    found = sorted(os.listdir(folder))
+    return [] if found == ["file", "file.lock"] else [f"the folder has {found}"]
 
 
 def unlike(path, wanted):

@@ -2,7 +2,7 @@
  * which by the environment:
  *
  *   REFUSE_KIND  growth: malloc or realloc finds no memory; fault: read, write, fsync or fdatasync fails;
- *                short: a read or a write of several bytes moves one
+ *                short: a read or a write of several bytes moves one; names: fsync of a folder fails
  *   REFUSE_AT    which of these calls, from 1, counted from before `main`
  *   REFUSE_ERROR the error number of a fault
  *   REFUSE_TELL  a descriptor that takes a byte where the call was made and refused
@@ -52,13 +52,18 @@ static ssize_t fails(long with) {
     return -1;
 }
 
-/* A file, a pipe or a socket but standard error: the kind stands in the mode, four bytes at byte 24 of a `stat`. */
-static int counts(int descriptor) {
+/* What a descriptor is of: it stands in the mode, four bytes at byte 24 of a `stat`. */
+static unsigned kind_of(int descriptor) {
     union {
         unsigned words[64];
         char bytes[256];
     } held = {{0}};
-    return descriptor != 2 && syscall(FSTAT, (long)descriptor, held.bytes) == 0 && (held.words[6] & 0170000) != 0;
+    return syscall(FSTAT, (long)descriptor, held.bytes) == 0 ? held.words[6] & 0170000 : 0;
+}
+
+/* A file, a pipe or a socket but standard error. */
+static int counts(int descriptor) {
+    return descriptor != 2 && kind_of(descriptor) != 0;
 }
 
 void *malloc(size_t size) {
@@ -90,6 +95,7 @@ ssize_t write(int to, const void *bytes, size_t size) {
 }
 
 int fsync(int of) {
+    if (kind_of(of) == 0040000 && refused('n')) return (int)fails(error);
     return refused('f') ? (int)fails(error) : (int)syscall(FSYNC, (long)of);
 }
 

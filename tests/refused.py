@@ -265,7 +265,7 @@ def talk_to_faulty_server(process, path, saved, line):
         return answer
     ends = [STOPPED]
     if not is_refused:
-        faults = [b"file: Write", b"file: Sync", b"output failed after %d bytes" % len(line)]
+        faults = [b"file: Write", b"file: Sync", b"file: Rename", b"output failed after %d bytes" % len(line)]
         ends += [Ended(b"", b"hhm: %s\n" % fault, 4) for fault in faults]
     return judge_end(process, saved, ends, SAVED)
 
@@ -312,6 +312,35 @@ def served_run(program, folder, before, kind, error, at):
     return wrong, refusing.was_met()
 
 
+def names_run(program, folder, at):
+    """What was wrong with a server that saves twice, the sync number `at` of whose folder is refused, or None.
+
+    The save is a failed one, and the file is the new one all the same: it had its name before the folder was synced.
+    """
+    path, saved = (os.path.join(folder, f"{name} {at}") for name in ("socket", "snap"))
+    refusing = Refusing("names", EIO, at)
+    words = [program, "serve", "--unix", path, "--workers", "1", "--snapshot", saved, *SMALL]
+    with subprocess.Popen(words, stdout=subprocess.PIPE, stderr=subprocess.PIPE, **refusing.how) as process:
+        process.stdout.readline()
+        answer = talk(path, ASKS)
+        with open(saved, "rb") as file:
+            held = file.read()
+        stopping = talk(path, STOP)
+        output, error = process.communicate(timeout=SECONDS)
+    told = Ended(output, error, process.returncode)
+    wanted = [refused(42), STOPPED] if at == 1 else [REPLIES[-1], Ended(b"", b"hhm: file: Rename\n", 4)]
+    found = [answer.removeprefix(b"".join(REPLIES[:-1])), told]
+    if (found, held, stopping, refusing.was_met()) == (wanted, SAVED, STOPPING, True):
+        return None
+    return found, held, stopping
+
+
+def names(program, folder):
+    """The syncs of a folder: behind a save that a client asked for, and behind the last one."""
+    for at in (1, 2):
+        yield f"the sync of a folder, number {at}", names_run(program, folder, at)
+
+
 def sweep(pool, run_at):
     """The number of each run with a refusal, and what was wrong with it; the last one meets none."""
     for first in range(1, MAX_RUNS, 32):
@@ -352,6 +381,10 @@ def main():
                 if wrong is not None:
                     print(f"FAILED {name}, number {at}: {str(wrong)[:300]}")
             print(f"{name}: {passed + failed - before} runs")
+        for name, wrong in names(os.path.abspath(sys.argv[1]), folder):
+            passed, failed = passed + (wrong is None), failed + (wrong is not None)
+            if wrong is not None:
+                print(f"FAILED {name}: {str(wrong)[:300]}")
     print(f"{passed + failed} runs")
     print(f"{passed} passed, {failed} failed")
     sys.exit(1 if failed else 0)

@@ -478,6 +478,7 @@ def saves_need_room(mounted, is_freed):
                 for _ in range(3):
                     check("a save without room", server.talk([struct.pack(">IB", 0, 6)]), refused(42))
                 check("the file is as it was", content(path), kept)
+                check("nothing takes the room", sorted(os.listdir(folder)), ["kept.snap", "kept.snap.lock"])
                 check("the server goes on", hhm.status(), Status(2, 5005))
                 if is_freed:
                     make_room(folder, server.process, mounted)

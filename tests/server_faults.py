@@ -3,9 +3,10 @@
 
     python3 tests/server_faults.py PATH-TO-HHM [--long]
 
-Devices, descriptors, memory and threads fail here; clients that are silent or rude are in server_clients.py, and what a
-server answers where nothing fails is in server.py. What is wanted was worked out by hand from docs/FORMATS.md. It prints a line for each
-check that fails and at the end `N passed, M failed`; the status is 1 where one fails. With `--long` a server has no
+Devices, descriptors, memory and threads fail here; clients that are silent or rude are in server_clients.py, servers
+that share a path for snapshots in server_paths.py, and what a server answers where nothing fails is in server.py. What
+is wanted was worked out by hand from docs/FORMATS.md. It prints a line for each check that fails and at the end
+`N passed, M failed`; the status is 1 where one fails. With `--long` a server has no
 descriptors until its acceptor ends, some two minutes more. Linux, and nothing but Python's own library.
 
 `records differ` has no test: no input brings a server to it.
@@ -136,11 +137,13 @@ def saves_fail(kind, fail):
             fail(path, at.process)
             check(f"{kind}: put more", asked(link, put_frame(8, 1, text(3)), 21), accepted(1, 8))
             check(f"{kind}: not saved", asked(link, SAVE, 15), refused(42))
+            check(f"{kind}: no file is left beside", os.path.isfile(path + ".new"), False)
             check(f"{kind}: goes on", asked(link, STATUS, 21), counts(2, 8))
             check(f"{kind}: stop", asked(link, STOP, 5), STOPPING)
         output, error = at.process.communicate(timeout=WAIT)
         check(f"{kind}: the end", (output, error, at.process.returncode), ("", f"hhm: file: {kind}\n", 4))
         check(f"{kind}: the path is gone", os.path.exists(at.path), False)
+        check(f"{kind}: no file is left beside at the end", os.path.isfile(path + ".new"), False)
     if os.path.isfile(path):
         with open(path, "rb") as file:
             check(f"{kind}: what was saved stands", file.read() == before, True)
@@ -187,6 +190,7 @@ def no_sync_is_made():
             check("Sync: stop", asked(link, STOP, 5), STOPPING)
         output, error = at.process.communicate(timeout=WAIT)
         check("Sync: the end", (output, error, at.process.returncode), ("", "hhm: file: Sync\n", 4))
+    check("Sync: no file is left beside", os.path.exists(path + ".new"), False)
     check("Sync: what was saved stands", server.content(path), before)
 
 
@@ -209,7 +213,8 @@ def saves_beside(name, leave, is_kept):
             saved = program.snapshot([(7, 1, [(0, 0, 5)])], 5, past=program.NONE)
             check(f"{name}: the file", server.content(path), saved)
             check(f"{name}: it is a plain one", stat.S_ISREG(os.lstat(path).st_mode), True)
-            check(f"{name}: all files", sorted(os.listdir(folder)), ["other", "snap"] if is_kept else ["snap"])
+            left = ["other", "snap", "snap.lock"] if is_kept else ["snap", "snap.lock"]
+            check(f"{name}: all files", sorted(os.listdir(folder)), left)
             if is_kept:
                 check(f"{name}: the other", server.content(other), b"mine")
             check(f"{name}: stop", asked(link, STOP, 5), STOPPING)
@@ -286,7 +291,7 @@ def save_over(name, before, after, user=None, mask=0o022, groups=()):
                                timeout=WAIT, preexec_fn=start)
         check(f"{name}: the end", (ended.stderr, ended.returncode), ("", 0))
         check(f"{name}: owner, group and mode", belongs(path), (*after[:2], oct(after[2])))
-        check(f"{name}: nothing is left beside", os.listdir(folder), ["snap"])
+        check(f"{name}: the lock alone is left beside", sorted(os.listdir(folder)), ["snap", "snap.lock"])
 
 
 def owner_and_mode_are_kept():
@@ -350,18 +355,6 @@ def flipped_bits_are_told_or_not():
             check("a flipped client: it counts again", asked(link, put_frame(7, 1, text(5)), 21), accepted(1, 10))
             check("a flipped client: stop", asked(link, STOP, 5), STOPPING)
         at.ends("a flipped client", 2, 10)
-
-
-def two_servers_overwrite_each_other():
-    """Of two servers with one path for snapshots each save replaces the other's."""
-    path = in_folder("shared.snap")
-    with Server([*SMALL, "--snapshot", path], unix=False) as first, Server([*SMALL, "--snapshot", path]) as second:
-        for at, client, unix in [(first, 7, False), (second, 8, True)]:
-            with at.link(unix) as link:
-                check("two servers: put", asked(link, put_frame(client, 1, text(5)), 21), accepted(0, 5))
-                check("two servers: save", asked(link, SAVE, 13), struct.pack(">IBQ", 8, 0x86, 1))
-            saved = program.snapshot([(client, 1, [(0, 0, 5)])], 5, past=program.NONE)
-            check("two servers: the file", server.content(path), saved)
 
 
 def no_output_is_taken():
@@ -436,7 +429,7 @@ def no_thread_is_started():
                                    timeout=WAIT, preexec_fn=lambda most=most: as_other(most))
             check(f"{most} threads, {words}", (ended.stderr, ended.returncode), ("hhm: no worker\n", 4))
             check("its lines", ended.stdout.splitlines()[len(words) // 2 - 1 :], [f"listening unix {unix}"])
-            check("the path is gone and nothing saved", os.listdir(folder), ["hhm"])
+            check("the path is gone and nothing saved", sorted(os.listdir(folder)), ["hhm", "snapshot.lock"])
 
 
 def descriptors_of(process):
@@ -650,7 +643,6 @@ def main():
         owner_and_mode_are_kept()
         a_link_as_a_snapshot_is_replaced()
         flipped_bits_are_told_or_not()
-        two_servers_overwrite_each_other()
         no_output_is_taken()
         the_last_line_is_not_taken()
         memory_is_refused()

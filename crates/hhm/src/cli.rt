@@ -1,6 +1,7 @@
 //! The command line: the words of the program, as `clap` reads them.
 
 use crate::serve_cli::serve_command;
+use clap::builder::ValueParser;
 use clap::{Arg, Command};
 use std::alloc::{AllocError, Global};
 
@@ -69,13 +70,13 @@ matrix, saves it under PATH, and writes one line to standard output:
 F is how many batches are folded then, and T their total. A server that starts
 from the file answers as before: cells, rows, exports, its status, and batches
 that are sent again, with their first replies. Of each batch only its client, its
-number, its number of cells and its total are kept. Fold while no server uses
-the file: one that saves later replaces it.
+number, its number of cells and its total are kept. It holds the lock of the file
+PATH.lock: while a server with this snapshot runs, it is told Busy.
 
 A fault is one line on standard error. Where the output failed, the file is
-saved already; else it is as it was:
+saved already; else it is as it was (after Rename it may be saved):
 
-  hhm: file: NotFound, OpenFailed  status 4
+  hhm: file: NotFound, OpenFailed, Busy   status 4
   hhm: snapshot: KIND              status 3 (KIND Read: 4)
   hhm: file: Create, Write, Sync, Rename  status 4
   hhm: output failed after N bytes status 4
@@ -106,6 +107,7 @@ fn snapshot_command<'a>(
     let path = Arg::new(alloc, "path")
         .value_name("PATH")
         .required(true)
+        .value_parser(ValueParser::NonEmptyString)
         .help("The snapshot's file");
     Command::new(alloc, name)
         .about(about)

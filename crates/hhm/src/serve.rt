@@ -80,6 +80,8 @@ pub fn settings_of(alloc: Global, matches: &ArgMatches) -> Result<Settings, Faul
         setup,
         workers,
         snapshot: word_of(alloc, matches, "snapshot")?,
+        must_load: matches.get_flag("must-load"),
+        must_save: matches.get_flag("must-save"),
         sessions,
         idle,
     })

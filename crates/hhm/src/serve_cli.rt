@@ -1,6 +1,7 @@
 //! The options of `serve`, as `clap` reads them.
 
-use clap::{Arg, Command};
+use clap::builder::ValueParser;
+use clap::{Arg, ArgAction, Command};
 use std::alloc::{AllocError, Global};
 
 const SERVE_ABOUT: &str =
@@ -13,6 +14,9 @@ Stop. With --snapshot it starts from that file, if there is one, and saves what
 was accepted there, when a client asks for it and at the end; what came after
 the last save is lost if the process is killed. A Unix socket's path must not
 exist at the start, and is removed at the end.
+
+As long as it runs it holds the lock of the file PATH.lock, so that no second
+server and no 'hhm fold' saves there ('hhm: file: Busy').
 
 A connection keeps its worker until it is closed, whether it sends or not, or
 until it has sent nothing for the time of --idle.
@@ -34,6 +38,8 @@ struct ServeOption {
     value: &'static str,
     default: Option<&'static str>,
     required: bool,
+    /// Whether an empty word is refused, as the name of a file that is none.
+    is_path: bool,
     help: &'static str,
 }
 
@@ -43,8 +49,29 @@ const LEFT_OUT: ServeOption = ServeOption {
     value: "",
     default: None,
     required: false,
+    is_path: false,
     help: "",
 };
+
+/// A word of `serve` that is there or not, and that is of use with another alone.
+struct ServeFlag {
+    name: &'static str,
+    with: &'static str,
+    help: &'static str,
+}
+
+static FLAGS: &[ServeFlag] = &[
+    ServeFlag {
+        name: "must-load",
+        with: "snapshot",
+        help: "Don't start where there is no snapshot",
+    },
+    ServeFlag {
+        name: "must-save",
+        with: "snapshot",
+        help: "Don't start where no snapshot can be saved",
+    },
+];
 
 /// Where it listens and saves, the engine's setup, and how it serves.
 static OPTIONS: &[ServeOption] = &[
@@ -63,6 +90,7 @@ static OPTIONS: &[ServeOption] = &[
     ServeOption {
         name: "snapshot",
         value: "PATH",
+        is_path: true,
         help: "Start from this snapshot, and save there",
         ..LEFT_OUT
     },
@@ -136,10 +164,23 @@ fn arg_of<'a>(alloc: Global, option: &'a ServeOption) -> Arg<'a> {
         .value_name(option.value)
         .required(option.required)
         .help(option.help);
+    let arg = if option.is_path {
+        arg.value_parser(ValueParser::NonEmptyString)
+    } else {
+        arg
+    };
     match option.default {
         Some(value) => arg.default_value(value),
         None => arg,
     }
+}
+
+fn flag_of<'a>(alloc: Global, flag: &'a ServeFlag) -> Result<Arg<'a>, AllocError> {
+    Arg::new(alloc, flag.name)
+        .long(flag.name)
+        .action(ArgAction::SetTrue)
+        .help(flag.help)
+        .requires_arg(flag.with)
 }
 
 /// The word `serve`.
@@ -149,6 +190,9 @@ pub fn serve_command<'a>(alloc: Global) -> Result<Command<'a>, AllocError> {
         .after_help(SERVE_HELP);
     for option in OPTIONS {
         command = command.arg(arg_of(alloc, option))?;
+    }
+    for flag in FLAGS {
+        command = command.arg(flag_of(alloc, flag)?)?;
     }
     Ok(command)
 }

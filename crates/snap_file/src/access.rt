@@ -66,8 +66,8 @@ pub fn access_under<R: Files>(rt: &R, path: &str) -> Result<Option<Access>, Save
     }
 }
 
-// Removes what stands under a name, and of a link the link alone.
-fn clear<R: Files>(rt: &R, name: &str) -> io::Result<()> {
+/// Removes what stands under a name, a folder excepted, and of a link the link alone.
+pub fn clear<R: Files>(rt: &R, name: &str) -> io::Result<()> {
     match fs::remove_file(rt, name) {
         Err(error) if error.kind() != io::ErrorKind::NotFound => Err(error),
         _ => Ok(()),
@@ -79,12 +79,32 @@ fn clear<R: Files>(rt: &R, name: &str) -> io::Result<()> {
 /// Where `access` is given, only its owner may use the file until it has the right group.
 pub fn make_file<R: Files>(rt: &R, name: &str, access: Option<Access>) -> io::Result<R::File> {
     clear(rt, name)?;
+    let file = make_new(rt, name, access)?;
+    if let Some(access) = access {
+        if let Err(error) = access.give(rt, name, &file) {
+            let _ = clear(rt, name);
+            return Err(error);
+        }
+    }
+    Ok(file)
+}
+
+// Makes a file where nothing stands, which has no more than the owner's part of what it is to get.
+fn make_new<R: Files>(rt: &R, name: &str, access: Option<Access>) -> io::Result<R::File> {
     let mut options = OpenOptions::new();
     options.write(true).create_new(true);
-    let Some(access) = access else {
-        return options.open(rt, name);
-    };
-    let file = options.mode(access.mode & OWNER).open(rt, name)?;
-    access.give(rt, name, &file)?;
+    if let Some(access) = access {
+        options.mode(access.mode & OWNER);
+    }
+    options.open(rt, name)
+}
+
+/// Makes a file where nothing stands, that is to stay; where the system doesn't let it have all of `access`, it has
+/// less.
+pub fn make_beside<R: Files>(rt: &R, name: &str, access: Option<Access>) -> io::Result<R::File> {
+    let file = make_new(rt, name, access)?;
+    if let Some(access) = access {
+        let _given = access.give(rt, name, &file);
+    }
     Ok(file)
 }

@@ -1,22 +1,30 @@
 //! The real folder of a file, as a save of that file sees it.
-ghost use Rattle.std.specs.Prelude.{◌≡◌, ◌+◌, ◌<◌, ◌^◌, None, IsTrue, IfSome, is_some};
+ghost use Rattle.std.specs.Prelude.{◌≡◌, ◌⊎◌, ◌+◌, ◌<◌, ◌^◌, None, IsTrue, IfSome, IfErr};
 ghost use Rattle.std.proofs.Common.{◌∙◌};
 ghost use Rattle.snap_file.specs.Saving.{unfinished, beside};
+ghost use Rattle.snap_file.specs.declared.fault.SaveFault.{SaveFault};
 
-use crate::access::{access_under, make_file};
+use crate::access::{access_under, clear, make_file};
+use crate::fault::SaveFault;
 use crate::saving::UNFINISHED;
 use byte_io::DeviceFault;
 use file_folder::Folder;
+use std::alloc::Global;
 use std::fs::{self, OpenFile};
-use std::io::Write;
+use std::io::{self, Write};
+use std::path::Path;
 use std::rt::Files;
 
 /// The folder of the file under a path. It makes the one file that is to take that one's place, whose name has
 /// `UNFINISHED` behind it, and gives it the other's mode and owner. It doesn't tell its files.
+///
+/// A rename is done once the folder is synced. Where that fails, the file has its new name already.
 #[derive(Drop)]
 pub struct Beside<'a, R: Files> {
     rt: &'a R,
     path: &'a str,
+    // Whether the file is made, and has its first name.
+    is_made: bool,
     file: Option<R::File>,
     failures: u64,
 }
@@ -42,6 +50,49 @@ fn made_beside<R: Files>(rt: &R, path: &str, name: &str) -> Option<R::File>
     make_file(rt, name, access).ok()
 }
 
+/// The folder that a path's file is in.
+fn folder_of(path: &str) -> &str {
+    match Path::new(path).parent() {
+        Some(folder) if !folder.as_str().is_empty() => folder.as_str(),
+        _ => ".",
+    }
+}
+
+/// Gives a file another name in its folder, and brings that to where it outlasts a crash. Nothing is renamed where the
+/// folder can't be opened.
+fn rename_synced<R: Files>(rt: &R, from: &str, to: &str) -> io::Result<()> {
+    let folder = fs::open(rt, folder_of(to))?;
+    fs::rename(rt, from, to)?;
+    folder.sync_all()
+}
+
+/// Makes the new file of a save, syncs its folder, and removes it.
+fn make_and_remove<R: Files>(rt: &R, path: &str, name: &str) -> io::Result<()> {
+    let access = access_under(rt, path).map_err(|_| io::Error::from(io::ErrorKind::Other))?;
+    drop(make_file(rt, name, access)?);
+    let synced = fs::open(rt, folder_of(path)).and_then(|folder| folder.sync_all());
+    clear(rt, name)?;
+    synced
+}
+
+/// Tries whether a save under `path` could make its file: makes one there as a save does, syncs the folder, and removes
+/// the file.
+///
+/// # Errors
+///
+/// `Memory` for the name, and `Create` where one of these steps failed.
+pub fn try_save<R: Files>(rt: &R, alloc: Global, path: &str) -> Result<(), SaveFault>
+    ensures { IfErr result (λ f. (f ≡ SaveFault.Memory) ⊎ (f ≡ SaveFault.Create)) }
+{
+    let Ok(name) = format!(in alloc; "{path}{UNFINISHED}") else {
+        return Err(SaveFault::Memory);
+    };
+    match make_and_remove(rt, path, name.as_str()) {
+        Ok(()) => Ok(()),
+        Err(_) => Err(SaveFault::Create),
+    }
+}
+
 impl<'a, R: Files> Beside<'a, R> {
     /// The folder of the file under this path.
     pub fn new(rt: &'a R, path: &'a str) -> Beside<'a, R>
@@ -50,8 +101,21 @@ impl<'a, R: Files> Beside<'a, R> {
         Beside {
             rt,
             path,
+            is_made: false,
             file: None,
             failures: 0,
+        }
+    }
+
+    /// Removes the file that it made, which a save that failed has left, so that it takes no room. Where that fails, or
+    /// there is no memory for its name, it stays until the next save.
+    pub fn remove_made(&self, alloc: Global) {
+        if !self.is_made {
+            return;
+        }
+        let path = self.path;
+        if let Ok(name) = format!(in alloc; "{path}{UNFINISHED}") {
+            let _ = clear(self.rt, name.as_str());
         }
     }
 
@@ -68,10 +132,10 @@ impl<'a, R: Files> Beside<'a, R> {
 impl<'a, R: Files> Folder for Beside<'a, R> {
     ghost files = { λ _. None };
 
-    ghost last_created = { λ s. beside (is_some s.file) s.path.now };
+    ghost last_created = { λ s. beside s.is_made s.path.now };
 
     ghost write_takes = { λ s offered answer t.
-        beside (is_some t.file) t.path.now ≡ beside (is_some s.file) s.path.now };
+        beside t.is_made t.path.now ≡ beside s.is_made s.path.now };
 
     ghost failure_count = { λ s. s.failures };
 
@@ -80,7 +144,8 @@ impl<'a, R: Files> Folder for Beside<'a, R> {
     /// Removes what stands under the name, a folder excepted, and makes the file anew.
     fn create(&mut self, name: &str) -> Result<(), DeviceFault> {
         self.file = made_beside(self.rt, self.path, name);
-        if self.file.is_some() {
+        self.is_made = self.file.is_some();
+        if self.is_made {
             Ok(())
         } else {
             Err(self.fail())
@@ -107,12 +172,13 @@ impl<'a, R: Files> Folder for Beside<'a, R> {
         }
     }
 
-    /// Renames the file, and closes it.
+    /// Closes the file, renames it, and syncs the folder. Of the file and the folder one is open at a time.
     fn rename(&mut self, from: &str, to: &str) -> Result<(), DeviceFault> {
-        if fs::rename(self.rt, from, to).is_err() {
+        self.file = None;
+        if rename_synced(self.rt, from, to).is_err() {
             return Err(self.fail());
         }
-        self.file = None;
+        self.is_made = false;
         Ok(())
     }
 

@@ -19,22 +19,26 @@ use std::alloc::Global;
 use std::rt::Files;
 use std::{fs, io};
 
-/// Saves a snapshot under `path`: writes it to a file whose name has `.new` behind it, syncs that, and renames it to
-/// `path`. Before the rename `path` is only looked at, so where it fails the file there is as it was; what stands
-/// under the other name then is of no use, and the next save removes it.
+/// Saves a snapshot under `path`: writes it to a file whose name has `.new` behind it, syncs that, renames it to
+/// `path`, and syncs the folder, so that a saved file outlasts a loss of power. Before the rename `path` is only looked
+/// at. After a fault what was written under the other name is removed, where that can be done; if not, the next save
+/// removes it.
 ///
 /// The new file is made anew: what stands under its name is removed first, a folder excepted, and of a link the link
 /// alone. It gets the mode of the file under `path` (what owner, group and others may read, write and run), and its
 /// owner and group as far as the process may give them: without the group, the group's members may no more than all
-/// others. Two that save under one path at the same time write over each other.
+/// others. Two that save under one path at the same time write over each other: whoever may meet another takes the
+/// path's `lock` first.
 ///
 /// The list is one that a book of the setup hands out: no client and number twice, the setup's dimensions, and within
 /// both limits.
 ///
 /// # Errors
 ///
-/// `Memory` for the name, `Create`, `Write`, `Sync` or `Rename` where that step failed. What is neither a file nor a
-/// folder isn't replaced: `Create`. A folder is `Rename`.
+/// `Memory` for the name, `Create`, `Write`, `Sync` or `Rename` where that step failed, and the file under `path` is as
+/// it was. What is neither a file nor a folder isn't replaced: `Create`. A folder is `Rename`. So is a folder of the
+/// path that can't be opened, and one that can't be synced behind the rename: of these faults the last alone leaves the
+/// new file under `path`.
 pub fn save<R: Files>(
     rt: &R,
     alloc: Global,
@@ -46,7 +50,11 @@ pub fn save<R: Files>(
     requires based { HasBase setup.now list.now }
 {
     let mut folder = Beside::new(rt, path);
-    save_in(alloc, &mut folder, path, setup, list)
+    let saved = save_in(alloc, &mut folder, path, setup, list);
+    if saved.is_err() {
+        folder.remove_made(alloc);
+    }
+    saved
 }
 
 /// Loads the snapshot under `path`, of at most `max_bytes` bytes, as `read_snapshot` reads it.
@@ -65,7 +73,7 @@ pub fn load<R: Files>(
     // Want of memory is told as such.
     ensures memory { IfErr result (λ f. f ≢ FileFault.Snap SnapFault.Memory) }
 {
-    refuse_device(rt, path)?;
+    find_file(rt, path)?;
     let file = match fs::open(rt, path) {
         Ok(file) => file,
         Err(error) => return Err(opening_fault(error.kind())),
@@ -75,8 +83,9 @@ pub fn load<R: Files>(
     Ok(snapshot)
 }
 
-// Refuses what is neither a file nor a folder before it is opened: the opening of a FIFO would wait for a writer.
-fn refuse_device<R: Files>(rt: &R, path: &str) -> Result<(), FileFault>
+/// Looks whether a file or a folder stands under the path. Nothing else is opened: the opening of a FIFO would wait for
+/// a writer.
+pub fn find_file<R: Files>(rt: &R, path: &str) -> Result<(), FileFault>
     ensures { IfErr result (λ f. f ≢ FileFault.Snap SnapFault.Memory) }
 {
     match fs::metadata(rt, path) {

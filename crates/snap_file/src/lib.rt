@@ -12,6 +12,7 @@ mod laws;
 mod limits;
 mod new_file;
 mod past;
+mod path_lock;
 mod read;
 mod reader;
 mod saving;
@@ -20,6 +21,7 @@ mod tally;
 mod write;
 mod writer;
 
+pub use beside::try_save;
 pub use fault::{FileFault, SaveFault, SnapFault};
 pub use file::{load, save};
 pub use file_folder::{Folder, MemoryFolder};
@@ -28,6 +30,7 @@ pub use laws::{
     one_snapshot_spelled, refused_memory_hides_no_early_fault, shown_fault_stays,
     snapshot_or_faulty,
 };
+pub use path_lock::{PathLock, lock, lock_existing};
 pub use read::read_snapshot;
 pub use saving::save_in;
 pub use snapshot::Snapshot;

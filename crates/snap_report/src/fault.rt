@@ -36,13 +36,15 @@ impl From<FileFault> for CheckFault {
 /// Why a snapshot was not folded, or that not told.
 #[derive(Clone, Copy, Debug, PartialEq, Eq, Error)]
 pub enum FoldFault {
-    /// The file could not be opened or read, or is no snapshot. The fault is never want of memory.
+    /// The file could not be opened or read, or is no snapshot, or another may save there. The fault is never want of
+    /// memory.
     #[error(transparent)]
     File(FileFault),
-    /// There was no memory: for the batches, for their sum, or for the name of the new file.
+    /// There was no memory: for the batches, for their sum, or for the name of the lock or of the new file.
     #[error("memory")]
     Memory,
-    /// The file could not be saved, and is as it was. The fault is never want of memory.
+    /// The file could not be saved, as `SaveFault` says, or its lock not be had (`Create`). The fault is never want of
+    /// memory.
     #[error(transparent)]
     Save(SaveFault),
     /// The sink failed, or took nothing of what it was offered. The file is saved.

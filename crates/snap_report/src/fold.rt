@@ -20,8 +20,9 @@ use batch_store::{Batch, BookList, Entry, Setup};
 use byte_io::{Sink, write_all};
 use cells::Cell;
 use hyper_matrix::Hyper;
-use snap_file::{load, save};
+use snap_file::{SaveFault, load, lock_existing, save};
 use std::alloc::{AllocError, Global};
+use std::fs::File;
 use std::rt::Files;
 use std::sync::Arc;
 
@@ -93,12 +94,21 @@ fn line_of(batches: u64, total: u64) -> ArrayString<LINE_CAPACITY>
 }
 
 // Folds the snapshot under `path`, and answers how many batches are folded then, and their total.
-fn fold_file<R: Files>(rt: &R, alloc: Global, path: &str) -> Result<(u64, u64), FoldFault>
+fn fold_file<R: Files<File = File>>(
+    rt: &R,
+    alloc: Global,
+    path: &str,
+) -> Result<(u64, u64), FoldFault>
     ensures ok { IfOk result (λ r. (setup : Setting) × (a : Accepted) × AreAccepted setup a
         × (r.0 ≡ count_in a) × (r.1 ≡ total_in a)) }
     ensures unwritten { IfErr result (λ fault. LeavesLine fault → ⊥) }
 {
+    // Held to the end: nobody else saves there between the reading and the save.
+    let lock = lock_existing(rt, alloc, path)?;
     let snapshot = load(rt, alloc, path, SNAPSHOT_BYTES)?;
+    if lock.is_none() {
+        return Err(FoldFault::Save(SaveFault::Create));
+    }
     let setup = snapshot.setup;
     let list = folded(alloc, &setup, snapshot.list)?;
     save(rt, alloc, path, &setup, &list)?;
@@ -124,15 +134,15 @@ fn write_line<W: Sink>(w: &mut W, batches: u64, total: u64) -> Result<(), FoldFa
 /// `folded F total T`: how many batches are folded now, and their total. What an engine that is started from it answers
 /// stays as it was, repeats included; the cells of each batch are gone.
 ///
-/// Takes the memory of `run_check`: the batches are let go of before their sum is built. It is meant for a file that no
-/// server uses: one that saves later replaces what was folded.
+/// Takes the memory of `run_check`: the batches are let go of before their sum is built. It holds the lock of `path`
+/// from before the reading to behind the save: a file that a server saves to isn't folded.
 ///
 /// # Errors
 ///
-/// `File` where there is no such file, where it can't be opened or read, or where it is no snapshot; `Memory`; `Save`
-/// where the file could not be written, and is as it was; and `Output` where the line could not be written whole: the
-/// file is saved then.
-pub fn run_fold<R: Files, W: Sink>(
+/// `File` where there is no such file, where another holds the lock (`Busy`), where it can't be opened or read, or
+/// where it is no snapshot; `Memory`; `Save` where the lock can't be had (`Create`) or the file could not be saved; and
+/// `Output` where the line could not be written whole: the file is saved then.
+pub fn run_fold<R: Files<File = File>, W: Sink>(
     rt: &R,
     alloc: Global,
     path: &str,

@@ -5,14 +5,14 @@ ghost use Rattle.batch_store.specs.Accepted.{Accepted};
 ghost use Rattle.locked_engine.specs.Opened.{NamesEngine};
 ghost use Rattle.socket_server.specs.Ends.{EndsWith};
 ghost use Rattle.socket_server.specs.Faults.{IsMet, IsMetServing};
-ghost use Rattle.socket_server.specs.Starts.{StartsFrom, IsLoadTold};
+ghost use Rattle.socket_server.specs.Starts.{StartsFrom, IsLocked, IsLoadTold};
 
 use crate::bind::{Listeners, Places, bind_listeners, tell};
 use crate::fault::ServerFault;
 use crate::host::Host;
 use crate::serving::{close_all, serve_listeners};
 use crate::settings::{Settings, idle_limit};
-use crate::start::starting_engine;
+use crate::start::{starting_engine, take_lock};
 use byte_io::Sink;
 use locked_engine::{Engine, Named, Names, Seat, Status};
 use plain_engine::PlainEngine;
@@ -197,12 +197,13 @@ fn serve_settings<
 >(rt: &R, alloc: Global, settings: Settings, out: &mut W) -> Result<Status, ServerFault>
     requires failures { W.failure_count out.old + 1 < 2 ^ 64 }
     requires workers { (1 ≤ settings.workers) × (settings.workers ≤ 32) }
+    ensures locked { IfOk result (λ _. IsLocked R.locks rt.now settings.snapshot settings.must_save) }
     ensures started { IfOk result (λ s. (a : Accepted)
-        × StartsFrom R.loads rt.now settings.snapshot settings.setup a) }
+        × StartsFrom R.loads rt.now settings.snapshot settings.must_load settings.setup a) }
     ensures ended { IfOk result (λ s. (a : Accepted)
         × EndsWith R.saves rt.now settings.snapshot settings.setup a s) }
-    ensures met { IfErr result IsMet }
-    ensures told { IfErr result (λ f. IsLoadTold R.loads rt.now settings.snapshot settings.setup f) }
+    ensures met { IfErr result (λ f. IsMet settings.must_load f) }
+    ensures told { IfErr result (λ f. IsLoadTold R.loads R.locks rt.now settings.snapshot settings.setup f) }
 {
     let Settings {
         tcp,
@@ -210,10 +211,14 @@ fn serve_settings<
         setup,
         workers,
         snapshot,
+        must_load,
+        must_save,
         sessions,
         idle,
     } = settings;
-    let plain = starting_engine(rt, alloc, setup, &snapshot)?;
+    // Held to the end: nobody else saves there.
+    let _lock = take_lock(rt, alloc, &snapshot, must_load, must_save)?;
+    let plain = starting_engine(rt, alloc, setup, &snapshot, must_load)?;
     let plan = Plan {
         places: Places {
             tcp,
@@ -232,6 +237,9 @@ fn serve_settings<
 /// Writes a line for each listener once it is bound, `listening tcp ADDRESS` with the port that it got or
 /// `listening unix PATH`, and at the end `stopped batches B total T`. The Unix socket's path is removed before any
 /// answer, unless another file stands there by then.
+///
+/// The snapshot's path is locked, as `snap_file::lock` does it, from before the load until the answer. Where the lock
+/// can't be had, the server goes on without it, unless it must be seen that a snapshot can be saved.
 ///
 /// It may wait for as long as clients keep their connections open, unless the settings have an idle limit: at the end
 /// each session that was accepted is served to its own end.
@@ -255,10 +263,12 @@ pub fn run_server<
         ↔ ((1 ≤ settings.workers) × (settings.workers ≤ 32) → ⊥) }
     ensures nowhere { (result ≡ Err ServerFault.NoAddress)
         ↔ ((1 ≤ settings.workers) × (settings.workers ≤ 32) × (settings.tcp ≡ None) × (settings.unix ≡ None)) }
-    ensures others { IfErr result (λ f. (f ≡ ServerFault.BadWorkers) ⊎ (f ≡ ServerFault.NoAddress) ⊎ IsMet f) }
-    ensures told { IfErr result (λ f. IsLoadTold R.loads rt.now settings.snapshot settings.setup f) }
+    ensures others { IfErr result (λ f.
+        (f ≡ ServerFault.BadWorkers) ⊎ (f ≡ ServerFault.NoAddress) ⊎ IsMet settings.must_load f) }
+    ensures told { IfErr result (λ f. IsLoadTold R.loads R.locks rt.now settings.snapshot settings.setup f) }
+    ensures locked { IfOk result (λ _. IsLocked R.locks rt.now settings.snapshot settings.must_save) }
     ensures started { IfOk result (λ s. (a : Accepted)
-        × StartsFrom R.loads rt.now settings.snapshot settings.setup a) }
+        × StartsFrom R.loads rt.now settings.snapshot settings.must_load settings.setup a) }
     ensures ended { IfOk result (λ s. (a : Accepted)
         × EndsWith R.saves rt.now settings.snapshot settings.setup a s) }
 {

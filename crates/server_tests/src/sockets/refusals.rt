@@ -3,7 +3,7 @@
 use crate::sockets::settings::{ANY_PORT, PLAIN, Plan, settings};
 use byte_io::{Script, WriteFault};
 use session_pool::Disk;
-use snap_file::{FileFault, SnapFault};
+use snap_file::{FileFault, SaveFault, SnapFault};
 use socket_server::{Host, ServerFault, Settings, run_server};
 use std::alloc::Global;
 use std::io::Write;
@@ -150,6 +150,55 @@ fn a_file_that_is_no_snapshot_is_refused(rt: HostRuntime) -> Result<(), Fail> {
     let refused = is_fault(&rt, rt.alloc(), &plan, None, &wanted);
     drop(wanted);
     fs::remove_file(&rt, path)?;
+    fs::remove_file(&rt, "refused_test.garbage.lock")?;
+    assert!(&rt; refused);
+    Ok(())
+}
+
+// A server that takes no session, of a snapshot's path in this folder or of one in none.
+fn strict(snapshot: &str, must_load: bool, must_save: bool) -> Plan<'_> {
+    Plan {
+        tcp: Some(ANY_PORT),
+        snapshot: Some(snapshot),
+        must_load,
+        must_save,
+        ..PLAIN
+    }
+}
+
+#[test]
+fn a_path_that_is_locked_is_refused(rt: HostRuntime) -> Result<(), Fail> {
+    let path = "locked_test.snapshot";
+    let lock = snap_file::lock(&rt, rt.alloc(), path).expect(&rt, "lock");
+    let wanted = Some(ServerFault::File(FileFault::Busy));
+    let refused = is_fault(&rt, rt.alloc(), &strict(path, false, false), None, &wanted);
+    drop(lock);
+    let serves = is_fault(&rt, rt.alloc(), &strict(path, false, true), None, &None);
+    drop(wanted);
+    assert!(&rt; refused);
+    assert!(&rt; serves);
+    fs::remove_file(&rt, path)?;
+    fs::remove_file(&rt, "locked_test.snapshot.lock")?;
+    Ok(())
+}
+
+#[test]
+fn a_snapshot_that_must_be_there_is_missed(rt: HostRuntime) -> Result<(), Fail> {
+    let path = "absent_test.snapshot";
+    let wanted = Some(ServerFault::File(FileFault::NotFound));
+    let refused = is_fault(&rt, rt.alloc(), &strict(path, true, true), None, &wanted);
+    drop(wanted);
+    assert!(&rt; refused);
+    assert!(&rt; !fs::exists(&rt, "absent_test.snapshot.lock")?);
+    Ok(())
+}
+
+#[test]
+fn a_path_that_must_be_saved_to_is_tried(rt: HostRuntime) -> Result<(), Fail> {
+    let plan = strict("no_folder_here/snapshot", false, true);
+    let wanted = Some(ServerFault::Save(SaveFault::Create));
+    let refused = is_fault(&rt, rt.alloc(), &plan, None, &wanted);
+    drop(wanted);
     assert!(&rt; refused);
     Ok(())
 }

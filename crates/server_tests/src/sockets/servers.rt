@@ -104,6 +104,7 @@ fn batches_over_tcp_are_answered_and_saved(rt: HostRuntime) -> Result<(), Fail> 
     assert!(&rt; is_outcome(outcome, accepted(2, 8)));
     assert!(&rt; saved_batches(&rt, rt.alloc(), path) == 2);
     fs::remove_file(&rt, path)?;
+    fs::remove_file(&rt, "tcp_test.snapshot.lock")?;
     Ok(())
 }
 
@@ -148,6 +149,7 @@ fn a_saved_server_goes_on_over_a_unix_socket(rt: HostRuntime) -> Result<(), Fail
         assert!(&rt; !fs::exists(&rt, path).expect(&rt, "exists"));
     }
     fs::remove_file(&rt, snapshot)?;
+    fs::remove_file(&rt, "unix_test/snapshot.lock")?;
     fs::remove_dir(&rt, "unix_test")?;
     Ok(())
 }

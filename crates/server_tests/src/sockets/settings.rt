@@ -9,7 +9,7 @@ use std::process::Abort;
 pub const ANY_PORT: &str = "127.0.0.1:0";
 
 /// What differs between the servers of the tests: how many workers they have and how many sessions they take, their
-/// addresses, and the path of their snapshot.
+/// addresses, the path of their snapshot, and whether it must be there and be saved to.
 #[derive(Clone, Copy)]
 pub struct Plan<'a> {
     pub workers: u64,
@@ -17,6 +17,8 @@ pub struct Plan<'a> {
     pub tcp: Option<&'a str>,
     pub unix: Option<&'a str>,
     pub snapshot: Option<&'a str>,
+    pub must_load: bool,
+    pub must_save: bool,
 }
 
 /// Two workers, no address and no snapshot.
@@ -26,6 +28,8 @@ pub const PLAIN: Plan<'static> = Plan {
     tcp: None,
     unix: None,
     snapshot: None,
+    must_load: false,
+    must_save: false,
 };
 
 // A word, if it is given.
@@ -45,6 +49,8 @@ pub fn settings(rt: &impl Abort, alloc: Global, plan: &Plan) -> Settings {
         setup: Setup::new(3, 3, &[2, 4], 2, 100, 10).expect(rt, "setup"),
         workers: plan.workers,
         snapshot: owned(rt, alloc, plan.snapshot),
+        must_load: plan.must_load,
+        must_save: plan.must_save,
         sessions: plan.sessions,
         idle: None,
     }

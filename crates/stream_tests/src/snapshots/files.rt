@@ -1,7 +1,7 @@
 //! Real files, in a folder of their own below the system's one for temporary files.
 
 use crate::snapshots::bytes::{FOLDED, MAX_BYTES, NEW_ONE, NEW_TWO, ONE, TWO, read};
-use snap_file::{FileFault, SaveFault, SnapFault, Snapshot, load, save};
+use snap_file::{FileFault, SaveFault, SnapFault, Snapshot, load, lock, save, try_save};
 use std::fs::Permissions;
 use std::os::unix::fs::{MetadataExt, PermissionsExt, symlink};
 use std::process::Abort;
@@ -69,12 +69,14 @@ fn a_save_without_its_folder_fails(rt: HostRuntime) {
     assert!(rt; same(&rt, &answer, &Err(SaveFault::Create)));
 }
 
-// Saves under a name of a folder, which can't be made a file.
-fn saved_as_folder(rt: &HostRuntime, snapshot: &Snapshot) -> io::Result<Result<(), SaveFault>> {
+// Saves under a name of a folder, which can't be made a file, and tells whether a file is left beside it.
+fn saved_as_folder(
+    rt: &HostRuntime,
+    snapshot: &Snapshot,
+) -> io::Result<(Result<(), SaveFault>, bool)> {
     fs::create_dir_all(rt, "/tmp/hhm_snap_file_folder/inner")?;
     let answer = saved(rt, "/tmp/hhm_snap_file_folder", snapshot);
-    fs::remove_file(rt, "/tmp/hhm_snap_file_folder.new")?;
-    Ok(answer)
+    Ok((answer, fs::exists(rt, "/tmp/hhm_snap_file_folder.new")?))
 }
 
 #[test]
@@ -82,7 +84,7 @@ fn a_folder_is_not_replaced(rt: HostRuntime) {
     let snapshot = read(&rt, rt.alloc(), ONE, ONE.len());
     let answer = saved_as_folder(&rt, &snapshot).expect(&rt, "saved");
     drop(snapshot);
-    assert!(rt; same(&rt, &answer, &Err(SaveFault::Rename)));
+    assert!(rt; same(&rt, &answer, &(Err(SaveFault::Rename), false)));
 }
 
 // Saves while a folder stands under the other name.
@@ -175,4 +177,55 @@ fn what_is_no_snapshot_is_told(rt: HostRuntime) {
     for (path, fault) in NONE {
         assert!(rt; same(&rt, &loaded_batches(&rt, *path), &Err(*fault)));
     }
+}
+
+// How a call for the lock of a path ended: whether it was got, or why not.
+fn lock_told(rt: &HostRuntime, path: &str) -> Result<bool, FileFault> {
+    match lock(rt, rt.alloc(), path) {
+        Ok(held) => {
+            let is_held = held.is_some();
+            drop(held);
+            Ok(is_held)
+        }
+        Err(fault) => Err(fault),
+    }
+}
+
+// The same while the lock is held, and once it was given back.
+fn told_twice(rt: &HostRuntime, path: &str) -> Result<[Result<bool, FileFault>; 2], FileFault> {
+    let held = lock(rt, rt.alloc(), path)?;
+    let beside = lock_told(rt, path);
+    drop(held);
+    Ok([beside, lock_told(rt, path)])
+}
+
+#[test]
+fn one_holds_the_lock_of_a_path(rt: HostRuntime) {
+    let path = "/tmp/hhm_snap_file_locked";
+    let told = told_twice(&rt, path);
+    assert!(rt; same(&rt, &told, &Ok([Err(FileFault::Busy), Ok(true)])));
+    assert!(rt; holds(&rt, "/tmp/hhm_snap_file_locked.lock", b""));
+    fs::remove_file(&rt, "/tmp/hhm_snap_file_locked.lock").expect(&rt, "removed");
+}
+
+// Paths whose lock can't be had: in no folder, of a folder, and of a device.
+static UNLOCKED: &[&str] = &["/tmp/hhm_snap_file_no_folder/file", "/tmp", "/dev/null"];
+
+#[test]
+fn a_lock_that_cannot_be_had_is_none(rt: HostRuntime) {
+    for path in UNLOCKED {
+        assert!(rt; same(&rt, &lock_told(&rt, *path), &Ok(false)));
+    }
+}
+
+#[test]
+fn a_save_is_tried_where_it_can_be_made(rt: HostRuntime) {
+    let path = "/tmp/hhm_snap_file_tried";
+    assert!(rt; same(&rt, &try_save(&rt, rt.alloc(), path), &Ok(())));
+    assert!(rt; same(&rt, &loaded_batches(&rt, path), &Err(FileFault::NotFound)));
+    let unfinished = loaded_batches(&rt, "/tmp/hhm_snap_file_tried.new");
+    assert!(rt; same(&rt, &unfinished, &Err(FileFault::NotFound)));
+    let absent = "/tmp/hhm_snap_file_no_folder/file";
+    let answer = try_save(&rt, rt.alloc(), absent);
+    assert!(rt; same(&rt, &answer, &Err(SaveFault::Create)));
 }
