@@ -233,7 +233,7 @@ UNNOTICED = {
     "rows": 58, "cols": 58, "cut": 1 + 39, "shards": 5, "limit": 64, "most": 20,
     "client": 64 + 64, "number": 63 + 63, "row": 2 + 2 + 1, "column": 2 + 1 + 1,
 }  # fmt: skip
-assert sum(UNNOTICED.values()) == 508 and 8 * len(FLIPPED) == 1_712  # as README.md says
+assert sum(UNNOTICED.values()) == 508 and 8 * len(FLIPPED) == 1_712  # as docs/DEFINITIONS.md says
 
 # Bytes that are no snapshot, and the fault that is told of them.
 NO_SNAPSHOTS = [

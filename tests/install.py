@@ -1,0 +1,443 @@
+#!/usr/bin/env python3
+"""Installs the built program into an empty folder, and tries what is there then: the files, and `hhm-run`.
+
+    python3 tests/install.py PATH-TO-HHM
+
+The program isn't built here: `tools/install.sh --program` installs the one that is given. What is wanted was worked out
+by hand from what tools/install.sh and tools/hhm-run say of themselves and from docs/FORMATS.md. It prints a line for
+each check that fails and at the end `N passed, M failed`; the status is 1 where one fails. Where there is no compiler
+the C client isn't tried, where there is no groff the page isn't formatted, and a line says so. Linux, and nothing but
+Python's own library.
+"""
+import os
+import re
+import shutil
+import signal
+import socket
+import subprocess
+import sys
+import tempfile
+import time
+
+import program
+import server
+from server import SMALL, check
+
+TOP = os.path.dirname(server.HERE)
+# The most seconds that an end after a signal takes, or a run that serves nobody.
+WAIT = 20
+
+# What hhm-run says at the first signal, and at one that comes later.
+ENDS = "hhm-run: the server saves and ends once its sessions are served; a further signal kills it\n"
+KILLED = "hhm-run: the server is killed\n"
+
+PYTHON = sorted(it for it in os.listdir(os.path.join(TOP, "clients", "python")) if it.endswith(".py"))
+# Each installed file, its mode, and where it comes from; no source where it is made.
+FILES = {
+    "bin/hhm": (0o755, None),
+    "bin/hhm-run": (0o755, "tools/hhm-run"),
+    **{f"lib/hhm/{it}": (0o755, f"clients/python/{it}") for it in PYTHON},
+    "bin/hhmc": (0o755, "clients/python/hhm_client.py"),
+    "include/hhm_client.h": (0o644, "clients/c/hhm_client.h"),
+    "share/hhm/hhm_client.c": (0o644, "clients/c/hhm_client.c"),
+    "share/hhm/hhm_client.rs": (0o644, "clients/rust/hhm_client.rs"),
+    "lib/systemd/system/hhm.service": (0o644, None),
+    "share/man/man1/hhm.1": (0o644, None),
+}
+
+
+def content(path):
+    with open(path, "rb") as file:
+        return file.read()
+
+
+def ran(*words, **how):
+    """The status of a command and what it writes to both outputs."""
+    ended = subprocess.run(words, capture_output=True, text=True, timeout=WAIT, **how)
+    return ended.returncode, ended.stdout, ended.stderr
+
+
+def install(*words, **how):
+    return ran(os.path.join(TOP, "tools", "install.sh"), *words, **how)
+
+
+def files_below(folder):
+    found = (os.path.join(at, name) for at, _, names in os.walk(folder) for name in names)
+    return {os.path.relpath(it, folder) for it in found}
+
+
+def all_files_are_there(prefix):
+    """Each file with its mode and what it was copied from, and no other; each is told."""
+    status, output, error = install("--program", server.PROGRAM, prefix)
+    check("install", (status, error), (0, ""))
+    check("all files", files_below(prefix), set(FILES))
+    told = {it.strip() for it in output.splitlines() if it.startswith("  ")}
+    check("all are told", told, {f"{prefix}/{it}" for it in FILES})
+    check("the path is told", f"{prefix}/bin isn't on your PATH" in output, True)
+    for name, (mode, source) in FILES.items():
+        path = os.path.join(prefix, name)
+        check(f"{name}: the mode", oct(os.stat(path).st_mode & 0o7777), oct(mode))
+        if source:
+            check(f"{name}: the file", content(path) == content(os.path.join(TOP, source)), True)
+    check("the program", content(f"{prefix}/bin/hhm") == content(server.PROGRAM), True)
+    check("the client", ran(f"{prefix}/bin/hhmc", "--help")[::2], (0, ""))
+
+
+def it_installs_again(prefix):
+    """Over what is there, while it runs too; below DESTDIR; and where it may not write."""
+    with Served(prefix, []):
+        check("install again", install("--program", server.PROGRAM, prefix)[0], 0)
+    check("the same files", files_below(prefix), set(FILES))
+    with tempfile.TemporaryDirectory() as folder:
+        # Not a prefix of the machine, which an installer with a fault would write to.
+        own = os.path.join(server.FOLDER, "staged")
+        status, *_ = install("--program", server.PROGRAM, own, env={**os.environ, "DESTDIR": folder})
+        check("DESTDIR", (status, files_below(f"{folder}{own}"), os.path.exists(own)), (0, set(FILES), False))
+        unit = f"{folder}{own}/lib/systemd/system/hhm.service"
+        check("DESTDIR: the unit", f"ExecStart={own}/bin/hhm-run ".encode() in content(unit), True)
+    file = os.path.join(server.FOLDER, "file")
+    open(file, "w").close()
+    check("below a file", install("--program", server.PROGRAM, f"{file}/x")[0], 1)
+
+
+def bad_words_install_nothing():
+    """Each wrong command line is told, and nothing is made."""
+    prefix = os.path.join(server.FOLDER, "unmade")
+    own = ["--program", server.PROGRAM]
+    for words in [["--prove"], [*own, "-p", prefix], [*own, prefix, prefix], ["--program"], ["--program", ""], [""]]:
+        status, output, error = install(*words)
+        check(f"install {words}", (status, output, error.startswith("usage: ")), (2, "", True))
+    for path in ["/nothing", "/etc/passwd", "/tmp"]:
+        check(f"install {path}", install("--program", path, prefix)[::2], (1, f"install: {path} is no program\n"))
+    status, _, error = install("--program", shutil.which("true"), prefix)
+    check("another program", (status, "isn't hhm" in error), (1, True))
+    check("nothing is made", files_below(prefix), set())
+    status, output, error = install("--help")
+    check("help", (status, "--unproved" in output, error), (0, True, ""))
+
+
+def only_what_was_built_is_installed():
+    """The two ways that build, with an `rt` that only says that it proved, or that it didn't."""
+    with tempfile.TemporaryDirectory() as folder:
+        top, prefix, asked = (os.path.join(folder, it) for it in ["top", "prefix", "asked"])
+        for name in ["tools", "clients"]:
+            shutil.copytree(os.path.join(TOP, name), os.path.join(top, name))
+        os.makedirs(os.path.join(top, "crates", "hhm"))
+        os.mkdir(os.path.join(folder, "bin"))
+        rt = os.path.join(folder, "bin", "rt")
+        found = {**os.environ, "PATH": f"{folder}/bin:{os.environ['PATH']}"}
+        script = f"#!/bin/sh\necho \"$PWD $*\" > {asked}\nmkdir -p out && cp {server.PROGRAM} out/hhm\nexit "
+        for status, wanted in [(1, set()), (0, set(FILES))]:
+            with open(rt, "w") as file:
+                file.write(f"{script}{status}\n")
+            os.chmod(rt, 0o755)
+            ended = ran(os.path.join(top, "tools", "install.sh"), prefix, env=found)
+            check(f"a proof that ends with {status}", (ended[0], files_below(prefix)), (status, wanted))
+            check("what is proved", content(asked).decode(), f"{top}/crates/hhm run -- --version\n")
+        check("it is said", ["proofs" in ended[1], ended[2]], [True, ""])
+        shutil.rmtree(prefix)
+        ended = ran(os.path.join(top, "tools", "install.sh"), "--unproved", prefix, env=found)
+        check("no build without a toolchain", (ended[0], files_below(prefix)), (1, set()))
+        check("why", ended[2].splitlines()[-1], "install: hhm wasn't built, and nothing is installed")
+        check("what it means", "Nothing is proved of this program" in ended[1], True)
+
+
+def the_page_has_all_options(prefix):
+    """Each line that the words' helps have, and no fault that groff finds."""
+    page = content(f"{prefix}/share/man/man1/hhm.1").decode()
+    check("hhm.1: options can be copied", "--" in page, False)
+    page = " ".join(page.replace("\\-", "-").split())
+    for word in ["sum", "check", "export", "fold", "serve"]:
+        check(f"hhm.1: {word}", f".SS hhm {word}" in page, True)
+        _, output, _ = ran(server.PROGRAM, word, "--help")
+        for line in output.splitlines():
+            if not line.startswith(("Options:", "Arguments:")):
+                check(f"hhm.1: {line}", " ".join(line.removeprefix("Usage: ").split()) in page, True)
+    if not shutil.which("groff"):
+        print("groff isn't there: the man page isn't formatted")
+        return
+    check("groff", ran("groff", "-man", "-ww", "-z", f"{prefix}/share/man/man1/hhm.1"), (0, "", ""))
+
+
+def the_unit_is_right(prefix):
+    """It starts what was installed, by options that there are."""
+    check("install for the unit", install("--program", server.PROGRAM, prefix)[0], 0)
+    unit = content(f"{prefix}/lib/systemd/system/hhm.service").decode().replace("\\\n", " ")
+    started = re.search(r"^ExecStart=(.*)$", unit, re.M)[1].split()
+    check("the unit: the program", started[0], f"{prefix}/bin/hhm-run")
+    _, output, _ = ran(server.PROGRAM, "serve", "--help")
+    for word in started[1:]:
+        if word.startswith("--"):
+            check(f"the unit: {word}", re.search(rf"^ +{word} ", output, re.M) is not None, True)
+    check("the unit: no path of another prefix", "/usr/local" in unit, False)
+    source = content(os.path.join(TOP, "tools", "hhm.service")).decode()
+    check("the unit: docs/OPERATING.md", source in content(os.path.join(TOP, "docs", "OPERATING.md")).decode(), True)
+
+
+def the_c_client_is_whole(prefix):
+    """A program is compiled and linked with the installed header and source."""
+    compiler = shutil.which("cc") or shutil.which("gcc") or shutil.which("clang")
+    if not compiler:
+        print("there is no C compiler: the installed C client isn't compiled")
+        return
+    source, made = os.path.join(server.FOLDER, "own.c"), os.path.join(server.FOLDER, "own")
+    with open(source, "w") as file:
+        file.write('#include <hhm_client.h>\nint main(void) { return hhm_open_tcp("127.0.0.1:1", 1) == 0; }\n')
+    words = ["-I", f"{prefix}/include", source, f"{prefix}/share/hhm/hhm_client.c", "-o", made]
+    check("the C client", ran(compiler, *words)[0], 0)
+    check("the C client runs", ran(made)[0], 0)
+
+
+def heed_signals():
+    """A shell can't trap what is ignored where it starts, as SIGINT is in the background and SIGHUP under nohup."""
+    for number in [signal.SIGTERM, signal.SIGINT, signal.SIGHUP]:
+        signal.signal(number, signal.SIG_DFL)
+
+
+def the_session_of_the_readme(prefix):
+    """The commands of README.md's block that starts a server, in one shell, write what stands there below them."""
+    text = content(os.path.join(TOP, "README.md")).decode()
+    block = next(it for it in re.findall(r"^```\n(.*?)^```$", text, re.M | re.S) if it.startswith("$ hhm serve "))
+    commands = [it[2:] for it in block.splitlines() if it.startswith("$ ")]
+    wanted = [it for it in block.splitlines() if not it.startswith("$ ")]
+    with tempfile.TemporaryDirectory() as folder:
+        os.symlink(os.path.join(TOP, "examples"), os.path.join(folder, "examples"))
+        found = {**os.environ, "PATH": f"{prefix}/bin:{os.environ['PATH']}"}
+        status, output, error = ran("bash", "-c", "\n".join([*commands, "wait"]), cwd=folder, env=found)
+    # The server and its clients write side by side.
+    check("README.md: a session", (status, sorted(output.splitlines()), error), (0, sorted(wanted), ""))
+
+
+class Served:
+    """A server that the installed `hhm-run` has started, at a Unix socket."""
+
+    def __init__(self, prefix, words, **how):
+        self.path = os.path.join(server.FOLDER, "socket")
+        words = [f"{prefix}/bin/hhm-run", f"--unix={self.path}", *SMALL, *words]
+        self.process = subprocess.Popen(words, stdout=subprocess.PIPE, stderr=subprocess.PIPE, text=True,
+                                        start_new_session=True, preexec_fn=heed_signals, **how)
+
+    def __enter__(self):
+        return self
+
+    def __exit__(self, *_):
+        # All that it has started is in its group.
+        try:
+            os.killpg(self.process.pid, signal.SIGKILL)
+        except ProcessLookupError:
+            pass
+        self.process.communicate()
+        if os.path.lexists(self.path):
+            os.remove(self.path)
+
+    def pid_of_server(self):
+        """The process of `hhm serve`, a child of the wrapper; None where it has ended."""
+        try:
+            with open(f"/proc/{self.process.pid}/task/{self.process.pid}/children") as file:
+                pids = [int(it) for it in file.read().split()]
+        except FileNotFoundError:
+            return None
+        names = {it: content(f"/proc/{it}/comm") for it in pids if os.path.exists(f"/proc/{it}/comm")}
+        return next((it for it, name in names.items() if name == b"hhm\n"), None)
+
+    def listens(self):
+        check("the line of the socket", self.process.stdout.readline(), f"listening unix {self.path}\n")
+        return self
+
+    def is_told_to_end(self):
+        """Sends the first signal, and waits until it is heeded."""
+        self.process.terminate()
+        check("the first signal", self.process.stderr.readline(), ENDS)
+
+    def link(self):
+        link = socket.socket(socket.AF_UNIX)
+        link.settimeout(WAIT)
+        link.connect(self.path)
+        return link
+
+    def puts(self, link, client, count, index, total):
+        link.sendall(server.put_frame(client, 1, server.text(count)))
+        check(f"put of client {client}", link.recv(64), server.accepted(index, total))
+
+    def ends(self, name, output, error, status):
+        begun = time.monotonic()
+        try:
+            got = self.process.communicate(timeout=WAIT)
+        except subprocess.TimeoutExpired:
+            got = ("it goes on", "")
+        check(name, (*got, self.process.returncode), (output, error, status))
+        check(f"{name}: soon", time.monotonic() - begun < WAIT / 2, True)
+
+
+def saved(count):
+    """The snapshot of one batch of client 7 with one cell of this count."""
+    return program.snapshot([(7, 1, [(0, 0, count)])], count, past=program.NONE)
+
+
+def each_signal_saves_and_stops(prefix):
+    """One signal to the wrapper, or to all of its group as Ctrl-C sends it, ends the server in order."""
+    path = os.path.join(server.FOLDER, "signal.snap")
+    for number in [signal.SIGTERM, signal.SIGINT, signal.SIGHUP]:
+        for kill in [os.kill, os.killpg]:
+            name = f"{number.name} by {kill.__name__}"
+            with Served(prefix, ["--snapshot", path]).listens() as at:
+                with at.link() as link:
+                    at.puts(link, 7, 5, 0, 5)
+                kill(at.process.pid, number)
+                at.ends(name, "stopped batches 1 total 5\n", ENDS, 0)
+                check(f"{name}: the path is gone", os.path.lexists(at.path), False)
+            check(f"{name}: the snapshot", content(path), saved(5))
+            os.remove(path)
+    with Served(prefix, []).listens() as at:
+        at.process.terminate()
+        at.ends("no snapshot", "stopped batches 0 total 0\n", ENDS, 0)
+
+
+def the_server_heeds_no_signal_itself(prefix):
+    """SIGTERM to the server's own process does nothing, so that nobody ends it by mistake before it has saved."""
+    with Served(prefix, []).listens() as at:
+        os.kill(at.pid_of_server(), signal.SIGTERM)
+        with at.link() as link:
+            at.puts(link, 7, 5, 0, 5)
+        at.process.terminate()
+        at.ends("a signal to the server", "stopped batches 1 total 5\n", ENDS, 0)
+
+
+def the_umask_decides_who_connects(prefix):
+    """The mode of the socket is what the umask leaves of 777."""
+    for mask in [0o000, 0o007, 0o022, 0o077]:
+        with Served(prefix, [], umask=mask).listens() as at:
+            check(f"umask {mask:o}", oct(os.stat(at.path).st_mode & 0o7777), oct(0o777 & ~mask))
+
+
+def a_second_signal_kills(prefix):
+    """A session that stays open holds the end; what came before the first signal is saved, what came after isn't."""
+    path = os.path.join(server.FOLDER, "second.snap")
+    with Served(prefix, ["--snapshot", path]).listens() as at:
+        with at.link() as link:
+            at.puts(link, 7, 5, 0, 5)
+            at.is_told_to_end()
+            waits_for(lambda: os.path.exists(path))
+            at.puts(link, 8, 3, 1, 8)
+            time.sleep(1.1)
+            check("a session holds the end", at.process.poll(), None)
+            at.process.terminate()
+            at.ends("a second signal", "", KILLED, 128 + signal.SIGKILL)
+    check("a second signal: the snapshot", content(path), saved(5))
+
+
+def signals_at_once_are_one(prefix):
+    """A terminal that is closed hangs up twice, and a session that ends terminates and hangs up: nothing is killed."""
+    path = os.path.join(server.FOLDER, "once.snap")
+    for several in [(signal.SIGHUP, signal.SIGHUP), (signal.SIGTERM, signal.SIGHUP), (signal.SIGINT,) * 3]:
+        with Served(prefix, ["--snapshot", path]).listens() as at:
+            with at.link() as link:
+                at.puts(link, 7, 5, 0, 5)
+                for number in several:
+                    at.process.send_signal(number)
+                    time.sleep(0.1)
+                check(f"{several}: a session holds the end", at.process.poll(), None)
+            at.ends(f"{several}", "stopped batches 1 total 5\n", ENDS, 0)
+        check(f"{several}: the snapshot", content(path), saved(5))
+        os.remove(path)
+
+
+def waits_for(is_so):
+    until = time.monotonic() + WAIT
+    while not is_so() and time.monotonic() < until:
+        time.sleep(0.02)
+
+
+def a_worker_that_is_held_holds_the_save(prefix):
+    """Where each worker has a silent session the Save waits; a second signal ends that too, and nothing was saved."""
+    path = os.path.join(server.FOLDER, "held.snap")
+    with Served(prefix, ["--snapshot", path, "--workers", "1"]).listens() as at:
+        with at.link() as link:
+            at.puts(link, 7, 5, 0, 5)
+            at.is_told_to_end()
+            time.sleep(1.1)
+            at.process.send_signal(signal.SIGINT)
+            at.ends("a held worker", "", KILLED, 128 + signal.SIGKILL)
+    check("a held worker: nothing is saved", os.path.exists(path), False)
+    with Served(prefix, ["--snapshot", path, "--workers", "1", "--idle", "1"]).listens() as at:
+        with at.link() as link:
+            at.puts(link, 7, 5, 0, 5)
+            at.process.terminate()
+            at.ends("a held worker, --idle", "stopped batches 1 total 5\n", ENDS, 0)
+    check("a held worker, --idle: the snapshot", content(path), saved(5))
+
+
+def a_refused_save_is_told(prefix):
+    """The Save is refused, which is told; so is the fault of the server's own save at its end, with its status."""
+    path = os.path.join(server.FOLDER, "refused.snap")
+    with Served(prefix, ["--snapshot", path]).listens() as at:
+        os.makedirs(os.path.join(path + ".new", "full"))
+        at.process.terminate()
+        said = f"{ENDS}hhm-run: the save was refused; the server tries once more at its end\nhhm: file: Create\n"
+        at.ends("a refused save", "", said, 4)
+    check("a refused save: no file", os.path.exists(path), False)
+
+
+def a_server_that_loads_is_ended_too(prefix):
+    """A signal before it listens: it is asked as soon as it does, and what it has loaded is saved."""
+    path, count = os.path.join(server.FOLDER, "many.snap"), 100_000
+    batches = [(7, n, [(0, 0, 1)]) for n in range(count)]
+    held = program.snapshot(batches, count, most=10**6, limit=10**6, past=program.NONE)
+    with open(path, "wb") as file:
+        file.write(held)
+    words = ["--max-batches", "1000000", "--limit", "1000000", "--snapshot", path]
+    own = [it for it in SMALL if it not in ("--limit", "--max-batches", "100", "10")]
+    words = [f"{prefix}/bin/hhm-run", "--unix", os.path.join(server.FOLDER, "socket"), *own, *words]
+    loads = subprocess.Popen(words, stdout=subprocess.PIPE, stderr=subprocess.PIPE, text=True)
+    time.sleep(0.1)
+    loads.terminate()
+    output, error = loads.communicate(timeout=WAIT)
+    check("a load", (output.splitlines()[-1:], loads.returncode), ([f"stopped batches {count} total {count}"], 0))
+    check("a load: the errors", re.sub(r"hhm-run: nobody answers at .* yet\n", "", error), ENDS)
+    check("a load: the snapshot", content(path) == held, True)
+    os.remove(path)
+
+
+def statuses_are_those_of_the_program(prefix):
+    """Faults before anything listens, as `hhm serve` tells them, and what the wrapper itself wants."""
+    wrapper, unix = f"{prefix}/bin/hhm-run", ["--unix", os.path.join(server.FOLDER, "unused")]
+    check("no number", ran(wrapper, *unix, "--rows", "x", "--cols", "3"), (2, "", "hhm: settings: BadNumber\n"))
+    check("no rows", ran(wrapper, *unix)[:2], (2, ""))
+    empty = os.path.join(server.FOLDER, "empty.snap")
+    open(empty, "w").close()
+    check("no snapshot", ran(wrapper, *unix, *SMALL, "--snapshot", empty), (3, "", "hhm: snapshot: Truncated\n"))
+    check("no folder", ran(wrapper, "--unix", "/no/folder", *SMALL), (4, "", "hhm: listen failed: /no/folder\n"))
+    for words in [[], ["--tcp", "127.0.0.1:0", *SMALL], ["--unix"], ["--unix="]]:
+        status, output, error = ran(wrapper, *words)
+        check(f"no socket, {words}", (status, output, "--unix PATH is needed" in error), (2, "", True))
+    status, output, error = ran(wrapper, "--help")
+    check("help", (status, "--snapshot" in output, error), (0, True, ""))
+
+
+def main():
+    server.PROGRAM = os.path.abspath(sys.argv[1])
+    with tempfile.TemporaryDirectory() as server.FOLDER:
+        prefix = os.path.join(server.FOLDER, "prefix with a blank")
+        all_files_are_there(prefix)
+        it_installs_again(prefix)
+        bad_words_install_nothing()
+        only_what_was_built_is_installed()
+        the_page_has_all_options(prefix)
+        the_unit_is_right(os.path.join(server.FOLDER, "plain"))
+        the_c_client_is_whole(prefix)
+        the_session_of_the_readme(prefix)
+        each_signal_saves_and_stops(prefix)
+        the_server_heeds_no_signal_itself(prefix)
+        the_umask_decides_who_connects(prefix)
+        a_second_signal_kills(prefix)
+        signals_at_once_are_one(prefix)
+        a_worker_that_is_held_holds_the_save(prefix)
+        a_refused_save_is_told(prefix)
+        a_server_that_loads_is_ended_too(prefix)
+        statuses_are_those_of_the_program(prefix)
+    print(f"{server.passed} passed, {server.failed} failed")
+    return 1 if server.failed else 0
+
+
+if __name__ == "__main__":
+    sys.exit(main())
