@@ -6,7 +6,8 @@
 Each client's example is compiled and run, and what it writes is compared with what was worked out by hand from
 docs/FORMATS.md; sums are compared with those of a plain dictionary. It prints a line for each check that fails, one for
 each client that wasn't tried since its compiler isn't installed, and at the end `N passed, M failed`; the status is 1
-where one fails. Linux, and nothing but Python's own library.
+where one fails. What could make a client count wrong, or wait for ever, stands in client_faults.py. Linux, and nothing
+but Python's own library.
 """
 import array
 import contextlib
@@ -17,12 +18,10 @@ import random
 import resource
 import shutil
 import signal
-import socket
 import struct
 import subprocess
 import sys
 import tempfile
-import threading
 import time
 
 import server
@@ -30,11 +29,11 @@ from server import SMALL, Server, check, text
 
 HERE = os.path.dirname(os.path.abspath(__file__))
 CLIENTS = os.path.join(HERE, "..", "clients")
-import hhm_client  # noqa: E402 (server.py has put its folder on the path)
-from hhm_client import MAX_CELLS, Arrays, BadReply, Client, Refused, Status, cells_of  # noqa: E402
+import client_faults  # noqa: E402 (server.py has put the client's folder on the path)
+import hhm_client  # noqa: E402
+from hhm_client import MAX_CELLS, Arrays, BadReply, Client, Status, cells_of  # noqa: E402
+from peers import WAIT, Liar, Proxy, fault_of, run, started, until  # noqa: E402
 
-# The seconds that anything may take that is waited for.
-WAIT = 30
 LARGE = ["--rows", str(1 << 32), "--cols", str(1 << 32)]
 EXAMPLE = """put: index 0 total_after 12
 the same again: index 0 total_after 12
@@ -60,117 +59,6 @@ saved: 7
 stopping
 """
 
-# Programs that put once, twice at most, and wait for 300 ms each time; they write what became of it.
-IMPATIENT = {
-    "Rust": """
-#[path = "%s/rust/hhm_client.rs"]
-mod hhm_client;
-use hhm_client::{Cell, Client};
-use std::time::Duration;
-fn main() {
-    let path = std::env::args().nth(1).unwrap();
-    let mut hhm = Client::unix(path, 7)
-        .with_timeout(Some(Duration::from_millis(300)))
-        .with_attempts(2, Duration::from_millis(1));
-    println!("{}", hhm.put(1, &[Cell { row: 0, col: 0, count: 5 }]).unwrap_err());
-}
-""",
-    "C": """
-#include "%s/c/hhm_client.h"
-#include <errno.h>
-#include <stdio.h>
-int main(int count, char **words)
-{
-    hhm_client *hhm = count == 2 ? hhm_open_unix(words[1], 7) : NULL;
-    hhm_cell cell = {0, 0, 5};
-    hhm_accepted accepted;
-    hhm_set_timeout(hhm, 300);
-    hhm_set_attempts(hhm, 2, 1);
-    if (hhm_put(hhm, 1, &cell, 1, &accepted) == HHM_FAILED && errno == ETIMEDOUT)
-        printf("timed out\\n");
-    hhm_close(hhm);
-    return 0;
-}
-""",
-}
-
-
-class Proxy:
-    """Stands between clients and a server. `lost` says of its connections, in order, how many replies each gives before
-    it loses one, which the server has written, and ends. None loses nothing, and neither do those behind the list."""
-
-    def __init__(self, at, unix, lost):
-        self.at, self.lost, self.links = at, iter(lost), []
-        self.listener = socket.socket(socket.AF_UNIX if unix else socket.AF_INET)
-        self.path = os.path.join(server.FOLDER, "proxy")
-        with contextlib.suppress(FileNotFoundError):
-            os.remove(self.path)
-        self.listener.bind(self.path if unix else ("127.0.0.1", 0))
-        self.listener.listen(16)
-        self.where = {"unix": self.path} if unix else {"tcp": "127.0.0.1:%d" % self.listener.getsockname()[1]}
-        self.how_often = 0
-        self.thread = threading.Thread(target=self.accept, daemon=True)
-        self.thread.start()
-
-    def __enter__(self):
-        return self
-
-    def __exit__(self, *_):
-        # (to close what a thread waits for wakes no thread, and ends no connection)
-        end(self.listener)
-        self.thread.join()
-        for link in self.links:
-            end(link)
-
-    def words(self):
-        """The words of a command line."""
-        [(how, place)] = self.where.items()
-        return [f"--{how}", place]
-
-    def accept(self):
-        with contextlib.suppress(OSError):
-            while True:
-                ours = self.listener.accept()[0]
-                theirs = self.at.link(ours.family == socket.AF_UNIX)
-                self.links += [ours, theirs]
-                threading.Thread(target=self.forward, args=(ours, theirs), daemon=True).start()
-                threading.Thread(target=self.answer, args=(theirs, ours, next(self.lost, None)), daemon=True).start()
-
-    @staticmethod
-    def forward(source, target):
-        with contextlib.suppress(OSError):
-            while more := source.recv(65536):
-                target.sendall(more)
-        end(target)
-
-    def answer(self, source, target, most):
-        with contextlib.suppress(OSError):
-            for number in itertools.count():
-                frame = frame_of(source)
-                if not frame:
-                    break
-                if number == most:
-                    self.how_often += 1
-                    break
-                target.sendall(frame)
-        end(target)
-        end(source)
-
-
-def end(link):
-    with contextlib.suppress(OSError):
-        link.shutdown(socket.SHUT_RDWR)
-
-
-def frame_of(link):
-    """The next frame, or nothing at the end."""
-    head = link.recv(5, socket.MSG_WAITALL)
-    if len(head) < 5:
-        return b""
-    length = int.from_bytes(head[:4], "big")
-    return head + (link.recv(length, socket.MSG_WAITALL) if length else b"")
-
-
 def longs(*numbers):
     return array.array("Q", numbers)
 
@@ -178,16 +66,6 @@ def longs(*numbers):
 def arrays(cells):
     """Cells in three arrays."""
     return Arrays(*(longs(*(cell[field] for cell in cells)) for field in range(3)))
-
-
-def fault_of(call):
-    """What a call ends with: the name of a refusal or of an exception, or its answer."""
-    try:
-        return call()
-    except Refused as refused:
-        return str(refused)
-    except Exception as fault:
-        return type(fault).__name__
 
 
 def frames_are_spelled():
@@ -345,36 +223,6 @@ def replies_are_lost(unix):
         at.stop("lost", 23, 259)
 
 
-class Liar:
-    """Answers the first request on each connection with the same bytes, or not at all, and counts the connections."""
-
-    def __init__(self, answer):
-        self.answer, self.count = answer, 0
-        self.path = os.path.join(server.FOLDER, "liar")
-        with contextlib.suppress(FileNotFoundError):
-            os.remove(self.path)
-        self.listener = socket.socket(socket.AF_UNIX)
-        self.listener.bind(self.path)
-        self.listener.listen(16)
-        threading.Thread(target=self.accept, daemon=True).start()
-
-    def __enter__(self):
-        return self
-
-    def __exit__(self, *_):
-        end(self.listener)
-
-    def accept(self):
-        with contextlib.suppress(OSError):
-            while True:
-                with self.listener.accept()[0] as link:
-                    self.count += 1
-                    frame_of(link)
-                    if self.answer is not None:
-                        link.sendall(self.answer)
-                    link.recv(1)
-
-
 # What is no reply to a put: longer than any body, of another length, of another kind, a refusal that isn't whole.
 LIES = [
     struct.pack(">IB", (64 << 20) + 1, 0x81),
@@ -384,19 +232,6 @@ LIES = [
     struct.pack(">IBQQ", 16, 0x01, 0, 5),
     struct.pack(">IBQ", 8, 0xFF, 0),
 ]
-
-
-def silence_is_told(impatient):
-    """A server that never answers: each attempt ends by its timeout."""
-    with Liar(None) as liar:
-        with Client(unix=liar.path, client=7, timeout=0.3, attempts=2, pause=0.001) as hhm:
-            check("silence", fault_of(lambda: hhm.put(1, [(0, 0, 5)])), "TimeoutError")
-        check("silence, twice", liar.count, 2)
-    for name, program in impatient.items():
-        with Liar(None) as liar:
-            begin = time.monotonic()
-            check(f"silence to {name}", run([program, liar.path]), ("timed out\n", "", 0))
-            check(f"silence to {name}, twice", (liar.count, time.monotonic() - begin >= 0.6), (2, True))
 
 
 def lies_are_told(examples):
@@ -410,15 +245,6 @@ def lies_are_told(examples):
                 ran = run([program, "--unix", liar.path])
                 check(f"a lie to {name}: {lie.hex()}", ran, ("", "what came is no reply to what was asked\n", 4))
                 check(f"a lie to {name}, once", liar.count, 1)
-
-
-def run(words, **how):
-    """What a program writes to both outputs, and its status; no status where it doesn't end."""
-    try:
-        ended = subprocess.run(words, capture_output=True, text=True, timeout=WAIT, **how)
-    except subprocess.TimeoutExpired:
-        return "", f"it hasn't ended after {WAIT} seconds", None
-    return ended.stdout, ended.stderr, ended.returncode
 
 
 def built(name, *words):
@@ -443,10 +269,9 @@ def build_all():
     made, missing = ({}, {}, {}), 0
     for language, compiler in [("Rust", "rustc"), ("C", "cc")]:
         if shutil.which(compiler):
-            folder, impatient = os.path.join(CLIENTS, language.lower()), os.path.join(server.FOLDER, "impatient")
-            with open(impatient + {"Rust": ".rs", "C": ".c"}[language], "w") as file:
-                file.write(IMPATIENT[language] % os.path.abspath(CLIENTS))
-            sources = [os.path.join(folder, "example"), os.path.join(folder, "feed_flows"), impatient]
+            folder, drivers = os.path.join(CLIENTS, language.lower()), os.path.join(HERE, "drivers")
+            sources = [os.path.join(folder, "example"), os.path.join(folder, "feed_flows"),
+                       os.path.join(drivers, "driver")]
             for programs, source in zip(made, sources):
                 programs[language] = build(language, source)
         else:
@@ -465,7 +290,8 @@ def examples_ask_all(unix, examples):
     """Each example's calls, on a new server each, with each reply and with some of them lost."""
     path = os.path.join(server.FOLDER, "example.snap")
     for name, program in examples.items():
-        for lost in [[], [0, 0, 1, 0, 2, 1, 1, 0, 0, 1, 0, 0, 0, 0]]:
+        # (after the first put each connection begins with a status)
+        for lost in [[], [0, 0, 1, 0, 2, 1, 3, 0, 2, 3, 1, 2, 3, 2]]:
             with contextlib.suppress(FileNotFoundError):
                 os.remove(path)
             with Server([*SMALL, "--snapshot", path]) as at, Proxy(at, unix, lost) as proxy:
@@ -533,24 +359,6 @@ def line_of(chance, sums, most=300):
 def count_words(at, client, *more):
     script = os.path.join(CLIENTS, "python", "count_log.py")
     return [sys.executable, script, "--unix", at.path, "--client", str(client), *more]
-
-
-def until(call, wanted):
-    """Waits for an answer, and gives the last one."""
-    ends = time.monotonic() + WAIT
-    while (answer := call()) != wanted and time.monotonic() < ends:
-        time.sleep(0.02)
-    return answer
-
-
-@contextlib.contextmanager
-def started(words):
-    """A program, which ends here at the latest."""
-    with subprocess.Popen(words, stdout=subprocess.PIPE, stderr=subprocess.PIPE, text=True) as process:
-        try:
-            yield process
-        finally:
-            process.kill()
 
 
 def read_of(pid, path):
@@ -674,7 +482,7 @@ def main():
     server.PROGRAM = os.path.abspath(sys.argv[1])
     resource.setrlimit(resource.RLIMIT_NOFILE, (4096, resource.getrlimit(resource.RLIMIT_NOFILE)[1]))
     with tempfile.TemporaryDirectory() as server.FOLDER:
-        (examples, feeds, impatient), missing = build_all()
+        (examples, feeds, drivers), missing = build_all()
         commands = {name: [path] for name, path in feeds.items()}
         commands["Python"] = [sys.executable, os.path.join(CLIENTS, "python", "feed_flows.py")]
         frames_are_spelled()
@@ -686,11 +494,12 @@ def main():
             examples_ask_all(unix, examples)
             flows_are_fed(unix, commands)
         lies_are_told(examples)
-        silence_is_told(impatient)
         wrong_words_are_told(examples, commands)
         a_log_is_counted()
         a_log_is_followed()
         another_log_is_refused()
+        python = {"Python": [sys.executable, os.path.join(HERE, "drivers", "driver.py")]}
+        client_faults.all_are_tried({**python, **{name: [path] for name, path in drivers.items()}})
     if missing:
         print(f"{missing} not run")
     print(f"{server.passed} passed, {server.failed} failed")

@@ -1,9 +1,9 @@
 /*
  * Feeds a file of flows into a server of hhm: an example.
  *
- *     cc -O2 clients/c/feed_flows.c clients/c/hhm_client.c -o feed_flows
+ *     cc -O2 clients/c/feed_flows.c clients/c/hhm_client.c -o feed_flows_c
  *     hhm serve --unix /tmp/hhm.sock --rows 4294967296 --cols 4294967296 &
- *     ./feed_flows --unix /tmp/hhm.sock 7 flows.csv
+ *     ./feed_flows_c --unix /tmp/hhm.sock 7 flows.csv
  *
  * The file is a CSV with the head `source,destination,packets`: two IPv4 addresses, the row and the column, and a
  * count. Batch k of client 7 is its flows 10000 k to 10000 k + 9999, so a run that was interrupted is begun again with

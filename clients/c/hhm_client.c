@@ -6,15 +6,19 @@
 #include "hhm_client.h"
 
 #include <errno.h>
+#include <fcntl.h>
 #include <inttypes.h>
+#include <limits.h>
 #include <netdb.h>
 #include <netinet/in.h>
 #include <netinet/tcp.h>
+#include <poll.h>
 #include <stdio.h>
 #include <stdlib.h>
 #include <string.h>
 #include <sys/socket.h>
 #include <sys/time.h>
+#include <sys/types.h>
 #include <sys/un.h>
 #include <time.h>
 #include <unistd.h>
@@ -22,9 +26,11 @@
 enum { PUT = 0x01, CELL, ROW, STATUS, EXPORT, SAVE, STOP, PUT_CELLS };
 enum { ACCEPTED = 0x81, VALUE, ROW_SUM, COUNTS, TEXT, SAVED, STOPPING, REFUSED = 0xff };
 
-/* The bytes of the longest reply but a text, and the cells that are spelled at once. */
+/* The bytes of the longest reply but a text, the cells that are spelled at once, and the bytes of replies that are kept
+   while requests are sent, more than HHM_MOST_DEPTH replies to puts have. */
 #define MAX_SHORT 16
 #define PIECE 1024
+#define EARLY 4096
 
 struct hhm_client {
     /* Host and port, of which the port is NULL where this is the path of a Unix socket. Each has memory of its own. */
@@ -32,10 +38,19 @@ struct hhm_client {
     char *port;
     uint64_t number;
     unsigned timeout, attempts, pause;
-    /* The connection's descriptor, or -1. */
+    /* The connection's descriptor, or -1, which never blocks, and the process that made it. */
     int link;
+    pid_t process;
+    /* How many replies are owed over it: from before the first byte of a request until the last one of its reply. */
+    size_t owed;
+    /* What was read of replies while requests were sent. */
+    unsigned char early[EARLY];
+    size_t early_count;
+    /* What the highest place of a reply to a put says of the accepted batches; zeros where nothing was put. */
+    hhm_status seen;
+    hhm_books books;
     hhm_refusal refusal;
-    char message[160];
+    char message[192];
 };
 
 /* A request: numbers, and behind them a text or cells, which are the caller's. */
@@ -143,9 +158,27 @@ static hhm_result refused(hhm_client *hhm, uint16_t code, uint64_t detail)
     return HHM_REFUSED;
 }
 
+static hhm_result went_back(hhm_client *hhm, hhm_status has)
+{
+    hhm_status had = hhm->seen;
+    hhm->books.had = had;
+    hhm->books.has = has;
+    memset(&hhm->seen, 0, sizeof hhm->seen);
+    snprintf(hhm->message, sizeof hhm->message,
+             "the server went back: it had %" PRIu64 " batches with total %" PRIu64 ", and has %" PRIu64
+             " with total %" PRIu64,
+             had.batches, had.total, has.batches, has.total);
+    return HHM_BOOK_WENT_BACK;
+}
+
 hhm_refusal hhm_refused(const hhm_client *hhm)
 {
     return hhm->refusal;
+}
+
+hhm_books hhm_went_back(const hhm_client *hhm)
+{
+    return hhm->books;
 }
 
 const char *hhm_message(const hhm_client *hhm)
@@ -209,6 +242,8 @@ static void let_go(hhm_client *hhm)
     if (hhm->link >= 0)
         close(hhm->link);
     hhm->link = -1;
+    hhm->owed = 0;
+    hhm->early_count = 0;
 }
 
 void hhm_close(hhm_client *hhm)
@@ -234,26 +269,82 @@ void hhm_set_attempts(hhm_client *hhm, unsigned attempts, unsigned pause)
 
 /* Connections. Each function gives 0, or -1 with errno. */
 
-/* A call that its timeout ended says EAGAIN, or EINPROGRESS where it connects. */
-static void name_timeout(void)
+static int64_t now(void)
 {
-    if (errno == EAGAIN || errno == EWOULDBLOCK || errno == EINPROGRESS)
-        errno = ETIMEDOUT;
+    struct timespec time;
+    clock_gettime(CLOCK_MONOTONIC, &time);
+    return (int64_t)time.tv_sec * 1000 + time.tv_nsec / 1000000;
 }
 
-/* A connection to one address. The timeout holds for connecting too, by way of that of sending. */
+/* What is left of the timeout that began then, in milliseconds; -1 for ever. */
+static int left_of(const hhm_client *hhm, int64_t begin)
+{
+    int64_t left = begin + (int64_t)hhm->timeout - now();
+    if (hhm->timeout == 0)
+        return -1;
+    return left < 0 ? 0 : left > INT_MAX ? INT_MAX : (int)left;
+}
+
+/* Waits until a connection can be read or written, for what is left of the timeout. Signals end no wait. Gives the
+   events, or -1. */
+static int wait_for(const hhm_client *hhm, int link, short events, int64_t begin)
+{
+    struct pollfd it = {link, events, 0};
+    int ready;
+    while ((ready = poll(&it, 1, left_of(hhm, begin))) < 0 && errno == EINTR) {
+    }
+    if (ready == 0)
+        errno = ETIMEDOUT;
+    return ready > 0 ? it.revents : -1;
+}
+
+static int set_nonblocking(int link)
+{
+    int flags = fcntl(link, F_GETFL);
+    return flags < 0 ? -1 : fcntl(link, F_SETFL, flags | O_NONBLOCK);
+}
+
+/* Where the queue of those who wait at a Unix socket is full, connecting blocks; its timeout is that of sending. */
+static int finish_unix(const hhm_client *hhm, int link, const struct sockaddr *place, socklen_t length)
+{
+    int64_t begin = now();
+    int left;
+    while ((left = left_of(hhm, begin)) != 0) {
+        struct timeval limit = {(time_t)(left / 1000), (suseconds_t)(left % 1000 * 1000)};
+        if (left > 0 && setsockopt(link, SOL_SOCKET, SO_SNDTIMEO, &limit, sizeof limit))
+            return -1;
+        if (!connect(link, place, length))
+            return set_nonblocking(link);
+        if (errno != EINTR && errno != EAGAIN)
+            return -1;
+    }
+    errno = ETIMEDOUT;
+    return -1;
+}
+
+static int finish_tcp(const hhm_client *hhm, int link, const struct sockaddr *place, socklen_t length)
+{
+    int yes = 1, fault = 0;
+    socklen_t size = sizeof fault;
+    if (setsockopt(link, IPPROTO_TCP, TCP_NODELAY, &yes, sizeof yes) || set_nonblocking(link))
+        return -1;
+    if (!connect(link, place, length))
+        return 0;
+    if ((errno != EINPROGRESS && errno != EINTR) || wait_for(hhm, link, POLLOUT, now()) < 0 ||
+        getsockopt(link, SOL_SOCKET, SO_ERROR, &fault, &size))
+        return -1;
+    errno = fault;
+    return fault ? -1 : 0;
+}
+
+/* A connection to one address. The timeout holds for connecting too. */
 static int connected(const hhm_client *hhm, int family, const struct sockaddr *place, socklen_t length)
 {
-    struct timeval limit = {(time_t)(hhm->timeout / 1000), (suseconds_t)(hhm->timeout % 1000 * 1000)};
-    int yes = 1, link = socket(family, SOCK_STREAM, 0), kept;
+    int link = socket(family, SOCK_STREAM, 0), kept;
     if (link < 0)
         return -1;
-    if (!setsockopt(link, SOL_SOCKET, SO_RCVTIMEO, &limit, sizeof limit) &&
-        !setsockopt(link, SOL_SOCKET, SO_SNDTIMEO, &limit, sizeof limit) &&
-        (family == AF_UNIX || !setsockopt(link, IPPROTO_TCP, TCP_NODELAY, &yes, sizeof yes)) &&
-        !connect(link, place, length))
+    if (!(family == AF_UNIX ? finish_unix : finish_tcp)(hhm, link, place, length))
         return link;
-    name_timeout();
     kept = errno;
     close(link);
     errno = kept;
@@ -289,38 +380,67 @@ static int connect_tcp(const hhm_client *hhm)
     return link;
 }
 
+static int is_pause(void)
+{
+    return errno == EAGAIN || errno == EWOULDBLOCK || errno == EINTR;
+}
+
+/* Waits until more can be sent. Reads replies meanwhile, since a server reads nothing while it can't write. */
+static int wait_to_send(hhm_client *hhm, int64_t begin)
+{
+    size_t room = sizeof hhm->early - hhm->early_count;
+    int events = wait_for(hhm, hhm->link, (short)(room > 0 ? POLLOUT | POLLIN : POLLOUT), begin);
+    if (events < 0)
+        return -1;
+    if (room == 0 || !(events & POLLIN))
+        return 0;
+    ssize_t got = recv(hhm->link, hhm->early + hhm->early_count, room, 0);
+    if (got == 0)
+        errno = EPIPE;
+    hhm->early_count += got > 0 ? (size_t)got : 0;
+    return got > 0 || (got < 0 && is_pause()) ? 0 : -1;
+}
+
+/* That the server closed the connection is found out when its last reply was read. */
 static int send_bytes(hhm_client *hhm, const void *bytes, size_t count)
 {
     const unsigned char *place = (const unsigned char *)bytes;
+    int64_t begin = now();
     while (count > 0) {
         ssize_t sent = send(hhm->link, place, count, MSG_NOSIGNAL);
-        if (sent < 0 && errno == EINTR)
-            continue;
-        if (sent < 0) {
-            name_timeout();
-            return -1;
+        if (sent >= 0) {
+            place += sent;
+            count -= (size_t)sent;
+            begin = now();
+        } else if (!is_pause() || wait_to_send(hhm, begin)) {
+            return errno == EPIPE || errno == ECONNRESET ? 0 : -1;
         }
-        place += sent;
-        count -= (size_t)sent;
     }
     return 0;
+}
+
+/* Takes of what was read early as much as there is, and gives how much that was. */
+static size_t take_early(hhm_client *hhm, unsigned char *place, size_t count)
+{
+    size_t had = hhm->early_count < count ? hhm->early_count : count;
+    memcpy(place, hhm->early, had);
+    hhm->early_count -= had;
+    memmove(hhm->early, hhm->early + had, hhm->early_count);
+    return had;
 }
 
 static int receive(hhm_client *hhm, void *bytes, size_t count)
 {
     unsigned char *place = (unsigned char *)bytes;
-    while (count > 0) {
-        ssize_t got = recv(hhm->link, place, count, 0);
-        if (got < 0 && errno == EINTR)
-            continue;
+    size_t have = take_early(hhm, place, count);
+    while (have < count) {
+        ssize_t got = recv(hhm->link, place + have, count - have, 0);
         if (got == 0)
             errno = ECONNRESET;
-        if (got <= 0) {
-            name_timeout();
+        if (got > 0)
+            have += (size_t)got;
+        else if (got == 0 || !is_pause() || wait_for(hhm, hhm->link, POLLIN, now()) < 0)
             return -1;
-        }
-        place += got;
-        count -= (size_t)got;
     }
     return 0;
 }
@@ -329,6 +449,7 @@ static int receive(hhm_client *hhm, void *bytes, size_t count)
 static int send_request(hhm_client *hhm, const request *it)
 {
     unsigned char piece[21 + 24 * PIECE], *end = piece;
+    hhm->owed++;
     end = push(end, 8 * it->count + it->length + 24 * it->cell_count, 4);
     end = push(end, it->kind, 1);
     for (unsigned i = 0; i < it->count; i++)
@@ -386,6 +507,7 @@ static hhm_result read_text(hhm_client *hhm, reply *out, size_t length)
         return failed(hhm);
     }
     text[length] = 0;
+    hhm->owed--;
     out->text = text;
     out->length = length;
     return HHM_OK;
@@ -408,70 +530,18 @@ static hhm_result read_reply(hhm_client *hhm, uint8_t wanted, reply *out)
         return read_text(hhm, out, length);
     if (receive(hhm, out->bytes, length))
         return failed(hhm);
+    hhm->owed--;
     if (is_refusal) {
         uint16_t code = (uint16_t)number_at(out->bytes, 2);
         if (code == 1 || (code >= 50 && code <= 52))
             let_go(hhm);
         return refused(hhm, code, number_at(out->bytes + 2, 8));
     }
-    if (kind == VALUE && out->bytes[0] > 1) {
+    if (kind == VALUE && (out->bytes[0] > 1 || (out->bytes[0] == 0 && number_at(out->bytes + 1, 8) != 0))) {
         let_go(hhm);
         return told(hhm, HHM_BAD_REPLY, "what came is no reply to what was asked");
     }
     return HHM_OK;
-}
-
-/* One attempt: connects and sends all requests where there is no connection, and reads the reply to the first. */
-static hhm_result try_reply(hhm_client *hhm, const request *requests, size_t count, uint8_t wanted, reply *out)
-{
-    if (hhm->link < 0) {
-        hhm->link = hhm->port ? connect_tcp(hhm) : connect_unix(hhm);
-        if (hhm->link < 0)
-            return failed(hhm);
-        for (size_t i = 0; i < count; i++)
-            if (send_request(hhm, &requests[i]))
-                return failed(hhm);
-    }
-    return read_reply(hhm, wanted, out);
-}
-
-static void sleep_for(unsigned milliseconds)
-{
-    struct timespec rest = {(time_t)(milliseconds / 1000), (long)(milliseconds % 1000) * 1000000};
-    while (nanosleep(&rest, &rest) && errno == EINTR) {
-    }
-}
-
-/* The reply to the first of the requests that were sent; all are sent again where the connection failed. */
-static hhm_result first_reply(hhm_client *hhm, const request *requests, size_t count, uint8_t wanted, reply *out)
-{
-    unsigned pause = hhm->pause;
-    for (unsigned attempt = 1;; attempt++) {
-        hhm_result result = try_reply(hhm, requests, count, wanted, out);
-        if (result != HHM_FAILED)
-            return result;
-        int kept = errno;
-        let_go(hhm);
-        if (attempt >= hhm->attempts) {
-            errno = kept;
-            return result;
-        }
-        sleep_for(pause);
-        pause = pause < 5000 ? 2 * pause : 10000;
-    }
-}
-
-/* Sends a request whose reply is read later, where there is a connection; one that fails is found out then. */
-static void send_ahead(hhm_client *hhm, const request *it)
-{
-    if (hhm->link >= 0 && send_request(hhm, it))
-        let_go(hhm);
-}
-
-static hhm_result ask(hhm_client *hhm, const request *it, uint8_t wanted, reply *out)
-{
-    send_ahead(hhm, it);
-    return first_reply(hhm, it, 1, wanted, out);
 }
 
 static request of_numbers(uint8_t kind, unsigned count, uint64_t first, uint64_t second)
@@ -483,6 +553,97 @@ static request of_numbers(uint8_t kind, unsigned count, uint64_t first, uint64_t
     it.numbers[0] = first;
     it.numbers[1] = second;
     return it;
+}
+
+static hhm_status status_of(const reply *it)
+{
+    hhm_status status = {number_at(it->bytes, 8), number_at(it->bytes + 8, 8)};
+    return status;
+}
+
+/* Makes a connection. One of a client that has put batches is first asked whether they are still there. */
+static hhm_result greet(hhm_client *hhm)
+{
+    request it = of_numbers(STATUS, 0, 0, 0);
+    reply got;
+    hhm->link = hhm->port ? connect_tcp(hhm) : connect_unix(hhm);
+    hhm->process = getpid();
+    if (hhm->link < 0)
+        return failed(hhm);
+    if (hhm->seen.batches == 0)
+        return HHM_OK;
+    if (send_request(hhm, &it))
+        return failed(hhm);
+    hhm_result result = read_reply(hhm, COUNTS, &got);
+    if (result)
+        return result;
+    hhm_status has = status_of(&got);
+    if (has.batches < hhm->seen.batches || has.total < hhm->seen.total ||
+        (has.batches == hhm->seen.batches && has.total != hhm->seen.total))
+        return went_back(hhm, has);
+    return HHM_OK;
+}
+
+/* Sends the requests that weren't sent over this connection, which is made where there is none. */
+static hhm_result send_all(hhm_client *hhm, const request *requests, size_t count)
+{
+    hhm_result result = hhm->link < 0 ? greet(hhm) : HHM_OK;
+    for (size_t i = hhm->owed; i < count && result == HHM_OK; i++)
+        if (send_request(hhm, &requests[i]))
+            result = failed(hhm);
+    return result;
+}
+
+static void sleep_for(unsigned milliseconds)
+{
+    struct timespec rest = {(time_t)(milliseconds / 1000), (long)(milliseconds % 1000) * 1000000};
+    while (nanosleep(&rest, &rest) && errno == EINTR) {
+    }
+}
+
+/* The reply to the first of the requests on the way; all are sent again where the connection failed, but not a save
+   that took too long, which may be under way. Where no reply was read whole the connection is closed. */
+static hhm_result first_reply(hhm_client *hhm, const request *requests, size_t count, uint8_t wanted, reply *out)
+{
+    unsigned pause = hhm->pause;
+    for (unsigned attempt = 1;; attempt++) {
+        hhm_result result = send_all(hhm, requests, count);
+        int is_asked = result == HHM_OK;
+        if (is_asked)
+            result = read_reply(hhm, wanted, out);
+        if (result == HHM_OK || (result == HHM_REFUSED && is_asked))
+            return result;
+        int kept = errno;
+        let_go(hhm);
+        errno = kept;
+        if (result != HHM_FAILED || attempt >= hhm->attempts || (wanted == SAVED && is_asked && kept == ETIMEDOUT))
+            return result;
+        sleep_for(pause);
+        pause = pause < 5000 ? 2 * pause : 10000;
+    }
+}
+
+/* Before a call: a connection that was left amid a frame or a reply isn't used again, nor one that another process made
+   before a fork. */
+static void begin(hhm_client *hhm)
+{
+    if (hhm->owed > 0 || hhm->process != getpid())
+        let_go(hhm);
+}
+
+/* Sends the last of the requests on the way, whose replies are read later, where there is a connection; one that fails
+   is found out then. */
+static void send_ahead(hhm_client *hhm, const request *requests, size_t count)
+{
+    if (hhm->link >= 0 && send_all(hhm, requests, count))
+        let_go(hhm);
+}
+
+static hhm_result ask(hhm_client *hhm, const request *it, uint8_t wanted, reply *out)
+{
+    begin(hhm);
+    send_ahead(hhm, it, 1);
+    return first_reply(hhm, it, 1, wanted, out);
 }
 
 static request of_cells(const hhm_client *hhm, uint64_t number, const hhm_cell *cells, size_t count)
@@ -498,9 +659,14 @@ static hhm_result too_large(hhm_client *hhm)
     return told(hhm, HHM_TOO_LARGE, "a batch has at most 1048576 cells or 67108848 bytes of text");
 }
 
-static hhm_accepted accepted_of(const reply *it)
+/* The reply to a put, of which is noted what it says of the accepted batches. */
+static hhm_accepted accepted_of(hhm_client *hhm, const reply *it)
 {
     hhm_accepted accepted = {number_at(it->bytes, 8), number_at(it->bytes + 8, 8)};
+    if (accepted.index >= hhm->seen.batches) {
+        hhm->seen.batches = accepted.index + 1;
+        hhm->seen.total = accepted.total_after;
+    }
     return accepted;
 }
 
@@ -511,7 +677,7 @@ static hhm_result ask_put(hhm_client *hhm, const request *it, hhm_accepted *acce
     reply got;
     hhm_result result = ask(hhm, it, ACCEPTED, &got);
     if (result == HHM_OK)
-        *accepted = accepted_of(&got);
+        *accepted = accepted_of(hhm, &got);
     return result;
 }
 
@@ -536,15 +702,14 @@ hhm_result hhm_put_text(hhm_client *hhm, uint64_t number, const char *text, size
 hhm_result hhm_put_all(hhm_client *hhm, const hhm_batch *batches, size_t count, size_t depth, hhm_accepted *accepted,
                        size_t *answered)
 {
-    size_t most = depth > 0 ? depth : 1, first = 0, next = 0;
-    request *waiting = (request *)calloc(most, sizeof *waiting);
+    size_t most = depth == 0 ? 1 : depth > HHM_MOST_DEPTH ? HHM_MOST_DEPTH : depth, first = 0, next = 0;
+    request waiting[HHM_MOST_DEPTH];
     hhm_result result = HHM_OK;
-    if (!waiting)
-        result = told(hhm, HHM_MEMORY, "no memory for the list of batches on the way");
+    begin(hhm);
     while (result == HHM_OK && first < count) {
         for (; next < count && next - first < most && batches[next].count <= HHM_MOST_CELLS; next++) {
             waiting[next - first] = of_cells(hhm, batches[next].number, batches[next].cells, batches[next].count);
-            send_ahead(hhm, &waiting[next - first]);
+            send_ahead(hhm, waiting, next - first + 1);
         }
         if (next == first) {
             result = too_large(hhm);
@@ -553,7 +718,7 @@ hhm_result hhm_put_all(hhm_client *hhm, const hhm_batch *batches, size_t count, 
         reply got;
         result = first_reply(hhm, waiting, next - first, ACCEPTED, &got);
         if (result == HHM_OK) {
-            accepted[first++] = accepted_of(&got);
+            accepted[first++] = accepted_of(hhm, &got);
             memmove(waiting, waiting + 1, (next - first) * sizeof *waiting);
         }
     }
@@ -561,7 +726,6 @@ hhm_result hhm_put_all(hhm_client *hhm, const hhm_batch *batches, size_t count, 
     /* The replies that nobody will read must not be taken for those of later requests. */
     if (next > first)
         let_go(hhm);
-    free(waiting);
     *answered = first;
     errno = kept;
     return result;
@@ -596,10 +760,8 @@ hhm_result hhm_ask_status(hhm_client *hhm, hhm_status *status)
     request it = of_numbers(STATUS, 0, 0, 0);
     reply got;
     hhm_result result = ask(hhm, &it, COUNTS, &got);
-    if (result == HHM_OK) {
-        status->batches = number_at(got.bytes, 8);
-        status->total = number_at(got.bytes + 8, 8);
-    }
+    if (result == HHM_OK)
+        *status = status_of(&got);
     return result;
 }
 

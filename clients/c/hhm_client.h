@@ -14,7 +14,8 @@
  * total, is answered as the first one was, and isn't counted. docs/OPERATING.md tells how to choose numbers, and
  * docs/FORMATS.md describes the frames. Rows and columns count from 0.
  *
- * A client is for one thread at a time. No call raises SIGPIPE, and one that a signal interrupts goes on.
+ * A client is for one thread at a time. No call raises SIGPIPE, and one that a signal interrupts goes on. After a fork
+ * each process makes a connection of its own.
  */
 #ifndef HHM_CLIENT_H
 #define HHM_CLIENT_H
@@ -30,7 +31,11 @@ extern "C" {
 #define HHM_MOST_BODY 67108864
 #define HHM_MOST_CELLS 1048576
 
-/* A connection to a server, made when it is first needed, and made again where it is lost. */
+/* The most batches that hhm_put_all has on the way: the replies to so many fit into any socket's buffer. */
+#define HHM_MOST_DEPTH 128
+
+/* A connection to a server, made when it is first needed, and made again where it is lost. Over each new one a client
+   that has put batches first asks whether the server still has them. */
 typedef struct hhm_client hhm_client;
 
 /* A count at a place; both numbers of the place count from 0. */
@@ -88,8 +93,17 @@ typedef enum {
     /* A batch has more cells, or a text more bytes, than a server takes. Nothing was sent. */
     HHM_TOO_LARGE,
     /* There is no memory for the text of an export. The connection is closed. */
-    HHM_MEMORY
+    HHM_MEMORY,
+    /* The server lacks what it had accepted: it began again from an older snapshot, or without one; hhm_went_back tells
+       more. What this client put since the last save may be missing: put it again, with its numbers, and what this call
+       was given, of which nothing was sent to the server as it is now. The client goes on. */
+    HHM_BOOK_WENT_BACK
 } hhm_result;
+
+/* What this client's replies said of the accepted batches, and what a server that went back says of them. */
+typedef struct {
+    hhm_status had, has;
+} hhm_books;
 
 /*
  * Make a client of a server at HOST:PORT (the host of an IPv6 address in brackets), or at a Unix socket. No other
@@ -118,10 +132,10 @@ hhm_result hhm_put(hhm_client *hhm, uint64_t number, const hhm_cell *cells, size
 hhm_result hhm_put_text(hhm_client *hhm, uint64_t number, const char *text, size_t length, hhm_accepted *accepted);
 
 /*
- * Puts batches with up to `depth` of them on the way, and writes the reply to each to its place of `accepted`. Where
- * the connection is lost, all that had no reply yet are sent again. `answered` gets how many were accepted, also where
- * the result isn't HHM_OK, which then is that of the batch behind them. Those after it may have been accepted, and can
- * be put again with their numbers.
+ * Puts batches with up to `depth` of them on the way, 128 at most, and writes the reply to each to its place of
+ * `accepted`. Where the connection is lost, all that had no reply yet are sent again. `answered` gets how many were
+ * accepted, also where the result isn't HHM_OK, which then is that of the batch behind them. Those after it may have
+ * been accepted, and can be put again with their numbers.
  */
 hhm_result hhm_put_all(hhm_client *hhm, const hhm_batch *batches, size_t count, size_t depth, hhm_accepted *accepted,
                        size_t *answered);
@@ -139,7 +153,8 @@ hhm_result hhm_ask_status(hhm_client *hhm, hhm_status *status);
    that `length` doesn't count; free it with free(). */
 hhm_result hhm_export(hhm_client *hhm, char **text, size_t *length);
 
-/* Saves a snapshot where the server was told to, and gives its number of batches. */
+/* Saves a snapshot where the server was told to, and gives its number of batches. Where no answer comes in time the
+   save may be under way, and it isn't asked for again. */
 hhm_result hhm_save(hhm_client *hhm, uint64_t *batches);
 
 /* Tells the server to stop. It serves its open sessions to their ends, and saves, after the answer. Where the answer is
@@ -148,6 +163,9 @@ hhm_result hhm_stop(hhm_client *hhm);
 
 /* The refusal of the last call that gave HHM_REFUSED; zeros where there was none. */
 hhm_refusal hhm_refused(const hhm_client *hhm);
+
+/* What the last call that gave HHM_BOOK_WENT_BACK found; zeros where there was none. */
+hhm_books hhm_went_back(const hhm_client *hhm);
 
 /* The name of a code of refusal, or NULL. It lives for ever. */
 const char *hhm_code_name(uint16_t code);

@@ -13,12 +13,12 @@ behind them; with `--follow` it waits for more, until it gets SIGINT or SIGTERM;
 is added any more, it sends the last, shorter batch too. At the end it tells what this run sent. The status is 0; 1
 where the server refused a batch, or this is another log; 4 where the server can't be reached or the log read.
 
-A run that was interrupted, at whatever line, or whose server began again from an older snapshot, is begun again from
-the start with the same client number and the same log: what the server has accepted counts once. Another log, also
-one that begins anew under the same name, has another client number. Under the old one it is refused: by the server
-where the cells or the total of a batch are not as many, and else by this program, which asks for all cells of the
-first batch after it was put, where one has less than the batch gave it. (It can't tell that where other clients have
-put as much to each of these places.)
+A run that was interrupted, at whatever line, is begun again from the start with the same client number and the same
+log: what the server has accepted counts once. Where the server began again from an older snapshot while a run goes on,
+the run sends all from the log's start again by itself, and says so. Another log, also one that begins anew under the
+same name, has another client number. Under the old one it is refused: by the server where the cells or the total of a
+batch are not as many, and else by this program, which asks for all cells of the first batch after it was put, where one
+has less than the batch gave it. (It can't tell that where other clients have put as much to each of these places.)
 """
 import argparse
 import itertools
@@ -30,7 +30,7 @@ import time
 from collections import Counter, deque
 
 sys.path.insert(0, os.path.dirname(os.path.abspath(__file__)))
-from hhm_client import Client, Refused, address, number
+from hhm_client import BookWentBack, Client, Refused, address, number
 
 LINES = 10_000
 # Of how many addresses the numbers are kept.
@@ -63,6 +63,11 @@ class Feed:
         self.path, self.is_followed, self.is_ended = path, is_followed, is_ended
         self.addresses = Addresses()
         self.totals = deque()
+        self.begin()
+
+    def begin(self):
+        """Counts nothing as sent."""
+        self.totals.clear()
         self.batches = self.total = self.skipped = self.left = 0
 
     def stop(self, *_):
@@ -151,6 +156,16 @@ class Feed:
         for _ in hhm.put_all(batches, depth=1 if self.is_followed else 16):
             self.answered()
 
+    def put_until_all_are_there(self, hhm, log):
+        """Puts the batches, and again from the log's start where the server went back."""
+        while True:
+            try:
+                return self.put(hhm, log)
+            except BookWentBack as fault:
+                print(f"{fault}: the log is sent again from its start", file=sys.stderr, flush=True)
+            log.seek(0)
+            self.begin()
+
     def told(self, refused, client):
         """What is told of a refusal."""
         if isinstance(refused, AnotherLog):
@@ -179,7 +194,7 @@ def main():
     status = 0
     try:
         with Client(tcp=given.tcp, unix=given.unix, client=given.client) as hhm, open(given.log, "rb") as log:
-            feed.put(hhm, log)
+            feed.put_until_all_are_there(hhm, log)
     except (AnotherLog, Refused) as refused:
         print(feed.told(refused, given.client), file=sys.stderr)
         status = 1

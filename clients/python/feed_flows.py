@@ -16,7 +16,7 @@ import struct
 import sys
 
 sys.path.insert(0, os.path.dirname(os.path.abspath(__file__)))
-from hhm_client import Client, Refused
+from hhm_client import BookWentBack, Client, Refused
 
 LINES = 10_000
 
@@ -56,6 +56,9 @@ def main():
     except Refused as refused:
         print(f"batch {sent}: refused: {refused}", file=sys.stderr)
         return 1
+    except BookWentBack as fault:
+        print(f"{fault}: begin again with the same words", file=sys.stderr)
+        return 4
     except (OSError, ValueError) as fault:
         print(fault, file=sys.stderr)
         return 4

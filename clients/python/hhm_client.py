@@ -27,24 +27,43 @@ have the same two numbers, in all runs of all programs, for as long as the serve
 
     hhm.put(int(begin.timestamp()) // 60, cells)   # right: one batch for each minute, numbered by that minute's begin
 
-A batch is sent again with the number that it had; so keep it with its number until a save came after its reply. Two
-programs that put have different client numbers, also one after the other, unless the second goes on with the numbers
-of the first.
+A batch is sent again with the number that it had; so keep it with its number until a save came after its reply, or
+have the client keep it (`keep`). Two programs that put have different client numbers, also one after the other, unless
+the second goes on with the numbers of the first.
 
 The frames are described in docs/FORMATS.md. A refusal of the server is a `Refused` with its name; a fault of the
-connection that outlasts all attempts is an `OSError`. A `Client` is for one thread at a time.
+connection that outlasts all attempts is an `OSError`; a server that began again without what this client was told to
+be accepted is a `BookWentBack`. A call that an exception interrupts, also one of a signal's handler, closes the
+connection, and the same call may be made again. A `Client` is for one thread at a time. After a fork each process has
+a connection of its own.
 """
 import argparse
 import array
+import errno
 import itertools
+import os
+import selectors
 import socket
 import struct
 import sys
+import threading
 import time
-from typing import Any, Iterable, Iterator, List, NamedTuple, Optional, Tuple, Union
+from time import monotonic
+from typing import Any, Dict, Iterable, Iterator, List, NamedTuple, Optional, Sequence, Tuple, Union
+
+# What waits for a connection that blocks: it keeps nothing in the system, which a fork would share.
+Selector = getattr(selectors, "PollSelector", selectors.SelectSelector)
 
 MAX_BODY = 67_108_864
 MAX_CELLS = 1_048_576
+# The most batches that `put_all` has on the way: the replies to so many fit into any socket's buffer.
+MAX_DEPTH = 128
+# The bytes of replies that are read at once while a request is sent.
+EARLY = 65_536
+# Of the command line: the seconds that it waits for an answer, and what it adds to refusals.
+TIMEOUT, SAVE_TIMEOUT = 60, 600
+SPLIT = "put it as several batches, as feed_flows.py does with a CSV of flows"
+KEPT_RUNNING = ": nothing was stopped; `stop --discard` stops the server without what it can't save"
 BANNER = b"%%MatrixMarket matrix coordinate integer general\n"
 
 PUT, CELL, ROW, STATUS, EXPORT, SAVE, STOP, PUT_CELLS = range(1, 9)
@@ -52,36 +71,12 @@ ACCEPTED, VALUE, ROW_SUM, COUNTS, TEXT, SAVED, STOPPING = range(0x81, 0x88)
 REFUSED = 0xFF
 
 CODES = {
-    1: "Memory",
-    20: "DimensionsDiffer",
-    21: "SumTooLarge",
-    22: "IndexOutOfRange",
-    23: "TooManyCells",
-    30: "NumberReused",
-    31: "OverTotal",
-    32: "BookFull",
-    33: "RecordsDiffer",
-    40: "ReplyTooLarge",
-    41: "OutOfRange",
-    42: "SaveFailed",
-    43: "SaveOff",
-    50: "TooLarge",
-    51: "UnknownKind",
-    52: "BadLength",
-    103: "BadBanner",
-    104: "Unsupported",
-    105: "LineTooLong",
-    106: "BadSize",
-    107: "BadDimension",
-    108: "NotSquare",
-    109: "TooManyEntries",
-    110: "BadEntry",
-    111: "Negative",
-    112: "NumberTooLarge",
-    113: "IndexOutOfRange",
-    114: "TooFewEntries",
-    115: "ExtraText",
-    116: "TooLong",
+    1: "Memory", 20: "DimensionsDiffer", 21: "SumTooLarge", 22: "IndexOutOfRange", 23: "TooManyCells",
+    30: "NumberReused", 31: "OverTotal", 32: "BookFull", 33: "RecordsDiffer", 40: "ReplyTooLarge",
+    41: "OutOfRange", 42: "SaveFailed", 43: "SaveOff", 50: "TooLarge", 51: "UnknownKind", 52: "BadLength",
+    103: "BadBanner", 104: "Unsupported", 105: "LineTooLong", 106: "BadSize", 107: "BadDimension",
+    108: "NotSquare", 109: "TooManyEntries", 110: "BadEntry", 111: "Negative", 112: "NumberTooLarge",
+    113: "IndexOutOfRange", 114: "TooFewEntries", 115: "ExtraText", 116: "TooLong",
 }
 
 Text = Union[bytes, bytearray, memoryview]
@@ -133,6 +128,7 @@ class Refused(Exception):
 
     def __init__(self, code: int, detail: int):
         self.code = code
+        self.ends_session = code in (1, 50, 51, 52)
         self.name = CODES.get(code, f"code {code}")
         self.detail = detail
         where = {22: f" at cell {detail}", 31: f": {detail} accepted"}
@@ -141,6 +137,23 @@ class Refused(Exception):
 
 class BadReply(OSError):
     """What came is no reply to what was asked."""
+
+
+class BookWentBack(Exception):
+    """The server lacks what it had accepted: it began again from an older snapshot, or without one.
+
+    `had` is what this client's replies said of the accepted batches, `has` what the server says of them now, each a
+    `Status`. What this client put since the last save may be missing. It is to be put again, with its numbers, and so
+    is what this call was given, of which nothing was sent to the server as it is now. The client goes on.
+
+    `refused` has, of a client that keeps batches, those that were put again and refused, numbers with their `Refused`;
+    they are kept no longer.
+    """
+
+    def __init__(self, had: Status, has: Status, refused: Sequence[Tuple[int, Refused]] = ()):
+        self.had, self.has, self.refused = had, has, list(refused)
+        told = "the server went back: it had %d batches with total %d, and has %d with total %d" % (*had, *has)
+        super().__init__(told + "".join(f"; batch {number}: refused: {why}" for number, why in self.refused))
 
 
 def text_of(rows: int, cols: int, cells: Cells) -> bytes:
@@ -234,15 +247,156 @@ def judge_count(count: int) -> None:
         raise ValueError(f"a batch of {count} cells: at most {MAX_CELLS} are taken, so send it in several")
 
 
+def connected_unix(path: str, timeout: Optional[float]) -> socket.socket:
+    """A connection to a Unix socket. Where the queue of those who wait there is full, it is tried until the timeout."""
+    begin = monotonic()
+    while True:
+        link = socket.socket(socket.AF_UNIX)
+        link.setblocking(False)
+        fault = link.connect_ex(path)
+        if fault == 0:
+            return link
+        link.close()
+        if fault != errno.EAGAIN:
+            raise OSError(fault, os.strerror(fault), path)
+        if timeout is not None and monotonic() - begin >= timeout:
+            raise socket.timeout("timed out")
+        time.sleep(0.01)
+
+
+def connected_tcp(address: str, timeout: Optional[float]) -> socket.socket:
+    try:
+        link = socket.create_connection(host_and_port(address), timeout)
+    except OSError as fault:
+        fault.filename = address
+        raise
+    link.setsockopt(socket.IPPROTO_TCP, socket.TCP_NODELAY, 1)
+    link.setblocking(False)
+    return link
+
+
+def went_back(known: Status, has: Status) -> bool:
+    """Whether a book that had, once, so many batches with such a total isn't the front of one that has these."""
+    is_shorter = has.batches < known.batches or has.total < known.total
+    return is_shorter or (has.batches == known.batches and has.total != known.total)
+
+
+class Link:
+    """A connection, which knows how many replies are owed.
+
+    A request is owed its reply from before its first byte is sent until the last one of the reply was read, so a
+    connection that was left in between, by whatever exception, is known by it.
+    """
+
+    def __init__(self, tcp: Optional[str], unix: Optional[str], timeout: Optional[float]):
+        self.timeout = timeout
+        self.process = os.getpid()
+        self.owed = 0
+        self._early = bytearray()
+        self._socket = connected_tcp(tcp, timeout) if unix is None else connected_unix(unix, timeout)
+
+    def close(self) -> None:
+        """Lets the connection go. One that another process made too stays open for that one."""
+        self._socket.close()
+
+    def send(self, frame: bytes) -> None:
+        """Sends a request. Replies that come meanwhile are read, since a server reads nothing while it can't write.
+
+        That the server closed the connection is found out when its last reply was read.
+        """
+        self.owed += 1
+        rest = memoryview(frame)
+        while rest:
+            try:
+                rest = rest[self._socket.send(rest) :]
+            except (BrokenPipeError, ConnectionResetError):
+                return
+            except BlockingIOError:
+                reads = selectors.EVENT_READ if len(self._early) < EARLY else 0
+                if self._wait(selectors.EVENT_WRITE | reads) & reads and not self._read_early():
+                    return
+
+    def reply(self) -> Tuple[int, bytes]:
+        """The kind and the body of the next reply."""
+        length, kind = struct.unpack(">IB", self._receive(5))
+        if length > MAX_BODY:
+            raise BadReply(f"a reply of {length} bytes")
+        body = bytes(self._receive(length))
+        self.owed -= 1
+        return kind, body
+
+    def replies(self, frames: Iterable[bytes], depth: int = 16) -> Iterator[Tuple[int, bytes]]:
+        """The replies to requests, of which up to `depth` are on the way."""
+        source = iter(frames)
+        while True:
+            for frame in itertools.islice(source, depth - self.owed):
+                self.send(frame)
+            if not self.owed:
+                return
+            yield self.reply()
+
+    def _wait(self, events: int) -> int:
+        """Waits until the connection can be read or written, and tells which of these events it was."""
+        with Selector() as selector:
+            selector.register(self._socket, events)
+            ready = selector.select(self.timeout)
+        if not ready:
+            raise socket.timeout("timed out")
+        return ready[0][1]
+
+    def _read_early(self) -> bool:
+        """Reads what has come, and tells whether that was anything but the end."""
+        more = self._socket.recv(EARLY)
+        self._early += more
+        return bool(more)
+
+    def _receive(self, count: int) -> bytearray:
+        data = bytearray(count)
+        view, have = memoryview(data), min(count, len(self._early))
+        view[:have] = self._early[:have]
+        del self._early[:have]
+        while have < count:
+            try:
+                got = self._socket.recv_into(view[have:])
+            except BlockingIOError:
+                self._wait(selectors.EVENT_READ)
+                continue
+            if got == 0:
+                raise ConnectionError("the server closed the connection")
+            have += got
+        return data
+
+
+class Ahead:
+    """The batches on the way, by their numbers and frames, and those that are to be sent."""
+
+    def __init__(self, source: Iterator[Tuple[int, bytes]]):
+        self.numbers: List[int] = []
+        self.frames: List[bytes] = []
+        self.source = source
+        # One that was taken from the source and must wait.
+        self.held: Optional[Tuple[int, bytes]] = None
+
+    def next_batch(self) -> Optional[Tuple[int, bytes]]:
+        batch, self.held = self.held, None
+        return batch or next(self.source, None)
+
+
 class Client:
     """A connection to a server, made when it is first needed, and made again where it is lost.
 
     `tcp` is "host:port" and `unix` a path; give one of them. `client` is the client's number, from 0 to 2^64 - 1, which
     no other program uses: with a batch's own number it tells batches apart, as the text of this module says.
-    `timeout` is in seconds, for the sending of a request and for each piece of its answer.
+    `timeout` is in seconds, for how long the sending of a request, or its answer, may stand still.
     `attempts` is how often a request is sent before a fault of the connection is given up, with `pause` seconds after
     the first fault and twice as many after each further one, at most ten. By the defaults the last attempt comes after
     62 seconds of pauses, since a server that starts from a million batches answers only after ten or so.
+
+    Over each new connection a client that has put batches first asks for the status, and raises a `BookWentBack` where
+    the server has less than was accepted. With `keep`, a number of bytes, it keeps the frames of accepted batches (24
+    bytes a cell) until a `save` of its own that came after them was answered, and puts all of them again over each new
+    connection, before anything else; what a server lost is then there again, and only what it lost of before that save
+    is a BookWentBack. A put that would pass these bytes saves first, so the server must have a snapshot.
     """
 
     def __init__(
@@ -254,15 +408,22 @@ class Client:
         timeout: Optional[float] = 60,
         attempts: int = 14,
         pause: float = 0.05,
+        keep: Optional[int] = None,
     ):
         if (tcp is None) == (unix is None):
             raise ValueError("give tcp or unix, and not both")
         if tcp is not None:
             host_and_port(tcp)
         self.tcp, self.unix, self.client = tcp, unix, client
-        self.timeout, self.attempts, self.pause = timeout, attempts, pause
-        self._link: Optional[socket.socket] = None
+        self.timeout, self.attempts, self.pause, self.keep = timeout, attempts, pause, keep
+        self._link: Optional[Link] = None
         self._is_ahead = False
+        # What the highest place of a reply to a put says of the accepted batches, and what it said at the last save.
+        self._seen: Optional[Status] = None
+        self._saved: Optional[Status] = None
+        # The frames that are kept, by the client's number and the batch's, and their bytes.
+        self._kept: Dict[Tuple[int, int], bytes] = {}
+        self._kept_bytes = 0
 
     def __enter__(self) -> "Client":
         return self
@@ -272,9 +433,9 @@ class Client:
 
     def close(self) -> None:
         """Lets the connection go. What was accepted stays accepted."""
-        if self._link is not None:
-            self._link.close()
-            self._link = None
+        link, self._link = self._link, None
+        if link is not None:
+            link.close()
 
     # What a client asks.
 
@@ -285,39 +446,32 @@ class Client:
         one was, and not counted. What isn't three numbers of 64 bits, or too many, is a ValueError or a TypeError, and
         nothing was sent.
         """
-        return self._accepted(self._ask(put_cells_frame(self.client, number, cells), ACCEPTED, 16))
+        return self._put(number, put_cells_frame(self.client, number, cells))
 
     def put_text(self, number: int, text: Text) -> Accepted:
         """Puts a batch that is a Matrix Market text of the server's dimensions."""
-        return self._accepted(self._ask(put_frame(self.client, number, text), ACCEPTED, 16))
+        return self._put(number, put_frame(self.client, number, text))
 
     def put_all(self, batches: Iterable[Tuple[int, Cells]], depth: int = 16) -> Iterator[Tuple[int, Accepted]]:
         """Puts batches (number, cells) and gives (number, reply), in order, with up to `depth` of them on the way.
 
         Where the connection is lost, all that had no reply yet are sent again. A refused batch raises its `Refused`
         when its turn comes; those behind it may have been accepted, and can be put again with their numbers. No other
-        call may be made until all replies were given, or what this gave was closed. The frames on the way are kept in
-        memory, 24 bytes a cell.
+        call may be made until all replies were given, or what this gave was closed. The frames on the way, at most 128,
+        are kept in memory, 24 bytes a cell.
         """
-        if self._is_ahead:
-            raise RuntimeError("the replies of another put_all haven't all come")
-        waiting: List[Tuple[int, bytes]] = []
-        source = iter(batches)
+        self._begin()
+        ahead = Ahead((number, put_cells_frame(self.client, number, cells)) for number, cells in batches)
         self._is_ahead = True
         try:
-            while True:
-                for number, cells in itertools.islice(source, max(1, depth - len(waiting))):
-                    waiting.append((number, put_cells_frame(self.client, number, cells)))
-                    self._send_ahead(waiting[-1][1], connects=len(waiting) == 1)
-                if not waiting:
-                    return
-                reply = self._first_reply([frame for _, frame in waiting], ACCEPTED, 16)
-                number, _ = waiting.pop(0)
-                yield number, self._accepted(reply)
+            while self._fill(ahead, max(1, min(depth, MAX_DEPTH))):
+                reply = self._first_reply(ahead.frames, ACCEPTED, 16)
+                number, frame = ahead.numbers.pop(0), ahead.frames.pop(0)
+                yield number, self._noted(number, frame, reply)
         finally:
             # The replies that nobody will read must not be taken for those of later requests.
             self._is_ahead = False
-            if waiting:
+            if ahead.frames:
                 self.close()
 
     def cell(self, row: int, col: int) -> Optional[int]:
@@ -338,8 +492,13 @@ class Client:
         return self._ask(request(EXPORT), TEXT, None)
 
     def save(self) -> int:
-        """Saves a snapshot where the server was told to, and gives its number of batches."""
-        return struct.unpack(">Q", self._ask(request(SAVE), SAVED, 8))[0]
+        """Saves a snapshot where the server was told to, and gives its number of batches.
+
+        Where no answer comes in time the save may be under way, and it isn't asked for again.
+        """
+        (batches,) = struct.unpack(">Q", self._ask(request(SAVE), SAVED, 8))
+        self._kept, self._kept_bytes, self._saved = {}, 0, self._seen
+        return batches
 
     def stop(self) -> None:
         """Tells the server to stop. It serves its open sessions to their ends, and saves, after the answer.
@@ -351,52 +510,108 @@ class Client:
 
     # How it is asked.
 
-    @staticmethod
-    def _accepted(body: bytes) -> Accepted:
-        return Accepted(*struct.unpack(">QQ", body))
+    def _begin(self) -> None:
+        """Before a call: a connection that an interrupted one left amid a frame or a reply isn't used again."""
+        if self._is_ahead:
+            raise RuntimeError("the replies of a put_all come first")
+        if self._link is not None and self._link.owed:
+            self.close()
 
-    def _connect(self) -> socket.socket:
+    def _ask(self, frame: bytes, wanted: int, length: Optional[int]) -> bytes:
+        """Sends a request and reads its reply."""
+        self._begin()
+        self._send_ahead([frame])
+        return self._first_reply([frame], wanted, length)
+
+    def _put(self, number: int, frame: bytes) -> Accepted:
+        if not self._has_room(frame):
+            self.save()
+        return self._noted(number, frame, self._ask(frame, ACCEPTED, 16))
+
+    def _fill(self, ahead: Ahead, depth: int) -> bool:
+        """Sends batches until so many are on the way, or a save must come first. Tells whether any is on the way."""
+        while len(ahead.frames) < depth and (batch := ahead.next_batch()):
+            if not self._has_room(batch[1], ahead.frames):
+                if ahead.frames:
+                    ahead.held = batch
+                    break
+                self._is_ahead = False
+                self.save()
+                self._is_ahead = True
+            ahead.numbers.append(batch[0])
+            ahead.frames.append(batch[1])
+            self._send_ahead(ahead.frames, connects=len(ahead.frames) == 1)
+        return bool(ahead.frames)
+
+    def _has_room(self, frame: bytes, on_the_way: Sequence[bytes] = ()) -> bool:
+        """Whether a frame can be kept before a save. A ValueError where it can't behind one either."""
+        if self.keep is None:
+            return True
+        if len(frame) > self.keep:
+            raise ValueError(f"a batch of {len(frame)} bytes, and at most {self.keep} are kept")
+        return self._kept_bytes + sum(map(len, on_the_way)) + len(frame) <= self.keep
+
+    def _noted(self, number: int, frame: bytes, body: bytes) -> Accepted:
+        """The reply to a put, of which is noted what it says of the accepted batches."""
+        accepted = Accepted(*struct.unpack(">QQ", body))
+        if self._seen is None or accepted.index >= self._seen.batches:
+            self._seen = Status(accepted.index + 1, accepted.total_after)
+        if self.keep is not None:
+            key = self.client, number
+            self._kept_bytes += len(frame) - len(self._kept.get(key, b""))
+            self._kept[key] = frame
+        return accepted
+
+    def _linked(self) -> Link:
+        """The connection; a new one where there is none, or another process made it before a fork."""
+        if self._link is not None and self._link.process != os.getpid():
+            self.close()
         if self._link is None:
-            if self.unix is not None:
-                link = socket.socket(socket.AF_UNIX)
-                link.settimeout(self.timeout)
-                try:
-                    link.connect(self.unix)
-                except OSError:
-                    link.close()
-                    raise
-            else:
-                link = socket.create_connection(host_and_port(self.tcp), self.timeout)
-                link.setsockopt(socket.IPPROTO_TCP, socket.TCP_NODELAY, 1)
+            link = Link(self.tcp, self.unix, self.timeout)
+            try:
+                self._greet(link)
+            except BaseException:
+                link.close()
+                raise
             self._link = link
         return self._link
 
-    def _receive(self, count: int) -> bytearray:
-        data = bytearray(count)
-        view, have = memoryview(data), 0
-        while have < count:
-            got = self._link.recv_into(view[have:])
-            if got == 0:
-                raise ConnectionError("the server closed the connection")
-            have += got
-        return data
+    def _greet(self, link: Link) -> None:
+        """Over a new connection: asks whether what was accepted is still there, and puts again what is kept."""
+        if self._seen is None and not self._kept:
+            return
+        link.send(request(STATUS))
+        has = Status(*struct.unpack(">QQ", self._checked(link.reply(), COUNTS, 16)))
+        known = self._seen if self.keep is None else self._saved
+        if known is not None and went_back(known, has):
+            self._seen = self._saved = None
+            raise BookWentBack(known, has)
+        self._put_kept(link, has)
 
-    def _reply(self) -> Tuple[int, bytes]:
-        length, kind = struct.unpack(">IB", self._receive(5))
-        if length > MAX_BODY:
-            self.close()
-            raise BadReply(f"a reply of {length} bytes")
-        return kind, bytes(self._receive(length))
+    def _put_kept(self, link: Link, has: Status) -> None:
+        kept, refused = list(self._kept.items()), []
+        had, self._seen = self._seen, self._saved if self._kept else self._seen
+        for ((client, number), frame), reply in zip(kept, link.replies(frame for _, frame in kept)):
+            try:
+                self._noted(number, frame, self._checked(reply, ACCEPTED, 16))
+            except Refused as why:
+                if why.ends_session:
+                    raise
+                refused.append((number, why))
+                self._kept_bytes -= len(self._kept.pop((client, number)))
+        if refused:
+            raise BookWentBack(had or has, has, refused)
 
-    def _checked(self, kind: int, body: bytes, wanted: int, length: Optional[int]) -> bytes:
+    @staticmethod
+    def _checked(reply: Tuple[int, bytes], wanted: int, length: Optional[int]) -> bytes:
+        """The body of a reply that is of this kind and length; a `Refused` or a `BadReply` else."""
+        kind, body = reply
         if kind == REFUSED and len(body) == 10:
-            code, detail = struct.unpack(">HQ", body)
-            if code in (1, 50, 51, 52):
-                self.close()
-            raise Refused(code, detail)
+            raise Refused(*struct.unpack(">HQ", body))
         if kind != wanted or (length is not None and len(body) != length):
-            self.close()
             raise BadReply(f"a reply of kind {kind:02x} with {len(body)} bytes, and kind {wanted:02x} was asked for")
+        if kind == VALUE and (body[0] > 1 or (body[0] == 0 and any(body))):
+            raise BadReply(f"{body.hex()} is no value")
         return body
 
     def _attempts(self) -> Iterator[int]:
@@ -407,40 +622,42 @@ class Client:
                 pause = min(2 * pause, 10)
             yield attempt
 
-    def _ask(self, frame: bytes, wanted: int, length: Optional[int]) -> bytes:
-        """Sends a request and reads its reply."""
-        if self._is_ahead:
-            raise RuntimeError("the replies of a put_all come first")
-        self._send_ahead(frame)
-        return self._first_reply([frame], wanted, length)
-
-    def _send_ahead(self, frame: bytes, connects: bool = False) -> None:
-        """Sends a request whose reply is read later, where there is a link; one that fails is found out then."""
+    def _send_ahead(self, frames: List[bytes], connects: bool = False) -> None:
+        """Sends the last of these requests, whose replies are read later, where there is a connection to send it over,
+        or one is to be made. One that fails is found out when the reply is read."""
         try:
-            if connects:
-                self._connect()
-            if self._link is not None:
-                self._link.sendall(frame)
-        except OSError:
+            if self._link is not None or connects:
+                self._send(frames)
+        except BaseException as fault:
             self.close()
+            if not isinstance(fault, OSError):
+                raise
 
-    def _first_reply(self, frames: list, wanted: int, length: Optional[int]) -> bytes:
-        """The reply to the first of the requests that were sent; all are sent again where the link failed."""
+    def _send(self, frames: List[bytes]) -> Link:
+        """Sends the requests that weren't sent over this connection, which is made where there is none."""
+        link = self._linked()
+        for frame in frames[link.owed :]:
+            link.send(frame)
+        return link
+
+    def _first_reply(self, frames: List[bytes], wanted: int, length: Optional[int]) -> bytes:
+        """The reply to the first of the requests that are on the way; all are sent again where the connection failed.
+        Nothing but a reply that was read whole leaves the connection open."""
         fault: Exception = ConnectionError("no attempt")
         for _ in self._attempts():
             try:
-                if self._link is None:
-                    link = self._connect()
-                    for frame in frames:
-                        link.sendall(frame)
-                kind, body = self._reply()
-            except BadReply:
+                return self._checked(self._send(frames).reply(), wanted, length)
+            except Refused as refused:
+                if refused.ends_session:
+                    self.close()
                 raise
-            except OSError as error:
+            except BaseException as error:
+                is_save = wanted == SAVED and self._link is not None
                 self.close()
+                is_final = isinstance(error, BadReply) or (is_save and isinstance(error, socket.timeout))
+                if is_final or not isinstance(error, OSError):
+                    raise
                 fault = error
-                continue
-            return self._checked(kind, body, wanted, length)
         raise fault
 
 
@@ -466,9 +683,10 @@ def parser() -> argparse.ArgumentParser:
     where = words.add_mutually_exclusive_group(required=True)
     where.add_argument("--tcp", type=address, metavar="HOST:PORT")
     where.add_argument("--unix", metavar="PATH")
-    words.add_argument("--timeout", type=float, default=60, metavar="SECONDS", help="for each answer (60)")
-    attempts = "how often a request is sent (14, for a minute where no server is there)"
-    words.add_argument("--attempts", type=int, default=14, metavar="N", help=attempts)
+    timeout = f"for each answer ({TIMEOUT}; {SAVE_TIMEOUT} for a save, which takes longer the more was accepted)"
+    words.add_argument("--timeout", type=float, metavar="SECONDS", help=timeout)
+    attempts = "how often a request is sent (3, within a moment; 14 try for a minute, as a server may that is starting)"
+    words.add_argument("--attempts", type=int, default=3, metavar="N", help=attempts)
     asked = words.add_subparsers(dest="word", required=True)
     put = asked.add_parser("put", help="puts a Matrix Market text as a batch")
     put.add_argument("client", type=number)
@@ -482,20 +700,36 @@ def parser() -> argparse.ArgumentParser:
     asked.add_parser("status", help="the number of accepted batches, and their total")
     asked.add_parser("export", help="writes the sum as a Matrix Market text")
     asked.add_parser("save", help="saves a snapshot")
-    asked.add_parser("stop", help="stops the server")
+    stop = asked.add_parser("stop", help="saves, where the server has a place for snapshots, and stops the server")
+    stop.add_argument("--discard", action="store_true", help="stops it also where saving fails, without trying first")
     return words
 
 
-def answer(hhm: Client, given: argparse.Namespace) -> bytes:
+def text_to_put(path: Optional[str]) -> bytes:
+    """The text of a file, or of standard input. A ValueError where no batch can be so long."""
+    most = MAX_BODY - 16
+    with sys.stdin.buffer if path is None else open(path, "rb") as file:
+        text = file.read(most + 1)
+    if len(text) > most:
+        raise ValueError(f"{path or 'the text'} has more than the {most} bytes of a batch: {SPLIT}")
+    return text
+
+
+def stop(hhm: Client, discards: bool) -> None:
+    """Stops the server, which saves first where it has a place for snapshots, unless what isn't saved may be lost."""
+    try:
+        if not discards:
+            hhm.save()
+    except Refused as refused:
+        if refused.name != "SaveOff":
+            raise
+    hhm.stop()
+
+
+def answer(hhm: Client, given: argparse.Namespace, text: bytes) -> bytes:
     """Does what the command line asks, and gives what is to be printed."""
     if given.word == "put":
-        if given.file is None:
-            text = sys.stdin.buffer.read()
-        else:
-            with open(given.file, "rb") as file:
-                text = file.read()
-        accepted = hhm.put_text(given.number, text)
-        return b"index %d total_after %d\n" % accepted
+        return b"index %d total_after %d\n" % hhm.put_text(given.number, text)
     if given.word == "cell":
         count = hhm.cell(given.row, given.col)
         return b"none\n" if count is None else b"%d\n" % count
@@ -503,29 +737,51 @@ def answer(hhm: Client, given: argparse.Namespace) -> bytes:
         return b"entries %d total %d\n" % hhm.row(given.row)
     if given.word == "status":
         return b"batches %d total %d\n" % hhm.status()
-    if given.word == "export":
-        return hhm.export()
-    if given.word == "save":
-        return b"saved %d\n" % hhm.save()
-    hhm.stop()
+    if given.word in ("export", "save"):
+        return hhm.export() if given.word == "export" else b"saved %d\n" % hhm.save()
+    stop(hhm, given.discard)
     return b"stopping\n"
+
+
+def asked(given: argparse.Namespace) -> bytes:
+    """Asks, and tells after two seconds that it waits."""
+    text = text_to_put(given.file) if given.word == "put" else b""
+    place = given.unix if given.tcp is None else given.tcp
+    waits = threading.Timer(2, lambda: print(f"waiting for the server at {place}", file=sys.stderr, flush=True))
+    waits.daemon = True
+    client = given.client if given.word == "put" else 0
+    usual = SAVE_TIMEOUT if given.word in ("save", "stop") else TIMEOUT
+    limits = {"timeout": usual if given.timeout is None else given.timeout, "attempts": given.attempts}
+    waits.start()
+    try:
+        with Client(tcp=given.tcp, unix=given.unix, client=client, **limits) as hhm:
+            return answer(hhm, given, text)
+    finally:
+        waits.cancel()
+
+
+def words_of(fault: Exception) -> str:
+    """A fault in words, a file's or an address' with its name."""
+    if isinstance(fault, OSError) and fault.filename is not None and fault.strerror:
+        return f"{fault.filename}: {fault.strerror}"
+    return str(fault)
 
 
 def main() -> int:
     """The command line. 0; 1 where the server refused; 2 for bad words; 4 where it can't be reached or a file read."""
     given = parser().parse_args()
-    client = given.client if given.word == "put" else 0
     try:
-        limits = {"timeout": given.timeout, "attempts": given.attempts}
-        with Client(tcp=given.tcp, unix=given.unix, client=client, **limits) as hhm:
-            sys.stdout.buffer.write(answer(hhm, given))
-            sys.stdout.buffer.flush()
+        sys.stdout.buffer.write(asked(given))
+        sys.stdout.buffer.flush()
     except Refused as refused:
-        print(f"refused: {refused}", file=sys.stderr)
+        advice = {"TooManyEntries": f": {SPLIT}"}.get(refused.name, "") if given.word != "stop" else KEPT_RUNNING
+        print(f"refused: {refused}{advice}", file=sys.stderr)
         return 1
     except (OSError, ValueError) as error:
-        print(f"failed: {error}", file=sys.stderr)
+        print(f"failed: {words_of(error)}", file=sys.stderr)
         return 4
+    except KeyboardInterrupt:
+        return 130
     return 0
 
 

@@ -1,8 +1,8 @@
 //! Asks a server everything once, and stops it. It is for a new server of three rows and three columns:
 //!
-//!     rustc -O --edition 2021 clients/rust/example.rs -o example
+//!     rustc -O --edition 2021 clients/rust/example.rs -o example_rust
 //!     hhm serve --unix /tmp/hhm.sock --rows 3 --cols 3 --snapshot /tmp/hhm.snap &
-//!     ./example --unix /tmp/hhm.sock
+//!     ./example_rust --unix /tmp/hhm.sock
 
 mod hhm_client;
 

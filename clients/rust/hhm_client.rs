@@ -17,6 +17,9 @@
 //! So a pair of numbers belongs to one batch for ever: another batch under a known pair, with as many cells and the
 //! same total, is answered as the first one was, and isn't counted. `docs/OPERATING.md` tells how to choose numbers,
 //! and `docs/FORMATS.md` describes the frames. Rows and columns count from 0.
+//!
+//! A call that panics, in what the caller gave it, closes the connection. After a fork each process makes a connection
+//! of its own.
 
 // A program uses some of it.
 #![allow(dead_code)]
@@ -25,15 +28,20 @@ use std::collections::VecDeque;
 use std::fmt;
 use std::io::{self, Read, Write};
 use std::net::{TcpStream, ToSocketAddrs};
+use std::os::fd::OwnedFd;
 use std::os::unix::net::UnixStream;
-use std::path::PathBuf;
+use std::path::{Path, PathBuf};
+use std::process;
+use std::sync::mpsc;
 use std::thread;
-use std::time::Duration;
+use std::time::{Duration, Instant};
 
 /// The bytes of the longest body of a frame.
 pub const MAX_BODY: usize = 67_108_864;
 /// The most cells of a batch.
 pub const MAX_CELLS: usize = 1_048_576;
+/// The most batches that `put_all` has on the way: the replies to so many fit into any socket's buffer.
+pub const MAX_DEPTH: usize = 128;
 
 /// A count at a place; both numbers of the place count from 0.
 #[derive(Clone, Copy, Debug, PartialEq, Eq)]
@@ -142,6 +150,11 @@ pub enum Error {
     TooLarge,
     /// What came is no reply to what was asked. The connection is closed.
     BadReply,
+    /// The server lacks what it had accepted: it began again from an older snapshot, or without one. `had` is what this
+    /// client's replies said of the accepted batches, `has` what the server says of them now. What this client put
+    /// since the last save may be missing: put it again, with its numbers, and what this call was given, of which
+    /// nothing was sent to the server as it is now. The client goes on.
+    BookWentBack { had: Status, has: Status },
     /// A fault of the connection that outlasted all attempts. Whether a put was accepted isn't known: put it again with
     /// its number.
     Io(io::Error),
@@ -157,6 +170,11 @@ impl fmt::Display for Error {
                 MAX_BODY - 16
             ),
             Error::BadReply => out.write_str("what came is no reply to what was asked"),
+            Error::BookWentBack { had, has } => write!(
+                out,
+                "the server went back: it had {} batches with total {}, and has {} with total {}",
+                had.batches, had.total, has.batches, has.total
+            ),
             Error::Io(fault) => fault.fmt(out),
         }
     }
@@ -182,31 +200,133 @@ enum Address {
     Unix(PathBuf),
 }
 
-enum Link {
-    Tcp(TcpStream),
-    Unix(UnixStream),
+/// For how long a write may block before it is looked whether replies came.
+const PATIENCE: Duration = Duration::from_millis(50);
+
+/// A connection of this process. Who leaves one amid a frame or a reply drops it.
+struct Link {
+    /// A socket, of TCP too: reads, writes and timeouts are the same calls.
+    stream: UnixStream,
+    timeout: Option<Duration>,
+    process: u32,
+    /// What was read of replies while requests were sent.
+    early: VecDeque<u8>,
 }
 
-impl Read for Link {
-    fn read(&mut self, buffer: &mut [u8]) -> io::Result<usize> {
-        match self {
-            Link::Tcp(link) => link.read(buffer),
-            Link::Unix(link) => link.read(buffer),
-        }
-    }
-}
-
-impl Write for Link {
-    fn write(&mut self, bytes: &[u8]) -> io::Result<usize> {
-        match self {
-            Link::Tcp(link) => link.write(bytes),
-            Link::Unix(link) => link.write(bytes),
-        }
+impl Link {
+    fn new(stream: UnixStream, timeout: Option<Duration>) -> io::Result<Link> {
+        stream.set_read_timeout(timeout)?;
+        stream.set_write_timeout(Some(timeout.map_or(PATIENCE, |it| it.min(PATIENCE))))?;
+        Ok(Link {
+            stream,
+            timeout,
+            process: process::id(),
+            early: VecDeque::new(),
+        })
     }
 
-    fn flush(&mut self) -> io::Result<()> {
+    /// What is left of the timeout since then; a fault where nothing is.
+    fn left(&self, since: Instant) -> io::Result<Option<Duration>> {
+        let left = self.timeout.map(|it| it.saturating_sub(since.elapsed()));
+        match left {
+            Some(Duration::ZERO) => Err(io::ErrorKind::TimedOut.into()),
+            left => Ok(left),
+        }
+    }
+
+    /// Sends a request. Replies that come meanwhile are read, since a server reads nothing while it can't write. That the
+    /// server closed the connection is found out when its last reply was read.
+    fn send(&mut self, mut rest: &[u8]) -> io::Result<()> {
+        let mut since = Instant::now();
+        while !rest.is_empty() {
+            match self.stream.write(rest) {
+                Ok(0) => return Err(io::ErrorKind::WriteZero.into()),
+                Ok(count) => {
+                    rest = &rest[count..];
+                    since = Instant::now();
+                }
+                Err(fault) if is_pause(&fault) => {
+                    self.left(since)?;
+                    self.read_early()?;
+                }
+                Err(fault) if is_end(&fault) => return Ok(()),
+                Err(fault) => return Err(fault),
+            }
+        }
         Ok(())
     }
+
+    /// Reads what has come, some thousand replies at most.
+    fn read_early(&mut self) -> io::Result<()> {
+        let mut piece = [0; 4096];
+        if self.early.len() < 16 * piece.len() {
+            self.stream.set_nonblocking(true)?;
+            let got = self.stream.read(&mut piece);
+            self.stream.set_nonblocking(false)?;
+            match got {
+                Ok(count) => self.early.extend(&piece[..count]),
+                Err(fault) if is_pause(&fault) => {}
+                Err(fault) => return Err(fault),
+            }
+        }
+        Ok(())
+    }
+
+    /// Fills a buffer with the next bytes of replies.
+    fn receive(&mut self, buffer: &mut [u8]) -> io::Result<()> {
+        let mut have = self.early.len().min(buffer.len());
+        buffer
+            .iter_mut()
+            .zip(self.early.drain(..have))
+            .for_each(|(to, from)| *to = from);
+        let mut since = Instant::now();
+        let mut is_cut = false;
+        while have < buffer.len() {
+            match self.stream.read(&mut buffer[have..]) {
+                Ok(0) => return Err(io::ErrorKind::UnexpectedEof.into()),
+                Ok(count) => {
+                    have += count;
+                    since = Instant::now();
+                    if is_cut {
+                        self.stream.set_read_timeout(self.timeout)?;
+                        is_cut = false;
+                    }
+                }
+                Err(fault) if is_pause(&fault) => {
+                    let left = self.left(since)?;
+                    self.stream.set_read_timeout(left)?;
+                    is_cut = true;
+                }
+                Err(fault) => return Err(fault),
+            }
+        }
+        Ok(())
+    }
+}
+
+/// Whether a call did nothing since nothing came in time, or a signal interrupted it.
+fn is_pause(fault: &io::Error) -> bool {
+    use io::ErrorKind::{Interrupted, TimedOut, WouldBlock};
+    matches!(fault.kind(), Interrupted | TimedOut | WouldBlock)
+}
+
+fn is_end(fault: &io::Error) -> bool {
+    use io::ErrorKind::{BrokenPipe, ConnectionReset};
+    matches!(fault.kind(), BrokenPipe | ConnectionReset)
+}
+
+/// Connects to a Unix socket. The connecting blocks where the queue of those who wait there is full, and the standard
+/// library has no timeout for it, so a thread does it, which is left alone after the timeout.
+fn connect_unix(path: &Path, timeout: Option<Duration>) -> io::Result<UnixStream> {
+    let Some(timeout) = timeout else {
+        return UnixStream::connect(path);
+    };
+    let (sender, receiver) = mpsc::channel();
+    let path = path.to_path_buf();
+    thread::Builder::new().spawn(move || sender.send(UnixStream::connect(path)))?;
+    receiver
+        .recv_timeout(timeout)
+        .unwrap_or_else(|_| Err(io::ErrorKind::TimedOut.into()))
 }
 
 /// What a reply must be: its kind, and the length of its body where that is fixed.
@@ -246,7 +366,8 @@ const STOPPING: Wanted = Wanted {
 };
 
 /// A connection to a server, made when it is first needed, and made again where it is lost; every request is then sent
-/// again. Dropping it closes the connection; what was accepted stays accepted.
+/// again, behind the question whether the server still has what this client put (`Error::BookWentBack`). Dropping it
+/// closes the connection; what was accepted stays accepted.
 pub struct Client {
     address: Address,
     number: u64,
@@ -254,6 +375,8 @@ pub struct Client {
     attempts: u32,
     pause: Duration,
     link: Option<Link>,
+    /// What the highest place of a reply to a put says of the accepted batches.
+    seen: Option<Status>,
 }
 
 impl Client {
@@ -275,6 +398,7 @@ impl Client {
             attempts: 14,
             pause: Duration::from_millis(50),
             link: None,
+            seen: None,
         }
     }
 
@@ -302,7 +426,7 @@ impl Client {
     /// Puts a batch of cells, of which one may stand in it repeatedly. `number` belongs to this batch for ever.
     pub fn put(&mut self, number: u64, cells: &[Cell]) -> Result<Accepted, Error> {
         let frame = put_cells_frame(self.number, number, cells)?;
-        self.ask(&frame, ACCEPTED).map(|body| accepted(&body))
+        self.ask(&frame, ACCEPTED).map(|body| self.noted(&body))
     }
 
     /// Puts a batch that is a Matrix Market text of the server's dimensions.
@@ -312,11 +436,11 @@ impl Client {
         }
         let mut frame = put_head(1, 16 + text.len(), self.number, number);
         frame.extend_from_slice(text);
-        self.ask(&frame, ACCEPTED).map(|body| accepted(&body))
+        self.ask(&frame, ACCEPTED).map(|body| self.noted(&body))
     }
 
-    /// Puts batches, numbers with their cells, with up to `depth` of them on the way, and calls `replied` for each in
-    /// order. Where the connection is lost, all that had no reply yet are sent again.
+    /// Puts batches, numbers with their cells, with up to `depth` of them on the way, 128 at most, and calls `replied`
+    /// for each in order. Where the connection is lost, all that had no reply yet are sent again.
     ///
     /// The first refusal, or batch that is too large, ends it. Others on the way may have been accepted: they can be
     /// put again with their numbers. Keeps the frames on the way in memory, 24 bytes a cell.
@@ -331,38 +455,25 @@ impl Client {
         C: AsRef<[Cell]>,
     {
         let mut batches = batches.into_iter();
-        let mut waiting = VecDeque::new();
-        let outcome = loop {
-            while waiting.len() < depth.max(1) {
+        let mut numbers = VecDeque::new();
+        let mut way = Way::over(self.link.take());
+        loop {
+            while numbers.len() < depth.clamp(1, MAX_DEPTH) {
                 let Some((number, cells)) = batches.next() else {
                     break;
                 };
-                let frame = match put_cells_frame(self.number, number, cells.as_ref()) {
-                    Ok(frame) => frame,
-                    Err(fault) => {
-                        self.close();
-                        return Err(fault);
-                    }
-                };
-                self.send_ahead(&frame, waiting.is_empty());
-                waiting.push_back((number, frame));
+                let frame = put_cells_frame(self.number, number, cells.as_ref())?;
+                numbers.push_back(number);
+                self.send_ahead(&mut way, frame)?;
             }
-            if waiting.is_empty() {
-                break Ok(());
-            }
-            match self.first_reply(waiting.iter().map(|(_, frame)| frame.as_slice()), ACCEPTED) {
-                Ok(body) => {
-                    let (number, _) = waiting.pop_front().expect("a batch that was replied to");
-                    replied(number, accepted(&body));
-                }
-                Err(fault) => break Err(fault),
-            }
-        };
-        if outcome.is_err() {
-            // The replies that nobody will read must not be taken for those of later requests.
-            self.close();
+            let Some(number) = numbers.pop_front() else {
+                break;
+            };
+            let body = self.first_reply(&mut way, ACCEPTED)?;
+            replied(number, self.noted(&body));
         }
-        outcome
+        self.link = way.link;
+        Ok(())
     }
 
     /// The count of a cell; None where none is stored.
@@ -383,10 +494,7 @@ impl Client {
     /// How many batches were accepted, and their total. Counts every put that was answered before.
     pub fn status(&mut self) -> Result<Status, Error> {
         let body = self.ask(&request(4, &[]), COUNTS)?;
-        Ok(Status {
-            batches: number_at(&body, 0),
-            total: number_at(&body, 8),
-        })
+        Ok(status_of(&body))
     }
 
     /// The sum of all accepted batches as a Matrix Market text, whose rows and columns count from 1.
@@ -394,7 +502,8 @@ impl Client {
         self.ask(&request(5, &[]), TEXT)
     }
 
-    /// Saves a snapshot where the server was told to, and gives its number of batches.
+    /// Saves a snapshot where the server was told to, and gives its number of batches. Where no answer comes in time
+    /// the save may be under way, and it isn't asked for again.
     pub fn save(&mut self) -> Result<u64, Error> {
         let body = self.ask(&request(6, &[]), SAVED)?;
         Ok(number_at(&body, 0))
@@ -409,54 +518,83 @@ impl Client {
     }
 
     fn ask(&mut self, frame: &[u8], wanted: Wanted) -> Result<Vec<u8>, Error> {
-        self.send_ahead(frame, false);
-        self.first_reply(std::iter::once(frame), wanted)
+        let mut way = Way::over(self.link.take());
+        if way.link.is_some() {
+            self.send_ahead(&mut way, frame)?;
+        } else {
+            way.frames.push_back(frame);
+        }
+        let answer = self.first_reply(&mut way, wanted);
+        self.link = way.link;
+        answer
     }
 
-    /// Sends a request whose reply is read later, where there is a connection, or one is to be made; one that fails is
-    /// found out then.
-    fn send_ahead(&mut self, frame: &[u8], connects: bool) {
-        if connects && self.link.is_none() {
-            self.link = self.connect().ok();
+    /// Sends a request whose reply is read later. It is sent where there is a connection, and the first one over a new
+    /// one; a fault of it is found out when the reply is read.
+    fn send_ahead<F: AsRef<[u8]>>(&mut self, way: &mut Way<F>, frame: F) -> Result<(), Error> {
+        way.frames.push_back(frame);
+        if way.link.is_none() && way.frames.len() > 1 {
+            return Ok(());
         }
-        if let Some(link) = &mut self.link {
-            if link.write_all(frame).is_err() {
-                self.close();
-            }
+        match self.send(way) {
+            Err(Error::Io(_)) => way.lose(),
+            Err(fault) => return Err(fault),
+            Ok(_) => {}
         }
+        Ok(())
     }
 
-    /// The reply to the first of the requests that were sent; all are sent again where the connection failed.
-    fn first_reply<'a>(
+    /// Sends the requests that weren't sent over this connection, which is made where there is none, or another process
+    /// made it before a fork.
+    fn send<'w, F: AsRef<[u8]>>(&mut self, way: &'w mut Way<F>) -> Result<&'w mut Link, Error> {
+        if way.link.as_ref().map(|link| link.process) != Some(process::id()) {
+            way.lose();
+        }
+        let link = match way.link.take() {
+            Some(link) => way.link.insert(link),
+            None => way.link.insert(self.greeted()?),
+        };
+        for frame in way.frames.iter().skip(way.sent) {
+            way.sent += 1;
+            link.send(frame.as_ref())?;
+        }
+        Ok(link)
+    }
+
+    /// The reply to the first of the requests on the way; all are sent again where the connection failed. Where no
+    /// reply was read whole, or the server ends the session behind it, the connection is dropped.
+    fn first_reply<F: AsRef<[u8]>>(
         &mut self,
-        frames: impl Iterator<Item = &'a [u8]> + Clone,
+        way: &mut Way<F>,
         wanted: Wanted,
     ) -> Result<Vec<u8>, Error> {
         let mut pause = self.pause;
         let mut attempt = 1;
         loop {
-            match self.try_reply(frames.clone(), wanted) {
-                Err(Error::Io(mut fault)) => {
-                    self.close();
-                    if fault.kind() == io::ErrorKind::WouldBlock {
-                        fault = io::ErrorKind::TimedOut.into();
-                    }
-                    // An address that isn't one won't become one.
-                    if attempt == self.attempts || fault.kind() == io::ErrorKind::InvalidInput {
+            let outcome = self.send(way).and_then(|link| reply_of(link, wanted));
+            let is_asked = way.link.is_some();
+            match outcome {
+                Err(Error::Io(fault)) => {
+                    way.lose();
+                    // An address that isn't one won't become one, and a save that takes long may be under way.
+                    let is_final = fault.kind() == io::ErrorKind::InvalidInput
+                        || (is_asked && wanted.kind == SAVED.kind && is_pause(&fault));
+                    if attempt == self.attempts || is_final {
                         return Err(Error::Io(fault));
                     }
                 }
+                Err(Error::Refused(refusal)) if is_asked && !refusal.ends_session() => {
+                    way.answered();
+                    return Err(Error::Refused(refusal));
+                }
                 Err(fault) => {
-                    let ends = match &fault {
-                        Error::Refused(refusal) => refusal.ends_session(),
-                        _ => true,
-                    };
-                    if ends {
-                        self.close();
-                    }
+                    way.lose();
                     return Err(fault);
                 }
-                body => return body,
+                Ok(body) => {
+                    way.answered();
+                    return Ok(body);
+                }
             }
             thread::sleep(pause);
             pause = (pause * 2).min(Duration::from_secs(10));
@@ -464,39 +602,44 @@ impl Client {
         }
     }
 
-    fn try_reply<'a>(
-        &mut self,
-        frames: impl Iterator<Item = &'a [u8]>,
-        wanted: Wanted,
-    ) -> Result<Vec<u8>, Error> {
-        if self.link.is_none() {
-            let mut link = self.connect()?;
-            for frame in frames {
-                link.write_all(frame)?;
+    /// A new connection. One of a client that has put batches is first asked whether they are still there.
+    fn greeted(&mut self) -> Result<Link, Error> {
+        let mut link = self.connect()?;
+        if let Some(had) = self.seen {
+            link.send(&request(4, &[]))?;
+            let has = status_of(&reply_of(&mut link, COUNTS)?);
+            if went_back(had, has) {
+                self.seen = None;
+                return Err(Error::BookWentBack { had, has });
             }
-            self.link = Some(link);
         }
-        match &mut self.link {
-            Some(link) => reply_of(link, wanted),
-            None => Err(Error::Io(io::ErrorKind::NotConnected.into())),
+        Ok(link)
+    }
+
+    /// The reply to a put, of which is noted what it says of the accepted batches.
+    fn noted(&mut self, body: &[u8]) -> Accepted {
+        let accepted = Accepted {
+            index: number_at(body, 0),
+            total_after: number_at(body, 8),
+        };
+        let seen = self.seen.map_or(0, |it| it.batches);
+        if accepted.index >= seen {
+            self.seen = Some(Status {
+                batches: accepted.index + 1,
+                total: accepted.total_after,
+            });
         }
+        accepted
     }
 
     fn connect(&self) -> io::Result<Link> {
         match &self.address {
             Address::Tcp(address) => {
-                let link = self.connect_tcp(address)?;
-                link.set_nodelay(true)?;
-                link.set_read_timeout(self.timeout)?;
-                link.set_write_timeout(self.timeout)?;
-                Ok(Link::Tcp(link))
+                let stream = self.connect_tcp(address)?;
+                stream.set_nodelay(true)?;
+                Link::new(OwnedFd::from(stream).into(), self.timeout)
             }
-            Address::Unix(path) => {
-                let link = UnixStream::connect(path)?;
-                link.set_read_timeout(self.timeout)?;
-                link.set_write_timeout(self.timeout)?;
-                Ok(Link::Unix(link))
-            }
+            Address::Unix(path) => Link::new(connect_unix(path, self.timeout)?, self.timeout),
         }
     }
 
@@ -517,10 +660,44 @@ impl Client {
     }
 }
 
+/// Requests on the way, and the connection that the first `sent` of them were sent over. Whoever drops it before it has
+/// all replies closes the connection, whose further replies nobody may take for those of later requests.
+struct Way<F> {
+    link: Option<Link>,
+    frames: VecDeque<F>,
+    sent: usize,
+}
+
+impl<F> Way<F> {
+    fn over(link: Option<Link>) -> Way<F> {
+        Way {
+            link,
+            frames: VecDeque::new(),
+            sent: 0,
+        }
+    }
+
+    fn lose(&mut self) {
+        self.link = None;
+        self.sent = 0;
+    }
+
+    fn answered(&mut self) {
+        self.frames.pop_front();
+        self.sent -= 1;
+    }
+}
+
+/// Whether a book that had, once, so many batches with such a total isn't the front of one that has these.
+fn went_back(had: Status, has: Status) -> bool {
+    let is_shorter = has.batches < had.batches || has.total < had.total;
+    is_shorter || (has.batches == had.batches && has.total != had.total)
+}
+
 /// The body of the next reply.
 fn reply_of(link: &mut Link, wanted: Wanted) -> Result<Vec<u8>, Error> {
     let mut head = [0; 5];
-    link.read_exact(&mut head)?;
+    link.receive(&mut head)?;
     let [a, b, c, d, kind] = head;
     let len = u32::from_be_bytes([a, b, c, d]) as usize;
     let is_refusal = kind == 0xff && len == 10;
@@ -529,7 +706,7 @@ fn reply_of(link: &mut Link, wanted: Wanted) -> Result<Vec<u8>, Error> {
         return Err(Error::BadReply);
     }
     let mut body = vec![0; len];
-    link.read_exact(&mut body)?;
+    link.receive(&mut body)?;
     if is_refusal {
         let code = u16::from_be_bytes([body[0], body[1]]);
         return Err(Error::Refused(Refusal {
@@ -550,10 +727,10 @@ fn number_at(body: &[u8], place: usize) -> u64 {
         .fold(0, |n, byte| n << 8 | u64::from(*byte))
 }
 
-fn accepted(body: &[u8]) -> Accepted {
-    Accepted {
-        index: number_at(body, 0),
-        total_after: number_at(body, 8),
+fn status_of(body: &[u8]) -> Status {
+    Status {
+        batches: number_at(body, 0),
+        total: number_at(body, 8),
     }
 }
 

@@ -1,0 +1,156 @@
+/* Asks a server what it reads from standard input, by the client for C. tests/client_faults.py has the words. */
+#define _XOPEN_SOURCE 700
+
+#include "../../clients/c/hhm_client.h"
+
+#include <errno.h>
+#include <inttypes.h>
+#include <signal.h>
+#include <stdio.h>
+#include <stdlib.h>
+#include <string.h>
+#include <sys/time.h>
+#include <sys/wait.h>
+#include <unistd.h>
+
+#define MOST_CELLS 20000
+#define MOST_BATCHES 2000
+
+static hhm_cell wide[MOST_CELLS];
+static hhm_batch batches[MOST_BATCHES];
+static hhm_accepted answers[MOST_BATCHES];
+
+static void nothing(int number)
+{
+    (void)number;
+}
+
+/* Whether a process of a fork could put its batches. */
+static int put_wide(hhm_client *hhm, uint64_t first, uint64_t count, size_t cells)
+{
+    hhm_accepted accepted;
+    int is_put = 1;
+    for (uint64_t number = first; number < first + count; number++)
+        is_put = hhm_put(hhm, number, wide, cells, &accepted) == HHM_OK && is_put;
+    return is_put;
+}
+
+static void forked(hhm_client *hhm, uint64_t first, uint64_t count, size_t cells)
+{
+    int status = 1;
+    pid_t child = fork();
+    if (child == 0)
+        _exit(put_wide(hhm, first, count, cells) ? 0 : 1);
+    int is_put = put_wide(hhm, first + count, count, cells);
+    waitpid(child, &status, 0);
+    puts(status == 0 && is_put ? "both" : "not both");
+}
+
+static hhm_result many(hhm_client *hhm, uint64_t first, size_t count, size_t depth, size_t cells)
+{
+    size_t answered;
+    for (size_t i = 0; i < count; i++) {
+        hhm_batch it = {first + i, wide, cells};
+        batches[i] = it;
+    }
+    hhm_result result = hhm_put_all(hhm, batches, count, depth, answers, &answered);
+    if (result == HHM_OK)
+        printf("%zu answered\n", answered);
+    return result;
+}
+
+static void alarms(void)
+{
+    struct sigaction action;
+    struct itimerval often = {{0, 20000}, {0, 20000}};
+    memset(&action, 0, sizeof action);
+    action.sa_handler = nothing;
+    sigaction(SIGALRM, &action, NULL);
+    setitimer(ITIMER_REAL, &often, NULL);
+    puts("alarms");
+}
+
+static hhm_result put(hhm_client *hhm, uint64_t number, uint64_t count)
+{
+    hhm_cell cell = {0, 0, count};
+    hhm_accepted accepted;
+    hhm_result result = hhm_put(hhm, number, &cell, 1, &accepted);
+    if (result == HHM_OK)
+        printf("index %" PRIu64 " total %" PRIu64 "\n", accepted.index, accepted.total_after);
+    return result;
+}
+
+static hhm_result ask_cell(hhm_client *hhm, uint64_t row, uint64_t col)
+{
+    hhm_value value;
+    hhm_result result = hhm_ask_cell(hhm, row, col, &value);
+    if (result == HHM_OK && value.is_stored)
+        printf("%" PRIu64 "\n", value.count);
+    else if (result == HHM_OK)
+        puts("none");
+    return result;
+}
+
+static hhm_result ask_status(hhm_client *hhm)
+{
+    hhm_status status;
+    hhm_result result = hhm_ask_status(hhm, &status);
+    if (result == HHM_OK)
+        printf("batches %" PRIu64 " total %" PRIu64 "\n", status.batches, status.total);
+    return result;
+}
+
+static hhm_result save(hhm_client *hhm)
+{
+    uint64_t saved;
+    hhm_result result = hhm_save(hhm, &saved);
+    if (result == HHM_OK)
+        printf("saved %" PRIu64 "\n", saved);
+    return result;
+}
+
+static hhm_result answer(hhm_client *hhm, const char *word, const uint64_t *numbers)
+{
+    if (!strcmp(word, "put"))
+        return put(hhm, numbers[0], numbers[1]);
+    if (!strcmp(word, "many"))
+        return many(hhm, numbers[0], (size_t)numbers[1], (size_t)numbers[2], (size_t)numbers[3]);
+    if (!strcmp(word, "cell"))
+        return ask_cell(hhm, numbers[0], numbers[1]);
+    if (!strcmp(word, "status"))
+        return ask_status(hhm);
+    if (!strcmp(word, "save"))
+        return save(hhm);
+    if (!strcmp(word, "fork"))
+        forked(hhm, numbers[0], numbers[1], (size_t)numbers[2]);
+    else
+        alarms();
+    return HHM_OK;
+}
+
+int main(int count, char **words)
+{
+    char line[200], word[20];
+    hhm_client *hhm = count == 4 ? hhm_open_unix(words[1], 7) : NULL;
+    if (!hhm)
+        return 2;
+    hhm_set_timeout(hhm, (unsigned)atoi(words[2]));
+    hhm_set_attempts(hhm, (unsigned)atoi(words[3]), 1);
+    for (uint64_t row = 0; row < MOST_CELLS; row++) {
+        hhm_cell cell = {row, 0, 1};
+        wide[row] = cell;
+    }
+    setvbuf(stdout, NULL, _IOLBF, BUFSIZ);
+    while (fgets(line, sizeof line, stdin)) {
+        uint64_t numbers[4] = {0, 0, 0, 0};
+        sscanf(line, "%19s %" SCNu64 " %" SCNu64 " %" SCNu64 " %" SCNu64, word, &numbers[0], &numbers[1], &numbers[2],
+               &numbers[3]);
+        hhm_result result = answer(hhm, word, numbers);
+        if (result == HHM_FAILED)
+            puts(errno == ETIMEDOUT ? "timed out" : "lost");
+        else if (result != HHM_OK)
+            puts(hhm_message(hhm));
+    }
+    hhm_close(hhm);
+    return 0;
+}

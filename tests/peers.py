@@ -1,0 +1,289 @@
+"""What stands between clients and a server in their tests, or in a server's place, and programs that are asked.
+
+Each ends what it began when it is left, and nothing waits for longer than `WAIT` seconds.
+"""
+import contextlib
+import itertools
+import os
+import socket
+import struct
+import subprocess
+import threading
+import time
+
+import server
+from hhm_client import Refused
+
+# The seconds that anything may take that is waited for.
+WAIT = 30
+
+
+class Proxy:
+    """Stands between clients and a server. `lost` says of its connections, in order, how many replies each gives before
+    it loses one, which the server has written, and ends. None loses nothing, and neither do those behind the list."""
+
+    def __init__(self, at, unix, lost):
+        self.at, self.lost, self.links = at, iter(lost), []
+        self.listener = socket.socket(socket.AF_UNIX if unix else socket.AF_INET)
+        self.path = os.path.join(server.FOLDER, "proxy")
+        with contextlib.suppress(FileNotFoundError):
+            os.remove(self.path)
+        self.listener.bind(self.path if unix else ("127.0.0.1", 0))
+        self.listener.listen(16)
+        self.where = {"unix": self.path} if unix else {"tcp": "127.0.0.1:%d" % self.listener.getsockname()[1]}
+        self.how_often = 0
+        self.thread = threading.Thread(target=self.accept, daemon=True)
+        self.thread.start()
+
+    def __enter__(self):
+        return self
+
+    def __exit__(self, *_):
+        # (to close what a thread waits for wakes no thread, and ends no connection)
+        end(self.listener)
+        self.thread.join()
+        for link in self.links:
+            end(link)
+
+    def words(self):
+        """The words of a command line."""
+        [(how, place)] = self.where.items()
+        return [f"--{how}", place]
+
+    def accept(self):
+        with contextlib.suppress(OSError):
+            while True:
+                ours = self.listener.accept()[0]
+                theirs = self.at.link(ours.family == socket.AF_UNIX)
+                self.links += [ours, theirs]
+                threading.Thread(target=self.forward, args=(ours, theirs), daemon=True).start()
+                threading.Thread(target=self.answer, args=(theirs, ours, next(self.lost, None)), daemon=True).start()
+
+    @staticmethod
+    def forward(source, target):
+        with contextlib.suppress(OSError):
+            while more := source.recv(65536):
+                target.sendall(more)
+        end(target)
+
+    def answer(self, source, target, most):
+        with contextlib.suppress(OSError):
+            for number in itertools.count():
+                frame = frame_of(source)
+                if not frame:
+                    break
+                if number == most:
+                    self.how_often += 1
+                    break
+                target.sendall(frame)
+        end(target)
+        end(source)
+
+
+def end(link):
+    with contextlib.suppress(OSError):
+        link.shutdown(socket.SHUT_RDWR)
+
+
+def frame_of(link):
+    """The next frame, or nothing at the end."""
+    head = link.recv(5, socket.MSG_WAITALL)
+    if len(head) < 5:
+        return b""
+    length = int.from_bytes(head[:4], "big")
+    return head + (link.recv(length, socket.MSG_WAITALL) if length else b"")
+
+
+class Liar:
+    """Answers the first request on each connection with the same bytes, or not at all, and counts the connections."""
+
+    def __init__(self, answer):
+        self.answer, self.count = answer, 0
+        self.path = os.path.join(server.FOLDER, "liar")
+        with contextlib.suppress(FileNotFoundError):
+            os.remove(self.path)
+        self.listener = socket.socket(socket.AF_UNIX)
+        self.listener.bind(self.path)
+        self.listener.listen(16)
+        threading.Thread(target=self.accept, daemon=True).start()
+
+    def __enter__(self):
+        return self
+
+    def __exit__(self, *_):
+        end(self.listener)
+
+    def accept(self):
+        with contextlib.suppress(OSError):
+            while True:
+                with self.listener.accept()[0] as link:
+                    self.count += 1
+                    frame_of(link)
+                    if self.answer is not None:
+                        link.sendall(self.answer)
+                    link.recv(1)
+
+
+def run(words, **how):
+    """What a program writes to both outputs, and its status; no status where it doesn't end."""
+    try:
+        ended = subprocess.run(words, capture_output=True, text=True, timeout=WAIT, **how)
+    except subprocess.TimeoutExpired:
+        return "", f"it hasn't ended after {WAIT} seconds", None
+    return ended.stdout, ended.stderr, ended.returncode
+
+
+def until(call, wanted):
+    """Waits for an answer, and gives the last one."""
+    ends = time.monotonic() + WAIT
+    while (answer := call()) != wanted and time.monotonic() < ends:
+        time.sleep(0.02)
+    return answer
+
+
+@contextlib.contextmanager
+def started(words):
+    """A program, which ends here at the latest."""
+    with subprocess.Popen(words, stdout=subprocess.PIPE, stderr=subprocess.PIPE, text=True) as process:
+        try:
+            yield process
+        finally:
+            process.kill()
+
+
+def fault_of(call):
+    """What a call ends with: the name of a refusal or of an exception, or its answer."""
+    try:
+        return call()
+    except Refused as refused:
+        return str(refused)
+    except Exception as fault:
+        return type(fault).__name__
+
+
+class Driver:
+    """A program that asks a server, by one client, what it is told (tests/drivers)."""
+
+    def __init__(self, command, path, timeout=WAIT * 1000, attempts=14):
+        words = [*command, path, str(timeout), str(attempts)]
+        self.process = subprocess.Popen(words, stdin=subprocess.PIPE, stdout=subprocess.PIPE, text=True, bufsize=1)
+
+    def __enter__(self):
+        return self
+
+    def __exit__(self, *_):
+        self.process.kill()
+        self.process.communicate()
+
+    def ask(self, *words):
+        """The answer; nothing where none comes in time, and the program is ended then."""
+        late = threading.Timer(WAIT, self.process.kill)
+        late.start()
+        try:
+            self.process.stdin.write(" ".join(map(str, words)) + "\n")
+            return self.process.stdout.readline().rstrip("\n")
+        except BrokenPipeError:
+            return ""
+        finally:
+            late.cancel()
+
+
+class Gate:
+    """Forwards so many bytes of its first connection to a server; the rest, and each reply, wait until the event
+    `is_open` is set. Further connections are forwarded as they are."""
+
+    def __init__(self, at, most):
+        self.at, self.most, self.links = at, most, []
+        self.is_open, self.is_full = threading.Event(), threading.Event()
+        self.path = os.path.join(server.FOLDER, "gate")
+        with contextlib.suppress(FileNotFoundError):
+            os.remove(self.path)
+        self.listener = socket.socket(socket.AF_UNIX)
+        self.listener.bind(self.path)
+        self.listener.listen(16)
+        threading.Thread(target=self.accept, daemon=True).start()
+
+    def __enter__(self):
+        return self
+
+    def __exit__(self, *_):
+        self.is_open.set()
+        for link in [self.listener, *self.links]:
+            end(link)
+
+    def accept(self):
+        with contextlib.suppress(OSError):
+            while True:
+                ours, theirs = self.listener.accept()[0], self.at.link()
+                most = None if self.links else self.most
+                self.links += [ours, theirs]
+                threading.Thread(target=self.forward, args=(ours, theirs, most), daemon=True).start()
+                threading.Thread(target=self.forward, args=(theirs, ours, most and 0), daemon=True).start()
+
+    def forward(self, source, target, most):
+        with contextlib.suppress(OSError):
+            while more := source.recv(65536 if not most else min(most, 65536)):
+                if most == 0 and not self.is_open.is_set():
+                    self.is_full.set()
+                    self.is_open.wait()
+                target.sendall(more)
+                most = most and most - len(more)
+        end(target)
+
+
+class Sink:
+    """Reads all that comes over one connection after another, answers nothing, and counts the bytes of each."""
+
+    def __init__(self):
+        self.counts = []
+        self.path = os.path.join(server.FOLDER, "sink")
+        with contextlib.suppress(FileNotFoundError):
+            os.remove(self.path)
+        self.listener = socket.socket(socket.AF_UNIX)
+        self.listener.bind(self.path)
+        self.listener.listen(16)
+        threading.Thread(target=self.accept, daemon=True).start()
+
+    def __enter__(self):
+        return self
+
+    def __exit__(self, *_):
+        end(self.listener)
+
+    def accept(self):
+        with contextlib.suppress(OSError):
+            while True:
+                with self.listener.accept()[0] as link:
+                    self.counts.append(0)
+                    while more := link.recv(65536):
+                        self.counts[-1] += len(more)
+
+
+class Slow:
+    """Accepts every put that it reads, one by one, and has next to no room for replies that aren't read."""
+
+    def __init__(self):
+        self.path = os.path.join(server.FOLDER, "slow")
+        with contextlib.suppress(FileNotFoundError):
+            os.remove(self.path)
+        self.listener = socket.socket(socket.AF_UNIX)
+        self.listener.setsockopt(socket.SOL_SOCKET, socket.SO_SNDBUF, 1)
+        self.listener.bind(self.path)
+        self.listener.listen(16)
+        threading.Thread(target=self.accept, daemon=True).start()
+
+    def __enter__(self):
+        return self
+
+    def __exit__(self, *_):
+        end(self.listener)
+
+    def accept(self):
+        with contextlib.suppress(OSError):
+            while True:
+                with self.listener.accept()[0] as link:
+                    link.setsockopt(socket.SOL_SOCKET, socket.SO_SNDBUF, 1)
+                    for place in itertools.count():
+                        if not frame_of(link):
+                            break
+                        link.sendall(struct.pack(">IBQQ", 16, 0x81, place, place + 1))
