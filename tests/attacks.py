@@ -7,9 +7,10 @@ with --all those of must-fail/ too, which the gate tries as well. An edit has th
 A crate is checked first as it stands. Then the edits are tried in a copy of it, over the work that checks have kept,
 many in one check: a function is proved by what its callees promise, so a wrong body of one leaves the others as they
 are. An edit passes where the very function that it changes is refused. One whose function was not judged, because it
-calls another that an edit of the same check spoils, is tried in a further check. An edit that can't be applied or read
-fails, and so does one whose function is still proved. The last line is `N passed, M failed`, and the status 0 exactly
-where nothing failed. The environment's RT, if set, is run in place of `rt`.
+calls another that an edit of the same check spoils, is tried in a further check. An edit fails that can't be applied or
+read, that isn't a body (its types don't fit, or it breaks a rule of borrows), or that is refused only because a proof
+file names what it took away; and so does one whose function is still proved. The last line is `N passed, M failed`, and
+the status 0 exactly where nothing failed. The environment's RT, if set, is run in place of `rt`.
 """
 import os
 import re
@@ -27,8 +28,11 @@ FUNCTION = re.compile(r"^( *)(?:pub(?:\([\w:]+\))? )?(?:const )?(?:unsafe )?fn (
 IMPL = re.compile(r"^impl\b(?:<[^{]*?>)?\s+(?:(\w+)(?:<.*?>)? for )?[&']*(\w+)")
 # What a proof file says where an edit took away a name that it cites: that alone says little of the contract.
 LOST_NAME = re.compile(r"has no field|is not in scope|has no `|was not admitted")
+# What the front end says of a text that is no program: then no contract was tried.
+NO_PROGRAM = re.compile(r"(?:\./)?\S+:\d+:\d+: error\[[\w-]+\]")
 FAILURES = {
     "proved": "NOT REFUSED",
+    "unnamed": "NOT JUDGED: a proof file names what the edit took away, so keep the names and change a value",
     "unjudged": "NOT JUDGED: a function that it calls is refused in its place",
     "untold": "NOT JUDGED: the check doesn't name its function",
 }
@@ -196,8 +200,13 @@ def why_not_judged(lines):
 
 
 def unread(lines, files):
-    """Returns an error that says that an edited text can't be read, as a name out of scope, or an empty string."""
+    """Returns an error that says that an edited text can't be read or isn't a program, or an empty string.
+
+    Types that don't fit, and borrows that break a rule, say nothing of a contract, and neither does a name out of scope.
+    """
     for line in lines:
+        if NO_PROGRAM.match(line):
+            return line[:200]
         at = re.match(r"(?:\./)?(\S+?):\d+:\d+: error: (?:(`[^`]*`): )?(.*)", line)
         if at and at[1] in files and (not at[2] or re.search("is not in scope|has no field|is no name", at[3])):
             return line[:200]
@@ -205,13 +214,14 @@ def unread(lines, files):
 
 
 def state_of(edit, lines):
-    """Returns what a check says of the function that an edit changes: refused, unjudged, proved or untold."""
+    """Returns what a check says of the function that an edit changes: refused, unnamed, unjudged, proved or untold."""
     if edit.function is None:
         return "refused" if any(it.startswith("logic=not-proved") for it in lines) else "proved"
     of_function = re.compile(rf"fn {edit.function.pattern}: (.*)")
     told = [found[1] for it in lines if (found := of_function.match(it))]
     if any(it.startswith("not proved") or it.startswith("no proof") and "it calls `" not in it for it in told):
-        return "refused"
+        searched = any("did not prove" in it for it in told)
+        return "unnamed" if only_by_names(edit, lines) and not searched else "refused"
     if any(it.startswith("no proof") for it in told):
         return "unjudged"
     return "proved" if told else "untold"
@@ -221,7 +231,7 @@ def only_by_names(edit, lines):
     """Tells whether each error in the function's proof is that it cites a name which the edit took away."""
     if edit.function is None:
         return False
-    in_proof = re.compile(rf"(?:\./)?proofs/\S*/\+?{edit.function.name}/\S+: error")
+    in_proof = re.compile(rf"(?:note: )?(?:\./)?proofs/\S*/\+?{edit.function.name}/\S+: error")
     errors = [it for it in lines if in_proof.match(it)]
     return bool(errors) and all(LOST_NAME.search(it) for it in errors)
 
@@ -271,8 +281,7 @@ def try_together(edits, folder, crate, tell):
         if state == "unjudged" and not alone:
             rest.append(edit)
         elif state == "refused":
-            note = " (only because a proof names what it took away)" if only_by_names(edit, lines) else ""
-            tell(f"{edit.label}: refused{note}")
+            tell(f"{edit.label}: refused")
             passed += 1
         else:
             tell(f"{edit.label}: {FAILURES[state]}")

@@ -7,6 +7,7 @@ ghost use Rattle.std.specs.Prelude.{OnOk, OnErr};
 ghost use Rattle.std.specs.FinMap.{get};
 ghost use Rattle.byte_io.specs.Streams.{Answer, answer_of};
 ghost use Rattle.file_folder.specs.Files.{Files, WhereTold, KeepsOthers, IsMade, IsWritten, IsMoved};
+ghost use Rattle.file_folder.specs.Calls.{FolderCall, Done, create, sync, rename};
 
 use byte_io::DeviceFault;
 
@@ -25,12 +26,16 @@ pub trait Folder {
     // What a call of `write` that is offered these bytes may answer, with those that it took, and what it leaves.
     ghost write_takes: { Self → List ℕ → Answer → Self → Type 0 };
 
+    // What any other call may answer, and what it leaves.
+    ghost call_gives: { Self → FolderCall → Done → Self → Type 0 };
+
     // How many calls have failed.
     ghost failure_count: { Self → ℕ };
 
     /// Makes the file empty, in the place of one that has its name. After an Err it may be there or not.
     fn create(&mut self, name: &str) -> Result<(), DeviceFault>
         requires { failure_count self.old + 1 < 2 ^ 64 }
+        ensures answer { call_gives self.old (create name.now) result self.new }
         ensures made { OnOk result (WhereTold (IsMade name.now) (files self.old) (files self.new)) }
         ensures not_made { OnErr result (WhereTold (KeepsOthers name.now) (files self.old) (files self.new)) }
         ensures created { OnOk result (last_created self.new ≡ Some name.now) }
@@ -52,6 +57,7 @@ pub trait Folder {
     fn sync(&mut self) -> Result<(), DeviceFault>
         requires failures { failure_count self.old + 1 < 2 ^ 64 }
         requires created { IsSome (last_created self.old) }
+        ensures answer { call_gives self.old sync result self.new }
         ensures same { OnOk result (files self.new ≡ files self.old) }
         ensures others { OnErr result ((name : List ℕ) → last_created self.old ≡ Some name →
             WhereTold (KeepsOthers name) (files self.old) (files self.new)) }
@@ -63,6 +69,7 @@ pub trait Folder {
     fn rename(&mut self, from: &str, to: &str) -> Result<(), DeviceFault>
         requires failures { failure_count self.old + 1 < 2 ^ 64 }
         requires is_there { IfSome (files self.old) (λ m. IsSome (get m from.now)) }
+        ensures answer { call_gives self.old (rename from.now to.now) result self.new }
         ensures moved { OnOk result (WhereTold (IsMoved from.now to.now) (files self.old) (files self.new)) }
         ensures none_created { OnOk result (last_created self.new ≡ None) }
         ensures same { OnErr result (files self.new ≡ files self.old) }

@@ -167,6 +167,8 @@ impl Folder for MemoryFolder {
         (first_name s.is_created (listed s.files.items)) (first_name t.is_created (listed t.files.items))
         (files_of s.files.items) (files_of t.files.items) };
 
+    ghost call_gives = { λ s call answer t. t.calls ≡ next_call s.calls };
+
     ghost failure_count = { λ s. s.failures };
 
     ghost write_appends = { λ s t offered answer name h created. h.written name created };

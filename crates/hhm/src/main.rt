@@ -20,6 +20,7 @@ use byte_io::{Counted, write_all};
 use clap::error::ErrorKind;
 use clap::{ArgMatches, Error};
 use mm_sum::run_sum;
+use snap_file::{LockedFile, NamedFile};
 use snap_report::{run_check, run_export, run_fold};
 use socket_server::{ServerFault, Settings, run_server};
 use std::alloc::AllocError;
@@ -97,9 +98,9 @@ fn run_word(rt: &HostRuntime, word: &str, given: &ArgMatches) -> Result<(), Faul
     let path = given.get_str("path").unwrap_or("");
     match word {
         "sum" => run_sum_word(rt, given.get_str("cuts").unwrap_or(cli::DEFAULT_SUM_CUTS))?,
-        "check" => run_check(rt, rt.alloc(), path, &mut out)?,
-        "export" => run_export(rt, rt.alloc(), path, &mut out)?,
-        "fold" => run_fold(rt, rt.alloc(), path, &mut out)?,
+        "check" => run_check(rt.alloc(), &mut NamedFile::new(rt, path), &mut out)?,
+        "export" => run_export(rt.alloc(), &mut NamedFile::new(rt, path), &mut out)?,
+        "fold" => run_fold(rt.alloc(), &mut LockedFile::new(rt, path), &mut out)?,
         _ => {}
     }
     Ok(())

@@ -1,6 +1,6 @@
 -- Saves: what a writer did to the file that was lent to it, and the name of that file.
 use Rattle.std.proofs.Common.{◌≡◌, ℕ, List, length, Result, Ok, Err, OnOk, IfErr, refl, ap, arith}
-use Rattle.std.proofs.Common.{length-append, codes, ◌∙◌}
+use Rattle.std.proofs.Common.{length-append, codes, ◌∙◌, is_err, false}
 use Rattle.byte_io.specs.Streams.{Answer}
 use Rattle.byte_io.specs.Writing.{AnyOffer, HasTaken, HasStopped}
 use Rattle.byte_io.specs.declared.fault.WriteFault.{WriteFault}
@@ -45,3 +45,9 @@ sink_keeps (Ok x) step failures s t text ok err key keeps =
 sink_keeps (Err x) step failures s t text ok err key keeps =
     keeps err.before err.offered err.last t err.last_call
     ∙ calls_keep (AnyOffer step) key (λ x answer y c. keeps x c.0 answer y c.1) err.answers s err.before err.calls
+
+-- what is so with any answer of a call, where the answer is only looked at for its kind
+pub done_gives : {E : Type 0} (r : Result (Unit {0}) E) (P : Result (Unit {0}) E → Type 0) → is_err r ≡ false → P r →
+    P (Ok tt)
+done_gives (Ok x) P is h = h
+done_gives (Err x) P is h = absurd (cc)

@@ -1,5 +1,5 @@
 //! The real folder of a file, as a save of that file sees it.
-ghost use Rattle.std.specs.Prelude.{◌≡◌, ◌⊎◌, ◌+◌, ◌<◌, ◌^◌, None, IsTrue, IfSome, IfErr};
+ghost use Rattle.std.specs.Prelude.{◌≡◌, ◌⊎◌, ◌+◌, ◌<◌, ◌^◌, None, IsTrue, IfSome, IfErr, ⊤};
 ghost use Rattle.std.proofs.Common.{◌∙◌};
 ghost use Rattle.snap_file.specs.Saving.{unfinished, beside};
 ghost use Rattle.snap_file.specs.declared.fault.SaveFault.{SaveFault};
@@ -136,6 +136,8 @@ impl<'a, R: Files> Folder for Beside<'a, R> {
 
     ghost write_takes = { λ s offered answer t.
         beside t.is_made t.path.now ≡ beside s.is_made s.path.now };
+
+    ghost call_gives = { λ s call answer t. ⊤ };
 
     ghost failure_count = { λ s. s.failures };
 

@@ -8,6 +8,7 @@ mod entries;
 mod fault;
 mod file;
 mod head;
+mod kept_file;
 mod laws;
 mod limits;
 mod new_file;
@@ -25,6 +26,7 @@ pub use beside::try_save;
 pub use fault::{FileFault, SaveFault, SnapFault};
 pub use file::{load, save};
 pub use file_folder::{Folder, MemoryFolder};
+pub use kept_file::{LockedFile, NamedFile, SnapshotFile};
 pub use laws::{
     every_file_is_a_snapshot_or_has_a_fault, no_snapshot_begins_another, one_first_fault,
     one_snapshot_spelled, refused_memory_hides_no_early_fault, shown_fault_stays,

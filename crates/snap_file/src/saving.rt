@@ -6,7 +6,7 @@ ghost use Rattle.file_folder.specs.Files.{Files, WhereTold, KeepsOthers, HasFile
 ghost use Rattle.batch_store.specs.Books.{AreAccepted, accepted_in};
 ghost use Rattle.snap_file.specs.Snapshots.{HasBase};
 ghost use Rattle.snap_file.specs.Spelling.{file};
-ghost use Rattle.snap_file.specs.Saving.{unfinished, SaysWhy};
+ghost use Rattle.snap_file.specs.Saving.{unfinished, IsFileSynced, HasSaved, SaysWhyNotMade, SaysWhy};
 
 use crate::fault::SaveFault;
 use crate::new_file::NewFile;
@@ -75,7 +75,9 @@ fn make_file<F: Folder>(
     ensures made { OnOk result (WhereTold (HasFile name.now (file setup.now (accepted_in list.now)))
         (F.files f.old) (F.files f.new)) }
     ensures kept { OnErr result (WhereTold (KeepsOthers name.now) (F.files f.old) (F.files f.new)) }
-    ensures why { IfErr result (λ fault. SaysWhy F.write_takes F.failure_count f.old f.new
+    ensures calls { OnOk result (IsFileSynced F.call_gives F.write_takes F.failure_count f.old f.new name.now
+        (file setup.now (accepted_in list.now))) }
+    ensures why { IfErr result (λ fault. SaysWhyNotMade F.call_gives F.write_takes F.failure_count f.old f.new name.now
         (file setup.now (accepted_in list.now)) fault) }
     ensures no_failure { OnOk result (F.failure_count f.new ≡ F.failure_count f.old) }
 {
@@ -121,8 +123,13 @@ pub fn save_in<F: Folder>(
         (F.files f.old) (F.files f.new)) }
     // Where it tells its files, every file but the one under the other name is as before.
     ensures kept { OnErr result (WhereTold (KeepsOthers (unfinished path.now)) (F.files f.old) (F.files f.new)) }
-    // Over every folder, a fault is told only where the folder failed in this call, or a write took nothing.
-    ensures why { IfErr result (λ fault. SaysWhy F.write_takes F.failure_count f.old f.new
+    // Over every folder, these are the calls, each once and in this order: the file is made, written whole, synced and
+    // renamed.
+    ensures calls { OnOk result (HasSaved F.call_gives F.write_takes F.failure_count f.old f.new path.now
+        (file setup.now (accepted_in list.now))) }
+    // And a fault names the call that failed, or the write that took nothing: those before it are these, and none
+    // follows.
+    ensures why { IfErr result (λ fault. SaysWhy F.call_gives F.write_takes F.failure_count f.old f.new path.now
         (file setup.now (accepted_in list.now)) fault) }
     ensures no_failure { OnOk result (F.failure_count f.new ≡ F.failure_count f.old) }
 {

@@ -10,12 +10,12 @@ ghost use Rattle.cells.specs.Order.{Rise};
 ghost use Rattle.hyper_matrix.specs.Cells.{built_of};
 ghost use Rattle.hyper_matrix.specs.Counts.{total, ewise_add};
 ghost use Rattle.hyper_matrix.specs.Matrix.{matrix};
-ghost use Rattle.batch_store.specs.Setups.{Setting};
-ghost use Rattle.batch_store.specs.Accepted.{Accepted, accepted, summed};
+ghost use Rattle.batch_store.specs.Accepted.{accepted, summed};
 ghost use Rattle.batch_store.specs.Batches.{values};
 ghost use Rattle.batch_store.specs.Books.{list_total, AreAccepted, HaveDims, accepted_in};
-ghost use Rattle.snap_file.specs.Snapshots.{HasBase};
+ghost use Rattle.snap_file.specs.Snapshots.{HasBase, Saved};
 ghost use Rattle.snap_report.specs.Checks.{line_of, check_line, LeavesOutput};
+ghost use Rattle.snap_report.specs.Kept.{HasLoaded, IsReadTold, ComesLater};
 
 use crate::fault::CheckFault;
 use crate::limits::{CHECK_CUTS, SNAPSHOT_BYTES};
@@ -26,9 +26,8 @@ use cells::Cell;
 use hyper_matrix::Hyper;
 use layer_cascade::CascadeFault;
 use pending_layers::PendingLayers;
-use snap_file::load;
+use snap_file::SnapshotFile;
 use std::alloc::{AllocError, Global};
-use std::rt::Files;
 use std::sync::Arc;
 
 // More than the bytes of the longest line: six numbers of at most 20 digits, and 44 more.
@@ -166,6 +165,7 @@ fn write_parts<W: Sink>(
         HasStopped W.write_takes W.failure_count w.old w.new
         (check_line setup.now (accepted base.now.counts folded.now (values batches.now))) fault.written }
     ensures unwritten { IfErr result (λ fault. LeavesOutput fault ⊎ (w.new ≡ w.old)) }
+    ensures later { IfErr result ComesLater }
 {
     // The limits bound the total and the number of batches.
     let _limits = (setup.limit(), setup.max_batches());
@@ -198,12 +198,13 @@ fn write_check<W: Sink>(
         HasStopped W.write_takes W.failure_count w.old w.new (check_line setup.now (accepted_in list.now))
         fault.written }
     ensures unwritten { IfErr result (λ fault. LeavesOutput fault ⊎ (w.new ≡ w.old)) }
+    ensures later { IfErr result ComesLater }
 {
     write_parts(alloc, w, setup, &list.base, &list.folded, &list.batches)
 }
 
-/// Reads the snapshot under `path`, and writes the line `rows R cols C shards K batches B total T entries E`, where B
-/// and T count folded batches too, and E is the number of cells of the sum of all.
+/// Reads the snapshot in a file, and writes the line `rows R cols C shards K batches B total T entries E`, where B and T
+/// count folded batches too, and E is the number of cells of the sum of all.
 ///
 /// Takes the memory of the list, of layers with the cuts 4,096, 65,536 and 1,048,576, and of a list of at most 2^21
 /// cells that wait before them, or as many as the base or one batch has; and at the end of one list of all cells in
@@ -213,21 +214,21 @@ fn write_check<W: Sink>(
 ///
 /// `File` where there is no such file, where it can't be opened or read, or where it is no snapshot; `Memory`; and
 /// `Output` where the line could not be written. Only `Output` leaves anything written.
-pub fn run_check<R: Files, W: Sink>(
-    rt: &R,
+pub fn run_check<F: SnapshotFile, W: Sink>(
     alloc: Global,
-    path: &str,
+    file: &mut F,
     w: &mut W,
 ) -> Result<(), CheckFault>
     requires { W.failure_count w.old + 1 < 2 ^ 64 }
-    // What was written is the line of some setup and of what a book of it may have accepted.
-    ensures ok { OnOk result ((setup : Setting) × (a : Accepted) × AreAccepted setup a
-        × HasTaken W.write_takes W.failure_count w.old w.new (check_line setup a)) }
+    // One load is made of the file, and no save. What was written is the line of the snapshot that it has answered.
+    ensures ok { OnOk result ((x : Saved) × HasLoaded F.load_gives file.old file.new x
+        × HasTaken W.write_takes W.failure_count w.old w.new (check_line x.setup (accepted_in x.list))) }
     ensures output { (fault : WriteFault) → result ≡ Err (CheckFault.Output fault) →
-        (setup : Setting) × (a : Accepted) × AreAccepted setup a
-        × HasStopped W.write_takes W.failure_count w.old w.new (check_line setup a) fault.written }
+        (x : Saved) × HasLoaded F.load_gives file.old file.new x
+        × HasStopped W.write_takes W.failure_count w.old w.new (check_line x.setup (accepted_in x.list)) fault.written }
+    ensures told { IfErr result (λ fault. IsReadTold F.load_gives file.old file.new fault) }
     ensures unwritten { IfErr result (λ fault. LeavesOutput fault ⊎ (w.new ≡ w.old)) }
 {
-    let snapshot = load(rt, alloc, path, SNAPSHOT_BYTES)?;
+    let snapshot = file.load(alloc, SNAPSHOT_BYTES)?;
     write_check(alloc, w, &snapshot.setup, &snapshot.list)
 }

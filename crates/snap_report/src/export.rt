@@ -2,13 +2,13 @@
 ghost use Rattle.std.specs.Prelude.{◌≡◌, ◌+◌, ◌<◌, ◌^◌, ◌⊎◌, List, [], Err, OnOk, IfErr};
 ghost use Rattle.byte_io.specs.Writing.{HasTaken, HasStopped};
 ghost use Rattle.byte_io.specs.declared.fault.WriteFault.{WriteFault};
-ghost use Rattle.batch_store.specs.Setups.{Setting};
 ghost use Rattle.hyper_matrix.specs.Counts.{total};
-ghost use Rattle.batch_store.specs.Accepted.{Accepted, accepted};
+ghost use Rattle.batch_store.specs.Accepted.{accepted};
 ghost use Rattle.batch_store.specs.Batches.{values};
 ghost use Rattle.batch_store.specs.Books.{list_total, AreAccepted, HaveDims, accepted_in};
-ghost use Rattle.snap_file.specs.Snapshots.{HasBase};
+ghost use Rattle.snap_file.specs.Snapshots.{HasBase, Saved};
 ghost use Rattle.snap_report.specs.Checks.{accepted_text, LeavesOutput};
+ghost use Rattle.snap_report.specs.Kept.{HasLoaded, IsReadTold, ComesLater};
 
 use crate::check::sum_of;
 use crate::fault::CheckFault;
@@ -17,9 +17,8 @@ use batch_store::{Batch, BookList, Setup};
 use byte_io::Sink;
 use hyper_matrix::Hyper;
 use mm_text::write_matrix;
-use snap_file::load;
+use snap_file::SnapshotFile;
 use std::alloc::Global;
-use std::rt::Files;
 use std::sync::Arc;
 
 // Writes the text of the sum of a base and of all batches.
@@ -40,6 +39,7 @@ fn write_sum<W: Sink>(
         HasStopped W.write_takes W.failure_count w.old w.new
         (accepted_text setup.now (accepted base.now.counts [] (values batches.now))) fault.written }
     ensures unwritten { IfErr result (λ fault. LeavesOutput fault ⊎ (w.new ≡ w.old)) }
+    ensures later { IfErr result ComesLater }
 {
     let cells = match sum_of(alloc, setup, base, batches) {
         Ok(cells) => cells,
@@ -67,11 +67,12 @@ fn write_export<W: Sink>(
         HasStopped W.write_takes W.failure_count w.old w.new
         (accepted_text setup.now (accepted_in list.now)) fault.written }
     ensures unwritten { IfErr result (λ fault. LeavesOutput fault ⊎ (w.new ≡ w.old)) }
+    ensures later { IfErr result ComesLater }
 {
     write_sum(alloc, w, setup, &list.base, &list.batches)
 }
 
-/// Reads the snapshot under `path`, and writes the canonical text of the sum of its batches, folded ones too: a Matrix
+/// Reads the snapshot in a file, and writes the canonical text of the sum of its batches, folded ones too: a Matrix
 /// Market text in the dimensions of its setup, with the cells by row and then by column.
 ///
 /// Takes the memory of `run_check`, and its time and that of the text's bytes. `w` is not flushed.
@@ -81,21 +82,22 @@ fn write_export<W: Sink>(
 /// Those of `run_check`: `File` where there is no such file, where it can't be opened or read, or where it is no
 /// snapshot; `Memory`; and `Output` where the text could not be written whole. Only `Output` leaves anything written:
 /// the first bytes of the text, as many as it says.
-pub fn run_export<R: Files, W: Sink>(
-    rt: &R,
+pub fn run_export<F: SnapshotFile, W: Sink>(
     alloc: Global,
-    path: &str,
+    file: &mut F,
     w: &mut W,
 ) -> Result<(), CheckFault>
     requires { W.failure_count w.old + 1 < 2 ^ 64 }
-    // What was written is the text of the sum of what a book of some setup may have accepted.
-    ensures ok { OnOk result ((setup : Setting) × (a : Accepted) × AreAccepted setup a
-        × HasTaken W.write_takes W.failure_count w.old w.new (accepted_text setup a)) }
+    // One load is made of the file, and no save. What was written is the text of the sum of the snapshot that it has
+    // answered.
+    ensures ok { OnOk result ((x : Saved) × HasLoaded F.load_gives file.old file.new x
+        × HasTaken W.write_takes W.failure_count w.old w.new (accepted_text x.setup (accepted_in x.list))) }
     ensures output { (fault : WriteFault) → result ≡ Err (CheckFault.Output fault) →
-        (setup : Setting) × (a : Accepted) × AreAccepted setup a
-        × HasStopped W.write_takes W.failure_count w.old w.new (accepted_text setup a) fault.written }
+        (x : Saved) × HasLoaded F.load_gives file.old file.new x
+        × HasStopped W.write_takes W.failure_count w.old w.new (accepted_text x.setup (accepted_in x.list)) fault.written }
+    ensures told { IfErr result (λ fault. IsReadTold F.load_gives file.old file.new fault) }
     ensures unwritten { IfErr result (λ fault. LeavesOutput fault ⊎ (w.new ≡ w.old)) }
 {
-    let snapshot = load(rt, alloc, path, SNAPSHOT_BYTES)?;
+    let snapshot = file.load(alloc, SNAPSHOT_BYTES)?;
     write_export(alloc, w, &snapshot.setup, &snapshot.list)
 }

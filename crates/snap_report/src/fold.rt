@@ -1,16 +1,16 @@
 //! `fold`: reads a snapshot, folds all its batches, and saves it again.
-ghost use Rattle.std.specs.Prelude.{◌≡◌, ◌+◌, ◌<◌, ◌^◌, ◌⊎◌, ◌++◌, Err, OnOk, IfOk, IfErr};
+ghost use Rattle.std.specs.Prelude.{◌≡◌, ◌+◌, ◌<◌, ◌^◌, ◌⊎◌, ◌++◌, Ok, Err, OnOk, IfOk, IfErr};
 ghost use Rattle.std.specs.Arc.{arc_value};
 ghost use Rattle.byte_io.specs.Writing.{HasTaken, HasStopped};
 ghost use Rattle.byte_io.specs.declared.fault.WriteFault.{WriteFault};
 ghost use Rattle.hyper_matrix.specs.Cells.{built_of};
 ghost use Rattle.hyper_matrix.specs.Matrix.{matrix};
-ghost use Rattle.batch_store.specs.Setups.{Setting};
-ghost use Rattle.batch_store.specs.Accepted.{Accepted, count_in, total_in, summed, folded_into};
+ghost use Rattle.batch_store.specs.Accepted.{count_in, total_in};
 ghost use Rattle.batch_store.specs.Batches.{entries_of, values};
 ghost use Rattle.batch_store.specs.Books.{AreAccepted, accepted_in};
-ghost use Rattle.snap_file.specs.Snapshots.{HasBase};
+ghost use Rattle.snap_file.specs.Snapshots.{HasBase, Saved};
 ghost use Rattle.snap_report.specs.Folds.{fold_line, LeavesLine};
+ghost use Rattle.snap_report.specs.Kept.{folded_in, HasFolded, IsFoldTold};
 
 use crate::check::{LINE_CAPACITY, push_number, sum_of};
 use crate::fault::FoldFault;
@@ -20,10 +20,8 @@ use batch_store::{Batch, BookList, Entry, Setup};
 use byte_io::{Sink, write_all};
 use cells::Cell;
 use hyper_matrix::Hyper;
-use snap_file::{SaveFault, load, lock_existing, save};
+use snap_file::SnapshotFile;
 use std::alloc::{AllocError, Global};
-use std::fs::File;
-use std::rt::Files;
 use std::sync::Arc;
 
 // The matrix of these cells.
@@ -65,8 +63,7 @@ fn all_entries(list: BookList) -> Result<Vec<Entry>, AllocError>
 fn folded(alloc: Global, setup: &Setup, list: BookList) -> Result<BookList, AllocError>
     requires accepted { AreAccepted setup.now (accepted_in list) }
     requires based { HasBase setup.now list }
-    ensures state { IfOk result (λ l.
-        accepted_in l ≡ folded_into (summed (accepted_in list)) (accepted_in list)) }
+    ensures state { IfOk result (λ l. accepted_in l ≡ folded_in list) }
     ensures based { IfOk result (λ l. HasBase setup.now l) }
 {
     // It bounds the total.
@@ -93,25 +90,17 @@ fn line_of(batches: u64, total: u64) -> ArrayString<LINE_CAPACITY>
     line
 }
 
-// Folds the snapshot under `path`, and answers how many batches are folded then, and their total.
-fn fold_file<R: Files<File = File>>(
-    rt: &R,
-    alloc: Global,
-    path: &str,
-) -> Result<(u64, u64), FoldFault>
-    ensures ok { IfOk result (λ r. (setup : Setting) × (a : Accepted) × AreAccepted setup a
-        × (r.0 ≡ count_in a) × (r.1 ≡ total_in a)) }
+// Folds the snapshot in a file, and answers how many batches are folded then, and their total.
+fn fold_file<F: SnapshotFile>(alloc: Global, file: &mut F) -> Result<(u64, u64), FoldFault>
+    ensures ok { IfOk result (λ r. (x : Saved) × HasFolded F.load_gives F.save_gives file.old file.new x (Ok tt)
+        × (r.0 ≡ count_in (accepted_in x.list)) × (r.1 ≡ total_in (accepted_in x.list))) }
+    ensures told { IfErr result (λ fault. IsFoldTold F.load_gives F.save_gives file.old file.new fault) }
     ensures unwritten { IfErr result (λ fault. LeavesLine fault → ⊥) }
 {
-    // Held to the end: nobody else saves there between the reading and the save.
-    let lock = lock_existing(rt, alloc, path)?;
-    let snapshot = load(rt, alloc, path, SNAPSHOT_BYTES)?;
-    if lock.is_none() {
-        return Err(FoldFault::Save(SaveFault::Create));
-    }
+    let snapshot = file.load(alloc, SNAPSHOT_BYTES)?;
     let setup = snapshot.setup;
     let list = folded(alloc, &setup, snapshot.list)?;
-    save(rt, alloc, path, &setup, &list)?;
+    file.save(alloc, &setup, &list)?;
     Ok((list.folded.len() as u64, list.base.total()))
 }
 
@@ -130,33 +119,36 @@ fn write_line<W: Sink>(w: &mut W, batches: u64, total: u64) -> Result<(), FoldFa
     }
 }
 
-/// Reads the snapshot under `path`, folds all its batches into its base, saves it under `path`, and writes the line
+/// Reads the snapshot in a file, folds all its batches into its base, saves it in that file, and writes the line
 /// `folded F total T`: how many batches are folded now, and their total. What an engine that is started from it answers
 /// stays as it was, repeats included; the cells of each batch are gone.
 ///
-/// Takes the memory of `run_check`: the batches are let go of before their sum is built. It holds the lock of `path`
-/// from before the reading to behind the save: a file that a server saves to isn't folded.
+/// Takes the memory of `run_check`: the batches are let go of before their sum is built. Where a server may save to the
+/// file meanwhile, give a `LockedFile`, whose lock is held from before the reading to behind the save.
 ///
 /// # Errors
 ///
-/// `File` where there is no such file, where another holds the lock (`Busy`), where it can't be opened or read, or
-/// where it is no snapshot; `Memory`; `Save` where the lock can't be had (`Create`) or the file could not be saved; and
-/// `Output` where the line could not be written whole: the file is saved then.
-pub fn run_fold<R: Files<File = File>, W: Sink>(
-    rt: &R,
+/// `File` where there is no such file, where another may save there (`Busy`), where it can't be opened or read, or where
+/// it is no snapshot; `Memory`; `Save` where the file could not be saved; and `Output` where the line could not be
+/// written whole: the file is saved then.
+pub fn run_fold<F: SnapshotFile, W: Sink>(
     alloc: Global,
-    path: &str,
+    file: &mut F,
     w: &mut W,
 ) -> Result<(), FoldFault>
     requires { W.failure_count w.old + 1 < 2 ^ 64 }
-    // What was written is the line of what some setup's book accepts.
-    ensures ok { OnOk result ((setup : Setting) × (a : Accepted) × AreAccepted setup a
-        × HasTaken W.write_takes W.failure_count w.old w.new (fold_line (count_in a) (total_in a))) }
+    // One load is made of the file and then one save, of the snapshot that the load has answered, with all its batches
+    // folded. What was written is the line of that snapshot.
+    ensures ok { OnOk result ((x : Saved) × HasFolded F.load_gives F.save_gives file.old file.new x (Ok tt)
+        × HasTaken W.write_takes W.failure_count w.old w.new
+        (fold_line (count_in (accepted_in x.list)) (total_in (accepted_in x.list)))) }
     ensures output { (fault : WriteFault) → result ≡ Err (FoldFault.Output fault) →
-        (setup : Setting) × (a : Accepted) × AreAccepted setup a
-        × HasStopped W.write_takes W.failure_count w.old w.new (fold_line (count_in a) (total_in a)) fault.written }
+        (x : Saved) × HasFolded F.load_gives F.save_gives file.old file.new x (Ok tt)
+        × HasStopped W.write_takes W.failure_count w.old w.new
+        (fold_line (count_in (accepted_in x.list)) (total_in (accepted_in x.list))) fault.written }
+    ensures told { IfErr result (λ fault. IsFoldTold F.load_gives F.save_gives file.old file.new fault) }
     ensures unwritten { IfErr result (λ fault. LeavesLine fault ⊎ (w.new ≡ w.old)) }
 {
-    let (batches, total) = fold_file(rt, alloc, path)?;
+    let (batches, total) = fold_file(alloc, file)?;
     write_line(w, batches, total)
 }

@@ -4,6 +4,8 @@ use Rattle.file_folder.proofs.RunLemmas.{taken_holds, stopped_keeps}
 use Rattle.batch_store.specs.Books.{accepted_in}
 use Rattle.snap_file.specs.Spelling.{file}
 use Rattle.file_folder.proofs.MemoryLemmas.{on_ok}
+use Rattle.file_folder.specs.Calls.{create}
+use Rattle.snap_file.proofs.SaveLemmas.{done_gives}
 use Rattle.snap_file.proofs.saving.make_file.Goals as goal
 
 pub returns-in-Err-clause-kept : goal.returns-in-Err-clause-kept
@@ -65,8 +67,13 @@ write_new-requires-clause-failures g c =
 
 pub returns-in-Err-clause-why : goal.returns-in-Err-clause-why
 returns-in-Err-clause-why g c =
-    let fine : is_err c.create.result ≡ false = sym c.is_err.ensures.value ∙ c.if-is_err.false in
-    (c.create.new.self, on_ok c.create.result _ fine c.create.ensures.ok, c.in-Err.ensures.err)
+    let fine : is_err c.create.result ≡ false = sym c.is_err.ensures.value ∙ c.if-is_err.false in (
+      c.create.new.self,
+      done_gives c.create.result (λ r. g.F.Folder.call_gives c.args.f.now (create c.args.name.now) r c.create.new.self)
+          fine c.create.ensures.answer,
+      on_ok c.create.result _ fine c.create.ensures.ok,
+      c.in-Err.ensures.err,
+    )
 
 pub sync-requires-clause-failures : goal.sync-requires-clause-failures
 sync-requires-clause-failures g c =
@@ -86,9 +93,32 @@ returns-in-Ok-clause-no_failure g c =
 pub returns-in-Err-sync-clause-why : goal.returns-in-Err-sync-clause-why
 returns-in-Err-sync-clause-why g c =
     let fine : is_err c.create.result ≡ false = sym c.is_err.ensures.value ∙ c.if-is_err.false in
-    omega (
-      arith,
-      c.in-Err-sync.ensures.err,
-      c.in_default.ensures.ok.none_failed,
-      on_ok c.create.result _ fine c.create.ensures.ok,
+    let none_failed = on_ok c.create.result _ fine c.create.ensures.ok in (
+      c.write_new.new.f,
+      record {
+        made = c.create.new.self;
+        is_made = done_gives c.create.result
+            (λ r. g.F.Folder.call_gives c.args.f.now (create c.args.name.now) r c.create.new.self) fine
+            c.create.ensures.answer;
+        none_failed = none_failed;
+        all_taken = c.in_default.ensures.ok;
+      },
+      (_, c.in-Err-sync.ensures.answer),
+      omega (arith, c.in-Err-sync.ensures.err, c.in_default.ensures.ok.none_failed, none_failed),
     )
+
+pub returns-in-Ok-clause-calls : goal.returns-in-Ok-clause-calls
+returns-in-Ok-clause-calls g c =
+    let fine : is_err c.create.result ≡ false = sym c.is_err.ensures.value ∙ c.if-is_err.false in
+    record {
+      written = c.write_new.new.f;
+      is_written = record {
+        made = c.create.new.self;
+        is_made = done_gives c.create.result
+            (λ r. g.F.Folder.call_gives c.args.f.now (create c.args.name.now) r c.create.new.self) fine
+            c.create.ensures.answer;
+        none_failed = on_ok c.create.result _ fine c.create.ensures.ok;
+        all_taken = c.in_default.ensures.ok;
+      };
+      is_synced = c.in-Ok.ensures.answer;
+    }

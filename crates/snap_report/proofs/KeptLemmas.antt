@@ -1,0 +1,59 @@
+-- What a fault of a call is told as.
+use Rattle.std.proofs.Common.{◌≡◌, ◌≢◌, ℕ, Result, Ok, Err, IfErr, IsErrAnd, inl, inr, refl, sym, subst}
+use Rattle.batch_store.specs.Setups.{Setting}
+use Rattle.batch_store.specs.Accepted.{Accepted}
+use Rattle.batch_store.specs.Books.{Listing, AreAccepted, accepted_in}
+use Rattle.snap_file.specs.Snapshots.{Saved, saved}
+use Rattle.snap_file.specs.declared.fault.SnapFault.TheVariants as snap
+use Rattle.snap_file.specs.declared.fault.FileFault.{FileFault}
+use Rattle.snap_file.specs.declared.fault.FileFault.TheVariants as file
+use Rattle.snap_file.specs.declared.fault.SaveFault.{SaveFault}
+use Rattle.snap_file.specs.declared.fault.SaveFault.TheVariants as save
+use Rattle.snap_report.specs.declared.fault.CheckFault.{CheckFault}
+use Rattle.snap_report.specs.declared.fault.CheckFault.TheVariants as check
+use Rattle.snap_report.specs.declared.fault.FoldFault.{FoldFault}
+use Rattle.snap_report.specs.Checks.{fault_of_file}
+use Rattle.snap_report.specs.Folds.{fold_fault_of_file, fold_fault_of_save}
+use Rattle.snap_report.specs.Kept.{most_bytes, HasLoaded, HasFolded, IsReadTold, IsFoldTold, ComesLater}
+
+-- what is so of the fault that another was made into
+pub fault_told : {T : Type 0} (r : Result T FoldFault) (P : FoldFault → Type 0) (fault : FoldFault) →
+    IsErrAnd r (λ e. e ≡ fault) → P fault → IfErr r P
+fault_told (Ok x) P fault is h = absurd is
+fault_told (Err e) P fault is h = subst P (sym is) h
+
+module _ {F : Type 0} (loads : F → ℕ → Result Saved FileFault → F → Type 0) (s t : F) where
+  -- a load has answered what this setup and list are seen as
+  pub has_loaded : (v : Setting) (list : Listing) (x : Saved) → saved v list ≡ x → loads s most_bytes (Ok x) t →
+      AreAccepted v (accepted_in list) → HasLoaded loads s t (saved v list)
+  has_loaded v list x is h accepted = (subst (λ (y : Saved). loads s most_bytes (Ok y) t) (sym is) h, accepted)
+
+  pub load_told : (fault : FileFault) → fault ≢ file.Snap snap.Memory → loads s most_bytes (Err fault) t →
+      IsReadTold loads s t (fault_of_file fault)
+  load_told file.Memory not h = inl h
+  load_told (file.Snap snap.Memory) not h = absurd (not refl)
+  load_told fault not h = (tt, h)
+
+  -- a fault that comes after a load
+  pub later_told : (x : Saved) (fault : CheckFault) → HasLoaded loads s t x → ComesLater fault →
+      IsReadTold loads s t fault
+  later_told x (check.File fault) h is = absurd is
+  later_told x check.Memory h is = inr (x, h)
+  later_told x (check.Output fault) h is = tt
+
+  pub all_later_told : {T : Type 0} (r : Result T CheckFault) (x : Saved) → HasLoaded loads s t x →
+      IfErr r ComesLater → IfErr r (λ fault. IsReadTold loads s t fault)
+  all_later_told (Ok y) x h is = tt
+  all_later_told (Err fault) x h is = later_told x fault h is
+
+  module _ (saves : F → Setting → Accepted → Result (Unit {0}) SaveFault → F → Type 0) where
+    pub fold_load_told : (fault : FileFault) → fault ≢ file.Snap snap.Memory → loads s most_bytes (Err fault) t →
+        IsFoldTold loads saves s t (fold_fault_of_file fault)
+    fold_load_told file.Memory not h = inl h
+    fold_load_told (file.Snap snap.Memory) not h = absurd (not refl)
+    fold_load_told fault not h = (tt, h)
+
+    pub fold_save_told : (x : Saved) (fault : SaveFault) → HasFolded loads saves s t x (Err fault) →
+        IsFoldTold loads saves s t (fold_fault_of_save fault)
+    fold_save_told x save.Memory h = inr (inr (x, h))
+    fold_save_told x fault h = (tt, (x, h))

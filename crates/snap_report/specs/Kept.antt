@@ -1,0 +1,72 @@
+-- What was loaded from a file and saved in it, and what a fault says of these calls.
+--     HasLoaded loads s t x
+--                     the file, which went from s to t, has answered a load with the snapshot x, which a book accepts
+--     HasFolded loads saves s t x answer
+--                     so it has, and then it has answered so to a save of the setup of x and of what x tells, with all
+--                     its batches folded
+--     IsReadTold loads s t fault
+--                     what is told of the only call, a load: a fault of the file is told only where it is the answer
+--     IsFoldTold loads saves s t fault
+--                     what is told of a load and a save: a fault of the file only where the load has answered it, and
+--                     no save follows; one of the save only where the fold was to be saved, and that is the answer; and
+--                     that there was no memory where nothing was saved
+use Rattle.std.specs.Prelude.{◌⊎◌, ℕ, ◌^◌, Result, Ok, Err}
+use Rattle.batch_store.specs.Setups.{Setting}
+use Rattle.batch_store.specs.Accepted.{Accepted, summed, folded_into}
+use Rattle.batch_store.specs.Books.{Listing, AreAccepted, accepted_in}
+use Rattle.snap_file.specs.Snapshots.{Saved}
+use Rattle.snap_file.specs.declared.fault.SnapFault.TheVariants as snap
+use Rattle.snap_file.specs.declared.fault.FileFault.{FileFault}
+use Rattle.snap_file.specs.declared.fault.FileFault.TheVariants as file
+use Rattle.snap_file.specs.declared.fault.SaveFault.{SaveFault}
+use Rattle.snap_file.specs.declared.fault.SaveFault.TheVariants as save
+use Rattle.snap_report.specs.declared.fault.CheckFault.{CheckFault}
+use Rattle.snap_report.specs.declared.fault.CheckFault.TheVariants as check
+use Rattle.snap_report.specs.declared.fault.FoldFault.{FoldFault}
+use Rattle.snap_report.specs.declared.fault.FoldFault.TheVariants as fold
+
+-- the most bytes of a snapshot that is loaded
+abbrev pub most_bytes : ℕ
+most_bytes = 2 ^ 40
+
+-- want of memory is told as such
+abbrev pub IsFileFault : FileFault → Type 0
+IsFileFault file.Memory = ⊥
+IsFileFault (file.Snap snap.Memory) = ⊥
+IsFileFault _ = Unit {0}
+
+abbrev pub IsSaveFault : SaveFault → Type 0
+IsSaveFault save.Memory = ⊥
+IsSaveFault _ = Unit {0}
+
+-- what a list tells, with all its batches folded
+abbrev pub folded_in : Listing → Accepted
+folded_in list = folded_into (summed (accepted_in list)) (accepted_in list)
+
+abbrev pub HasLoaded : {F : Type 0} → (F → ℕ → Result Saved FileFault → F → Type 0) → F → F → Saved → Type 0
+HasLoaded loads s t x = loads s most_bytes (Ok x) t × AreAccepted x.setup (accepted_in x.list)
+
+abbrev pub HasFolded : {F : Type 0} → (F → ℕ → Result Saved FileFault → F → Type 0) →
+    (F → Setting → Accepted → Result (Unit {0}) SaveFault → F → Type 0) → F → F → Saved →
+    Result (Unit {0}) SaveFault → Type 0
+HasFolded {F} loads saves s t x answer =
+    (loaded : F) × HasLoaded loads s loaded x × saves loaded x.setup (folded_in x.list) answer t
+
+abbrev pub IsReadTold : {F : Type 0} → (F → ℕ → Result Saved FileFault → F → Type 0) → F → F → CheckFault → Type 0
+IsReadTold loads s t (check.File fault) = IsFileFault fault × loads s most_bytes (Err fault) t
+IsReadTold loads s t check.Memory = loads s most_bytes (Err file.Memory) t ⊎ ((x : Saved) × HasLoaded loads s t x)
+IsReadTold loads s t (check.Output fault) = Unit {0}
+
+abbrev pub IsFoldTold : {F : Type 0} → (F → ℕ → Result Saved FileFault → F → Type 0) →
+    (F → Setting → Accepted → Result (Unit {0}) SaveFault → F → Type 0) → F → F → FoldFault → Type 0
+IsFoldTold loads saves s t (fold.File fault) = IsFileFault fault × loads s most_bytes (Err fault) t
+IsFoldTold loads saves s t (fold.Save fault) = IsSaveFault fault × ((x : Saved) × HasFolded loads saves s t x (Err fault))
+IsFoldTold loads saves s t fold.Memory =
+    loads s most_bytes (Err file.Memory) t ⊎ (((x : Saved) × HasLoaded loads s t x)
+    ⊎ ((x : Saved) × HasFolded loads saves s t x (Err save.Memory)))
+IsFoldTold loads saves s t (fold.Output fault) = Unit {0}
+
+-- a fault that comes after the load: of memory, or of the output
+abbrev pub ComesLater : CheckFault → Type 0
+ComesLater (check.File fault) = ⊥
+ComesLater _ = Unit {0}
