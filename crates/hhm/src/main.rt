@@ -11,18 +11,20 @@ mod numbers;
 mod report;
 mod serve;
 mod serve_cli;
+mod told;
 
 use crate::memory::keep_freed_memory;
 use crate::numbers::read_list;
 use crate::report::Fault;
 use crate::serve::{settings_of, status_of};
+use crate::told::run_told;
 use byte_io::{Counted, write_all};
 use clap::error::ErrorKind;
 use clap::{ArgMatches, Error};
 use mm_sum::run_sum;
 use snap_file::{LockedFile, NamedFile};
 use snap_report::{run_check, run_export, run_fold};
-use socket_server::{ServerFault, Settings, run_server};
+use socket_server::{ServerFault, Settings};
 use std::alloc::AllocError;
 use std::process::ExitCode;
 use std::{env, io};
@@ -32,7 +34,7 @@ use std::{env, io};
 enum Outcome {
     /// All of it was done.
     Ended(ExitCode),
-    /// A server is to be run.
+    /// A server is to be run, and where events are asked for, they are told.
     Serve(Settings),
 }
 
@@ -41,7 +43,7 @@ fn main(rt: HostRuntime) -> ExitCode {
         Ok(Outcome::Ended(code)) => code,
         Ok(Outcome::Serve(settings)) => {
             let mut out = Counted::new(rt.stdout());
-            match run_server(&rt, rt.alloc(), settings, &mut out) {
+            match run_told(&rt, rt.alloc(), settings, &mut out) {
                 Ok(_) => ExitCode::SUCCESS,
                 Err(fault) => tell_server_fault(&rt, fault),
             }

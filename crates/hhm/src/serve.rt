@@ -6,10 +6,12 @@ use crate::numbers::{read_list, read_number};
 use crate::report::Fault;
 use batch_store::Setup;
 use clap::ArgMatches;
+use event_log::EventLog;
 use snap_file::{FileFault, SnapFault};
 use socket_server::{ServerFault, Settings};
 use std::alloc::{AllocError, Global};
 use std::num::NonZeroU64;
+use std::sync::Arc;
 
 /// The status that a server's fault ends the program with: 2 for settings, 3 for what a snapshot says, 4 for a device,
 /// an address or a thread, 5 for memory, 6 for records that differ.
@@ -68,11 +70,21 @@ fn setup_of(alloc: Global, matches: &ArgMatches) -> Result<Setup, Fault> {
     Ok(Setup::new(rows, cols, &cuts, shards, limit, max_batches)?)
 }
 
+// Where what happens is noted, if that is asked for.
+fn events_of(alloc: Global, matches: &ArgMatches) -> Result<Option<Arc<EventLog>>, AllocError> {
+    if !matches.get_flag("events") {
+        return Ok(None);
+    }
+    let path = word_of(alloc, matches, "snapshot")?;
+    Ok(Some(Arc::new(alloc, EventLog::new(alloc, path))?))
+}
+
 /// The settings that the options spell. All numbers are read before the setup is judged.
 pub fn settings_of(alloc: Global, matches: &ArgMatches) -> Result<Settings, Fault> {
     let workers = number_of(matches, "workers")?;
     let sessions = number_of(matches, "sessions")?;
     let idle = limit_of(matches, "idle")?;
+    let drain = limit_of(matches, "drain")?;
     let setup = setup_of(alloc, matches)?;
     Ok(Settings {
         tcp: word_of(alloc, matches, "tcp")?,
@@ -84,5 +96,7 @@ pub fn settings_of(alloc: Global, matches: &ArgMatches) -> Result<Settings, Faul
         must_save: matches.get_flag("must-save"),
         sessions,
         idle,
+        drain,
+        events: events_of(alloc, matches)?,
     })
 }

@@ -12,14 +12,16 @@ Writes 'listening tcp ADDRESS' and 'listening unix PATH' to standard output once
 it listens, and 'stopped batches B total T' at the end. A client ends it by a
 Stop. With --snapshot it starts from that file, if there is one, and saves what
 was accepted there, when a client asks for it and at the end; what came after
-the last save is lost if the process is killed. A Unix socket's path must not
-exist at the start, and is removed at the end.
+the last save is lost if the process is killed. At a Unix socket's path there
+must be nothing at the start, or a socket that nobody listens at, which is
+removed; it is removed at the end.
 
 As long as it runs it holds the lock of the file PATH.lock, so that no second
 server and no 'hhm fold' saves there ('hhm: file: Busy').
 
 A connection keeps its worker until it is closed, whether it sends or not, or
-until it has sent nothing for the time of --idle.
+until it has sent nothing for the time of --idle, or until the time of --drain
+after a Stop is over.
 
 A fault is one line on standard error:
 
@@ -156,7 +158,21 @@ static OPTIONS: &[ServeOption] = &[
         help: "End a connection that has sent or taken nothing for so long; 0: never, as without it",
         ..LEFT_OUT
     },
+    ServeOption {
+        name: "drain",
+        value: "SECONDS",
+        help: "End all connections so long after a Stop; 0: never, as without it",
+        ..LEFT_OUT
+    },
 ];
+
+// Whether what happens is told.
+fn events_arg<'a>(alloc: Global) -> Arg<'a> {
+    Arg::new(alloc, "events")
+        .long("events")
+        .action(ArgAction::SetTrue)
+        .help("Write a line to standard error for what happens: starts, saves, refusals, ends")
+}
 
 fn arg_of<'a>(alloc: Global, option: &'a ServeOption) -> Arg<'a> {
     let arg = Arg::new(alloc, option.name)
@@ -194,5 +210,5 @@ pub fn serve_command<'a>(alloc: Global) -> Result<Command<'a>, AllocError> {
     for flag in FLAGS {
         command = command.arg(flag_of(alloc, flag)?)?;
     }
-    Ok(command)
+    command.arg(events_arg(alloc))
 }

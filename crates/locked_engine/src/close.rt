@@ -65,9 +65,13 @@ impl<N: Named, H: Ledger> Engine<N, H> {
         ensures whole { IfOk result IsWhole }
         ensures past { IfOk result (λ e. SharePast e.book.state N.opened) }
         ensures seats { IfOk result (λ e. firsts seats.items ≡ total_in e.book.state) }
+        // What the engine was opened with comes first.
+        ensures opened { IfOk result (λ e. IsPrefix (entries_in N.opened) (entries_in e.book.state)) }
         ensures differ { (shards : _) (book : _) → result ≡ Err (CloseFault.RecordsDiffer shards book) →
             (shards_total shards.items ≡ total_in book.state) × (total_in book.state ≤ N.setup.limit)
             × (firsts seats.items ≡ total_in book.state) }
+        ensures opened_apart { (shards : _) (book : _) → result ≡ Err (CloseFault.RecordsDiffer shards book) →
+            IsPrefix (entries_in N.opened) (entries_in book.state) }
         // Some shard isn't at its place, or its base isn't the book's cut to its rows, or its record isn't the book's
         // batches that aren't folded and concern it.
         ensures apart { (shards : _) (book : _) → result ≡ Err (CloseFault.RecordsDiffer shards book) →

@@ -178,6 +178,7 @@ where
         ensures second { result.2.total ≡ total_in result.0.state }
         ensures shown { IsPrefix seen result.3 }
         ensures accepted { IsPrefix (entries_in result.0.state) result.3 }
+        ensures opened { IsPrefix (entries_in N.opened) (entries_in result.0.state) }
     {
         let LockedBook {
             book,
@@ -190,6 +191,8 @@ where
         if let Some(writer) = writer {
             writer.take(rt);
         }
+        // Any call on it tells what it keeps.
+        let _status = version.status();
         let mut all = seen;
         all.learn(&version);
         (book, first, second, all)

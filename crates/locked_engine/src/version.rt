@@ -70,6 +70,7 @@ impl<N: Named> Version<N> {
     pub fn status(&self) -> Status
         ensures status { result ≡ version_status self.now }
         ensures legal { IsVersion N.setup self.now }
+        ensures opened { IsPrefix (entries_in N.opened) self.now }
     {
         self.status
     }

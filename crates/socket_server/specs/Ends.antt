@@ -3,6 +3,8 @@
 --                     an engine of setup v was closed with this as accepted, which a book accepts: s tells its number of
 --                     batches and its total, and where there is a path the disk d has answered that it was saved under
 --                     it
+--     GoesOn a b      what an engine had accepted when it was closed, b, goes on from what it was opened with, a: the
+--                     entries of a are the first of b's, and the same batches are folded, into the same base
 --     IsClosed seats a
 --                     what the seats of an engine say of what it had accepted when it was closed
 use Rattle.std.specs.Prelude.{◌≡◌, ℕ, List, Option, String}
@@ -13,7 +15,7 @@ use Rattle.batch_store.specs.Accepted.{Accepted, entries_in, total_in}
 use Rattle.batch_store.specs.Books.{AreAccepted}
 use Rattle.plain_engine.specs.declared.status.Status.{Status}
 use Rattle.plain_engine.specs.Object.{status_of}
-use Rattle.locked_engine.specs.Opened.{firsts}
+use Rattle.locked_engine.specs.Opened.{firsts, SharePast}
 use Rattle.locked_engine.specs.Told.{AreShown}
 use Rattle.locked_engine.specs.Views.{SeatView}
 use Rattle.session_pool.specs.Saves.{IsSaved}
@@ -21,6 +23,10 @@ use Rattle.session_pool.specs.Saves.{IsSaved}
 abbrev pub EndsWith : {D Z : Type 0} → (D → List ℕ → Setting → Accepted → Type 0) → D → Option (String Z) →
     Setting → Accepted → Status → Type 0
 EndsWith saves d path v a s = AreAccepted v a × (s ≡ status_of a) × IsSaved saves d path v a
+
+pub record GoesOn (a b : Accepted) : Type 0 where
+  pub entries : IsPrefix (entries_in a) (entries_in b)
+  pub past : SharePast b a
 
 -- The seats' shares add up to the accepted total, and what they were shown and the accepted entries are beginnings of one
 -- version.

@@ -2,6 +2,7 @@
 ghost use Rattle.std.specs.Prelude.{◌≡◌, ◌+◌, ◌<◌, ◌^◌, IfErr, OnOk};
 ghost use Rattle.socket_server.specs.Faults.{IsMetServing};
 
+use crate::drain::Drain;
 use crate::fault::ServerFault;
 use crate::host::{FileId, Host};
 use crate::numbers::SessionNumbers;
@@ -9,20 +10,25 @@ use crate::shared::Shared;
 use crate::stop::StopGate;
 use crate::watched_listener::{Listen, WatchedListener};
 use byte_io::{Sink, WriteFault, write_all};
+use event_log::EventLog;
 use mio::Waker;
 use std::alloc::Global;
 use std::io;
 use std::net::{Net, TcpListener, TcpStream};
 use std::os::unix::net::UnixListener;
+use std::sync::Arc;
 use std::time::Duration;
 
-/// Where a server listens, how many connections it takes, and how long one may be silent.
+/// Where a server listens, how many connections it takes, how long one may be silent, how long sessions go on after a
+/// Stop, and where what happens is noted.
 #[derive(Drop)]
 pub struct Places {
     pub tcp: Option<String>,
     pub unix: Option<String>,
     pub sessions: u64,
     pub idle: Option<Duration>,
+    pub drain: Option<Duration>,
+    pub events: Option<Arc<EventLog>>,
 }
 
 /// The path at which a Unix socket was bound, and the file that was made there, where that could be told.
@@ -185,6 +191,8 @@ pub fn bind_listeners<R: Host + Net<Listener = TcpListener, Stream = TcpStream>,
         unix,
         sessions,
         idle,
+        drain,
+        events,
     } = places;
     let (tcp, tcp_waker) = parted(bind_tcp(rt, alloc, tcp, out, written)?);
     let (unix, unix_waker, own) = match unix {
@@ -198,7 +206,7 @@ pub fn bind_listeners<R: Host + Net<Listener = TcpListener, Stream = TcpStream>,
         tcp,
         unix,
         shared: Shared {
-            gate: StopGate::new(tcp_waker, unix_waker),
+            gate: StopGate::new(tcp_waker, unix_waker, drain.map(Drain::new), events),
             numbers: SessionNumbers::new(sessions),
             idle,
         },

@@ -3,7 +3,7 @@ ghost use Rattle.std.specs.Prelude.{◌≡◌, ◌+◌, ◌<◌, ◌≤◌, ◌^
 ghost use Rattle.batch_store.specs.Accepted.{entries_in};
 ghost use Rattle.batch_store.specs.Accepted.{Accepted};
 ghost use Rattle.locked_engine.specs.Opened.{NamesEngine};
-ghost use Rattle.socket_server.specs.Ends.{EndsWith};
+ghost use Rattle.socket_server.specs.Ends.{EndsWith, GoesOn};
 ghost use Rattle.socket_server.specs.Faults.{IsMet, IsMetServing};
 ghost use Rattle.socket_server.specs.Starts.{StartsFrom, IsLocked, IsLoadTold};
 
@@ -11,18 +11,19 @@ use crate::bind::{Listeners, Places, bind_listeners, tell};
 use crate::fault::ServerFault;
 use crate::host::Host;
 use crate::serving::{close_all, serve_listeners};
-use crate::settings::{Settings, idle_limit};
-use crate::start::{starting_engine, take_lock};
+use crate::settings::{Settings, time_limit};
+use crate::start::{note_start, starting_engine, take_lock};
 use byte_io::Sink;
+use event_log::EventLog;
 use locked_engine::{Engine, Named, Names, Seat, Status};
 use plain_engine::PlainEngine;
 use session_pool::{Disk, Saver};
-use std::alloc::Global;
+use std::alloc::{AllocError, Global};
 use std::marker::Brand;
 use std::net::{Net, TcpListener, TcpStream};
 use std::random::RandomSource;
-use std::sync::Wait;
 use std::sync::ledger::Ledger;
+use std::sync::{Arc, Wait};
 use std::thread::Threads;
 use std::time::Clock;
 
@@ -48,7 +49,7 @@ fn serve_open<
 ) -> Result<Status, ServerFault>
     requires seats { length seats.items ≡ N.seats }
     ensures ended { IfOk result (λ s. (a : Accepted)
-        × EndsWith R.saves rt.now saver.now.path N.setup a s) }
+        × GoesOn N.opened a × EndsWith R.saves rt.now saver.now.path N.setup a s) }
     ensures met { IfErr result IsMetServing }
 {
     if let Err(fault) = serve_listeners(
@@ -81,7 +82,7 @@ fn serve_bound<
 ) -> Result<Status, ServerFault>
     requires seats { length seats.items ≡ N.seats }
     ensures ended { IfOk result (λ s. (a : Accepted)
-        × EndsWith R.saves rt.now saver.now.path N.setup a s) }
+        × GoesOn N.opened a × EndsWith R.saves rt.now saver.now.path N.setup a s) }
     ensures met { IfErr result IsMetServing }
 {
     let outcome = serve_open(rt, alloc, engine, seats, &listeners, saver);
@@ -116,7 +117,7 @@ fn serve_named<
     requires opened { plain.book.state ≡ N.opened }
     ensures failures { OnOk result (W.failure_count out.new ≡ W.failure_count out.old) }
     ensures ended { IfOk result (λ s. (a : Accepted)
-        × EndsWith R.saves rt.now plan.saver.path names.setup a s) }
+        × GoesOn N.opened a × EndsWith R.saves rt.now plan.saver.path names.setup a s) }
     ensures met { IfErr result IsMetServing }
 {
     let Ok((engine, seats)) = Engine::<N, H>::open(alloc, plain, names) else {
@@ -156,7 +157,7 @@ fn serve_plan<
     requires failures { W.failure_count out.old + 1 < 2 ^ 64 }
     requires workers { (1 ≤ workers) × (workers ≤ 32) }
     ensures ended { IfOk result (λ s. (a : Accepted)
-        × EndsWith R.saves rt.now plan.saver.path plain.setup a s) }
+        × GoesOn plain.book.state a × EndsWith R.saves rt.now plan.saver.path plain.setup a s) }
     ensures met { IfErr result IsMetServing }
 {
     let Ok(names) = Names::new(rt, alloc, &plain, workers as usize) else {
@@ -182,6 +183,14 @@ fn serve_plan<
     Ok(status)
 }
 
+// A share of the log, where there is one.
+fn copy_of(events: &Option<Arc<EventLog>>) -> Result<Option<Arc<EventLog>>, AllocError> {
+    match events {
+        Some(events) => Ok(Some(Arc::try_clone(events)?)),
+        None => Ok(None),
+    }
+}
+
 // Serves as the settings say, which were judged.
 #[tactic(auto, using(crate::proofs::FaultLaws::serving_met, crate::proofs::FaultLaws::serving_told))]
 fn serve_settings<
@@ -198,10 +207,9 @@ fn serve_settings<
     requires failures { W.failure_count out.old + 1 < 2 ^ 64 }
     requires workers { (1 ≤ settings.workers) × (settings.workers ≤ 32) }
     ensures locked { IfOk result (λ _. IsLocked R.locks rt.now settings.snapshot settings.must_save) }
-    ensures started { IfOk result (λ s. (a : Accepted)
-        × StartsFrom R.loads rt.now settings.snapshot settings.must_load settings.setup a) }
-    ensures ended { IfOk result (λ s. (a : Accepted)
-        × EndsWith R.saves rt.now settings.snapshot settings.setup a s) }
+    ensures ended { IfOk result (λ s. (a : Accepted) × (b : Accepted)
+        × StartsFrom R.loads rt.now settings.snapshot settings.must_load settings.setup a × GoesOn a b
+        × EndsWith R.saves rt.now settings.snapshot settings.setup b s) }
     ensures met { IfErr result (λ f. IsMet settings.must_load f) }
     ensures told { IfErr result (λ f. IsLoadTold R.loads R.locks rt.now settings.snapshot settings.setup f) }
 {
@@ -215,18 +223,26 @@ fn serve_settings<
         must_save,
         sessions,
         idle,
+        drain,
+        events,
     } = settings;
     // Held to the end: nobody else saves there.
     let _lock = take_lock(rt, alloc, &snapshot, must_load, must_save)?;
-    let plain = starting_engine(rt, alloc, setup, &snapshot, must_load)?;
+    let plain = starting_engine(rt, alloc, setup, &snapshot, must_load, &events)?;
+    note_start(rt, &events, plain.status());
+    let (Ok(own), Ok(savers)) = (copy_of(&events), copy_of(&events)) else {
+        return Err(ServerFault::Memory);
+    };
     let plan = Plan {
         places: Places {
             tcp,
             unix,
             sessions,
-            idle: idle_limit(idle),
+            idle: time_limit(idle),
+            drain: time_limit(drain),
+            events: own,
         },
-        saver: Saver::new(snapshot),
+        saver: Saver::noting(snapshot, savers),
     };
     serve_plan(rt, alloc, plain, workers, plan, out)
 }
@@ -241,8 +257,8 @@ fn serve_settings<
 /// The snapshot's path is locked, as `snap_file::lock` does it, from before the load until the answer. Where the lock
 /// can't be had, the server goes on without it, unless it must be seen that a snapshot can be saved.
 ///
-/// It may wait for as long as clients keep their connections open, unless the settings have an idle limit: at the end
-/// each session that was accepted is served to its own end.
+/// It may wait for as long as clients keep their connections open, unless the settings have an idle limit or one for the
+/// time after a Stop: without them each session that was accepted is served to its own end.
 ///
 /// # Errors
 ///
@@ -267,10 +283,9 @@ pub fn run_server<
         (f ≡ ServerFault.BadWorkers) ⊎ (f ≡ ServerFault.NoAddress) ⊎ IsMet settings.must_load f) }
     ensures told { IfErr result (λ f. IsLoadTold R.loads R.locks rt.now settings.snapshot settings.setup f) }
     ensures locked { IfOk result (λ _. IsLocked R.locks rt.now settings.snapshot settings.must_save) }
-    ensures started { IfOk result (λ s. (a : Accepted)
-        × StartsFrom R.loads rt.now settings.snapshot settings.must_load settings.setup a) }
-    ensures ended { IfOk result (λ s. (a : Accepted)
-        × EndsWith R.saves rt.now settings.snapshot settings.setup a s) }
+    ensures ended { IfOk result (λ s. (a : Accepted) × (b : Accepted)
+        × StartsFrom R.loads rt.now settings.snapshot settings.must_load settings.setup a × GoesOn a b
+        × EndsWith R.saves rt.now settings.snapshot settings.setup b s) }
 {
     settings.judge()?;
     serve_settings(rt, alloc, settings, out)

@@ -53,5 +53,7 @@ pub fn settings(rt: &impl Abort, alloc: Global, plan: &Plan) -> Settings {
         must_save: plan.must_save,
         sessions: plan.sessions,
         idle: None,
+        drain: None,
+        events: None,
     }
 }

@@ -3,18 +3,16 @@ use Rattle.std.specs.Prelude.{IfOk, Option, String}
 use Rattle.std.proofs.lemmas.Result.{IfOk-weaker}
 use Rattle.batch_store.specs.Setups.{Setting}
 use Rattle.batch_store.specs.Accepted.{Accepted}
-use Rattle.socket_server.specs.Ends.{EndsWith}
+use Rattle.socket_server.specs.Ends.{EndsWith, GoesOn}
 use Rattle.socket_server.proofs.server.serve_settings.Goals as goal
 
-pub returns-clause-started : goal.returns-clause-started
-returns-clause-started g c =
-    IfOk-weaker c.serve_plan.result _ _ (λ s h. (c.in_ok-plain.plain.book.state, c.in_ok-plain.ensures.start))
-    c.serve_plan.ensures.ended
-
+-- the engine that was closed was opened with what the start has made
 pub returns-clause-ended : goal.returns-clause-ended
 returns-clause-ended g c =
-    subst (λ (p : Option (String _)). IfOk c.serve_plan.result (λ s. (x : Accepted)
-    × EndsWith g.R.Disk.saves c.args.rt.now p c.args.settings.setup x s)) c.new.ensures
-    (subst (λ (v : Setting). IfOk c.serve_plan.result (λ s. (x : Accepted)
-    × EndsWith g.R.Disk.saves c.args.rt.now c.new.result.path v x s)) c.in_ok-plain.ensures.setup
-    c.serve_plan.ensures.ended)
+    let a = c.in_ok-plain.plain.book.state in
+    IfOk-weaker c.serve_plan.result _ _ (λ s h. (a, h.0, c.in_ok-plain.ensures.start, h.1, h.2))
+    (subst (λ (p : Option (String _)). IfOk c.serve_plan.result (λ s. (b : Accepted) × GoesOn a b
+    × EndsWith g.R.Disk.saves c.args.rt.now p c.args.settings.setup b s)) c.noting.ensures
+    (subst (λ (v : Setting). IfOk c.serve_plan.result (λ s. (b : Accepted) × GoesOn a b
+    × EndsWith g.R.Disk.saves c.args.rt.now c.noting.result.path v b s)) c.in_ok-plain.ensures.setup
+    c.serve_plan.ensures.ended))

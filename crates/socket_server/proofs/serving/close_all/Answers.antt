@@ -16,6 +16,7 @@ returns-in_ok-save_plain-in-Ok-clause-ended g c =
         shown = told.shown.1;
         accepted = told.shown.2;
       },
+      record { entries = told.opened; past = told.past },
       (
         subst (λ (v : Setting). AreAccepted v a) told.setup told.whole.keeps.accepted,
         c.status.ensures,

@@ -66,6 +66,17 @@ returns-clause-shown_apart g c = λ shards book e.
       subst (λ (w : Register). IsPrefix (entries_in w.state) all) same_book c.end-book.ensures.accepted,
     )
 
+pub returns-in-Ok-clause-opened : goal.returns-in-Ok-clause-opened
+returns-in-Ok-clause-opened g c =
+    subst (λ (e : Standing). IsPrefix (entries_in g.N.Named.opened) (entries_in e.book.state)) (sym c.in-Ok.ensures.ok)
+        c.end-book.ensures.opened
+
+pub returns-clause-opened_apart : goal.returns-clause-opened_apart
+returns-clause-opened_apart g c = λ shards book e.
+    let same_book : c.end-book.result.0 ≡ book = cc (c.in-Err.ensures.err.0, e) in
+    subst (λ (w : Register). IsPrefix (entries_in g.N.Named.opened) (entries_in w.state)) same_book
+        c.end-book.ensures.opened
+
 -- with records that agree there would be an engine
 pub returns-clause-apart : goal.returns-clause-apart
 returns-clause-apart g c = λ shards book e both.

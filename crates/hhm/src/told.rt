@@ -1,0 +1,54 @@
+//! A server beside a thread that tells what happens to it.
+ghost use Rattle.std.specs.Prelude.{◌+◌, ◌<◌, ◌^◌};
+
+use byte_io::Sink;
+use event_log::{Event, tell_events};
+use locked_engine::Status;
+use session_pool::Disk;
+use socket_server::{Host, ServerFault, Settings, run_server};
+use std::alloc::Global;
+use std::io::Eprint;
+use std::net::{Net, TcpListener, TcpStream};
+use std::random::RandomSource;
+use std::sync::{Arc, Wait};
+use std::thread;
+use std::thread::Threads;
+use std::time::Clock;
+
+/// Runs a server, and where what happens is noted tells it beside. Where there is no thread for that, it is told at the
+/// end.
+pub fn run_told<
+    R: Threads
+        + Wait
+        + Clock
+        + Disk
+        + Host
+        + RandomSource
+        + Eprint
+        + Net<Listener = TcpListener, Stream = TcpStream>
+        + Sync,
+    W: Sink,
+>(rt: &R, alloc: Global, settings: Settings, out: &mut W) -> Result<Status, ServerFault>
+    requires { W.failure_count out.old + 1 < 2 ^ 64 }
+{
+    let copy = match &settings.events {
+        Some(events) => Arc::try_clone(events),
+        None => return run_server(rt, alloc, settings, out),
+    };
+    let Ok(events) = copy else {
+        return Err(ServerFault::Memory);
+    };
+    let ((), outcome) = thread::join(
+        rt,
+        || tell_events(rt, &events),
+        || {
+            let outcome = run_server(rt, alloc, settings, out);
+            if let Ok(Status { batches, total }) = outcome {
+                events.note(rt, Event::Stopped { batches, total });
+            }
+            events.end(rt);
+            outcome
+        },
+    );
+    outcome
+}
