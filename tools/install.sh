@@ -5,9 +5,10 @@
 #
 # PREFIX is ~/.local, or /usr/local for root, where it is left out. Before anything is installed, hhm is built:
 #
-#     (by default)      with all its proofs: half an hour to an hour on four processors, 5 GB of memory for each
-#     --unproved        without them, in some two minutes: the same program and as fast, but nothing of it was proved
-#     --program FILE    not at all: FILE is an hhm that was built before
+#     (by default)      with all its proofs, in half an hour to an hour where nothing is proved yet
+#     --unproved        without them, in some two minutes: about as fast, but nothing is proved of it, and it checks
+#                       nothing while it runs
+#     --program FILE    not at all: FILE is an hhm that was built before, as crates/hhm/out/hhm
 #
 # DESTDIR, where the environment has it, is put before each path that is written, for whoever makes packages.
 set -euo pipefail
