@@ -86,7 +86,9 @@ pub fn load<R: Files>(
 /// Looks whether a file or a folder stands under the path. Nothing else is opened: the opening of a FIFO would wait for
 /// a writer.
 pub fn find_file<R: Files>(rt: &R, path: &str) -> Result<(), FileFault>
-    ensures { IfErr result (λ f. f ≢ FileFault.Snap SnapFault.Memory) }
+    // Nothing is read.
+    ensures unread { IfErr result (λ f. (fault : SnapFault) → f ≢ FileFault.Snap fault) }
+    ensures memory { IfErr result (λ f. f ≢ FileFault.Snap SnapFault.Memory) }
 {
     match fs::metadata(rt, path) {
         Ok(found) if found.is_file() || found.is_dir() => Ok(()),
@@ -97,7 +99,8 @@ pub fn find_file<R: Files>(rt: &R, path: &str) -> Result<(), FileFault>
 
 // Why a file wasn't opened.
 fn opening_fault(kind: io::ErrorKind) -> FileFault
-    ensures { result ≢ FileFault.Snap SnapFault.Memory }
+    ensures unread { (fault : SnapFault) → result ≢ FileFault.Snap fault }
+    ensures memory { result ≢ FileFault.Snap SnapFault.Memory }
 {
     match kind {
         io::ErrorKind::NotFound => FileFault::NotFound,

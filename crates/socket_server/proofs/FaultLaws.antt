@@ -1,9 +1,12 @@
--- The faults of a server that has its engine say nothing of a load.
-use Rattle.std.specs.Prelude.{ℕ, Bool, List, Option, Result, String}
+-- The faults of a server that has its engine say nothing of a load; and why a path isn't locked.
+use Rattle.std.proofs.Common.{◌≡◌, ◌≢◌, ◌⊎◌, inl, inr, sym, subst, refl}
+use Rattle.std.specs.Prelude.{ℕ, Bool, true, false, List, Option, Result, Ok, Err, IfErr, String}
 use Rattle.batch_store.specs.Setups.{Setting}
 use Rattle.snap_file.specs.Snapshots.{Saved}
+use Rattle.snap_file.specs.declared.fault.SnapFault.{SnapFault}
 use Rattle.snap_file.specs.declared.fault.FileFault.{FileFault}
-use Rattle.socket_server.specs.Faults.{IsMet, IsMetServing}
+use Rattle.snap_file.specs.declared.fault.FileFault.TheVariants as file
+use Rattle.socket_server.specs.Faults.{IsMet, IsMetServing, IsLockFault}
 use Rattle.socket_server.specs.Starts.{IsLoadTold}
 use Rattle.socket_server.specs.declared.fault.ServerFault.{ServerFault}
 use Rattle.socket_server.specs.declared.fault.ServerFault.TheVariants.{Memory, BadWorkers, NoAddress}
@@ -35,3 +38,22 @@ serving_told loads locks h path v NoWorker m = tt
 serving_told loads locks h path v RecordsDiffer m = tt
 serving_told loads locks h path v (Save fault) m = tt
 serving_told loads locks h path v (Output fault) m = tt
+
+pub lock_met : {T : Type 0} (r : Result T FileFault) → IfErr r (λ f. (f ≡ file.Busy) ⊎ (f ≡ file.Memory)) →
+    IfErr r (IsLockFault false)
+lock_met (Ok x) h = tt
+lock_met (Err f) (inl is) = subst (λ (g : FileFault). IsLockFault false g) (sym is) tt
+lock_met (Err f) (inr is) = subst (λ (g : FileFault). IsLockFault false g) (sym is) tt
+
+-- where nothing was read
+one_met : (f : FileFault) → ((fault : SnapFault) → f ≢ file.Snap fault) → IsLockFault true f
+one_met file.NotFound h = refl
+one_met file.OpenFailed h = refl
+one_met file.Busy h = tt
+one_met (file.Snap fault) h = absurd (h fault refl)
+one_met file.Memory h = tt
+
+pub existing_met : {T : Type 0} (r : Result T FileFault) →
+    IfErr r (λ f. (fault : SnapFault) → f ≢ file.Snap fault) → IfErr r (IsLockFault true)
+existing_met (Ok x) h = tt
+existing_met (Err f) h = one_met f h
