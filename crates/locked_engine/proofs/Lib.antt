@@ -2,6 +2,8 @@ pub mod MomentLaws
 pub mod AdmittedLaws
 pub mod PrefixLaws
 pub mod AddLaws
+pub mod HistoryLaws
 pub mod ToldLaws
 pub mod ListedLaws
 pub mod ShownLaws
+pub mod CountedLaws

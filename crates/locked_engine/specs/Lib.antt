@@ -4,4 +4,5 @@ pub mod Opened
 pub mod Moments
 pub mod Histories
 pub mod Told
+pub mod Counted
 pub mod Shown

@@ -77,11 +77,10 @@ impl<N: Named, H: Ledger> Engine<N, H> {
         ensures apart { (shards : _) (book : _) → result ≡ Err (CloseFault.RecordsDiffer shards book) →
             ¬ ((length shards.items ≡ N.setup.shards) × AreTogether N.setup.shards book.state 0 shards.items) }
 
-        // What the seats were shown and the book's entries are beginnings of one version.
-        ensures shown { IfOk result (λ e. (all : List Entry) × AreShown seats.items all
-            × IsPrefix (entries_in e.book.state) all) }
+        // What each seat was shown begins what the book has accepted.
+        ensures shown { IfOk result (λ e. AreShown seats.items (entries_in e.book.state)) }
         ensures shown_apart { (shards : _) (book : _) → result ≡ Err (CloseFault.RecordsDiffer shards book) →
-            (all : List Entry) × AreShown seats.items all × IsPrefix (entries_in book.state) all }
+            AreShown seats.items (entries_in book.state) }
     {
         if seats.len() != self.seats {
             return Err(CloseFault::SeatsMissing {
@@ -105,7 +104,7 @@ impl<N: Named, H: Ledger> Engine<N, H> {
         } = self;
         let (mut first, mut second, seen) = gather(seats);
         unlock_all(locked, &mut shards, &mut second);
-        let (book, mut first_number, mut second_number, _all) = book.into_inner().end(rt, seen);
+        let (book, mut first_number, mut second_number) = book.into_inner().end(rt, &seen);
         first_number.audit(&mut first);
         second_number.audit(&mut second);
         match join_parts(setup, book, shards) {

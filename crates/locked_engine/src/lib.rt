@@ -22,6 +22,7 @@
 
 mod close;
 mod compact;
+mod counted;
 mod engine;
 mod export;
 mod fault;
@@ -38,6 +39,7 @@ mod shown;
 mod version;
 
 pub use close::CloseFault;
+pub use counted::answers_count_once;
 pub use engine::Engine;
 pub use fault::OpenFault;
 pub use names::{Named, Names};

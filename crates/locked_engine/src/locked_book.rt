@@ -1,8 +1,8 @@
 //! What stands behind the book's lock.
-ghost use Rattle.std.specs.Prelude.{◌≡◌, ◌+◌, ◌≤◌, ◌<◌, ◌++◌, List, [], ◌∷◌, IfOk, IfErr, OnOk, OnErr, Ok, Some};
+ghost use Rattle.std.specs.Prelude.{◌≡◌, ◌+◌, ◌≤◌, ◌<◌, ◌++◌, List, [], ◌∷◌, IfOk, IfErr, IsSome, IsSomeAnd, OnOk, OnErr, Ok, Some};
 ghost use Rattle.batch_store.specs.declared.verdict.Entry.{Entry};
 ghost use Rattle.std.specs.Prelude.{drop, length};
-ghost use Rattle.std.specs.Bool.{OnTrue};
+ghost use Rattle.std.specs.Bool.{OnTrue, OnFalse};
 ghost use mathlib.Core.List.{IsPrefix};
 ghost use Rattle.std.specs.Arc.{arc_value};
 ghost use Rattle.batch_store.specs.Accepted.{unfolded, entries_in, count_in, total_in, with_batch};
@@ -15,7 +15,7 @@ ghost use Rattle.locked_engine.specs.Opened.{SharePast};
 ghost use Rattle.locked_engine.specs.Versions.{IsVersion};
 
 use crate::fault::NotAdmitted;
-use crate::history::HistoryWord;
+use crate::history::History;
 use crate::names::Named;
 use crate::version::{NextPlace, NextVersion, Version, VersionWriter, entry_of};
 use batch_store::{Batch, Book, BookList, Kept, Verdict};
@@ -39,10 +39,9 @@ where
     book: Book,
     first: ledger::Book<N>,
     second: ledger::Book<H>,
-    word: HistoryWord<N>,
-    version: Version<N>,
-    // Readers are shown the book's entries, and nothing that was offered is kept back. None only while it is lent to a
-    // call.
+    history: History<N>,
+    // Readers are shown the book's entries, and nothing that was offered is kept back. None only while a call that was
+    // lent this field shows them more.
     writer: Option<VersionWriter<N>>,
 }
 
@@ -50,7 +49,7 @@ impl<N: Named, H: Ledger> Model for LockedBook<N, H>
 where
     Version<N>: Absorb<NextVersion<N>, State = ()>,
 {
-    ghost use Rattle.std.specs.Prelude.{◌≡◌, [], drop, IfSome};
+    ghost use Rattle.std.specs.Prelude.{◌≡◌, [], drop, IsSomeAnd};
     ghost use Rattle.batch_store.specs.Accepted.{entries_in, total_in};
     ghost use Rattle.batch_store.specs.Books.{Register, coded_register};
     ghost use Rattle.locked_engine.specs.Opened.{SharePast};
@@ -63,8 +62,8 @@ where
 
     ghost invariant = { λ d. (d.book.setup ≡ N.setup) × SharePast d.book.state N.opened
         × (d.first.total ≡ total_in d.book.state) × (d.second.total ≡ total_in d.book.state)
-        × (d.version ≡ entries_in d.book.state)
-        × IfSome d.writer (λ w. (w.desk.shown.value ≡ entries_in d.book.state) × (drop w.behind w.log.items ≡ [])) };
+        × (d.history ≡ entries_in d.book.state)
+        × IsSomeAnd d.writer (λ w. (w.desk.shown.value ≡ entries_in d.book.state) × (drop w.behind w.log.items ≡ [])) };
 }
 
 /// Err where the verdict isn't a fresh one.
@@ -80,6 +79,46 @@ pub fn fresh(verdict: Verdict) -> Result<(), NotAdmitted>
         Verdict::BookFull => PutFault::BookFull,
     };
     Err(NotAdmitted::Refused(fault))
+}
+
+// Offers readers a place for the next version. False where that growth was refused: then they are shown what they were,
+// and nothing is kept back.
+fn offer<N: Named, R: Wait>(
+    rt: &R,
+    held: &mut Option<VersionWriter<N>>,
+    place: NextVersion<N>,
+) -> bool
+where
+    Version<N>: Absorb<NextVersion<N>, State = ()>,
+    requires { IsSome held.old }
+    ensures some { IsSome held.new }
+    ensures refused { (es : List Entry) →
+        IsSomeAnd held.old (λ w. (w.desk.shown.value ≡ es) × (drop w.behind w.log.items ≡ [])) →
+        OnFalse result (IsSomeAnd held.new (λ w. (w.desk.shown.value ≡ es) × (drop w.behind w.log.items ≡ []))) }
+{
+    let Some(mut writer) = held.take() else {
+        unreachable!()
+    };
+    let offered = match writer.append(place) {
+        Ok(()) => true,
+        Err(_) => false,
+    };
+    put_back(rt, held, writer);
+    offered
+}
+
+// Shows readers this, which was offered.
+fn show_all<N: Named, R: Wait>(rt: &R, held: &mut Option<VersionWriter<N>>, version: &Version<N>)
+where
+    Version<N>: Absorb<NextVersion<N>, State = ()>,
+    requires { IsSome held.old }
+    ensures { IsSomeAnd held.new (λ w. (w.desk.shown.value ≡ version.now) × (drop w.behind w.log.items ≡ [])) }
+{
+    let Some(writer) = held.take() else {
+        unreachable!()
+    };
+    let writer = publish(rt, writer, version);
+    put_back(rt, held, writer);
 }
 
 // Puts the writer into its place.
@@ -141,15 +180,14 @@ where
         book: Book,
         first: ledger::Book<N>,
         second: ledger::Book<H>,
-        word: HistoryWord<N>,
-        version: Version<N>,
+        history: History<N>,
         writer: VersionWriter<N>,
     ) -> LockedBook<N, H>
         requires setup { book.setup ≡ N.setup }
         requires past { SharePast book.state N.opened }
         requires first { first.total ≡ total_in book.state }
         requires second { second.total ≡ total_in book.state }
-        requires version { version ≡ entries_in book.state }
+        requires history { history ≡ entries_in book.state }
         requires published { writer.desk.shown.value ≡ entries_in book.state }
         requires pending { drop writer.behind writer.log.items ≡ [] }
         ensures { result ≡ book }
@@ -158,50 +196,43 @@ where
             book,
             first,
             second,
-            word,
-            version,
+            history,
             writer: Some(writer),
         }
     }
 
     /// Takes the writer out, once no reader has a place any more, and gives what else there is. What another has seen
-    /// and the book's entries both begin the version that is handed out.
-    pub fn end<R: Wait>(
-        self,
-        rt: &R,
-        seen: Version<N>,
-    ) -> (Book, ledger::Book<N>, ledger::Book<H>, Version<N>)
+    /// begins the book's entries.
+    pub fn end<R: Wait>(self, rt: &R, seen: &Version<N>) -> (Book, ledger::Book<N>, ledger::Book<H>)
         ensures book { result.0 ≡ self }
         ensures setup { result.0.setup ≡ N.setup }
         ensures past { SharePast result.0.state N.opened }
         ensures first { result.1.total ≡ total_in result.0.state }
         ensures second { result.2.total ≡ total_in result.0.state }
-        ensures shown { IsPrefix seen result.3 }
-        ensures accepted { IsPrefix (entries_in result.0.state) result.3 }
+        ensures shown { IsPrefix seen.now (entries_in result.0.state) }
         ensures opened { IsPrefix (entries_in N.opened) (entries_in result.0.state) }
     {
         let LockedBook {
             book,
             first,
             second,
-            word: _,
-            version,
+            history,
             writer,
         } = self;
         if let Some(writer) = writer {
             writer.take(rt);
         }
         // Any call on it tells what it keeps.
-        let _status = version.status();
-        let mut all = seen;
-        all.learn(&version);
-        (book, first, second, all)
+        let _status = history.status();
+        let mut history = history;
+        history.covers(seen);
+        (book, first, second)
     }
 
     /// Takes the writer out, and drops the rest.
     pub fn drop_all<R: Wait>(self, rt: &R) {
-        let seen = self.version.again();
-        let _ = self.end(rt, seen);
+        let seen = self.history.version();
+        let _ = self.end(rt, &seen);
     }
 
     /// Shows a seat the book's entries. False where the seat was shown more.
@@ -210,10 +241,10 @@ where
         ensures shown { OnTrue result (seen.new ≡ entries_in self.now.state) }
         ensures legal { IsVersion N.setup (entries_in self.now.state) }
     {
-        if seen.status().batches > self.version.status().batches {
+        if seen.status().batches > self.history.status().batches {
             return false;
         }
-        seen.learn(&self.version);
+        seen.learn(&self.history.version());
         true
     }
 
@@ -325,92 +356,26 @@ where
         ensures seen_kept { OnErr result (seen.new ≡ seen.old) }
         ensures err { IfErr result (λ u. IsTold N.setup (summary_of (arc_value b)) seen.new (answer_of u)) }
     {
+        self.book.reserve(&b)?;
         let NextPlace { offered, own } = place;
-        let (next, writer) = self.ready(rt, offered, &b)?;
-        let _ = own.try_set(next.again());
-        *seen = next.again();
-        Ok(self.take_in(rt, first, second, b, next, writer))
-    }
-
-    // All that a fresh batch needs to be accepted: a free place in the book, the version with its entry, and the
-    // writer, which is taken out, with that version's place offered to readers. Should the history be longer than the
-    // book, to which nothing leads, an empty place is published, which shows nothing new.
-    fn ready<R: Wait>(
-        &mut self,
-        rt: &R,
-        offered: NextVersion<N>,
-        b: &Arc<Batch>,
-    ) -> Result<(Version<N>, VersionWriter<N>), NotAdmitted>
-        requires fresh { verdict_on self.old (arc_value b.now) ≡ Fresh }
-        ensures setup { self.new.setup ≡ self.old.setup }
-        ensures state { self.new.state ≡ self.old.state }
-        ensures room { OnOk result (0 < self.new.free) }
-        ensures next { IfOk result (λ r. r.0 ≡ entries_in self.old.state ++ summary_of (arc_value b.now) ∷ []) }
-        ensures err { IfErr result (λ u. (seen : List Entry) →
-            IsTold N.setup (summary_of (arc_value b.now)) seen (answer_of u)) }
-    {
-        self.book.reserve(b)?;
-        let Some(writer) = self.with_offered(rt, offered) else {
-            return Err(NotAdmitted::Refused(PutFault::Memory));
-        };
-        let Ok(next) = self.version.again().append(&self.word, entry_of(b)) else {
-            let writer = publish(rt, writer, &self.version);
-            put_back(rt, &mut self.writer, writer);
-            return Err(NotAdmitted::Refused(PutFault::RecordsDiffer));
-        };
-        Ok((next, writer))
-    }
-
-    // Takes the writer out, where a place for the next version was offered to readers by it. Where that growth was
-    // refused it stays.
-    fn with_offered<R: Wait>(&mut self, rt: &R, offered: NextVersion<N>) -> Option<VersionWriter<N>>
-        ensures { self.new ≡ self.old }
-    {
-        let mut writer = self.writer.take()?;
-        if writer.append(offered).is_err() {
-            put_back(rt, &mut self.writer, writer);
-            return None;
-        }
-        Some(writer)
-    }
-
-    // Accepts a batch for which all is ready, and shows it to readers.
-    fn take_in<R: Wait>(
-        &mut self,
-        rt: &R,
-        first: &mut Share<N>,
-        second: &mut Share<H>,
-        b: Arc<Batch>,
-        next: Version<N>,
-        writer: VersionWriter<N>,
-    ) -> Kept
-        requires rows { (arc_value b).matrix.rows ≡ N.setup.rows }
-        requires cols { (arc_value b).matrix.cols ≡ N.setup.cols }
-        requires parts { (first.old.parts ≡ 1) × (second.old.parts ≡ 1) }
-        requires fresh { verdict_on self.old (arc_value b) ≡ Fresh }
-        requires room { 0 < self.old.free }
-        requires next { next ≡ entries_in self.old.state ++ summary_of (arc_value b) ∷ [] }
-        ensures state { self.new.state ≡ with_batch self.old.state (arc_value b) }
-        ensures kept { result ≡ kept (count_in self.old.state) (total_in self.old.state + batch_total (arc_value b)) }
-        ensures parts { (first.new.parts ≡ 1) × (second.new.parts ≡ 1) }
-        ensures first { first.new.amount ≡ first.old.amount + batch_total (arc_value b) }
-        ensures second { second.new.amount ≡ second.old.amount + batch_total (arc_value b) }
-    {
-        let total = b.total;
         let LockedBook {
             book,
             first: one,
             second: two,
-            word: _,
-            version,
-            writer: held,
+            history,
+            writer,
         } = self;
-        one.add(first, total);
-        two.add(second, total);
-        *version = next;
+        if !offer(rt, writer, offered) {
+            return Err(NotAdmitted::Refused(PutFault::Memory));
+        }
+        one.add(first, b.total);
+        two.add(second, b.total);
+        history.add(entry_of(&b));
+        let version = history.version();
+        let _ = own.try_set(version.again());
         let kept = book.admit(b);
-        let writer = publish(rt, writer, version);
-        put_back(rt, held, writer);
-        kept
+        show_all(rt, writer, &version);
+        *seen = version;
+        Ok(kept)
     }
 }

@@ -98,13 +98,16 @@ impl Names {
         if seats < 1 || seats > MAX_SEATS {
             return Err(OpenFault::BadSeats);
         }
+        let Some(history) = NewHistory::new() else {
+            return Err(OpenFault::Memory);
+        };
         let setup = plain.setup();
         Ok(Names {
             setup,
             seats,
             first: Blank::new(seats as u64),
             second: Blank::new(setup.shards() + seats as u64),
-            history: NewHistory::new(),
+            history,
         })
     }
 

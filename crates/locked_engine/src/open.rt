@@ -2,10 +2,10 @@
 ghost use Rattle.std.specs.Prelude.{◌≡◌, ◌+◌, ◌≤◌, ◌<◌, IfOk, IfErr, [], vec_len, vec_capacity};
 ghost use Rattle.batch_store.specs.Accepted.{entries_in, total_in};
 ghost use Rattle.plain_engine.specs.Standing.{HaveSetup, shards_total};
-ghost use Rattle.locked_engine.specs.Opened.{opened_seats, NamesEngine};
+ghost use Rattle.locked_engine.specs.Opened.{opened_seats, AreBased, NamesEngine};
 
 use crate::engine::Engine;
-use crate::history::HistoryWord;
+use crate::history::History;
 use crate::locked_book::LockedBook;
 use crate::locked_shard::LockedShard;
 use crate::names::{Named, Names};
@@ -45,13 +45,14 @@ impl<N: Named, H: Ledger> Engine<N, H> {
         let Ok((mut seats, mut shards, shown)) = rooms::<N, H>(alloc, &plain, count) else {
             return Err((plain, names, AllocError));
         };
-        let version: Version<N> = names.version(plain.status());
+        let status = plain.status();
+        let version: Version<N> = names.version(status);
         let Ok(writer) = VersionWriter::new(alloc, version.again(), version.again(), count) else {
             return Err((plain, names, AllocError));
         };
         let (setup, book, list) = plain.parts();
         let (first, second, history) = names.into_parts();
-        let word: HistoryWord<N> = HistoryWord::named(history);
+        let history: History<N> = History::named(history, status);
         let (mut first_number, mut first) = first.open::<N>();
         let (mut second_number, mut second) = second.open::<H>();
         let total = book.total();
@@ -67,7 +68,7 @@ impl<N: Named, H: Ledger> Engine<N, H> {
             &version,
             writer.factory(),
         );
-        let locked = LockedBook::make(book, first_number, second_number, word, version, writer);
+        let locked = LockedBook::make(book, first_number, second_number, history, writer);
         let engine = Engine {
             setup,
             seats: count,
@@ -112,6 +113,7 @@ fn lock_all<N: Named, H: Ledger>(
 )
     requires room { vec_len shards.old + vec_len list ≤ vec_capacity shards.old }
     requires made { HaveSetup N.setup list.items }
+    requires based { AreBased N.opened N.setup.shards list.items }
     requires parts { vec_len list < second.old.parts }
     requires amount { second.old.amount ≡ shards_total list.items }
     ensures count { vec_len shards.new ≡ vec_len shards.old + vec_len list }

@@ -1,20 +1,20 @@
 //! What was shown of the accepted batches, with its status: what readers take without waiting.
-ghost use Rattle.std.specs.Prelude.{◌≡◌, ◌≤◌, ◌++◌, ◌∷◌, [], length, IfOk, IfErr};
+ghost use Rattle.std.specs.Prelude.{◌≡◌, ◌≤◌, ◌++◌, length};
 ghost use Rattle.std.specs.Bool.{OnTrue};
 ghost use mathlib.Core.List.{IsPrefix};
-ghost use Rattle.batch_store.specs.declared.verdict.Verdict.TheVariants.{Fresh};
 ghost use Rattle.batch_store.specs.Accepted.{entries_in};
 ghost use Rattle.batch_store.specs.Batches.{entry_of as summary_of};
-ghost use Rattle.locked_engine.specs.Versions.{IsVersion, version_status, entry_verdict};
+ghost use Rattle.locked_engine.specs.Histories.{added_in};
+ghost use Rattle.locked_engine.specs.Versions.{IsVersion, version_status};
 
-use crate::history::{AddEntry, HistoryRule, HistoryWord, NewHistory, NoGain};
+use crate::history::{HistoryRule, Line, NewHistory};
 use crate::names::Named;
 use batch_store::{Batch, Entry};
 use crossbeam_utils::rule::Unruled;
 use left_right::Absorb;
 use left_right::reader::{Factory, Reader};
 use left_right::writer::Writer;
-use logbook::{Offer, Seen};
+use logbook::Seen;
 use plain_engine::Status;
 use std::alloc::{AllocError, Global};
 use std::marker::{Model, PhantomData};
@@ -28,7 +28,7 @@ pub struct Version<N: Named> {
     status: Status,
     // How many of them were accepted after the engine was opened.
     added: u64,
-    seen: Seen<Entry, u64, HistoryRule>,
+    seen: Seen<Line, u64, HistoryRule>,
     of: PhantomData<N>,
 }
 
@@ -38,16 +38,17 @@ impl<N: Named> Model for Version<N> {
     ghost use Rattle.batch_store.specs.declared.verdict.Entry.{Entry};
     ghost use Rattle.batch_store.specs.Accepted.{entries_in};
     ghost use Rattle.batch_store.specs.Verdicts.{coded_entry};
+    ghost use Rattle.locked_engine.specs.Histories.{added_in};
     ghost use Rattle.locked_engine.specs.Versions.{IsVersion, version_status};
 
     ghost Value = { List Entry };
 
     ghost coded = { coded_list coded_entry };
 
-    ghost view = { λ a. entries_in N.opened ++ a.seen.log };
+    ghost view = { λ a. entries_in N.opened ++ added_in a.seen.log };
 
-    ghost invariant = { λ a. (a.status ≡ version_status (entries_in N.opened ++ a.seen.log)) × (a.added ≡ length a.seen.log)
-        × (a.seen.book ≡ N.history) × IsVersion N.setup (entries_in N.opened ++ a.seen.log) };
+    ghost invariant = { λ a. (a.status ≡ version_status (entries_in N.opened ++ added_in a.seen.log)) × (a.added ≡ length (added_in a.seen.log))
+        × (a.seen.book ≡ N.history) × IsVersion N.setup (entries_in N.opened ++ added_in a.seen.log) };
 }
 
 impl<N: Named> Version<N> {
@@ -64,6 +65,30 @@ impl<N: Named> Version<N> {
             seen: opened.seen.again(),
             of: PhantomData,
         }
+    }
+
+    /// The version of this beginning of the history.
+    pub fn make(status: Status, added: u64, seen: Seen<Line, u64, HistoryRule>) -> Version<N>
+        requires history { seen.book ≡ N.history }
+        requires status { status ≡ version_status (entries_in N.opened ++ added_in seen.log) }
+        requires added { added ≡ length (added_in seen.log) }
+        requires legal { IsVersion N.setup (entries_in N.opened ++ added_in seen.log) }
+        ensures { result ≡ entries_in N.opened ++ added_in seen.log }
+    {
+        Version {
+            status,
+            added,
+            seen,
+            of: PhantomData,
+        }
+    }
+
+    /// What it has seen of the history.
+    pub fn seen(&self) -> &Seen<Line, u64, HistoryRule>
+        ensures book { result.now.book ≡ N.history }
+        ensures entries { self.now ≡ entries_in N.opened ++ added_in result.now.log }
+    {
+        &self.seen
     }
 
     /// Its status.
@@ -110,45 +135,6 @@ impl<N: Named> Version<N> {
         let mut longer = self.again();
         longer.learn(other);
         true
-    }
-
-    /// The version with one entry more, where this one is all of the history; else, since the history is longer, this
-    /// one as it was.
-    pub fn append(self, word: &HistoryWord<N>, entry: Entry) -> Result<Version<N>, Version<N>>
-        requires fresh { entry_verdict N.setup self entry ≡ Fresh }
-        ensures added { IfOk result (λ a. a ≡ self ++ entry ∷ []) }
-        ensures kept { IfErr result (λ a. a ≡ self) }
-    {
-        let mut seen = self.seen.again();
-        let mut offer: Offer<Entry, u64, HistoryRule, NoGain> = seen.plain::<
-            NoGain,
-            Entry,
-            AddEntry,
-        >(&entry);
-        let mut pen = seen.no_pen();
-        let added = self.added;
-        let status = Status {
-            batches: self.status.batches + 1,
-            total: self.status.total + entry.total,
-        };
-        let found = word
-            .head
-            .compare_exchange::<AddEntry, NoGain>(
-                added,
-                added + 1,
-                &mut seen,
-                &mut offer,
-                &mut pen,
-            );
-        if found != added {
-            return Err(self);
-        }
-        Ok(Version {
-            status,
-            added: added + 1,
-            seen,
-            of: PhantomData,
-        })
     }
 }
 

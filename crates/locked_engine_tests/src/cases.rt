@@ -47,6 +47,8 @@ pub enum Act {
     CompactBesidePuts,
     /// Both seats put small batches, and then the shards are compacted.
     CompactAfterPuts,
+    /// Small batches are put and compacted, twice.
+    CompactTwice,
 }
 
 /// The client, the number and the cells of a batch.
@@ -140,5 +142,6 @@ fn perform<
         Act::Watch => versions::watch_from_seats(rt, alloc, engine, seats),
         Act::CompactBesidePuts => compactions::compact_beside_puts(rt, alloc, engine, seats),
         Act::CompactAfterPuts => compactions::compact_after_puts(rt, alloc, engine, seats),
+        Act::CompactTwice => compactions::compact_twice(rt, alloc, engine, seats),
     }
 }

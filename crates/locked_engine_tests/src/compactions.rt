@@ -3,7 +3,7 @@
 ghost use Rattle.std.specs.Prelude.{◌<◌};
 
 use crate::cases::{Act, Case, NOTHING, play};
-use crate::opened::{put, two_seats};
+use crate::opened::{first_seat, put, two_seats};
 use crate::streams::{COLS, ROUNDS, ROWS, SHARDS, Tally, cells_of};
 use batch_store::{Setup, SetupFault};
 use locked_engine::{Engine, Named, Seat};
@@ -61,6 +61,21 @@ fn compactions_after_puts_leave_nothing_due(rt: HostRuntime) -> Result<(), Fail>
     Ok(())
 }
 
+// So many parts side by side in layer 1 are due, and one sum is made of all.
+const DUE: u64 = 24;
+
+const COMPACTED_TWICE: Case = Case {
+    act: Act::CompactTwice,
+    accepted: (48, 48),
+    ..NOTHING
+};
+
+#[test]
+fn each_sum_that_is_due_is_put_in_place_once(rt: HostRuntime) -> Result<(), Fail> {
+    play(&rt, rt.alloc(), setup(NOT_PASSED)?, &COMPACTED_TWICE);
+    Ok(())
+}
+
 const PUTTERS: u64 = 2;
 
 /// Two threads put while a third compacts, until nothing is due any more.
@@ -99,6 +114,47 @@ pub fn compact_after_puts<N: Named, H: Ledger, R: Wait + Abort + Eprint>(
     // Puts leave up to 32 matrices side by side in the last layer, and any that is smaller than those behind it is due.
     expect_settled(rt, alloc, engine, 1);
     expect_all(rt, alloc, engine);
+}
+
+/// So many parts are put into shard 0 that a sum is due there, twice: each time one is put in place, and then none.
+pub fn compact_twice<N: Named, H: Ledger, R: Wait + Abort + Eprint>(
+    rt: &R,
+    alloc: Global,
+    engine: &Engine<N, H>,
+    seats: &mut [Seat<N, H>],
+) {
+    let seat = first_seat(rt, seats);
+    for half in 0..2 {
+        put_parts(rt, alloc, engine, seat, half);
+        let made = compactions_of_first(rt, alloc, engine);
+        let more = compactions_of_first(rt, alloc, engine);
+        assert!(rt; same_at(rt, &half, &(made, more), &(Some(1), Some(0))));
+    }
+}
+
+// Puts a cell each into so many places of one row of shard 0.
+fn put_parts<N: Named, H: Ledger, R: Wait + Abort>(
+    rt: &R,
+    alloc: Global,
+    engine: &Engine<N, H>,
+    seat: &mut Seat<N, H>,
+    half: u64,
+) {
+    for col in 0..DUE {
+        let cells = [((half % 2) * SHARDS, col, 1)];
+        let answer = put(rt, alloc, engine, seat, (half, col), &cells);
+        assert!(rt; answer.is_ok());
+    }
+}
+
+// How many compactions shard 0 takes until none is due.
+fn compactions_of_first<N: Named, H: Ledger, R: Wait + Abort>(
+    rt: &R,
+    alloc: Global,
+    engine: &Engine<N, H>,
+) -> Option<u64> {
+    assert!(rt; 0 < engine.setup().shards());
+    compactions_of(rt, alloc, engine, 0)
 }
 
 // Whether each of two threads found all that it had put.

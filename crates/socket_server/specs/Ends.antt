@@ -8,8 +8,6 @@
 --     IsClosed seats a
 --                     what the seats of an engine say of what it had accepted when it was closed
 use Rattle.std.specs.Prelude.{◌≡◌, ℕ, List, Option, String}
-use mathlib.Core.List.{IsPrefix}
-use Rattle.batch_store.specs.declared.verdict.Entry.{Entry}
 use Rattle.batch_store.specs.Setups.{Setting}
 use Rattle.batch_store.specs.Accepted.{Accepted, entries_in, total_in}
 use Rattle.batch_store.specs.Books.{AreAccepted}
@@ -28,10 +26,7 @@ pub record GoesOn (a b : Accepted) : Type 0 where
   pub entries : IsPrefix (entries_in a) (entries_in b)
   pub past : SharePast b a
 
--- The seats' shares add up to the accepted total, and what they were shown and the accepted entries are beginnings of one
--- version.
+-- The seats' shares add up to the accepted total, and what each was shown begins the accepted entries.
 pub record IsClosed (seats : List SeatView) (a : Accepted) : Type 0 where
   pub shares : firsts seats ≡ total_in a
-  pub version : List Entry
-  pub shown : AreShown seats version
-  pub accepted : IsPrefix (entries_in a) version
+  pub shown : AreShown seats (entries_in a)

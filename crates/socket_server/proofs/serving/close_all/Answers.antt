@@ -10,12 +10,7 @@ returns-in_ok-save_plain-in-Ok-clause-ended g c =
     let a = c.in-Ok.plain.book.state in
     let told = c.in-Ok.ensures in (
       a,
-      record {
-        shares = told.seats;
-        version = told.shown.0;
-        shown = told.shown.1;
-        accepted = told.shown.2;
-      },
+      record { shares = told.seats; shown = told.shown },
       record { entries = told.opened; past = told.past },
       (
         subst (λ (v : Setting). AreAccepted v a) told.setup told.whole.keeps.accepted,

@@ -2,6 +2,7 @@ use Rattle.std.proofs.Common.{◌≡◌, ap, sym, subst, arith}
 use mathlib.Core.List.{IsPrefix}
 use Rattle.batch_store.specs.Accepted.{entries_in, total_in}
 use Rattle.batch_store.specs.Books.{Register}
+use Rattle.locked_engine.specs.Told.{AreShown}
 use Rattle.locked_engine.proofs.ToldLaws.{shown_later}
 use Rattle.batch_store.specs.Setups.{Setting}
 use Rattle.plain_engine.specs.Standing.{Standing}
@@ -47,35 +48,30 @@ returns-clause-differ g c = λ shards book e.
       omega (arith, c.gather-first.ensures.first, c.audit.ensures.whole all, c.end-book.ensures.first),
     )
 
--- what all seats together were shown, and the book's batches, begin one list
+-- what all seats together were shown begins the book's batches
 pub returns-in-Ok-clause-shown : goal.returns-in-Ok-clause-shown
 returns-in-Ok-clause-shown g c =
-    let all = c.end-book.result.3 in (
-      all,
-      shown_later c.args.seats.items _ all c.end-book.ensures.shown c.gather-first.ensures.shown,
-      subst (λ (e : Standing). IsPrefix (entries_in e.book.state) all) (sym c.in-Ok.ensures.ok)
-          c.end-book.ensures.accepted,
-    )
+    subst (λ (e : Standing). AreShown c.args.seats.items (entries_in e.book.state)) (sym c.in-Ok.ensures.ok)
+    (shown_later c.args.seats.items c.gather-first.result.2 (entries_in c.end-book.result.0.state) c.end-book.ensures.shown
+    c.gather-first.ensures.shown)
 
 pub returns-clause-shown_apart : goal.returns-clause-shown_apart
 returns-clause-shown_apart g c = λ shards book e.
-    let all = c.end-book.result.3 in
-    let same_book : c.end-book.result.0 ≡ book = cc (c.in-Err.ensures.err.0, e) in (
-      all,
-      shown_later c.args.seats.items _ all c.end-book.ensures.shown c.gather-first.ensures.shown,
-      subst (λ (w : Register). IsPrefix (entries_in w.state) all) same_book c.end-book.ensures.accepted,
-    )
+    let same_book : c.end-book.result.0 ≡ book = cc (c.in-Err.ensures.err.0, e) in
+    subst (λ (w : Register). AreShown c.args.seats.items (entries_in w.state)) same_book
+    (shown_later c.args.seats.items c.gather-first.result.2 (entries_in c.end-book.result.0.state) c.end-book.ensures.shown
+    c.gather-first.ensures.shown)
 
 pub returns-in-Ok-clause-opened : goal.returns-in-Ok-clause-opened
 returns-in-Ok-clause-opened g c =
     subst (λ (e : Standing). IsPrefix (entries_in g.N.Named.opened) (entries_in e.book.state)) (sym c.in-Ok.ensures.ok)
-        c.end-book.ensures.opened
+    c.end-book.ensures.opened
 
 pub returns-clause-opened_apart : goal.returns-clause-opened_apart
 returns-clause-opened_apart g c = λ shards book e.
     let same_book : c.end-book.result.0 ≡ book = cc (c.in-Err.ensures.err.0, e) in
     subst (λ (w : Register). IsPrefix (entries_in g.N.Named.opened) (entries_in w.state)) same_book
-        c.end-book.ensures.opened
+    c.end-book.ensures.opened
 
 -- with records that agree there would be an engine
 pub returns-clause-apart : goal.returns-clause-apart

@@ -3,6 +3,7 @@ use mathlib.Core.List.{IsPrefix}
 use Rattle.batch_store.specs.declared.verdict.Entry.{Entry}
 use Rattle.locked_engine.proofs.PrefixLaws.{prefix_whole}
 use Rattle.batch_store.specs.Accepted.{entries_in}
+use Rattle.locked_engine.specs.Histories.{added_in}
 use Rattle.locked_engine.proofs.version.Version.is.Goals as goal
 
 -- two beginnings of one list that are as long as each other
@@ -15,8 +16,8 @@ returns g c =
       arith,
       ap length c.self.view_is,
       ap length c.other.view_is,
-      length-append opened c.self.inside.seen.log,
-      length-append opened c.other.inside.seen.log,
+      length-append opened (added_in c.self.inside.seen.log),
+      length-append opened (added_in c.other.inside.seen.log),
       c.self.invariant.1,
       c.other.invariant.1,
       c.if-self-other.false,
