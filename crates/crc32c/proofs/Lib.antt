@@ -1,0 +1,5 @@
+pub mod Linear
+mod Products
+mod BitLemmas
+mod Bursts
+mod OddChanges
