@@ -1,0 +1,5 @@
+mod Judging
+pub mod Losses
+pub mod PageFields
+mod SealedLemmas
+pub mod Unsealed
