@@ -3,7 +3,8 @@
 A driver (tests/drivers) asks a server, by one client, what a line says, and writes what becomes of it:
 
 - `put N COUNT`: a batch of one cell, the first, as number N. `many FIRST K DEPTH CELLS`: K batches, numbered from
-  FIRST, of so many cells with the count 1 each, with DEPTH of them on the way. `cell R C`, `status`, `save`.
+  FIRST, of so many cells with the count 1 each, with DEPTH of them on the way; their places follow each other. `cell R
+  C`, `status`, `save`.
 - `fork FIRST K CELLS`: after a fork each process puts K batches, by the same client. `split FIRST K` (Python, Rust): K
   batches are on the way, and a fork at the first reply.
 - `panic FIRST` (Rust): five batches on the way, and a panic at the first reply, which is caught.
@@ -161,9 +162,19 @@ def forks_have_connections_of_their_own(name, command):
         at.stop(f"{name}: a fork amid many", 30, 30)
 
 
+def went_back(had, has):
+    return f"the server went back: it had {had}, which aren't all there, and has {has}"
+
+
+def has_one_more(accepted):
+    """The status behind the reply to the last put."""
+    _, place, _, total = accepted.split()
+    return f"batches {int(place) + 1} total {total}"
+
+
 def a_book_that_went_back_is_told(name, command):
     """A server is killed after a save and puts behind it, and begins again; others put before the client is back, so
-    that it has fewer batches, as many with another total, and more with a smaller one."""
+    that it has fewer batches, as many with another total, more with a smaller one, and more with a larger one."""
     path = at_path("back.snap")
     words = [*WIDE, "--snapshot", path]
     with Server(words) as at, Driver(command, at.path) as driver:
@@ -176,20 +187,22 @@ def a_book_that_went_back_is_told(name, command):
         had = "6 batches with total 30"
         for others, has, wanted in [([100], "4 with total 115", "index 4 total 120"),
                                     ([0, 200], "5 with total 215", "index 5 total 220"),
-                                    ([1] * 4, "7 with total 19", "index 7 total 24")]:
+                                    ([1] * 4, "7 with total 19", "index 7 total 24"),
+                                    # (others hide all: the last batch, which is number 4 now, gets another place)
+                                    ([100] * 8, "11 with total 815", "index 11 total 820")]:
             with Server(words) as at:
                 with at.client(8) as other:
                     for number, count in enumerate(others):
                         other.put(number, [(0, 0, count)])
-                told = f"the server went back: it had {had}, and has {has}"
+                told = went_back(had, has)
                 check(f"{name}: {told}", driver.ask("many", 7, 2, 16, 5), told)
                 check(f"{name}: what is gone again, {has}", driver.ask("put", 4, 5), wanted)
-                _, place, _, total = wanted.split()
-                had = f"{int(place) + 1} batches with total {total}"
+                check(f"{name}: and on, {has}", driver.ask("status"), has_one_more(wanted))
+                had = "{1} batches with total {3}".format(*has_one_more(wanted).split())
                 killed(at)
         os.remove(path)
         with Server(words) as at:
-            told = "the server went back: it had 8 batches with total 24, and has 0 with total 0"
+            told = went_back("12 batches with total 820", "0 with total 0")
             check(f"{name}: back, before a question", driver.ask("cell", 0, 0), told)
             check(f"{name}: it is told once", driver.ask("cell", 0, 0), "none")
             killed(at)
@@ -223,13 +236,16 @@ def repeats_are_no_going_back(name, command):
 
 
 def many_small_frames_go(name, command):
-    """More on the way than replies fit into a socket, and a server that has no room for replies. At most 128 batches, of
-    45 bytes here, wait for their replies."""
+    """More on the way than replies fit into a socket, a server that has no room for replies, and one that then stands
+    still. At most 128 batches, of 45 bytes here, wait for their replies."""
     with Server(WIDE) as at, Driver(command, at.path, timeout=5000, attempts=1) as driver:
         check(f"{name}: many small ones", driver.ask("many", 1, 2000, 2000, 1), "2000 answered")
         at.process.kill()
     with Slow() as slow, Driver(command, slow.path, timeout=5000, attempts=1) as driver:
         check(f"{name}: no room for replies", driver.ask("many", 1, 300, 128, 200), "300 answered")
+    with Slow(50) as slow, Driver(command, slow.path, timeout=500, attempts=2) as driver:
+        check(f"{name}: replies of a lost connection", driver.ask("many", 1, 300, 128, 200), "300 answered")
+        check(f"{name}: it was lost", len(slow.links), 2)
     with Sink() as sink, Driver(command, sink.path, timeout=500, attempts=1) as driver:
         check(f"{name}: no replies", driver.ask("many", 1, 300, 300, 1), "timed out")
         check(f"{name}: so many are on the way", sink.counts, [128 * 45])
@@ -295,7 +311,7 @@ def what_is_kept_is_put_again():
             killed(at)
         shutil.copy(old, path)
         with Server(words) as at:
-            told = "the server went back: it had 100 batches with total 800, and has 1 with total 5"
+            told = went_back("100 batches with total 800", "1 with total 5")
             with contextlib.suppress(BookWentBack):
                 hhm.put(42, [(42, 0, 5)])
                 check("kept: before the save", "an answer", told)
@@ -311,6 +327,28 @@ def what_is_kept_is_put_again():
                 found = [(number, str(why)) for number, why in fault.refused]
                 check("kept: refused", (found, fault.has), ([(41, "OverTotal: 9 accepted")], (1, 9)))
             check("kept: told once", fault_of(hhm.status), (1, 9))
+            killed(at)
+
+
+def a_saved_batch_that_is_gone_is_told():
+    """Python, `keep`: what a save of its own had is gone, and others put so much that the status doesn't show it."""
+    path = at_path("gone.snap")
+    with Server([*WIDE, "--snapshot", path]) as at, at.client(7, keep=1 << 20) as hhm:
+        for number in range(3):
+            hhm.put(number, [(number, 0, 5)])
+        check("gone: saved", hhm.save(), 3)
+        hhm.put(3, [(3, 0, 5)])
+        killed(at)
+        with Server(WIDE) as at:
+            with at.client(8) as other:
+                for number in range(10):
+                    other.put(number, [(0, 1, 100)])
+            try:
+                hhm.put(4, [(4, 0, 5)])
+                check("gone", "an answer", "a fault")
+            except BookWentBack as fault:
+                check("gone", (fault.had, fault.has, fault.refused), ((3, 15), (10, 1000), []))
+            check("gone: what is kept isn't", (hhm.cell(3, 0), hhm.cell(2, 0), hhm.cell(1, 0)), (5, 5, None))
             killed(at)
 
 
@@ -362,8 +400,8 @@ def a_log_is_sent_again():
                     time.sleep(0.2)
                 counting.send_signal(signal.SIGTERM)
                 output, error = counting.communicate(timeout=WAIT)
-                told = ("the server went back: it had 4 batches with total 40000, and has 2 with total 20000: "
-                        "the log is sent again from its start\n")
+                told = went_back("4 batches with total 40000", "2 with total 20000")
+                told += ": the log is sent again from its start\n"
                 wanted = "sent batches 5 total 50000 skipped lines 0 left lines 0\n"
                 check("sent again", (output, error, counting.returncode), (wanted, told, 0))
                 at.stop("sent again", 5, 50_000)
@@ -439,6 +477,7 @@ def all_are_tried(drivers):
         silence_ends(name, command)
         bad_values_are_told(name, command)
     what_is_kept_is_put_again()
+    a_saved_batch_that_is_gone_is_told()
     a_bound_of_what_is_kept_saves()
     a_log_is_sent_again()
     the_command_line_tells()

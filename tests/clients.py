@@ -196,7 +196,8 @@ def replies_are_lost(unix):
     with contextlib.suppress(FileNotFoundError):
         os.remove(snapshot)
     with Server(["--rows", "3", "--cols", "3", "--snapshot", snapshot]) as at:
-        with Proxy(at, unix, [0, 0, 1, 2, 1, 0, 3]) as proxy:
+        # (after the first put each connection begins with a status and a repeat)
+        with Proxy(at, unix, [0, 0, 1, 3, 2, 0, 4]) as proxy:
             with Client(client=7, timeout=WAIT, attempts=4, pause=0.001, **proxy.where) as hhm:
                 check("lost: a put", hhm.put(1, arrays([(0, 0, 5)])), (0, 5))
                 check("lost: a text", hhm.put_text(2, text(3)), (1, 8))
@@ -290,7 +291,7 @@ def examples_ask_all(unix, examples):
     """Each example's calls, on a new server each, with each reply and with some of them lost."""
     path = os.path.join(server.FOLDER, "example.snap")
     for name, program in examples.items():
-        # (after the first put each connection begins with a status)
+        # (after the first put each connection begins with a status and a repeat)
         for lost in [[], [0, 0, 1, 0, 2, 1, 3, 0, 2, 3, 1, 2, 3, 2]]:
             with contextlib.suppress(FileNotFoundError):
                 os.remove(path)

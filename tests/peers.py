@@ -260,14 +260,15 @@ class Sink:
 
 
 class Slow:
-    """Accepts every put that it reads, one by one, and has next to no room for replies that aren't read."""
+    """Accepts every put that it reads, one by one, its number for its place, and has next to no room for replies that
+    aren't read. With `most` it reads nothing more over its first connection after so many."""
 
-    def __init__(self):
+    def __init__(self, most=None):
+        self.most, self.links = most, []
         self.path = os.path.join(server.FOLDER, "slow")
         with contextlib.suppress(FileNotFoundError):
             os.remove(self.path)
         self.listener = socket.socket(socket.AF_UNIX)
-        self.listener.setsockopt(socket.SOL_SOCKET, socket.SO_SNDBUF, 1)
         self.listener.bind(self.path)
         self.listener.listen(16)
         threading.Thread(target=self.accept, daemon=True).start()
@@ -276,14 +277,25 @@ class Slow:
         return self
 
     def __exit__(self, *_):
-        end(self.listener)
+        for link in [self.listener, *self.links]:
+            end(link)
 
     def accept(self):
         with contextlib.suppress(OSError):
             while True:
-                with self.listener.accept()[0] as link:
-                    link.setsockopt(socket.SOL_SOCKET, socket.SO_SNDBUF, 1)
-                    for place in itertools.count():
-                        if not frame_of(link):
-                            break
-                        link.sendall(struct.pack(">IBQQ", 16, 0x81, place, place + 1))
+                link = self.listener.accept()[0]
+                link.setsockopt(socket.SOL_SOCKET, socket.SO_SNDBUF, 1)
+                most = None if self.links else self.most
+                self.links.append(link)
+                threading.Thread(target=self.answer, args=(link, most), daemon=True).start()
+
+    @staticmethod
+    def answer(link, most):
+        with contextlib.suppress(OSError):
+            for _ in itertools.count() if most is None else range(most):
+                frame = frame_of(link)
+                if not frame:
+                    break
+                place = int.from_bytes(frame[13:21], "big")
+                is_put = frame[4] == 8
+                link.sendall(struct.pack(">IBQQ", 16, 0x81 if is_put else 0x84, place if is_put else 10**6, 10**6))

@@ -18,7 +18,6 @@
 #include <string.h>
 #include <sys/socket.h>
 #include <sys/time.h>
-#include <sys/types.h>
 #include <sys/un.h>
 #include <time.h>
 #include <unistd.h>
@@ -31,6 +30,17 @@ enum { ACCEPTED = 0x81, VALUE, ROW_SUM, COUNTS, TEXT, SAVED, STOPPING, REFUSED =
 #define MAX_SHORT 16
 #define PIECE 1024
 #define EARLY 4096
+
+/* A request: numbers, and behind them a text or cells, which are the caller's. */
+typedef struct {
+    uint8_t kind;
+    unsigned count;
+    uint64_t numbers[2];
+    const char *text;
+    size_t length;
+    const hhm_cell *cells;
+    size_t cell_count;
+} request;
 
 struct hhm_client {
     /* Host and port, of which the port is NULL where this is the path of a Unix socket. Each has memory of its own. */
@@ -48,21 +58,14 @@ struct hhm_client {
     size_t early_count;
     /* What the highest place of a reply to a put says of the accepted batches; zeros where nothing was put. */
     hhm_status seen;
+    /* That put, with its cells or its text in memory of this size; of kind 0 where there was none for it. */
+    request last;
+    void *memory;
+    size_t size;
     hhm_books books;
     hhm_refusal refusal;
-    char message[192];
+    char message[224];
 };
-
-/* A request: numbers, and behind them a text or cells, which are the caller's. */
-typedef struct {
-    uint8_t kind;
-    unsigned count;
-    uint64_t numbers[2];
-    const char *text;
-    size_t length;
-    const hhm_cell *cells;
-    size_t cell_count;
-} request;
 
 /* The body of a reply. A text has memory of its own; a short one stands in `bytes`. */
 typedef struct {
@@ -108,14 +111,13 @@ const char *hhm_code_name(uint16_t code)
         uint16_t code;
         const char *name;
     } names[] = {
-        {1, "Memory"},           {20, "DimensionsDiffer"}, {21, "SumTooLarge"},      {22, "IndexOutOfRange"},
-        {23, "TooManyCells"},    {30, "NumberReused"},     {31, "OverTotal"},        {32, "BookFull"},
-        {33, "RecordsDiffer"},   {40, "ReplyTooLarge"},    {41, "OutOfRange"},       {42, "SaveFailed"},
-        {43, "SaveOff"},         {50, "TooLarge"},         {51, "UnknownKind"},      {52, "BadLength"},
-        {103, "BadBanner"},      {104, "Unsupported"},     {105, "LineTooLong"},     {106, "BadSize"},
-        {107, "BadDimension"},   {108, "NotSquare"},       {109, "TooManyEntries"},  {110, "BadEntry"},
-        {111, "Negative"},       {112, "NumberTooLarge"},  {113, "IndexOutOfRange"}, {114, "TooFewEntries"},
-        {115, "ExtraText"},      {116, "TooLong"},
+        {1, "Memory"}, {20, "DimensionsDiffer"}, {21, "SumTooLarge"}, {22, "IndexOutOfRange"},
+        {23, "TooManyCells"}, {30, "NumberReused"}, {31, "OverTotal"}, {32, "BookFull"}, {33, "RecordsDiffer"},
+        {40, "ReplyTooLarge"}, {41, "OutOfRange"}, {42, "SaveFailed"}, {43, "SaveOff"}, {50, "TooLarge"},
+        {51, "UnknownKind"}, {52, "BadLength"}, {103, "BadBanner"}, {104, "Unsupported"}, {105, "LineTooLong"},
+        {106, "BadSize"}, {107, "BadDimension"}, {108, "NotSquare"}, {109, "TooManyEntries"}, {110, "BadEntry"},
+        {111, "Negative"}, {112, "NumberTooLarge"}, {113, "IndexOutOfRange"}, {114, "TooFewEntries"},
+        {115, "ExtraText"}, {116, "TooLong"},
     };
     for (size_t i = 0; i < sizeof names / sizeof names[0]; i++)
         if (names[i].code == code)
@@ -142,31 +144,29 @@ static hhm_result told(hhm_client *hhm, hhm_result result, const char *words)
 static hhm_result refused(hhm_client *hhm, uint16_t code, uint64_t detail)
 {
     const char *name = hhm_code_name(code);
-    char other[16];
-    snprintf(other, sizeof other, "code %u", (unsigned)code);
+    char other[16], where[40] = "";
     hhm->refusal.code = code;
     hhm->refusal.detail = detail;
-    name = name ? name : other;
+    snprintf(other, sizeof other, "code %u", (unsigned)code);
     if (code == 22)
-        snprintf(hhm->message, sizeof hhm->message, "refused: %s at cell %" PRIu64, name, detail);
+        snprintf(where, sizeof where, " at cell %" PRIu64, detail);
     else if (code == 31)
-        snprintf(hhm->message, sizeof hhm->message, "refused: %s: %" PRIu64 " accepted", name, detail);
+        snprintf(where, sizeof where, ": %" PRIu64 " accepted", detail);
     else if (code > 100)
-        snprintf(hhm->message, sizeof hhm->message, "refused: %s at line %" PRIu64, name, detail);
-    else
-        snprintf(hhm->message, sizeof hhm->message, "refused: %s", name);
+        snprintf(where, sizeof where, " at line %" PRIu64, detail);
+    snprintf(hhm->message, sizeof hhm->message, "refused: %s%s", name ? name : other, where);
     return HHM_REFUSED;
 }
 
 static hhm_result went_back(hhm_client *hhm, hhm_status has)
 {
-    hhm_status had = hhm->seen;
-    hhm->books.had = had;
-    hhm->books.has = has;
-    memset(&hhm->seen, 0, sizeof hhm->seen);
+    hhm_status had = hhm->seen, none = {0, 0};
+    hhm_books books = {had, has};
+    hhm->books = books;
+    hhm->seen = none;
     snprintf(hhm->message, sizeof hhm->message,
-             "the server went back: it had %" PRIu64 " batches with total %" PRIu64 ", and has %" PRIu64
-             " with total %" PRIu64,
+             "the server went back: it had %" PRIu64 " batches with total %" PRIu64
+             ", which aren't all there, and has %" PRIu64 " with total %" PRIu64,
              had.batches, had.total, has.batches, has.total);
     return HHM_BOOK_WENT_BACK;
 }
@@ -251,6 +251,7 @@ void hhm_close(hhm_client *hhm)
     if (!hhm)
         return;
     let_go(hhm);
+    free(hhm->memory);
     free(hhm->host);
     free(hhm->port);
     free(hhm);
@@ -285,8 +286,7 @@ static int left_of(const hhm_client *hhm, int64_t begin)
     return left < 0 ? 0 : left > INT_MAX ? INT_MAX : (int)left;
 }
 
-/* Waits until a connection can be read or written, for what is left of the timeout. Signals end no wait. Gives the
-   events, or -1. */
+/* Waits for events of a connection, for what is left of the timeout, through signals. Gives the events, or -1. */
 static int wait_for(const hhm_client *hhm, int link, short events, int64_t begin)
 {
     struct pollfd it = {link, events, 0};
@@ -296,12 +296,6 @@ static int wait_for(const hhm_client *hhm, int link, short events, int64_t begin
     if (ready == 0)
         errno = ETIMEDOUT;
     return ready > 0 ? it.revents : -1;
-}
-
-static int set_nonblocking(int link)
-{
-    int flags = fcntl(link, F_GETFL);
-    return flags < 0 ? -1 : fcntl(link, F_SETFL, flags | O_NONBLOCK);
 }
 
 /* Where the queue of those who wait at a Unix socket is full, connecting blocks; its timeout is that of sending. */
@@ -314,7 +308,7 @@ static int finish_unix(const hhm_client *hhm, int link, const struct sockaddr *p
         if (left > 0 && setsockopt(link, SOL_SOCKET, SO_SNDTIMEO, &limit, sizeof limit))
             return -1;
         if (!connect(link, place, length))
-            return set_nonblocking(link);
+            return fcntl(link, F_SETFL, O_NONBLOCK);
         if (errno != EINTR && errno != EAGAIN)
             return -1;
     }
@@ -326,7 +320,7 @@ static int finish_tcp(const hhm_client *hhm, int link, const struct sockaddr *pl
 {
     int yes = 1, fault = 0;
     socklen_t size = sizeof fault;
-    if (setsockopt(link, IPPROTO_TCP, TCP_NODELAY, &yes, sizeof yes) || set_nonblocking(link))
+    if (setsockopt(link, IPPROTO_TCP, TCP_NODELAY, &yes, sizeof yes) || fcntl(link, F_SETFL, O_NONBLOCK))
         return -1;
     if (!connect(link, place, length))
         return 0;
@@ -419,20 +413,13 @@ static int send_bytes(hhm_client *hhm, const void *bytes, size_t count)
     return 0;
 }
 
-/* Takes of what was read early as much as there is, and gives how much that was. */
-static size_t take_early(hhm_client *hhm, unsigned char *place, size_t count)
-{
-    size_t had = hhm->early_count < count ? hhm->early_count : count;
-    memcpy(place, hhm->early, had);
-    hhm->early_count -= had;
-    memmove(hhm->early, hhm->early + had, hhm->early_count);
-    return had;
-}
-
 static int receive(hhm_client *hhm, void *bytes, size_t count)
 {
     unsigned char *place = (unsigned char *)bytes;
-    size_t have = take_early(hhm, place, count);
+    size_t have = hhm->early_count < count ? hhm->early_count : count;
+    memcpy(place, hhm->early, have);
+    hhm->early_count -= have;
+    memmove(hhm->early, hhm->early + have, hhm->early_count);
     while (have < count) {
         ssize_t got = recv(hhm->link, place + have, count - have, 0);
         if (got == 0)
@@ -479,20 +466,8 @@ static int send_request(hhm_client *hhm, const request *it)
 /* The length that the body of a reply has; the longest for a text. */
 static size_t length_of(uint8_t kind)
 {
-    switch (kind) {
-    case ACCEPTED:
-    case ROW_SUM:
-    case COUNTS:
-        return 16;
-    case VALUE:
-        return 9;
-    case SAVED:
-        return 8;
-    case STOPPING:
-        return 0;
-    default:
-        return HHM_MOST_BODY;
-    }
+    static const size_t lengths[] = {16, 9, 16, 16, HHM_MOST_BODY, 8, 0};
+    return lengths[kind - ACCEPTED];
 }
 
 static hhm_result read_text(hhm_client *hhm, reply *out, size_t length)
@@ -546,12 +521,7 @@ static hhm_result read_reply(hhm_client *hhm, uint8_t wanted, reply *out)
 
 static request of_numbers(uint8_t kind, unsigned count, uint64_t first, uint64_t second)
 {
-    request it;
-    memset(&it, 0, sizeof it);
-    it.kind = kind;
-    it.count = count;
-    it.numbers[0] = first;
-    it.numbers[1] = second;
+    request it = {kind, count, {first, second}, NULL, 0, NULL, 0};
     return it;
 }
 
@@ -559,6 +529,20 @@ static hhm_status status_of(const reply *it)
 {
     hhm_status status = {number_at(it->bytes, 8), number_at(it->bytes + 8, 8)};
     return status;
+}
+
+/* Puts the last batch again. Where others have put so much that the status shows nothing, its place does. */
+static hhm_result put_last(hhm_client *hhm, hhm_status has)
+{
+    reply got;
+    if (send_request(hhm, &hhm->last))
+        return failed(hhm);
+    hhm_result result = read_reply(hhm, ACCEPTED, &got);
+    if (result == HHM_OK && number_at(got.bytes, 8) + 1 == hhm->seen.batches &&
+        number_at(got.bytes + 8, 8) == hhm->seen.total)
+        return HHM_OK;
+    /* (a connection that is open had a refusal that ends no session) */
+    return result == HHM_OK || (result == HHM_REFUSED && hhm->link >= 0) ? went_back(hhm, has) : result;
 }
 
 /* Makes a connection. One of a client that has put batches is first asked whether they are still there. */
@@ -581,7 +565,7 @@ static hhm_result greet(hhm_client *hhm)
     if (has.batches < hhm->seen.batches || has.total < hhm->seen.total ||
         (has.batches == hhm->seen.batches && has.total != hhm->seen.total))
         return went_back(hhm, has);
-    return HHM_OK;
+    return hhm->last.kind ? put_last(hhm, has) : HHM_OK;
 }
 
 /* Sends the requests that weren't sent over this connection, which is made where there is none. */
@@ -623,16 +607,14 @@ static hhm_result first_reply(hhm_client *hhm, const request *requests, size_t c
     }
 }
 
-/* Before a call: a connection that was left amid a frame or a reply isn't used again, nor one that another process made
-   before a fork. */
+/* Before a call: lets a connection go that was left amid a frame or a reply, or that another process made. */
 static void begin(hhm_client *hhm)
 {
     if (hhm->owed > 0 || hhm->process != getpid())
         let_go(hhm);
 }
 
-/* Sends the last of the requests on the way, whose replies are read later, where there is a connection; one that fails
-   is found out then. */
+/* Sends the last request, whose reply is read later, where there is a connection. A fault is found out then. */
 static void send_ahead(hhm_client *hhm, const request *requests, size_t count)
 {
     if (hhm->link >= 0 && send_all(hhm, requests, count))
@@ -659,13 +641,32 @@ static hhm_result too_large(hhm_client *hhm)
     return told(hhm, HHM_TOO_LARGE, "a batch has at most 1048576 cells or 67108848 bytes of text");
 }
 
-/* The reply to a put, of which is noted what it says of the accepted batches. */
-static hhm_accepted accepted_of(hhm_client *hhm, const reply *it)
+/* Keeps a copy of a put, or none where there is no memory for it. */
+static void keep_last(hhm_client *hhm, const request *it)
+{
+    size_t size = it->length + it->cell_count * sizeof *it->cells;
+    if (size > hhm->size) {
+        free(hhm->memory);
+        hhm->memory = malloc(size);
+        hhm->size = hhm->memory ? size : 0;
+    }
+    hhm->last = *it;
+    if (size > hhm->size)
+        hhm->last.kind = 0;
+    else if (size > 0)
+        memcpy(hhm->memory, it->kind == PUT ? (const void *)it->text : (const void *)it->cells, size);
+    hhm->last.text = (const char *)hhm->memory;
+    hhm->last.cells = (const hhm_cell *)hhm->memory;
+}
+
+/* The reply to a put, which is kept where its place is the highest. */
+static hhm_accepted accepted_of(hhm_client *hhm, const request *put, const reply *it)
 {
     hhm_accepted accepted = {number_at(it->bytes, 8), number_at(it->bytes + 8, 8)};
     if (accepted.index >= hhm->seen.batches) {
         hhm->seen.batches = accepted.index + 1;
         hhm->seen.total = accepted.total_after;
+        keep_last(hhm, put);
     }
     return accepted;
 }
@@ -677,7 +678,7 @@ static hhm_result ask_put(hhm_client *hhm, const request *it, hhm_accepted *acce
     reply got;
     hhm_result result = ask(hhm, it, ACCEPTED, &got);
     if (result == HHM_OK)
-        *accepted = accepted_of(hhm, &got);
+        *accepted = accepted_of(hhm, it, &got);
     return result;
 }
 
@@ -718,7 +719,7 @@ hhm_result hhm_put_all(hhm_client *hhm, const hhm_batch *batches, size_t count, 
         reply got;
         result = first_reply(hhm, waiting, next - first, ACCEPTED, &got);
         if (result == HHM_OK) {
-            accepted[first++] = accepted_of(hhm, &got);
+            accepted[first++] = accepted_of(hhm, waiting, &got);
             memmove(waiting, waiting + 1, (next - first) * sizeof *waiting);
         }
     }

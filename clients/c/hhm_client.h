@@ -35,7 +35,7 @@ extern "C" {
 #define HHM_MOST_DEPTH 128
 
 /* A connection to a server, made when it is first needed, and made again where it is lost. Over each new one a client
-   that has put batches first asks whether the server still has them. */
+   that has put batches asks for the status, and puts the last of them again, of which it keeps a copy for that. */
 typedef struct hhm_client hhm_client;
 
 /* A count at a place; both numbers of the place count from 0. */

@@ -20,8 +20,6 @@ have the same two numbers, in all runs of all programs, for as long as the serve
     for n, cells in enumerate(new_batches()):      # wrong: the next run begins at 0 again, and its batches are
         hhm.put(n, cells)                          # refused or, with as many cells and the same total, not counted
 
-    hhm.put(datetime.now().hour, cells)            # wrong: tomorrow the same hours come again
-
     for n, cells in numbered_batches(log):         # right: n is the batch's place in a log that is only appended to
         hhm.put(n, cells)                          # and never begun anew, as count_log.py does it
 
@@ -146,14 +144,15 @@ class BookWentBack(Exception):
     `Status`. What this client put since the last save may be missing. It is to be put again, with its numbers, and so
     is what this call was given, of which nothing was sent to the server as it is now. The client goes on.
 
-    `refused` has, of a client that keeps batches, those that were put again and refused, numbers with their `Refused`;
-    they are kept no longer.
+    `refused` has the batches that the client itself put again and that were refused, numbers with their `Refused`. Of
+    those that it keeps, they are kept no longer.
     """
 
     def __init__(self, had: Status, has: Status, refused: Sequence[Tuple[int, Refused]] = ()):
         self.had, self.has, self.refused = had, has, list(refused)
-        told = "the server went back: it had %d batches with total %d, and has %d with total %d" % (*had, *has)
-        super().__init__(told + "".join(f"; batch {number}: refused: {why}" for number, why in self.refused))
+        told = "the server went back: it had %d batches with total %d, which aren't all there, and has %d with total %d"
+        why = "".join(f"; batch {number}: refused: {why}" for number, why in self.refused)
+        super().__init__(told % (*had, *has) + why)
 
 
 def text_of(rows: int, cols: int, cells: Cells) -> bytes:
@@ -281,12 +280,20 @@ def went_back(known: Status, has: Status) -> bool:
     return is_shorter or (has.batches == known.batches and has.total != known.total)
 
 
-class Link:
-    """A connection, which knows how many replies are owed.
+class Last(NamedTuple):
+    """An accepted batch, the one with the highest place of those that were put."""
 
-    A request is owed its reply from before its first byte is sent until the last one of the reply was read, so a
-    connection that was left in between, by whatever exception, is known by it.
-    """
+    number: int
+    frame: bytes
+    accepted: Accepted
+
+    def book(self) -> Status:
+        return Status(self.accepted.index + 1, self.accepted.total_after)
+
+
+class Link:
+    """A connection. `owed` counts a reply from before the first byte of its request is sent until its own last byte was
+    read, so one that was left in between, by whatever exception, is known by it."""
 
     def __init__(self, tcp: Optional[str], unix: Optional[str], timeout: Optional[float]):
         self.timeout = timeout
@@ -301,9 +308,7 @@ class Link:
 
     def send(self, frame: bytes) -> None:
         """Sends a request. Replies that come meanwhile are read, since a server reads nothing while it can't write.
-
-        That the server closed the connection is found out when its last reply was read.
-        """
+        That it closed the connection is found out when its last reply was read."""
         self.owed += 1
         rest = memoryview(frame)
         while rest:
@@ -392,23 +397,17 @@ class Client:
     the first fault and twice as many after each further one, at most ten. By the defaults the last attempt comes after
     62 seconds of pauses, since a server that starts from a million batches answers only after ten or so.
 
-    Over each new connection a client that has put batches first asks for the status, and raises a `BookWentBack` where
-    the server has less than was accepted. With `keep`, a number of bytes, it keeps the frames of accepted batches (24
-    bytes a cell) until a `save` of its own that came after them was answered, and puts all of them again over each new
-    connection, before anything else; what a server lost is then there again, and only what it lost of before that save
-    is a BookWentBack. A put that would pass these bytes saves first, so the server must have a snapshot.
+    Over each new connection a client that has put batches asks for the status, and puts the last of them again, which
+    it keeps for that; where the server has less than was accepted, or answers another place, that is a `BookWentBack`.
+    With `keep`, a number of bytes, it keeps the frames of all accepted batches (24 bytes a cell) until a `save` of its
+    own that came after them was answered, and puts them again over each new connection; what a server lost is then
+    there again, and only what it lost of before that save is a BookWentBack. A put that would pass these bytes saves
+    first, so the server must have a snapshot.
     """
 
     def __init__(
-        self,
-        *,
-        tcp: Optional[str] = None,
-        unix: Optional[str] = None,
-        client: int = 0,
-        timeout: Optional[float] = 60,
-        attempts: int = 14,
-        pause: float = 0.05,
-        keep: Optional[int] = None,
+        self, *, tcp: Optional[str] = None, unix: Optional[str] = None, client: int = 0,
+        timeout: Optional[float] = 60, attempts: int = 14, pause: float = 0.05, keep: Optional[int] = None,
     ):
         if (tcp is None) == (unix is None):
             raise ValueError("give tcp or unix, and not both")
@@ -418,9 +417,9 @@ class Client:
         self.timeout, self.attempts, self.pause, self.keep = timeout, attempts, pause, keep
         self._link: Optional[Link] = None
         self._is_ahead = False
-        # What the highest place of a reply to a put says of the accepted batches, and what it said at the last save.
-        self._seen: Optional[Status] = None
-        self._saved: Optional[Status] = None
+        # The batch with the highest place, and that of those before the last save.
+        self._last: Optional[Last] = None
+        self._saved: Optional[Last] = None
         # The frames that are kept, by the client's number and the batch's, and their bytes.
         self._kept: Dict[Tuple[int, int], bytes] = {}
         self._kept_bytes = 0
@@ -492,12 +491,10 @@ class Client:
         return self._ask(request(EXPORT), TEXT, None)
 
     def save(self) -> int:
-        """Saves a snapshot where the server was told to, and gives its number of batches.
-
-        Where no answer comes in time the save may be under way, and it isn't asked for again.
-        """
+        """Saves a snapshot where the server was told to, and gives its number of batches. Where no answer comes in time
+        the save may be under way, and it isn't asked for again."""
         (batches,) = struct.unpack(">Q", self._ask(request(SAVE), SAVED, 8))
-        self._kept, self._kept_bytes, self._saved = {}, 0, self._seen
+        self._kept, self._kept_bytes, self._saved = {}, 0, self._last
         return batches
 
     def stop(self) -> None:
@@ -552,10 +549,10 @@ class Client:
         return self._kept_bytes + sum(map(len, on_the_way)) + len(frame) <= self.keep
 
     def _noted(self, number: int, frame: bytes, body: bytes) -> Accepted:
-        """The reply to a put, of which is noted what it says of the accepted batches."""
+        """The reply to a put, which is kept where it must be."""
         accepted = Accepted(*struct.unpack(">QQ", body))
-        if self._seen is None or accepted.index >= self._seen.batches:
-            self._seen = Status(accepted.index + 1, accepted.total_after)
+        if self._last is None or accepted.index > self._last.accepted.index:
+            self._last = Last(number, frame, accepted)
         if self.keep is not None:
             key = self.client, number
             self._kept_bytes += len(frame) - len(self._kept.get(key, b""))
@@ -578,19 +575,35 @@ class Client:
 
     def _greet(self, link: Link) -> None:
         """Over a new connection: asks whether what was accepted is still there, and puts again what is kept."""
-        if self._seen is None and not self._kept:
-            return
-        link.send(request(STATUS))
-        has = Status(*struct.unpack(">QQ", self._checked(link.reply(), COUNTS, 16)))
-        known = self._seen if self.keep is None else self._saved
-        if known is not None and went_back(known, has):
-            self._seen = self._saved = None
-            raise BookWentBack(known, has)
-        self._put_kept(link, has)
+        last = self._last if self.keep is None else self._saved
+        if last is not None and (fault := self._went_back(link, last)):
+            self._last = self._saved = None
+            raise fault
+        if self._kept:
+            self._put_kept(link)
 
-    def _put_kept(self, link: Link, has: Status) -> None:
+    def _went_back(self, link: Link, last: Last) -> Optional[BookWentBack]:
+        """Whether the server lacks what it had with this batch. Where its status doesn't show it, since others have put
+        meanwhile, the batch that is put again has another place."""
+        had, has = last.book(), self._status_of(link)
+        if went_back(had, has):
+            return BookWentBack(had, has)
+        link.send(last.frame)
+        try:
+            is_there = self._checked(link.reply(), ACCEPTED, 16) == struct.pack(">QQ", *last.accepted)
+            return None if is_there else BookWentBack(had, has)
+        except Refused as why:
+            if why.ends_session:
+                raise
+            return BookWentBack(had, has, [(last.number, why)])
+
+    def _status_of(self, link: Link) -> Status:
+        link.send(request(STATUS))
+        return Status(*struct.unpack(">QQ", self._checked(link.reply(), COUNTS, 16)))
+
+    def _put_kept(self, link: Link) -> None:
         kept, refused = list(self._kept.items()), []
-        had, self._seen = self._seen, self._saved if self._kept else self._seen
+        had, self._last = self._last, self._saved
         for ((client, number), frame), reply in zip(kept, link.replies(frame for _, frame in kept)):
             try:
                 self._noted(number, frame, self._checked(reply, ACCEPTED, 16))
@@ -600,7 +613,8 @@ class Client:
                 refused.append((number, why))
                 self._kept_bytes -= len(self._kept.pop((client, number)))
         if refused:
-            raise BookWentBack(had or has, has, refused)
+            has = self._status_of(link)
+            raise BookWentBack(had.book() if had else has, has, refused)
 
     @staticmethod
     def _checked(reply: Tuple[int, bytes], wanted: int, length: Optional[int]) -> bytes:
@@ -760,13 +774,6 @@ def asked(given: argparse.Namespace) -> bytes:
         waits.cancel()
 
 
-def words_of(fault: Exception) -> str:
-    """A fault in words, a file's or an address' with its name."""
-    if isinstance(fault, OSError) and fault.filename is not None and fault.strerror:
-        return f"{fault.filename}: {fault.strerror}"
-    return str(fault)
-
-
 def main() -> int:
     """The command line. 0; 1 where the server refused; 2 for bad words; 4 where it can't be reached or a file read."""
     given = parser().parse_args()
@@ -778,7 +785,8 @@ def main() -> int:
         print(f"refused: {refused}{advice}", file=sys.stderr)
         return 1
     except (OSError, ValueError) as error:
-        print(f"failed: {words_of(error)}", file=sys.stderr)
+        is_named = isinstance(error, OSError) and error.filename is not None and error.strerror
+        print("failed:", f"{error.filename}: {error.strerror}" if is_named else error, file=sys.stderr)
         return 4
     except KeyboardInterrupt:
         return 130

@@ -172,7 +172,8 @@ impl fmt::Display for Error {
             Error::BadReply => out.write_str("what came is no reply to what was asked"),
             Error::BookWentBack { had, has } => write!(
                 out,
-                "the server went back: it had {} batches with total {}, and has {} with total {}",
+                "the server went back: it had {} batches with total {}, which aren't all there, and \
+                 has {} with total {}",
                 had.batches, had.total, has.batches, has.total
             ),
             Error::Io(fault) => fault.fmt(out),
@@ -201,7 +202,7 @@ enum Address {
 }
 
 /// For how long a write may block before it is looked whether replies came.
-const PATIENCE: Duration = Duration::from_millis(50);
+const PATIENCE: Duration = Duration::from_millis(10);
 
 /// A connection of this process. Who leaves one amid a frame or a reply drops it.
 struct Link {
@@ -234,8 +235,8 @@ impl Link {
         }
     }
 
-    /// Sends a request. Replies that come meanwhile are read, since a server reads nothing while it can't write. That the
-    /// server closed the connection is found out when its last reply was read.
+    /// Sends a request. Replies that come meanwhile are read, since a server reads nothing while it can't write.
+    /// That it closed the connection is found out when its last reply was read.
     fn send(&mut self, mut rest: &[u8]) -> io::Result<()> {
         let mut since = Instant::now();
         while !rest.is_empty() {
@@ -336,38 +337,21 @@ struct Wanted {
     len: Option<usize>,
 }
 
-const ACCEPTED: Wanted = Wanted {
-    kind: 0x81,
-    len: Some(16),
-};
-const VALUE: Wanted = Wanted {
-    kind: 0x82,
-    len: Some(9),
-};
-const ROW_SUM: Wanted = Wanted {
-    kind: 0x83,
-    len: Some(16),
-};
-const COUNTS: Wanted = Wanted {
-    kind: 0x84,
-    len: Some(16),
-};
-const TEXT: Wanted = Wanted {
-    kind: 0x85,
-    len: None,
-};
-const SAVED: Wanted = Wanted {
-    kind: 0x86,
-    len: Some(8),
-};
-const STOPPING: Wanted = Wanted {
-    kind: 0x87,
-    len: Some(0),
-};
+const fn wanted(kind: u8, len: Option<usize>) -> Wanted {
+    Wanted { kind, len }
+}
+
+const ACCEPTED: Wanted = wanted(0x81, Some(16));
+const VALUE: Wanted = wanted(0x82, Some(9));
+const ROW_SUM: Wanted = wanted(0x83, Some(16));
+const COUNTS: Wanted = wanted(0x84, Some(16));
+const TEXT: Wanted = wanted(0x85, None);
+const SAVED: Wanted = wanted(0x86, Some(8));
+const STOPPING: Wanted = wanted(0x87, Some(0));
 
 /// A connection to a server, made when it is first needed, and made again where it is lost; every request is then sent
-/// again, behind the question whether the server still has what this client put (`Error::BookWentBack`). Dropping it
-/// closes the connection; what was accepted stays accepted.
+/// again. Over each new connection a client that has put batches asks for the status, and puts the last of them again,
+/// which it keeps for that (`Error::BookWentBack`). Dropping it closes the connection; what was accepted stays.
 pub struct Client {
     address: Address,
     number: u64,
@@ -375,8 +359,39 @@ pub struct Client {
     attempts: u32,
     pause: Duration,
     link: Option<Link>,
-    /// What the highest place of a reply to a put says of the accepted batches.
-    seen: Option<Status>,
+    last: Option<Last>,
+}
+
+/// An accepted batch, the one with the highest place of those that were put.
+struct Last {
+    frame: Vec<u8>,
+    accepted: Accepted,
+}
+
+impl Last {
+    /// What its reply said of the accepted batches.
+    fn book(&self) -> Status {
+        Status {
+            batches: self.accepted.index + 1,
+            total: self.accepted.total_after,
+        }
+    }
+
+    /// What the server has, where it lacks what it had with this batch. Where its status doesn't show it, since others
+    /// have put meanwhile, the batch that is put again has another place, or is refused.
+    fn missed(&self, link: &mut Link) -> Result<Option<Status>, Error> {
+        link.send(&request(4, &[]))?;
+        let has = status_of(&reply_of(link, COUNTS)?);
+        if went_back(self.book(), has) {
+            return Ok(Some(has));
+        }
+        link.send(&self.frame)?;
+        match reply_of(link, ACCEPTED) {
+            Ok(body) => Ok((accepted_of(&body) != self.accepted).then_some(has)),
+            Err(Error::Refused(refusal)) if !refusal.ends_session() => Ok(Some(has)),
+            Err(fault) => Err(fault),
+        }
+    }
 }
 
 impl Client {
@@ -398,7 +413,7 @@ impl Client {
             attempts: 14,
             pause: Duration::from_millis(50),
             link: None,
-            seen: None,
+            last: None,
         }
     }
 
@@ -426,7 +441,8 @@ impl Client {
     /// Puts a batch of cells, of which one may stand in it repeatedly. `number` belongs to this batch for ever.
     pub fn put(&mut self, number: u64, cells: &[Cell]) -> Result<Accepted, Error> {
         let frame = put_cells_frame(self.number, number, cells)?;
-        self.ask(&frame, ACCEPTED).map(|body| self.noted(&body))
+        let body = self.ask(&frame, ACCEPTED)?;
+        Ok(self.noted(frame, &body))
     }
 
     /// Puts a batch that is a Matrix Market text of the server's dimensions.
@@ -436,7 +452,8 @@ impl Client {
         }
         let mut frame = put_head(1, 16 + text.len(), self.number, number);
         frame.extend_from_slice(text);
-        self.ask(&frame, ACCEPTED).map(|body| self.noted(&body))
+        let body = self.ask(&frame, ACCEPTED)?;
+        Ok(self.noted(frame, &body))
     }
 
     /// Puts batches, numbers with their cells, with up to `depth` of them on the way, 128 at most, and calls `replied`
@@ -469,8 +486,8 @@ impl Client {
             let Some(number) = numbers.pop_front() else {
                 break;
             };
-            let body = self.first_reply(&mut way, ACCEPTED)?;
-            replied(number, self.noted(&body));
+            let (frame, body) = self.first_reply(&mut way, ACCEPTED)?;
+            replied(number, self.noted(frame, &body));
         }
         self.link = way.link;
         Ok(())
@@ -526,7 +543,7 @@ impl Client {
         }
         let answer = self.first_reply(&mut way, wanted);
         self.link = way.link;
-        answer
+        answer.map(|(_, body)| body)
     }
 
     /// Sends a request whose reply is read later. It is sent where there is a connection, and the first one over a new
@@ -561,13 +578,13 @@ impl Client {
         Ok(link)
     }
 
-    /// The reply to the first of the requests on the way; all are sent again where the connection failed. Where no
+    /// The first of the requests on the way, and its reply; all are sent again where the connection failed. Where no
     /// reply was read whole, or the server ends the session behind it, the connection is dropped.
     fn first_reply<F: AsRef<[u8]>>(
         &mut self,
         way: &mut Way<F>,
         wanted: Wanted,
-    ) -> Result<Vec<u8>, Error> {
+    ) -> Result<(F, Vec<u8>), Error> {
         let mut pause = self.pause;
         let mut attempt = 1;
         loop {
@@ -591,10 +608,7 @@ impl Client {
                     way.lose();
                     return Err(fault);
                 }
-                Ok(body) => {
-                    way.answered();
-                    return Ok(body);
-                }
+                Ok(body) => return Ok((way.answered(), body)),
             }
             thread::sleep(pause);
             pause = (pause * 2).min(Duration::from_secs(10));
@@ -605,29 +619,22 @@ impl Client {
     /// A new connection. One of a client that has put batches is first asked whether they are still there.
     fn greeted(&mut self) -> Result<Link, Error> {
         let mut link = self.connect()?;
-        if let Some(had) = self.seen {
-            link.send(&request(4, &[]))?;
-            let has = status_of(&reply_of(&mut link, COUNTS)?);
-            if went_back(had, has) {
-                self.seen = None;
+        if let Some(last) = &self.last {
+            if let Some(has) = last.missed(&mut link)? {
+                let had = last.book();
+                self.last = None;
                 return Err(Error::BookWentBack { had, has });
             }
         }
         Ok(link)
     }
 
-    /// The reply to a put, of which is noted what it says of the accepted batches.
-    fn noted(&mut self, body: &[u8]) -> Accepted {
-        let accepted = Accepted {
-            index: number_at(body, 0),
-            total_after: number_at(body, 8),
-        };
-        let seen = self.seen.map_or(0, |it| it.batches);
+    /// The reply to a put, whose frame is kept where its place is the highest.
+    fn noted(&mut self, frame: Vec<u8>, body: &[u8]) -> Accepted {
+        let accepted = accepted_of(body);
+        let seen = self.last.as_ref().map_or(0, |last| last.book().batches);
         if accepted.index >= seen {
-            self.seen = Some(Status {
-                batches: accepted.index + 1,
-                total: accepted.total_after,
-            });
+            self.last = Some(Last { frame, accepted });
         }
         accepted
     }
@@ -682,9 +689,9 @@ impl<F> Way<F> {
         self.sent = 0;
     }
 
-    fn answered(&mut self) {
-        self.frames.pop_front();
+    fn answered(&mut self) -> F {
         self.sent -= 1;
+        self.frames.pop_front().expect("a request that was sent")
     }
 }
 
@@ -725,6 +732,13 @@ fn number_at(body: &[u8], place: usize) -> u64 {
     body[place..place + 8]
         .iter()
         .fold(0, |n, byte| n << 8 | u64::from(*byte))
+}
+
+fn accepted_of(body: &[u8]) -> Accepted {
+    Accepted {
+        index: number_at(body, 0),
+        total_after: number_at(body, 8),
+    }
 }
 
 fn status_of(body: &[u8]) -> Status {

@@ -48,13 +48,17 @@ static void forked(hhm_client *hhm, uint64_t first, uint64_t count, size_t cells
 
 static hhm_result many(hhm_client *hhm, uint64_t first, size_t count, size_t depth, size_t cells)
 {
-    size_t answered;
+    size_t answered, in_order = 0;
     for (size_t i = 0; i < count; i++) {
         hhm_batch it = {first + i, wide, cells};
         batches[i] = it;
     }
     hhm_result result = hhm_put_all(hhm, batches, count, depth, answers, &answered);
-    if (result == HHM_OK)
+    while (in_order < answered && answers[in_order].index - in_order == answers[0].index)
+        in_order++;
+    if (result == HHM_OK && in_order < answered)
+        puts("out of order");
+    else if (result == HHM_OK)
         printf("%zu answered\n", answered);
     return result;
 }

@@ -44,7 +44,8 @@ def split(hhm, first, count):
 
 def many(hhm, first, count, depth, cells):
     batches = ((number, wide(cells)) for number in range(first, first + count))
-    return f"{sum(1 for _ in hhm.put_all(batches, depth))} answered"
+    shifts = [accepted.index - number for number, accepted in hhm.put_all(batches, depth)]
+    return f"{len(shifts)} answered" if len(set(shifts)) == 1 else "out of order"
 
 
 def alarms():

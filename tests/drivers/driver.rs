@@ -54,10 +54,17 @@ fn both(child: i32, is_right: bool) -> String {
 }
 
 fn many(hhm: &mut Client, first: u64, count: u64, depth: u64, cells: u64) -> Result<String, Error> {
-    let mut answered = 0;
+    let mut shifts = Vec::new();
     let batches = (first..first + count).map(|number| (number, wide(cells)));
-    hhm.put_all(batches, depth as usize, |_, _| answered += 1)?;
-    Ok(format!("{answered} answered"))
+    hhm.put_all(batches, depth as usize, |number, accepted| {
+        shifts.push(accepted.index.wrapping_sub(number));
+    })?;
+    let is_in_order = shifts.iter().all(|it| *it == shifts[0]);
+    Ok(if is_in_order {
+        format!("{} answered", shifts.len())
+    } else {
+        "out of order".into()
+    })
 }
 
 /// A fork at the first reply of many; each process goes on.
