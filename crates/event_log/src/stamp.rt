@@ -13,12 +13,16 @@ pub struct Stamp {
 
 impl Stamp {
     pub fn now(clock: &impl Clock) -> Stamp {
-        let time = match clock.since_1970() {
-            Ok(since) => Timestamp::from_second(since.as_secs() as i64).ok(),
-            Err(_) => None,
-        };
-        Stamp { time }
+        Stamp {
+            time: read_time(clock),
+        }
     }
+}
+
+fn read_time(clock: &impl Clock) -> Option<Timestamp> {
+    let since = clock.since_1970().ok()?;
+    let seconds = i64::try_from(since.as_secs()).ok()?;
+    Timestamp::from_second(seconds).ok()
 }
 
 impl Display for Stamp {
