@@ -70,8 +70,8 @@ impl<'a, R: Files> SnapshotFile for NamedFile<'a, R> {
     }
 }
 
-/// The file under a path, whose lock is taken before the first load and held for as long as this lives: nobody else who
-/// takes it saves there between a load and a save.
+/// The file under a path, whose lock is taken by a load and held to the end of the next save, at most for as long as this
+/// lives: nobody else who takes it saves there between the two.
 #[derive(Drop)]
 pub struct LockedFile<'a, R: Files<File = File>> {
     rt: &'a R,
@@ -104,11 +104,12 @@ impl<'a, R: Files<File = File>> SnapshotFile for LockedFile<'a, R> {
         load(self.rt, alloc, self.path, max_bytes)
     }
 
-    /// Saves, `Create` where the lock isn't held.
+    /// Saves, `Create` where the lock isn't held, and gives it back.
     fn save(&mut self, alloc: Global, setup: &Setup, list: &BookList) -> Result<(), SaveFault> {
-        if self.lock.is_none() {
+        // Not held while output is written: where that is closed, the lock's file may have its number.
+        let Some(_lock) = self.lock.take() else {
             return Err(SaveFault::Create);
-        }
+        };
         save(self.rt, alloc, self.path, setup, list)
     }
 }

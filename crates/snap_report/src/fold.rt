@@ -124,7 +124,7 @@ fn write_line<W: Sink>(w: &mut W, batches: u64, total: u64) -> Result<(), FoldFa
 /// stays as it was, repeats included; the cells of each batch are gone.
 ///
 /// Takes the memory of `run_check`: the batches are let go of before their sum is built. Where a server may save to the
-/// file meanwhile, give a `LockedFile`, whose lock is held from before the reading to behind the save.
+/// file meanwhile, give a `LockedFile`, whose lock is held from before the reading to the end of the save.
 ///
 /// # Errors
 ///
