@@ -13,6 +13,9 @@
 //! a lock, and takes the shard's lock to begin and to put the sum in place, each time for as long as pointers are
 //! copied.
 //!
+//! What a seat is shown of the book is a beginning of one history, to which only the book's lock adds (`History`). So
+//! whatever a put was answered, the book has its batch where the answer says so.
+//!
 //! What no lock can know, that the shards together hold exactly what the book accepted, is counted by two ledgers
 //! (`std::sync::ledger`), which take no bytes and no time: the book's total is the number of both. Of the first each
 //! seat holds a share, what its puts were the first to have accepted. Of the second each shard holds a share, which is
