@@ -208,6 +208,36 @@ def a_book_that_went_back_is_told(name, command):
             killed(at)
 
 
+def the_highest_place_decides(name, command):
+    """Others hide what is gone: the batch with the highest place, of more cells than those before it, tells it, also
+    behind a repeat of an older one, and where it is refused; and it is known again where nothing is gone."""
+    path = at_path("highest.snap")
+    words = [*WIDE, "--snapshot", path, "--limit", "1000"]
+    for counts, has in [([100] * 8, "11 with total 815"), ([109] * 9, "12 with total 996")]:
+        with contextlib.suppress(FileNotFoundError):
+            os.remove(path)
+        with Server(words) as at, Driver(command, at.path) as driver:
+            for number in range(1, 6):
+                driver.ask("put", number, 5)
+                if number == 3:
+                    driver.ask("save")
+            driver.ask("many", 6, 1, 1, 5)
+            check(f"{name}: a repeat", driver.ask("put", 1, 5), "index 0 total 5")
+            killed(at)
+            with Server(words) as at:
+                with at.client(8) as other:
+                    for number, count in enumerate(counts):
+                        other.put(number, [(0, 0, count)])
+                told = driver.ask("put", 7, 1)
+                check(f"{name}: hidden", told.split(";")[0], went_back("6 batches with total 30", has))
+                check(f"{name}: many cells", driver.ask("many", 8, 1, 1, 3), "1 answered")
+                check(f"{name}: saved with them", driver.ask("save").split()[0], "saved")
+                killed(at)
+            with Server(words) as at:
+                check(f"{name}: many cells again", driver.ask("many", 8, 1, 1, 3), "1 answered")
+                killed(at)
+
+
 def repeats_are_no_going_back(name, command):
     """What an earlier run put, in another order, beside others; and a server that begins again with all of it."""
     path = at_path("repeats.snap")
@@ -233,6 +263,51 @@ def repeats_are_no_going_back(name, command):
             check(f"{name}: after one more", driver.ask("put", 8, 5), "index 13 total 46")
             check(f"{name}: and a repeat", driver.ask("put", 1, 5), "index 6 total 23")
             killed(at)
+
+
+def drawn_kills_lose_nothing(name, command):
+    """A server is killed at drawn moments and begins again from its last snapshot, while three clients put and save in
+    turn: this one, which puts again what no save of its own has where it is told that the server went back, and two
+    that keep that by themselves."""
+    chance, path = random.Random(29), at_path("drawn.snap")
+    words, sums, counts, unsaved = [*WIDE, "--snapshot", path], [0, 0, 0], {}, []
+    with contextlib.ExitStack() as stack:
+        at = stack.enter_context(Server(words))
+        others = [at.client(8, keep=4000), at.client(9, keep=1 << 20)]
+        driver = stack.enter_context(Driver(command, at.path))
+
+        def asked(*question):
+            while (answer := driver.ask(*question)).startswith("the server went back"):
+                again.extend(asked("put", number, counts[number]) for number in list(unsaved))
+            return answer
+
+        again = []
+        for number in range(300):
+            count = chance.randrange(5)
+            match chance.choices(["put", "save", "other", "other's save", "kill"], [8, 1, 12, 1, 1])[0]:
+                case "put":
+                    counts[number] = count
+                    unsaved.append(number)
+                    asked("put", number, count)
+                    sums[0] += count
+                case "save":
+                    asked("save")
+                    unsaved.clear()
+                case "other":
+                    other = chance.randrange(2)
+                    others[other].put(number, [(1 + other, 0, count)])
+                    sums[1 + other] += count
+                case "other's save":
+                    others[chance.randrange(2)].save()
+                case "kill":
+                    killed(at)
+                    at = stack.enter_context(Server(words))
+        asked("status")
+        with at.client() as hhm:
+            for other in others:
+                other.status()
+            check(f"{name}: drawn kills", [hhm.row(row).total for row in range(3)], sums)
+            check(f"{name}: drawn kills, of which some were told", len(again) > 20, True)
 
 
 def many_small_frames_go(name, command):
@@ -472,7 +547,9 @@ def all_are_tried(drivers):
         a_timeout_amid_a_frame_leaves_no_connection(name, command)
         forks_have_connections_of_their_own(name, command)
         a_book_that_went_back_is_told(name, command)
+        the_highest_place_decides(name, command)
         repeats_are_no_going_back(name, command)
+        drawn_kills_lose_nothing(name, command)
         many_small_frames_go(name, command)
         silence_ends(name, command)
         bad_values_are_told(name, command)
