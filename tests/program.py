@@ -162,22 +162,52 @@ def fields(*values):
     return b"".join(field(value) for value in values)
 
 
-def snapshot(batches, total, rows=3, cols=3, cuts=(2, 4), shards=2, limit=100, most=10, count=None, past=None):
-    """The bytes of a snapshot: of version 1, or of version 2 where `past` has the folded entries and the base's cells.
+def table_entry(value):
+    """What a byte becomes with eight bits behind it, by the polynomial 1EDC6F41 with its bits turned round."""
+    for _ in range(8):
+        value = value >> 1 ^ (0x82F63B78 if value & 1 else 0)
+    return value
+
+
+CRC_TABLE = [table_entry(value) for value in range(256)]
+
+
+def crc32c(held):
+    """The checksum of RFC 3720."""
+    value = 2**32 - 1
+    for byte in held:
+        value = value >> 8 ^ CRC_TABLE[(value ^ byte) & 0xFF]
+    return value ^ 2**32 - 1
+
+
+assert crc32c(b"123456789") == 0xE3069283 and crc32c(bytes(32)) == 0x8A9136AA
+
+
+def snapshot(
+    batches, total, rows=3, cols=3, cuts=(2, 4), shards=2, limit=100, most=10, count=None, past=None, version=3
+):
+    """The bytes of a snapshot: of version 1, or of this version where `past` has the folded entries and the base's cells.
 
     A batch is its client, its number and its cells; a cell is a row, a column, a count. A folded entry is its client,
     its number, its number of cells and its total.
     """
-    version = 1 if past is None else 2
+    version = 1 if past is None else version
     head = b"HHMSNAP\n" + field(version, 4) + fields(rows, cols) + field(len(cuts), 1) + fields(*cuts)
     head += field(shards, 1) + fields(limit, most, len(batches) if count is None else count, total)
+    parts = [head]
     if past is not None:
         folded, base = past
-        head += fields(len(folded), *itertools.chain(*folded)) + fields(len(base), *itertools.chain(*base))
-    return head + b"".join(
+        parts.append(fields(len(folded), *itertools.chain(*folded)) + fields(len(base), *itertools.chain(*base)))
+    parts += [
         fields(client, number, len(cells)) + b"".join(fields(*cell) for cell in cells)
         for client, number, cells in batches
-    )
+    ]
+    held = b""
+    for part in parts:
+        held += part
+        if version == 3:
+            held += field(crc32c(held), 4)
+    return held
 
 
 # Nothing is folded.
@@ -209,31 +239,28 @@ SNAPSHOTS = [
     ),
 ]
 
-# Of version 2: the same with nothing folded, one folded batch alone, and one behind which another stands.
-SNAPSHOTS += [
-    (snapshot(ONE, 5, past=NONE), "rows 3 cols 3 shards 2 batches 1 total 5 entries 1"),
-    (snapshot(TWO, 12, past=NONE), "rows 3 cols 3 shards 2 batches 2 total 12 entries 3"),
-    (snapshot([], 5, past=([(7, 1, 1, 5)], [(0, 0, 5)])), "rows 3 cols 3 shards 2 batches 1 total 5 entries 1"),
-    (snapshot([], 0, past=([(9, 1, 0, 0)], [])), "rows 3 cols 3 shards 2 batches 1 total 0 entries 0"),
-    (
-        snapshot(ONE, 14, past=([(7, 2, 2, 5), (8, 1, 1, 4)], [(0, 0, 7), (2, 1, 2)])),
-        "rows 3 cols 3 shards 2 batches 3 total 14 entries 2",
-    ),
-]
+# Of versions 2 and 3: the same with nothing folded, one folded batch alone, and one behind which another stands.
+for version in (2, 3):
+    SNAPSHOTS += [
+        (snapshot(ONE, 5, past=NONE, version=version), "rows 3 cols 3 shards 2 batches 1 total 5 entries 1"),
+        (snapshot(TWO, 12, past=NONE, version=version), "rows 3 cols 3 shards 2 batches 2 total 12 entries 3"),
+        (
+            snapshot([], 5, past=([(7, 1, 1, 5)], [(0, 0, 5)]), version=version),
+            "rows 3 cols 3 shards 2 batches 1 total 5 entries 1",
+        ),
+        (
+            snapshot([], 0, past=([(9, 1, 0, 0)], []), version=version),
+            "rows 3 cols 3 shards 2 batches 1 total 0 entries 0",
+        ),
+        (
+            snapshot(ONE, 14, past=([(7, 2, 2, 5), (8, 1, 1, 4)], [(0, 0, 7), (2, 1, 2)]), version=version),
+            "rows 3 cols 3 shards 2 batches 3 total 14 entries 2",
+        ),
+    ]
 
-# The snapshot of which each bit is flipped by itself: 1,712 bits.
+# The snapshot of which each bit is flipped by itself.
 FLIPPED = snapshot([(7, 1, [(0, 0, 5)]), (7, 3, [(0, 1, 0), (2, 2, 4)])], 9, past=NONE)
-
-# How many bits of each of its fields leave a snapshot, of another setup or of other batches. The format has no sum of
-# check, so a number may be any other that its judgement lets pass. Worked out by hand: rows and columns must stay
-# above 2 and at most 2^60, the first cut below 4 and the second above 2, the limit at least 9, the most batches at
-# least 2 and at most 1,000,000; the numbers 1 and 3 are a bit apart, so that one bit of each makes the pair the other;
-# a cell must stay within 3 by 3 and behind the one before.
-UNNOTICED = {
-    "rows": 58, "cols": 58, "cut": 1 + 39, "shards": 5, "limit": 64, "most": 20,
-    "client": 64 + 64, "number": 63 + 63, "row": 2 + 2 + 1, "column": 2 + 1 + 1,
-}  # fmt: skip
-assert sum(UNNOTICED.values()) == 508 and 8 * len(FLIPPED) == 1_712  # as docs/DEFINITIONS.md says
+assert 8 * len(FLIPPED) == 1_840  # as docs/DEFINITIONS.md says
 
 # Bytes that are no snapshot, and the fault that is told of them.
 NO_SNAPSHOTS = [
@@ -243,7 +270,8 @@ NO_SNAPSHOTS = [
     (snapshot(ONE, 5) + b"\0", "ExtraBytes"),
     (snapshot(ONE, 5).replace(b"HHMSNAP\n", b"HHMSNAP\r"), "BadMark"),
     (b"HHMSNAP\n" + field(2, 4), "Truncated"),
-    (b"HHMSNAP\n" + field(3, 4), "BadVersion"),
+    (b"HHMSNAP\n" + field(3, 4), "Truncated"),
+    (b"HHMSNAP\n" + field(4, 4), "BadVersion"),
     (b"HHMSNAP\n" + field(0, 4), "BadVersion"),
     (snapshot(ONE, 5, rows=0), "BadHead"),
     (snapshot(ONE, 5, cuts=(4, 4)), "BadHead"),
@@ -263,7 +291,8 @@ NO_SNAPSHOTS = [
 # One folded batch of total 5, and its base.
 FIVE = ([(7, 1, 1, 5)], [(0, 0, 5)])
 
-# The same of version 2: of the folded entries, of the base, and of the batches behind them.
+# The same of version 3: of the folded entries, of the base, of the batches behind them, and of the checksums. What a
+# wrong checksum stands behind is judged before it.
 NO_SNAPSHOTS += [
     (snapshot(ONE, 5, past=NONE)[:-1], "Truncated"),
     (snapshot(ONE, 5, past=NONE) + b"\0", "ExtraBytes"),
@@ -281,6 +310,14 @@ NO_SNAPSHOTS += [
     (snapshot([], 5, past=([(7, 1, 1, 5)], [(3, 0, 5)])), "BadBatch"),
     (snapshot([], 5, past=([(7, 1, 1, 5)], [(0, 3, 5)])), "BadBatch"),
     (snapshot([], 5, past=([(7, 1, 2, 5)], [(0, 1, 2), (0, 1, 3)])), "OutOfOrder"),
+    (snapshot(ONE, 5, past=NONE)[:81] + b"\0", "BadCheck"),
+    (snapshot(ONE, 5, past=NONE)[:101], "Truncated"),
+    (snapshot(ONE, 5, past=NONE)[:-1] + b"\0", "BadCheck"),
+    (snapshot(ONE, 5, past=NONE)[:-1] + b"\0\0", "BadCheck"),
+    (snapshot([(7, 1, [(0, 1, 5)])], 5, past=NONE)[:-4] + snapshot(ONE, 5, past=NONE)[-4:], "BadCheck"),
+    (snapshot(ONE, 5, past=NONE)[:-5] + b"\6" + snapshot(ONE, 5, past=NONE)[-4:], "TotalDiffers"),
+    (snapshot(ONE, 5, past=NONE, version=2)[:-1], "Truncated"),
+    (snapshot([], 5, past=FIVE, version=2) + b"\0", "ExtraBytes"),
 ]
 
 # Command lines that are not read.
@@ -579,9 +616,11 @@ class Snapshot:
     def __init__(self, held):
         self.held, self.at, self.fields = held, 0, []
         self.head()
+        self.check()
         self.sum, self.places, self.pairs, self.folded = 0, {}, set(), 0
-        if self.version == 2:
+        if self.version > 1:
             self.past()
+            self.check()
         self.batches()
         if self.sum != self.total:
             raise FirstFault("TotalDiffers")
@@ -600,12 +639,18 @@ class Snapshot:
             raise FirstFault(fault)
         return value
 
+    def check(self):
+        """The checksum of all bytes before it, in version 3."""
+        if self.version == 3:
+            due = crc32c(self.held[: self.at])
+            self.take("checksum", 4, lambda value: value == due, "BadCheck")
+
     def head(self):
         def setting(name, least, most, size=8):
             return self.take(name, size, lambda value: least <= value <= most, "BadHead")
 
         self.take("mark", 8, lambda value: field(value) == b"HHMSNAP\n", "BadMark")
-        self.version = self.take("version", 4, lambda value: value in (1, 2), "BadVersion")
+        self.version = self.take("version", 4, lambda value: value in (1, 2, 3), "BadVersion")
         self.rows, self.cols = setting("rows", 1, SIZE), setting("cols", 1, SIZE)
         cut = 0
         for _ in range(setting("cuts", 0, 7, 1)):
@@ -637,6 +682,7 @@ class Snapshot:
         for _ in range(self.count):
             self.pair()
             self.cells(self.take("entries", 8, lambda _: True), self.total)
+            self.check()
 
     def cells(self, count, most):
         before = (-1, -1)
@@ -663,8 +709,7 @@ class Snapshot:
 
 
 def flipped_bits(program):
-    """Each bit of a snapshot flipped by itself: the format's first fault, or what the other snapshot holds."""
-    unnoticed = {}
+    """Each bit of a snapshot flipped by itself: the format's first fault, which there always is."""
     with tempfile.TemporaryDirectory() as folder:
         path = os.path.join(folder, "file")
         for name, places in Snapshot(FLIPPED).fields:
@@ -675,13 +720,11 @@ def flipped_bits(program):
                 with open(path, "wb") as file:
                     file.write(held)
                 try:
-                    case = Case("", ["check", path], output=Snapshot(held).line() + "\n")
-                    unnoticed[name] = unnoticed.get(name, 0) + 1
+                    wrong.append(f"bit {bit} leaves the snapshot {Snapshot(held).line()}")
                 except FirstFault as fault:
                     case = checked("", path, f"snapshot: {fault}", 3)
-                wrong += [f"bit {bit}: {what}" for what in run(program, case)]
+                    wrong += [f"bit {bit}: {what}" for what in run(program, case)]
             yield f"a flipped bit of {name} at byte {places.start}", wrong
-    yield "the bits that aren't noticed", [] if unnoticed == UNNOTICED else [f"{unnoticed} in place of {UNNOTICED}"]
 
 
 def the_example(program):

@@ -3,3 +3,4 @@ mod Products
 mod BitLemmas
 mod Bursts
 mod OddChanges
+mod DivisionLaws

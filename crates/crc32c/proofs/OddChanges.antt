@@ -22,7 +22,7 @@ ones-zero : (x : ℕ) → ones 0 x ≡ 0
 unfolding ones
 ones-zero x = refl
 
-bit_sum : (x y : ℕ) → x < 2 → y < 2 → bit_xor x y ≡ (x + y) % 2
+pub bit_sum : (x y : ℕ) → x < 2 → y < 2 → bit_xor x y ≡ (x + y) % 2
 bit_sum zero zero p q = refl
 bit_sum zero (suc zero) p q = refl
 bit_sum (suc zero) zero p q = refl

@@ -1,2 +1,3 @@
 pub mod Remainders
 pub mod Changes
+pub mod Division

@@ -1,7 +1,15 @@
-//! Which changes of bytes change their checksum for certain.
+//! What the checksum is, and which changes of bytes change it for certain.
 ghost use Rattle.std.specs.Prelude.{◌≡◌, ◌≢◌, ℕ, List};
-ghost use Rattle.crc32c.specs.Remainders.{checksum_of};
-ghost use Rattle.crc32c.specs.Changes.{IsBurst, IsBytes, HasOddChanges};
+ghost use Rattle.crc32c.specs.Remainders.{complement, checksum_of};
+ghost use Rattle.crc32c.specs.Changes.{low_bits, bits_of, IsBurst, IsBytes, HasOddChanges};
+ghost use Rattle.crc32c.specs.Division.{IsDivided};
+
+/// The checksum, each bit turned over, is the remainder of a division by the generator: of the bits of the bytes, to
+/// whose first 32 ones are added, times x^32.
+pub fn checksums_are_remainders()
+    ensures { (bytes : List ℕ) → IsBytes bytes → (quotient : List ℕ) ×
+        IsDivided (bits_of bytes) quotient (low_bits 32 (complement (checksum_of bytes))) }
+{}
 
 /// A change of 1 to 32 successive bits is found, wherever they stand and however many bytes there are. Of each byte
 /// the lowest bit comes first.

@@ -14,18 +14,21 @@ use std::rt::Files;
 
 /// Three rows, three columns, cuts 2 and 4, 2 shards, a limit of 100 and at most 10 batches; 2 batches, total 12, 1 of
 /// them folded: client 8, number 1, 1 cell, total 7. The base: 1 cell, row 1, column 2, count 7. Then client 7, number
-/// 1, 1 cell: row 0, column 0, count 5.
-static BYTES: &[u8] = b"HHMSNAP\n\0\0\0\x02\
+/// 1, 1 cell: row 0, column 0, count 5. Behind the head, what is folded and the batch stands a checksum each.
+static BYTES: &[u8] = b"HHMSNAP\n\0\0\0\x03\
 \0\0\0\0\0\0\0\x03\0\0\0\0\0\0\0\x03\
 \x02\0\0\0\0\0\0\0\x02\0\0\0\0\0\0\0\x04\
 \x02\0\0\0\0\0\0\0\x64\0\0\0\0\0\0\0\x0a\
 \0\0\0\0\0\0\0\x01\0\0\0\0\0\0\0\x0c\
+\x6e\x8c\x3f\x3a\
 \0\0\0\0\0\0\0\x01\
 \0\0\0\0\0\0\0\x08\0\0\0\0\0\0\0\x01\0\0\0\0\0\0\0\x01\0\0\0\0\0\0\0\x07\
 \0\0\0\0\0\0\0\x01\
 \0\0\0\0\0\0\0\x01\0\0\0\0\0\0\0\x02\0\0\0\0\0\0\0\x07\
+\x57\x32\x87\x8c\
 \0\0\0\0\0\0\0\x07\0\0\0\0\0\0\0\x01\0\0\0\0\0\0\0\x01\
-\0\0\0\0\0\0\0\0\0\0\0\0\0\0\0\0\0\0\0\0\0\0\0\x05";
+\0\0\0\0\0\0\0\0\0\0\0\0\0\0\0\0\0\0\0\0\0\0\0\x05\
+\xf6\xa5\x47\x68";
 
 /// The most bytes of a snapshot that is read.
 const MAX_BYTES: u64 = 1_000_000;

@@ -1,16 +1,22 @@
 -- Lists of shared batches, up to a place and from it on.
-use Rattle.std.proofs.Common.{◌≡◌, ℕ, ◌+◌, ◌<◌, ◌≤◌, List, [], ◌∷◌, ◌++◌, length, take, drop, get_or, flat_map, refl}
-use Rattle.std.proofs.Common.{sym, ap, subst, ◌∙◌, arith, add-one, drop-cons}
+use Rattle.std.proofs.Common.{◌≡◌, ℕ, ◌+◌, ◌<◌, ◌≤◌, List, [], ◌∷◌, ◌++◌, length, take, drop, get_or, refl}
+use Rattle.std.proofs.Common.{sym, ap, subst, ◌∙◌, arith, add-one, drop-cons, append_assoc}
 use Rattle.std.proofs.lemmas.List.{map-append, take-append-drop, drop_all}
 use Rattle.std.specs.declared.sync.Arc.{Arc}
 use Rattle.std.specs.Arc.{arc_value}
-use Rattle.byte_io.specs.Buffers.{Unwritten}
 use Rattle.byte_io.specs.Streams.{Answer}
 use Rattle.hyper_matrix.specs.Counts.{total}
 use Rattle.batch_store.specs.Books.{list_total}
-use Rattle.snap_file.specs.Spelling.{batch_bytes}
+use Rattle.crc32c.specs.Remainders.{all_ones, after_bytes}
+use Rattle.hyper_matrix.specs.Counts.{Counts}
+use Rattle.batch_store.specs.Setups.{Setting}
+use Rattle.batch_store.specs.Accepted.{Accepted, total_in}
+use Rattle.batch_store.specs.declared.verdict.Entry.{Entry}
+use Rattle.snap_file.specs.Spelling.{version, head_bytes, batch_bytes, past_bytes, past_in, check_bytes, checked_bytes}
+use Rattle.snap_file.specs.Spelling.{batches_bytes, file}
+use Rattle.snap_file.proofs.WriteLemmas.{writing_begun}
 use Rattle.batch_store.specs.Batches.{Submission, values}
-use Rattle.snap_file.specs.Writing.{IsWriting}
+use Rattle.snap_file.specs.Writing.{WriterState, IsWriting}
 
 pub one_more : {Z : Type 0} (bs : List (Arc Submission Z)) (i : ℕ) (d : Arc Submission Z) (b : Submission) →
     i < length bs → d ≡ get_or bs i d → b ≡ arc_value d → values (drop i bs) ≡ b ∷ values (drop (i + 1) bs)
@@ -41,19 +47,103 @@ pub total_fits : {Z : Type 0} (bs : List (Arc Submission Z)) (i : ℕ) →
     list_total (values (take i bs)) ≤ list_total (values bs)
 total_fits bs i = let a = total_split bs i in omega arith
 
+-- All before these batches was appended.
+pub record IsBeforeBatches {S : Type 0} (step : S → List ℕ → Answer → S → Type 0) (failures : S → ℕ) (s t : S)
+    (all : List ℕ) (writer : WriterState) (list : List Submission) : Type 0 where
+  pub front : List ℕ
+  pub all_is : all ≡ front ++ batches_bytes version front list
+  pub is_writing : IsWriting step failures s t all writer (batches_bytes version front list)
+
+-- what is next of the whole
+abbrev pub next_part : List ℕ → Submission → List ℕ
+next_part front b = checked_bytes version front (batch_bytes b)
+
+abbrev pub left_behind : List ℕ → Submission → List Submission → List ℕ
+left_behind front b list = batches_bytes version (front ++ next_part front b) list
+
 pub batch_next : {Z S : Type 0} (step : S → List ℕ → Answer → S → Type 0) (failures : S → ℕ) (s t : S) (all : List ℕ)
-    (writer : Unwritten) (bs : List (Arc Submission Z)) (i : ℕ) (d : Arc Submission Z) (b : Submission) →
+    (writer : WriterState) (bs : List (Arc Submission Z)) (i : ℕ) (d : Arc Submission Z) (b : Submission) →
     i < length bs → d ≡ get_or bs i d → b ≡ arc_value d →
-    IsWriting step failures s t all writer (flat_map batch_bytes (values (drop i bs))) →
-    IsWriting step failures s t all writer (batch_bytes b ++ flat_map batch_bytes (values (drop (i + 1) bs)))
+    IsBeforeBatches step failures s t all writer (values (drop i bs)) →
+    IsBeforeBatches step failures s t all writer (b ∷ values (drop (i + 1) bs))
 batch_next step failures s t all writer bs i d b h is at a =
-    subst (λ (l : List Submission). IsWriting step failures s t all writer (flat_map batch_bytes l))
-    (one_more bs i d b h is at) a
+    subst (λ (l : List Submission). IsBeforeBatches step failures s t all writer l) (one_more bs i d b h is at) a
+
+-- the next batch was appended
+pub batch_passed : {S : Type 0} (step : S → List ℕ → Answer → S → Type 0) (failures : S → ℕ) (s m t : S)
+    (all : List ℕ) (old new : WriterState) (b : Submission) (list : List Submission)
+    (a : IsBeforeBatches step failures s m all old (b ∷ list)) →
+    IsWriting step failures s t all new (left_behind a.front b list) →
+    IsBeforeBatches step failures s t all new list
+batch_passed step failures s m t all old new b list a h = record {
+  front = a.front ++ next_part a.front b;
+  all_is = a.all_is ∙ sym (append_assoc a.front (next_part a.front b) (left_behind a.front b list));
+  is_writing = h;
+}
 
 pub batch_last : {Z S : Type 0} (step : S → List ℕ → Answer → S → Type 0) (failures : S → ℕ) (s t : S) (all : List ℕ)
-    (writer : Unwritten) (bs : List (Arc Submission Z)) (i : ℕ) → length bs ≤ i →
-    IsWriting step failures s t all writer (flat_map batch_bytes (values (drop i bs))) →
+    (writer : WriterState) (bs : List (Arc Submission Z)) (i : ℕ) → length bs ≤ i →
+    IsBeforeBatches step failures s t all writer (values (drop i bs)) →
     IsWriting step failures s t all writer []
 batch_last step failures s t all writer bs i h a =
-    subst (λ (l : List (Arc Submission _)). IsWriting step failures s t all writer (flat_map batch_bytes (values l)))
-    (drop_all i bs h) a
+    (subst (λ (l : List (Arc Submission _)). IsBeforeBatches step failures s t all writer (values l))
+    (drop_all i bs h) a).is_writing
+
+-- ---- the front of a file
+
+pub head_counted : (pending : List ℕ) (s : Setting) (n m t u : ℕ) → pending ≡ head_bytes version s n t → n ≡ m → t ≡ u →
+    pending ≡ head_bytes version s m u
+head_counted pending s n m t u is e f = is ∙ (λ i. head_bytes version s (e i) (f i))
+
+past_is : (base : Counts) (folded : List Entry) → past_in version base folded ≡ past_bytes base folded
+unfolding past_in
+past_is base folded = refl
+
+abbrev pub head_of : Setting → Accepted → List ℕ
+head_of s a = head_bytes version s (length a.list) (total_in a)
+
+-- the head with its checksum, and the past with its
+abbrev pub front_of : Setting → Accepted → List ℕ
+front_of s a = checked_bytes version [] (head_of s a)
+
+abbrev pub past_of : Setting → Accepted → List ℕ
+past_of s a = checked_bytes version (front_of s a) (past_bytes a.base a.folded)
+
+abbrev pub batches_of : Setting → Accepted → List ℕ
+batches_of s a = batches_bytes version (front_of s a ++ past_of s a) a.list
+
+file_is : (s : Setting) (a : Accepted) → file s a ≡ front_of s a ++ (past_of s a ++ batches_of s a)
+file_is s a = ap (λ (l : List ℕ). front_of s a ++ (checked_bytes version (front_of s a) l ++
+    batches_bytes version (front_of s a ++ checked_bytes version (front_of s a) l) a.list)) (past_is a.base a.folded)
+
+-- the whole behind the head
+pub head_left : (s : Setting) (a : Accepted) →
+    file s a ≡ head_of s a ++ (check_bytes version (head_of s a) ++ (past_of s a ++ batches_of s a))
+head_left s a = file_is s a ∙ append_assoc (head_of s a) (check_bytes version (head_of s a)) (past_of s a ++ batches_of s a)
+
+-- the whole behind the head's checksum
+pub past_left : (s : Setting) (a : Accepted) → file s a ≡ front_of s a ++ (past_of s a ++ batches_of s a)
+past_left s a = file_is s a
+
+-- before the first call the head is pending
+pub head_begun : {S : Type 0} (step : S → List ℕ → Answer → S → Type 0) (failures : S → ℕ) (s : S) (setup : Setting)
+    (a : Accepted) (writer : WriterState) → writer.taken ≡ 0 → writer.pending ≡ head_of setup a →
+    writer.remainder ≡ after_bytes all_ones writer.pending →
+    IsWriting step failures s s (file setup a) writer
+    (check_bytes version (head_of setup a) ++ (past_of setup a ++ batches_of setup a))
+head_begun step failures s setup a writer taken pending summed =
+    let left = check_bytes version (head_of setup a) ++ (past_of setup a ++ batches_of setup a) in
+    subst (λ (l : List ℕ). IsWriting step failures s s l writer left) (sym (head_left setup a))
+    (writing_begun step failures s (head_of setup a) left writer taken pending
+    (summed ∙ ap (after_bytes all_ones) pending))
+
+-- what is folded was appended, and the batches are left
+pub batches_begun : {S : Type 0} (step : S → List ℕ → Answer → S → Type 0) (failures : S → ℕ) (s t : S)
+    (setup : Setting) (a : Accepted) (writer : WriterState) →
+    IsWriting step failures s t (file setup a) writer (batches_of setup a) →
+    IsBeforeBatches step failures s t (file setup a) writer a.list
+batches_begun step failures s t setup a writer h = record {
+  front = front_of setup a ++ past_of setup a;
+  all_is = past_left setup a ∙ sym (append_assoc (front_of setup a) (past_of setup a) (batches_of setup a));
+  is_writing = h;
+}

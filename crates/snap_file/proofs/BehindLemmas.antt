@@ -1,17 +1,21 @@
 -- What is read behind the head: where its faults show.
-use Rattle.std.proofs.Common.{◌≡◌, ℕ, zero, suc, ◌+◌, ◌<◌, ◌≤◌, Bool, true, false, not, List, [], ◌∷◌, length}
+use Rattle.std.proofs.Common.{◌≡◌, ℕ, zero, suc, ◌+◌, ◌<◌, ◌≤◌, Bool, true, false, cond, not, List, [], ◌∷◌, ◌++◌, length, length-append}
 use Rattle.std.proofs.Common.{take, drop, Result, Ok, refl, sym, ◌∙◌, arith, inl, inr}
 use Rattle.std.specs.Prelude.{◌==◌, ◌≢◌, nat_lt}
-use Rattle.std.specs.Int.{Width, w64, byte_len, from_be_bytes}
+use Rattle.std.specs.Int.{Width, w32, w64, byte_len, from_be_bytes}
+use Rattle.crc32c.specs.Remainders.{checksum_of}
 use Rattle.std.proofs.lemmas.Bool.{cases_lt, le-ltb}
+use Rattle.std.proofs.lemmas.List.{length-take-le}
 use Rattle.snap_file.specs.Table.{Input, Fault, Contents, Reading, fault_at, number, refuse_if, Tally, cells_behind}
 use Rattle.snap_file.specs.Table.{Progress, entry, entries_behind, base, batch, batches_behind, end, contents_of, ending}
-use Rattle.snap_file.specs.Table.{rest_of}
+use Rattle.snap_file.specs.Table.{rest_of, check, check_in}
+use Rattle.snap_file.specs.Spelling.{version}
 use Rattle.snap_file.specs.Outcomes.{ShowsBehind, IsBehindHead}
 use Rattle.snap_file.specs.declared.head.Head.{Head}
 use Rattle.snap_file.specs.declared.fault.SnapFault.{SnapFault}
 use Rattle.snap_file.specs.declared.fault.SnapFault.TheVariants.{BadMark, BadVersion, BadHead, BadBatch, OutOfOrder}
 use Rattle.snap_file.specs.declared.fault.SnapFault.TheVariants.{RepeatedNumber, TotalDiffers, Truncated, ExtraBytes}
+use Rattle.snap_file.specs.declared.fault.SnapFault.TheVariants.{BadCheck}
 use Rattle.snap_file.proofs.EndLemmas.{end_here}
 use Rattle.snap_file.proofs.Steady.{place_same, kind_same, number_short, refused_at, goes_on, end_more}
 
@@ -27,7 +31,7 @@ record IsNotOfHead (kind : SnapFault) : Type 0 where
 -- A fault of this reading is none of the head's, and shows no earlier than where the reading begins.
 record IsFromHere (left : Reading) : Type 0 where
   shows : (input : Input) (kind : SnapFault) (shown : ℕ) → left input ≡ fault_at kind shown →
-      IsNotOfHead kind × (input.at ≤ shown)
+      IsNotOfHead kind × (length input.before ≤ shown)
 
 truncated : IsNotOfHead Truncated
 truncated = record { no_mark = λ e. absurd cc; no_version = λ e. absurd cc; no_head = λ e. absurd cc }
@@ -43,6 +47,9 @@ repeated = record { no_mark = λ e. absurd cc; no_version = λ e. absurd cc; no_
 
 differs : IsNotOfHead TotalDiffers
 differs = record { no_mark = λ e. absurd cc; no_version = λ e. absurd cc; no_head = λ e. absurd cc }
+
+bad_check : IsNotOfHead BadCheck
+bad_check = record { no_mark = λ e. absurd cc; no_version = λ e. absurd cc; no_head = λ e. absurd cc }
 
 extra : IsNotOfHead ExtraBytes
 extra = record { no_mark = λ e. absurd cc; no_version = λ e. absurd cc; no_head = λ e. absurd cc }
@@ -89,8 +96,8 @@ tested : (test : Bool) (kind : SnapFault) (k : Unit {0} → Reading) → IsNotOf
 tested true kind k n f = record {
   shows = λ input j shown e.
       let same = sym (refused_at k true kind input refl) ∙ e in
-      let place = place_same kind j input.at shown same in
-      (same_kind kind j (kind_same kind j input.at shown same) n, omega arith);
+      let place = place_same kind j (length input.before) shown same in
+      (same_kind kind j (kind_same kind j (length input.before) shown same) n, omega arith);
 }
 tested false kind k n f = record {
   shows = λ input j shown e. f.shows input j shown (sym (goes_on k false kind input refl) ∙ e);
@@ -99,7 +106,7 @@ tested false kind k n f = record {
 -- a field that is there
 field_there : (w : Width) (k : ℕ → Reading) (input : Input) → byte_len w ≤ length input.rest →
     number w k input ≡ k (from_be_bytes w (take (byte_len w) input.rest))
-    (record { at = input.at + byte_len w; rest = drop (byte_len w) input.rest })
+    (record { before = input.before ++ take (byte_len w) input.rest; rest = drop (byte_len w) input.rest })
 unfolding number
 field_there w k input long = rw (le-ltb (length input.rest) (byte_len w) long) refl
 
@@ -108,21 +115,40 @@ behind_field : (w : Width) (k : ℕ → Reading) → 0 < byte_len w → ((n : �
 behind_field w k wide each = record {
   shows = λ input kind shown e. elim (cases_lt (length input.rest) (byte_len w)) [
     | inl short ↦
-        let same : fault_at Truncated (input.at + length input.rest + 1) ≡ fault_at kind shown =
-        sym (number_short w k input.at input.rest short) ∙ e in
+        let same : fault_at Truncated (length input.before + length input.rest + 1) ≡ fault_at kind shown =
+        sym (number_short w k input.before input.rest short) ∙ e in
         let place = place_same Truncated kind _ shown same in
-        farther input.at shown kind (same_kind Truncated kind (kind_same Truncated kind _ shown same) truncated)
+        farther (length input.before) shown kind (same_kind Truncated kind (kind_same Truncated kind _ shown same) truncated)
         (omega arith)
     | inr long ↦
         let s = (each (from_be_bytes w (take (byte_len w) input.rest))).shows _ kind shown
         (sym (field_there w k input long) ∙ e) in
         let from = s.1 in
-        farther input.at shown kind s.0 (omega arith)
+        let len = length-append input.before (take (byte_len w) input.rest) in
+        let some = length-take-le (byte_len w) input.rest long in
+        farther (length input.before) shown kind s.0 (omega arith)
   ];
 }
 
 field : (w : Width) (k : ℕ → Reading) → 0 < byte_len w → ((n : ℕ) → IsFromHere (k n)) → IsFromHere (number w k)
 field w k wide each = from_here _ (behind_field w k wide each)
+
+behind_choice : (test : Bool) (a b : Reading) → IsBehindHead a → IsBehindHead b → IsBehindHead (cond test a b)
+behind_choice true a b s t = s
+behind_choice false a b s t = t
+
+behind_check : (k : Unit {0} → Reading) → IsBehindHead (k tt) → IsBehindHead (check k)
+unfolding check
+behind_check k b = record {
+  shows = λ input kind shown e.
+      let field = behind_field w32 (λ n. refuse_if (not (n == checksum_of input.before)) BadCheck k) (omega arith)
+      (λ n. tested _ BadCheck k bad_check (from_here _ b)) in
+      field.shows input kind shown e;
+}
+
+pub behind_check_in : (v : ℕ) (k : Unit {0} → Reading) → IsBehindHead (k tt) → IsBehindHead (check_in v k)
+unfolding check_in
+behind_check_in v k b = behind_choice (v == version) (check k) (k tt) (behind_check k b) b
 
 pub behind_cells : (h : Head) (top n : ℕ) (tally : Tally) (k : Tally → Reading) →
     ((t : Tally) → IsBehindHead (k t)) → IsBehindHead (cells_behind h top n tally k)
@@ -151,20 +177,22 @@ pub behind_batches : (h : Head) (n : ℕ) (p : Progress) (k : Progress → Readi
     ((q : Progress) → IsBehindHead (k q)) → IsBehindHead (batches_behind h n p k)
 unfolding batches_behind
 behind_batches h zero p k each = each p
-behind_batches h (suc n) p k each = behind_batch h p _ (λ q. behind_batches h n q k each)
+behind_batches h (suc n) p k each =
+    behind_batch h p _ (λ q. behind_check_in h.version _ (behind_batches h n q k each))
 
-ended : (c : Contents) (at : ℕ) (rest : List ℕ) (kind : SnapFault) (shown : ℕ) →
-    end c (record { at = at; rest = rest }) ≡ fault_at kind shown → ShowsBehind at shown kind
-ended c at [] kind shown e = absurd (let same : ◌≡◌ {A = outcome} (Ok c) (fault_at kind shown) = sym (end_here c at) ∙ e
+ended : (c : Contents) (before rest : List ℕ) (kind : SnapFault) (shown : ℕ) →
+    end c (record { before = before; rest = rest }) ≡ fault_at kind shown → ShowsBehind (length before) shown kind
+ended c before [] kind shown e = absurd (let same : ◌≡◌ {A = outcome} (Ok c) (fault_at kind shown) = sym (end_here c before) ∙ e
     in cc)
-ended c at (x ∷ rest) kind shown e =
-    let same = sym (end_more c at x rest) ∙ e in
-    let place = place_same ExtraBytes kind (at + 1) shown same in
-    farther at shown kind (same_kind ExtraBytes kind (kind_same ExtraBytes kind (at + 1) shown same) extra)
+ended c before (x ∷ rest) kind shown e =
+    let same = sym (end_more c before x rest) ∙ e in
+    let place = place_same ExtraBytes kind (length before + 1) shown same in
+    farther (length before) shown kind
+    (same_kind ExtraBytes kind (kind_same ExtraBytes kind (length before + 1) shown same) extra)
     (omega arith)
 
 pub behind_end : (c : Contents) → IsBehindHead (end c)
-behind_end c = record { shows = λ input kind shown e. ended c input.at input.rest kind shown e }
+behind_end c = record { shows = λ input kind shown e. ended c input.before input.rest kind shown e }
 
 -- a sum is judged, and what follows is behind the head
 pub behind_sum : (test : Bool) (left : Reading) → IsBehindHead left →
@@ -172,8 +200,8 @@ pub behind_sum : (test : Bool) (left : Reading) → IsBehindHead left →
 behind_sum true left b = record {
   shows = λ input kind shown e.
       let same = sym (refused_at (λ _. left) true TotalDiffers input refl) ∙ e in
-      here input.at shown kind (kind_same TotalDiffers kind input.at shown same)
-      (place_same TotalDiffers kind input.at shown same);
+      here (length input.before) shown kind (kind_same TotalDiffers kind (length input.before) shown same)
+      (place_same TotalDiffers kind (length input.before) shown same);
 }
 behind_sum false left b = record {
   shows = λ input kind shown e. b.shows input kind shown

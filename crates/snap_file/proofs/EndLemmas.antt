@@ -18,9 +18,9 @@ none : (l : List ℕ) → length l < 1 → l ≡ []
 none [] h = refl
 none (x ∷ l) h = absurd (omega arith)
 
-pub end_here : (c : Contents) (at : ℕ) → end c (record { at = at; rest = [] }) ≡ Ok c
+pub end_here : (c : Contents) (before : List ℕ) → end c (record { before = before; rest = [] }) ≡ Ok c
 unfolding end
-end_here c at = refl
+end_here c before = refl
 
 pub reads_whole : {S : Type 0} (gives : S → Result (List ℕ) DeviceFault → S → Type 0) (failures : S → ℕ)
     (ended : Type 0) (m : ℕ) (s t : S) (reader : ReaderState) (c : Contents) →
@@ -34,7 +34,7 @@ reads_whole gives failures ended m s t reader c x short =
     append-nil (bytes_of_calls a.answers) in
     let bytes_are : bytes ≡ a.front ++ [] = same ∙ a.bytes_are ∙
     ap (λ (l : List ℕ). a.front ++ l) (none reader.pending short) in
-    let read : reading_of bytes ≡ Ok c = ap reading_of bytes_are ∙ a.resumes [] ∙ end_here c (length a.front) in
+    let read : reading_of bytes ≡ Ok c = ap reading_of bytes_are ∙ a.resumes [] ∙ end_here c a.front in
     let f = file_read c bytes (subst IsBytes (sym same) a.are_bytes) read in
     let few = a.few in let within = a.within in
     record {
@@ -61,7 +61,7 @@ fails_at_end gives failures ended m s t c x =
     let bytes_are : bytes ≡ a.front ++ [] = bytes_of_calls-append a.answers last ∙
     append-nil (bytes_of_calls a.answers) ∙ a.bytes_are ∙
     ap (λ (l : List ℕ). a.front ++ l) (none x.reader.pending x.short) in
-    let read : reading_of bytes ≡ Ok c = ap reading_of bytes_are ∙ a.resumes [] ∙ end_here c (length a.front) in
+    let read : reading_of bytes ≡ Ok c = ap reading_of bytes_are ∙ a.resumes [] ∙ end_here c a.front in
     let few = a.few in let within = a.within in
     let fits : length bytes ≤ m = let e = ap length bytes_are ∙ length-append a.front [] in omega arith in
     record {
@@ -75,10 +75,10 @@ fails_at_end gives failures ended m s t c x =
       unfailed = λ n. absurd (n refl);
     }
 
-extra : (c : Contents) (at : ℕ) (rest : List ℕ) → 1 ≤ length rest →
-    end c (record { at = at; rest = rest }) ≡ fault_at ExtraBytes (at + 1)
-extra c at [] h = absurd (omega arith)
-extra c at (x ∷ rest) h = end_more c at x rest
+extra : (c : Contents) (before rest : List ℕ) → 1 ≤ length rest →
+    end c (record { before = before; rest = rest }) ≡ fault_at ExtraBytes (length before + 1)
+extra c before [] h = absurd (omega arith)
+extra c before (x ∷ rest) h = end_more c before x rest
 
 pub stops_extra : {S : Type 0} (gives : S → Result (List ℕ) DeviceFault → S → Type 0) (failures : S → ℕ)
     (ended : Type 0) (m : ℕ) (s t : S) (reader : ReaderState) (c : Contents) →
@@ -87,7 +87,7 @@ pub stops_extra : {S : Type 0} (gives : S → Result (List ℕ) DeviceFault → 
 stops_extra gives failures ended m s t reader c a some room =
     let bytes = bytes_of_calls a.answers in
     let shows : reading_of bytes ≡ fault_at ExtraBytes (length a.front + 1) = ap reading_of a.bytes_are ∙
-    a.resumes reader.pending ∙ extra c (length a.front) reader.pending some in
+    a.resumes reader.pending ∙ extra c a.front reader.pending some in
     let all = ap length a.bytes_are ∙ length-append a.front reader.pending in
     let l = a.limit_is in let i = a.taken_is in let few = a.few in
     record {
@@ -110,7 +110,7 @@ pub stops_over : {S : Type 0} (gives : S → Result (List ℕ) DeviceFault → S
 stops_over gives failures ended m s t reader c a some room =
     let bytes = bytes_of_calls a.answers in
     let shows : reading_of bytes ≡ fault_at ExtraBytes (length a.front + 1) = ap reading_of a.bytes_are ∙
-    a.resumes reader.pending ∙ extra c (length a.front) reader.pending some in
+    a.resumes reader.pending ∙ extra c a.front reader.pending some in
     let all = ap length a.bytes_are ∙ length-append a.front reader.pending in
     let l = a.limit_is in let i = a.taken_is in let few = a.few in
     let more : m < length bytes = omega arith in

@@ -5,7 +5,7 @@ use Rattle.std.specs.Prelude.{◌==◌}
 use Rattle.std.specs.Int.{Width, w8, w32, w64, byte_len, from_be_bytes}
 use Rattle.std.proofs.lemmas.Bool.{ltb-false, le-ltb}
 use Rattle.std.proofs.lemmas.Bool.Decides.{nat_tests}
-use Rattle.std.proofs.lemmas.List.{take_at, drop_at, take-append-drop, length-append, length-take}
+use Rattle.std.proofs.lemmas.List.{append-nil, take_at, drop_at, take-append-drop, length-append, length-take}
 use Rattle.std.proofs.lemmas.Nat.{be_bytes_4, be_bytes_8, from_be_bytes-to_be_bytes_4, from_be_bytes-to_be_bytes_8}
 use Rattle.byte_io.proofs.BufferLemmas.{bytes_before, bytes_behind}
 use Rattle.snap_file.specs.Spelling.{IsBytes, number_bytes}
@@ -55,34 +55,37 @@ wide64 = record {
 
 -- The part reads these bytes as this value, whatever follows and whatever is read behind it.
 pub record Skips {A : Type 0} (p : Part A) (x : A) (bytes : List ℕ) : Type 0 where
-  pub reads : (k : A → Reading) (at : ℕ) (more : List ℕ) → p k (record { at = at; rest = bytes ++ more }) ≡
-      k x (record { at = at + length bytes; rest = more })
+  pub reads : (k : A → Reading) (before more : List ℕ) → p k (record { before = before; rest = bytes ++ more }) ≡
+      k x (record { before = before ++ bytes; rest = more })
 
 pub skips_give : {A : Type 0} (x : A) → Skips (give x) x []
-skips_give x = record { reads = λ k at more. ap (λ (n : ℕ). k x (record { at = n; rest = more })) (omega arith) }
+skips_give x = record {
+  reads = λ k before more. ap (λ (l : List ℕ). k x (record { before = l; rest = more })) (sym (append-nil before));
+}
 
 pub skips_bind : {A B : Type 0} (p : Part A) (f : A → Part B) (x : A) (y : B) (a b : List ℕ) → Skips p x a →
     Skips (f x) y b → Skips (p >>= f) y (a ++ b)
 skips_bind p f x y a b s t = record {
-  reads = λ k at more.
-      ap (λ (l : List ℕ). p (λ x. f x k) (record { at = at; rest = l })) (append_assoc a b more)
-      ∙ s.reads (λ x. f x k) at (b ++ more) ∙ t.reads k (at + length a) more
-      ∙ ap (λ (n : ℕ). k y (record { at = n; rest = more })) (let e = length-append a b in omega arith);
+  reads = λ k before more.
+      ap (λ (l : List ℕ). p (λ x. f x k) (record { before = before; rest = l })) (append_assoc a b more)
+      ∙ s.reads (λ x. f x k) before (b ++ more) ∙ t.reads k (before ++ a) more
+      ∙ ap (λ (l : List ℕ). k y (record { before = l; rest = more })) (append_assoc before a b);
 }
 
 pub skips_test : {B : Type 0} (test : Bool) (kind : SnapFault) (f : Unit {0} → Part B) (y : B) (b : List ℕ) →
     test ≡ false → Skips (f tt) y b → Skips (refuse_if test kind >>= f) y b
 unfolding refuse_if
 skips_test test kind f y b clear t = record {
-  reads = λ k at more.
-      ap (λ (v : Bool). cond v (fault_at kind at) (f tt k (record { at = at; rest = b ++ more }))) clear ∙
-      t.reads k at more;
+  reads = λ k before more.
+      ap (λ (v : Bool). cond v (fault_at kind (length before))
+      (f tt k (record { before = before; rest = b ++ more }))) clear ∙
+      t.reads k before more;
 }
 
-skips_field : (w : Width) (limit : ℕ) → IsWide w limit → (n : ℕ) → n < limit → Skips (number w) n (number_bytes w n)
+pub skips_field : (w : Width) (limit : ℕ) → IsWide w limit → (n : ℕ) → n < limit → Skips (number w) n (number_bytes w n)
 unfolding number
 skips_field w limit wide n lt = record {
-  reads = λ k at more.
+  reads = λ k before more.
       let len = wide.len n in
       let long : ltb (length (number_bytes w n ++ more)) (byte_len w) ≡
       false = le-ltb _ _ (omega (arith, length-append (number_bytes w n) more)) in
@@ -91,7 +94,6 @@ skips_field w limit wide n lt = record {
         take_at (number_bytes w n) more (byte_len w) len,
         drop_at (number_bytes w n) more (byte_len w) len,
         wide.again n lt,
-        len,
       ) refl;
 }
 
@@ -103,38 +105,47 @@ skips_number w limit wide n f y b lt t = skips_bind (number w) f n y (number_byt
 
 -- ---- what is read was spelled so
 
+-- These bytes were read, behind those before them and in front of what is left.
+pub record Stands (start rest bytes before left : List ℕ) : Type 0 where
+  pub before_is : before ≡ start ++ bytes
+  pub parts : rest ≡ bytes ++ left
+
 -- A field stands in front of the rest, and what follows it gives the same.
-pub record Field (w : Width) (limit : ℕ) (k : ℕ → Reading) (v : Contents) (rest : List ℕ) : Type 0 where
+pub record Field (w : Width) (limit : ℕ) (k : ℕ → Reading) (v : Contents) (start rest : List ℕ) : Type 0 where
   pub value : ℕ
   pub below : value < limit
-  pub at : ℕ
+  pub before : List ℕ
   pub left : List ℕ
-  pub parts : rest ≡ number_bytes w value ++ left
+  pub stands : Stands start rest (number_bytes w value) before left
   pub fits : IsBytes left
-  pub goes : k value (record { at = at; rest = left }) ≡ Ok v
+  pub goes : k value (record { before = before; rest = left }) ≡ Ok v
 
 pub ok_chosen : {A E : Type 0} (b : Bool) (e : E) (r : Result A E) (v : A) → cond b (Err e) r ≡ Ok v →
     (b ≡ false) × (r ≡ Ok v)
 ok_chosen true e r v h = absurd cc
 ok_chosen false e r v h = (refl, h)
 
-pub field_of : (w : Width) (limit : ℕ) → IsWide w limit → (k : ℕ → Reading) (v : Contents) (at : ℕ) (rest : List ℕ) →
-    IsBytes rest → number w k (record { at = at; rest = rest }) ≡ Ok v → Field w limit k v rest
+pub field_of : (w : Width) (limit : ℕ) → IsWide w limit → (k : ℕ → Reading) (v : Contents) (before rest : List ℕ) →
+    IsBytes rest → number w k (record { before = before; rest = rest }) ≡ Ok v → Field w limit k v before rest
 unfolding number
-field_of w limit wide k v at rest fits e =
+field_of w limit wide k v before rest fits e =
     let c = ok_chosen (ltb (length rest) (byte_len w)) (record {
       kind = SnapFault.Truncated;
-      place = at + length rest + 1;
+      place = length before + length rest + 1;
     }) _ v e in
     let long : byte_len w ≤ length rest = ltb-false _ _ c.0 in
     let front = bytes_before (byte_len w) rest fits in
+    let again = wide.back (take (byte_len w) rest) (omega (arith, length-take (byte_len w) rest)) front in
     record {
       value = from_be_bytes w (take (byte_len w) rest);
       below = wide.below (take (byte_len w) rest) front;
-      at = at + byte_len w;
+      before = before ++ take (byte_len w) rest;
       left = drop (byte_len w) rest;
-      parts = rw (wide.back (take (byte_len w) rest) (omega (arith, length-take (byte_len w) rest)) front)
-          (sym (take-append-drop (byte_len w) rest));
+      stands = record {
+        before_is = ap (λ (l : List ℕ). before ++ l) (sym again);
+        parts = sym (take-append-drop (byte_len w) rest) ∙
+            ap (λ (l : List ℕ). l ++ drop (byte_len w) rest) (sym again);
+      };
       fits = bytes_behind (byte_len w) rest fits;
       goes = c.1;
     }
@@ -142,13 +153,13 @@ field_of w limit wide k v at rest fits e =
 pub passed : (test : Bool) (kind : SnapFault) (k : Unit {0} → Reading) (v : Contents) (input : Input) →
     refuse_if test kind k input ≡ Ok v → (test ≡ false) × (k tt input ≡ Ok v)
 unfolding refuse_if
-passed test kind k v input e = ok_chosen test (record { kind = kind; place = input.at }) (k tt input) v e
+passed test kind k v input e = ok_chosen test (record { kind = kind; place = length input.before }) (k tt input) v e
 
 -- The same for a chain of fields: behind `field_then` the field is a variable, and goals stay short.
 pub field_then : {P : Type 0} (w : Width) (limit : ℕ) → IsWide w limit →
-    (k : ℕ → Reading) (v : Contents) (at : ℕ) (rest : List ℕ) → IsBytes rest →
-    number w k (record { at = at; rest = rest }) ≡ Ok v → (Field w limit k v rest → P) → P
-field_then w limit wide k v at rest fits e f = f (field_of w limit wide k v at rest fits e)
+    (k : ℕ → Reading) (v : Contents) (before rest : List ℕ) → IsBytes rest →
+    number w k (record { before = before; rest = rest }) ≡ Ok v → (Field w limit k v before rest → P) → P
+field_then w limit wide k v before rest fits e f = f (field_of w limit wide k v before rest fits e)
 
 pub passed_then : {P : Type 0} (test : Bool) (kind : SnapFault) (k : Unit {0} → Reading) (v : Contents)
     (input : Input) → refuse_if test kind k input ≡ Ok v → ((test ≡ false) × (k tt input ≡ Ok v) → P) → P

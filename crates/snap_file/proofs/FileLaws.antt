@@ -48,7 +48,7 @@ one_contents m bytes s t a b x y =
 pub no_prefix : (m n : ℕ) (bytes more : List ℕ) (s t : Setting) (a b : Accepted) → IsSnapshot m bytes s a →
     IsSnapshot n (bytes ++ more) t b → more ≡ []
 no_prefix m n bytes more s t a b x y =
-    (ended (contents s a) (contents t b) (length bytes) more
+    (ended (contents s a) (contents t b) bytes more
     (sym (file_again bytes s a more (readable_of s a x.kept) x.spelled) ∙ snapshot_read n (bytes ++ more) t b y)).0
 
 -- ---- every list of bytes

@@ -21,7 +21,7 @@ use Rattle.batch_store.specs.Batches.{Submission, submission}
 use Rattle.batch_store.specs.declared.verdict.Entry.{Entry}
 use Rattle.snap_file.specs.Spelling.{stands_in}
 use Rattle.snap_file.specs.Table.{Reading, Tally, Progress, number, refuse_if, cells_behind, is_below, with_cells}
-use Rattle.snap_file.specs.Table.{entry, entries_behind, batch, batches_behind}
+use Rattle.snap_file.specs.Table.{entry, entries_behind, batch, batches_behind, check_in}
 use Rattle.snap_file.specs.Outcomes.{ReaderState, HasJudged}
 use Rattle.snap_file.specs.Lists.{pair_cmp, HasPairs}
 use Rattle.snap_file.specs.declared.head.Head.{Head}
@@ -150,7 +150,7 @@ progress_is h base folded list sum client number t m after counted is counts pus
     (λ i. record { state = accepted base folded (list_is i); counted = counts i })
 
 batch_step : (h : Head) (n : ℕ) (p : Progress) (k : Progress → Reading) →
-    batches_behind h (suc n) p k ≡ batch h p (λ q. batches_behind h n q k)
+    batches_behind h (suc n) p k ≡ batch h p (λ q. check_in h.version (λ _. batches_behind h n q k))
 unfolding batches_behind
 batch_step h n p k = refl
 
@@ -162,7 +162,7 @@ module _ {S : Type 0} (gives : S → Result (List ℕ) DeviceFault → S → Typ
     (reader : ReaderState) (h : Head) (k : Progress → Reading) where
   pub batch_next : (left rest : ℕ) (p : Progress) → left ≡ suc rest →
       HasJudged gives failures m s t reader (batches_behind h left p k) →
-      HasJudged gives failures m s t reader (batch h p (λ q. batches_behind h rest q k))
+      HasJudged gives failures m s t reader (batch h p (λ q. check_in h.version (λ _. batches_behind h rest q k)))
   batch_next left rest p e a = subst (λ (r : Reading). HasJudged gives failures m s t reader r)
       (ap (λ (i : ℕ). batches_behind h i p k) e ∙ batch_step h rest p k) a
 

@@ -26,9 +26,9 @@ pub read_more : {S : Type 0} (gives : S → Result (List ℕ) DeviceFault → S 
     HasRead gives failures max_bytes s m old left → Fills gives m t old.pending new.pending n → 0 < n →
     n ≤ piece_bytes → length old.pending < want →
     old.taken + length old.pending ≤ old.max_bytes →
-    new.taken ≡ old.taken → new.max_bytes ≡ old.max_bytes → failures t ≡ failures m →
+    new.taken ≡ old.taken → new.remainder ≡ old.remainder → new.max_bytes ≡ old.max_bytes → failures t ≡ failures m →
     HasAsked gives failures max_bytes s t new left want
-read_more gives failures max_bytes s m t old new left n want a f some most short small taken limit same =
+read_more gives failures max_bytes s m t old new left n want a f some most short small taken remainder limit same =
     let one : List (Result (List ℕ) DeviceFault) = Ok f.bytes ∷ [] in
     let joined : bytes_of_calls (a.answers ++ one) ≡ bytes_of_calls a.answers ++
     f.bytes = bytes_of_calls-append a.answers one ∙ ap (λ (l : List ℕ). bytes_of_calls a.answers ++ l)
@@ -44,6 +44,7 @@ read_more gives failures max_bytes s m t old new left n want a f some most short
         are_bytes = subst IsBytes (sym joined) (are_bytes-append
             (bytes_of_calls a.answers) f.bytes a.are_bytes f.are_bytes);
         taken_is = taken ∙ a.taken_is;
+        remainder_is = remainder ∙ a.remainder_is;
         limit_is = limit ∙ a.limit_is;
         within = a.within;
         few = bounded a.answers one a.front old.pending max_bytes (calls_at_most_bytes a.answers a.each)
@@ -93,8 +94,8 @@ asked_none gives failures max_bytes s t reader left want h = record {
 pub read_same : {S : Type 0} (gives : S → Result (List ℕ) DeviceFault → S → Type 0) (failures : S → ℕ) (max_bytes : ℕ)
     (s t : S) (old new : ReaderState) (left : Reading) →
     HasRead gives failures max_bytes s t old left → new.pending ≡ old.pending → new.taken ≡ old.taken →
-    new.max_bytes ≡ old.max_bytes → HasRead gives failures max_bytes s t new left
-read_same gives failures max_bytes s t old new left a pending taken limit = record {
+    new.remainder ≡ old.remainder → new.max_bytes ≡ old.max_bytes → HasRead gives failures max_bytes s t new left
+read_same gives failures max_bytes s t old new left a pending taken remainder limit = record {
   answers = a.answers;
   calls = a.calls;
   each = a.each;
@@ -102,6 +103,7 @@ read_same gives failures max_bytes s t old new left a pending taken limit = reco
   bytes_are = a.bytes_are ∙ ap (λ (l : List ℕ). a.front ++ l) (sym pending);
   are_bytes = a.are_bytes;
   taken_is = taken ∙ a.taken_is;
+  remainder_is = remainder ∙ a.remainder_is;
   limit_is = limit ∙ a.limit_is;
   within = a.within;
   few = a.few;
@@ -116,14 +118,14 @@ no_bytes (x ∷ l) e = absurd (omega arith)
 pub read_ended : {S : Type 0} (gives : S → Result (List ℕ) DeviceFault → S → Type 0) (failures : S → ℕ) (ended : Type 0)
     (max_bytes : ℕ) (s m t : S) (old new : ReaderState) (left : Reading) (n : ℕ) →
     HasRead gives failures max_bytes s m old left → Fills gives m t old.pending new.pending n → n ≡ 0 → ended →
-    new.taken ≡ old.taken → new.max_bytes ≡ old.max_bytes → failures t ≡ failures m →
+    new.taken ≡ old.taken → new.remainder ≡ old.remainder → new.max_bytes ≡ old.max_bytes → failures t ≡ failures m →
     HasEnded gives failures ended max_bytes s t new left
-read_ended gives failures ended max_bytes s m t old new left n a f none at_end taken limit same =
+read_ended gives failures ended max_bytes s m t old new left n a f none at_end taken remainder limit same =
     let empty = no_bytes f.bytes (f.count ∙ none) in
     record {
       before = m;
       has_read = read_same gives failures max_bytes s m old new left a
-          (f.pending_is ∙ ap (λ (l : List ℕ). old.pending ++ l) empty ∙ append-nil old.pending) taken limit;
+          (f.pending_is ∙ ap (λ (l : List ℕ). old.pending ++ l) empty ∙ append-nil old.pending) taken remainder limit;
       gave = subst (λ (l : List ℕ). gives m (Ok l) t) empty f.gave;
       at_end = at_end;
       none_failed = same;

@@ -1,18 +1,20 @@
 -- A reading that begins.
 use Rattle.std.proofs.Common.{◌≡◌, ℕ, List, [], ◌++◌, Result, refl, sym, arith, inl}
+use Rattle.crc32c.specs.Remainders.{all_ones}
 use Rattle.byte_io.specs.declared.fault.DeviceFault.{DeviceFault}
 use Rattle.snap_file.specs.Table.{whole, reading_of}
 use Rattle.snap_file.specs.Outcomes.{ReaderState, HasJudged, Stops}
 use Rattle.snap_file.specs.declared.fault.SnapFault.TheVariants.{Memory}
 
-starts : (more : List ℕ) → reading_of ([] ++ more) ≡ whole (record { at = 0; rest = more })
+starts : (more : List ℕ) → reading_of ([] ++ more) ≡ whole (record { before = []; rest = more })
 unfolding reading_of
 starts more = refl
 
 pub read_begun : {S : Type 0} (gives : S → Result (List ℕ) DeviceFault → S → Type 0) (failures : S → ℕ) (m : ℕ) (s : S)
     (reader : ReaderState) →
-    reader.pending ≡ [] → reader.taken ≡ 0 → reader.max_bytes ≡ m → HasJudged gives failures m s s reader whole
-read_begun gives failures m s reader pending taken limit = record {
+    reader.pending ≡ [] → reader.taken ≡ 0 → reader.remainder ≡ all_ones → reader.max_bytes ≡ m →
+    HasJudged gives failures m s s reader whole
+read_begun gives failures m s reader pending taken remainder limit = record {
   has_read = record {
     answers = [];
     calls = refl;
@@ -21,6 +23,7 @@ read_begun gives failures m s reader pending taken limit = record {
     bytes_are = sym pending;
     are_bytes = λ i. omega arith;
     taken_is = taken;
+    remainder_is = remainder;
     limit_is = limit;
     within = omega arith;
     few = omega arith;

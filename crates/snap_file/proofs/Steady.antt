@@ -1,31 +1,32 @@
 -- A fault that shows within the bytes stays the first, whatever follows the place where it shows.
-use Rattle.std.proofs.Common.{◌≡◌, ℕ, zero, suc, ◌+◌, ◌<◌, ◌≤◌, Bool, true, false, cond, eqb, ltb, List, [], ◌∷◌, ◌++◌}
+use Rattle.std.proofs.Common.{◌≡◌, ℕ, zero, suc, ◌+◌, ◌<◌, ◌≤◌, Bool, true, false, cond, not, eqb, ltb, List, [], ◌∷◌, ◌++◌}
 use Rattle.std.proofs.Common.{length, take, drop, Result, Ok, refl, sym, ap, ◌∙◌, append_assoc, length-append, arith}
 use Rattle.std.proofs.Common.{inl, inr}
 use Rattle.std.proofs.lemmas.Bool.{cases_lt, lt-ltb, le-ltb, ne_eqb}
 use Rattle.std.proofs.lemmas.List.{take-append-drop, length-drop, take_at, drop_at, length-take-le}
 use Rattle.std.specs.Prelude.{◌==◌}
-use Rattle.std.specs.Int.{Width, byte_len, from_be_bytes}
+use Rattle.std.specs.Int.{Width, w32, byte_len, from_be_bytes}
 use Rattle.snap_file.specs.Table.{Input, Fault, Contents, Reading, fault_at, number, refuse_if, head, cuts_behind}
 use Rattle.snap_file.specs.Table.{Tally, cells_behind, Progress, entry, entries_behind, base, folded_past, past, batch}
-use Rattle.snap_file.specs.Table.{batches_behind, end, body, nothing_yet, reading_of}
-use Rattle.snap_file.specs.Spelling.{old_version}
+use Rattle.snap_file.specs.Table.{batches_behind, end, nothing_yet, whole, reading_of, check, check_in}
+use Rattle.snap_file.specs.Spelling.{old_version, version}
+use Rattle.crc32c.specs.Remainders.{checksum_of}
 use Rattle.snap_file.specs.declared.head.Head.{Head}
 use Rattle.snap_file.specs.declared.fault.SnapFault.{SnapFault}
-use Rattle.snap_file.specs.declared.fault.SnapFault.TheVariants.{Truncated, ExtraBytes}
+use Rattle.snap_file.specs.declared.fault.SnapFault.TheVariants.{Truncated, ExtraBytes, BadCheck}
 
 -- The fault shows behind a front of the rest, which alone decides.
-pub record ShowsIn (r : Reading) (at : ℕ) (rest : List ℕ) (kind : SnapFault) (place : ℕ) : Type 0 where
+pub record ShowsIn (r : Reading) (before rest : List ℕ) (kind : SnapFault) (place : ℕ) : Type 0 where
   pub front : List ℕ
   pub behind : List ℕ
   pub parts : rest ≡ front ++ behind
-  pub place_is : at + length front ≡ place
-  pub stays : (more : List ℕ) → r (record { at = at; rest = front ++ more }) ≡ fault_at kind place
+  pub place_is : length before + length front ≡ place
+  pub stays : (more : List ℕ) → r (record { before = before; rest = front ++ more }) ≡ fault_at kind place
 
 pub record IsSteady (r : Reading) : Type 0 where
-  pub shows : (at : ℕ) (rest : List ℕ) (kind : SnapFault) (place : ℕ) →
-      r (record { at = at; rest = rest }) ≡ fault_at kind place → place ≤ at + length rest →
-      ShowsIn r at rest kind place
+  pub shows : (before rest : List ℕ) (kind : SnapFault) (place : ℕ) →
+      r (record { before = before; rest = rest }) ≡ fault_at kind place → place ≤ length before + length rest →
+      ShowsIn r before rest kind place
 
 abbrev outcome : Type 0
 outcome = Result Contents Fault
@@ -43,43 +44,45 @@ kind_same j k p q e =
     ap (λ (f : Fault). f.kind) same
 
 -- a field of which bytes are missing
-pub number_short : (w : Width) (k : ℕ → Reading) (at : ℕ) (rest : List ℕ) → length rest < byte_len w →
-    number w k (record { at = at; rest = rest }) ≡ fault_at Truncated (at + length rest + 1)
+pub number_short : (w : Width) (k : ℕ → Reading) (before rest : List ℕ) → length rest < byte_len w →
+    number w k (record { before = before; rest = rest }) ≡ fault_at Truncated (length before + length rest + 1)
 unfolding number
-number_short w k at rest h = rw (lt-ltb (length rest) (byte_len w) h) refl
+number_short w k before rest h = rw (lt-ltb (length rest) (byte_len w) h) refl
 
 -- a field whose bytes are there, in front of others
-pub number_there : (w : Width) (k : ℕ → Reading) (at : ℕ) (field more : List ℕ) → length field ≡ byte_len w →
-    number w k (record { at = at; rest = field ++ more }) ≡
-    k (from_be_bytes w field) (record { at = at + byte_len w; rest = more })
+pub number_there : (w : Width) (k : ℕ → Reading) (before field more : List ℕ) → length field ≡ byte_len w →
+    number w k (record { before = before; rest = field ++ more }) ≡
+    k (from_be_bytes w field) (record { before = before ++ field; rest = more })
 unfolding number
-number_there w k at field more len =
+number_there w k before field more len =
     let long : ltb (length (field ++ more)) (byte_len w) ≡ false = le-ltb _ _
     (omega (arith, length-append field more)) in
     rw (long, take_at field more (byte_len w) len, drop_at field more (byte_len w) len) refl
 
 steady_number : (w : Width) (k : ℕ → Reading) → ((n : ℕ) → IsSteady (k n)) → IsSteady (number w k)
 steady_number w k each = record {
-  shows = λ at rest kind place e within. elim (cases_lt (length rest) (byte_len w)) [
-    | inl short ↦ absurd (let p = place_same kind Truncated place (at + length rest + 1)
-        (sym e ∙ number_short w k at rest short) in omega arith)
-    | inr long ↦ there at rest kind place e within long
+  shows = λ before rest kind place e within. elim (cases_lt (length rest) (byte_len w)) [
+    | inl short ↦ absurd (let p = place_same kind Truncated place (length before + length rest + 1)
+        (sym e ∙ number_short w k before rest short) in omega arith)
+    | inr long ↦ there before rest kind place e within long
   ];
 }
   where
-    there : (at : ℕ) (rest : List ℕ) (kind : SnapFault) (place : ℕ) →
-        number w k (record { at = at; rest = rest }) ≡ fault_at kind place → place ≤ at + length rest →
-        byte_len w ≤ length rest → ShowsIn (number w k) at rest kind place
-    there at rest kind place e within long =
+    there : (before rest : List ℕ) (kind : SnapFault) (place : ℕ) →
+        number w k (record { before = before; rest = rest }) ≡ fault_at kind place →
+        place ≤ length before + length rest →
+        byte_len w ≤ length rest → ShowsIn (number w k) before rest kind place
+    there before rest kind place e within long =
         let field = take (byte_len w) rest in
         let after = drop (byte_len w) rest in
         let len : length field ≡ byte_len w = length-take-le (byte_len w) rest long in
         let n = from_be_bytes w field in
         let whole : field ++ after ≡ rest = take-append-drop (byte_len w) rest in
-        let inner : k n (record { at = at + byte_len w; rest = after }) ≡ fault_at kind place =
-        sym (number_there w k at field after len) ∙ ap (λ (l : List ℕ). number w k
-        (record { at = at; rest = l })) whole ∙ e in
-        let s = (each n).shows (at + byte_len w) after kind place inner
+        let inner : k n (record { before = before ++ field; rest = after }) ≡ fault_at kind place =
+        sym (number_there w k before field after len) ∙ ap (λ (l : List ℕ). number w k
+        (record { before = before; rest = l })) whole ∙ e in
+        let b = length-append before field in
+        let s = (each n).shows (before ++ field) after kind place inner
         (let d = length-drop (byte_len w) rest in omega arith) in
         let at_is = s.place_is in
         record {
@@ -88,12 +91,12 @@ steady_number w k each = record {
           parts = sym whole ∙ ap (λ (l : List ℕ). field ++ l) s.parts ∙ sym (append_assoc field s.front s.behind);
           place_is = let a = length-append field s.front in omega arith;
           stays = λ more.
-              ap (λ (l : List ℕ). number w k (record { at = at; rest = l })) (append_assoc field s.front more)
-              ∙ number_there w k at field (s.front ++ more) len ∙ s.stays more;
+              ap (λ (l : List ℕ). number w k (record { before = before; rest = l })) (append_assoc field s.front more)
+              ∙ number_there w k before field (s.front ++ more) len ∙ s.stays more;
         }
 
 pub refused_at : (k : Unit {0} → Reading) (test : Bool) (kind : SnapFault) (input : Input) → test ≡ true →
-    refuse_if test kind k input ≡ fault_at kind input.at
+    refuse_if test kind k input ≡ fault_at kind (length input.before)
 unfolding refuse_if
 refused_at k test kind input e = rw e refl
 
@@ -106,15 +109,34 @@ steady_test : (test : Bool) (kind : SnapFault) (k : Unit {0} → Reading) → Is
     IsSteady (refuse_if test kind k)
 unfolding refuse_if
 steady_test true kind k s = record {
-  shows = λ at rest j place e within.
-      let p = place_same kind j at place e in
+  shows = λ before rest j place e within.
+      let p = place_same kind j (length before) place e in
       record { front = []; behind = rest; parts = refl; place_is = omega arith; stays = λ more. e };
 }
 steady_test false kind k s = record {
-  shows = λ at rest j place e within.
-      let x = s.shows at rest j place e within in
+  shows = λ before rest j place e within.
+      let x = s.shows before rest j place e within in
       record { front = x.front; behind = x.behind; parts = x.parts; place_is = x.place_is; stays = x.stays };
 }
+
+steady_choice : (test : Bool) (a b : Reading) → IsSteady a → IsSteady b → IsSteady (cond test a b)
+steady_choice true a b s t = s
+steady_choice false a b s t = t
+
+-- a checksum of one front of the file, which is the bytes before the field
+steady_check : (k : Unit {0} → Reading) → IsSteady (k tt) → IsSteady (check k)
+unfolding check
+steady_check k s = record {
+  shows = λ before rest kind place e within.
+      let field = steady_number w32 (λ n. refuse_if (not (n == checksum_of before)) BadCheck k)
+      (λ n. steady_test _ _ _ s) in
+      let x = field.shows before rest kind place e within in
+      record { front = x.front; behind = x.behind; parts = x.parts; place_is = x.place_is; stays = x.stays };
+}
+
+steady_check_in : (v : ℕ) (k : Unit {0} → Reading) → IsSteady (k tt) → IsSteady (check_in v k)
+unfolding check_in
+steady_check_in v k s = steady_choice (v == version) (check k) (k tt) (steady_check k s) s
 
 steady_cuts : (n least : ℕ) (done : List ℕ) (k : List ℕ → Reading) → ((l : List ℕ) → IsSteady (k l)) →
     IsSteady (cuts_behind n least done k)
@@ -173,10 +195,6 @@ steady_folded h k each =
     steady_number _ _ (λ folded. steady_test _ _ _
     (steady_entries h folded nothing_yet _ (λ q. steady_base h q k each)))
 
-steady_choice : (test : Bool) (a b : Reading) → IsSteady a → IsSteady b → IsSteady (cond test a b)
-steady_choice true a b s t = s
-steady_choice false a b s t = t
-
 steady_past : (h : Head) (k : Progress → Reading) → ((q : Progress) → IsSteady (k q)) → IsSteady (past h k)
 unfolding past
 steady_past h k each = steady_choice (h.version == old_version) (k nothing_yet) (folded_past h k)
@@ -193,30 +211,37 @@ steady_batches : (h : Head) (n : ℕ) (p : Progress) (k : Progress → Reading) 
     IsSteady (batches_behind h n p k)
 unfolding batches_behind
 steady_batches h zero p k each = each p
-steady_batches h (suc n) p k each = steady_batch h p _ (λ q. steady_batches h n q k each)
+steady_batches h (suc n) p k each =
+    steady_batch h p _ (λ q. steady_check_in h.version _ (steady_batches h n q k each))
 
-pub end_more : (c : Contents) (at x : ℕ) (rest : List ℕ) → end c (record { at = at; rest = x ∷ rest }) ≡
-    fault_at ExtraBytes (at + 1)
+pub end_more : (c : Contents) (before : List ℕ) (x : ℕ) (rest : List ℕ) →
+    end c (record { before = before; rest = x ∷ rest }) ≡ fault_at ExtraBytes (length before + 1)
 unfolding end
-end_more c at x rest = let some : eqb (length (x ∷ rest)) 0 ≡ false = ne_eqb (length (x ∷ rest)) 0 (λ e. omega arith) in
+end_more c before x rest = let some : eqb (length (x ∷ rest)) 0 ≡ false = ne_eqb (length (x ∷ rest)) 0 (λ e. omega arith) in
     rw some refl
 
 steady_end : (c : Contents) → IsSteady (end c)
 unfolding end
 steady_end c = record { shows = shows }
   where
-    shows : (at : ℕ) (rest : List ℕ) (kind : SnapFault) (place : ℕ) →
-        end c (record { at = at; rest = rest }) ≡ fault_at kind place → place ≤ at + length rest →
-        ShowsIn (end c) at rest kind place
-    shows at [] kind place e within = absurd (let same : ◌≡◌ {A = outcome} (Ok c) (fault_at kind place) = e in cc)
-    shows at (x ∷ rest) kind place e within =
-        let f = sym (end_more c at x rest) ∙ e in
-        let p = place_same ExtraBytes kind (at + 1) place f in
-        record { front = x ∷ []; behind = rest; parts = refl; place_is = p; stays = λ more. end_more c at x more ∙ f }
+    shows : (before rest : List ℕ) (kind : SnapFault) (place : ℕ) →
+        end c (record { before = before; rest = rest }) ≡ fault_at kind place → place ≤ length before + length rest →
+        ShowsIn (end c) before rest kind place
+    shows before [] kind place e within = absurd (let same : ◌≡◌ {A = outcome} (Ok c) (fault_at kind place) = e in cc)
+    shows before (x ∷ rest) kind place e within =
+        let f = sym (end_more c before x rest) ∙ e in
+        let p = place_same ExtraBytes kind (length before + 1) place f in record {
+          front = x ∷ [];
+          behind = rest;
+          parts = refl;
+          place_is = p;
+          stays = λ more. end_more c before x more ∙ f;
+        }
 
-steady_whole : IsSteady (head body)
-steady_whole = steady_head _ (λ h. steady_past h _ (λ p. steady_batches h h.batches p _
-    (λ q. steady_test _ _ _ (steady_end _))))
+steady_whole : IsSteady whole
+steady_whole = steady_head _ (λ h. steady_check_in h.version _
+    (steady_past h _ (λ p. steady_check_in h.version _ (steady_batches h h.batches p _
+    (λ q. steady_test _ _ _ (steady_end _))))))
 
 pub steady : (bytes : List ℕ) (kind : SnapFault) (place : ℕ) → reading_of bytes ≡ fault_at kind place →
     place ≤ length bytes →
@@ -224,6 +249,6 @@ pub steady : (bytes : List ℕ) (kind : SnapFault) (place : ℕ) → reading_of 
     ((more : List ℕ) → reading_of (front ++ more) ≡ fault_at kind place)
 unfolding reading_of
 steady bytes kind place e within =
-    let s = steady_whole.shows 0 bytes kind place e (omega arith) in
+    let s = steady_whole.shows [] bytes kind place e (omega arith) in
     let p = s.place_is in
     (s.front, s.behind, s.parts, omega arith, s.stays)

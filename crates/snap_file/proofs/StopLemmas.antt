@@ -1,18 +1,22 @@
 -- Where a reading ends: short of bytes, with too many, with a failed read, or with a judgement.
-use Rattle.std.proofs.Common.{◌≡◌, ℕ, ◌+◌, ◌<◌, ◌≤◌, ◌⊎◌, Bool, true, false, List, [], ◌∷◌, ◌++◌, length, take, drop}
+use Rattle.std.proofs.Common.{◌≡◌, ℕ, ◌+◌, ◌<◌, ◌≤◌, ◌⊎◌, Bool, true, false, cond, not, List, [], ◌∷◌, ◌++◌, length, take, drop}
 use Rattle.std.proofs.Common.{Result, Ok, Err, refl, sym, ap, subst, ◌∙◌, append_assoc, length-append, arith, inl, inr}
 use Rattle.std.proofs.lemmas.List.{append-nil, length-take-le, take-append-drop}
-use Rattle.std.proofs.lemmas.Bool.{cases_lt}
-use Rattle.std.specs.Int.{Width, byte_len, from_be_bytes}
+use Rattle.std.proofs.lemmas.Bool.{cases_lt, eq-eqb, ne_eqb}
+use Rattle.std.specs.Int.{Width, w32, byte_len, from_be_bytes}
+use Rattle.std.specs.Prelude.{◌==◌}
+use Rattle.crc32c.specs.Remainders.{all_ones, after_bytes, complement, checksum_of}
+use Rattle.crc32c.proofs.Linear.{after_bytes-append}
 use Rattle.byte_io.specs.Streams.{Answer, bytes_of_calls}
 use Rattle.byte_io.specs.declared.fault.DeviceFault.{DeviceFault}
 use Rattle.byte_io.proofs.StreamLemmas.{calls-append, calls_one, bytes_of_calls-append}
-use Rattle.snap_file.specs.Table.{Input, Fault, Reading, fault_at, number, refuse_if, reading_of}
+use Rattle.snap_file.specs.Table.{Input, Fault, Reading, fault_at, number, refuse_if, check, check_in, reading_of}
+use Rattle.snap_file.specs.Spelling.{version}
 use Rattle.snap_file.specs.Outcomes.{Turn, FaultAt, IsTold, IsOfBytes, ShowsBehind, ReachesLast, Explains, ReaderState}
 use Rattle.snap_file.specs.Outcomes.{HasRead, HasJudged, HasAsked, IsBehindHead, HasEnded, HasFailed, Stops}
 use Rattle.snap_file.specs.Outcomes.Turn.{at_limit, in_field}
 use Rattle.snap_file.specs.declared.fault.SnapFault.{SnapFault}
-use Rattle.snap_file.specs.declared.fault.SnapFault.TheVariants.{Read, Memory, Truncated, TooLong}
+use Rattle.snap_file.specs.declared.fault.SnapFault.TheVariants.{Read, Memory, Truncated, TooLong, BadCheck}
 use Rattle.snap_file.proofs.FileLaws.{first_in_field, first_at_limit}
 use Rattle.snap_file.proofs.Steady.{steady, number_short, number_there, goes_on, refused_at, place_same, kind_same}
 
@@ -33,7 +37,7 @@ split (x ∷ front) pending (y ∷ a) b e =
 
 -- a fault of what follows a field shows behind the field
 pub never_before : (front pending : List ℕ) (w : Width) (k : ℕ → Reading) → 0 < byte_len w →
-    ((more : List ℕ) → reading_of (front ++ more) ≡ number w k (record { at = length front; rest = more })) →
+    ((more : List ℕ) → reading_of (front ++ more) ≡ number w k (record { before = front; rest = more })) →
     (kind : SnapFault) (p : ℕ) → reading_of (front ++ pending) ≡ fault_at kind p → p ≤ length (front ++ pending) →
     length front + byte_len w ≤ p
 never_before front pending w k wide resumes kind p e within = elim
@@ -49,7 +53,7 @@ never_before front pending w k wide resumes kind p e within = elim
           | inl h ↦
               let whole : fault_at kind p ≡ fault_at Truncated (length front + 0 + 1) =
               sym (s.4 c.0) ∙ ap reading_of (sym h ∙ sym (append-nil front)) ∙ resumes [] ∙
-              number_short w k (length front) [] wide in
+              number_short w k front [] wide in
               let q = place_same kind Truncated p _ whole in
               let l = ap length h ∙ length-append a c.0 in
               omega arith
@@ -58,7 +62,7 @@ never_before front pending w k wide resumes kind p e within = elim
               let short : length c.0 < byte_len w = omega arith in
               let whole : fault_at kind p ≡ fault_at Truncated (length front + length c.0 + 1) =
               sym (s.4 []) ∙ ap reading_of (append-nil a ∙ h) ∙ resumes c.0 ∙
-              number_short w k (length front) c.0 short in
+              number_short w k front c.0 short in
               let q = place_same kind Truncated p _ whole in
               omega arith
         ]
@@ -78,7 +82,7 @@ stops_refused gives failures ended m s t reader test kind k h bad judged =
     let a = h.has_read in
     let bytes = bytes_of_calls a.answers in
     let shows : reading_of bytes ≡ fault_at kind (length a.front) = ap reading_of a.bytes_are ∙
-    a.resumes reader.pending ∙ refused_at k test kind (record { at = length a.front; rest = reader.pending }) bad in
+    a.resumes reader.pending ∙ refused_at k test kind (record { before = a.front; rest = reader.pending }) bad in
     let longer : length a.front ≤ length bytes = let e = ap length a.bytes_are ∙ length-append a.front reader.pending in
     omega arith in
     record {
@@ -110,11 +114,12 @@ left_as gives failures m s t reader old new h same =
         bytes_are = a.bytes_are;
         are_bytes = a.are_bytes;
         taken_is = a.taken_is;
+        remainder_is = a.remainder_is;
         limit_is = a.limit_is;
         within = a.within;
         few = a.few;
         none_failed = a.none_failed;
-        resumes = λ more. a.resumes more ∙ same (record { at = length a.front; rest = more });
+        resumes = λ more. a.resumes more ∙ same (record { before = a.front; rest = more });
       };
       reaches = h.reaches;
     }
@@ -130,9 +135,10 @@ pub read_field : {S : Type 0} (gives : S → Result (List ℕ) DeviceFault → S
     (s t : S) (old new : ReaderState) (w : Width) (k : ℕ → Reading) →
     HasAsked gives failures m s t old (number w k) (byte_len w) → byte_len w ≤ length old.pending →
     old.taken + byte_len w ≤ old.max_bytes →
-    new.pending ≡ drop (byte_len w) old.pending → new.taken ≡ old.taken + byte_len w → new.max_bytes ≡ old.max_bytes →
+    new.pending ≡ drop (byte_len w) old.pending → new.taken ≡ old.taken + byte_len w →
+    new.remainder ≡ after_bytes old.remainder (take (byte_len w) old.pending) → new.max_bytes ≡ old.max_bytes →
     HasJudged gives failures m s t new (k (from_be_bytes w (take (byte_len w) old.pending)))
-read_field gives failures m s t old new w k h long room pending taken limit =
+read_field gives failures m s t old new w k h long room pending taken remainder limit =
     let a = h.has_read in
     let field = take (byte_len w) old.pending in
     let len : length field ≡ byte_len w = length-take-le (byte_len w) old.pending long in
@@ -150,13 +156,14 @@ read_field gives failures m s t old new w k h long room pending taken limit =
             sym (append_assoc a.front field new.pending);
         are_bytes = a.are_bytes;
         taken_is = omega arith;
+        remainder_is = remainder ∙ ap (λ (n : ℕ). after_bytes n field) a.remainder_is ∙
+            sym (after_bytes-append all_ones a.front field);
         limit_is = limit ∙ a.limit_is;
         within = omega arith;
         few = a.few;
         none_failed = a.none_failed;
         resumes = λ more. ap reading_of (append_assoc a.front field more) ∙ a.resumes (field ++ more) ∙
-            number_there w k (length a.front) field more len
-            ∙ ap (λ (n : ℕ). k (from_be_bytes w field) (record { at = n; rest = more })) (sym more_front);
+            number_there w k a.front field more len;
       };
       reaches = elim h.reaches [
         | inl none ↦ inl none
@@ -189,7 +196,7 @@ stops_long gives failures ended m s t reader w k a room long =
     }
   where
     later : (m : ℕ) (front pending : List ℕ) (w : Width) (k : ℕ → Reading) (bytes : List ℕ) → bytes ≡ front ++ pending →
-        ((more : List ℕ) → reading_of (front ++ more) ≡ number w k (record { at = length front; rest = more })) →
+        ((more : List ℕ) → reading_of (front ++ more) ≡ number w k (record { before = front; rest = more })) →
         m < length front + byte_len w → 0 < byte_len w → m < length bytes → (g : Fault) → reading_of bytes ≡ Err g →
         m < g.place
     later m front pending w k bytes is resumes over wide more g e = elim (cases_lt (length bytes) g.place) [
@@ -215,7 +222,7 @@ stops_short gives failures ended m s t reader w k x short room =
     let l = a.limit_is in let i = a.taken_is in let f = a.few in
     let place = length a.front + length reader.pending + 1 in
     let shows : reading_of bytes ≡ fault_at Truncated place = ap reading_of bytes_are ∙ a.resumes reader.pending ∙
-    number_short w k (length a.front) reader.pending short in
+    number_short w k a.front reader.pending short in
     record {
       answers = a.answers ++ last;
       calls = calls-append gives a.answers last s x.before t a.calls (calls_one gives x.before t (Ok []) x.gave);
@@ -243,7 +250,7 @@ stops_failed gives failures ended m s t want w k x wanted =
     let l = a.limit_is in let i = a.taken_is in let f = a.few in let short = x.short in let room = x.room in
     let place = length a.front + length x.reader.pending + 1 in
     let shows : reading_of bytes ≡ fault_at Truncated place = ap reading_of bytes_are ∙ a.resumes x.reader.pending ∙
-    number_short w k (length a.front) x.reader.pending (omega arith) in
+    number_short w k a.front x.reader.pending (omega arith) in
     record {
       answers = a.answers ++ last;
       calls = calls-append gives a.answers last s x.before t a.calls (calls_one gives x.before t (Err x.fault) x.gave);
@@ -286,7 +293,7 @@ stops_memory gives failures ended m s t reader left h behind =
   where
     later : (m : ℕ) (front pending : List ℕ) (left : Reading) (bytes : List ℕ) → bytes ≡ front ++ pending →
         length front ≤ m →
-        ((more : List ℕ) → reading_of (front ++ more) ≡ left (record { at = length front; rest = more })) →
+        ((more : List ℕ) → reading_of (front ++ more) ≡ left (record { before = front; rest = more })) →
         IsBehindHead left → (more : List ℕ) (turn : Turn) (shown : ℕ) (kind : SnapFault) →
         FaultAt turn m (bytes ++ more) shown kind → ShowsBehind (length front) shown kind
     later m front pending left bytes is within resumes behind more at_limit shown kind h =
@@ -299,6 +306,56 @@ stops_memory gives failures ended m s t reader left h behind =
           total_alone = λ e. absurd (omega arith);
         }
     later m front pending left bytes is within resumes behind more in_field shown kind h =
-        behind.shows (record { at = length front; rest = pending ++ more }) kind shown
+        behind.shows (record { before = front; rest = pending ++ more }) kind shown
         (sym (ap reading_of (ap (λ (l : List ℕ). l ++ more) is ∙ append_assoc front pending more) ∙
         resumes (pending ++ more)) ∙ h)
+
+-- ---- checksums
+
+-- The bytes that were judged have the checksum that the reader makes of them.
+pub read_check : {S : Type 0} (gives : S → Result (List ℕ) DeviceFault → S → Type 0) (failures : S → ℕ) (m : ℕ)
+    (s t : S) (reader : ReaderState) (sum : ℕ) (k : Unit {0} → Reading) → sum ≡ complement reader.remainder →
+    HasJudged gives failures m s t reader (check k) →
+    HasJudged gives failures m s t reader (number w32 (λ n. refuse_if (not (n == sum)) BadCheck k))
+unfolding check
+read_check gives failures m s t reader sum k is h =
+    let a = h.has_read in
+    let same : checksum_of a.front ≡ sum = sym (is ∙ ap complement a.remainder_is) in
+    record {
+      has_read = record {
+        answers = a.answers;
+        calls = a.calls;
+        each = a.each;
+        front = a.front;
+        bytes_are = a.bytes_are;
+        are_bytes = a.are_bytes;
+        taken_is = a.taken_is;
+        remainder_is = a.remainder_is;
+        limit_is = a.limit_is;
+        within = a.within;
+        few = a.few;
+        none_failed = a.none_failed;
+        resumes = λ more. a.resumes more ∙
+            ap (λ (c : ℕ). number w32 (λ n. refuse_if (not (n == c)) BadCheck k)
+            (record { before = a.front; rest = more })) same;
+      };
+      reaches = h.reaches;
+    }
+
+chosen_check : (v : ℕ) (k : Unit {0} → Reading) (test : Bool) → (v == version) ≡ test →
+    check_in v k ≡ cond test (check k) (k tt)
+unfolding check_in
+chosen_check v k test e = ap (λ (b : Bool). cond b (check k) (k tt)) e
+
+-- a file of this version has a checksum here, or none
+pub check_due : {S : Type 0} (gives : S → Result (List ℕ) DeviceFault → S → Type 0) (failures : S → ℕ) (m : ℕ)
+    (s t : S) (reader : ReaderState) (v : ℕ) (k : Unit {0} → Reading) → v ≡ version →
+    HasJudged gives failures m s t reader (check_in v k) → HasJudged gives failures m s t reader (check k)
+check_due gives failures m s t reader v k e h =
+    subst (λ (r : Reading). HasJudged gives failures m s t reader r) (chosen_check v k true (eq-eqb v version e)) h
+
+pub check_none : {S : Type 0} (gives : S → Result (List ℕ) DeviceFault → S → Type 0) (failures : S → ℕ) (m : ℕ)
+    (s t : S) (reader : ReaderState) (v : ℕ) (k : Unit {0} → Reading) → (v ≡ version → ⊥) →
+    HasJudged gives failures m s t reader (check_in v k) → HasJudged gives failures m s t reader (k tt)
+check_none gives failures m s t reader v k n h =
+    subst (λ (r : Reading). HasJudged gives failures m s t reader r) (chosen_check v k false (ne_eqb v version n)) h

@@ -1,12 +1,13 @@
 -- A whole file that was spelled is read again.
-use Rattle.std.proofs.Common.{◌≡◌, ℕ, suc, ◌+◌, ◌-◌, ◌^◌, ◌<◌, ◌≤◌, Bool, false, cond, not, eqb, List, [], ◌∷◌, ◌++◌}
-use Rattle.std.proofs.Common.{length, flat_map, refl, sym, ap, subst, ◌∙◌, append_assoc, length-append, arith, inl, inr}
+use Rattle.std.proofs.Common.{◌≡◌, ℕ, suc, ◌+◌, ◌-◌, ◌^◌, ◌<◌, ◌≤◌, Bool, true, false, cond, not, eqb, List, [], ◌∷◌}
+use Rattle.std.proofs.Common.{◌++◌, length, flat_map, refl, sym, ap, subst, ◌∙◌, append_assoc, arith, inl, inr}
 use Rattle.std.specs.Prelude.{◌==◌, ◌&&◌, nat_lt}
 use Rattle.std.specs.List.{AllByRecursion}
-use Rattle.std.specs.Int.{w64}
+use Rattle.std.specs.Int.{w32, w64}
+use Rattle.crc32c.specs.Remainders.{all_ones, after_bytes, complement, checksum_of}
 use Rattle.std.specs.FinMap.{empty, entries, len, len-entries, len-empty, entries_sorted}
 use Rattle.std.proofs.lemmas.List.{append-nil}
-use Rattle.std.proofs.lemmas.Bool.{eq-eqb, ne_eqb, le-ltb}
+use Rattle.std.proofs.lemmas.Bool.{cases_order, eq-eqb, ne_eqb, le-ltb}
 use Rattle.hyper_matrix.specs.Counts.{Counts, place_cmp, count_sum, total, built}
 use Rattle.hyper_matrix.specs.Matrix.{Matrix, matrix}
 use Rattle.hyper_matrix.specs.Cells.{built_of}
@@ -20,14 +21,16 @@ use Rattle.batch_store.proofs.BookLaws.{entries-with}
 use Rattle.hyper_matrix.specs.Shared.{LiesWithin}
 use Rattle.snap_file.proofs.Kept.{AreNew, IsReadable, total_parts}
 use Rattle.snap_file.specs.Spelling.{old_version, version, head_bytes, cells_bytes, matrix_bytes, batch_bytes, entry_bytes}
-use Rattle.snap_file.specs.Spelling.{past_bytes, file1, file2, stands_in, IsBatch, IsEntry, IsSpelled}
+use Rattle.snap_file.specs.Spelling.{past_bytes, number_bytes, past_in, check_bytes, checked_bytes, batches_bytes, file_in}
+use Rattle.snap_file.specs.Spelling.{stands_in, IsBatch, IsEntry, IsSpelled}
 use Rattle.snap_file.specs.Table.{Input, Reading, give, refuse_if, outside, head, cells_behind, Progress, no_cells}
 use Rattle.snap_file.specs.Table.{with_entry, entry, entries_behind, with_base, base, folded_past, past, with_cells}
 use Rattle.snap_file.specs.Table.{batch, batches_behind, end, body, nothing_yet, contents, contents_of, ending, rest_of}
-use Rattle.snap_file.specs.Table.{reading_of}
+use Rattle.snap_file.specs.Table.{reading_of, Part, check, check_in}
 use Rattle.snap_file.specs.declared.head.Head.{Head}
 use Rattle.snap_file.specs.declared.fault.SnapFault.TheVariants.{BadHead, BadBatch, RepeatedNumber, TotalDiffers}
-use Rattle.snap_file.proofs.Fields.{Skips, skips_give, skips_bind, skips_test, skips_number, wide64, inside}
+use Rattle.snap_file.specs.declared.fault.SnapFault.TheVariants.{BadCheck}
+use Rattle.snap_file.proofs.Fields.{Skips, skips_give, skips_bind, skips_test, skips_field, skips_number, wide32, wide64, inside}
 use Rattle.snap_file.proofs.Again.{tally_after, cells_after, counted_after, skips_cells, skips_head, head_of}
 use Rattle.snap_file.proofs.Order.{built-entries, entries_again, rise_all}
 
@@ -144,19 +147,19 @@ skips_base h p m rows cols most few inner sum none =
     (subst (λ (n : ℕ). Skips (cells_behind h p.counted n (no_cells 0)) t (cells_bytes es)) (sym (len-entries m)) cells)
     (skips_test (not (t.counted == p.counted)) TotalDiffers _ y [] met (skips_give y)))))
 
--- what a file of version 2 has of folded batches
+-- what a file has of folded batches
 abbrev folded_of : Accepted → Progress
 folded_of a = record { state = accepted a.base a.folded []; counted = 0 + total_of_entries a.folded }
 
--- the head of the file of version 2
-abbrev head2 : Setting → Accepted → Head
-head2 s a = head_of version s (length a.list) (total_in a)
+-- the head of the file of this version
+abbrev head_in : ℕ → Setting → Accepted → Head
+head_in v s a = head_of v s (length a.list) (total_in a)
 
-skips_folded : (s : Setting) (a : Accepted) → IsReadable s a →
-    Skips (folded_past (head2 s a)) (folded_of a) (past_bytes a.base a.folded)
+skips_folded : (v : ℕ) (s : Setting) (a : Accepted) → IsReadable s a →
+    Skips (folded_past (head_in v s a)) (folded_of a) (past_bytes a.base a.folded)
 unfolding folded_past
-skips_folded s a kept =
-    let h = head2 s a in
+skips_folded v s a kept =
+    let h = head_in v s a in
     let n = length a.folded in
     let y = folded_of a in
     let q = entries_after nothing_yet a.folded in
@@ -173,19 +176,72 @@ skips_folded s a kept =
     (skips_bind (entries_behind h n nothing_yet) _ q y (flat_map entry_bytes a.folded) (matrix_bytes a.base)
     entries_read base_read))
 
-skips_past : (s : Setting) (a : Accepted) → IsReadable s a →
-    Skips (past (head2 s a)) (folded_of a) (past_bytes a.base a.folded)
-unfolding past
-skips_past s a kept = let f = skips_folded s a kept in record { reads = λ k at more. f.reads k at more }
-
 -- in a file of version 1 nothing is folded
 pub past_none : (h : Head) (k : Progress → Reading) → h.version ≡ old_version → past h k ≡ k nothing_yet
 unfolding past
 past_none h k e = ap (λ (n : ℕ). cond (n == old_version) (k nothing_yet) (folded_past h k)) e
 
-pub past_some : (h : Head) (k : Progress → Reading) → h.version ≡ version → past h k ≡ folded_past h k
+pub past_some : (h : Head) (k : Progress → Reading) → (h.version ≡ old_version → ⊥) → past h k ≡ folded_past h k
 unfolding past
-past_some h k e = ap (λ (n : ℕ). cond (n == old_version) (k nothing_yet) (folded_past h k)) e
+past_some h k new_one =
+    ap (λ (t : Bool). cond t (k nothing_yet) (folded_past h k)) (ne_eqb h.version old_version new_one)
+
+pub past_missing : (v : ℕ) (m : Counts) (es : List Entry) → v ≡ old_version → past_in v m es ≡ []
+unfolding past_in
+past_missing v m es e = ap (λ (n : ℕ). cond (n == old_version) [] (past_bytes m es)) e
+
+pub past_there : (v : ℕ) (m : Counts) (es : List Entry) → (v ≡ old_version → ⊥) → past_in v m es ≡ past_bytes m es
+unfolding past_in
+past_there v m es new_one = ap (λ (t : Bool). cond t [] (past_bytes m es)) (ne_eqb v old_version new_one)
+
+-- what is folded, in any version
+record PastAgain (v : ℕ) (s : Setting) (a : Accepted) : Type 0 where
+  p : Progress
+  state_is : p.state ≡ accepted a.base a.folded []
+  counted_is : p.counted ≡ total_of_entries a.folded
+  again : Skips (past (head_in v s a)) p (past_in v a.base a.folded)
+
+past_again : (v : ℕ) (s : Setting) (a : Accepted) → IsReadable s a → (v ≡ old_version → a ≡ unfolded a.list) →
+    PastAgain v s a
+past_again v s a kept none = elim (cases_order v old_version) [
+  | inl same ↦ old same
+  | inr (inl less) ↦ new (λ e. omega arith)
+  | inr (inr more) ↦ new (λ e. omega arith)
+]
+  where
+    new : (v ≡ old_version → ⊥) → PastAgain v s a
+    new newer =
+        let f = skips_folded v s a kept in
+        record {
+          p = folded_of a;
+          state_is = refl;
+          counted_is = omega arith;
+          again = subst (λ (l : List ℕ). Skips (past (head_in v s a)) (folded_of a) l)
+              (sym (past_there v a.base a.folded newer))
+              (record {
+                reads = λ k before more. ap (λ (r : Reading). r (record {
+                  before = before;
+                  rest = past_bytes a.base a.folded ++ more;
+                })) (past_some (head_in v s a) k newer) ∙ f.reads k before more;
+              });
+        }
+
+    old : v ≡ old_version → PastAgain v s a
+    old same =
+        let all = none same in
+        record {
+          p = nothing_yet;
+          state_is = ap (λ (x : Accepted). accepted x.base x.folded []) (sym all);
+          counted_is = ap (λ (x : Accepted). total_of_entries x.folded) (sym all);
+          again = subst (λ (l : List ℕ). Skips (past (head_in v s a)) nothing_yet l)
+              (sym (past_missing v a.base a.folded same))
+              (record {
+                reads = λ k before more.
+                    ap (λ (r : Reading). r (record { before = before; rest = more }))
+                    (past_none (head_in v s a) k same)
+                    ∙ ap (λ (l : List ℕ). k nothing_yet (record { before = l; rest = more })) (sym (append-nil before));
+              });
+        }
 
 -- ---- batches
 
@@ -255,97 +311,135 @@ progress_more p b list =
       counted = n;
     } in y) (omega arith)
 
-skips_batches : (h : Head) (list : List Submission) (p : Progress) → h.setup.rows ≤ 2 ^ 60 → h.setup.cols ≤ 2 ^ 60 →
-    h.total < 2 ^ 64 → AllByRecursion (IsBatch h.setup.rows h.setup.cols) list →
-    AreNew (entries_in p.state) (entries_of list) → p.counted + list_total list ≤ h.total →
-    Skips (batches_behind h (length list) p) (progress_after p list) (flat_map batch_bytes list)
-unfolding batches_behind
-skips_batches h [] p rows cols most each new fits =
-    subst (λ (x : Progress). Skips (give p) x []) (progress_none p) (skips_give p)
-skips_batches h (b ∷ list) p rows cols most each new fits =
-    let q = progress_with p b in
-    let one = skips_batch h p b rows cols most each.0 new.0 (omega arith) in
-    let rest = skips_batches h list q rows cols most each.1
-    (subst (λ (l : List Entry). AreNew l (entries_of list)) (sym (entries-with p.state b)) new.1) (omega arith) in
-    subst (λ (x : Progress). Skips (batches_behind h (suc (length list)) p) x
-    (batch_bytes b ++ flat_map batch_bytes list))
-    (progress_more p b list)
-    (skips_bind (batch h p) _ q (progress_after q list) (batch_bytes b) (flat_map batch_bytes list) one rest)
-
 total_met : (n m : ℕ) (kind : _) (k : Unit {0} → Reading) (input : Input) → n ≡ m →
     refuse_if (not (n == m)) kind k input ≡ k tt input
 unfolding refuse_if
 total_met n m kind k input e = rw (eq-eqb n m e) refl
 
+-- ---- checksums
+
+sum_below : (bytes : List ℕ) → checksum_of bytes < 2 ^ 32
+sum_below bytes = below (after_bytes all_ones bytes)
+  where
+    below : (r : ℕ) → complement r < 2 ^ 32
+    below r = omega arith
+
+check_again : (v : ℕ) (k : Unit {0} → Reading) (before more : List ℕ) →
+    check_in v k (record { before = before; rest = check_bytes v before ++ more }) ≡
+    k tt (record { before = before ++ check_bytes v before; rest = more })
+unfolding check_in check check_bytes
+check_again v k before more = either (v == version)
+  where
+    there : check k (record { before = before; rest = number_bytes w32 (checksum_of before) ++ more }) ≡
+        k tt (record { before = before ++ number_bytes w32 (checksum_of before); rest = more })
+    there =
+        let c = checksum_of before in
+        let field = skips_field w32 (2 ^ 32) wide32 c (sum_below before) in
+        field.reads (λ n. refuse_if (not (n == c)) BadCheck k) before more
+        ∙ total_met c c BadCheck k (record { before = before ++ number_bytes w32 c; rest = more }) refl
+
+    either : (test : Bool) → cond test (check k) (k tt) (record {
+      before = before;
+      rest = cond test (number_bytes w32 (checksum_of before)) [] ++ more;
+    }) ≡
+        k tt (record { before = before ++ cond test (number_bytes w32 (checksum_of before)) []; rest = more })
+    either true = there
+    either false = ap (λ (l : List ℕ). k tt (record { before = l; rest = more })) (sym (append-nil before))
+
+-- a part and the checksum of all bytes up to its end
+checked_again : {A : Type 0} (p : Part A) (x : A) (bytes : List ℕ) (v : A → ℕ) (k : A → Reading)
+    (before more : List ℕ) → Skips p x bytes →
+    p (λ (y : A). check_in (v y) (λ _. k y)) (record {
+      before = before;
+      rest = checked_bytes (v x) before bytes ++ more;
+    }) ≡
+    k x (record { before = before ++ checked_bytes (v x) before bytes; rest = more })
+checked_again p x bytes v k before more s =
+    let sum = check_bytes (v x) (before ++ bytes) in
+    ap (λ (l : List ℕ). p (λ y. check_in (v y) (λ _. k y)) (record { before = before; rest = l }))
+    (append_assoc bytes sum more)
+    ∙ s.reads (λ y. check_in (v y) (λ _. k y)) before (sum ++ more)
+    ∙ check_again (v x) (λ _. k x) (before ++ bytes) more
+    ∙ ap (λ (l : List ℕ). k x (record { before = l; rest = more })) (append_assoc before bytes sum)
+
+-- ---- the whole file
+
+batches_again : (h : Head) (list : List Submission) (p : Progress) (k : Progress → Reading) (before more : List ℕ) →
+    h.setup.rows ≤ 2 ^ 60 → h.setup.cols ≤ 2 ^ 60 →
+    h.total < 2 ^ 64 → AllByRecursion (IsBatch h.setup.rows h.setup.cols) list →
+    AreNew (entries_in p.state) (entries_of list) → p.counted + list_total list ≤ h.total →
+    batches_behind h (length list) p k (record {
+      before = before;
+      rest = batches_bytes h.version before list ++ more;
+    }) ≡
+    k (progress_after p list) (record { before = before ++ batches_bytes h.version before list; rest = more })
+unfolding batches_behind
+batches_again h [] p k before more rows cols most each new fits =
+    ap (λ (x : Progress). k x (record { before = before; rest = more })) (progress_none p)
+    ∙ ap (λ (l : List ℕ). k (progress_after p []) (record { before = l; rest = more })) (sym (append-nil before))
+batches_again h (b ∷ list) p k before more rows cols most each new fits =
+    let q = progress_with p b in
+    let one = skips_batch h p b rows cols most each.0 new.0 (omega arith) in
+    let part = checked_bytes h.version before (batch_bytes b) in
+    let behind = batches_bytes h.version (before ++ part) list in
+    ap (λ (l : List ℕ). batch h p (λ (y : Progress). check_in h.version (λ _. batches_behind h (length list) y k))
+    (record { before = before; rest = l })) (append_assoc part behind more)
+    ∙ checked_again (batch h p) q (batch_bytes b) (λ _. h.version) (λ y. batches_behind h (length list) y k)
+    before (behind ++ more) one
+    ∙ batches_again h list q k (before ++ part) more rows cols most each.1
+    (subst (λ (l : List Entry). AreNew l (entries_of list)) (sym (entries-with p.state b)) new.1) (omega arith)
+    ∙ ap (λ (l : List ℕ). k (progress_after q list) (record { before = l; rest = more }))
+    (append_assoc before part behind)
+    ∙ ap (λ (x : Progress). k x (record { before = before ++ (part ++ behind); rest = more })) (progress_more p b list)
+
 -- the batches and the end, behind what is folded
-rest_again : (v : ℕ) (s : Setting) (a : Accepted) (p : Progress) (at : ℕ) (more : List ℕ) → IsReadable s a →
+rest_again : (v : ℕ) (s : Setting) (a : Accepted) (p : Progress) (before more : List ℕ) → IsReadable s a →
     p.state ≡ accepted a.base a.folded [] → p.counted ≡ total_of_entries a.folded →
-    rest_of (head_of v s (length a.list) (total_in a)) p
-    (record { at = at; rest = flat_map batch_bytes a.list ++ more }) ≡
-    end (contents s a) (record { at = at + length (flat_map batch_bytes a.list); rest = more })
-rest_again v s a p at more kept state counted =
-    let h = head_of v s (length a.list) (total_in a) in
-    let c = flat_map batch_bytes a.list in
+    rest_of (head_in v s a) p (record { before = before; rest = batches_bytes v before a.list ++ more }) ≡
+    end (contents s a) (record { before = before ++ batches_bytes v before a.list; rest = more })
+rest_again v s a p before more kept state counted =
+    let h = head_in v s a in
+    let c = batches_bytes v before a.list in
     let limit = kept.setup.limit.1 in let fits = kept.fits in let total_is = total_parts a in
     let new : AreNew (entries_in p.state) (entries_of a.list) =
     subst (λ (l : List Entry). AreNew l (entries_of a.list)) (sym (ap entries_in state ∙ append-nil a.folded))
     kept.behind in
-    let then = skips_batches h a.list p kept.setup.rows.1 kept.setup.cols.1 (omega arith) kept.each new
-    (omega arith) in
     let last = progress_after p a.list in
-    then.reads (ending h) at more
+    batches_again h a.list p (ending h) before more kept.setup.rows.1 kept.setup.cols.1 (omega arith) kept.each new
+    (omega arith)
     ∙ total_met last.counted h.total TotalDiffers (λ (_ : Unit {0}). end (contents_of h last))
-    (record { at = at + length c; rest = more }) (omega arith)
+    (record { before = before ++ c; rest = more }) (omega arith)
     ∙ ap (λ (x : Accepted). end (contents s (accepted x.base x.folded (x.list ++ a.list)))
-    (record { at = at + length c; rest = more })) state
+    (record { before = before ++ c; rest = more })) state
 
-file2_again : (s : Setting) (a : Accepted) (more : List ℕ) → IsReadable s a →
-    reading_of (file2 s a ++ more) ≡ end (contents s a) (record { at = length (file2 s a); rest = more })
+file_in_again : (v : ℕ) (s : Setting) (a : Accepted) (more : List ℕ) → IsReadable s a → old_version ≤ v →
+    v ≤ version → (v ≡ old_version → a ≡ unfolded a.list) →
+    reading_of (file_in v s a ++ more) ≡ end (contents s a) (record { before = file_in v s a; rest = more })
 unfolding reading_of
-file2_again s a more kept =
+file_in_again v s a more kept low high none =
     let n = length a.list in let t = total_in a in
-    let h = head2 s a in
-    let x = head_bytes version s n t in
-    let y = past_bytes a.base a.folded in
-    let z = flat_map batch_bytes a.list in
+    let h = head_in v s a in
+    let front = head_bytes v s n t in
+    let past_is = past_again v s a kept none in
+    let folded = past_in v a.base a.folded in
+    let x = checked_bytes v [] front in
+    let y = checked_bytes v x folded in
+    let z = batches_bytes v (x ++ y) a.list in
     let few = kept.few in let fits = kept.fits in let total_is = total_parts a in
-    let first = skips_head version s n t (omega arith) (omega arith) kept.setup (omega arith) (omega arith) in
-    let next = skips_past s a kept in
-    ap (λ (l : List ℕ). head body (record { at = 0; rest = l })) (append_assoc x (y ++ z) more)
-    ∙ first.reads body 0 ((y ++ z) ++ more)
-    ∙ ap (λ (l : List ℕ). past h (rest_of h) (record { at = 0 + length x; rest = l })) (append_assoc y z more)
-    ∙ next.reads (rest_of h) (0 + length x) (z ++ more)
-    ∙ rest_again version s a (folded_of a) (0 + length x + length y) more kept refl (omega arith)
-    ∙ ap (λ (i : ℕ). end (contents s a) (record { at = i; rest = more }))
-    (let e = length-append x (y ++ z) in let f = length-append y z in omega arith)
+    let first = skips_head v s n t low high kept.setup (omega arith) (omega arith) in
+    ap (λ (l : List ℕ). head (λ (g : Head). check_in g.version (λ _. body g)) (record { before = []; rest = l }))
+    (append_assoc x (y ++ z) more)
+    ∙ checked_again head h front (λ (g : Head). g.version) body [] ((y ++ z) ++ more) first
+    ∙ ap (λ (l : List ℕ). body h (record { before = x; rest = l })) (append_assoc y z more)
+    ∙ checked_again (past h) past_is.p folded (λ _. v) (rest_of h) x (z ++ more) past_is.again
+    ∙ rest_again v s a past_is.p (x ++ y) more kept past_is.state_is past_is.counted_is
+    ∙ ap (λ (l : List ℕ). end (contents s a) (record { before = l; rest = more })) (append_assoc x y z)
 
-file1_again : (s : Setting) (list : List Submission) (more : List ℕ) → IsReadable s (unfolded list) →
-    reading_of (file1 s list ++ more) ≡
-    end (contents s (unfolded list)) (record { at = length (file1 s list); rest = more })
-unfolding reading_of
-file1_again s list more kept =
-    let n = length list in let t = list_total list in
-    let h = head_of old_version s n t in
-    let x = head_bytes old_version s n t in
-    let z = flat_map batch_bytes list in
-    let few = kept.few in let fits = kept.fits in
-    let first = skips_head old_version s n t (omega arith) (omega arith) kept.setup (omega arith) (omega arith) in
-    ap (λ (l : List ℕ). head body (record { at = 0; rest = l })) (append_assoc x z more)
-    ∙ first.reads body 0 (z ++ more)
-    ∙ ap (λ (r : Reading). r (record { at = 0 + length x; rest = z ++ more })) (past_none h (rest_of h) refl)
-    ∙ rest_again old_version s (unfolded list) nothing_yet (0 + length x) more kept refl refl
-    ∙ ap (λ (i : ℕ). end (contents s (unfolded list)) (record { at = i; rest = more }))
-    (let e = length-append x z in omega arith)
-
--- what was spelled is read again, in either version
+-- what was spelled is read again, in any version
 pub file_again : (bytes : List ℕ) (s : Setting) (a : Accepted) (more : List ℕ) → IsReadable s a →
     IsSpelled bytes s a →
-    reading_of (bytes ++ more) ≡ end (contents s a) (record { at = length bytes; rest = more })
-file_again bytes s a more kept (inl e) =
-    ap (λ (l : List ℕ). reading_of (l ++ more)) e ∙ file2_again s a more kept
-    ∙ ap (λ (l : List ℕ). end (contents s a) (record { at = length l; rest = more })) (sym e)
-file_again bytes s a more kept (inr e) =
-    ap (λ (l : List ℕ). reading_of (l ++ more)) e.1
-    ∙ file1_again s a.list more (subst (IsReadable s) e.0 kept)
-    ∙ ap (λ (l : List ℕ). end (contents s (unfolded a.list)) (record { at = length l; rest = more })) (sym e.1)
-    ∙ ap (λ (x : Accepted). end (contents s x) (record { at = length bytes; rest = more })) (sym e.0)
+    reading_of (bytes ++ more) ≡ end (contents s a) (record { before = bytes; rest = more })
+file_again bytes s a more kept is =
+    ap (λ (l : List ℕ). reading_of (l ++ more)) is.bytes_are
+    ∙ file_in_again is.file_version s a more kept is.low is.high is.unfolded_is
+    ∙ ap (λ (l : List ℕ). end (contents s a) (record { before = l; rest = more })) (sym is.bytes_are)

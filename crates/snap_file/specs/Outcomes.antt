@@ -1,5 +1,6 @@
 -- The first fault of a list of bytes, and what a reader of a source tells of one.
-use Rattle.std.specs.Prelude.{◌≡◌, ◌≢◌, ℕ, ◌+◌, ◌*◌, ◌<◌, ◌≤◌, ◌⊎◌, List, [], ◌∷◌, ◌++◌, length, drop, Result, Ok, Err}
+use Rattle.std.specs.Prelude.{◌≡◌, ◌≢◌, ℕ, ◌+◌, ◌*◌, ◌<◌, ◌≤◌, ◌⊎◌, List, [], ◌∷◌, ◌++◌, length, take, drop, Result, Ok, Err}
+use Rattle.crc32c.specs.Remainders.{all_ones, after_bytes}
 use Rattle.byte_io.specs.Streams.{Answer, Calls, bytes_of_calls}
 use Rattle.byte_io.specs.Writing.{EachTakes}
 use Rattle.byte_io.specs.declared.fault.DeviceFault.{DeviceFault}
@@ -96,16 +97,19 @@ Explains max_bytes answers ended failed Read = IsReadFault max_bytes (bytes_of_c
 Explains max_bytes answers ended failed Memory = (answers ≡ []) ⊎ IsMemoryFault max_bytes answers
 Explains max_bytes answers ended failed kind = IsTold max_bytes (bytes_of_calls answers) ended kind
 
--- what a reader holds: the bytes that came and were not judged yet, how many were judged, and the most that may come
+-- what a reader holds: the bytes that came and were not judged yet, how many were judged, the remainder of which their
+-- checksum is made, and the most that may come
 pub record ReaderState : Type 0 where
   pub pending : List ℕ
   pub taken : ℕ
+  pub remainder : ℕ
   pub max_bytes : ℕ
 
 -- So many more bytes are judged, which were the first that were pending.
 pub record IsPassed (old new : ReaderState) (n : ℕ) : Type 0 where
   pub pending_is : new.pending ≡ drop n old.pending
   pub taken_is : new.taken ≡ old.taken + n
+  pub remainder_is : new.remainder ≡ after_bytes old.remainder (take n old.pending)
   pub limit_is : new.max_bytes ≡ old.max_bytes
 
 -- The calls that led from s to t gave bytes of which the front was judged without a fault; `left` is still to be read.
@@ -118,11 +122,12 @@ pub record HasRead {S : Type 0} (gives : S → Result (List ℕ) DeviceFault →
   pub bytes_are : bytes_of_calls answers ≡ front ++ reader.pending
   pub are_bytes : IsBytes (bytes_of_calls answers)
   pub taken_is : reader.taken ≡ length front
+  pub remainder_is : reader.remainder ≡ after_bytes all_ones front
   pub limit_is : reader.max_bytes ≡ max_bytes
   pub within : length front ≤ max_bytes
   pub few : length answers ≤ max_bytes + 1
   pub none_failed : failures t ≡ failures s
-  pub resumes : (more : List ℕ) → reading_of (front ++ more) ≡ left (record { at = length front; rest = more })
+  pub resumes : (more : List ℕ) → reading_of (front ++ more) ≡ left (record { before = front; rest = more })
 
 -- The same, and no call was made for what is still to be read: what was judged reaches into what the last call gave.
 pub record HasJudged {S : Type 0} (gives : S → Result (List ℕ) DeviceFault → S → Type 0) (failures : S → ℕ)
@@ -140,7 +145,7 @@ pub record HasAsked {S : Type 0} (gives : S → Result (List ℕ) DeviceFault �
 -- differs.
 pub record IsBehindHead (left : Reading) : Type 0 where
   pub shows : (input : Input) (kind : SnapFault) (shown : ℕ) → left input ≡ fault_at kind shown →
-      ShowsBehind input.at shown kind
+      ShowsBehind (length input.before) shown kind
 
 -- One more call gave nothing: the source has ended.
 pub record HasEnded {S : Type 0} (gives : S → Result (List ℕ) DeviceFault → S → Type 0) (failures : S → ℕ)

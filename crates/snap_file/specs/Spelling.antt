@@ -1,7 +1,9 @@
--- The spellings of a setup and of what was accepted: one in version 2, which is written, and, where nothing is folded,
--- one in version 1. Numbers are unsigned, the highest byte first.
-use Rattle.std.specs.Prelude.{◌≡◌, ℕ, ◌<◌, ◌≤◌, ◌^◌, ◌⊎◌, List, [], ◌∷◌, ◌++◌, length, flat_map, Bool}
-use Rattle.std.specs.Prelude.{◌&&◌, ◌==◌}
+-- The spellings of a setup and of what was accepted, by the version of the file. Version 3 is written: the head, what is
+-- folded and each batch, each with a checksum behind it. Version 2 has no checksums, and version 1 nothing that is folded
+-- either. Numbers are unsigned, the highest byte first.
+use Rattle.std.specs.Prelude.{◌≡◌, ℕ, ◌<◌, ◌≤◌, ◌^◌, List, [], ◌∷◌, ◌++◌, length, flat_map, Bool}
+use Rattle.std.specs.Prelude.{◌&&◌, ◌==◌, if◌then◌else◌}
+use Rattle.crc32c.specs.Remainders.{checksum_of}
 use Rattle.std.specs.List.{concat, AllByRecursion, list_any}
 use Rattle.std.specs.Int.{Width, w8, w32, w64, to_be_bytes}
 use Rattle.std.specs.FinMap.{entries, len}
@@ -10,7 +12,7 @@ use Rattle.hyper_matrix.specs.Shared.{LiesWithin}
 use Rattle.batch_store.specs.Setups.{Setting}
 use Rattle.batch_store.specs.Batches.{Submission}
 use Rattle.batch_store.specs.Accepted.{Accepted, unfolded, total_in}
-use Rattle.batch_store.specs.Books.{list_total, AreAccepted}
+use Rattle.batch_store.specs.Books.{AreAccepted}
 use Rattle.batch_store.specs.declared.verdict.Entry.{Entry}
 pub use Rattle.byte_io.specs.Buffers.{IsBytes}
 
@@ -27,7 +29,7 @@ abbrev pub old_version : ℕ
 old_version = 1
 
 abbrev pub version : ℕ
-version = 2
+version = 3
 
 -- the head of a file of this version, with the number of batches that are not folded and the total of all
 abbrev pub head_bytes : ℕ → Setting → ℕ → ℕ → List ℕ
@@ -60,18 +62,34 @@ entry_bytes e = concat (number_bytes w64 e.client ∷ number_bytes w64 e.number 
 abbrev pub past_bytes : Counts → List Entry → List ℕ
 past_bytes base folded = number_bytes w64 (length folded) ++ (flat_map entry_bytes folded ++ matrix_bytes base)
 
--- the file of version 1, in which nothing is folded
-abbrev pub file1 : Setting → List Submission → List ℕ
-file1 s list = head_bytes old_version s (length list) (list_total list) ++ flat_map batch_bytes list
+-- what a file of this version has of them: nothing in the first
+unfoldable pub past_in : ℕ → Counts → List Entry → List ℕ
+past_in v base folded = if v == old_version then [] else past_bytes base folded
 
--- the file of version 2
-abbrev pub file2 : Setting → Accepted → List ℕ
-file2 s a = head_bytes version s (length a.list) (total_in a) ++
-    (past_bytes a.base a.folded ++ flat_map batch_bytes a.list)
+-- in a file of version 3 the checksum of all these bytes, with which the file begins
+unfoldable pub check_bytes : ℕ → List ℕ → List ℕ
+check_bytes v front = if v == version then number_bytes w32 (checksum_of front) else []
+
+-- a part of the file, and the checksum of all bytes up to its end
+abbrev pub checked_bytes : ℕ → List ℕ → List ℕ → List ℕ
+checked_bytes v front part = part ++ check_bytes v (front ++ part)
+
+-- batches behind a front of the file, each with its checksum
+abbrev pub batches_bytes : ℕ → List ℕ → List Submission → List ℕ
+batches_bytes v front [] = []
+batches_bytes v front (b ∷ list) =
+    let part = checked_bytes v front (batch_bytes b) in part ++ batches_bytes v (front ++ part) list
+
+-- the file of this version
+abbrev pub file_in : ℕ → Setting → Accepted → List ℕ
+file_in v s a =
+    let x = checked_bytes v [] (head_bytes v s (length a.list) (total_in a)) in
+    let y = checked_bytes v x (past_in v a.base a.folded) in
+    x ++ (y ++ batches_bytes v (x ++ y) a.list)
 
 -- the file as it is written
 abbrev pub file : Setting → Accepted → List ℕ
-file s a = file2 s a
+file s a = file_in version s a
 
 -- whether one of these entries has this client and this number
 abbrev pub stands_in : ℕ → ℕ → List Entry → Bool
@@ -102,9 +120,13 @@ pub record IsKept (s : Setting) (a : Accepted) : Type 0 where
   pub few : len a.base < 2 ^ 64
   pub within : AllByRecursion (LiesWithin s.rows s.cols) (entries a.base)
 
--- the bytes are a file of this setup and of what was accepted, in the one version or the other
-abbrev pub IsSpelled : List ℕ → Setting → Accepted → Type 0
-IsSpelled bytes s a = (bytes ≡ file2 s a) ⊎ ((a ≡ unfolded a.list) × (bytes ≡ file1 s a.list))
+-- The bytes are a file of this setup and of what was accepted, in one of the versions; the first has nothing folded.
+pub record IsSpelled (bytes : List ℕ) (s : Setting) (a : Accepted) : Type 0 where
+  pub file_version : ℕ
+  pub low : old_version ≤ file_version
+  pub high : file_version ≤ version
+  pub unfolded_is : file_version ≡ old_version → a ≡ unfolded a.list
+  pub bytes_are : bytes ≡ file_in file_version s a
 
 -- The bytes are a snapshot of this setup and of what was accepted.
 pub record IsSnapshot (max_bytes : ℕ) (bytes : List ℕ) (s : Setting) (a : Accepted) : Type 0 where

@@ -18,10 +18,12 @@ use Rattle.snap_file.specs.declared.head.Head.{Head}
 use Rattle.snap_file.specs.declared.fault.SnapFault.{SnapFault}
 use Rattle.snap_file.specs.declared.fault.SnapFault.TheVariants.{BadMark, BadVersion, BadHead, BadBatch, OutOfOrder}
 use Rattle.snap_file.specs.declared.fault.SnapFault.TheVariants.{RepeatedNumber, TotalDiffers, Truncated, ExtraBytes}
+use Rattle.snap_file.specs.declared.fault.SnapFault.TheVariants.{BadCheck}
+use Rattle.crc32c.specs.Remainders.{checksum_of}
 
--- how many bytes were read, and those that are left
+-- the bytes that were read, and those that are left
 pub record Input : Type 0 where
-  pub at : ℕ
+  pub before : List ℕ
   pub rest : List ℕ
 
 -- a fault, and the number of bytes that were read when it shows; the end of the bytes counts as one more
@@ -53,13 +55,13 @@ fault_at kind place = Err (record { kind = kind; place = place })
 unfoldable pub number : Width → Part ℕ
 number w k input =
     if nat_lt (length input.rest) (byte_len w)
-    then fault_at Truncated (input.at + length input.rest + 1)
+    then fault_at Truncated (length input.before + length input.rest + 1)
     else k (from_be_bytes w (take (byte_len w) input.rest))
-    (record { at = input.at + byte_len w; rest = drop (byte_len w) input.rest })
+    (record { before = input.before ++ take (byte_len w) input.rest; rest = drop (byte_len w) input.rest })
 
 -- the judgement of the field that was read last
 unfoldable pub refuse_if : Bool → SnapFault → Part (Unit {0})
-refuse_if test kind k input = if test then fault_at kind input.at else k tt input
+refuse_if test kind k input = if test then fault_at kind (length input.before) else k tt input
 
 -- a number from low to high
 abbrev pub outside : ℕ → ℕ → ℕ → Bool
@@ -71,6 +73,21 @@ field_in w low high kind = do
   n ← number w
   _ ← refuse_if (outside low high n) kind
   give n
+
+-- the checksum of all bytes before it
+unfoldable pub check : Part (Unit {0})
+check k input = number w32 (λ n. refuse_if (not (n == checksum_of input.before)) BadCheck k) input
+
+-- a file of version 3 has a checksum here
+unfoldable pub check_in : ℕ → Part (Unit {0})
+check_in v k = if v == version then check k else k tt
+
+-- a part, and in a file of version 3 the checksum of all bytes up to its end
+abbrev pub checked : {A : Type 0} → ℕ → Part A → Part A
+checked v p = do
+  x ← p
+  _ ← check_in v
+  give x
 
 -- one place stands before another, by row, then column
 abbrev pub is_below : ℕ → ℕ → ℕ → ℕ → Bool
@@ -184,7 +201,7 @@ folded_past h = do
   p ← entries_behind h folded nothing_yet
   base h p
 
--- the same in either version: in the first nothing is folded
+-- the same in any version: in the first nothing is folded
 unfoldable pub past : Head → Part Progress
 past h k = if h.version == old_version then k nothing_yet else folded_past h k
 
@@ -208,12 +225,12 @@ batch h p = do
 unfoldable pub batches_behind : Head → ℕ → Progress → Part Progress
 batches_behind h zero p = give p
 batches_behind h (suc n) p = do
-  next ← batch h p
+  next ← checked h.version (batch h p)
   batches_behind h n next
 
 -- no byte is left
 unfoldable pub end : Contents → Reading
-end contents input = if length input.rest == 0 then Ok contents else fault_at ExtraBytes (input.at + 1)
+end contents input = if length input.rest == 0 then Ok contents else fault_at ExtraBytes (length input.before + 1)
 
 abbrev pub contents : Setting → Accepted → Contents
 contents s a = record { setup = s; state = a }
@@ -231,13 +248,13 @@ rest_of h p = batches_behind h h.batches p (ending h)
 
 -- the whole file
 abbrev pub body : Head → Reading
-body h = past h (rest_of h)
+body h = checked h.version (past h) (rest_of h)
 
 abbrev pub whole : Reading
-whole = head body
+whole = head (λ h. check_in h.version (λ _. body h))
 
 abbrev pub from_front : List ℕ → Input
-from_front bytes = record { at = 0; rest = bytes }
+from_front bytes = record { before = []; rest = bytes }
 
 -- what the bytes are read as
 unfoldable pub reading_of : List ℕ → Result Contents Fault

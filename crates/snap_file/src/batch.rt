@@ -148,6 +148,7 @@ pub fn read_batches<R: Source>(
     };
     'batches: for _i in 0..front.head.batches {
         read_batch(alloc, reader, r, front, &mut list)?;
+        reader.next_check_in(r, front.head.version)?;
     }
     let differs = list.tally.counted != front.head.total;
     refuse(differs, SnapFault::TotalDiffers)?;

@@ -8,7 +8,7 @@ ghost use Rattle.batch_store.specs.Accepted.{accepted};
 ghost use Rattle.batch_store.specs.declared.verdict.Entry.{Entry};
 ghost use Rattle.snap_file.specs.Spelling.{stands_in};
 ghost use Rattle.snap_file.specs.Table.{Reading, Progress, head, entry, entries_behind, base, past, with_entry};
-ghost use Rattle.snap_file.specs.Table.{nothing_yet, folded_past};
+ghost use Rattle.snap_file.specs.Table.{nothing_yet, folded_past, check_in, checked};
 ghost use Rattle.snap_file.specs.Outcomes.{HasJudged, IsBehindHead, Stops};
 ghost use Rattle.snap_file.specs.Lists.{HasPairs, progress_in};
 ghost use Rattle.snap_file.specs.declared.fault.SnapFault.{SnapFault};
@@ -252,6 +252,53 @@ fn read_past<R: Source>(
     Ok(past)
 }
 
+/// Reads the head and its checksum.
+fn read_checked_head<R: Source>(reader: &mut ByteReader, r: &mut R) -> Result<Head, SnapFault>
+    requires failures { R.failure_count r.old + 1 < 2 ^ 64 }
+    ensures few { IfOk result (λ h. h.batches ≤ h.setup.max_batches) }
+    ensures ok { IfOk result (λ h. (s : R) (max_bytes : ℕ) (k : Head → Reading) →
+        HasJudged R.read_gives R.failure_count max_bytes s r.old reader.old
+        (head (λ x. check_in x.version (λ _. k x))) →
+        HasJudged R.read_gives R.failure_count max_bytes s r.new reader.new (k h)) }
+    ensures err { IfErr result (λ f. (s : R) (max_bytes : ℕ) (k : Head → Reading) →
+        HasJudged R.read_gives R.failure_count max_bytes s r.old reader.old
+        (head (λ x. check_in x.version (λ _. k x))) →
+        Stops R.read_gives R.failure_count (R.at_end r.new) max_bytes s r.new f) }
+    ensures no_failure { OnOk result (R.failure_count r.new ≡ R.failure_count r.old) }
+{
+    let head = read_head(reader, r)?;
+    reader.next_check_in(r, head.version)?;
+    Ok(head)
+}
+
+/// Reads what is folded and its checksum.
+fn read_checked_past<R: Source>(
+    alloc: Global,
+    reader: &mut ByteReader,
+    r: &mut R,
+    head: &Head,
+) -> Result<Past, SnapFault>
+    requires failures { R.failure_count r.old + 1 < 2 ^ 64 }
+    requires few { head.now.batches ≤ head.now.setup.max_batches }
+    ensures counted { IfOk result (λ p. p.counted ≤ head.now.total) }
+    ensures pairs { IfOk result (λ p. HasPairs p.pairs p.folded.items) }
+    ensures dims { IfOk result (λ p. (p.base.rows ≡ head.now.setup.rows) × (p.base.cols ≡ head.now.setup.cols)) }
+    ensures ok { IfOk result (λ p. (s : R) (max_bytes : ℕ) (k : Progress → Reading) →
+        HasJudged R.read_gives R.failure_count max_bytes s r.old reader.old
+        (checked head.now.version (past head.now) k) →
+        HasJudged R.read_gives R.failure_count max_bytes s r.new reader.new (k (progress_in p))) }
+    ensures err { IfErr result (λ f. (s : R) (max_bytes : ℕ) (k : Progress → Reading) →
+        ((p : Progress) → IsBehindHead (k p)) →
+        HasJudged R.read_gives R.failure_count max_bytes s r.old reader.old
+        (checked head.now.version (past head.now) k) →
+        Stops R.read_gives R.failure_count (R.at_end r.new) max_bytes s r.new f) }
+    ensures no_failure { OnOk result (R.failure_count r.new ≡ R.failure_count r.old) }
+{
+    let past = read_past(alloc, reader, r, head)?;
+    reader.next_check_in(r, head.version)?;
+    Ok(past)
+}
+
 /// Reads what stands before the batches.
 pub fn read_front<R: Source>(
     alloc: Global,
@@ -263,15 +310,15 @@ pub fn read_front<R: Source>(
     ensures pairs { IfOk result (λ f. HasPairs f.past.pairs f.past.folded.items) }
     ensures dims { IfOk result (λ f. (f.past.base.rows ≡ f.head.setup.rows) × (f.past.base.cols ≡ f.head.setup.cols)) }
     ensures ok { IfOk result (λ f. (s : R) (max_bytes : ℕ) (k : Head → Progress → Reading) →
-        HasJudged R.read_gives R.failure_count max_bytes s r.old reader.old (head (λ h. past h (k h))) →
+        HasJudged R.read_gives R.failure_count max_bytes s r.old reader.old (head (λ h. check_in h.version (λ _. checked h.version (past h) (k h)))) →
         HasJudged R.read_gives R.failure_count max_bytes s r.new reader.new (k f.head (progress_in f.past))) }
     ensures err { IfErr result (λ f. (s : R) (max_bytes : ℕ) (k : Head → Progress → Reading) →
         ((h : Head) (p : Progress) → IsBehindHead (k h p)) →
-        HasJudged R.read_gives R.failure_count max_bytes s r.old reader.old (head (λ h. past h (k h))) →
+        HasJudged R.read_gives R.failure_count max_bytes s r.old reader.old (head (λ h. check_in h.version (λ _. checked h.version (past h) (k h)))) →
         Stops R.read_gives R.failure_count (R.at_end r.new) max_bytes s r.new f) }
     ensures no_failure { OnOk result (R.failure_count r.new ≡ R.failure_count r.old) }
 {
-    let head = read_head(reader, r)?;
-    let past = read_past(alloc, reader, r, &head)?;
+    let head = read_checked_head(reader, r)?;
+    let past = read_checked_past(alloc, reader, r, &head)?;
     Ok(Front { head, past })
 }

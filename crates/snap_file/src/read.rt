@@ -1,6 +1,7 @@
 //! Reads snapshots.
 ghost use Rattle.std.specs.Prelude.{◌≡◌, ◌+◌, ◌<◌, ◌^◌, [], IfOk, IfErr};
 ghost use Rattle.std.specs.Arc.{arc_value};
+ghost use Rattle.crc32c.specs.Remainders.{all_ones};
 ghost use Rattle.batch_store.specs.Books.{accepted_in};
 ghost use Rattle.snap_file.specs.declared.fault.SnapFault.{SnapFault};
 ghost use Rattle.snap_file.specs.Outcomes.{ReadsSnapshot, Stops};
@@ -47,6 +48,7 @@ fn read_whole<R: Source>(
     requires failures { R.failure_count r.old + 1 < 2 ^ 64 }
     requires pending { reader.old.pending ≡ [] }
     requires taken { reader.old.taken ≡ 0 }
+    requires remainder { reader.old.remainder ≡ all_ones }
     ensures ok { IfOk result (λ snapshot.
         ReadsSnapshot R.read_gives R.failure_count
         (R.at_end r.new) reader.old.max_bytes r.old r.new snapshot.setup (accepted_in snapshot.list)) }
@@ -70,7 +72,7 @@ fn read_whole<R: Source>(
     })
 }
 
-/// Reads a snapshot of either version from `r` to its end, of at most `max_bytes` bytes, in at most `max_bytes + 2`
+/// Reads a snapshot of any version from `r` to its end, of at most `max_bytes` bytes, in at most `max_bytes + 2`
 /// reads.
 ///
 /// Takes time in proportion to the bytes, and for each batch in the logarithm of their number. The memory is that of
@@ -81,8 +83,8 @@ fn read_whole<R: Source>(
 /// # Errors
 ///
 /// The first fault of the bytes in the order of the format, each as soon as its bytes are there: `BadMark`,
-/// `BadVersion`, `BadHead`, `BadBatch`, `OutOfOrder`, `RepeatedNumber`, `TotalDiffers`, `ExtraBytes`, `Truncated` where
-/// the source ended, and `TooLong` at byte `max_bytes + 1`. `Read` where a read failed, and `Memory` where a growth was
+/// `BadVersion`, `BadHead`, `BadBatch`, `OutOfOrder`, `RepeatedNumber`, `TotalDiffers`, `BadCheck` where a checksum isn't
+/// that of all bytes before it, `ExtraBytes`, `Truncated` where the source ended, and `TooLong` at byte `max_bytes + 1`. `Read` where a read failed, and `Memory` where a growth was
 /// refused: before any read, or behind the head, where what was judged bears no fault (the total may not have
 /// been judged) and each byte that was asked for was needed. What was read has been read, and nothing of it is kept.
 pub fn read_snapshot<R: Source>(

@@ -2,7 +2,8 @@
 ghost use Rattle.std.specs.Prelude.{◌≡◌, ℕ, ◌+◌, ◌-◌, ◌<◌, ◌≤◌, ◌^◌, List, [], ◌++◌, length, take, drop, Result};
 ghost use Rattle.std.specs.Prelude.{Ok, Err, IfOk, OnOk, IfErr, OnErr, IfSome, IsTrue, IsFalse, true, false};
 ghost use Rattle.std.specs.Int.{Width, w8, w32, w64, byte_len, from_be_bytes};
-ghost use Rattle.snap_file.specs.Table.{Reading, Contents, number, refuse_if, outside, field_in, end};
+ghost use Rattle.crc32c.specs.Remainders.{all_ones, complement};
+ghost use Rattle.snap_file.specs.Table.{Reading, Contents, number, refuse_if, outside, field_in, check, check_in, end};
 ghost use Rattle.snap_file.specs.Outcomes.{HasJudged, HasAsked, HasEnded, HasFailed, IsOfBytes, Stops, ReadsSnapshot};
 ghost use Rattle.snap_file.specs.Outcomes.{piece_bytes, IsPassed};
 ghost use Rattle.snap_file.specs.Tallies.{IsAhead};
@@ -11,16 +12,18 @@ ghost use Rattle.byte_io.specs.Buffers.{Fills};
 ghost use Rattle.snap_file.specs.declared.fault.SnapFault.{SnapFault};
 
 use crate::fault::SnapFault;
-use crate::limits::CELL_BYTES;
+use crate::limits::{CELL_BYTES, VERSION};
 use byte_io::{DeviceFault, READ_CAPACITY, ReadBuffer, Source};
 use cells::Cell;
+use crc32c::Crc;
 use std::alloc::{AllocError, Global};
 use std::marker::Model;
 
-/// Bytes that came from a source and were not judged yet.
+/// Bytes that came from a source and were not judged yet, and the checksum of those that were.
 #[derive(Drop)]
 pub struct ByteReader {
     buffer: ReadBuffer,
+    crc: Crc,
     taken: u64,
     max_bytes: u64,
 }
@@ -31,7 +34,7 @@ impl Model for ByteReader {
 
     ghost Value = { ReaderState };
 
-    ghost view = { λ r. record { pending = r.buffer; taken = r.taken; max_bytes = r.max_bytes } };
+    ghost view = { λ r. record { pending = r.buffer; taken = r.taken; remainder = r.crc; max_bytes = r.max_bytes } };
 
     ghost invariant = { λ r. r.taken ≤ r.max_bytes };
 }
@@ -96,11 +99,13 @@ impl ByteReader {
     pub fn new(alloc: Global, max_bytes: u64) -> Result<ByteReader, AllocError>
         ensures pending { IfOk result (λ reader. reader.pending ≡ []) }
         ensures taken { IfOk result (λ reader. reader.taken ≡ 0) }
+        ensures remainder { IfOk result (λ reader. reader.remainder ≡ all_ones) }
         ensures limit { IfOk result (λ reader. reader.max_bytes ≡ max_bytes) }
     {
         let buffer = ReadBuffer::new(alloc)?;
         Ok(ByteReader {
             buffer,
+            crc: Crc::new(),
             taken: 0,
             max_bytes,
         })
@@ -125,6 +130,7 @@ impl ByteReader {
         requires failures { R.failure_count r.old + 1 < 2 ^ 64 }
         requires short { length self.old.pending < 8 }
         ensures taken { self.new.taken ≡ self.old.taken }
+        ensures remainder { self.new.remainder ≡ self.old.remainder }
         ensures limit { self.new.max_bytes ≡ self.old.max_bytes }
         ensures ok { IfOk result (λ n. Fills R.read_gives r.old r.new self.old.pending self.new.pending n) }
         ensures most { IfOk result (λ n. n ≤ piece_bytes) }
@@ -142,6 +148,7 @@ impl ByteReader {
         requires want { want ≤ 8 }
         requires room { self.old.taken + want ≤ self.old.max_bytes + 1 }
         ensures taken { self.new.taken ≡ self.old.taken }
+        ensures remainder { self.new.remainder ≡ self.old.remainder }
         ensures limit { self.new.max_bytes ≡ self.old.max_bytes }
         ensures yes { IfOk result (λ b. IsTrue b → want ≤ length self.new.pending) }
         ensures no { IfOk result (λ b. IsFalse b → length self.new.pending < want) }
@@ -195,18 +202,34 @@ impl ByteReader {
         }
     }
 
+    /// The checksum of all bytes that were judged.
+    fn sum(&self) -> u32
+        ensures { result ≡ complement self.now.remainder }
+    {
+        self.crc.value()
+    }
+
+    /// Goes on behind so many bytes, which were judged.
+    #[inline(always)]
+    fn pass(&mut self, count: usize)
+        requires pending { count ≤ length self.old.pending }
+        requires room { self.old.taken + count ≤ self.old.max_bytes }
+        ensures { IsPassed self.old self.new count }
+    {
+        self.crc.add(&self.buffer.pending()[..count]);
+        self.buffer.consume(count);
+        self.taken += count as u64;
+    }
+
     /// The number in the next 8 bytes.
     fn take_u64(&mut self) -> u64
         requires pending { 8 ≤ length self.old.pending }
         requires room { self.old.taken + 8 ≤ self.old.max_bytes }
         ensures value { result ≡ from_be_bytes w64 (take 8 self.old.pending) }
-        ensures pending { self.new.pending ≡ drop 8 self.old.pending }
-        ensures taken { self.new.taken ≡ self.old.taken + 8 }
-        ensures limit { self.new.max_bytes ≡ self.old.max_bytes }
+        ensures passed { IsPassed self.old self.new 8 }
     {
         let n = u64_at(&self.buffer.pending()[..8]);
-        self.buffer.consume(8);
-        self.taken += 8;
+        self.pass(8);
         n
     }
 
@@ -215,13 +238,10 @@ impl ByteReader {
         requires pending { 4 ≤ length self.old.pending }
         requires room { self.old.taken + 4 ≤ self.old.max_bytes }
         ensures value { result ≡ from_be_bytes w32 (take 4 self.old.pending) }
-        ensures pending { self.new.pending ≡ drop 4 self.old.pending }
-        ensures taken { self.new.taken ≡ self.old.taken + 4 }
-        ensures limit { self.new.max_bytes ≡ self.old.max_bytes }
+        ensures passed { IsPassed self.old self.new 4 }
     {
         let n = u32_at(&self.buffer.pending()[..4]);
-        self.buffer.consume(4);
-        self.taken += 4;
+        self.pass(4);
         n
     }
 
@@ -230,13 +250,10 @@ impl ByteReader {
         requires pending { 1 ≤ length self.old.pending }
         requires room { self.old.taken + 1 ≤ self.old.max_bytes }
         ensures value { result ≡ from_be_bytes w8 (take 1 self.old.pending) }
-        ensures pending { self.new.pending ≡ drop 1 self.old.pending }
-        ensures taken { self.new.taken ≡ self.old.taken + 1 }
-        ensures limit { self.new.max_bytes ≡ self.old.max_bytes }
+        ensures passed { IsPassed self.old self.new 1 }
     {
         let n = u8_at(&self.buffer.pending()[..1]);
-        self.buffer.consume(1);
-        self.taken += 1;
+        self.pass(1);
         n
     }
 
@@ -278,8 +295,7 @@ impl ByteReader {
         requires room { self.old.taken + CELL_BYTES ≤ self.old.max_bytes }
         ensures { IsPassed self.old self.new CELL_BYTES }
     {
-        self.buffer.consume(CELL_BYTES);
-        self.taken += CELL_BYTES as u64;
+        self.pass(CELL_BYTES);
     }
 
     /// The next two fields of 8 bytes.
@@ -401,6 +417,46 @@ impl ByteReader {
         let wrong = is_outside(n as u64, low as u64, high as u64);
         refuse(wrong, kind)?;
         Ok(n)
+    }
+
+    /// The next field of 4 bytes, which is to be the checksum of all bytes before it.
+    fn next_check<R: Source>(&mut self, r: &mut R) -> Result<(), SnapFault>
+        requires { R.failure_count r.old + 1 < 2 ^ 64 }
+        ensures ok { OnOk result ((s : R) (max_bytes : ℕ) (k : Unit {0} → Reading) →
+            HasJudged R.read_gives R.failure_count max_bytes s r.old self.old (check k) →
+            HasJudged R.read_gives R.failure_count max_bytes s r.new self.new (k tt)) }
+        ensures err { IfErr result (λ f. (s : R) (max_bytes : ℕ) (k : Unit {0} → Reading) →
+            HasJudged R.read_gives R.failure_count max_bytes s r.old self.old (check k) →
+            Stops R.read_gives R.failure_count (R.at_end r.new) max_bytes s r.new f) }
+        ensures no_failure { OnOk result (R.failure_count r.new ≡ R.failure_count r.old) }
+    {
+        let due = self.sum();
+        let n = self.next_u32(r)?;
+        let wrong = n != due;
+        refuse(wrong, SnapFault::BadCheck)?;
+        Ok(())
+    }
+
+    /// The checksum that a file of this version has next: none but in version 3.
+    pub fn next_check_in<R: Source>(
+        &mut self,
+        r: &mut R,
+        file_version: u32,
+    ) -> Result<(), SnapFault>
+        requires { R.failure_count r.old + 1 < 2 ^ 64 }
+        ensures ok { OnOk result ((s : R) (max_bytes : ℕ) (k : Unit {0} → Reading) →
+            HasJudged R.read_gives R.failure_count max_bytes s r.old self.old (check_in file_version k) →
+            HasJudged R.read_gives R.failure_count max_bytes s r.new self.new (k tt)) }
+        ensures err { IfErr result (λ f. (s : R) (max_bytes : ℕ) (k : Unit {0} → Reading) →
+            HasJudged R.read_gives R.failure_count max_bytes s r.old self.old (check_in file_version k) →
+            Stops R.read_gives R.failure_count (R.at_end r.new) max_bytes s r.new f) }
+        ensures no_failure { OnOk result (R.failure_count r.new ≡ R.failure_count r.old) }
+    {
+        if file_version != VERSION {
+            return Ok(());
+        }
+        self.next_check(r)?;
+        Ok(())
     }
 
     /// Reads on to the end of the source, at which no byte may be left.

@@ -10,7 +10,8 @@ ghost use Rattle.batch_store.specs.Books.{list_total, AreAccepted, accepted_in};
 ghost use Rattle.batch_store.specs.Verdicts.{total_of_entries};
 ghost use Rattle.snap_file.specs.Snapshots.{HasBase};
 ghost use Rattle.snap_file.specs.Spelling.{number_bytes, version, head_bytes, cell_bytes, matrix_bytes, batch_bytes};
-ghost use Rattle.snap_file.specs.Spelling.{entry_bytes, past_bytes, file};
+ghost use Rattle.snap_file.specs.Spelling.{entry_bytes, past_bytes, check_bytes, checked_bytes, file};
+ghost use Rattle.crc32c.specs.Remainders.{after_bytes};
 ghost use Rattle.snap_file.specs.Writing.{IsWriting};
 ghost use Rattle.byte_io.specs.Writing.{HasTaken, HasStopped};
 
@@ -47,6 +48,8 @@ fn push_cuts(writer: &mut ByteWriter, cuts: &[u64])
     ensures taken { writer.new.taken ≡ writer.old.taken }
     ensures pending { writer.new.pending ≡ writer.old.pending ++ flat_map (number_bytes w64) cuts.now }
     ensures length { length writer.new.pending ≡ length writer.old.pending + 8 * length cuts.now }
+    ensures summed { (r : ℕ) → writer.old.remainder ≡ after_bytes r writer.old.pending →
+        writer.new.remainder ≡ after_bytes r writer.new.pending }
 {
     for cut in cuts {
         writer.push_u64(*cut);
@@ -59,6 +62,8 @@ fn push_head(writer: &mut ByteWriter, setup: &Setup, batches: u64, total: u64)
     ensures taken { writer.new.taken ≡ writer.old.taken }
     ensures pending { writer.new.pending ≡ head_bytes version setup.now batches total }
     ensures length { length writer.new.pending ≤ 118 }
+    ensures summed { (r : ℕ) → writer.old.remainder ≡ after_bytes r writer.old.pending →
+        writer.new.remainder ≡ after_bytes r writer.new.pending }
 {
     writer.push_u64(MARK);
     writer.push_u32(VERSION);
@@ -72,6 +77,27 @@ fn push_head(writer: &mut ByteWriter, setup: &Setup, batches: u64, total: u64)
     writer.push_u64(setup.max_batches());
     writer.push_u64(batches);
     writer.push_u64(total);
+}
+
+/// Appends the checksum of all that was appended.
+fn write_check<W: Sink>(writer: &mut ByteWriter, w: &mut W) -> Result<(), WriteFault>
+    requires failures { W.failure_count w.old + 1 < 2 ^ 64 }
+    requires countable { writer.old.taken + length writer.old.pending < 2 ^ 126 }
+    ensures count { OnOk result (writer.new.taken + length writer.new.pending ≡
+        writer.old.taken + length writer.old.pending + 4) }
+    ensures ok { OnOk result ((s : W) (all front left : List ℕ) →
+        all ≡ front ++ (check_bytes version front ++ left) →
+        IsWriting W.write_takes W.failure_count s w.old all writer.old (check_bytes version front ++ left) →
+        IsWriting W.write_takes W.failure_count s w.new all writer.new left) }
+    ensures err { IfErr result (λ f. (s : W) (all left : List ℕ) →
+        IsWriting W.write_takes W.failure_count s w.old all writer.old left →
+        HasStopped W.write_takes W.failure_count s w.new all f.written) }
+    ensures failures { OnOk result (W.failure_count w.new ≡ W.failure_count w.old) }
+{
+    writer.make_room(w)?;
+    let sum = writer.sum();
+    writer.push_u32(sum);
+    Ok(())
 }
 
 /// Appends a cell.
@@ -136,6 +162,32 @@ fn write_batch<W: Sink>(writer: &mut ByteWriter, w: &mut W, batch: &Batch) -> Re
     writer.push_u64(batch.client);
     writer.push_u64(batch.number);
     write_matrix(writer, w, &batch.matrix)?;
+    Ok(())
+}
+
+/// Appends a batch and its checksum.
+fn write_checked_batch<W: Sink>(
+    writer: &mut ByteWriter,
+    w: &mut W,
+    batch: &Batch,
+) -> Result<(), WriteFault>
+    requires failures { W.failure_count w.old + 1 < 2 ^ 64 }
+    requires countable { writer.old.taken + length writer.old.pending < 2 ^ 124 }
+    ensures count { OnOk result (writer.new.taken + length writer.new.pending ≤ writer.old.taken +
+        length writer.old.pending + 2 ^ 71) }
+    ensures ok { OnOk result ((s : W) (all front left : List ℕ) →
+        all ≡ front ++ (checked_bytes version front (batch_bytes batch.now) ++ left) →
+        IsWriting W.write_takes W.failure_count s w.old all writer.old
+        (checked_bytes version front (batch_bytes batch.now) ++ left) →
+        IsWriting W.write_takes W.failure_count s w.new all writer.new left) }
+    ensures err { IfErr result (λ f. (s : W) (all front left : List ℕ) →
+        IsWriting W.write_takes W.failure_count s w.old all writer.old
+        (checked_bytes version front (batch_bytes batch.now) ++ left) →
+        HasStopped W.write_takes W.failure_count s w.new all f.written) }
+    ensures failures { OnOk result (W.failure_count w.new ≡ W.failure_count w.old) }
+{
+    write_batch(writer, w, batch)?;
+    write_check(writer, w)?;
     Ok(())
 }
 
@@ -215,6 +267,34 @@ fn write_past<W: Sink>(
     Ok(())
 }
 
+/// Appends what is folded and its checksum.
+fn write_checked_past<W: Sink>(
+    writer: &mut ByteWriter,
+    w: &mut W,
+    base: &Hyper,
+    folded: &[Entry],
+) -> Result<(), WriteFault>
+    requires failures { W.failure_count w.old + 1 < 2 ^ 64 }
+    requires countable { writer.old.taken + length writer.old.pending < 2 ^ 100 }
+    requires few { length folded.now ≤ 2 ^ 64 }
+    ensures count { OnOk result (writer.new.taken + length writer.new.pending ≤ writer.old.taken +
+        length writer.old.pending + 2 ^ 73) }
+    ensures ok { OnOk result ((s : W) (all front left : List ℕ) →
+        all ≡ front ++ (checked_bytes version front (past_bytes base.now.counts folded.now) ++ left) →
+        IsWriting W.write_takes W.failure_count s w.old all writer.old
+        (checked_bytes version front (past_bytes base.now.counts folded.now) ++ left) →
+        IsWriting W.write_takes W.failure_count s w.new all writer.new left) }
+    ensures err { IfErr result (λ f. (s : W) (all front left : List ℕ) →
+        IsWriting W.write_takes W.failure_count s w.old all writer.old
+        (checked_bytes version front (past_bytes base.now.counts folded.now) ++ left) →
+        HasStopped W.write_takes W.failure_count s w.new all f.written) }
+    ensures failures { OnOk result (W.failure_count w.new ≡ W.failure_count w.old) }
+{
+    write_past(writer, w, base, folded)?;
+    write_check(writer, w)?;
+    Ok(())
+}
+
 /// Writes the file of a setup and of what was accepted, of which the folded totals are the base's.
 fn write_parts<W: Sink>(
     w: &mut W,
@@ -235,14 +315,15 @@ fn write_parts<W: Sink>(
     let _limit = setup.limit();
     let total = base.total() + total_of(batches);
     push_head(&mut writer, setup, batches.len() as u64, total);
-    write_past(&mut writer, w, base, folded)?;
+    write_check(&mut writer, w)?;
+    write_checked_past(&mut writer, w, base, folded)?;
     for batch in batches {
-        write_batch(&mut writer, w, batch)?;
+        write_checked_batch(&mut writer, w, batch)?;
     }
     writer.finish(w)
 }
 
-/// Writes the snapshot of a setup and a list, in version 2.
+/// Writes the snapshot of a setup and a list, in version 3.
 ///
 /// The list is one that a book of the setup hands out. At an Err `written` counts from the first byte of the file.
 /// Takes time in proportion to the bytes and no memory, copies no cell, and does not flush.

@@ -2,27 +2,30 @@
 ghost use Rattle.std.specs.Prelude.{◌≡◌, ℕ, ◌+◌, ◌<◌, ◌≤◌, ◌^◌, List, [], ◌++◌, length, IfOk, OnOk, IfErr};
 ghost use Rattle.std.specs.Int.{w8, w32, w64};
 ghost use Rattle.snap_file.specs.Spelling.{number_bytes};
+ghost use Rattle.crc32c.specs.Remainders.{all_ones, after_bytes, complement};
 ghost use Rattle.snap_file.specs.Writing.{IsWriting};
 ghost use Rattle.byte_io.specs.Writing.{HasTaken, HasStopped};
 
 use byte_io::{Sink, WRITE_CAPACITY, WriteBuffer, WriteFault};
+use crc32c::Crc;
 use std::marker::Model;
 
 /// How many bytes `make_room` makes room for: a cell, a folded batch's entry, or the front of a batch.
 const LONGEST_FIELDS: usize = 32;
 
-/// A file on its way to a sink.
+/// A file on its way to a sink, and the checksum of all bytes that were appended.
 #[derive(Drop)]
 pub struct ByteWriter {
     buffer: WriteBuffer,
+    crc: Crc,
 }
 
 impl Model for ByteWriter {
-    ghost use Rattle.byte_io.specs.Buffers.{Unwritten};
+    ghost use Rattle.snap_file.specs.Writing.{WriterState};
 
-    ghost Value = { Unwritten };
+    ghost Value = { WriterState };
 
-    ghost view = { λ w. w.buffer };
+    ghost view = { λ w. record { taken = w.buffer.taken; pending = w.buffer.pending; remainder = w.crc } };
 }
 
 impl ByteWriter {
@@ -30,9 +33,11 @@ impl ByteWriter {
     pub fn new() -> ByteWriter
         ensures taken { result.taken ≡ 0 }
         ensures pending { result.pending ≡ [] }
+        ensures remainder { result.remainder ≡ all_ones }
     {
         ByteWriter {
             buffer: WriteBuffer::new(),
+            crc: Crc::new(),
         }
     }
 
@@ -42,9 +47,12 @@ impl ByteWriter {
         requires { length self.old.pending + 8 ≤ WRITE_CAPACITY }
         ensures taken { self.new.taken ≡ self.old.taken }
         ensures pending { self.new.pending ≡ self.old.pending ++ number_bytes w64 n }
+        ensures remainder { self.new.remainder ≡ after_bytes self.old.remainder (number_bytes w64 n) }
         ensures length { length self.new.pending ≡ length self.old.pending + 8 }
     {
-        self.buffer.push(&n.to_be_bytes());
+        let bytes = n.to_be_bytes();
+        self.crc.add(&bytes);
+        self.buffer.push(&bytes);
     }
 
     /// Appends a field of four bytes.
@@ -53,9 +61,12 @@ impl ByteWriter {
         requires { length self.old.pending + 4 ≤ WRITE_CAPACITY }
         ensures taken { self.new.taken ≡ self.old.taken }
         ensures pending { self.new.pending ≡ self.old.pending ++ number_bytes w32 n }
+        ensures remainder { self.new.remainder ≡ after_bytes self.old.remainder (number_bytes w32 n) }
         ensures length { length self.new.pending ≡ length self.old.pending + 4 }
     {
-        self.buffer.push(&n.to_be_bytes());
+        let bytes = n.to_be_bytes();
+        self.crc.add(&bytes);
+        self.buffer.push(&bytes);
     }
 
     /// Appends a field of one byte.
@@ -64,9 +75,19 @@ impl ByteWriter {
         requires { length self.old.pending + 1 ≤ WRITE_CAPACITY }
         ensures taken { self.new.taken ≡ self.old.taken }
         ensures pending { self.new.pending ≡ self.old.pending ++ number_bytes w8 n }
+        ensures remainder { self.new.remainder ≡ after_bytes self.old.remainder (number_bytes w8 n) }
         ensures length { length self.new.pending ≡ length self.old.pending + 1 }
     {
-        self.buffer.push(&n.to_be_bytes());
+        let bytes = n.to_be_bytes();
+        self.crc.add(&bytes);
+        self.buffer.push(&bytes);
+    }
+
+    /// The checksum of all that was appended.
+    pub fn sum(&self) -> u32
+        ensures { result ≡ complement self.now.remainder }
+    {
+        self.crc.value()
     }
 
     /// Hands on what is pending, unless there is room for `LONGEST_FIELDS` bytes.

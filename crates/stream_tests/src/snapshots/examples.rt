@@ -1,8 +1,8 @@
 //! The worked example: read, written again, and each way in which it can be damaged.
 
 use crate::snapshots::bytes::{
-    BOTH, FOLDED, MAX_BYTES, NEW_ONE, NEW_TWO, ONE, TWO, changed, fault, fault_changed,
-    fault_within, followed, moved, read,
+    BOTH, CHECKED_BOTH, CHECKED_FOLDED, CHECKED_ONE, CHECKED_TWO, FOLDED, MAX_BYTES, NEW_ONE,
+    NEW_TWO, ONE, TWO, changed, fault, fault_changed, fault_within, followed, moved, read,
 };
 use batch_store::{Batch, Setup};
 use byte_io::Script;
@@ -83,21 +83,30 @@ fn come_as(rt: &impl Abort, alloc: Global, bytes: &[u8], expected: &[u8]) -> boo
 }
 
 #[test]
-fn what_is_read_is_written_in_version_two(rt: HostRuntime) {
+fn what_is_read_is_written_in_version_three(rt: HostRuntime) {
     assert!(rt; same(&rt, &(NEW_ONE.len(), FOLDED.len()), &(142, 150)));
-    for (bytes, expected) in [(ONE, NEW_ONE), (TWO, NEW_TWO)] {
+    assert!(rt; same(&rt, &(CHECKED_ONE.len(), CHECKED_FOLDED.len()), &(154, 158)));
+    for (bytes, expected) in [(ONE, CHECKED_ONE), (TWO, CHECKED_TWO)] {
         assert!(rt; come_as(&rt, rt.alloc(), bytes, expected));
     }
-    for bytes in [NEW_ONE, NEW_TWO, FOLDED, BOTH] {
-        assert!(rt; come_as(&rt, rt.alloc(), bytes, bytes));
+    for (bytes, expected) in [
+        (NEW_ONE, CHECKED_ONE),
+        (NEW_TWO, CHECKED_TWO),
+        (FOLDED, CHECKED_FOLDED),
+        (BOTH, CHECKED_BOTH),
+    ] {
+        assert!(rt; come_as(&rt, rt.alloc(), bytes, expected));
+        assert!(rt; come_as(&rt, rt.alloc(), expected, expected));
     }
 }
 
-// The last byte of the version of `ONE`, and the fault. In version 2 its first batch would be the folded batches.
+// The last byte of the version of `ONE`, and the fault. In version 2 its first batch would be the folded batches, and in
+// version 3 the front of its client's number the checksum of the head.
 static VERSIONS: &[(&[u8], SnapFault)] = &[
     (b"\0", SnapFault::BadVersion),
     (b"\x02", SnapFault::Truncated),
-    (b"\x03", SnapFault::BadVersion),
+    (b"\x03", SnapFault::BadCheck),
+    (b"\x04", SnapFault::BadVersion),
 ];
 
 #[test]
@@ -134,7 +143,7 @@ fn damages_are_found(rt: HostRuntime) {
 
 #[test]
 fn bytes_behind_the_end_are_found(rt: HostRuntime) {
-    for front in [ONE, NEW_ONE, FOLDED, BOTH] {
+    for front in [ONE, NEW_ONE, FOLDED, BOTH, CHECKED_ONE, CHECKED_BOTH] {
         let bytes = followed(&rt, rt.alloc(), front, b"\0");
         let found = fault(&rt, rt.alloc(), &bytes);
         drop(bytes);

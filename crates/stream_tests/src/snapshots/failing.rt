@@ -1,6 +1,9 @@
 //! Reads and writes that fail in mid-stream.
 
-use crate::snapshots::bytes::{BOTH, FOLDED, MAX_BYTES, NEW_ONE, NEW_TWO, ONE, TWO, read};
+use crate::snapshots::bytes::{
+    BOTH, CHECKED_BOTH, CHECKED_FOLDED, CHECKED_ONE, CHECKED_TWO, MAX_BYTES, NEW_ONE, ONE, TWO,
+    read,
+};
 use crate::sources::source;
 use byte_io::{Script, Source, WriteFault};
 use snap_file::{SnapFault, Snapshot, read_snapshot, write_snapshot};
@@ -24,7 +27,7 @@ fn fault_failing(
 
 #[test]
 fn each_read_fails_in_turn(rt: HostRuntime) {
-    for bytes in [ONE, TWO, NEW_ONE, BOTH] {
+    for bytes in [ONE, TWO, NEW_ONE, BOTH, CHECKED_BOTH] {
         // One byte a read, and one read more at the end.
         for failing in 0..=bytes.len() as u64 {
             let found = fault_failing(&rt, rt.alloc(), bytes, failing);
@@ -35,7 +38,7 @@ fn each_read_fails_in_turn(rt: HostRuntime) {
 
 #[test]
 fn no_read_follows_the_end(rt: HostRuntime) {
-    for bytes in [ONE, TWO, NEW_ONE, BOTH] {
+    for bytes in [ONE, TWO, NEW_ONE, BOTH, CHECKED_BOTH] {
         let found = fault_failing(&rt, rt.alloc(), bytes, bytes.len() as u64 + 1);
         assert!(rt; same(&rt, &found, &(None, 0)));
     }
@@ -57,7 +60,7 @@ fn stops_at(alloc: Global, snapshot: &Snapshot, bytes: &[u8], room: usize) -> bo
 
 #[test]
 fn each_write_fails_in_turn(rt: HostRuntime) {
-    for bytes in [NEW_ONE, NEW_TWO, FOLDED, BOTH] {
+    for bytes in [CHECKED_ONE, CHECKED_TWO, CHECKED_FOLDED, CHECKED_BOTH] {
         let snapshot = read(&rt, rt.alloc(), bytes, bytes.len());
         for room in 0..bytes.len() {
             assert!(rt; holds_at(&rt, &room, stops_at(rt.alloc(), &snapshot, bytes, room)));

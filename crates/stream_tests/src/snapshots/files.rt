@@ -1,6 +1,8 @@
 //! Real files, in a folder of their own below the system's one for temporary files.
 
-use crate::snapshots::bytes::{FOLDED, MAX_BYTES, NEW_ONE, NEW_TWO, ONE, TWO, read};
+use crate::snapshots::bytes::{
+    CHECKED_FOLDED, CHECKED_ONE, CHECKED_TWO, FOLDED, MAX_BYTES, ONE, TWO, read,
+};
 use snap_file::{FileFault, SaveFault, SnapFault, Snapshot, load, lock, save, try_save};
 use std::fs::Permissions;
 use std::os::unix::fs::{MetadataExt, PermissionsExt, symlink};
@@ -50,7 +52,11 @@ fn is_whole(rt: &HostRuntime, path: &str, bytes: &[u8], batches: usize) -> bool 
 #[test]
 fn what_is_saved_is_loaded(rt: HostRuntime) {
     let path = "/tmp/hhm_snap_file_saved";
-    for (bytes, written, batches) in [(TWO, NEW_TWO, 2), (FOLDED, FOLDED, 1), (ONE, NEW_ONE, 1)] {
+    for (bytes, written, batches) in [
+        (TWO, CHECKED_TWO, 2),
+        (FOLDED, CHECKED_FOLDED, 1),
+        (ONE, CHECKED_ONE, 1),
+    ] {
         let snapshot = read(&rt, rt.alloc(), bytes, bytes.len());
         let answer = saved(&rt, path, &snapshot);
         drop(snapshot);
@@ -125,7 +131,7 @@ fn saved_beside_link(
 
 // Whether the saved file holds the snapshot, the other is as it was, and the first is no link. Both are removed.
 fn left_beside_link(rt: &HostRuntime, path: &str, other: &str) -> io::Result<[bool; 3]> {
-    let holds_one = holds(rt, path, NEW_ONE);
+    let holds_one = holds(rt, path, CHECKED_ONE);
     let is_as_before = holds(rt, other, b"as it was");
     let is_file = fs::symlink_metadata(rt, path)?.is_file();
     fs::remove_file(rt, path)?;

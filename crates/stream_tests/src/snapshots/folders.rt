@@ -1,7 +1,7 @@
 //! Saves in a folder in memory, each of whose calls fails in turn.
 ghost use Rattle.std.specs.Prelude.{◌≡◌, ◌+◌, ◌<◌, ◌^◌};
 
-use crate::snapshots::bytes::{NEW_ONE, ONE, read};
+use crate::snapshots::bytes::{CHECKED_ONE, ONE, read};
 use byte_io::{DeviceFault, WriteFault};
 use snap_file::{Folder, MemoryFolder, SaveFault, Snapshot, save_in};
 use std::alloc::Global;
@@ -75,8 +75,8 @@ fn each_call_fails_in_turn(rt: HostRuntime) {
     for (call, fault) in FAULTS {
         expect_save(&rt, rt.alloc(), &snapshot, Some(*call), Err(*fault), b"old");
     }
-    expect_save(&rt, rt.alloc(), &snapshot, Some(4), Ok(()), NEW_ONE);
-    expect_save(&rt, rt.alloc(), &snapshot, None, Ok(()), NEW_ONE);
+    expect_save(&rt, rt.alloc(), &snapshot, Some(4), Ok(()), CHECKED_ONE);
+    expect_save(&rt, rt.alloc(), &snapshot, None, Ok(()), CHECKED_ONE);
     drop(snapshot);
 }
 
@@ -91,7 +91,7 @@ fn what_was_left_over_is_written_over(rt: HostRuntime) {
     );
     let answer = saved(rt.alloc(), &mut f, &snapshot);
     drop(snapshot);
-    let is_saved = holds(&f, "a", NEW_ONE);
+    let is_saved = holds(&f, "a", CHECKED_ONE);
     let is_moved = f.file("a.new").is_none();
     drop(f);
     assert!(rt; same(&rt, &(answer, is_saved, is_moved), &(Ok(()), true, true)));

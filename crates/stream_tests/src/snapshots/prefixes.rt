@@ -1,6 +1,6 @@
 //! Each proper prefix of a snapshot is Truncated, however it comes.
 
-use crate::snapshots::bytes::{BOTH, FOLDED, NEW_ONE, ONE, TWO, fault};
+use crate::snapshots::bytes::{BOTH, CHECKED_BOTH, CHECKED_ONE, FOLDED, NEW_ONE, ONE, TWO, fault};
 use snap_file::SnapFault;
 use std::alloc::Global;
 use std::io::Eprint;
@@ -25,6 +25,13 @@ fn prefixes_of_version_one_are_truncated(rt: HostRuntime) {
 #[test]
 fn prefixes_of_version_two_are_truncated(rt: HostRuntime) {
     expect_truncated(&rt, rt.alloc(), NEW_ONE);
+}
+
+#[test]
+fn prefixes_of_version_three_are_truncated(rt: HostRuntime) {
+    for bytes in [CHECKED_ONE, CHECKED_BOTH] {
+        expect_truncated(&rt, rt.alloc(), bytes);
+    }
 }
 
 #[test]

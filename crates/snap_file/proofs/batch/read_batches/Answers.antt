@@ -1,15 +1,16 @@
-use Rattle.std.proofs.Common.{◌≡◌, suc, ◌+◌, ◌-◌, refl, sym, ap, subst, arith, ◌∙◌}
+use Rattle.std.proofs.Common.{◌≡◌, ℕ, suc, ◌+◌, ◌-◌, refl, sym, ap, subst, arith, ◌∙◌}
 use Rattle.std.proofs.Math.Nat.{sub-zero}
 use Rattle.std.proofs.lemmas.Result.{err_from_is_err_and}
 use Rattle.snap_file.specs.declared.fault.SnapFault.TheVariants.{TotalDiffers}
 use Rattle.batch_store.specs.Accepted.{accepted}
 use Rattle.batch_store.specs.Batches.{values, entries_of}
-use Rattle.snap_file.specs.Table.{Progress, batches_behind, ending}
+use Rattle.snap_file.specs.Table.{Reading, Progress, batches_behind, ending, check_in}
+use Rattle.snap_file.specs.declared.head.Head.{Head}
 use Rattle.snap_file.specs.Outcomes.{IsOfBytes, HasJudged}
 use Rattle.snap_file.specs.Lists.{progress_in, progress_of}
 use Rattle.snap_file.proofs.StopLemmas.{stops_refused, read_passed}
 use Rattle.snap_file.proofs.ListLemmas.{batch_next, batch_last, pairs_none}
-use Rattle.snap_file.proofs.BehindLemmas.{behind_batches, behind_ending}
+use Rattle.snap_file.proofs.BehindLemmas.{behind_batches, behind_ending, behind_check_in}
 use Rattle.snap_file.proofs.batch.read_batches.Goals as goal
 
 judged : IsOfBytes TotalDiffers
@@ -37,32 +38,61 @@ batches-init g c =
           (ending c.args.front.now.head))) begun h);
     }
 
+-- what follows the next batch, and its checksum behind that
+abbrev rest_behind : Head → ℕ → Progress → Reading
+rest_behind h rest p = batches_behind h rest p (ending h)
+
 pub returns-in_err-read_batch-clause-err : goal.returns-in_err-read_batch-clause-err
 returns-in_err-read_batch-clause-err g c =
     let p = err_from_is_err_and c.from_residual.result c.from_residual.ensures.1 in rw (p.1, p.2) (λ s m h.
-    let left : c.args.front.now.head.batches - c.batches._i ≡ suc (c.args.front.now.head.batches - (c.batches._i + 1)) = omega
-    (arith, c.batches-test.true) in
-    c.in_err-read_batch.ensures.err s m _
-    (λ p. behind_batches c.args.front.now.head (c.args.front.now.head.batches - (c.batches._i + 1)) p (ending c.args.front.now.head)
-    (λ q. behind_ending c.args.front.now.head q))
+    let head = c.args.front.now.head in
+    let rest = head.batches - (c.batches._i + 1) in
+    let left : head.batches - c.batches._i ≡ suc rest = omega (arith, c.batches-test.true) in
+    c.in_err-read_batch.ensures.err s m (λ q. check_in head.version (λ _. rest_behind head rest q))
+    (λ q. behind_check_in head.version (λ _. rest_behind head rest q)
+    (behind_batches head rest q (ending head) (λ y. behind_ending head y)))
     (batch_next {S = g.row.R.Denot} g.R.Source.read_gives g.R.Source.failure_count m s c.batches.r c.batches.reader
-    c.args.front.now.head (ending c.args.front.now.head) (c.args.front.now.head.batches - c.batches._i)
-    (c.args.front.now.head.batches - (c.batches._i + 1)) (progress_of c.args.front.now.past c.batches.list) left
+    head (ending head) (head.batches - c.batches._i) rest (progress_of c.args.front.now.past c.batches.list) left
     (c.batches.invariant.read s m h)))
+
+pub returns-in_err-next_check_in-clause-err : goal.returns-in_err-next_check_in-clause-err
+returns-in_err-next_check_in-clause-err g c =
+    let p = err_from_is_err_and c.from_residual-in_err-next_check_in.result
+    c.from_residual-in_err-next_check_in.ensures.1 in rw (p.1, p.2) (λ s m h.
+    let head = c.args.front.now.head in
+    let rest = head.batches - (c.batches._i + 1) in
+    let left : head.batches - c.batches._i ≡ suc rest = omega (arith, c.batches-test.true) in
+    c.in_err-next_check_in.ensures.err s m
+    (λ _. rest_behind head rest (progress_of c.args.front.now.past c.read_batch.new.list))
+    (c.in_ok-read_batch.ensures.ok s m (λ q. check_in head.version (λ _. rest_behind head rest q))
+    (batch_next {S = g.row.R.Denot} g.R.Source.read_gives g.R.Source.failure_count m s c.batches.r c.batches.reader
+    head (ending head) (head.batches - c.batches._i) rest (progress_of c.args.front.now.past c.batches.list) left
+    (c.batches.invariant.read s m h))))
+
+pub next_check_in-requires : goal.next_check_in-requires
+next_check_in-requires g c = omega (
+  arith,
+  c.requires.failures,
+  c.in_ok-read_batch.ensures.no_failure,
+  c.batches.invariant.failures,
+)
 
 pub batches-preserved : goal.batches-preserved
 batches-preserved g c = record {
   counted = c.in_ok-read_batch.ensures.counted;
   pairs = c.in_ok-read_batch.ensures.pairs;
-  failures = c.in_ok-read_batch.ensures.no_failure ∙ c.batches.invariant.failures;
+  failures = c.in_ok-next_check_in.ensures.no_failure ∙ c.in_ok-read_batch.ensures.no_failure ∙
+      c.batches.invariant.failures;
   read = λ s m h.
-      let left : c.args.front.now.head.batches - c.batches._i ≡ suc (c.args.front.now.head.batches - (c.batches._i + 1)) = omega
-      (arith, c.batches-test.true) in
-      c.in_ok-read_batch.ensures.ok s m _
+      let head = c.args.front.now.head in
+      let rest = head.batches - (c.batches._i + 1) in
+      let left : head.batches - c.batches._i ≡ suc rest = omega (arith, c.batches-test.true) in
+      c.in_ok-next_check_in.ensures.ok s m
+      (λ _. rest_behind head rest (progress_of c.args.front.now.past c.read_batch.new.list))
+      (c.in_ok-read_batch.ensures.ok s m (λ q. check_in head.version (λ _. rest_behind head rest q))
       (batch_next {S = g.row.R.Denot} g.R.Source.read_gives g.R.Source.failure_count m s c.batches.r c.batches.reader
-      c.args.front.now.head (ending c.args.front.now.head) (c.args.front.now.head.batches - c.batches._i)
-      (c.args.front.now.head.batches - (c.batches._i + 1)) (progress_of c.args.front.now.past c.batches.list) left
-      (c.batches.invariant.read s m h));
+      head (ending head) (head.batches - c.batches._i) rest (progress_of c.args.front.now.past c.batches.list) left
+      (c.batches.invariant.read s m h)));
 }
 
 pub returns-in_err-refuse-clause-err : goal.returns-in_err-refuse-clause-err

@@ -18,7 +18,7 @@ returns-in_err-head-clause-err g c =
     rw (p.1, p.2)
     (c.in_err-head.ensures.err c.args.r.now c.args.reader.now.max_bytes rest_of (λ h p. behind_rest h p)
     (read_begun {S = g.row.R.Denot} g.R.Source.read_gives g.R.Source.failure_count c.args.reader.now.max_bytes
-    c.args.r.now c.args.reader.now c.requires.pending c.requires.taken refl))
+    c.args.r.now c.args.reader.now c.requires.pending c.requires.taken c.requires.remainder refl))
 
 pub returns-in_err-batches-clause-err : goal.returns-in_err-batches-clause-err
 returns-in_err-batches-clause-err g c =
@@ -27,7 +27,7 @@ returns-in_err-batches-clause-err g c =
     (c.in_err-batches.ensures.err c.args.r.now c.args.reader.now.max_bytes
     (c.in_ok-head.ensures.ok c.args.r.now c.args.reader.now.max_bytes rest_of
     (read_begun {S = g.row.R.Denot} g.R.Source.read_gives g.R.Source.failure_count c.args.reader.now.max_bytes
-    c.args.r.now c.args.reader.now c.requires.pending c.requires.taken refl)))
+    c.args.r.now c.args.reader.now c.requires.pending c.requires.taken c.requires.remainder refl)))
 
 pub returns-in_err-base-clause-err : goal.returns-in_err-base-clause-err
 returns-in_err-base-clause-err g c =
@@ -39,7 +39,7 @@ returns-in_err-base-clause-err g c =
     (c.in_ok-batches.ensures.ok c.args.r.now c.args.reader.now.max_bytes
     (c.in_ok-head.ensures.ok c.args.r.now c.args.reader.now.max_bytes rest_of
     (read_begun {S = g.row.R.Denot} g.R.Source.read_gives g.R.Source.failure_count c.args.reader.now.max_bytes
-    c.args.r.now c.args.reader.now c.requires.pending c.requires.taken refl))) (behind_end _))
+    c.args.r.now c.args.reader.now c.requires.pending c.requires.taken c.requires.remainder refl))) (behind_end _))
 
 pub returns-in_err-expect_end-clause-err : goal.returns-in_err-expect_end-clause-err
 returns-in_err-expect_end-clause-err g c =
@@ -51,7 +51,7 @@ returns-in_err-expect_end-clause-err g c =
     (c.in_ok-batches.ensures.ok c.args.r.now c.args.reader.now.max_bytes
     (c.in_ok-head.ensures.ok c.args.r.now c.args.reader.now.max_bytes rest_of
     (read_begun {S = g.row.R.Denot} g.R.Source.read_gives g.R.Source.failure_count c.args.reader.now.max_bytes
-    c.args.r.now c.args.reader.now c.requires.pending c.requires.taken refl))))
+    c.args.r.now c.args.reader.now c.requires.pending c.requires.taken c.requires.remainder refl))))
 
 pub invariant_of-list : goal.invariant_of-list
 invariant_of-list g c =
@@ -63,7 +63,7 @@ invariant_of-list g c =
     (c.in_ok-batches.ensures.ok c.args.r.now c.args.reader.now.max_bytes
     (c.in_ok-head.ensures.ok c.args.r.now c.args.reader.now.max_bytes rest_of
     (read_begun {S = g.row.R.Denot} g.R.Source.read_gives g.R.Source.failure_count c.args.reader.now.max_bytes
-    c.args.r.now c.args.reader.now c.requires.pending c.requires.taken refl)))).snapshot.kept.accepted.based
+    c.args.r.now c.args.reader.now c.requires.pending c.requires.taken c.requires.remainder refl)))).snapshot.kept.accepted.based
 
 pub invariant_of-result : goal.invariant_of-result
 invariant_of-result g c = record {
@@ -75,7 +75,7 @@ invariant_of-result g c = record {
       (c.in_ok-batches.ensures.ok c.args.r.now c.args.reader.now.max_bytes
       (c.in_ok-head.ensures.ok c.args.r.now c.args.reader.now.max_bytes rest_of
       (read_begun {S = g.row.R.Denot} g.R.Source.read_gives g.R.Source.failure_count c.args.reader.now.max_bytes
-      c.args.r.now c.args.reader.now c.requires.pending c.requires.taken refl)))).snapshot.kept;
+      c.args.r.now c.args.reader.now c.requires.pending c.requires.taken c.requires.remainder refl)))).snapshot.kept;
   based = record {
     rows = ap (λ (m : Matrix). m.rows) c.in_ok-base.ensures.ok ∙ c.in_ok-head.ensures.dims.0;
     cols = ap (λ (m : Matrix). m.cols) c.in_ok-base.ensures.ok ∙ c.in_ok-head.ensures.dims.1;
@@ -95,4 +95,4 @@ returns-clause-ok g c =
     (c.in_ok-batches.ensures.ok c.args.r.now c.args.reader.now.max_bytes
     (c.in_ok-head.ensures.ok c.args.r.now c.args.reader.now.max_bytes rest_of
     (read_begun {S = g.row.R.Denot} g.R.Source.read_gives g.R.Source.failure_count c.args.reader.now.max_bytes
-    c.args.r.now c.args.reader.now c.requires.pending c.requires.taken refl))))
+    c.args.r.now c.args.reader.now c.requires.pending c.requires.taken c.requires.remainder refl))))

@@ -15,13 +15,13 @@ returns-in_err-write_matrix-clause-err g c =
     (writing_more _ _ s _ all _ _ left c.push_u64.new.self c.push_u64-2.new.self
     (writing_more _ _ s _ all _ _ left c.make_room.new.self c.push_u64.new.self
     (c.in_ok-make_room.ensures.ok s all _ (rw (← c.batch.view_is) at h))
-    c.push_u64.ensures.taken c.push_u64.ensures.pending)
-    c.push_u64-2.ensures.taken c.push_u64-2.ensures.pending))
+    c.push_u64.ensures.taken c.push_u64.ensures.pending c.push_u64.ensures.remainder)
+    c.push_u64-2.ensures.taken c.push_u64-2.ensures.pending c.push_u64-2.ensures.remainder))
 
 pub returns-clause-ok : goal.returns-clause-ok
 returns-clause-ok g c = λ s all left h. c.in_ok-write_matrix.ensures.ok s all left
     (writing_more _ _ s _ all _ _ left c.push_u64.new.self c.push_u64-2.new.self
     (writing_more _ _ s _ all _ _ left c.make_room.new.self c.push_u64.new.self
     (c.in_ok-make_room.ensures.ok s all _ (rw (← c.batch.view_is) at h))
-    c.push_u64.ensures.taken c.push_u64.ensures.pending)
-    c.push_u64-2.ensures.taken c.push_u64-2.ensures.pending)
+    c.push_u64.ensures.taken c.push_u64.ensures.pending c.push_u64.ensures.remainder)
+    c.push_u64-2.ensures.taken c.push_u64-2.ensures.pending c.push_u64-2.ensures.remainder)

@@ -25,7 +25,8 @@ loop-cell-init g c =
           cells_begin _ _ s _ all c.push_u64.new.self _ _ left
           (writing_more _ _ s _ all _ _ left c.make_room.new.self c.push_u64.new.self
           (c.in_ok-make_room.ensures.ok s all _ h)
-          c.push_u64.ensures.taken (rw c.entries.ensures at c.push_u64.ensures.pending)) order;
+          c.push_u64.ensures.taken (rw c.entries.ensures at c.push_u64.ensures.pending)
+          (rw c.entries.ensures at c.push_u64.ensures.remainder)) order;
     }
 
 pub loop-cell-preserved : goal.loop-cell-preserved

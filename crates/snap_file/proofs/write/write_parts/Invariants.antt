@@ -1,6 +1,6 @@
-use Rattle.std.proofs.Common.{◌≡◌, ◌≤◌, ◌+◌, ◌*◌, ◌^◌, length, drop, flat_map}
-use Rattle.snap_file.specs.Spelling.{file, batch_bytes}
-use Rattle.snap_file.specs.Writing.{IsWriting}
+use Rattle.std.proofs.Common.{◌≡◌, ◌≤◌, ◌+◌, ◌*◌, ◌^◌, length, drop}
+use Rattle.snap_file.specs.Spelling.{file}
+use Rattle.snap_file.proofs.BatchLemmas.{IsBeforeBatches}
 use Rattle.batch_store.specs.Accepted.{accepted}
 use Rattle.batch_store.specs.Batches.{values}
 use Rattle.snap_file.proofs.write.write_parts.Given as goal
@@ -8,8 +8,8 @@ use Rattle.snap_file.proofs.write.write_parts.Given as goal
 abbrev pub invariant-loop-batch : goal.invariant-loop-batch
 invariant-loop-batch g l = record {
   failures : g.W.Sink.failure_count l.w ≡ g.W.Sink.failure_count l.fn.w;
-  counted : l.writer.taken + length l.writer.pending ≤ 118 + 2 ^ 72 + 2 ^ 70 * l.batch-index;
-  written : IsWriting {S = g.row.W.Denot} g.W.Sink.write_takes g.W.Sink.failure_count l.fn.w l.w
+  counted : l.writer.taken + length l.writer.pending ≤ 122 + 2 ^ 73 + 2 ^ 71 * l.batch-index;
+  written : IsBeforeBatches {S = g.row.W.Denot} g.W.Sink.write_takes g.W.Sink.failure_count l.fn.w l.w
       (file l.setup (accepted l.base.counts l.folded (values l.batches))) l.writer
-      (flat_map batch_bytes (values (drop l.batch-index l.batches)));
+      (values (drop l.batch-index l.batches));
 }
