@@ -1,4 +1,4 @@
-mod Judging
+pub mod Judging
 pub mod Losses
 pub mod PageFields
 mod SealedLemmas

@@ -1,0 +1,4 @@
+pub mod FilePages
+mod ScanLemmas
+pub mod Sound
+pub mod Torn
