@@ -266,7 +266,7 @@ def starts_saves_and_ends_are_told():
         lines = error.splitlines()
         events, _ = events_of("told again", "\n".join(lines[:-1]))
         check("told again: the end", (output, lines[-1:], at.process.returncode), ("", ["hhm: file: Create"], 4))
-        failed = "save-failed fault=Create"
+        failed = "save-failed"
         check("told again: all", events, ["loaded batches=1 total=5", failed, "stopping", failed,
                                           "refused code=42 count=1"])
     os.rmdir(path + ".new")

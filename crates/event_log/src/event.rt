@@ -1,5 +1,7 @@
 //! What happens to a server.
 
+use std::time::Duration;
+
 /// What happens to a server.
 #[derive(Clone, Copy, Debug, PartialEq, Eq)]
 pub enum Event {
@@ -9,12 +11,10 @@ pub enum Event {
     NoSnapshot,
     /// The engine is there, with so much accepted.
     Started { batches: u64, total: u64 },
-    /// A save is about to begin. Saves go one after another.
-    Saving,
-    /// It has ended, with so many batches in a file of so many bytes, where that could be told.
-    Saved { batches: u64, bytes: Option<u64> },
-    /// It has failed in this step.
-    NotSaved { fault: &'static str },
+    /// A save has ended, with so many batches, so long after it was asked for.
+    Saved { batches: u64, took: Duration },
+    /// A save has failed, so long after it was asked for.
+    NotSaved { took: Duration },
     /// No further connection is accepted.
     Stopping,
     /// The server has ended well, with so much accepted.

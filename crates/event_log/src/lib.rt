@@ -6,6 +6,7 @@
 #![tactic(auto)]
 
 mod event;
+mod file_sizes;
 mod log;
 mod stamp;
 mod teller;
@@ -13,5 +14,6 @@ mod telling;
 mod waiting;
 
 pub use event::Event;
+pub use file_sizes::FileSizes;
 pub use log::EventLog;
 pub use telling::tell_events;

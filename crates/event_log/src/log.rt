@@ -1,10 +1,11 @@
 //! What has happened and isn't told yet.
 
 use crate::event::Event;
+use crate::stamp::since;
 use std::alloc::Global;
 use std::mem;
 use std::sync::{Condvar, Mutex, Wait};
-use std::time::{Clock, Duration};
+use std::time::{Clock, Duration, Instant};
 
 /// The most events that wait to be told.
 const MAX_EVENTS: usize = 256;
@@ -89,6 +90,18 @@ impl EventLog {
         news.add(event);
         drop(news);
         self.is_news.notify_one();
+    }
+
+    /// A save ends now, with so many batches, that was asked for then.
+    pub fn note_saved<R: Wait + Clock>(&self, rt: &R, batches: u64, asked: Option<Instant>) {
+        let took = since(rt, asked);
+        self.note(rt, Event::Saved { batches, took });
+    }
+
+    /// A save fails now that was asked for then.
+    pub fn note_unsaved<R: Wait + Clock>(&self, rt: &R, asked: Option<Instant>) {
+        let took = since(rt, asked);
+        self.note(rt, Event::NotSaved { took });
     }
 
     /// A request is refused with this code.

@@ -1,6 +1,7 @@
 //! The lines of what happens.
 
 use crate::event::Event;
+use crate::file_sizes::FileSizes;
 use crate::log::{CODES, EventLog, News};
 use crate::stamp::{Seconds, Stamp, since};
 use crate::waiting::{Waiting, Waits};
@@ -14,19 +15,18 @@ const REFUSALS_EVERY: u64 = 60;
 
 /// Writes lines, and knows what has begun.
 #[derive(Drop)]
-pub struct Teller<'a, R: Wait + Clock + Eprint> {
+pub struct Teller<'a, R: Wait + Clock + Eprint + FileSizes> {
     rt: &'a R,
     log: &'a EventLog,
     loading: Option<Instant>,
     is_loading: bool,
     is_empty: bool,
-    saving: Option<Instant>,
     looked: Option<Instant>,
     counted: Option<Instant>,
     waiting: Waiting,
 }
 
-impl<'a, R: Wait + Clock + Eprint> Teller<'a, R> {
+impl<'a, R: Wait + Clock + Eprint + FileSizes> Teller<'a, R> {
     pub fn new(rt: &'a R, log: &'a EventLog) -> Teller<'a, R> {
         let now = Instant::now(rt).ok();
         Teller {
@@ -35,7 +35,6 @@ impl<'a, R: Wait + Clock + Eprint> Teller<'a, R> {
             loading: now,
             is_loading: false,
             is_empty: false,
-            saving: None,
             looked: now,
             counted: now,
             waiting: Waiting::new(),
@@ -78,14 +77,10 @@ impl<'a, R: Wait + Clock + Eprint> Teller<'a, R> {
                 eprintln!(rt; "{now} no-snapshot path={path:?}")
             }
             Event::Started { batches, total } => self.tell_start(batches, total),
-            Event::Saving => {
-                self.saving = Instant::now(rt).ok();
-                Ok(())
-            }
-            Event::Saved { batches, bytes } => self.tell_save(batches, bytes),
-            Event::NotSaved { fault } => {
-                let took = Seconds(since(rt, self.saving));
-                eprintln!(rt; "{now} save-failed fault={fault} seconds={took}")
+            Event::Saved { batches, took } => self.tell_save(batches, Seconds(took)),
+            Event::NotSaved { took } => {
+                let took = Seconds(took);
+                eprintln!(rt; "{now} save-failed seconds={took}")
             }
             Event::Stopping => eprintln!(rt; "{now} stopping"),
             Event::Stopped { batches, total } => {
@@ -105,10 +100,9 @@ impl<'a, R: Wait + Clock + Eprint> Teller<'a, R> {
         eprintln!(self.rt; "{now} loaded batches={batches} total={total} seconds={took}")
     }
 
-    fn tell_save(&self, batches: u64, bytes: Option<u64>) -> io::Result<()> {
+    fn tell_save(&self, batches: u64, took: Seconds) -> io::Result<()> {
         let now = self.now();
-        let took = Seconds(since(self.rt, self.saving));
-        match bytes {
+        match self.rt.file_size(self.log.path().unwrap_or("")) {
             Some(bytes) => {
                 eprintln!(self.rt; "{now} saved batches={batches} bytes={bytes} seconds={took}")
             }

@@ -1,5 +1,6 @@
 //! Tells what happens until nothing more will.
 
+use crate::file_sizes::FileSizes;
 use crate::log::EventLog;
 use crate::teller::Teller;
 use std::io::Eprint;
@@ -16,10 +17,10 @@ use std::time::{Clock, Duration};
 /// - `no-worker connections seconds`: connections wait for a worker, one of them for more than a second: as it is
 ///   noticed and then once a minute; `worker-free seconds`: no longer;
 /// - `refused code count seconds`: once a minute, and at the end, for each code;
-/// - `saved batches bytes seconds`, `save-failed fault seconds`;
+/// - `saved batches bytes seconds`, `save-failed seconds`: since it was asked for;
 /// - `stopping`: no further connection is accepted; `stopped batches total`: the end;
 /// - `lost events`: so many lines could not be kept.
-pub fn tell_events<R: Wait + Clock + Eprint>(rt: &R, log: &EventLog) {
+pub fn tell_events<R: Wait + Clock + Eprint + FileSizes>(rt: &R, log: &EventLog) {
     let mut teller = Teller::new(rt, log);
     for _ in rt.forever() {
         let news = log.take(rt, Duration::from_secs(1));

@@ -2,7 +2,7 @@
 ghost use Rattle.std.specs.Prelude.{◌+◌, ◌<◌, ◌^◌};
 
 use byte_io::Sink;
-use event_log::{Event, tell_events};
+use event_log::{Event, FileSizes, tell_events};
 use locked_engine::Status;
 use session_pool::Disk;
 use socket_server::{Host, ServerFault, Settings, run_server};
@@ -25,6 +25,7 @@ pub fn run_told<
         + Host
         + RandomSource
         + Eprint
+        + FileSizes
         + Net<Listener = TcpListener, Stream = TcpStream>
         + Sync,
     W: Sink,

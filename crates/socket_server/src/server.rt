@@ -14,18 +14,17 @@ use crate::serving::{close_all, serve_listeners};
 use crate::settings::{Settings, time_limit};
 use crate::start::{note_start, starting_engine, take_lock};
 use byte_io::Sink;
-use event_log::EventLog;
 use locked_engine::{Engine, Named, Names, Seat, Status};
 use plain_engine::PlainEngine;
 use session_pool::{Disk, Saver};
-use std::alloc::{AllocError, Global};
+use std::alloc::Global;
 use std::marker::Brand;
 use std::net::{Net, TcpListener, TcpStream};
 use std::random::RandomSource;
+use std::sync::Wait;
 use std::sync::ledger::Ledger;
-use std::sync::{Arc, Wait};
 use std::thread::Threads;
-use std::time::Clock;
+use std::time::{Clock, Instant};
 
 // Where a server listens, and where it saves.
 #[derive(Drop)]
@@ -64,7 +63,29 @@ fn serve_open<
         engine.end(rt);
         return Err(fault);
     }
-    close_all(rt, alloc, engine, seats, saver)
+    let begun = Instant::now(rt).ok();
+    let outcome = close_all(rt, alloc, engine, seats, saver);
+    if !saver.is_off() {
+        note_last_save(rt, listeners, begun, &outcome);
+    }
+    outcome
+}
+
+// Notes what became of the last save, where events are noted.
+fn note_last_save<R: Wait + Clock>(
+    rt: &R,
+    listeners: &Listeners,
+    begun: Option<Instant>,
+    outcome: &Result<Status, ServerFault>,
+) {
+    let Some(events) = listeners.shared.gate.events() else {
+        return;
+    };
+    match outcome {
+        Ok(status) => events.note_saved(rt, status.batches, begun),
+        Err(ServerFault::Save(_)) => events.note_unsaved(rt, begun),
+        Err(_) => {}
+    }
 }
 
 // Serves so, and removes the Unix socket's path.
@@ -183,14 +204,6 @@ fn serve_plan<
     Ok(status)
 }
 
-// A share of the log, where there is one.
-fn copy_of(events: &Option<Arc<EventLog>>) -> Result<Option<Arc<EventLog>>, AllocError> {
-    match events {
-        Some(events) => Ok(Some(Arc::try_clone(events)?)),
-        None => Ok(None),
-    }
-}
-
 // Serves as the settings say, which were judged.
 #[tactic(auto, using(crate::proofs::FaultLaws::serving_met, crate::proofs::FaultLaws::serving_told))]
 fn serve_settings<
@@ -230,9 +243,6 @@ fn serve_settings<
     let _lock = take_lock(rt, alloc, &snapshot, must_load, must_save)?;
     let plain = starting_engine(rt, alloc, setup, &snapshot, must_load, &events)?;
     note_start(rt, &events, plain.status());
-    let (Ok(own), Ok(savers)) = (copy_of(&events), copy_of(&events)) else {
-        return Err(ServerFault::Memory);
-    };
     let plan = Plan {
         places: Places {
             tcp,
@@ -240,9 +250,9 @@ fn serve_settings<
             sessions,
             idle: time_limit(idle),
             drain: time_limit(drain),
-            events: own,
+            events,
         },
-        saver: Saver::noting(snapshot, savers),
+        saver: Saver::new(snapshot),
     };
     serve_plan(rt, alloc, plain, workers, plan, out)
 }
