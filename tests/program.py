@@ -186,7 +186,7 @@ assert crc32c(b"123456789") == 0xE3069283 and crc32c(bytes(32)) == 0x8A9136AA
 def snapshot(
     batches, total, rows=3, cols=3, cuts=(2, 4), shards=2, limit=100, most=10, count=None, past=None, version=3
 ):
-    """The bytes of a snapshot: of version 1, or of this version where `past` has the folded entries and the base's cells.
+    """The bytes of a snapshot: of version 1, or of `version` where `past` has folded entries and the base's cells.
 
     A batch is its client, its number and its cells; a cell is a row, a column, a count. A folded entry is its client,
     its number, its number of cells and its total.

@@ -337,7 +337,7 @@ def a_link_as_a_snapshot_is_replaced():
 
 
 def flipped_bits_are_told():
-    """A flipped bit of a setup or of a client's number is a wrong checksum; of a version without them it is not noticed."""
+    """A flipped bit of a setup or of a client's number is a wrong checksum; without checksums it is another setup."""
     path = in_folder("flipped.snap")
     held = program.snapshot([(7, 1, [(0, 0, 5)])], 5, past=program.NONE)
     words = ["--unix", in_folder("unused"), *SMALL, "--snapshot", path]
