@@ -1,3 +1,4 @@
 pub mod Prefixes
 pub mod Kept
 pub mod LifeLaws
+pub mod FirstLife

@@ -205,7 +205,7 @@ shorter_book xs ys ws ss ls p listed logged within h = record {
 }
 
 -- where nothing else may be left under a name, what is left is what is there
-alone : {X : Type 0} (x y : X) (ys : List X) → ys ≡ [] → IsAmong y (x ∷ ys) → y ≡ x
+pub alone : {X : Type 0} (x y : X) (ys : List X) → ys ≡ [] → IsAmong y (x ∷ ys) → y ≡ x
 alone x y ys none (inl e) = e
 alone {X} x y ys none (inr r) = absurd (subst (λ (zs : List X). IsAmong y zs) none r)
 

@@ -10,6 +10,7 @@
 --     IsTaken s l     a start refuses neither: the log begins within the snapshot, names the batches that stand there,
 --                     has the same where both have a place, and no client and number stands twice
 --     Outcome         what a loss of power may leave of the two files
+--     a_loss_of_power the events of a first life that acknowledges one batch, a loss of power, and a start
 use Rattle.std.specs.Prelude.{◌≡◌, ◌⊎◌, ℕ, ◌-◌, ◌<◌, ◌≤◌, Bool, true, false, List, [], ◌∷◌, ◌++◌, length, take, drop}
 use Rattle.std.specs.Prelude.{slice_get}
 use Rattle.std.specs.List.{IsDistinct}
@@ -17,7 +18,7 @@ use mathlib.Core.List.{IsPrefix}
 use Rattle.batch_store.specs.declared.verdict.Entry.{Entry}
 use Rattle.batch_store.specs.declared.verdict.Kept.{Kept}
 use Rattle.batch_store.specs.declared.verdict.Verdict.TheVariants.{Fresh, Known}
-use Rattle.batch_store.specs.Verdicts.{verdict_of, same_pair}
+use Rattle.batch_store.specs.Verdicts.{verdict_of, same_pair, kept}
 
 pub record Log : Type 0 where
   pub before : List Entry
@@ -206,3 +207,9 @@ pub record Outcome (w : World) (s : List Entry) (l : Log) : Type 0 where
   pub log_among : IsAmong log_was (logs_of w)
   pub whole : Bool
   pub log_is : l ≡ read_as log_was whole
+
+-- a first life that acknowledges this batch and ends by a loss of power, and the start of the next
+abbrev pub a_loss_of_power : Entry → List Event
+a_loss_of_power b =
+    Start [] ∷ Admit b ∷ Append (b ∷ []) ∷ Sync ∷ Acknowledge (record { entry = b; kept = kept 0 b.total })
+    ∷ LosePower [] (log [] (b ∷ []) []) false ∷ Start (b ∷ []) ∷ []

@@ -8,4 +8,4 @@
 
 mod lives;
 
-pub use lives::stays_one_list;
+pub use lives::{an_acknowledged_batch_outlives_a_loss_of_power, stays_one_list};
