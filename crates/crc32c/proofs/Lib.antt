@@ -4,3 +4,4 @@ mod BitLemmas
 mod Bursts
 mod OddChanges
 mod DivisionLaws
+mod Pairs

@@ -28,6 +28,21 @@ pub record IsBurst (n : ℕ) (old new : List ℕ) : Type 0 where
   pub few : length before ≤ n
   pub changed : before ≢ after
 
+-- Two bits differ, and at most n stand between them.
+pub record IsPair (n : ℕ) (old new : List ℕ) : Type 0 where
+  pub front : List ℕ
+  pub between : List ℕ
+  pub back : List ℕ
+  pub a : ℕ
+  pub b : ℕ
+  pub c : ℕ
+  pub d : ℕ
+  pub old_is : bits_of old ≡ front ++ (a ∷ (between ++ (b ∷ back)))
+  pub new_is : bits_of new ≡ front ++ (c ∷ (between ++ (d ∷ back)))
+  pub first_differs : a ≢ c
+  pub second_differs : b ≢ d
+  pub near : length between ≤ n
+
 -- at how many places two lists of one length differ
 unfoldable pub differing : List ℕ → List ℕ → ℕ
 differing [] ys = 0

@@ -1,9 +1,9 @@
 -- CRC-32C, the checksum of RFC 3720 (B.4): the remainder of a division of polynomials with coefficients 0 and 1.
 use Rattle.std.specs.Prelude.{ℕ, zero, suc, ◌-◌, ◌/◌, ◌%◌, ◌^◌, ◌==◌, if◌then◌else◌, List, [], ◌∷◌, bit_xor}
 
--- A polynomial of degree below 32 is a number below 2^32, whose bit 31 - k is the coefficient of x^k: the order in which
--- the bits of a byte come, the lowest first, is that of falling powers. The generator is x^32 and these, which in the
--- order of rising bits are 1EDC6F41.
+-- A polynomial of degree below 32 is a number below 2^32, whose bit 31 - k is the coefficient of x^k: the order in
+-- which the bits of a byte come, the lowest first, is that of falling powers. The generator is x^32 and these, which in
+-- the order of rising bits are 1EDC6F41.
 abbrev pub generator : ℕ
 generator = 0x82f6_3b78
 

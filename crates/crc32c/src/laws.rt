@@ -1,7 +1,7 @@
 //! What the checksum is, and which changes of bytes change it for certain.
 ghost use Rattle.std.specs.Prelude.{◌≡◌, ◌≢◌, ℕ, List};
 ghost use Rattle.crc32c.specs.Remainders.{complement, checksum_of};
-ghost use Rattle.crc32c.specs.Changes.{low_bits, bits_of, IsBurst, IsBytes, HasOddChanges};
+ghost use Rattle.crc32c.specs.Changes.{low_bits, bits_of, IsBurst, IsBytes, IsPair, HasOddChanges};
 ghost use Rattle.crc32c.specs.Division.{IsDivided};
 
 /// The checksum, each bit turned over, is the remainder of a division by the generator: of the bits of the bytes, to
@@ -21,5 +21,11 @@ pub fn bursts_are_found()
 /// A change of an odd number of bits is found: of one, of three, wherever they stand.
 pub fn odd_changes_are_found()
     ensures { (old new : List ℕ) → IsBytes old → IsBytes new → HasOddChanges old new →
+        checksum_of old ≢ checksum_of new }
+{}
+
+/// A change of two bits is found where at most 32,766 stand between them, as it is within 4,096 bytes.
+pub fn pairs_are_found()
+    ensures { (old new : List ℕ) → IsBytes old → IsBytes new → IsPair 32766 old new →
         checksum_of old ≢ checksum_of new }
 {}

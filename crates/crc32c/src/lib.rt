@@ -6,4 +6,6 @@ mod laws;
 mod tables;
 
 pub use checksum::{Crc, crc32c};
-pub use laws::{bursts_are_found, checksums_are_remainders, odd_changes_are_found};
+pub use laws::{
+    bursts_are_found, checksums_are_remainders, odd_changes_are_found, pairs_are_found,
+};

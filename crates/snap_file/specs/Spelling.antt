@@ -1,6 +1,6 @@
--- The spellings of a setup and of what was accepted, by the version of the file. Version 3 is written: the head, what is
--- folded and each batch, each with a checksum behind it. Version 2 has no checksums, and version 1 nothing that is folded
--- either. Numbers are unsigned, the highest byte first.
+-- The spellings of a setup and of what was accepted, by the version of the file. Version 3 is written: the head, what
+-- is folded and each batch, each with a checksum behind it. Version 2 has no checksums, and version 1 nothing that is
+-- folded either. Numbers are unsigned, the highest byte first.
 use Rattle.std.specs.Prelude.{◌≡◌, ℕ, ◌<◌, ◌≤◌, ◌^◌, List, [], ◌∷◌, ◌++◌, length, flat_map, Bool}
 use Rattle.std.specs.Prelude.{◌&&◌, ◌==◌, if◌then◌else◌}
 use Rattle.crc32c.specs.Remainders.{checksum_of}

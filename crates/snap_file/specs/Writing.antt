@@ -4,8 +4,8 @@ use Rattle.crc32c.specs.Remainders.{all_ones, after_bytes}
 use Rattle.byte_io.specs.Streams.{Answer}
 use Rattle.byte_io.specs.Buffers.{Unwritten, HasWritten}
 
--- what a writer holds: how many bytes the sink took, those that it is still to be handed, and the remainder of which the
--- checksum of all of them is made
+-- what a writer holds: how many bytes the sink took, those that it is still to be handed, and the remainder of which
+-- the checksum of all of them is made
 pub record WriterState : Type 0 where
   pub taken : ℕ
   pub pending : List ℕ

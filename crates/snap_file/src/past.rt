@@ -310,11 +310,13 @@ pub fn read_front<R: Source>(
     ensures pairs { IfOk result (λ f. HasPairs f.past.pairs f.past.folded.items) }
     ensures dims { IfOk result (λ f. (f.past.base.rows ≡ f.head.setup.rows) × (f.past.base.cols ≡ f.head.setup.cols)) }
     ensures ok { IfOk result (λ f. (s : R) (max_bytes : ℕ) (k : Head → Progress → Reading) →
-        HasJudged R.read_gives R.failure_count max_bytes s r.old reader.old (head (λ h. check_in h.version (λ _. checked h.version (past h) (k h)))) →
+        HasJudged R.read_gives R.failure_count max_bytes s r.old reader.old
+        (head (λ h. check_in h.version (λ _. checked h.version (past h) (k h)))) →
         HasJudged R.read_gives R.failure_count max_bytes s r.new reader.new (k f.head (progress_in f.past))) }
     ensures err { IfErr result (λ f. (s : R) (max_bytes : ℕ) (k : Head → Progress → Reading) →
         ((h : Head) (p : Progress) → IsBehindHead (k h p)) →
-        HasJudged R.read_gives R.failure_count max_bytes s r.old reader.old (head (λ h. check_in h.version (λ _. checked h.version (past h) (k h)))) →
+        HasJudged R.read_gives R.failure_count max_bytes s r.old reader.old
+        (head (λ h. check_in h.version (λ _. checked h.version (past h) (k h)))) →
         Stops R.read_gives R.failure_count (R.at_end r.new) max_bytes s r.new f) }
     ensures no_failure { OnOk result (R.failure_count r.new ≡ R.failure_count r.old) }
 {

@@ -83,10 +83,11 @@ fn read_whole<R: Source>(
 /// # Errors
 ///
 /// The first fault of the bytes in the order of the format, each as soon as its bytes are there: `BadMark`,
-/// `BadVersion`, `BadHead`, `BadBatch`, `OutOfOrder`, `RepeatedNumber`, `TotalDiffers`, `BadCheck` where a checksum isn't
-/// that of all bytes before it, `ExtraBytes`, `Truncated` where the source ended, and `TooLong` at byte `max_bytes + 1`. `Read` where a read failed, and `Memory` where a growth was
-/// refused: before any read, or behind the head, where what was judged bears no fault (the total may not have
-/// been judged) and each byte that was asked for was needed. What was read has been read, and nothing of it is kept.
+/// `BadVersion`, `BadHead`, `BadBatch`, `OutOfOrder`, `RepeatedNumber`, `TotalDiffers`, `BadCheck` where a checksum
+/// isn't that of all bytes before it, `ExtraBytes`, `Truncated` where the source ended, and `TooLong` at byte
+/// `max_bytes + 1`. `Read` where a read failed, and `Memory` where a growth was refused: before any read, or behind the
+/// head, where what was judged bears no fault (the total may not have been judged) and each byte that was asked for was
+/// needed. What was read has been read, and nothing of it is kept.
 pub fn read_snapshot<R: Source>(
     alloc: Global,
     r: &mut R,

@@ -1,4 +1,5 @@
-//! Checksums: a flipped bit of each byte of a snapshot of version 3 is told, and what a wrong checksum stands behind is told first.
+//! Checksums: a flipped bit of each byte of a snapshot of version 3 is told, and what stands before a wrong checksum is
+//! judged before it.
 
 use crate::snapshots::bytes::{CHECKED_BOTH, CHECKED_ONE, changed, fault, fault_changed};
 use snap_file::SnapFault;

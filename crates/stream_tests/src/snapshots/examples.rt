@@ -100,8 +100,8 @@ fn what_is_read_is_written_in_version_three(rt: HostRuntime) {
     }
 }
 
-// The last byte of the version of `ONE`, and the fault. In version 2 its first batch would be the folded batches, and in
-// version 3 the front of its client's number the checksum of the head.
+// The last byte of the version of `ONE`, and the fault. In version 2 its first batch would be the folded batches, and
+// in version 3 the front of its client the checksum of the head.
 static VERSIONS: &[(&[u8], SnapFault)] = &[
     (b"\0", SnapFault::BadVersion),
     (b"\x02", SnapFault::Truncated),
