@@ -172,9 +172,9 @@ def table_entry(value):
 CRC_TABLE = [table_entry(value) for value in range(256)]
 
 
-def crc32c(held):
-    """The checksum of RFC 3720."""
-    value = 2**32 - 1
+def crc32c(held, before=0):
+    """The checksum of RFC 3720, of these bytes behind those that have the checksum `before`."""
+    value = before ^ 2**32 - 1
     for byte in held:
         value = value >> 8 ^ CRC_TABLE[(value ^ byte) & 0xFF]
     return value ^ 2**32 - 1
@@ -202,12 +202,15 @@ def snapshot(
         fields(client, number, len(cells)) + b"".join(fields(*cell) for cell in cells)
         for client, number, cells in batches
     ]
-    held = b""
+    held, value = bytearray(), 0
     for part in parts:
         held += part
         if version == 3:
-            held += field(crc32c(held), 4)
-    return held
+            value = crc32c(part, value)
+            check = field(value, 4)
+            value = crc32c(check, value)
+            held += check
+    return bytes(held)
 
 
 # Nothing is folded.
