@@ -310,11 +310,11 @@ def batches_of(path):
     """The batches of a snapshot in which nothing is folded: of each its pair and its counts."""
     with open(path, "rb") as file:
         data = file.read()
-    # Behind the mark, the version, the dimensions and the cuts: shards, limit, most batches, batches and total; then no
-    # folded batch and no cell of a base.
-    head = ">BQQQQQQ"
+    # Behind the mark, the version, the dimensions and the cuts: shards, limit, most batches, batches, total and a check;
+    # then no folded batch, no cell of a base, and a check; and a check behind each batch.
+    head = ">BQQQQIQQI"
     at = 29 + 8 * data[28]
-    _, _, _, count, _, folded, base = struct.unpack_from(head, data, at)
+    _, _, _, count, _, _, folded, base, _ = struct.unpack_from(head, data, at)
     check("nothing is folded", (folded, base), (0, 0))
     at += struct.calcsize(head)
     batches = []
@@ -322,7 +322,7 @@ def batches_of(path):
         client, number, entries = struct.unpack_from(">QQQ", data, at)
         at += 24
         counts = {(row, col): n for row, col, n in struct.iter_unpack(">QQQ", data[at : at + 24 * entries])}
-        at += 24 * entries
+        at += 24 * entries + 4
         batches.append(((client, number), counts))
     check("the snapshot's end", at, len(data))
     return batches
