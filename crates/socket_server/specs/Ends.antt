@@ -8,6 +8,7 @@
 --     IsClosed seats a
 --                     what the seats of an engine say of what it had accepted when it was closed
 use Rattle.std.specs.Prelude.{◌≡◌, ℕ, List, Option, String}
+use mathlib.Core.List.{IsPrefix}
 use Rattle.batch_store.specs.Setups.{Setting}
 use Rattle.batch_store.specs.Accepted.{Accepted, entries_in, total_in}
 use Rattle.batch_store.specs.Books.{AreAccepted}
