@@ -55,7 +55,7 @@ impl OwnPath {
 pub struct Listeners {
     pub tcp: Option<WatchedListener<TcpListener>>,
     pub unix: Option<WatchedListener<UnixListener>>,
-    pub shared: Shared,
+    pub shared: Arc<Shared>,
     own: Option<OwnPath>,
 }
 
@@ -202,14 +202,21 @@ pub fn bind_listeners<R: Host + Net<Listener = TcpListener, Stream = TcpStream>,
         }
         None => (None, None, None),
     };
+    let shared = Shared {
+        gate: StopGate::new(tcp_waker, unix_waker, drain.map(Drain::new), events),
+        numbers: SessionNumbers::new(sessions),
+        idle,
+    };
+    let Ok(shared) = Arc::new(alloc, shared) else {
+        if let Some(own) = own {
+            own.remove(rt);
+        }
+        return Err(ServerFault::Memory);
+    };
     Ok(Listeners {
         tcp,
         unix,
-        shared: Shared {
-            gate: StopGate::new(tcp_waker, unix_waker, drain.map(Drain::new), events),
-            numbers: SessionNumbers::new(sessions),
-            idle,
-        },
+        shared,
         own,
     })
 }

@@ -65,19 +65,21 @@ fn serve_open<
     }
     let begun = Instant::now(rt).ok();
     let outcome = close_all(rt, alloc, engine, seats, saver);
-    if !saver.is_off() {
-        note_last_save(rt, listeners, begun, &outcome);
-    }
+    note_last_save(rt, listeners, saver, begun, &outcome);
     outcome
 }
 
-// Notes what became of the last save, where events are noted.
+// Notes what became of the last save, where one was due and events are noted.
 fn note_last_save<R: Wait + Clock>(
     rt: &R,
     listeners: &Listeners,
+    saver: &Saver,
     begun: Option<Instant>,
     outcome: &Result<Status, ServerFault>,
 ) {
+    if saver.is_off() {
+        return;
+    }
     let Some(events) = listeners.shared.gate.events() else {
         return;
     };

@@ -1,6 +1,6 @@
 use Rattle.std.proofs.Common.{subst}
 use Rattle.std.specs.Prelude.{IfOk, Option, String}
-use Rattle.std.proofs.lemmas.Result.{IfOk-weaker}
+use Rattle.std.proofs.lemmas.Result.{IfOk-weaker, err_from_is_err_and}
 use Rattle.batch_store.specs.Setups.{Setting}
 use Rattle.batch_store.specs.Accepted.{Accepted}
 use Rattle.socket_server.specs.Ends.{EndsWith, GoesOn}
@@ -16,3 +16,9 @@ returns-clause-ended g c =
     (subst (λ (v : Setting). IfOk c.serve_plan.result (λ s. (b : Accepted) × GoesOn a b
     × EndsWith g.R.Disk.saves c.args.rt.now c.new.result.path v b s)) c.in_ok-plain.ensures.setup
     c.serve_plan.ensures.ended))
+
+-- a fault of the lock is told, whatever the setup
+pub returns-in_err-_lock-clause-told : goal.returns-in_err-_lock-clause-told
+returns-in_err-_lock-clause-told g c =
+    let p = err_from_is_err_and c.from_residual.result c.from_residual.ensures.1 in
+    rw (p.1, p.2) (c.in_err-_lock.ensures.told c.args.settings.setup)
