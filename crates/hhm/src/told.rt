@@ -42,7 +42,9 @@ pub fn run_told<
     let ((), outcome) = thread::join(
         rt,
         || tell_events(rt, &events),
-        || {
+        ||
+            requires { W.failure_count out.now + 1 < 2 ^ 64 }
+        {
             let outcome = run_server(rt, alloc, settings, out);
             if let Ok(Status { batches, total }) = outcome {
                 events.note(rt, Event::Stopped { batches, total });
