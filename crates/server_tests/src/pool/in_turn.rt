@@ -34,13 +34,12 @@ const WHOLE: Case = Case {
     accepted: (2, 8),
 };
 
-// The second Put is looked at once the first reply, of 21 bytes, was taken.
+// Both Puts came in one piece, so both were looked at before their replies were sent, together.
 fn failing_write(room: u64) -> Case {
     Case {
         fail_write: Some(room),
         ended: end_after(room),
         taken: room as usize,
-        accepted: if room <= 20 { (1, 5) } else { (2, 8) },
         ..WHOLE
     }
 }
