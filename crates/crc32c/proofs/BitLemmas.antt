@@ -94,7 +94,8 @@ after_bits-below r (bit ∷ bits) lt are =
 
 pub xor_none : (a b : ℕ) → bit_xor a b ≡ 0 → a ≡ b
 xor_none a b e =
-    sym (ap (bit_xor a) e ∙ xor_zero_r a) ∙ sym (xor_assoc a a b) ∙ ap (λ (n : ℕ). bit_xor n b) (xor_self a) ∙ xor_zero_l b
+    sym (ap (bit_xor a) e ∙ xor_zero_r a) ∙ sym (xor_assoc a a b) ∙ ap (λ (n : ℕ). bit_xor n b) (xor_self a)
+    ∙ xor_zero_l b
 
 none_reduced : (bit half : ℕ) → bit < 2 → half < 2 ^ 31 → reduced bit half ≡ 0 → (bit ≡ 0) × (half ≡ 0)
 none_reduced zero half one lt e = (refl, e)

@@ -250,7 +250,8 @@ divided r (b ∷ bits) lt are =
     first_bit b r n m lt
     ∙ ap (λ (l : List ℕ). c ∷ l) (
     sym (step c (r / 2) n m (omega arith))
-    ∙ ap (λ (y : ℕ). plus (scaled c (low_bits 32 generator ++ zeros n)) (plus m (low_bits 32 y ++ zeros n))) (sym next_is)
+    ∙ ap (λ (y : ℕ). plus (scaled c (low_bits 32 generator ++ zeros n)) (plus m (low_bits 32 y ++ zeros n)))
+    (sym next_is)
     ∙ ap (plus (scaled c (low_bits 32 generator ++ zeros n))) rest
     )
     ∙ sym (first_product c n q (zeros n ++ low_bits 32 (after_bits next bits)) (omega arith)
@@ -278,6 +279,7 @@ checksum_divided bytes fits =
         short = length-low_bits 32 (complement (checksum_of bytes));
         sum = ap (λ (l : List ℕ). plus (bits ++ zeros 32) (l ++ zeros (length bits))) (sym ones_are)
             ∙ divided all_ones bits (omega arith) (are_bits-of bytes)
-            ∙ ap (λ (n : ℕ). plus (times_generator (quotient_of all_ones bits)) (zeros (length bits) ++ low_bits 32 n)) back;
+            ∙ ap (λ (n : ℕ). plus (times_generator (quotient_of all_ones bits)) (zeros (length bits) ++ low_bits 32 n))
+            back;
       },
     )

@@ -22,8 +22,11 @@ xor_swap a b c d =
 reduced_xor : (c d g h : ℕ) → c < 2 → d < 2 → reduced (bit_xor c d) (bit_xor g h) ≡ bit_xor (reduced c g) (reduced d h)
 reduced_xor zero zero g h p q = refl
 reduced_xor zero (suc zero) g h p q = xor_assoc g h generator
-reduced_xor (suc zero) zero g h p q = xor_assoc g h generator ∙ ap (λ n. bit_xor g n) (xor_comm h generator) ∙ sym (xor_assoc g generator h)
-reduced_xor (suc zero) (suc zero) g h p q = sym (xor_swap g generator h generator ∙ ap (λ n. bit_xor (bit_xor g h) n) (xor_self generator) ∙ xor_zero_r (bit_xor g h))
+reduced_xor (suc zero) zero g h p q = xor_assoc g h generator ∙ ap (λ n. bit_xor g n) (xor_comm h generator)
+    ∙ sym (xor_assoc g generator h)
+reduced_xor (suc zero) (suc zero) g h p q =
+    sym (xor_swap g generator h generator ∙ ap (λ n. bit_xor (bit_xor g h) n) (xor_self generator)
+    ∙ xor_zero_r (bit_xor g h))
 reduced_xor (suc (suc c)) d g h p q = absurd (omega arith)
 reduced_xor zero (suc (suc d)) g h p q = absurd (omega arith)
 reduced_xor (suc zero) (suc (suc d)) g h p q = absurd (omega arith)
@@ -62,9 +65,11 @@ times_x_to-add (suc m) n r =
 -- a number is its lowest k bits and those above
 pub parted : (x k : ℕ) → x ≡ bit_xor (x % 2 ^ k) (x / 2 ^ k * 2 ^ k)
 parted x k =
-    let low : bit_xor (0 * 2 ^ k + x % 2 ^ k) (x / 2 ^ k * 2 ^ k + 0) ≡ bit_xor 0 (x / 2 ^ k) * 2 ^ k + bit_xor (x % 2 ^ k) 0
+    let low : bit_xor (0 * 2 ^ k + x % 2 ^ k) (x / 2 ^ k * 2 ^ k + 0) ≡ bit_xor 0 (x / 2 ^ k) * 2 ^ k + bit_xor
+    (x % 2 ^ k) 0
     = xor_block k 0 (x / 2 ^ k) (x % 2 ^ k) 0 (mod_below x (2 ^ k) (pow_pos k)) (pow_pos k) in
-    let zero_times : 0 * 2 ^ k + x % 2 ^ k ≡ x % 2 ^ k = ap (λ n. n + x % 2 ^ k) (zero-mul (2 ^ k)) ∙ zero-add (x % 2 ^ k) in
+    let zero_times : 0 * 2 ^ k + x % 2 ^ k ≡ x % 2 ^ k = ap (λ n. n + x % 2 ^ k) (zero-mul (2 ^ k))
+    ∙ zero-add (x % 2 ^ k) in
     let none : x / 2 ^ k * 2 ^ k + 0 ≡ x / 2 ^ k * 2 ^ k = omega arith in
     sym (shr_split x k) ∙ ap (λ n. x / 2 ^ k * 2 ^ k + n) (sym (xor_zero_r (x % 2 ^ k))) ∙ sym low
     ∙ ap (λ n. bit_xor n (x / 2 ^ k * 2 ^ k + 0)) zero_times ∙ ap (λ n. bit_xor (x % 2 ^ k) n) none
@@ -74,10 +79,13 @@ pub lowest_byte : (n x : ℕ) → times_x_to (8 + n) x ≡ bit_xor (times_x_to (
 lowest_byte n x =
     ap (times_x_to (8 + n)) (parted x 8)
     ∙ times_x_to-xor (8 + n) (x % 256) (x / 256 * 256)
-    ∙ ap (bit_xor (times_x_to (8 + n) (x % 256))) (times_x_to-add 8 n (x / 256 * 256) ∙ ap (times_x_to n) (times_x_to-shifted 8 (x / 256)))
+    ∙ ap (bit_xor (times_x_to (8 + n) (x % 256))) (times_x_to-add 8 n (x / 256 * 256)
+    ∙ ap (times_x_to n) (times_x_to-shifted 8 (x / 256)))
 
-with_lowest : (n x p q : ℕ) → p ≡ times_x_to (8 + n) (x % 256) → q ≡ times_x_to n (x / 256) → bit_xor p q ≡ times_x_to (8 + n) x
-with_lowest n x p q low high = ap (λ m. bit_xor m q) low ∙ ap (bit_xor (times_x_to (8 + n) (x % 256))) high ∙ sym (lowest_byte n x)
+with_lowest : (n x p q : ℕ) → p ≡ times_x_to (8 + n) (x % 256) → q ≡ times_x_to n (x / 256) →
+    bit_xor p q ≡ times_x_to (8 + n) x
+with_lowest n x p q low high = ap (λ m. bit_xor m q) low ∙ ap (bit_xor (times_x_to (8 + n) (x % 256))) high
+    ∙ sym (lowest_byte n x)
 
 -- one byte more
 pub byte_more : (x p : ℕ) → p ≡ times_x_to 8 (x % 256) → bit_xor p (x / 256) ≡ times_x_to 8 x
@@ -119,17 +127,23 @@ byte_below b m lt =
     split ∙ ap (λ n. bit_xor n ((b + m * 256) / 2 ^ 8 * 2 ^ 8)) low ∙ ap (λ n. bit_xor b (n * 2 ^ 8)) high
 
 -- a byte and what comes behind it, at once
-two_more : (n r b m : ℕ) → b < 256 → times_x_to n (bit_xor (times_x_to 8 (bit_xor r b)) m) ≡ times_x_to (8 + n) (bit_xor r (b + m * 256))
+two_more : (n r b m : ℕ) → b < 256 →
+    times_x_to n (bit_xor (times_x_to 8 (bit_xor r b)) m) ≡ times_x_to (8 + n) (bit_xor r (b + m * 256))
 two_more n r b m lt =
-    let whole : bit_xor r (b + m * 256) ≡ bit_xor (bit_xor r b) (m * 256) = ap (bit_xor r) (byte_below b m lt) ∙ sym (xor_assoc r b (m * 256)) in
+    let whole : bit_xor r (b + m * 256) ≡ bit_xor (bit_xor r b) (m * 256) = ap (bit_xor r) (byte_below b m lt)
+    ∙ sym (xor_assoc r b (m * 256)) in
     sym (
     ap (times_x_to (8 + n)) whole
     ∙ times_x_to-add 8 n (bit_xor (bit_xor r b) (m * 256))
-    ∙ ap (times_x_to n) (times_x_to-xor 8 (bit_xor r b) (m * 256) ∙ ap (bit_xor (times_x_to 8 (bit_xor r b))) (times_x_to-shifted 8 m))
+    ∙ ap (times_x_to n) (times_x_to-xor 8 (bit_xor r b) (m * 256)
+    ∙ ap (bit_xor (times_x_to 8 (bit_xor r b))) (times_x_to-shifted 8 m))
     )
 
-eight_more : (r a b c d e f g h : ℕ) (rest : List ℕ) → a < 256 → b < 256 → c < 256 → d < 256 → e < 256 → f < 256 → g < 256
-    → after_bytes r (a ∷ b ∷ c ∷ d ∷ e ∷ f ∷ g ∷ h ∷ rest) ≡ after_bytes (times_x_to 64 (bit_xor r (a + (b + (c + (d + (e + (f + (g + h * 256) * 256) * 256) * 256) * 256) * 256) * 256))) rest
+eight_more : (r a b c d e f g h : ℕ) (rest : List ℕ) → a < 256 → b < 256 → c < 256 → d < 256 → e < 256 → f < 256 →
+    g < 256
+    → after_bytes r (a ∷ b ∷ c ∷ d ∷ e ∷ f ∷ g ∷ h ∷ rest) ≡ after_bytes
+    (times_x_to 64 (bit_xor r (a + (b + (c + (d + (e + (f + (g + h * 256) * 256) * 256) * 256) * 256) * 256) *
+    256))) rest
 eight_more r a b c d e f g h rest la lb lc ld le lf lg =
     let r1 = times_x_to 8 (bit_xor r a) in
     let r2 = times_x_to 8 (bit_xor r1 b) in
@@ -148,10 +162,12 @@ eight_more r a b c d e f g h rest la lb lc ld le lf lg =
     )
 
 -- where the list begins with eight bytes, they are read as one number
-pub word_read : (r w : ℕ) (rest : List ℕ) → 8 ≤ length rest → ((i : ℕ) → get_or rest i 0 < 256) → w ≡ from_le_bytes w64 (take 8 rest)
+pub word_read : (r w : ℕ) (rest : List ℕ) → 8 ≤ length rest → ((i : ℕ) → get_or rest i 0 < 256) →
+    w ≡ from_le_bytes w64 (take 8 rest)
     → after_bytes (times_x_to 64 (bit_xor r w)) (drop 8 rest) ≡ after_bytes r rest
 word_read r w (a ∷ b ∷ c ∷ d ∷ e ∷ f ∷ g ∷ h ∷ rest) long fits is =
-    let horner : w ≡ a + (b + (c + (d + (e + (f + (g + h * 256) * 256) * 256) * 256) * 256) * 256) * 256 = omega (arith, is) in
+    let horner : w ≡ a + (b + (c + (d + (e + (f + (g + h * 256) * 256) * 256) * 256) * 256) * 256) * 256 =
+    omega (arith, is) in
     ap (λ n. after_bytes (times_x_to 64 (bit_xor r n)) rest) horner
     ∙ sym (eight_more r a b c d e f g h rest (fits 0) (fits 1) (fits 2) (fits 3) (fits 4) (fits 5) (fits 6))
 word_read r w [] long fits is = absurd (omega arith)

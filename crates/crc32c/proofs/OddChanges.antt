@@ -138,7 +138,8 @@ odd_found old new fits_old fits_new c e =
     ap (ones 32) (remainders_are old new fits_old fits_new e) in
     let len : length a ≡ length b = let x = length-bits_of old in let y = length-bits_of new in
     let z = c.same_length in omega arith in
-    apart (ones 32 (after_bits all_ones a)) (ones 32 (after_bits all_ones b)) (ones 32 all_ones) (set_bits a) (set_bits b)
+    apart (ones 32 (after_bits all_ones a)) (ones 32 (after_bits all_ones b)) (ones 32 all_ones) (set_bits a)
+    (set_bits b)
     (differing a b) (ones_after all_ones a (omega arith) (are_bits-of old))
     (ones_after all_ones b (omega arith) (are_bits-of new)) same
     (differing_sum a b (are_bits-of old) (are_bits-of new) len) c.odd

@@ -154,6 +154,7 @@ pair_found old new fits_old fits_new p e =
     ∙ ap (λ (n : ℕ). bit_xor n s3) same ∙ xor_self s3 in
     let gone : bit_xor (bit_xor r2 s2) 1 ≡ 0 =
     none_before_all 1 (bit_xor (bit_xor r2 s2) 1)
-    (xor_lt 32 (bit_xor r2 s2) 1 (xor_lt 32 r2 s2 r2_below s2_below) (omega arith)) (once (bit_xor (bit_xor r2 s2) 1) ∙ none) in
+    (xor_lt 32 (bit_xor r2 s2) 1 (xor_lt 32 r2 s2 r2_below s2_below) (omega arith)) (once (bit_xor (bit_xor r2 s2) 1)
+    ∙ none) in
     let few = p.near in
     from_first (length m) (omega arith) (sym far ∙ xor_none (bit_xor r2 s2) 1 gone)

@@ -24,51 +24,76 @@ pub blank_is_empty : kind_of blank_page ≡ Empty
 blank_is_empty = blank_kind blank_page (blank_list 4096)
 
 -- a page that is not whole, where it is allowed, leaves what is known of the block
-allowed_step : (place page pages : ℕ) (p : Page) (ps : List Page) → is_allowed (kind_of p) place page pages p ≡ true → could_be_torn place (page + 1) (known_pages (kind_of p) pages p) ps ≡ true → could_be_torn place page pages (p ∷ ps) ≡ true
+allowed_step : (place page pages : ℕ) (p : Page) (ps : List Page) → is_allowed (kind_of p) place page pages p ≡ true →
+    could_be_torn place (page + 1) (known_pages (kind_of p) pages p) ps ≡ true →
+    could_be_torn place page pages (p ∷ ps) ≡ true
 unfolding could_be_torn
 allowed_step place page pages p ps here later = and_from _ _ here later
 
-pub empty_step : (place page pages : ℕ) (p : Page) (ps : List Page) → kind_of p ≡ Empty → could_be_torn place (page + 1) pages ps ≡ true → could_be_torn place page pages (p ∷ ps) ≡ true
+pub empty_step : (place page pages : ℕ) (p : Page) (ps : List Page) → kind_of p ≡ Empty →
+    could_be_torn place (page + 1) pages ps ≡ true → could_be_torn place page pages (p ∷ ps) ≡ true
 empty_step place page pages p ps is later =
-    allowed_step place page pages p ps (ap (λ k. is_allowed k place page pages p) is) (ap (λ k. could_be_torn place (page + 1) (known_pages k pages p) ps) is ∙ later)
-
-short_step : (place page pages : ℕ) (p : Page) (ps : List Page) → kind_of p ≡ Short → (pages ≡ 0) ⊎ (page < pages) → could_be_torn place (page + 1) pages ps ≡ true → could_be_torn place page pages (p ∷ ps) ≡ true
-short_step place page pages p ps is room later =
-    allowed_step place page pages p ps
-    (ap (λ k. is_allowed k place page pages p) is ∙ ⊎_elim (λ none. or_left (pages == 0) (nat_lt page pages) (eq-eqb _ _ none)) (λ lt. or_right (pages == 0) (nat_lt page pages) (lt-ltb _ _ lt)) room)
+    allowed_step place page pages p ps (ap (λ k. is_allowed k place page pages p) is)
     (ap (λ k. could_be_torn place (page + 1) (known_pages k pages p) ps) is ∙ later)
 
-whole_step : (place page pages : ℕ) (p : Page) (ps : List Page) → kind_of p ≡ Whole → is_next place page pages p ≡ true → could_be_torn place (page + 1) (pages_field p) ps ≡ true → could_be_torn place page pages (p ∷ ps) ≡ true
-whole_step place page pages p ps is next later =
-    allowed_step place page pages p ps (ap (λ k. is_allowed k place page pages p) is ∙ next) (ap (λ k. could_be_torn place (page + 1) (known_pages k pages p) ps) is ∙ later)
+short_step : (place page pages : ℕ) (p : Page) (ps : List Page) → kind_of p ≡ Short → (pages ≡ 0) ⊎ (page < pages) →
+    could_be_torn place (page + 1) pages ps ≡ true → could_be_torn place page pages (p ∷ ps) ≡ true
+short_step place page pages p ps is room later =
+    allowed_step place page pages p ps
+    (ap (λ k. is_allowed k place page pages p) is
+    ∙ ⊎_elim (λ none. or_left (pages == 0) (nat_lt page pages) (eq-eqb _ _ none))
+    (λ lt. or_right (pages == 0) (nat_lt page pages) (lt-ltb _ _ lt)) room)
+    (ap (λ k. could_be_torn place (page + 1) (known_pages k pages p) ps) is ∙ later)
 
-pub whole_step_is : (place page pages : ℕ) (p : Page) (ps : List Page) → kind_of p ≡ Whole → is_next place page pages p ≡ true → could_be_torn place (page + 1) (pages_field p) ps ≡ true → could_be_torn place page pages (p ∷ ps) ≡ true
+whole_step : (place page pages : ℕ) (p : Page) (ps : List Page) → kind_of p ≡ Whole →
+    is_next place page pages p ≡ true → could_be_torn place (page + 1) (pages_field p) ps ≡ true →
+    could_be_torn place page pages (p ∷ ps) ≡ true
+whole_step place page pages p ps is next later =
+    allowed_step place page pages p ps (ap (λ k. is_allowed k place page pages p) is ∙ next)
+    (ap (λ k. could_be_torn place (page + 1) (known_pages k pages p) ps) is ∙ later)
+
+pub whole_step_is : (place page pages : ℕ) (p : Page) (ps : List Page) → kind_of p ≡ Whole →
+    is_next place page pages p ≡ true → could_be_torn place (page + 1) (pages_field p) ps ≡ true →
+    could_be_torn place page pages (p ∷ ps) ≡ true
 whole_step_is = whole_step
 
 pub blank_could_be_torn : (place page pages n : ℕ) → could_be_torn place page pages (replicate n blank_page) ≡ true
 unfolding could_be_torn
 blank_could_be_torn place page pages zero = refl
-blank_could_be_torn place page pages (suc n) = empty_step place page pages blank_page (replicate n blank_page) blank_is_empty (blank_could_be_torn place (page + 1) pages n)
+blank_could_be_torn place page pages (suc n) =
+    empty_step place page pages blank_page (replicate n blank_page) blank_is_empty
+    (blank_could_be_torn place (page + 1) pages n)
 
 -- ---- a block that lost bytes could be torn
 
-pub lost_could_be_torn : (place page pages known n : ℕ) (chunks : Block) (left : List Page) → place < 2 ^ 64 → pages < 2 ^ 32 → page + length chunks ≡ pages → AllByRecursion (λ chunk. length chunk ≡ 4072) chunks → (known ≡ 0) ⊎ (known ≡ pages)
-    → LostPages (pages_from place page pages chunks) left → could_be_torn place page known (left ++ replicate n blank_page) ≡ true
-lost_could_be_torn place page pages known n [] [] place_fits pages_fits count sizes which lost = blank_could_be_torn place page known n
+pub lost_could_be_torn : (place page pages known n : ℕ) (chunks : Block) (left : List Page) → place < 2 ^ 64 →
+    pages < 2 ^ 32 → page + length chunks ≡ pages → AllByRecursion (λ chunk. length chunk ≡ 4072) chunks →
+    (known ≡ 0) ⊎ (known ≡ pages)
+    → LostPages (pages_from place page pages chunks) left →
+    could_be_torn place page known (left ++ replicate n blank_page) ≡ true
+lost_could_be_torn place page pages known n [] [] place_fits pages_fits count sizes which lost =
+    blank_could_be_torn place page known n
 lost_could_be_torn place page pages known n [] (q ∷ left) place_fits pages_fits count sizes which lost = absurd lost
-lost_could_be_torn place page pages known n (chunk ∷ chunks) [] place_fits pages_fits count sizes which lost = absurd lost
+lost_could_be_torn place page pages known n (chunk ∷ chunks) [] place_fits pages_fits count sizes which lost =
+    absurd lost
 lost_could_be_torn place page pages known n (chunk ∷ chunks) (q ∷ left) place_fits pages_fits count sizes which lost =
     let within : page < pages = omega arith in
-    let fits : PageFits place page pages chunk = record { place_fits = place_fits; within = within; pages_fits = pages_fits; chunk_fits = sizes.0 } in
+    let fits : PageFits place page pages chunk =
+    record { place_fits = place_fits; within = within; pages_fits = pages_fits; chunk_fits = sizes.0 } in
     let p = page_of place page pages chunk in
     let more : page + 1 + length chunks ≡ pages = omega arith in
-    let later : (m : ℕ) → (m ≡ 0) ⊎ (m ≡ pages) → could_be_torn place (page + 1) m (left ++ replicate n blank_page) ≡ true =
-    λ m which'. lost_could_be_torn place (page + 1) pages m n chunks left place_fits pages_fits more sizes.1 which' lost.1 in
-    let room : (known ≡ 0) ⊎ (page < known) = ⊎_elim (λ none. inl none) (λ is. inr (subst (λ m. page < m) (sym is) within)) which in
+    let later : (m : ℕ) → (m ≡ 0) ⊎ (m ≡ pages) →
+    could_be_torn place (page + 1) m (left ++ replicate n blank_page) ≡ true =
+    λ m which'. lost_could_be_torn place (page + 1) pages m n chunks left place_fits pages_fits more sizes.1 which'
+    lost.1 in
+    let room : (known ≡ 0) ⊎ (page < known) =
+    ⊎_elim (λ none. inl none) (λ is. inr (subst (λ m. page < m) (sym is) within)) which in
     elim (losses p q (length-page_of place page pages chunk fits) lost.0 (is_whole_page place page pages chunk fits)) [
       | inl same ↦
           subst (λ (r : Page). could_be_torn place page known (r ∷ (left ++ replicate n blank_page)) ≡ true) (sym same)
-          (whole_step place page known p (left ++ replicate n blank_page) (is_whole_page place page pages chunk fits) (next_is place page pages chunk fits known which) (later (pages_field p) (inr (pages_field_is place page pages chunk fits))))
+          (whole_step place page known p (left ++ replicate n blank_page) (is_whole_page place page pages chunk fits)
+          (next_is place page pages chunk fits known which)
+          (later (pages_field p) (inr (pages_field_is place page pages chunk fits))))
       | inr (inl blank) ↦ empty_step place page known q (left ++ replicate n blank_page) blank (later known which)
       | inr (inr short) ↦ short_step place page known q (left ++ replicate n blank_page) short room (later known which)
     ]
@@ -76,23 +101,31 @@ lost_could_be_torn place page pages known n (chunk ∷ chunks) (q ∷ left) plac
 -- ---- reading
 
 -- a page that is not whole ends what is read, where it and the pages behind it could be a block in the making
-pub torn_end : (place from known : ℕ) (made : Block) (p : Page) (ps : List Page) → is_whole (kind_of p) ≡ false → could_be_torn place (length made) known (p ∷ ps) ≡ true → read_from place from made known (p ∷ ps) ≡ Ok []
+pub torn_end : (place from known : ℕ) (made : Block) (p : Page) (ps : List Page) → is_whole (kind_of p) ≡ false →
+    could_be_torn place (length made) known (p ∷ ps) ≡ true → read_from place from made known (p ∷ ps) ≡ Ok []
 unfolding read_from
 torn_end place from known made p ps other torn =
-    cond-false (is_whole (kind_of p) && is_next place (length made) known p) _ _ (and_left (is_whole (kind_of p)) (is_next place (length made) known p) other)
-    ∙ cond-true (could_be_torn place (length made) known (p ∷ ps)) (Ok []) (Err (fault_at Damaged (from + damaged_at place (length made) known (p ∷ ps)))) torn
+    cond-false (is_whole (kind_of p) && is_next place (length made) known p) _ _
+    (and_left (is_whole (kind_of p)) (is_next place (length made) known p) other)
+    ∙ cond-true (could_be_torn place (length made) known (p ∷ ps)) (Ok [])
+    (Err (fault_at Damaged (from + damaged_at place (length made) known (p ∷ ps)))) torn
 
 -- what is read of a block whose pages are whole, and of these pages behind it
 abbrev pub read_whole : ℕ → ℕ → Block → List Page → Result (List Block) LogFault
-read_whole place from block rest = with_whole from block (read_from (place + batches_in block) (from + length block) [] 0 rest)
+read_whole place from block rest =
+    with_whole from block (read_from (place + batches_in block) (from + length block) [] 0 rest)
 
-pub next_page : (place from known : ℕ) (made : Block) (p : Page) (ps : List Page) → (is_whole (kind_of p) && is_next place (length made) known p) ≡ true
-    → read_from place from made known (p ∷ ps) ≡ cond (length made + 1 == pages_field p) (read_whole place from (made ++ chunk_field p ∷ []) ps) (read_from place from (made ++ chunk_field p ∷ []) (pages_field p) ps)
+pub next_page : (place from known : ℕ) (made : Block) (p : Page) (ps : List Page) →
+    (is_whole (kind_of p) && is_next place (length made) known p) ≡ true
+    → read_from place from made known (p ∷ ps) ≡ cond (length made + 1 == pages_field p)
+    (read_whole place from (made ++ chunk_field p ∷ []) ps)
+    (read_from place from (made ++ chunk_field p ∷ []) (pages_field p) ps)
 unfolding read_from
 next_page place from known made p ps next =
     cond-true (is_whole (kind_of p) && is_next place (length made) known p) _ _ next
 
-pub other_page : (place from known : ℕ) (made : Block) (p : Page) (ps : List Page) → (is_whole (kind_of p) && is_next place (length made) known p) ≡ false
+pub other_page : (place from known : ℕ) (made : Block) (p : Page) (ps : List Page) →
+    (is_whole (kind_of p) && is_next place (length made) known p) ≡ false
     → read_from place from made known (p ∷ ps) ≡ ended place from (length made) known (p ∷ ps)
 unfolding read_from
 other_page place from known made p ps other =
@@ -102,23 +135,31 @@ pub none_read : (place from known : ℕ) (made : Block) → read_from place from
 unfolding read_from
 none_read place from known made = refl
 
-pub blank_read : (place from known n : ℕ) (made : Block) → read_from place from made known (replicate n blank_page) ≡ Ok []
+pub blank_read : (place from known n : ℕ) (made : Block) →
+    read_from place from made known (replicate n blank_page) ≡ Ok []
 unfolding read_from
 blank_read place from known zero made = refl
 blank_read place from known (suc n) made =
-    torn_end place from known made blank_page (replicate n blank_page) (ap is_whole blank_is_empty) (blank_could_be_torn place (length made) known (suc n))
+    torn_end place from known made blank_page (replicate n blank_page) (ap is_whole blank_is_empty)
+    (blank_could_be_torn place (length made) known (suc n))
 
 module _ (place from pages : ℕ) (place_fits : place < 2 ^ 64) (pages_fits : pages < 2 ^ 32) where
-  whole_next : (known : ℕ) (made : Block) (chunk : List ℕ) → (fits : PageFits place (length made) pages chunk) → (known ≡ 0) ⊎ (known ≡ pages)
-      → (is_whole (kind_of (page_of place (length made) pages chunk)) && is_next place (length made) known (page_of place (length made) pages chunk)) ≡ true
+  whole_next : (known : ℕ) (made : Block) (chunk : List ℕ) → (fits : PageFits place (length made) pages chunk) →
+      (known ≡ 0) ⊎ (known ≡ pages)
+      → (is_whole (kind_of (page_of place (length made) pages chunk)) && is_next place (length made) known
+      (page_of place (length made) pages chunk)) ≡ true
   whole_next known made chunk fits which =
-      and_from _ _ (ap is_whole (is_whole_page place (length made) pages chunk fits)) (next_is place (length made) pages chunk fits known which)
+      and_from _ _ (ap is_whole (is_whole_page place (length made) pages chunk fits))
+      (next_is place (length made) pages chunk fits known which)
 
   -- the last page of a block
-  last_page : (known : ℕ) (made : Block) (chunk : List ℕ) (rest : List Page) → length made + 1 ≡ pages → length chunk ≡ 4072 → (known ≡ 0) ⊎ (known ≡ pages)
-      → read_from place from made known (page_of place (length made) pages chunk ∷ rest) ≡ read_whole place from (made ++ chunk ∷ []) rest
+  last_page : (known : ℕ) (made : Block) (chunk : List ℕ) (rest : List Page) → length made + 1 ≡ pages →
+      length chunk ≡ 4072 → (known ≡ 0) ⊎ (known ≡ pages)
+      → read_from place from made known (page_of place (length made) pages chunk ∷ rest) ≡ read_whole place from
+      (made ++ chunk ∷ []) rest
   last_page known made chunk rest count size which =
-      let fits : PageFits place (length made) pages chunk = record { place_fits = place_fits; within = omega arith; pages_fits = pages_fits; chunk_fits = size } in
+      let fits : PageFits place (length made) pages chunk =
+      record { place_fits = place_fits; within = omega arith; pages_fits = pages_fits; chunk_fits = size } in
       let p = page_of place (length made) pages chunk in
       let all : length made + 1 ≡ pages_field p = count ∙ sym (pages_field_is place (length made) pages chunk fits) in
       next_page place from known made p rest (whole_next known made chunk fits which)
@@ -126,63 +167,87 @@ module _ (place from pages : ℕ) (place_fits : place < 2 ^ 64) (pages_fits : pa
       ∙ ap (λ c. read_whole place from (made ++ c ∷ []) rest) (chunk_field_is place (length made) pages chunk fits)
 
   -- a page that others of the block follow
-  inner_page : (known : ℕ) (made : Block) (chunk : List ℕ) (rest : List Page) → length made + 1 < pages → length chunk ≡ 4072 → (known ≡ 0) ⊎ (known ≡ pages)
-      → read_from place from made known (page_of place (length made) pages chunk ∷ rest) ≡ read_from place from (made ++ chunk ∷ []) pages rest
+  inner_page : (known : ℕ) (made : Block) (chunk : List ℕ) (rest : List Page) → length made + 1 < pages →
+      length chunk ≡ 4072 → (known ≡ 0) ⊎ (known ≡ pages)
+      → read_from place from made known (page_of place (length made) pages chunk ∷ rest) ≡ read_from place from
+      (made ++ chunk ∷ []) pages rest
   inner_page known made chunk rest more size which =
-      let fits : PageFits place (length made) pages chunk = record { place_fits = place_fits; within = omega arith; pages_fits = pages_fits; chunk_fits = size } in
+      let fits : PageFits place (length made) pages chunk =
+      record { place_fits = place_fits; within = omega arith; pages_fits = pages_fits; chunk_fits = size } in
       let p = page_of place (length made) pages chunk in
       let field = pages_field_is place (length made) pages chunk fits in
       let not_all : length made + 1 ≢ pages_field p = λ is. omega arith in
       next_page place from known made p rest (whole_next known made chunk fits which)
       ∙ cond-false (length made + 1 == pages_field p) _ _ (ne_eqb _ _ not_all)
-      ∙ ap (λ c. read_from place from (made ++ c ∷ []) (pages_field p) rest) (chunk_field_is place (length made) pages chunk fits)
+      ∙ ap (λ c. read_from place from (made ++ c ∷ []) (pages_field p) rest)
+      (chunk_field_is place (length made) pages chunk fits)
       ∙ ap (λ n. read_from place from (made ++ chunk ∷ []) n rest) field
 
   -- what is read of the rest of a block, and of what stands behind it
-  pub whole_read : (known : ℕ) (made : Block) (chunk : List ℕ) (chunks : Block) (rest : List Page) → length made + suc (length chunks) ≡ pages → length chunk ≡ 4072 → AllByRecursion (λ c. length c ≡ 4072) chunks → (known ≡ 0) ⊎ (known ≡ pages)
-      → read_from place from made known (pages_from place (length made) pages (chunk ∷ chunks) ++ rest) ≡ read_whole place from (made ++ chunk ∷ chunks) rest
+  pub whole_read : (known : ℕ) (made : Block) (chunk : List ℕ) (chunks : Block) (rest : List Page) →
+      length made + suc (length chunks) ≡ pages → length chunk ≡ 4072 → AllByRecursion (λ c. length c ≡ 4072) chunks →
+      (known ≡ 0) ⊎ (known ≡ pages)
+      → read_from place from made known (pages_from place (length made) pages (chunk ∷ chunks) ++ rest) ≡ read_whole
+      place from (made ++ chunk ∷ chunks) rest
   whole_read known made chunk [] rest count size sizes which = last_page known made chunk rest (omega arith) size which
   whole_read known made chunk (c ∷ chunks) rest count size sizes which =
       let longer : length (made ++ chunk ∷ []) ≡ length made + 1 = length_push made chunk in
       let later = whole_read pages (made ++ chunk ∷ []) c chunks rest (omega arith) sizes.0 sizes.1 (inr refl) in
-      inner_page known made chunk (pages_from place (length made + 1) pages (c ∷ chunks) ++ rest) (omega arith) size which
-      ∙ ap (λ n. read_from place from (made ++ chunk ∷ []) pages (pages_from place n pages (c ∷ chunks) ++ rest)) (sym longer)
+      inner_page known made chunk (pages_from place (length made + 1) pages (c ∷ chunks) ++ rest) (omega arith) size
+      which
+      ∙ ap (λ n. read_from place from (made ++ chunk ∷ []) pages (pages_from place n pages (c ∷ chunks) ++ rest))
+      (sym longer)
       ∙ later
       ∙ ap (λ (b : Block). read_whole place from b rest) (append_assoc made (chunk ∷ []) (c ∷ chunks))
 
   -- where bytes of the rest of a block are lost, it is not read, or none are lost
-  pub torn_read : (known n : ℕ) (made : Block) (chunk : List ℕ) (chunks : Block) (left : List Page) → length made + suc (length chunks) ≡ pages → length chunk ≡ 4072 → AllByRecursion (λ c. length c ≡ 4072) chunks → (known ≡ 0) ⊎ (known ≡ pages)
+  pub torn_read : (known n : ℕ) (made : Block) (chunk : List ℕ) (chunks : Block) (left : List Page) →
+      length made + suc (length chunks) ≡ pages → length chunk ≡ 4072 → AllByRecursion (λ c. length c ≡ 4072) chunks →
+      (known ≡ 0) ⊎ (known ≡ pages)
       → LostPages (pages_from place (length made) pages (chunk ∷ chunks)) left
-      → (left ≡ pages_from place (length made) pages (chunk ∷ chunks)) ⊎ (read_from place from made known (left ++ replicate n blank_page) ≡ Ok [])
+      → (left ≡ pages_from place (length made) pages (chunk ∷ chunks)) ⊎
+      (read_from place from made known (left ++ replicate n blank_page) ≡ Ok [])
   torn_read known n made chunk chunks [] count size sizes which lost = absurd lost
   torn_read known n made chunk [] (q ∷ r ∷ left) count size sizes which lost = absurd lost.1
   torn_read known n made chunk [] (q ∷ []) count size sizes which lost =
-      let fits : PageFits place (length made) pages chunk = record { place_fits = place_fits; within = omega arith; pages_fits = pages_fits; chunk_fits = size } in
+      let fits : PageFits place (length made) pages chunk =
+      record { place_fits = place_fits; within = omega arith; pages_fits = pages_fits; chunk_fits = size } in
       let p = page_of place (length made) pages chunk in
       let torn : could_be_torn place (length made) known (q ∷ replicate n blank_page) ≡ true =
-      lost_could_be_torn place (length made) pages known n (chunk ∷ []) (q ∷ []) place_fits pages_fits count (size, sizes) which lost in
-      elim (losses p q (length-page_of place (length made) pages chunk fits) lost.0 (is_whole_page place (length made) pages chunk fits)) [
+      lost_could_be_torn place (length made) pages known n (chunk ∷ []) (q ∷ []) place_fits pages_fits count (
+        size,
+        sizes,
+      ) which lost in
+      elim (losses p q (length-page_of place (length made) pages chunk fits) lost.0
+      (is_whole_page place (length made) pages chunk fits)) [
         | inl same ↦ inl (ap (λ (r : Page). r ∷ []) same)
         | inr (inl blank) ↦ inr (torn_end place from known made q (replicate n blank_page) (ap is_whole blank) torn)
         | inr (inr short) ↦ inr (torn_end place from known made q (replicate n blank_page) (ap is_whole short) torn)
       ]
   torn_read known n made chunk (c ∷ chunks) (q ∷ left) count size sizes which lost =
-      let fits : PageFits place (length made) pages chunk = record { place_fits = place_fits; within = omega arith; pages_fits = pages_fits; chunk_fits = size } in
+      let fits : PageFits place (length made) pages chunk =
+      record { place_fits = place_fits; within = omega arith; pages_fits = pages_fits; chunk_fits = size } in
       let p = page_of place (length made) pages chunk in
       let rest = left ++ replicate n blank_page in
       let torn : could_be_torn place (length made) known (q ∷ rest) ≡ true =
-      lost_could_be_torn place (length made) pages known n (chunk ∷ c ∷ chunks) (q ∷ left) place_fits pages_fits count (size, sizes) which lost in
+      lost_could_be_torn place (length made) pages known n (chunk ∷ c ∷ chunks) (q ∷ left) place_fits pages_fits count
+      (size, sizes) which lost in
       let longer : length (made ++ chunk ∷ []) ≡ length made + 1 = length_push made chunk in
       let lost' = subst (λ m. LostPages (pages_from place m pages (c ∷ chunks)) left) (sym longer) lost.1 in
       let later = torn_read pages n (made ++ chunk ∷ []) c chunks left (omega arith) sizes.0 sizes.1 (inr refl) lost' in
-      elim (losses p q (length-page_of place (length made) pages chunk fits) lost.0 (is_whole_page place (length made) pages chunk fits)) [
+      elim (losses p q (length-page_of place (length made) pages chunk fits) lost.0
+      (is_whole_page place (length made) pages chunk fits)) [
         | inl same ↦
-            let here : read_from place from made known (q ∷ rest) ≡ read_from place from (made ++ chunk ∷ []) pages rest =
-            ap (λ (r : Page). read_from place from made known (r ∷ rest)) same ∙ inner_page known made chunk rest (omega arith) size which in
+            let here : read_from place from made known (q ∷ rest) ≡ read_from place from (made ++ chunk ∷ []) pages rest
+            =
+            ap (λ (r : Page). read_from place from made known (r ∷ rest)) same
+            ∙ inner_page known made chunk rest (omega arith) size which in
             ⊎_elim
             (λ whole.
-            let whole' : left ≡ pages_from place (length made + 1) pages (c ∷ chunks) = whole ∙ ap (λ m. pages_from place m pages (c ∷ chunks)) longer in
-            inl (ap (λ (r : Page). r ∷ left) same ∙ ap (λ (l : List Page). page_of place (length made) pages chunk ∷ l) whole'))
+            let whole' : left ≡ pages_from place (length made + 1) pages (c ∷ chunks) =
+            whole ∙ ap (λ m. pages_from place m pages (c ∷ chunks)) longer in
+            inl (ap (λ (r : Page). r ∷ left) same
+            ∙ ap (λ (l : List Page). page_of place (length made) pages chunk ∷ l) whole'))
             (λ none. inr (here ∙ none))
             later
         | inr (inl blank) ↦ inr (torn_end place from known made q rest (ap is_whole blank) torn)
@@ -199,28 +264,35 @@ pub with_blocks_err : (blocks : List Block) (fault : LogFault) → with_blocks b
 with_blocks_err [] fault = refl
 with_blocks_err (block ∷ blocks) fault = ap (with_block block) (with_blocks_err blocks fault)
 
-pub block_read : (place from : ℕ) (block : Block) (rest : List Page) → place < 2 ^ 64 → FillsPages block → read_from place from [] 0 (block_pages place block ++ rest) ≡ read_whole place from block rest
+pub block_read : (place from : ℕ) (block : Block) (rest : List Page) → place < 2 ^ 64 → FillsPages block →
+    read_from place from [] 0 (block_pages place block ++ rest) ≡ read_whole place from block rest
 block_read place from [] rest place_fits is = absurd (omega (arith, is.some))
 block_read place from (chunk ∷ chunks) rest place_fits is =
-    whole_read place from (suc (length chunks)) place_fits is.few 0 [] chunk chunks rest (omega arith) is.each.0 is.each.1 (inl refl)
+    whole_read place from (suc (length chunks)) place_fits is.few 0 [] chunk chunks rest (omega arith) is.each.0
+    is.each.1 (inl refl)
 
 -- a place is no higher than that behind the blocks from it on
 pub place-le : (place : ℕ) (blocks : List Block) → place ≤ place_behind place blocks
 place-le place [] = omega arith
 place-le place (block ∷ blocks) = omega (arith, place-le (place + batches_in block) blocks)
 
-pub length-pages_from : (place page pages : ℕ) (chunks : Block) → length (pages_from place page pages chunks) ≡ length chunks
+pub length-pages_from : (place page pages : ℕ) (chunks : Block) →
+    length (pages_from place page pages chunks) ≡ length chunks
 length-pages_from place page pages [] = refl
 length-pages_from place page pages (chunk ∷ chunks) = omega (arith, length-pages_from place (page + 1) pages chunks)
 
-pub log_read : (place from : ℕ) (blocks : List Block) (rest : List Page) → place_behind place blocks < 2 ^ 64 → AllByRecursion IsBlock blocks
-    → read_from place from [] 0 (log_pages place blocks ++ rest) ≡ with_blocks blocks (read_from (place_behind place blocks) (from + length (log_pages place blocks)) [] 0 rest)
-log_read place from [] rest fits are = let same : from ≡ from + 0 = omega arith in ap (λ n. read_from place n [] 0 rest) same
+pub log_read : (place from : ℕ) (blocks : List Block) (rest : List Page) → place_behind place blocks < 2 ^ 64 →
+    AllByRecursion IsBlock blocks
+    → read_from place from [] 0 (log_pages place blocks ++ rest) ≡ with_blocks blocks
+    (read_from (place_behind place blocks) (from + length (log_pages place blocks)) [] 0 rest)
+log_read place from [] rest fits are =
+    let same : from ≡ from + 0 = omega arith in ap (λ n. read_from place n [] 0 rest) same
 log_read place from (block ∷ blocks) rest fits are =
     let behind = place + batches_in block in
     let later = log_pages behind blocks in
     let pages : length (block_pages place block) ≡ length block = length-pages_from place 0 (length block) block in
-    let moved : from + length block + length later ≡ from + length (block_pages place block ++ later) = omega (arith, length-append (block_pages place block) later) in
+    let moved : from + length block + length later ≡ from + length (block_pages place block ++ later) =
+    omega (arith, length-append (block_pages place block) later) in
     ap (read_from place from [] 0) (append_assoc (block_pages place block) later rest)
     ∙ block_read place from block (later ++ rest) (omega (arith, place-le behind blocks)) are.0.fills
     ∙ cond-true (is_sound block) _ _ are.0.sound
@@ -228,27 +300,35 @@ log_read place from (block ∷ blocks) rest fits are =
     ∙ ap (λ n. with_block block (with_blocks blocks (read_from (place_behind behind blocks) n [] 0 rest))) moved
 
 -- the blocks, with the new one or without it
-pub torn_log_read : (first : ℕ) (blocks : List Block) (new : Block) (left : List Page) (n : ℕ) → place_behind first blocks < 2 ^ 64 → AllByRecursion IsBlock blocks → IsBlock new → LostPages (block_pages (place_behind first blocks) new) left
-    → (read_pages first (log_pages first blocks ++ (left ++ replicate n blank_page)) ≡ Ok blocks) ⊎ ((left ≡ block_pages (place_behind first blocks) new) × (read_pages first (log_pages first blocks ++ (left ++ replicate n blank_page)) ≡ Ok (blocks ++ new ∷ [])))
+pub torn_log_read : (first : ℕ) (blocks : List Block) (new : Block) (left : List Page) (n : ℕ) →
+    place_behind first blocks < 2 ^ 64 → AllByRecursion IsBlock blocks → IsBlock new →
+    LostPages (block_pages (place_behind first blocks) new) left
+    → (read_pages first (log_pages first blocks ++ (left ++ replicate n blank_page)) ≡ Ok blocks) ⊎
+    ((left ≡ block_pages (place_behind first blocks) new) ×
+    (read_pages first (log_pages first blocks ++ (left ++ replicate n blank_page)) ≡ Ok (blocks ++ new ∷ [])))
 torn_log_read first blocks [] left n fits are is lost = absurd (omega (arith, is.fills.some))
 torn_log_read first blocks (chunk ∷ chunks) left n fits are is lost =
     let rest = left ++ replicate n blank_page in
     let place = place_behind first blocks in
     let from = 1 + length (log_pages first blocks) in
-    let start : read_pages first (log_pages first blocks ++ rest) ≡ with_blocks blocks (read_from place from [] 0 rest) = log_read first 1 blocks rest fits are in
-    elim (torn_read place from (suc (length chunks)) fits is.fills.few 0 n [] chunk chunks left (omega arith) is.fills.each.0 is.fills.each.1 (inl refl) lost) [
+    let start : read_pages first (log_pages first blocks ++ rest) ≡ with_blocks blocks (read_from place from [] 0 rest)
+    = log_read first 1 blocks rest fits are in
+    elim (torn_read place from (suc (length chunks)) fits is.fills.few 0 n [] chunk chunks left (omega arith)
+    is.fills.each.0 is.fills.each.1 (inl refl) lost) [
       | inr none ↦ inl (start ∙ ap (with_blocks blocks) none ∙ with_blocks_ok blocks [] ∙ ap Ok (append-nil blocks))
       | inl whole ↦
           let read : read_from place from [] 0 rest ≡ Ok ((chunk ∷ chunks) ∷ []) =
           ap (λ (l : List Page). read_from place from [] 0 (l ++ replicate n blank_page)) whole
           ∙ block_read place from (chunk ∷ chunks) (replicate n blank_page) fits is.fills
           ∙ cond-true (is_sound (chunk ∷ chunks)) _ _ is.sound
-          ∙ ap (with_block (chunk ∷ chunks)) (blank_read (place + batches_in (chunk ∷ chunks)) (from + length (chunk ∷ chunks)) 0 n []) in
+          ∙ ap (with_block (chunk ∷ chunks))
+          (blank_read (place + batches_in (chunk ∷ chunks)) (from + length (chunk ∷ chunks)) 0 n []) in
           inr (whole, start ∙ ap (with_blocks blocks) read ∙ with_blocks_ok blocks ((chunk ∷ chunks) ∷ []))
     ]
 
 -- a log with nothing behind it but blank pages
-pub settled_log_read : (first : ℕ) (blocks : List Block) (n : ℕ) → place_behind first blocks < 2 ^ 64 → AllByRecursion IsBlock blocks → read_pages first (log_pages first blocks ++ replicate n blank_page) ≡ Ok blocks
+pub settled_log_read : (first : ℕ) (blocks : List Block) (n : ℕ) → place_behind first blocks < 2 ^ 64 →
+    AllByRecursion IsBlock blocks → read_pages first (log_pages first blocks ++ replicate n blank_page) ≡ Ok blocks
 settled_log_read first blocks n fits are =
     log_read first 1 blocks (replicate n blank_page) fits are
     ∙ ap (with_blocks blocks) (blank_read (place_behind first blocks) (1 + length (log_pages first blocks)) 0 n [])

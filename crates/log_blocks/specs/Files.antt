@@ -41,7 +41,9 @@ next_bytes first blocks block = joined (block_pages (place_behind first blocks) 
 
 -- The file was that one, and some bytes of these, which were written from this place on, stand in it.
 abbrev pub Mixed : ℕ → List ℕ → List ℕ → List ℕ → Type 0
-Mixed at bytes old new = (i : ℕ) → (slice_index new i ≡ slice_index old i) ⊎ ((j : ℕ) × (j < length bytes) × (i ≡ at + j) × (slice_index new i ≡ slice_index bytes j))
+Mixed at bytes old new = (i : ℕ) →
+    (slice_index new i ≡ slice_index old i) ⊎
+    ((j : ℕ) × (j < length bytes) × (i ≡ at + j) × (slice_index new i ≡ slice_index bytes j))
 
 -- a log of these blocks, and of the next one as much as a loss of power may have left
 abbrev pub MayHold : ℕ → List Block → Block → List ℕ → Type 0

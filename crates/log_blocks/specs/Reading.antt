@@ -81,7 +81,8 @@ abbrev pub with_blocks : List Block → Result (List Block) LogFault → Result 
 with_blocks [] read = read
 with_blocks (block ∷ blocks) read = with_block block (with_blocks blocks read)
 
--- The pages hold these blocks and no other, where the first of them has this place: behind their pages stands what could
+-- The pages hold these blocks and no other, where the first of them has this place: behind their pages stands what
+-- could
 -- be a block in the making, of which a page at least is missing or lost bytes.
 pub record Reads (first : ℕ) (pages : List Page) (blocks : List Block) : Type 0 where
   pub rest : List Page
@@ -103,7 +104,8 @@ pub record IsDamaged (first from : ℕ) (pages : List Page) (number : ℕ) : Typ
   pub read : Reads first front blocks
   pub refused : could_be_torn (place_behind first blocks) 0 0 (read.rest ++ page ∷ []) ≡ false
 
--- From this page on stand all pages of a block behind those of a log, and the block can't have the batches that it says.
+-- From this page on stand all pages of a block behind those of a log, and the block can't have the batches that it
+-- says.
 pub record IsBadBlock (first from : ℕ) (pages : List Page) (number : ℕ) : Type 0 where
   pub blocks : List Block
   pub block : Block

@@ -28,7 +28,8 @@ goes_on s made rest =
 abbrev pub is_next_whole : BlockScan → PageKind → Page → Bool
 is_next_whole s kind p = not s.torn && is_whole kind && is_next s.place s.made s.pages p
 
--- The scan of a log whose first batch has this place has taken these pages: they are the pages of these blocks, those of
+-- The scan of a log whose first batch has this place has taken these pages: they are the pages of these blocks, those
+-- of
 -- these chunks of the next one, and, once it is torn, others of it.
 pub record HasTaken (first : ℕ) (s : BlockScan) (blocks : List Block) (made : Block) (taken : List Page) : Type 0 where
   pub reads : (rest : List Page) → read_pages first (taken ++ rest) ≡ with_blocks blocks (goes_on s made rest)

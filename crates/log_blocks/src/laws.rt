@@ -30,8 +30,8 @@ pub fn logs_are_read()
         place_behind first blocks < 2 ^ 64 → Reads first pages blocks → read_pages first pages ≡ Ok blocks }
 {}
 
-/// A fault is that of the first page with which the pages are no longer those of a log, or of the first page of the first
-/// block that can't have its batches.
+/// A fault is that of the first page with which the pages are no longer those of a log, or of the first page of the
+/// first block that can't have its batches.
 pub fn faults_are_first()
     ensures { (first : ℕ) (pages : List Page) (fault : LogFault) → ArePages pages →
         read_pages first pages ≡ Err fault → HasFault first 1 pages fault }

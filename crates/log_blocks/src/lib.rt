@@ -1,8 +1,8 @@
 //! Blocks of a log, and what is read of its pages.
 //!
-//! A log is a head page and blocks, each of which begins on a page of its own. What follows the last block may be a block
-//! in the making, which a loss of power left in part; it is told from damage, and cut off. Each other page that isn't as
-//! it was written is a fault, with its number.
+//! A log is a head page and blocks, each of which begins on a page of its own. What follows the last block may be a
+//! block in the making, which a loss of power left in part; it is told from damage, and cut off. Each other page that
+//! isn't as it was written is a fault, with its number.
 #![tactic(auto)]
 
 mod fault;

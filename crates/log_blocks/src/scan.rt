@@ -153,7 +153,8 @@ impl BlockScan {
         ensures pages { OnOk result (self.new.page + self.new.made ≡ self.old.page + self.old.made + 1) }
         ensures ok { IfOk result (λ step. (first : ℕ) (blocks : List Block) (made : Block) (taken : List Page) →
             HasTaken first self.old blocks made taken →
-            HasTaken first self.new (blocks_after step blocks made page.now) (made_after step made page.now) (taken ++ page.now ∷ [])) }
+            HasTaken first self.new (blocks_after step blocks made page.now) (made_after step made page.now)
+            (taken ++ page.now ∷ [])) }
         ensures err { IfErr result (λ fault. (first : ℕ) (blocks : List Block) (made : Block) (taken rest : List Page) →
             HasTaken first self.old blocks made taken → read_pages first (taken ++ page.now ∷ rest) ≡ Err fault) }
     {
@@ -191,7 +192,8 @@ impl BlockScan {
         ensures pages { OnOk result (self.new.page + self.new.made ≡ self.old.page + self.old.made + 1) }
         ensures ok { IfOk result (λ step. (first : ℕ) (blocks : List Block) (made : Block) (taken : List Page) →
             HasTaken first self.old blocks made taken →
-            HasTaken first self.new (blocks_after step blocks made page.now) (made_after step made page.now) (taken ++ page.now ∷ [])) }
+            HasTaken first self.new (blocks_after step blocks made page.now) (made_after step made page.now)
+            (taken ++ page.now ∷ [])) }
         ensures err { IfErr result (λ fault. (first : ℕ) (blocks : List Block) (made : Block) (taken rest : List Page) →
             HasTaken first self.old blocks made taken → read_pages first (taken ++ page.now ∷ rest) ≡ Err fault) }
     {
@@ -232,7 +234,8 @@ impl BlockScan {
         ensures pages { OnOk result (self.new.page + self.new.made ≡ self.old.page + self.old.made + 1) }
         ensures ok { IfOk result (λ step. (first : ℕ) (blocks : List Block) (made : Block) (taken : List Page) →
             HasTaken first self.old blocks made taken →
-            HasTaken first self.new (blocks_after step blocks made page.now) (made_after step made page.now) (taken ++ page.now ∷ [])) }
+            HasTaken first self.new (blocks_after step blocks made page.now) (made_after step made page.now)
+            (taken ++ page.now ∷ [])) }
         ensures err { IfErr result (λ fault. (first : ℕ) (blocks : List Block) (made : Block) (taken rest : List Page) →
             HasTaken first self.old blocks made taken → read_pages first (taken ++ page.now ∷ rest) ≡ Err fault) }
     {

@@ -19,11 +19,13 @@ pub record PageFits (place page pages : ℕ) (chunk : List ℕ) : Type 0 where
 same_front : (a b c d : ℕ) (rest : List ℕ) → is_same_check (a ∷ b ∷ c ∷ d ∷ rest) (a ∷ b ∷ c ∷ d ∷ []) ≡ true
 same_front a b c d rest =
     and_from ((a == a) && (b == b) && (c == c)) (d == d)
-    (and_from ((a == a) && (b == b)) (c == c) (and_from (a == a) (b == b) (eq-eqb a a refl) (eq-eqb b b refl)) (eq-eqb c c refl))
+    (and_from ((a == a) && (b == b)) (c == c) (and_from (a == a) (b == b) (eq-eqb a a refl) (eq-eqb b b refl))
+    (eq-eqb c c refl))
     (eq-eqb d d refl)
 
 next_parts : (a b c d e : Bool) → a ≡ true → b ≡ true → c ≡ true → d ≡ true → e ≡ true → (a && b && c && d && e) ≡ true
-next_parts a b c d e pa pb pc pd pe = and_from (a && b && c && d) e (and_from (a && b && c) d (and_from (a && b) c (and_from a b pa pb) pc) pd) pe
+next_parts a b c d e pa pb pc pd pe =
+    and_from (a && b && c && d) e (and_from (a && b && c) d (and_from (a && b) c (and_from a b pa pb) pc) pd) pe
 
 module _ (place page pages : ℕ) (chunk : List ℕ) (fits : PageFits place page pages chunk) where
   body : List ℕ
@@ -75,13 +77,17 @@ module _ (place page pages : ℕ) (chunk : List ℕ) (fits : PageFits place page
   is_whole_page =
       let p = page_of place page pages chunk in
       let same = told_is in
-      by_its_check p (told p) (zeros_in (drop 6 p)) not_blank refl refl (omega arith) (omega arith) ∙ cond-true (is_same_check p (right_check p)) Whole _ check_is
+      by_its_check p (told p) (zeros_in (drop 6 p)) not_blank refl refl (omega arith) (omega arith)
+      ∙ cond-true (is_same_check p (right_check p)) Whole _ check_is
 
   -- it is the next page of its block, whether the number of pages is known or not
-  pub next_is : (known : ℕ) → (known ≡ 0) ⊎ (known ≡ pages) → is_next place page known (page_of place page pages chunk) ≡ true
+  pub next_is : (known : ℕ) → (known ≡ 0) ⊎ (known ≡ pages) →
+      is_next place page known (page_of place page pages chunk) ≡ true
   next_is known which =
       let p = page_of place page pages chunk in
       let within : page < pages_field p = subst (λ n. page < n) (sym pages_field_is) fits.within in
-      next_parts (kind_field p == 1) (place_field p == place) (page_field p == page) (nat_lt page (pages_field p)) ((known == 0) || (pages_field p == known))
+      next_parts (kind_field p == 1) (place_field p == place) (page_field p == page) (nat_lt page (pages_field p))
+      ((known == 0) || (pages_field p == known))
       (eq-eqb _ _ kind_field_is) (eq-eqb _ _ place_field_is) (eq-eqb _ _ page_field_is) (lt-ltb _ _ within)
-      (⊎_elim (λ zero_is. or_left (known == 0) (pages_field p == known) (eq-eqb _ _ zero_is)) (λ is. or_right (known == 0) (pages_field p == known) (eq-eqb _ _ (pages_field_is ∙ sym is))) which)
+      (⊎_elim (λ zero_is. or_left (known == 0) (pages_field p == known) (eq-eqb _ _ zero_is))
+      (λ is. or_right (known == 0) (pages_field p == known) (eq-eqb _ _ (pages_field_is ∙ sym is))) which)

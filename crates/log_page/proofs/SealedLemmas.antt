@@ -12,7 +12,9 @@ module _ (place number pages : ℕ) (chunk : List ℕ) (page1 page2 page3 page4 
       → drop 6 page4 ≡ body_of place number pages chunk
   body_by_parts at_20 at_16 at_8 at_6 =
       at_6
-      ∙ ap (λ (l : List ℕ). to_be_bytes w16 1 ++ l) (at_8 ∙ ap (λ (l : List ℕ). to_be_bytes w64 place ++ l) (at_16 ∙ ap (λ (l : List ℕ). to_be_bytes w32 number ++ l) at_20))
+      ∙ ap (λ (l : List ℕ). to_be_bytes w16 1 ++ l) (at_8
+      ∙ ap (λ (l : List ℕ). to_be_bytes w64 place ++ l) (at_16
+      ∙ ap (λ (l : List ℕ). to_be_bytes w32 number ++ l) at_20))
 
   pub page_by_parts : drop 6 page4 ≡ body_of place number pages chunk
       → drop 4 page5 ≡ to_be_bytes w16 (zeros_in (drop 6 page4)) ++ drop 6 page4

@@ -21,14 +21,17 @@ abbrev pub lost_at : List ℕ → List ℕ → ℕ → Bool
 lost_at found right i = (slice_index found i == 0) || same_at found right i
 
 abbrev pub is_same_check : List ℕ → List ℕ → Bool
-is_same_check found right = same_at found right 0 && same_at found right 1 && same_at found right 2 && same_at found right 3
+is_same_check found right = same_at found right 0 && same_at found right 1 && same_at found right 2 && same_at found
+    right 3
 
 abbrev pub is_lost_check : List ℕ → List ℕ → Bool
-is_lost_check found right = lost_at found right 0 && lost_at found right 1 && lost_at found right 2 && lost_at found right 3
+is_lost_check found right = lost_at found right 0 && lost_at found right 1 && lost_at found right 2 && lost_at found
+    right 3
 
 -- four bytes of a check, by the right ones
 abbrev pub check_kind : List ℕ → List ℕ → PageKind
-check_kind found right = if is_same_check found right then Whole else (if is_lost_check found right then Short else Spoilt)
+check_kind found right = if is_same_check found right then Whole
+    else (if is_lost_check found right then Short else Spoilt)
 
 -- the number of zero bytes that a page tells, the number that it has, and the check that it should have
 abbrev pub told : List ℕ → ℕ
@@ -57,7 +60,8 @@ sealed body = to_be_bytes w32 (checksum_of (counted body)) ++ counted body
 
 -- page number `page` of the `pages` of the block at this place, with its chunk
 abbrev pub body_of : ℕ → ℕ → ℕ → List ℕ → List ℕ
-body_of place page pages chunk = to_be_bytes w16 1 ++ (to_be_bytes w64 place ++ (to_be_bytes w32 page ++ (to_be_bytes w32 pages ++ chunk)))
+body_of place page pages chunk =
+    to_be_bytes w16 1 ++ (to_be_bytes w64 place ++ (to_be_bytes w32 page ++ (to_be_bytes w32 pages ++ chunk)))
 
 unfoldable pub page_of : ℕ → ℕ → ℕ → List ℕ → List ℕ
 page_of place page pages chunk = sealed (body_of place page pages chunk)
@@ -82,7 +86,8 @@ chunk_field page = drop 24 page
 -- above this one where `pages` is 0, as it is while no page of the block has told how many there are.
 abbrev pub is_next : ℕ → ℕ → ℕ → List ℕ → Bool
 is_next place page pages p =
-    (kind_field p == 1) && (place_field p == place) && (page_field p == page) && nat_lt page (pages_field p) && ((pages == 0) || (pages_field p == pages))
+    (kind_field p == 1) && (place_field p == place) && (page_field p == page) && nat_lt page (pages_field p) &&
+    ((pages == 0) || (pages_field p == pages))
 
 abbrev pub is_whole : PageKind → Bool
 is_whole Whole = true

@@ -17,7 +17,8 @@ pub enum PageKind {
     Empty,
     /// The number of its zero bytes and its checksum are right: it is as it was written.
     Whole,
-    /// It has more zero bytes than it says, or bytes of its checksum are 00: bytes of it are lost, or were never written.
+    /// It has more zero bytes than it says, or bytes of its checksum are 00: bytes of it are lost, or were never
+    /// written.
     Short,
     /// It was changed in another way.
     Spoilt,

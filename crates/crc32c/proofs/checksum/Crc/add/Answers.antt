@@ -6,7 +6,11 @@ use Rattle.crc32c.proofs.Linear.{word_read}
 use Rattle.crc32c.proofs.checksum.Crc.add.Goals as goal
 
 pub loop-word-init : goal.loop-word-init
-loop-word-init c = record { all = first_of (search rules, cc, grind (arith, c.self.view_is)); fits = λ i. omega (arith, c.type_inv.bytes i) }
+loop-word-init c = record {
+  all = first_of (search rules, cc, grind (arith, c.self.view_is));
+  fits =
+      λ i. omega (arith, c.type_inv.bytes i);
+}
 
 pub loop-word-preserved : goal.loop-word-preserved
 loop-word-preserved c =
@@ -16,7 +20,8 @@ loop-word-preserved c =
       all =
           ap (after_bytes c.after_word-remainder.result) parts.1
           ∙ ap (λ n. after_bytes n (drop 8 rest)) c.after_word-remainder.ensures
-          ∙ word_read c.loop-word.remainder c.from_le_bytes.result rest (omega (arith, parts.2)) c.loop-word.invariant.fits
+          ∙ word_read c.loop-word.remainder c.from_le_bytes.result rest (omega (arith, parts.2))
+          c.loop-word.invariant.fits
           (c.from_le_bytes.ensures ∙ ap (from_le_bytes w64) parts.0)
           ∙ c.loop-word.invariant.all;
       fits = λ i.

@@ -11,7 +11,8 @@ returns-then-not-may_stand-clause-err c first blocks made taken rest has =
     let p = c.args.page.now in
     let stands : c.may_stand.result ≡ false = search rules in
     torn_refused first s blocks made taken has p
-    (λ not. ap (λ k. is_whole k && is_next s.place s.made s.pages p) (sym c.requires.kind) ∙ other_of s c.args.kind p c.requires.other not)
+    (λ not. ap (λ k. is_whole k && is_next s.place s.made s.pages p) (sym c.requires.kind)
+    ∙ other_of s c.args.kind p c.requires.other not)
     (ap (λ k. is_allowed k s.place s.made s.pages p) (sym c.requires.kind) ∙ sym c.may_stand.ensures ∙ stands)
     rest
 
@@ -21,7 +22,8 @@ returns-clause-ok c first blocks made taken has =
     let p = c.args.page.now in
     let stands : c.may_stand.result ≡ true = search rules in
     torn_taken first s blocks made taken has p
-    (λ not. ap (λ k. is_whole k && is_next s.place s.made s.pages p) (sym c.requires.kind) ∙ other_of s c.args.kind p c.requires.other not)
+    (λ not. ap (λ k. is_whole k && is_next s.place s.made s.pages p) (sym c.requires.kind)
+    ∙ other_of s c.args.kind p c.requires.other not)
     (ap (λ k. is_allowed k s.place s.made s.pages p) (sym c.requires.kind) ∙ sym c.may_stand.ensures ∙ stands)
     _ refl refl refl refl
     (c.pages_after-self.ensures ∙ ap (λ k. known_pages k s.pages p) c.requires.kind)
