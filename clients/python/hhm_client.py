@@ -155,6 +155,14 @@ class BookWentBack(Exception):
         super().__init__(told % (*had, *has) + why)
 
 
+class Ended(Exception):
+    """What a word of the command line ends with: what is told, and the status of the program."""
+
+    def __init__(self, status: int, words: str):
+        self.status = status
+        super().__init__(words)
+
+
 def text_of(rows: int, cols: int, cells: Cells) -> bytes:
     """The Matrix Market text of cells (row, column, count) that are counted from 0."""
     lines = [b"%d %d %d\n" % (row + 1, col + 1, count) for row, col, count in cells]
@@ -692,6 +700,15 @@ def address(word: str) -> str:
     return word
 
 
+def loader() -> Any:
+    """The module that loads files of events, where it stands beside this one."""
+    try:
+        import hhm_load
+    except ImportError:
+        return None
+    return hhm_load
+
+
 def parser() -> argparse.ArgumentParser:
     words = argparse.ArgumentParser(description="Asks a server of hhm. Rows and columns count from 0.")
     where = words.add_mutually_exclusive_group(required=True)
@@ -699,13 +716,15 @@ def parser() -> argparse.ArgumentParser:
     where.add_argument("--unix", metavar="PATH")
     timeout = f"for each answer ({TIMEOUT}; {SAVE_TIMEOUT} for a save, which takes longer the more was accepted)"
     words.add_argument("--timeout", type=float, metavar="SECONDS", help=timeout)
-    attempts = "how often a request is sent (3, within a moment; 14 try for a minute, as a server may that is starting)"
-    words.add_argument("--attempts", type=int, default=3, metavar="N", help=attempts)
+    attempts = "how often a request is sent (3, within a moment; of a load 14, for a minute, as a server takes to start)"
+    words.add_argument("--attempts", type=int, metavar="N", help=attempts)
     asked = words.add_subparsers(dest="word", required=True)
     put = asked.add_parser("put", help="puts a Matrix Market text as a batch")
     put.add_argument("client", type=number)
     put.add_argument("number", type=number)
     put.add_argument("file", nargs="?", help="standard input where none is given")
+    if module := loader():
+        module.add_words(asked.add_parser("load", help="puts the events of files, in batches that count once"))
     cell = asked.add_parser("cell", help="the count of a cell, or the line `none`")
     cell.add_argument("row", type=number)
     cell.add_argument("col", type=number)
@@ -742,6 +761,8 @@ def stop(hhm: Client, discards: bool) -> None:
 
 def answer(hhm: Client, given: argparse.Namespace, text: bytes) -> bytes:
     """Does what the command line asks, and gives what is to be printed."""
+    if given.word == "load":
+        return loader().load(hhm, given).encode()
     if given.word == "put":
         return b"index %d total_after %d\n" % hhm.put_text(given.number, text)
     if given.word == "cell":
@@ -763,9 +784,10 @@ def asked(given: argparse.Namespace) -> bytes:
     place = given.unix if given.tcp is None else given.tcp
     waits = threading.Timer(2, lambda: print(f"waiting for the server at {place}", file=sys.stderr, flush=True))
     waits.daemon = True
-    client = given.client if given.word == "put" else 0
+    client = given.client if given.word in ("put", "load") else 0
     usual = SAVE_TIMEOUT if given.word in ("save", "stop") else TIMEOUT
-    limits = {"timeout": usual if given.timeout is None else given.timeout, "attempts": given.attempts}
+    attempts = given.attempts or (14 if given.word == "load" else 3)
+    limits = {"timeout": usual if given.timeout is None else given.timeout, "attempts": attempts}
     waits.start()
     try:
         with Client(tcp=given.tcp, unix=given.unix, client=client, **limits) as hhm:
@@ -775,11 +797,15 @@ def asked(given: argparse.Namespace) -> bytes:
 
 
 def main() -> int:
-    """The command line. 0; 1 where the server refused; 2 for bad words; 4 where it can't be reached or a file read."""
+    """The command line. 0; 1 where the server refused; 2 for bad words; 3 for lines that are no events; 4 where it can't
+    be reached or a file read."""
     given = parser().parse_args()
     try:
         sys.stdout.buffer.write(asked(given))
         sys.stdout.buffer.flush()
+    except Ended as ended:
+        print(ended, file=sys.stderr)
+        return ended.status
     except Refused as refused:
         advice = {"TooManyEntries": f": {SPLIT}"}.get(refused.name, "") if given.word != "stop" else KEPT_RUNNING
         print(f"refused: {refused}{advice}", file=sys.stderr)
@@ -794,4 +820,6 @@ def main() -> int:
 
 
 if __name__ == "__main__":
+    # (the loader's classes are those of this program, and not of a second copy)
+    sys.modules["hhm_client"] = sys.modules[__name__]
     sys.exit(main())

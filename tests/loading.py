@@ -1,0 +1,323 @@
+#!/usr/bin/env python3
+"""Loads files of events by the command line client into the built program, and compares the sums with plain ones.
+
+    python3 tests/loading.py PATH-TO-HHM
+
+What a file's events add up to is worked out by a loop over its lines with a dictionary. It prints a line for each check
+that fails and at the end `N passed, M failed`; the status is 1 where one fails. Linux, and nothing but Python's own
+library.
+"""
+import collections
+import gzip
+import ipaddress
+import os
+import pty
+import random
+import signal
+import subprocess
+import sys
+import tempfile
+import time
+
+import server
+from server import Server, check
+
+HERE = os.path.dirname(os.path.abspath(__file__))
+HHMC = os.path.join(HERE, "..", "clients", "python", "hhm_client.py")
+from hhm_client import Client, cells_of  # noqa: E402 (server.py has put the client's folder on the path)
+
+LARGE = ["--rows", str(1 << 60), "--cols", str(1 << 60)]
+WAIT = 60
+
+
+def path_of(name):
+    return os.path.join(server.FOLDER, name)
+
+
+def written(name, content):
+    with open(path_of(name), "wb") as file:
+        file.write(content if isinstance(content, bytes) else content.encode())
+    return path_of(name)
+
+
+def words(at, *given):
+    return [sys.executable, HHMC, "--unix", at.path, "load", *map(str, given)]
+
+
+def load(at, *given, **how):
+    """What `load` writes to both outputs, and its status."""
+    environment = {**os.environ, "XDG_STATE_HOME": path_of("state")}
+    ended = subprocess.run(words(at, *given), capture_output=True, text=True, timeout=WAIT, env=environment, **how)
+    return ended.stdout, ended.stderr, ended.returncode
+
+
+def sum_of(at):
+    with Client(unix=at.path) as hhm:
+        return {(row, col): count for row, col, count in cells_of(hhm.export())}
+
+
+def added(cells):
+    counts = collections.Counter()
+    for row, col, count in cells:
+        counts[row, col] += count
+    return dict(counts)
+
+
+def flows(seed, count):
+    """Flows with IPv4 addresses, and their cells."""
+    dice = random.Random(seed)
+    hosts = [dice.randrange(1 << 32) for _ in range(40)]
+    cells = [(dice.choice(hosts), dice.choice(hosts), dice.randrange(1, 2000)) for _ in range(count)]
+    lines = [f"{ipaddress.ip_address(row)},{ipaddress.ip_address(col)},{n}\n" for row, col, n in cells]
+    return lines, cells
+
+
+def a_file_counts_once():
+    """A CSV of flows, loaded twice, and a third time with more behind it in a second file."""
+    lines, cells = flows(1, 2500)
+    head = "source,destination,packets\n"
+    file = written("flows.csv", head + "".join(lines))
+    with Server(LARGE, tcp=False) as at:
+        check("flows", load(at, "--batch", 1000, 7, file), ("new 3 repeats 0 events 2500\n", "", 0))
+        check("flows: the sum", sum_of(at), added(cells))
+        check("flows again", load(at, "--batch", 1000, 7, file), ("new 0 repeats 3 events 2500\n", "", 0))
+        more, others = flows(2, 700)
+        second = written("more.csv", head + "".join(more))
+        check("flows and more", load(at, "--batch", 1000, 7, file, second),
+              ("new 1 repeats 3 events 3200\n", "", 0))
+        check("flows and more: the sum", sum_of(at), added(cells + others))
+        before = sum_of(at)
+        for name, given in [("another file", [second]), ("another order", [second, file])]:
+            output, error, status = load(at, "--batch", 1000, 7, *given)
+            check(name, (output, status, "batch 0 of client 7 has other events" in error), ("", 2, True))
+        _, error, status = load(at, "--batch", 500, 7, file)
+        check("another size", (status, "batch 0 of client 7 has other events" in error), (2, True))
+        check("nothing of those was put", sum_of(at), before)
+
+
+FORMS = [
+    ("numbers.tsv", "1\t2\t3\n1\t2\t4\n", ["--cols", "1,2,3", "--map", "int"], [(1, 2, 7)]),
+    ("quoted.tsv", '"a"\tb\n', ["--cols", "1,2", "--map", "name", "--names", "NAMES"], [(0, 1, 1)]),
+    ("pairs.pairs", "# a comment\n\n 5 6\n5  6\n7 8\n", [], [(5, 6, 2), (7, 8, 1)]),
+    ("counted.pairs", "5 6 10\n5 6 1\n", ["--cols", "1,2,3"], [(5, 6, 11)]),
+    ("a.mtx", "%%MatrixMarket matrix coordinate integer general\n% told\n9 9 2\n1 1 4\n9 8 5\n", [],
+     [(0, 0, 4), (8, 7, 5)]),
+    ("b.mtx", "%%MatrixMarket matrix coordinate pattern general\n9 9 2\n1 1\n1 1\n", [], [(0, 0, 2)]),
+    ("head.csv", "when,packets,to,from\n1,10,3,2\n2,20,3,2\n", ["--cols", "from,to,packets", "--map", "int"],
+     [(2, 3, 30)]),
+    ("pair.csv", "source,destination\n0.0.0.1,0.0.0.2\n", [], [(1, 2, 1)]),
+    ("crlf.csv", "source,destination,packets\r\n0.0.0.1,0.0.0.2,5\r\n0.0.0.1,0.0.0.2,6", [], [(1, 2, 11)]),
+    ("marked.csv", b"\xef\xbb\xbfsource,destination,packets\n0.0.0.1,0.0.0.2,5\n", [], [(1, 2, 5)]),
+    ("blank.csv", "source,destination,packets\n0.0.0.1,0.0.0.2,5\n\n0.0.0.3,0.0.0.2,1\n", [], [(1, 2, 5), (3, 2, 1)]),
+    ("quoted.csv", 'name,to\n"a,b",c\n"a,b","c"\n', ["--cols", "name,to", "--map", "name", "--names", "NAMES"],
+     [(0, 1, 2)]),
+    ("most.csv", f"1,2,{(1 << 64) - 1}\n", ["--cols", "1,2,3", "--map", "int"], [(1, 2, (1 << 64) - 1)]),
+    ("far.csv", f"{(1 << 60) - 1},0\n", ["--cols", "1,2", "--map", "int"], [((1 << 60) - 1, 0, 1)]),
+    ("six.csv", "source,destination\n::1,0.0.0.7\n0:0:0:0:0:0:0:1,fe80::1\n", ["--names", "NAMES"],
+     [(1 << 32, 7, 1), (1 << 32, (1 << 32) + 1, 1)]),
+    ("none.csv", "source,destination\n", [], []),
+]
+
+
+def each_form_is_read():
+    """Formats, columns and maps, each in batches of one event and in one batch."""
+    for number, (name, content, given, cells) in enumerate(FORMS):
+        file = written(name, content)
+        for size in (1, 1000):
+            names = path_of(f"{name}-{size}.names")
+            given_here = [names if word == "NAMES" else word for word in given]
+            with Server([*LARGE, "--limit", str((1 << 64) - 1)], tcp=False) as at:
+                _, error, status = load(at, *given_here, "--batch", size, 100 + 2 * number + (size > 1), file)
+                check(f"{name} by {size}", (error, status), ("", 0))
+                check(f"{name} by {size}: the sum", sum_of(at), added(cells))
+
+
+def other_ways_to_a_text():
+    """A file of gzip, and standard input."""
+    lines, cells = flows(3, 300)
+    text = ("source,destination,packets\n" + "".join(lines)).encode()
+    packed = written("packed.csv.gz", gzip.compress(text))
+    with Server(LARGE, tcp=False) as at:
+        check("gzip", load(at, 300, packed), ("new 1 repeats 0 events 300\n", "", 0))
+        cut = written("cut.csv.gz", gzip.compress(text)[:-20])
+        check("gzip that is cut short", load(at, 301, cut)[2], 4)
+        with open(written("plain.csv", text)) as file:
+            check("standard input", load(at, "--format", "csv", 302, "-", stdin=file),
+                  ("new 1 repeats 0 events 300\n", "", 0))
+        check("both: the sum", sum_of(at), added(cells + cells))
+        _, error, status = load(at, 303, "-")
+        check("no format", (status, "give --format" in error), (2, True))
+        check("no file", load(at, 304, path_of("nowhere.csv"))[1:],
+              (path_of("nowhere.csv") + ": No such file or directory\n", 4))
+
+
+BAD = [
+    ("0.0.0.1,0.0.0.2", "2 columns, and not 3"), ("0.0.0.1,0.0.0.2,5,6", "4 columns, and not 3"),
+    ("0.0.0.1,0.0.0.256,5", "'0.0.0.256' is no address"), ("0.0.0.1,0.0.0.2,-5", "'-5' is no number"),
+    ("0.0.0.1,0.0.0.2,5.5", "'5.5' is no number"), ("0.0.0.1,0.0.0.2,1_000", "'1_000' is no number"),
+    ("0.0.0.1,0.0.0.2,", "invalid literal"), ("0.0.0.1,0.0.0.2,\u0665", "is no number"),
+    ("0.0.0.1,0.0.0.2," + str(1 << 64), "too big"),
+]
+
+
+def lines_that_are_no_events():
+    """Each is told with its line; they are left out up to a limit, and a file goes on once it was mended."""
+    lines, cells = flows(4, 1500)
+    head = "source,destination,packets\n"
+    with Server(LARGE, tcp=False) as at:
+        for number, (line, why) in enumerate(BAD):
+            file = written("bad.csv", head + "".join(lines[:20]) + line + "\n" + "".join(lines[20:40]))
+            output, error, status = load(at, "--strict", "--batch", 10, 400 + number, file)
+            told = f"{file}: line 22: " in error and why in error and "Batches 0 to 1 were put" in error
+            check(f"strict: {line}", (output, status, told), ("", 3, True))
+            output, error, status = load(at, "--skip-at-most", 1, "--batch", 10, 400 + number, file)
+            check(f"left out: {line}", (output.split(" ")[4:], status), (["events", "40", "skipped", "1\n"][0:4], 0))
+        before = sum_of(at)
+        few = written("few.csv", head + "".join(lines) + "x\n" * 15)
+        check("one of a hundred", load(at, 420, few)[::2], ("new 1 repeats 0 events 1500 skipped 15\n", 0))
+        check("one of a hundred: the sum", sum_of(at), added([*cells, *((*p, n) for p, n in before.items())]))
+        many = written("many.csv", head + "".join(lines[:1000]) + "x\n" * 30)
+        _, error, status = load(at, "--batch", 500, 421, many)
+        check("more than one of a hundred", (status, error.startswith(f"{many}: line 1002: 1 columns")), (3, True))
+        written("many.csv", head + "".join(lines))
+        check("mended", load(at, "--batch", 500, 421, many), ("new 1 repeats 2 events 1500\n", "", 0))
+        short = written("short.mtx", "%%MatrixMarket matrix coordinate integer general\n9 9 3\n1 1 4\n")
+        _, error, status = load(at, 422, short)
+        check("entries that lack", (status, "1 entries, and its head tells 3" in error), (3, True))
+
+
+def refusals_tell_the_line():
+    """A place that the server doesn't have is told with the line of the file."""
+    with Server(["--rows", "10", "--cols", "10"], tcp=False) as at:
+        file = written("outside.pairs", "# no event\n1 2\n\n3 4\n5 10\n6 7\n")
+        output, error, status = load(at, 500, file)
+        wanted = f"{file}: line 5: batch 0: refused: IndexOutOfRange at cell 2\n"
+        check("out of range", (output, error, status), ("", wanted, 1))
+        for given, why in [(["--cols", "1", 501, file], "two or three columns"), (["--map", "name", 501, file], "--names"),
+                           (["--cols", "a,b", 501, written("c.csv", "x,y\n")], "no column 'a'"),
+                           ([501, written("d.csv", "x,y\n1,2\n")], "give --cols"), (["--batch", 0, 501, file], "isn't from"),
+                           (["--skip-at-most", "x", 501, file], "neither"), (["-1", file], ""),
+                           ([501, written("e.csv", "source,destination\n::1,::2\n")], "give --names")]:
+            _, error, status = load(at, *given)
+            check(f"bad words {given}", (status, why in error), (2, True))
+
+
+def names_keep_their_numbers():
+    """A name has one number over files and runs; a line that wasn't written whole is cut off; one load at a time."""
+    names = path_of("hosts.names")
+    first = written("first.csv", "a,b\nb,c\n")
+    second = written("second.csv", "c,d\na,d\n")
+    given = ["--cols", "1,2", "--map", "name", "--names", names]
+    with Server(LARGE, tcp=False) as at:
+        check("names", load(at, *given, 600, first)[2], 0)
+        with open(names, "ab") as table:
+            table.write(b"half")
+        check("more names", load(at, *given, 601, second)[2], 0)
+        check("names: the sum", sum_of(at), added([(0, 1, 1), (1, 2, 1), (2, 3, 1), (0, 3, 1)]))
+        check("names: the table", server.content(names), b"a\nb\nc\nd\n")
+        feed = subprocess.Popen(words(at, *given, "--format", "csv", 602, "-"), stdin=subprocess.PIPE,
+                                stdout=subprocess.PIPE, text=True, env={**os.environ, "XDG_STATE_HOME": path_of("state")})
+        ends = time.monotonic() + WAIT
+        while load(at, *given, "--state", path_of("other"), 602, first)[2] != 4 and time.monotonic() < ends:
+            pass
+        _, error, status = load(at, *given, "--state", path_of("other"), 603, first)
+        check("two loads, one table", (status, "another load uses this table" in error), (4, True))
+        _, error, status = load(at, 602, first)
+        check("two loads, one client", (status, "another load uses client 602" in error), (4, True))
+        check("the first goes on", (feed.communicate("e,a\n", timeout=WAIT)[0], feed.returncode),
+              ("new 1 repeats 0 events 1\n", 0))
+
+
+def killed_and_begun_again(by_names):
+    """A load that is killed ten times, and begun again with the same words, counts each event once."""
+    lines, cells = flows(5, 60_000)
+    file = written("killed.csv", "source,destination,packets\n" + "".join(lines))
+    given = ["--map", "name", "--names", path_of("killed.names")] if by_names else []
+    given += ["--batch", "200", "8" if by_names else "9", file]
+    dice, kills = random.Random(6), 0
+    with Server(LARGE, tcp=False) as at:
+        for _ in range(10):
+            run = subprocess.Popen(words(at, *given), stdout=subprocess.DEVNULL, stderr=subprocess.DEVNULL,
+                                   env={**os.environ, "XDG_STATE_HOME": path_of("state")})
+            time.sleep(0.2 + dice.random() * 0.5)
+            run.send_signal(signal.SIGKILL)
+            kills += run.wait() == -signal.SIGKILL
+        output, error, status = load(at, *given)
+        check(f"killed, names {by_names}", (output.split()[5:], error, status), (["60000"], "", 0))
+        check(f"killed, names {by_names}: by a kill", kills > 0, True)
+        numbers = {}
+        for row, col, _ in cells if by_names else []:
+            numbers[row] = numbers[col] = 0
+        if by_names:
+            told = server.content(path_of("killed.names")).decode().split()
+            numbers = {int(ipaddress.ip_address(name)): place for place, name in enumerate(told)}
+            cells = [(numbers[row], numbers[col], n) for row, col, n in cells]
+        check(f"killed, names {by_names}: the sum", sum_of(at), added(cells))
+
+
+def a_server_that_went_back():
+    """Where the server lost what it had, the load begins again by itself, and says so."""
+    lines, cells = flows(7, 40_000)
+    file = written("back.csv", "source,destination,packets\n" + "".join(lines))
+    with Server(LARGE, tcp=False) as at:
+        run = subprocess.Popen(words(at, "--batch", 100, 10, file), stdout=subprocess.PIPE, stderr=subprocess.PIPE,
+                               text=True, env={**os.environ, "XDG_STATE_HOME": path_of("state")})
+        ends = time.monotonic() + WAIT
+        with Client(unix=at.path) as hhm:
+            while hhm.status().batches < 20 and time.monotonic() < ends:
+                time.sleep(0.01)
+        at.process.kill()
+        at.process.wait()
+    with Server(LARGE, tcp=False) as at:
+        output, error = run.communicate(timeout=WAIT)
+        check("went back", (output, run.returncode), ("new 400 repeats 0 events 40000\n", 0))
+        check("went back: told", "the server went back" in error and "loading again" in error, True)
+        check("went back: the sum", sum_of(at), added(cells))
+
+
+def a_terminal_sees_it_go_on():
+    """On a terminal a line is written over once a second, and cleared at the end; elsewhere none is written."""
+    lines, _ = flows(8, 400)
+    with Server(LARGE, tcp=False) as at:
+        ours, theirs = pty.openpty()
+        run = subprocess.Popen(words(at, "--batch", 100, "--format", "csv", 11, "-"), stdin=subprocess.PIPE,
+                               stdout=subprocess.PIPE, stderr=theirs,
+                               env={**os.environ, "XDG_STATE_HOME": path_of("state")})
+        os.close(theirs)
+        run.stdin.write(("source,destination,packets\n" + "".join(lines[:200])).encode())
+        run.stdin.flush()
+        time.sleep(1.5)
+        output, _ = run.communicate("".join(lines[200:]).encode(), timeout=WAIT)
+        told = b""
+        try:
+            while more := os.read(ours, 4096):
+                told += more
+        except OSError:
+            pass
+        os.close(ours)
+        check("a terminal: the end", (output, run.returncode), (b"new 4 repeats 0 events 400\n", 0))
+        parts = told.split(b"\r")
+        check("a terminal: told", b" events, " in told and parts[-1] == b"" and parts[-2].strip() == b"", True)
+
+
+def main():
+    if len(sys.argv) != 2:
+        sys.exit(__doc__)
+    server.PROGRAM = os.path.abspath(sys.argv[1])
+    with tempfile.TemporaryDirectory() as server.FOLDER:
+        a_file_counts_once()
+        each_form_is_read()
+        other_ways_to_a_text()
+        lines_that_are_no_events()
+        refusals_tell_the_line()
+        names_keep_their_numbers()
+        killed_and_begun_again(False)
+        killed_and_begun_again(True)
+        a_server_that_went_back()
+        a_terminal_sees_it_go_on()
+    print(f"{server.passed} passed, {server.failed} failed")
+    sys.exit(server.failed > 0)
+
+
+if __name__ == "__main__":
+    main()
