@@ -498,7 +498,7 @@ def the_command_line_tells():
         words = ["--unix", liar.path, "--timeout", "3", "--attempts", "1", "status"]
         check("command: it waits", asked(*words), ("", told, 4))
     large = at_path("large.mtx")
-    splits = "put it as several batches, as feed_flows.py does with a CSV of flows\n"
+    splits = "put it as several batches, as the word load does with files of events\n"
     with open(large, "wb") as file:
         file.truncate((64 << 20) - 15)
     told = f"failed: {large} has more than the 67108848 bytes of a batch: {splits}"

@@ -60,7 +60,7 @@ MAX_DEPTH = 128
 EARLY = 65_536
 # Of the command line: the seconds that it waits for an answer, and what it adds to refusals.
 TIMEOUT, SAVE_TIMEOUT = 60, 600
-SPLIT = "put it as several batches, as feed_flows.py does with a CSV of flows"
+SPLIT = "put it as several batches, as the word load does with files of events"
 KEPT_RUNNING = ": nothing was stopped; `stop --discard` stops the server without what it can't save"
 BANNER = b"%%MatrixMarket matrix coordinate integer general\n"
 
