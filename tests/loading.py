@@ -193,11 +193,12 @@ def refusals_tell_the_line():
         output, error, status = load(at, 500, file)
         wanted = f"{file}: line 5: batch 0: refused: IndexOutOfRange at cell 2\n"
         check("out of range", (output, error, status), ("", wanted, 1))
-        for given, why in [(["--cols", "1", 501, file], "two or three columns"), (["--map", "name", 501, file], "--names"),
-                           (["--cols", "a,b", 501, written("c.csv", "x,y\n")], "no column 'a'"),
-                           ([501, written("d.csv", "x,y\n1,2\n")], "give --cols"), (["--batch", 0, 501, file], "isn't from"),
-                           (["--skip-at-most", "x", 501, file], "neither"), (["-1", file], ""),
-                           ([501, written("e.csv", "source,destination\n::1,::2\n")], "give --names")]:
+        named, headless = written("c.csv", "x,y\n"), written("d.csv", "x,y\n1,2\n")
+        sixes = written("e.csv", "source,destination\n::1,::2\n")
+        for given, why in [(["--cols", "1", 501, file], "two or three"), (["--map", "name", 501, file], "--names"),
+                           (["--cols", "a,b", 501, named], "no column 'a'"), ([501, headless], "give --cols"),
+                           (["--batch", 0, 501, file], "isn't from"), (["--skip-at-most", "x", 501, file], "neither"),
+                           (["-1", file], ""), ([501, sixes], "give --names")]:
             _, error, status = load(at, *given)
             check(f"bad words {given}", (status, why in error), (2, True))
 
@@ -215,8 +216,9 @@ def names_keep_their_numbers():
         check("more names", load(at, *given, 601, second)[2], 0)
         check("names: the sum", sum_of(at), added([(0, 1, 1), (1, 2, 1), (2, 3, 1), (0, 3, 1)]))
         check("names: the table", server.content(names), b"a\nb\nc\nd\n")
+        environment = {**os.environ, "XDG_STATE_HOME": path_of("state")}
         feed = subprocess.Popen(words(at, *given, "--format", "csv", 602, "-"), stdin=subprocess.PIPE,
-                                stdout=subprocess.PIPE, text=True, env={**os.environ, "XDG_STATE_HOME": path_of("state")})
+                                stdout=subprocess.PIPE, text=True, env=environment)
         ends = time.monotonic() + WAIT
         while load(at, *given, "--state", path_of("other"), 602, first)[2] != 4 and time.monotonic() < ends:
             pass
