@@ -4,7 +4,9 @@
 //! A verdict is one look-up, and one more where batches are folded. The keys are hashed with seeds drawn for each book,
 //! since clients choose them. What a reply tells is kept beside its batch, so no call but `list`, `book_list` and
 //! `fold` walks over the book.
-ghost use Rattle.std.specs.Prelude.{◌≡◌, ℕ, ◌+◌, ◌<◌, ◌≤◌, ◌^◌, [], IfOk, OnOk, OnErr, None, length, slice_get};
+ghost use Rattle.std.specs.Prelude.{◌≡◌, ℕ, ◌+◌, ◌-◌, ◌<◌, ◌≤◌, ◌^◌, [], IfOk, OnOk, OnErr, None, length};
+ghost use Rattle.std.specs.Prelude.{slice_get, take, drop, vec_len, vec_capacity};
+ghost use Rattle.std.specs.Bool.{OnTrue};
 ghost use Rattle.std.specs.Option.{option_map};
 ghost use Rattle.std.specs.Arc.{arc_value};
 ghost use Rattle.hyper_matrix.specs.Matrix.{matrix};
@@ -281,6 +283,24 @@ impl Book {
         Ok(list)
     }
 
+    /// Puts the batches from a place on, counted from 0 over all, into a list that shares them, in order, as far as it
+    /// has room: the first alone, or as many as have at most so many cells together. Takes no memory.
+    ///
+    /// False where there are too many copies of a batch's pointer; what is in the list then ends before that batch.
+    pub fn share_from(&self, from: u64, most_cells: u64, out: &mut Vec<Arc<Batch>>) -> bool
+        requires empty { out.old.items ≡ [] }
+        requires none { vec_len out.old ≡ 0 }
+        requires room { 0 < vec_capacity out.old }
+        requires unfolded { length self.now.state.folded ≤ from }
+        ensures capacity { vec_capacity out.new ≡ vec_capacity out.old }
+        ensures list { values out.new.items ≡
+            take (vec_len out.new) (drop (from - length self.now.state.folded) self.now.state.list) }
+        ensures some { OnTrue result (from < count_in self.now.state → 0 < vec_len out.new) }
+    {
+        let place = (from - self.past.len()) as usize;
+        share_behind(&self.lines, place, most_cells, out)
+    }
+
     /// All that was accepted, in a list that shares the base and the batches. Two growths: 32 bytes for each folded
     /// batch, and a pointer for each other.
     ///
@@ -324,6 +344,40 @@ impl Book {
         self.lines.clear();
         Ok(())
     }
+}
+
+// Puts the batches of lines from a place on into a list that shares them, in order, as far as it has room: the first
+// alone, or as many as have at most so many cells together. False where there are too many copies of a pointer.
+fn share_behind(
+    lines: &SegmentedMap<Pair, Line, RandomState>,
+    from: usize,
+    most_cells: u64,
+    out: &mut Vec<Arc<Batch>>,
+) -> bool
+    requires empty { out.old.items ≡ [] }
+    requires none { vec_len out.old ≡ 0 }
+    requires room { 0 < vec_capacity out.old }
+    ensures capacity { vec_capacity out.new ≡ vec_capacity out.old }
+    ensures list { values out.new.items ≡ take (vec_len out.new) (drop from (batches_of lines.now.entries)) }
+    ensures some { OnTrue result (from < length lines.now.entries → 0 < vec_len out.new) }
+{
+    // It bounds the places.
+    let _count = lines.len();
+    let mut cells = 0u64;
+    let mut place = from;
+    'lines: while let Some((_, line)) = lines.get_index(place) {
+        let with = cells.saturating_add(line.batch.matrix.entries());
+        if out.len() == out.capacity() || (out.len() > 0 && with > most_cells) {
+            break;
+        }
+        let Ok(batch) = Arc::try_clone(&line.batch) else {
+            return false;
+        };
+        out.push_reserved(batch);
+        cells = with;
+        place += 1;
+    }
+    true
 }
 
 // The batches of all lines, shared.

@@ -4,6 +4,7 @@ mod batches;
 mod books;
 mod folds;
 mod lists;
+mod queues;
 pub mod setups;
 mod shards;
 pub mod views;
