@@ -6,4 +6,5 @@ pub mod HistoryLaws
 pub mod ToldLaws
 pub mod ListedLaws
 pub mod ShownLaws
+pub mod FollowLaws
 pub mod CountedLaws

@@ -6,3 +6,4 @@ pub mod Histories
 pub mod Told
 pub mod Counted
 pub mod Shown
+pub mod Queues

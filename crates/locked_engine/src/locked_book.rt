@@ -1,7 +1,7 @@
 //! What stands behind the book's lock.
 ghost use Rattle.std.specs.Prelude.{◌≡◌, ◌+◌, ◌≤◌, ◌<◌, ◌++◌, List, [], ◌∷◌, IfOk, IfErr, IsSome, IsSomeAnd, OnOk, OnErr, Ok, Some};
 ghost use Rattle.batch_store.specs.declared.verdict.Entry.{Entry};
-ghost use Rattle.std.specs.Prelude.{drop, length};
+ghost use Rattle.std.specs.Prelude.{drop, length, vec_len, vec_capacity};
 ghost use Rattle.std.specs.Bool.{OnTrue, OnFalse};
 ghost use mathlib.Core.List.{IsPrefix};
 ghost use Rattle.std.specs.Arc.{arc_value};
@@ -12,6 +12,7 @@ ghost use Rattle.batch_store.specs.Verdicts.{kept};
 ghost use Rattle.batch_store.specs.declared.verdict.Verdict.TheVariants.{Fresh};
 ghost use Rattle.locked_engine.specs.Told.{Answers, IsTold, answer_of};
 ghost use Rattle.locked_engine.specs.Opened.{SharePast};
+ghost use Rattle.locked_engine.specs.Queues.{Follows};
 ghost use Rattle.locked_engine.specs.Versions.{IsVersion};
 
 use crate::fault::NotAdmitted;
@@ -293,6 +294,28 @@ where
             return Err(AllocError);
         }
         self.book.book_list(alloc)
+    }
+
+    /// Puts the batches from a place on into a list that shares them, as `Engine::batches_from` says.
+    pub fn batches_from(
+        &self,
+        seen: &mut Version<N>,
+        from: u64,
+        most_cells: u64,
+        out: &mut Vec<Arc<Batch>>,
+    ) -> bool
+        requires empty { out.old.items ≡ [] }
+        requires none { vec_len out.old ≡ 0 }
+        requires room { 0 < vec_capacity out.old }
+        ensures later { IsPrefix seen.old seen.new }
+        ensures capacity { vec_capacity out.new ≡ vec_capacity out.old }
+        ensures next { OnTrue result (Follows from (entries_of (values out.new.items)) seen.new) }
+        ensures some { OnTrue result (from < length seen.new → 0 < vec_len out.new) }
+    {
+        if !self.show(seen) || from < self.book.folded() || from > self.book.len() {
+            return false;
+        }
+        self.book.share_from(from, most_cells, out)
     }
 
     /// Accepts a fresh batch, and deposits its total in both ledgers: in the first for good, in the second until the

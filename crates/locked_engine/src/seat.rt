@@ -46,6 +46,14 @@ impl<N: Named, H: Ledger> Seat<N, H> {
         self.number
     }
 
+    /// A copy of the version that it was shown last, for whoever reads the book without a seat
+    /// (`Engine::batches_from`).
+    pub fn version(&self) -> Version<N>
+        ensures { result ≡ self.now.seen }
+    {
+        self.seen.again()
+    }
+
     // A balanced seat that was shown this.
     pub(crate) fn make(
         number: usize,

@@ -53,7 +53,7 @@ impl<N: Named> Model for Version<N> {
 
 impl<N: Named> Version<N> {
     /// The version of an engine that is just opened, of this status.
-    pub fn begin(opened: &NewHistory, status: Status) -> Version<N>
+    pub(crate) fn begin(opened: &NewHistory, status: Status) -> Version<N>
         requires history { opened.now.seen.book ≡ N.history }
         requires status { status ≡ version_status (entries_in N.opened) }
         requires legal { IsVersion N.setup (entries_in N.opened) }
@@ -68,7 +68,7 @@ impl<N: Named> Version<N> {
     }
 
     /// The version of this beginning of the history.
-    pub fn make(status: Status, added: u64, seen: Seen<Line, u64, HistoryRule>) -> Version<N>
+    pub(crate) fn make(status: Status, added: u64, seen: Seen<Line, u64, HistoryRule>) -> Version<N>
         requires history { seen.book ≡ N.history }
         requires status { status ≡ version_status (entries_in N.opened ++ added_in seen.log) }
         requires added { added ≡ length (added_in seen.log) }
@@ -84,7 +84,7 @@ impl<N: Named> Version<N> {
     }
 
     /// What it has seen of the history.
-    pub fn seen(&self) -> &Seen<Line, u64, HistoryRule>
+    pub(crate) fn seen(&self) -> &Seen<Line, u64, HistoryRule>
         ensures book { result.now.book ≡ N.history }
         ensures entries { self.now ≡ entries_in N.opened ++ added_in result.now.log }
     {

@@ -6,7 +6,7 @@ ghost use Rattle.locked_engine.specs.Opened.{NamesEngine};
 use crate::batches::Cells;
 use crate::expected::{expect_batches, expect_closed};
 use crate::opened::{Step, close_at_last, closed, opened};
-use crate::{compactions, folds, looks, puts, seats, several, versions};
+use crate::{compactions, folds, looks, puts, queues, seats, several, versions};
 use batch_store::Setup;
 use locked_engine::{Engine, Named, Names, Seat};
 use plain_engine::PlainEngine;
@@ -27,6 +27,8 @@ pub enum Act {
     Put(&'static [Step]),
     /// Batches are put behind folded ones.
     PutBehindFolded,
+    /// Batches are read from places on, folded ones among them.
+    ReadFromPlaces,
     /// Each shard is looked at.
     Look,
     /// Two threads put sixty each.
@@ -132,6 +134,7 @@ fn perform<
     match case.act {
         Act::Put(steps) => puts::put_steps(rt, alloc, engine, seats, steps, case.accepted),
         Act::PutBehindFolded => folds::put_from_both(rt, alloc, engine, seats),
+        Act::ReadFromPlaces => queues::read_from_places(rt, alloc, engine, seats),
         Act::Look => looks::put_and_look(rt, alloc, engine, seats),
         Act::PutSixtyTwice => seats::put_sixty_twice(rt, alloc, engine, seats),
         Act::SeeStatus => seats::see_from_both(rt, alloc, engine, seats),

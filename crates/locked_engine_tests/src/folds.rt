@@ -39,8 +39,8 @@ fn accept(
     let _kept = plain.put(alloc, b).expect(rt, "put");
 }
 
-// An engine of one thread that has folded two batches: one of client 7 of total 9, and one of client 8 of total 3.
-fn folded_two<R: RandomSource + Abort>(rt: &R, alloc: Global, setup: Setup) -> PlainEngine {
+/// An engine of one thread that has folded two batches: one of client 7 of total 9, and one of client 8 of total 3.
+pub fn folded_two<R: RandomSource + Abort>(rt: &R, alloc: Global, setup: Setup) -> PlainEngine {
     let mut plain = PlainEngine::new(rt, alloc, setup).expect(rt, "memory");
     accept(rt, alloc, &mut plain, &setup, 7, NINE);
     accept(rt, alloc, &mut plain, &setup, 8, THREE);
