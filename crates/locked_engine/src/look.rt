@@ -36,7 +36,7 @@ impl<N: Named, H: Ledger> Engine<N, H> {
     pub fn look<T, F: FnOnce(&Shard) -> T + Drop, R: Wait>(&self, rt: &R, s: u64, f: F) -> Option<T>
         requires place { s < N.setup.shards }
         requires callable { (x : _) → x.now.number ≡ s → F.pre f x }
-        ensures { IfSome result (λ t. (x : Holding) × IsShardOf N.setup s x × FnOnceReturnsAt F.FnOnce f x t) }
+        ensures { IfSome result (λ t. (x : Holding) × IsShardOf N.setup N.opened s x × FnOnceReturnsAt F.FnOnce f x t) }
     {
         let guard = self.shards[s as usize].lock(rt);
         let locked = &*guard;
@@ -52,7 +52,7 @@ impl<N: Named, H: Ledger> Engine<N, H> {
     /// at most for the exchange of a pointer, but where the pointer can't be copied, since too many copies are in use:
     /// then it is answered by `look`. Bisections in the layers of one shard, and no memory.
     pub fn cell<R: Wait>(&self, rt: &R, row: u64, col: u64) -> Option<u64>
-        ensures some { IfSome result (λ n. (x : Holding) × IsShardOf N.setup (row % N.setup.shards) x
+        ensures some { IfSome result (λ n. (x : Holding) × IsShardOf N.setup N.opened (row % N.setup.shards) x
             × (get (content x.layers) (row, col) ≡ Some n)) }
         ensures outside { (N.setup.rows ≤ row) ⊎ (N.setup.cols ≤ col) → result ≡ None }
     {
@@ -78,7 +78,7 @@ impl<N: Named, H: Ledger> Engine<N, H> {
     /// its lock when it was shown last (`put`). Both are 0 where it has none, as outside the dimensions. It waits as
     /// `cell` does, and puts don't wait for it. No memory.
     pub fn row<R: Wait>(&self, rt: &R, row: u64) -> RowSum
-        ensures sum { (result ≡ no_sum) ⊎ ((x : Holding) × IsShardOf N.setup (row % N.setup.shards) x
+        ensures sum { (result ≡ no_sum) ⊎ ((x : Holding) × IsShardOf N.setup N.opened (row % N.setup.shards) x
             × (result ≡ row_sum_in x row)) }
         ensures outside { N.setup.rows ≤ row → result ≡ no_sum }
     {

@@ -94,7 +94,8 @@ fn rooms<N: Named, H: Ledger>(
     ),
     AllocError,
 >
-    requires { plain.now.setup ≡ N.setup }
+    requires setup { plain.now.setup ≡ N.setup }
+    requires opened { plain.now.book.state ≡ N.opened }
     ensures seats { IfOk result (λ r. (r.0.items ≡ []) × (count ≤ vec_capacity r.0)) }
     ensures shards { IfOk result (λ r. (vec_len r.1 ≡ 0) × (N.setup.shards ≤ vec_capacity r.1)) }
     ensures shown { IfOk result (λ r. vec_len r.2 ≡ N.setup.shards) }

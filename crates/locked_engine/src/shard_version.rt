@@ -5,6 +5,7 @@ ghost use Rattle.std.specs.FinMap.{get};
 ghost use Rattle.layer_compaction.specs.Shared.{content};
 ghost use Rattle.batch_store.specs.Shards.{Holding, IsReady};
 ghost use Rattle.locked_engine.specs.Moments.{IsShardOf, row_sum_in};
+ghost use Rattle.locked_engine.specs.Opened.{IsBased};
 ghost use Rattle.locked_engine.specs.Shown.{IsSightOf, IsOf, IsNext, shown};
 
 use crate::names::Named;
@@ -17,8 +18,8 @@ use std::sync::Arc;
 /// A shard as it was at one moment: its number, and a view of its layers, which it shares.
 ///
 /// Contracts see the number, the layers, and how many batches the record had. They are those of a shard of N's setup,
-/// as it keeps itself behind its lock: the layers add up to the base and the parts of the record's batches, each but
-/// the last within its cut, no batch twice.
+/// as it keeps itself behind its lock: its base is its part of what was folded when the engine was opened, the layers
+/// add up to the base and the parts of the record's batches, each but the last within its cut, no batch twice.
 #[derive(Drop)]
 pub struct ShardVersion<N: Named> {
     number: u64,
@@ -36,12 +37,12 @@ impl<N: Named> Model for ShardVersion<N> {
 
     ghost view = { λ a. shown a.number a.sight };
 
-    ghost invariant = { λ a. (x : Holding) × IsSightOf N.setup a.number a.sight x };
+    ghost invariant = { λ a. (x : Holding) × IsSightOf N.setup N.opened a.number a.sight x };
 }
 
 impl<N: Named> ShardVersion<N> {
     fn new(number: u64, sight: ShardView) -> ShardVersion<N>
-        requires { (x : Holding) × IsSightOf N.setup number sight x }
+        requires { (x : Holding) × IsSightOf N.setup N.opened number sight x }
         ensures { result ≡ shown number sight }
     {
         ShardVersion {
@@ -57,7 +58,8 @@ impl<N: Named> ShardVersion<N> {
     ///
     /// A growth was refused.
     pub fn of_shard(alloc: Global, shard: &Shard) -> Result<Arc<ShardVersion<N>>, AllocError>
-        requires { shard.now.setup ≡ N.setup }
+        requires setup { shard.now.setup ≡ N.setup }
+        requires based { IsBased N.opened N.setup.shards shard.now }
         ensures { IfOk result (λ a. IsOf shard.now (arc_value a)) }
     {
         let number = shard.number();
@@ -78,6 +80,7 @@ impl<N: Named> ShardVersion<N> {
         p: &Prepared,
     ) -> Result<Arc<ShardVersion<N>>, AllocError>
         requires setup { shard.now.setup ≡ N.setup }
+        requires based { IsBased N.opened N.setup.shards shard.now }
         requires ready { IsReady shard.now p.now }
         ensures { IfOk result (λ a. IsNext shard.now p.now (arc_value a)) }
     {
@@ -96,7 +99,7 @@ impl<N: Named> ShardVersion<N> {
 
     /// The count at a place, as `Shard::get`. No memory.
     pub fn cell(&self, row: u64, col: u64) -> Option<u64>
-        ensures { IfSome result (λ n. (x : Holding) × IsShardOf N.setup self.now.number x
+        ensures { IfSome result (λ n. (x : Holding) × IsShardOf N.setup N.opened self.now.number x
             × (get (content x.layers) (row, col) ≡ Some n)) }
     {
         self.sight.get(row, col)
@@ -104,7 +107,7 @@ impl<N: Named> ShardVersion<N> {
 
     /// How many entries a row has and their counts together, as `Shard::row_total`. No memory.
     pub fn row(&self, row: u64) -> RowSum
-        ensures { (x : Holding) × IsShardOf N.setup self.now.number x × (result ≡ row_sum_in x row) }
+        ensures { (x : Holding) × IsShardOf N.setup N.opened self.now.number x × (result ≡ row_sum_in x row) }
     {
         self.sight.row_total(row)
     }
@@ -112,7 +115,7 @@ impl<N: Named> ShardVersion<N> {
     /// The view of the shard. Constant time.
     pub fn sight(&self) -> &ShardView
         ensures sight { result.now ≡ self.now.sight }
-        ensures kept { (x : Holding) × IsSightOf N.setup self.now.number result.now x }
+        ensures kept { (x : Holding) × IsSightOf N.setup N.opened self.now.number result.now x }
     {
         &self.sight
     }

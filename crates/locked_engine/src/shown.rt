@@ -57,7 +57,8 @@ fn first_version<N: Named>(
     plain: &PlainEngine,
     s: u64,
 ) -> Result<Arc<ShardVersion<N>>, AllocError>
-    requires { plain.now.setup ≡ N.setup }
+    requires setup { plain.now.setup ≡ N.setup }
+    requires opened { plain.now.book.state ≡ N.opened }
 {
     // Any call on it tells what it keeps.
     let _setup = plain.setup();
@@ -79,7 +80,8 @@ pub(crate) fn first_versions<N: Named>(
     alloc: Global,
     plain: &PlainEngine,
 ) -> Result<FirstVersions<N>, AllocError>
-    requires { plain.now.setup ≡ N.setup }
+    requires setup { plain.now.setup ≡ N.setup }
+    requires opened { plain.now.book.state ≡ N.opened }
     ensures { IfOk result (λ versions. vec_len versions ≡ N.setup.shards) }
 {
     let k = plain.setup().shards();

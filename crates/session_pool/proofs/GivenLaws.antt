@@ -17,20 +17,21 @@ use Rattle.session_pool.specs.Saves.{IsSaved}
 use Rattle.session_pool.specs.Seats.{SeatGives}
 
 -- a cell is what a shard of its row held, and leaves the seat
-pub gives_cell : (v : Setting) (saved : Accepted → Type 0) (s : SeatView) (r c : ℕ) (o : Option ℕ) →
-    IfSome o (λ n. (x : Holding) × IsShardOf v (r % v.shards) x × (get (content x.layers) (r, c) ≡ Some n)) →
-    SeatGives v saved s (cell r c o) s
-gives_cell v saved s r c None h = refl
-gives_cell v saved s r c (Some n) h = (refl, h.0, h.1, h.2)
+pub gives_cell : (v : Setting) (opened : Accepted) (saved : Accepted → Type 0) (s : SeatView)
+    (r c : ℕ) (o : Option ℕ) →
+    IfSome o (λ n. (x : Holding) × IsShardOf v opened (r % v.shards) x × (get (content x.layers) (r, c) ≡ Some n)) →
+    SeatGives v opened saved s (cell r c o) s
+gives_cell v opened saved s r c None h = refl
+gives_cell v opened saved s r c (Some n) h = (refl, h.0, h.1, h.2)
 
 -- a save shows the seat the entries of what was saved
 pub gives_save : (v : Setting) (opened : Accepted) (saved : Accepted → Type 0) (s t : SeatView)
     (r : Result ℕ SaveRefusal) → t.number ≡ s.number → IsPrefix s.seen t.seen → t.first ≡ s.first →
     IfOk r (λ n. (a : Accepted) × AreAccepted v a × (entries_in a ≡ t.seen) × SharePast a opened
-    × (n ≡ count_in a) × saved a) → SeatGives v saved s (save r) t
+    × (n ≡ count_in a) × saved a) → SeatGives v opened saved s (save r) t
 gives_save v opened saved s t (Err e) number later first h = ((number, later), first)
 gives_save v opened saved s t (Ok n) number later first h =
-    ((number, later), first, h.0, h.1, h.2, h.4, h.5)
+    ((number, later), first, h.0, h.1, h.2, h.3, h.4, h.5)
 
 -- what a disk has answered as saved, in the words of the saver
 pub is_saved : {D Z : Type 0} (saves : D → List ℕ → Setting → Accepted → Type 0) (d : D) (o : Option (String Z))

@@ -7,6 +7,7 @@ returns-then-number-s g c = (
   record {
     setup = c.deref-locked.result.now.setup_is;
     number = sym c.number.ensures.value ∙ c.if-number-s.true;
+    based = c.deref-locked.result.now.based;
     held = c.number.ensures.kept;
   },
   (_, c.f.ensures, refl),

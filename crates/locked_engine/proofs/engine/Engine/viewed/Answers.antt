@@ -11,7 +11,7 @@ new-requires g c =
     let seen = c.in_ok-views.ensures in
     let vs = c.in_ok-views.views.items in
     subst (λ (w : Setting). HaveSize w.rows w.cols vs) (sym c.self.invariant.0)
-    (show_size v vs seen.0 (made_with v 0 seen.0 seen.1) seen.3)
+    (show_size v vs seen.0 (made_with v g.N.Named.opened 0 seen.0 seen.1) seen.3)
 
 pub returns : goal.returns
 returns g c =

@@ -6,8 +6,9 @@ new-requires g c = (
   c.args.shard.now,
   record {
     shard = record {
-      setup = c.requires;
+      setup = c.requires.setup;
       number = sym c.number-number.ensures.value;
+      based = c.requires.based;
       held = c.number-number.ensures.kept;
     };
     layers = c.in_ok-sight.ensures.layers;

@@ -8,7 +8,7 @@ pub returns-clause-gives : goal.returns-clause-gives
 returns-clause-gives g c =
     let s = c.args.self.now in (
       refl,
-      gives_cell g.N.Named.setup
+      gives_cell g.N.Named.setup g.N.Named.opened
           (λ (a : Accepted). IsSaved g.R.Disk.saves s.rt.now s.saver.now.path g.N.Named.setup a) s.seat.now
           c.args.row c.args.col c.cell.result c.cell.ensures.some,
     )
