@@ -21,21 +21,24 @@ use Rattle.locked_engine.specs.Told.{IsTold}
 use Rattle.locked_engine.specs.Versions.{IsVersion, version_status}
 use Rattle.locked_engine.specs.Views.{SeatView}
 use Rattle.wire_proto.specs.Keeping.{Event, put, cell, row, status, export, save}
+use Rattle.wire_proto.specs.declared.keeper.PutRefusal.TheVariants.{Put as Refuses, LogFull, LogFailed}
 
 abbrev pub LooksOn : SeatView → SeatView → Type 0
 LooksOn s t = (t.number ≡ s.number) × IsPrefix s.seen t.seen
 
--- A put, a status and a save show the seat a version, of which the answer is true: a put's is that version's word on
--- the batch, whose total is added to the seat's share where the put was the first; a saved list has just its entries,
--- and the same batches are folded in it as when the engine was opened, into the same base.
+-- There is no log. A put, a status and a save show the seat a version, of which the answer is true: a put's is that
+-- version's word on the batch, whose total is added to the seat's share where the put was the first; a saved list has
+-- just its entries, and the same batches are folded in it as when the engine was opened, into the same base.
 -- A cell, a row and the parts of an export are what a shard of the row's number showed under its lock at a moment of
 -- the call, over its part of the base that the engine was opened with; they leave the seat as it is.
 abbrev pub SeatGives : Setting → Accepted → (Accepted → Type 0) → SeatView → Event → SeatView → Type 0
 SeatGives v opened saved s (put batch (Ok kept)) t =
     LooksOn s t × ((t.first ≡ s.first + batch_total batch) ⊎ (t.first ≡ s.first)) ×
     IsTold v (entry_of batch) t.seen (Ok kept)
-SeatGives v opened saved s (put batch (Err fault)) t =
+SeatGives v opened saved s (put batch (Err (Refuses fault))) t =
     LooksOn s t × (t.first ≡ s.first) × IsTold v (entry_of batch) t.seen (Err fault)
+SeatGives v opened saved s (put batch (Err LogFull)) t = ⊥
+SeatGives v opened saved s (put batch (Err LogFailed)) t = ⊥
 SeatGives v opened saved s (cell r c (Some count)) t =
     (t ≡ s) × (x : Holding) × IsShardOf v opened (r % v.shards) x × (get (content x.layers) (r, c) ≡ Some count)
 SeatGives v opened saved s (cell r c None) t = t ≡ s

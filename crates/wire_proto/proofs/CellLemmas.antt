@@ -14,7 +14,7 @@ use Rattle.batch_store.specs.Lists.{RefusesList}
 use Rattle.batch_store.specs.declared.fault.CellsFault.{CellsFault}
 use Rattle.batch_store.specs.declared.fault.CellsFault.TheVariants.{IndexOutOfRange}
 use Rattle.batch_store.specs.declared.verdict.Kept.{Kept}
-use Rattle.plain_engine.specs.declared.fault.PutFault.{PutFault}
+use Rattle.wire_proto.specs.declared.keeper.PutRefusal.{PutRefusal}
 use Rattle.wire_proto.specs.CellBytes.{cell_at, cells_of, cell_bytes, spelled_cells, FitsBytes}
 use Rattle.wire_frames.specs.Frames.{number, number_at}
 use Rattle.wire_proto.specs.Keeping.{Event, put}
@@ -134,7 +134,7 @@ pub cells_answered : {S : Type 0} (gives : S → Event → S → Type 0) (setup 
 cells_answered gives setup s t client n bytes code detail reply r e same = unasked (code, detail, r, e) same
 
 pub cells_replied : {S T E : Type 0} (items : T → List ℕ) (gives : S → Event → S → Type 0) (setup : Setting) (s t : S)
-    (client n : ℕ) (bytes : List ℕ) (batch : Submission) (answer : Result Kept PutFault) (r : Result T E) →
+    (client n : ℕ) (bytes : List ℕ) (batch : Submission) (answer : Result Kept PutRefusal) (r : Result T E) →
     PutsCells setup client n bytes batch → gives s (put batch answer) t →
     IfOk r (λ short. put_reply answer ≡ Some (items short)) →
     IfOk r (λ short. Answers gives setup (PutCells client n bytes) (items short) s t)
@@ -143,7 +143,7 @@ cells_replied items gives setup s t client n bytes batch answer (Ok short) p h e
 cells_replied items gives setup s t client n bytes batch answer (Err x) p h e = tt
 
 pub cells_out : {S T E : Type 0} (gives : S → Event → S → Type 0) (setup : Setting) (s t : S) (client n : ℕ)
-    (bytes : List ℕ) (batch : Submission) (answer : Result Kept PutFault) (r : Result T E) →
+    (bytes : List ℕ) (batch : Submission) (answer : Result Kept PutRefusal) (r : Result T E) →
     PutsCells setup client n bytes batch → gives s (put batch answer) t → OnErr r (put_reply answer ≡ None) →
     OnErr r (RunsOut gives setup (PutCells client n bytes) s t)
 cells_out gives setup s t client n bytes batch answer (Ok short) p h e = tt

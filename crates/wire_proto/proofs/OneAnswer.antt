@@ -23,10 +23,12 @@ use Rattle.batch_store.proofs.ListLaws.{never_refused, one_fault, makes_or_refus
 use Rattle.batch_store.specs.declared.verdict.Verdict.{Verdict}
 use Rattle.batch_store.specs.declared.verdict.Verdict.TheVariants as verdict
 use Rattle.batch_store.specs.declared.verdict.Kept.{Kept}
-use Rattle.plain_engine.specs.Object.{Puts, answer_of, state_after, verdict_in, answer_to, state_by, cell_of}
+use Rattle.plain_engine.specs.Object.{answer_of, state_after, verdict_in, answer_to, state_by, cell_of}
 use Rattle.plain_engine.specs.Object.{row_sum_of, export_of, status_of}
 use Rattle.plain_engine.specs.declared.fault.PutFault.{PutFault}
 use Rattle.plain_engine.specs.declared.fault.PutFault.TheVariants as fault
+use Rattle.wire_proto.specs.declared.keeper.PutRefusal.{PutRefusal}
+use Rattle.wire_proto.specs.declared.keeper.PutRefusal.TheVariants.{Put as Refuses, LogFull, LogFailed}
 use Rattle.wire_frames.specs.Frames.{Message}
 use Rattle.wire_proto.specs.Keeping.{Event, put, cell, row, status, export, save}
 use Rattle.wire_proto.specs.Replies.{put_reply, reply_of, refused}
@@ -137,15 +139,22 @@ one_cells_refusal setup bytes code detail code' detail' r r' =
     (f.3 ∙ ap code_of_cells one ∙ sym g.3, f.4 ∙ ap detail_of_cells one ∙ sym g.4)
 
 -- a put that is replied to is the object's
-pub put_is : (v : Setting) (state : Accepted) (b : Submission) (answer : Result Kept PutFault)
+abbrev pub told : Result Kept PutFault → Result Kept PutRefusal
+told (Ok k) = Ok k
+told (Err f) = Err (Refuses f)
+
+pub put_is : (v : Setting) (state : Accepted) (b : Submission) (answer : Result Kept PutRefusal)
     (t : Accepted) (w : List ℕ) →
-    Puts v state b answer t → put_reply answer ≡ Some w → (answer ≡ answer_of v state b) × (t ≡ state_after v state b)
-put_is v state b (Ok k) t w h e = h
-put_is v state b (Err fault.Memory) t w h e = absurd (cc)
-put_is v state b (Err fault.NumberReused) t w h e = h
-put_is v state b (Err (fault.OverTotal total)) t w h e = h
-put_is v state b (Err fault.BookFull) t w h e = h
-put_is v state b (Err fault.RecordsDiffer) t w h e = h
+    PlainGives v state (put b answer) t → put_reply answer ≡ Some w →
+    (answer ≡ told (answer_of v state b)) × (t ≡ state_after v state b)
+put_is v state b (Ok k) t w h e = (ap told h.0, h.1)
+put_is v state b (Err (Refuses fault.Memory)) t w h e = absurd (cc)
+put_is v state b (Err (Refuses fault.NumberReused)) t w h e = (ap told h.0, h.1)
+put_is v state b (Err (Refuses (fault.OverTotal total))) t w h e = (ap told h.0, h.1)
+put_is v state b (Err (Refuses fault.BookFull)) t w h e = (ap told h.0, h.1)
+put_is v state b (Err (Refuses fault.RecordsDiffer)) t w h e = (ap told h.0, h.1)
+put_is v state b (Err LogFull) t w h e = absurd h
+put_is v state b (Err LogFailed) t w h e = absurd h
 
 abbrev Same : List ℕ → List ℕ → Accepted → Accepted → Type 0
 Same w w' t t' = (w ≡ w') × (t ≡ t')
@@ -163,7 +172,7 @@ export_is v state (Ok m) t w h e = (ap (λ x. Ok x) h.0, h.1)
 export_is v state (Err x) t w h e = absurd (cc)
 
 -- of puts of one batch, one reply
-one_put : (v : Setting) (state : Accepted) (e e' : Event) (b b' : Submission) (a a' : Result Kept PutFault)
+one_put : (v : Setting) (state : Accepted) (e e' : Event) (b b' : Submission) (a a' : Result Kept PutRefusal)
     (w w' : List ℕ) (t t' : Accepted) → b ≡ b' → e ≡ put b a → e' ≡ put b' a' → PlainGives v state e t →
     PlainGives v state e' t' → reply_of e ≡ Some w → reply_of e' ≡ Some w' → Same w w' t t'
 one_put v state e e' b b' a a' w w' t t' same ev ev' h h' i i' =
@@ -171,7 +180,7 @@ one_put v state e e' b b' a a' w w' t t' same ev ev' h h' i i' =
     (subst (λ x. reply_of x ≡ Some w) ev i) in
     let two = put_is v state b' a' t' w' (subst (λ x. PlainGives v state x t') ev' h')
     (subst (λ x. reply_of x ≡ Some w') ev' i') in
-    let answers = one.0 ∙ ap (answer_of v state) same ∙ sym two.0 in
+    let answers = one.0 ∙ ap (λ x. told (answer_of v state x)) same ∙ sym two.0 in
     event_once v state e e' w w' t t' (ev ∙ ap (λ x. put x a) same ∙ ap (λ x. put b' x) answers ∙ sym ev')
     (one.1 ∙ ap (state_after v state) same ∙ sym two.1) i i'
 
@@ -274,7 +283,8 @@ abbrev HasAnswer : Setting → Accepted → Request → Type 0
 HasAnswer v state r = (w : List ℕ) × (t : Accepted) × Answers (PlainGives v) v r w state t
 
 by_verdict : (v : Setting) (state : Accepted) (b : Submission) (vd : Verdict) → verdict_in v state b ≡ vd →
-    (w : List ℕ) × (t : Accepted) × (a : Result Kept PutFault) × Puts v state b a t × (put_reply a ≡ Some w)
+    (w : List ℕ) × (t : Accepted) × (a : Result Kept PutRefusal) × PlainGives v state (put b a) t ×
+    (put_reply a ≡ Some w)
 by_verdict v state b verdict.Fresh e = (
   _,
   _,
@@ -292,21 +302,21 @@ by_verdict v state b (verdict.Known k) e = (
 by_verdict v state b verdict.NumberReused e = (
   _,
   _,
-  Err fault.NumberReused,
+  Err (Refuses fault.NumberReused),
   (ap (answer_to state b) (sym e), ap (state_by state b) (sym e)),
   refl,
 )
 by_verdict v state b (verdict.OverTotal total) e = (
   _,
   _,
-  Err (fault.OverTotal total),
+  Err (Refuses (fault.OverTotal total)),
   (ap (answer_to state b) (sym e), ap (state_by state b) (sym e)),
   refl,
 )
 by_verdict v state b verdict.BookFull e = (
   _,
   _,
-  Err fault.BookFull,
+  Err (Refuses fault.BookFull),
   (ap (answer_to state b) (sym e), ap (state_by state b) (sym e)),
   refl,
 )

@@ -8,6 +8,7 @@ use Rattle.batch_store.specs.Accepted.{Accepted}
 use Rattle.wire_frames.specs.Frames.{Message, Gives, messages}
 use Rattle.wire_proto.specs.Keeping.{Event, put, cell, row, status, export, save}
 use Rattle.plain_engine.specs.declared.fault.PutFault.TheVariants as fault
+use Rattle.wire_proto.specs.declared.keeper.PutRefusal.TheVariants.{Put as Refuses, LogFull, LogFailed}
 use Rattle.wire_proto.specs.Replies.{refused, reply_of}
 use Rattle.wire_proto.specs.Answering.{Answers, asked, unasked, RunsOut, before_call, in_call}
 use Rattle.wire_proto.specs.Sessions.{Talks, AnswersAll, LacksMemory, NextReply, Then, Breaks, Rests, Ends}
@@ -97,11 +98,13 @@ module _ {S N : Type 0} (name : S → N) (setup_of : S → Setting) (state : S �
 -- memory ran out: what was accepted is as it was
 pub memory_keeps : (v : Setting) (l l' : Accepted) (e : Event) → PlainGives v l e l' → reply_of e ≡ None → l' ≡ l
 memory_keeps v l l' (put batch (Ok k)) h n = absurd (cc)
-memory_keeps v l l' (put batch (Err fault.Memory)) h n = h.1
-memory_keeps v l l' (put batch (Err fault.NumberReused)) h n = absurd (cc)
-memory_keeps v l l' (put batch (Err (fault.OverTotal total))) h n = absurd (cc)
-memory_keeps v l l' (put batch (Err fault.BookFull)) h n = absurd (cc)
-memory_keeps v l l' (put batch (Err fault.RecordsDiffer)) h n = absurd (cc)
+memory_keeps v l l' (put batch (Err (Refuses fault.Memory))) h n = h.1
+memory_keeps v l l' (put batch (Err (Refuses fault.NumberReused))) h n = absurd (cc)
+memory_keeps v l l' (put batch (Err (Refuses (fault.OverTotal total)))) h n = absurd (cc)
+memory_keeps v l l' (put batch (Err (Refuses fault.BookFull))) h n = absurd (cc)
+memory_keeps v l l' (put batch (Err (Refuses fault.RecordsDiffer))) h n = absurd (cc)
+memory_keeps v l l' (put batch (Err LogFull)) h n = absurd h
+memory_keeps v l l' (put batch (Err LogFailed)) h n = absurd h
 memory_keeps v l l' (cell r c count) h n = h.1
 memory_keeps v l l' (row r sum) h n = h.1
 memory_keeps v l l' (status s) h n = h.1

@@ -17,7 +17,7 @@ use Rattle.batch_store.specs.Files.{RefusesFile}
 use Rattle.batch_store.specs.declared.fault.BatchFault.TheVariants.{DimensionsDiffer, SumTooLarge}
 use Rattle.mm_text.specs.declared.file.MmFile.{MmFile}
 use Rattle.batch_store.specs.declared.verdict.Kept.{Kept}
-use Rattle.plain_engine.specs.declared.fault.PutFault.{PutFault}
+use Rattle.wire_proto.specs.declared.keeper.PutRefusal.{PutRefusal}
 use Rattle.wire_proto.specs.Keeping.{Event, put}
 use Rattle.wire_proto.specs.PutTexts.{HandsOut}
 use Rattle.wire_proto.specs.Replies.{put_reply, refused}
@@ -83,7 +83,7 @@ fault_told left s t answers kind line c (inl h) n = explained (left s) (bytes_of
 fault_told left s t answers kind line c (inr h) n = absurd (n h.kind_is)
 
 pub put_answered : {S : Type 0} (gives : S → Event → S → Type 0) (setup : Setting) (s t : S) (client n : ℕ)
-    (bytes : List ℕ) (batch : Submission) (answer : Result Kept PutFault) (reply : List ℕ) →
+    (bytes : List ℕ) (batch : Submission) (answer : Result Kept PutRefusal) (reply : List ℕ) →
     PutsBatch setup client n bytes batch → gives s (put batch answer) t → put_reply answer ≡ Some reply →
     Answers gives setup (Put client n bytes) reply s t
 put_answered gives setup s t client n bytes batch answer reply p h e = asked (put batch answer)
@@ -96,7 +96,7 @@ pub put_refused : {S : Type 0} (gives : S → Event → S → Type 0) (setup : S
 put_refused gives setup s client n bytes code detail reply r e = unasked (code, detail, r, e) refl
 
 pub put_replied : {S T E : Type 0} (items : T → List ℕ) (gives : S → Event → S → Type 0) (setup : Setting) (s t : S)
-    (client n : ℕ) (bytes : List ℕ) (batch : Submission) (answer : Result Kept PutFault) (r : Result T E) →
+    (client n : ℕ) (bytes : List ℕ) (batch : Submission) (answer : Result Kept PutRefusal) (r : Result T E) →
     PutsBatch setup client n bytes batch → gives s (put batch answer) t →
     IfOk r (λ short. put_reply answer ≡ Some (items short)) →
     IfOk r (λ short. Answers gives setup (Put client n bytes) (items short) s t)
@@ -105,7 +105,7 @@ put_replied items gives setup s t client n bytes batch answer
 put_replied items gives setup s t client n bytes batch answer (Err x) p h e = tt
 
 pub put_out : {S T E : Type 0} (gives : S → Event → S → Type 0) (setup : Setting) (s t : S) (client n : ℕ)
-    (bytes : List ℕ) (batch : Submission) (answer : Result Kept PutFault) (r : Result T E) →
+    (bytes : List ℕ) (batch : Submission) (answer : Result Kept PutRefusal) (r : Result T E) →
     PutsBatch setup client n bytes batch → gives s (put batch answer) t → OnErr r (put_reply answer ≡ None) →
     OnErr r (RunsOut gives setup (Put client n bytes) s t)
 put_out gives setup s t client n bytes batch answer (Ok short) p h e = tt

@@ -16,9 +16,11 @@ use Rattle.batch_store.specs.declared.verdict.Verdict.TheVariants as verdict
 use Rattle.batch_store.proofs.VerdictLaws.{fresh_is, total_push}
 use Rattle.hyper_matrix.specs.Matrix.{Matrix}
 use Rattle.std.specs.declared.alloc.AllocError.{AllocError}
-use Rattle.plain_engine.specs.Object.{Puts, answer_to, state_by, verdict_in}
+use Rattle.plain_engine.specs.Object.{answer_to, state_by, verdict_in}
 use Rattle.plain_engine.specs.declared.fault.PutFault.{PutFault}
 use Rattle.plain_engine.specs.declared.fault.PutFault.TheVariants as fault
+use Rattle.wire_proto.specs.declared.keeper.PutRefusal.{PutRefusal}
+use Rattle.wire_proto.specs.declared.keeper.PutRefusal.TheVariants.{Put as Refuses, LogFull, LogFailed}
 use Rattle.wire_proto.specs.Keeping.{Event, put, export}
 use Rattle.wire_proto.specs.Replies.{accepted, refused, put_reply, reply_of}
 use Rattle.wire_proto.specs.Answering.{PutsBatch, PutsCells, Answers, asked, unasked}
@@ -210,24 +212,29 @@ never_refused w k code detail e f =
 some_reply : (x y : List ℕ) → Some x ≡ Some y → x ≡ y
 some_reply x y e = cc
 
-by_answer : (v : Setting) (state t : Accepted) (b : Submission) (answer : Result Kept PutFault) (w : List ℕ)
-    (k : Kept) → Puts v state b answer t → put_reply answer ≡ Some w → w ≡ accepted k →
+by_answer : (v : Setting) (state t : Accepted) (b : Submission) (answer : Result Kept PutRefusal) (w : List ℕ)
+    (k : Kept) → PlainGives v state (put b answer) t → put_reply answer ≡ Some w → w ≡ accepted k →
     (k' : Kept) × (w ≡ accepted k') × Stored t b.client b.number k'
 by_answer v state t b (Ok k') w k h i e = (
   k',
   sym (some_reply _ _ i),
   by_stored v state t b k' (verdict_in v state b) refl h.0 h.1,
 )
-by_answer v state t b (Err fault.Memory) w k h i e = absurd (cc)
-by_answer v state t b (Err fault.NumberReused) w k h i e = absurd (never_refused w k 30 0 e (sym (some_reply _ _ i)))
-by_answer v state t b (Err (fault.OverTotal total)) w k h i e = absurd
+by_answer v state t b (Err (Refuses fault.Memory)) w k h i e = absurd (cc)
+by_answer v state t b (Err (Refuses fault.NumberReused)) w k h i e = absurd
+    (never_refused w k 30 0 e (sym (some_reply _ _ i)))
+by_answer v state t b (Err (Refuses (fault.OverTotal total))) w k h i e = absurd
     (never_refused w k 31 total e (sym (some_reply _ _ i)))
-by_answer v state t b (Err fault.BookFull) w k h i e = absurd (never_refused w k 32 0 e (sym (some_reply _ _ i)))
-by_answer v state t b (Err fault.RecordsDiffer) w k h i e = absurd (never_refused w k 33 0 e (sym (some_reply _ _ i)))
+by_answer v state t b (Err (Refuses fault.BookFull)) w k h i e = absurd
+    (never_refused w k 32 0 e (sym (some_reply _ _ i)))
+by_answer v state t b (Err (Refuses fault.RecordsDiffer)) w k h i e = absurd
+    (never_refused w k 33 0 e (sym (some_reply _ _ i)))
+by_answer v state t b (Err LogFull) w k h i e = absurd h
+by_answer v state t b (Err LogFailed) w k h i e = absurd h
 
 -- a put of a batch, from whatever request
 batch_stored : (v : Setting) (state t : Accepted) (c n : ℕ) (e : Event) (b : Submission)
-    (answer : Result Kept PutFault) (w : List ℕ) (k : Kept) → e ≡ put b answer → b.client ≡ c → b.number ≡ n →
+    (answer : Result Kept PutRefusal) (w : List ℕ) (k : Kept) → e ≡ put b answer → b.client ≡ c → b.number ≡ n →
     PlainGives v state e t → reply_of e ≡ Some w → w ≡ accepted k →
     (k' : Kept) × (w ≡ accepted k') × Stored t c n k'
 batch_stored v state t c n e b answer w k is client number h i told =

@@ -22,13 +22,13 @@ use Rattle.batch_store.specs.Batches.{Submission, submission}
 use Rattle.batch_store.specs.Lists.{MakesBatch, LeavesAt, PassesSum}
 use Rattle.batch_store.specs.declared.verdict.Kept.{Kept}
 use Rattle.plain_engine.specs.declared.status.Status.{Status as Counted}
-use Rattle.plain_engine.specs.declared.fault.PutFault.{PutFault}
 use Rattle.wire_proto.specs.CellBytes.{cells_of}
 use Rattle.wire_proto.specs.Keeping.{Event, put, cell, row, status, export, save}
 use Rattle.wire_proto.specs.Replies.{reply_of, refused}
 use Rattle.wire_frames.specs.declared.request.Request.{Request}
 use Rattle.wire_frames.specs.declared.request.Request.TheVariants.{Put, Cell as CellAt, Row, Status, Export, Save, Stop}
 use Rattle.wire_frames.specs.declared.request.Request.TheVariants.{PutCells}
+use Rattle.wire_proto.specs.declared.keeper.PutRefusal.{PutRefusal}
 use Rattle.wire_proto.specs.declared.keeper.SaveRefusal.{SaveRefusal}
 
 -- the limits of a Put's text
@@ -82,7 +82,7 @@ pub data RefusesCells (setup : Setting) (bytes : List ℕ) (code detail : ℕ) :
 
 abbrev pub Asks : Setting → Request → Event → Type 0
 Asks setup (Put client n bytes) e =
-    (batch : Submission) × (answer : Result Kept PutFault) × PutsBatch setup client n bytes batch ×
+    (batch : Submission) × (answer : Result Kept PutRefusal) × PutsBatch setup client n bytes batch ×
     (e ≡ put batch answer)
 Asks setup (CellAt r c) e = (count : Option ℕ) × (r < setup.rows) × (c < setup.cols) × (e ≡ cell r c count)
 Asks setup (Row r) e = (sum : RowSum) × (r < setup.rows) × (e ≡ row r sum)
@@ -91,7 +91,7 @@ Asks setup Export e = (answer : Result Matrix AllocError) × (e ≡ export answe
 Asks setup Save e = (answer : Result ℕ SaveRefusal) × (e ≡ save answer)
 Asks setup Stop e = ⊥
 Asks setup (PutCells client n bytes) e =
-    (batch : Submission) × (answer : Result Kept PutFault) × PutsCells setup client n bytes batch ×
+    (batch : Submission) × (answer : Result Kept PutRefusal) × PutsCells setup client n bytes batch ×
     (e ≡ put batch answer)
 
 abbrev pub Refuses : Setting → Request → List ℕ → Type 0

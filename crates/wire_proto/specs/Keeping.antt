@@ -6,12 +6,12 @@ use Rattle.hyper_matrix.specs.Matrix.{Matrix}
 use Rattle.batch_store.specs.Batches.{Submission}
 use Rattle.batch_store.specs.declared.verdict.Kept.{Kept}
 use Rattle.plain_engine.specs.declared.status.Status.{Status}
-use Rattle.plain_engine.specs.declared.fault.PutFault.{PutFault}
+use Rattle.wire_proto.specs.declared.keeper.PutRefusal.{PutRefusal}
 use Rattle.wire_proto.specs.declared.keeper.SaveRefusal.{SaveRefusal}
 
 -- one call of a keeper, with what it was given and what it answered
 pub data Event : Type 0 where
-  put : Submission → Result Kept PutFault → Event
+  put : Submission → Result Kept PutRefusal → Event
   cell : ℕ → ℕ → Option ℕ → Event
   row : ℕ → RowSum → Event
   status : Status → Event

@@ -1,6 +1,6 @@
 -- Sessions over the engine of one thread, whose state is what was accepted, and nothing else.
 --     with_batches        what was accepted with these batches behind it
---     PlainGives          what the engine answers to a call, and the state that it leaves
+--     PlainGives          what the engine answers to a call, and the state that it leaves; it has no log
 --     AnswersMessages     these bytes answer the messages, one after another: each request as a keeper does, a Stop and
 --                         a bad header as the last
 --     IsAnswered          the same over the engine of one thread: of the state before and the messages, the bytes and
@@ -25,6 +25,7 @@ use Rattle.wire_proto.specs.Sessions.{Talks, AllPut}
 use Rattle.wire_frames.specs.declared.request.Request.{Request}
 use Rattle.wire_frames.specs.declared.request.Request.TheVariants.{Put, PutCells, Stop}
 use Rattle.wire_frames.specs.declared.request.FrameFault.{FrameFault}
+use Rattle.wire_proto.specs.declared.keeper.PutRefusal.TheVariants.{Put as Refuses, LogFull, LogFailed}
 use Rattle.wire_proto.specs.declared.keeper.SaveRefusal.TheVariants.{SaveOff}
 use Rattle.wire_proto.specs.declared.ended.Ended.{Ended}
 use Rattle.wire_proto.specs.declared.ended.Ended.TheVariants.{Closed, ReadFault, WriteFault, BadFrame, Memory, Stopped}
@@ -34,7 +35,10 @@ abbrev pub with_batches : Accepted → List Submission → Accepted
 with_batches a bs = accepted a.base a.folded (a.list ++ bs)
 
 abbrev pub PlainGives : Setting → Accepted → Event → Accepted → Type 0
-PlainGives v state (put batch answer) after = Puts v state batch answer after
+PlainGives v state (put batch (Ok kept)) after = Puts v state batch (Ok kept) after
+PlainGives v state (put batch (Err (Refuses fault))) after = Puts v state batch (Err fault) after
+PlainGives v state (put batch (Err LogFull)) after = ⊥
+PlainGives v state (put batch (Err LogFailed)) after = ⊥
 PlainGives v state (cell r c count) after = (count ≡ cell_of state r c) × (after ≡ state)
 PlainGives v state (row r sum) after = (sum ≡ row_sum_of state r) × (after ≡ state)
 PlainGives v state (status s) after = (s ≡ status_of state) × (after ≡ state)

@@ -6,8 +6,8 @@ use Rattle.byte_io.specs.Streams.{Answer}
 use Rattle.batch_store.specs.Setups.{Setting}
 use Rattle.batch_store.specs.Batches.{Submission}
 use Rattle.wire_proto.specs.Answering.{PutsBatch, RefusesText, PutsCells, RefusesCells}
-use Rattle.wire_proto.specs.declared.texts.PutRefusal.{PutRefusal}
-use Rattle.wire_proto.specs.declared.texts.PutRefusal.TheVariants.{Memory, Refused}
+use Rattle.wire_proto.specs.declared.texts.BodyRefusal.{BodyRefusal}
+use Rattle.wire_proto.specs.declared.texts.BodyRefusal.TheVariants.{Memory, Refused}
 
 -- a read hands out bytes from the front, and never fails
 abbrev pub HandsOut : List ℕ → Answer → List ℕ → Type 0
@@ -15,13 +15,13 @@ HandsOut old (Ok bytes) new = old ≡ bytes ++ new
 HandsOut old (Err e) new = ⊥
 
 -- what a Put's text leads to
-abbrev pub Leads : {Z : Type 0} → Setting → ℕ → ℕ → List ℕ → Result (Arc Submission Z) PutRefusal → Type 0
+abbrev pub Leads : {Z : Type 0} → Setting → ℕ → ℕ → List ℕ → Result (Arc Submission Z) BodyRefusal → Type 0
 Leads setup client n bytes (Ok batch) = PutsBatch setup client n bytes (arc_value batch)
 Leads setup client n bytes (Err Memory) = Unit {0}
 Leads setup client n bytes (Err (Refused code detail)) = RefusesText setup bytes code detail
 
 -- what the cells of a PutCells lead to
-abbrev pub CellsLead : {Z : Type 0} → Setting → ℕ → ℕ → List ℕ → Result (Arc Submission Z) PutRefusal → Type 0
+abbrev pub CellsLead : {Z : Type 0} → Setting → ℕ → ℕ → List ℕ → Result (Arc Submission Z) BodyRefusal → Type 0
 CellsLead setup client n bytes (Ok batch) = PutsCells setup client n bytes (arc_value batch)
 CellsLead setup client n bytes (Err Memory) = Unit {0}
 CellsLead setup client n bytes (Err (Refused code detail)) = RefusesCells setup bytes code detail

@@ -7,7 +7,6 @@ use Rattle.hyper_rows.specs.declared.search.RowSum.{RowSum}
 use Rattle.hyper_matrix.specs.Matrix.{Matrix}
 use Rattle.batch_store.specs.declared.verdict.Kept.{Kept}
 use Rattle.plain_engine.specs.declared.status.Status.{Status}
-use Rattle.plain_engine.specs.declared.fault.PutFault.{PutFault}
 use Rattle.plain_engine.specs.declared.fault.PutFault.TheVariants.{Memory, NumberReused, OverTotal, BookFull}
 use Rattle.plain_engine.specs.declared.fault.PutFault.TheVariants.{RecordsDiffer}
 use Rattle.wire_frames.specs.Frames.{frame, number}
@@ -16,6 +15,8 @@ use Rattle.wire_proto.specs.Keeping.{Event, put, cell, row, status, export, save
 use Rattle.wire_frames.specs.declared.request.FrameFault.{FrameFault}
 use Rattle.wire_frames.specs.declared.request.FrameFault.TheVariants.{Memory as NoMemory, TooLarge, UnknownKind}
 use Rattle.wire_frames.specs.declared.request.FrameFault.TheVariants.{BadLength}
+use Rattle.wire_proto.specs.declared.keeper.PutRefusal.{PutRefusal}
+use Rattle.wire_proto.specs.declared.keeper.PutRefusal.TheVariants.{Put, LogFull, LogFailed}
 use Rattle.wire_proto.specs.declared.keeper.SaveRefusal.{SaveRefusal}
 use Rattle.wire_proto.specs.declared.keeper.SaveRefusal.TheVariants.{Memory as SaveMemory, SaveOff, SaveFailed}
 
@@ -51,13 +52,15 @@ fault_code UnknownKind = 51
 fault_code BadLength = 52
 
 -- how the answer of a call is spelled; None where memory ran out
-abbrev pub put_reply : Result Kept PutFault → Option (List ℕ)
+abbrev pub put_reply : Result Kept PutRefusal → Option (List ℕ)
 put_reply (Ok kept) = Some (accepted kept)
-put_reply (Err Memory) = None
-put_reply (Err NumberReused) = Some (refused 30 0)
-put_reply (Err (OverTotal total)) = Some (refused 31 total)
-put_reply (Err BookFull) = Some (refused 32 0)
-put_reply (Err RecordsDiffer) = Some (refused 33 0)
+put_reply (Err (Put Memory)) = None
+put_reply (Err (Put NumberReused)) = Some (refused 30 0)
+put_reply (Err (Put (OverTotal total))) = Some (refused 31 total)
+put_reply (Err (Put BookFull)) = Some (refused 32 0)
+put_reply (Err (Put RecordsDiffer)) = Some (refused 33 0)
+put_reply (Err LogFull) = Some (refused 34 0)
+put_reply (Err LogFailed) = Some (refused 35 0)
 
 -- a text of more bytes than a body may have is refused
 unfoldable pub text_reply : List ℕ → List ℕ

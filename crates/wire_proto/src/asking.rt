@@ -4,9 +4,9 @@ ghost use Rattle.wire_proto.specs.Replies.{put_reply};
 ghost use Rattle.wire_proto.specs.Answering.{Answers, RunsOut};
 
 use crate::cell_bodies::batch_of_cells;
-use crate::keeper::{Keeper, SaveRefusal};
+use crate::keeper::{Keeper, PutRefusal, SaveRefusal};
 use crate::replies::{Short, accepted, counts, refused, row_sum, saved, value};
-use crate::texts::{PutRefusal, batch_of};
+use crate::texts::{BodyRefusal, batch_of};
 use batch_store::Kept;
 use bytes::Bytes;
 use plain_engine::PutFault;
@@ -64,17 +64,19 @@ pub fn ask_save<K: Keeper>(alloc: Global, keeper: &mut K) -> Result<Short, Alloc
 }
 
 /// The reply to a put that the keeper answered; an Err where memory ran out.
-fn reply_to_put(answer: Result<Kept, PutFault>) -> Result<Short, AllocError>
+fn reply_to_put(answer: Result<Kept, PutRefusal>) -> Result<Short, AllocError>
     ensures reply { IfOk result (λ short. put_reply answer ≡ Some short.items) }
     ensures none { OnErr result (put_reply answer ≡ None) }
 {
     match answer {
         Ok(kept) => Ok(accepted(kept)),
-        Err(PutFault::Memory) => Err(AllocError),
-        Err(PutFault::NumberReused) => Ok(refused(30, 0)),
-        Err(PutFault::OverTotal { accepted }) => Ok(refused(31, accepted)),
-        Err(PutFault::BookFull) => Ok(refused(32, 0)),
-        Err(PutFault::RecordsDiffer) => Ok(refused(33, 0)),
+        Err(PutRefusal::Put(PutFault::Memory)) => Err(AllocError),
+        Err(PutRefusal::Put(PutFault::NumberReused)) => Ok(refused(30, 0)),
+        Err(PutRefusal::Put(PutFault::OverTotal { accepted })) => Ok(refused(31, accepted)),
+        Err(PutRefusal::Put(PutFault::BookFull)) => Ok(refused(32, 0)),
+        Err(PutRefusal::Put(PutFault::RecordsDiffer)) => Ok(refused(33, 0)),
+        Err(PutRefusal::LogFull) => Ok(refused(34, 0)),
+        Err(PutRefusal::LogFailed) => Ok(refused(35, 0)),
     }
 }
 
@@ -95,8 +97,8 @@ pub fn ask_put<K: Keeper>(
 {
     let setup = keeper.setup();
     match batch_of(alloc, &setup, client, number, text.as_slice()) {
-        Err(PutRefusal::Memory) => Err(AllocError),
-        Err(PutRefusal::Refused { code, detail }) => Ok(refused(code, detail)),
+        Err(BodyRefusal::Memory) => Err(AllocError),
+        Err(BodyRefusal::Refused { code, detail }) => Ok(refused(code, detail)),
         Ok(batch) => {
             let answer = keeper.put(alloc, batch);
             reply_to_put(answer)
@@ -121,8 +123,8 @@ pub fn ask_put_cells<K: Keeper>(
 {
     let setup = keeper.setup();
     match batch_of_cells(alloc, &setup, client, number, cells) {
-        Err(PutRefusal::Memory) => Err(AllocError),
-        Err(PutRefusal::Refused { code, detail }) => Ok(refused(code, detail)),
+        Err(BodyRefusal::Memory) => Err(AllocError),
+        Err(BodyRefusal::Refused { code, detail }) => Ok(refused(code, detail)),
         Ok(batch) => {
             let answer = keeper.put(alloc, batch);
             reply_to_put(answer)

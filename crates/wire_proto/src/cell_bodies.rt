@@ -4,7 +4,7 @@ ghost use Rattle.wire_proto.specs.CellBytes.{cell_at, cells_of};
 ghost use Rattle.wire_frames.specs.Frames.{number_at};
 ghost use Rattle.wire_proto.specs.PutTexts.{CellsLead};
 
-use crate::texts::PutRefusal;
+use crate::texts::BodyRefusal;
 use batch_store::{Batch, CellsFault, MAX_CELLS, Setup};
 use bytes::Bytes;
 use cells::Cell;
@@ -58,32 +58,32 @@ pub fn batch_of_cells(
     client: u64,
     number: u64,
     body: Bytes,
-) -> Result<Arc<Batch>, PutRefusal>
+) -> Result<Arc<Batch>, BodyRefusal>
     ensures { CellsLead setup.now client number body result }
 {
     if body.len() / CELL > MAX_CELLS {
-        return Err(PutRefusal::Refused {
+        return Err(BodyRefusal::Refused {
             code: 23,
             detail: 0,
         });
     }
     let cells = match cells_in(alloc, body.as_slice()) {
         Ok(cells) => cells,
-        Err(_) => return Err(PutRefusal::Memory),
+        Err(_) => return Err(BodyRefusal::Memory),
     };
     drop(body);
     match Batch::from_cell_list(alloc, setup, client, number, cells) {
         Ok(batch) => Ok(batch),
-        Err(CellsFault::Memory) => Err(PutRefusal::Memory),
-        Err(CellsFault::TooManyCells) => Err(PutRefusal::Refused {
+        Err(CellsFault::Memory) => Err(BodyRefusal::Memory),
+        Err(CellsFault::TooManyCells) => Err(BodyRefusal::Refused {
             code: 23,
             detail: 0,
         }),
-        Err(CellsFault::IndexOutOfRange { at }) => Err(PutRefusal::Refused {
+        Err(CellsFault::IndexOutOfRange { at }) => Err(BodyRefusal::Refused {
             code: 22,
             detail: at,
         }),
-        Err(CellsFault::SumTooLarge) => Err(PutRefusal::Refused {
+        Err(CellsFault::SumTooLarge) => Err(BodyRefusal::Refused {
             code: 21,
             detail: 0,
         }),

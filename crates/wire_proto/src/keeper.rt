@@ -15,6 +15,32 @@ use std::alloc::{AllocError, Global};
 use std::sync::Arc;
 use thiserror::Error;
 
+/// Why a put got no reply that is kept.
+#[derive(Clone, Copy, Debug, PartialEq, Eq, Error)]
+pub enum PutRefusal {
+    /// The engine refused the batch.
+    #[error("the batch is refused: {0}")]
+    Put(PutFault),
+    /// The log has no room for the batch. Nothing was accepted.
+    #[error("the log has no room for the batch")]
+    LogFull,
+    /// A write to the log has failed, now or earlier. The batch may be accepted, and isn't known to be durable: sent
+    /// again under its two numbers it counts once.
+    #[error("the log has failed")]
+    LogFailed,
+}
+
+impl From<PutFault> for PutRefusal {
+    ghost use Rattle.std.specs.Prelude.{◌≡◌};
+    ghost use Rattle.wire_proto.specs.declared.keeper.PutRefusal.TheVariants.{Put};
+
+    ghost from_gives = { λ fault refusal. refusal ≡ Put fault };
+
+    fn from(fault: PutFault) -> PutRefusal {
+        PutRefusal::Put(fault)
+    }
+}
+
 /// Why nothing was saved.
 #[derive(Clone, Copy, Debug, PartialEq, Eq, Error)]
 pub enum SaveRefusal {
@@ -49,7 +75,7 @@ pub trait Keeper {
         ensures { result ≡ setup_of self.now };
 
     /// Accepts a batch of the setup's dimensions, gives the reply that it keeps for it, or refuses it.
-    fn put(&mut self, alloc: Global, batch: Arc<Batch>) -> Result<Kept, PutFault>
+    fn put(&mut self, alloc: Global, batch: Arc<Batch>) -> Result<Kept, PutRefusal>
         requires fact { fact self.old }
         requires rows { (arc_value batch).matrix.rows ≡ (setup_of self.old).rows }
         requires cols { (arc_value batch).matrix.cols ≡ (setup_of self.old).cols }

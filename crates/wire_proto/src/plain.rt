@@ -3,12 +3,12 @@ ghost use Rattle.std.specs.Prelude.{◌≡◌, ℕ, ◌+◌, ◌<◌, ◌≤◌,
 ghost use Rattle.wire_proto.specs.Plain.{PlainGives, EndsPlain};
 
 use crate::ended::Ended;
-use crate::keeper::{Keeper, SaveRefusal};
+use crate::keeper::{Keeper, PutRefusal, SaveRefusal};
 use crate::serving::serve;
 use batch_store::{Batch, Kept, Setup};
 use byte_io::Link;
 use hyper_matrix::RowSum;
-use plain_engine::{PlainEngine, PutFault, Status, ViewedSum};
+use plain_engine::{PlainEngine, Status, ViewedSum};
 use std::alloc::{AllocError, Global};
 use std::sync::Arc;
 
@@ -46,8 +46,8 @@ impl<'a> Keeper for PlainKeeper<'a> {
         self.engine.setup()
     }
 
-    fn put(&mut self, alloc: Global, batch: Arc<Batch>) -> Result<Kept, PutFault> {
-        self.engine.put(alloc, batch)
+    fn put(&mut self, alloc: Global, batch: Arc<Batch>) -> Result<Kept, PutRefusal> {
+        Ok(self.engine.put(alloc, batch)?)
     }
 
     fn cell(&mut self, row: u64, col: u64) -> Option<u64> {

@@ -17,9 +17,9 @@ const LIMITS: TextLimits = TextLimits {
     max_entries: MAX_ENTRIES,
 };
 
-/// Why a put is refused before the keeper is asked.
+/// Why the body of a put is refused before the keeper is asked.
 #[derive(Clone, Copy)]
-pub enum PutRefusal {
+pub enum BodyRefusal {
     Memory,
     Refused { code: u16, detail: u64 },
 }
@@ -96,25 +96,25 @@ pub fn batch_of(
     client: u64,
     number: u64,
     text: &[u8],
-) -> Result<Arc<Batch>, PutRefusal>
+) -> Result<Arc<Batch>, BodyRefusal>
     ensures { Leads setup.now client number text.now result }
 {
     match spelled_file(alloc, text) {
         Ok(file) => match Batch::make(alloc, setup, client, number, &file) {
             Ok(batch) => Ok(batch),
-            Err(BatchFault::Memory) => Err(PutRefusal::Memory),
-            Err(BatchFault::DimensionsDiffer) => Err(PutRefusal::Refused {
+            Err(BatchFault::Memory) => Err(BodyRefusal::Memory),
+            Err(BatchFault::DimensionsDiffer) => Err(BodyRefusal::Refused {
                 code: 20,
                 detail: 0,
             }),
-            Err(BatchFault::SumTooLarge) => Err(PutRefusal::Refused {
+            Err(BatchFault::SumTooLarge) => Err(BodyRefusal::Refused {
                 code: 21,
                 detail: 0,
             }),
         },
         Err(fault) => match fault.kind {
-            MmKind::Memory => Err(PutRefusal::Memory),
-            kind => Err(PutRefusal::Refused {
+            MmKind::Memory => Err(BodyRefusal::Memory),
+            kind => Err(BodyRefusal::Refused {
                 code: 100 + number_of(kind),
                 detail: fault.line,
             }),

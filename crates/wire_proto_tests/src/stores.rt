@@ -13,13 +13,13 @@ use std::process::Abort;
 use std::sync::Arc;
 use std::test::Fail;
 use test_support::same_at;
-use wire_proto::{Ended, Keeper, SaveRefusal, serve};
+use wire_proto::{Ended, Keeper, PutRefusal, SaveRefusal, serve};
 
 // A store that keeps nothing. It refuses each batch, and answers a save as it was told to; it has no memory to export.
 #[derive(Clone, Copy, Drop)]
 struct Told {
     setup: Setup,
-    refusal: PutFault,
+    refusal: PutRefusal,
     saved: Result<u64, SaveRefusal>,
 }
 
@@ -36,7 +36,7 @@ impl Keeper for Told {
         self.setup
     }
 
-    fn put(&mut self, _alloc: Global, _batch: Arc<Batch>) -> Result<Kept, PutFault> {
+    fn put(&mut self, _alloc: Global, _batch: Arc<Batch>) -> Result<Kept, PutRefusal> {
         Err(self.refusal)
     }
 
@@ -72,63 +72,77 @@ const PUT: Ask = Ask::Put(7, 1, "3 3 1\n1 1 5\n");
 const ON: Ended = Ended::Closed { rest: 0 };
 
 /// What the store answers a put and a save, what is asked, what comes back, and how the session ends.
-type Case = (PutFault, Result<u64, SaveRefusal>, Ask, &'static str, Ended);
+type Case = (PutRefusal, Result<u64, SaveRefusal>, Ask, &'static str, Ended);
 
 static CASES: &[Case] = &[
     (
-        PutFault::Memory,
+        PutRefusal::Put(PutFault::Memory),
         Ok(10),
         Ask::Save,
         "00000008 86 000000000000000a",
         ON,
     ),
     (
-        PutFault::Memory,
+        PutRefusal::Put(PutFault::Memory),
         Ok(u64::MAX),
         Ask::Save,
         "00000008 86 ffffffffffffffff",
         ON,
     ),
     (
-        PutFault::Memory,
+        PutRefusal::Put(PutFault::Memory),
         Err(SaveRefusal::SaveFailed),
         Ask::Save,
         "0000000a ff 002a 0000000000000000",
         ON,
     ),
     (
-        PutFault::Memory,
+        PutRefusal::Put(PutFault::Memory),
         Err(SaveRefusal::SaveOff),
         Ask::Save,
         "0000000a ff 002b 0000000000000000",
         ON,
     ),
     (
-        PutFault::Memory,
+        PutRefusal::Put(PutFault::Memory),
         Err(SaveRefusal::Memory),
         Ask::Save,
         "0000000a ff 0001 0000000000000000",
         Ended::Memory,
     ),
     (
-        PutFault::Memory,
+        PutRefusal::Put(PutFault::Memory),
         Ok(0),
         PUT,
         "0000000a ff 0001 0000000000000000",
         Ended::Memory,
     ),
     (
-        PutFault::Memory,
+        PutRefusal::Put(PutFault::Memory),
         Ok(0),
         Ask::Export,
         "0000000a ff 0001 0000000000000000",
         Ended::Memory,
     ),
     (
-        PutFault::RecordsDiffer,
+        PutRefusal::Put(PutFault::RecordsDiffer),
         Ok(0),
         PUT,
         "0000000a ff 0021 0000000000000000",
+        ON,
+    ),
+    (
+        PutRefusal::LogFull,
+        Ok(0),
+        PUT,
+        "0000000a ff 0022 0000000000000000",
+        ON,
+    ),
+    (
+        PutRefusal::LogFailed,
+        Ok(0),
+        PUT,
+        "0000000a ff 0023 0000000000000000",
         ON,
     ),
 ];
