@@ -1,0 +1,3 @@
+pub mod TakeLaws
+pub mod FollowLaws
+pub mod StatusLaws

@@ -1,0 +1,96 @@
+//! What a leader writes at once.
+ghost use Rattle.std.specs.Prelude.{◌≡◌, ◌≢◌, ◌<◌, false, true, Err, length, OnOk};
+ghost use mathlib.Core.List.{IsPrefix};
+
+use crate::durable::Durable;
+use crate::fault::DeskFault;
+use crate::log::Log;
+use crate::room::write_block;
+use batch_store::Batch;
+use locked_engine::{Engine, Named, Version};
+use std::alloc::{AllocError, Global};
+use std::marker::Model;
+use std::sync::ledger::Ledger;
+use std::sync::{Arc, Wait};
+
+/// The most batches of a group.
+const MOST_BATCHES: usize = 1024;
+
+/// The most cells of a group of more than one batch. With them and 1,024 batches a block has at most 67,108,864 bytes
+/// of payload: 24 for each cell, 24 for each batch, and 8 for their number.
+const MOST_CELLS: u64 = 2_795_177;
+
+/// Room for the batches of one group, and what the book was seen to have, which is what contracts see.
+#[derive(Drop)]
+pub struct Group<N: Named> {
+    // Its own, so that no seat is shown anything by a group.
+    seen: Version<N>,
+    // Reserved when it is made, so that a group takes no memory.
+    batches: Vec<Arc<Batch>>,
+}
+
+impl<N: Named> Model for Group<N> {
+    ghost use Rattle.std.specs.Prelude.{ℕ, ◌<◌, List, vec_capacity};
+    ghost use Rattle.batch_store.specs.declared.verdict.Entry.{Entry};
+
+    ghost Value = { List Entry };
+
+    ghost view = { λ g. g.seen };
+
+    ghost invariant = { λ g. 0 < vec_capacity g.batches };
+}
+
+impl<N: Named> Group<N> {
+    /// Room for a group of 1,024 batches: a growth of 8 KiB. `seen` is any version of the book.
+    ///
+    /// # Errors
+    ///
+    /// The growth was refused.
+    pub fn new(alloc: Global, seen: Version<N>) -> Result<Group<N>, AllocError> {
+        let batches = Vec::with_capacity(alloc, MOST_BATCHES)?;
+        Ok(Group { seen, batches })
+    }
+
+    /// Writes one group: what the book has accepted behind the log's end, by one sync. Nothing that was durable is
+    /// lost, and at Ok at least one entry more is durable.
+    ///
+    /// # Errors
+    ///
+    /// - `LogFailed`: the log failed now.
+    /// - `HistoriesDiffer`: the book has nothing behind what is durable, or there is no room for it in the log. Nothing
+    ///   was written.
+    pub fn write<L: Log, H: Ledger, R: Wait>(
+        &mut self,
+        rt: &R,
+        engine: &Engine<N, H>,
+        log: &mut L,
+        durable: &mut Durable<N, L>,
+    ) -> Result<(), DeskFault>
+        requires works { L.failed log.old ≡ false }
+        requires durable { L.durable log.old ≡ durable.old }
+        ensures extends { IsPrefix durable.old durable.new }
+        ensures grows { OnOk result (length durable.old < length durable.new) }
+        ensures durable { L.failed log.new ≡ false → L.durable log.new ≡ durable.new }
+        ensures works { L.failed log.new ≡ true → result ≡ Err DeskFault.LogFailed }
+        ensures broken { result ≡ Err DeskFault.LogFailed → L.failed log.new ≡ true }
+        ensures told { result ≡ Err DeskFault.LogFailed → L.has_failed }
+        ensures promised { result ≢ Err DeskFault.LogFull }
+    {
+        let Group { seen, batches } = self;
+        batches.clear();
+        let from = durable.count();
+        if !engine.batches_from(rt, seen, from, MOST_CELLS, batches) || batches.is_empty() {
+            return Err(DeskFault::HistoriesDiffer);
+        }
+        durable.begins(seen);
+        let Some(status) = durable.status_with(batches.as_slice()) else {
+            return Err(DeskFault::HistoriesDiffer);
+        };
+        if let Err(fault) = write_block(log, batches.as_slice()) {
+            return Err(fault);
+        }
+        *durable = Durable::of(seen, status);
+        batches.clear();
+        Ok(())
+    }
+}
