@@ -1,12 +1,12 @@
 -- The steps of a history keep its rule.
-use Rattle.std.proofs.Common.{append_assoc, ◌∙◌, ◌≡◌, ℕ, zero, suc, ◌+◌, ◌<◌, ◌==◌, Bool, true, false, List, [], ◌∷◌, ◌++◌}
+use Rattle.std.proofs.Common.{◌∙◌, ◌≡◌, ℕ, zero, suc, ◌<◌, ◌==◌, Bool, true, false, List, [], ◌∷◌, ◌++◌}
 use Rattle.std.proofs.Common.{length, refl, ap, sym, subst, arith, inl, length-append, None}
-use Rattle.std.specs.Prelude.{MatchBool, slice_set}
+use Rattle.std.specs.Prelude.{slice_set}
 use Rattle.std.proofs.lemmas.List.{append-nil}
 use Rattle.std.proofs.lemmas.Bool.Decides.{nat_tests}
 use mathlib.Core.List.{IsPrefix}
 use prog.Atomic.{either}
-use Rattle.logbook.specs.Pages.{Cell, cell, keeps, gives, adds, Nib, nib, no_nib, may_make, may_write, step, Moves, Goes, View}
+use Rattle.logbook.specs.Pages.{Cell, cell, keeps, gives, adds, Nib, nib, no_nib, may_write, step, Moves, Goes, View}
 use Rattle.batch_store.specs.declared.verdict.Entry.{Entry}
 use Rattle.locked_engine.specs.declared.history.Line.{Line}
 use Rattle.locked_engine.specs.Histories.{place_from, AreTaken, IsKept, line, Begins, Places, Adds, Looks, added_in, entries_of_lines}

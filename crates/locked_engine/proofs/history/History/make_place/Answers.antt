@@ -1,4 +1,4 @@
-use Rattle.std.proofs.Common.{◌≡◌, ◌∙◌, sym, ap}
+use Rattle.std.proofs.Common.{◌∙◌, sym, ap}
 use Rattle.locked_engine.proofs.HistoryLaws.{place_moves}
 use Rattle.locked_engine.proofs.history.History.make_place.Goals as goal
 
