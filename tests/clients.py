@@ -50,6 +50,7 @@ cell: 8
 cell: none
 row: entries 1 total 25
 status: batches 7 total 40
+stored: batches 7 total 40
 %%MatrixMarket matrix coordinate integer general
 3 3 3
 1 1 8
@@ -246,6 +247,22 @@ def lies_are_told(examples):
                 ran = run([program, "--unix", liar.path])
                 check(f"a lie to {name}: {lie.hex()}", ran, ("", "what came is no reply to what was asked\n", 4))
                 check(f"a lie to {name}, once", liar.count, 1)
+
+
+def a_log_is_told_of(examples):
+    """What a server with a log answers: a put that has no room, one whose sync failed, and how much is durable."""
+    for code, told in [(34, "LogFull"), (35, "LogFailed")]:
+        refusal = struct.pack(">IBHQ", 10, 0xFF, code, 0)
+        with Liar(refusal) as liar, Client(unix=liar.path, client=7, timeout=WAIT) as hhm:
+            check(f"{told}: a put", fault_of(lambda: hhm.put(1, [(0, 0, 5)])), told)
+        for name, program in examples.items():
+            with Liar(refusal) as liar:
+                check(f"{told}: {name}", run([program, "--unix", liar.path])[1:], (f"refused: {told}\n", 1))
+    with Liar(struct.pack(">IBQQ", 16, 0x84, 3, 12)) as liar:
+        with Client(unix=liar.path, timeout=WAIT) as hhm:
+            check("durable", hhm.stored(), Status(3, 12))
+        command = [sys.executable, os.path.join(CLIENTS, "python", "hhm_client.py"), "--unix", liar.path, "stored"]
+        check("durable: the command", run(command), ("batches 3 total 12\n", "", 0))
 
 
 def built(name, *words):
@@ -495,6 +512,7 @@ def main():
             examples_ask_all(unix, examples)
             flows_are_fed(unix, commands)
         lies_are_told(examples)
+        a_log_is_told_of(examples)
         wrong_words_are_told(examples, commands)
         a_log_is_counted()
         a_log_is_followed()

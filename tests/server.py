@@ -201,7 +201,8 @@ def frames_are_answered(unix):
         for frame, reply in [
             (bytes.fromhex("04000001 04"), refused(50)),
             (bytes.fromhex("01000001 04"), refused(52)),
-            (bytes.fromhex("00000000 09"), refused(51)),
+            (bytes.fromhex("00000000 0a"), refused(51)),
+            (bytes.fromhex("00000001 09 00"), refused(52)),
             (bytes.fromhex("00000000 00"), refused(51)),
             (bytes.fromhex("00000001 04 00"), refused(52)),
             (bytes.fromhex("0000000f 01") + bytes(15), refused(52)),
@@ -218,6 +219,7 @@ def frames_are_answered(unix):
             (struct.pack(">IBQQ", 16, 2, 2, 2), struct.pack(">IBBQ", 9, 0x82, 0, 0)),
             (struct.pack(">IBQ", 8, 3, 0), struct.pack(">IBQQ", 16, 0x83, 1, 8)),
             (struct.pack(">IB", 0, 4), struct.pack(">IBQQ", 16, 0x84, 2, 8)),
+            (struct.pack(">IB", 0, 9), struct.pack(">IBQQ", 16, 0x84, 2, 8)),
             (struct.pack(">IB", 0, 5), struct.pack(">IB", 61, 0x85) + text(8)),
             (put_frame(7, 1, text(6)), refused(30)),
             (put_frame(9, 1, text(93)), refused(31, 8)),
@@ -230,7 +232,7 @@ def frames_are_answered(unix):
             check(f"{name}: the frame {frame[:21].hex()}", server.talk([frame], unix), reply)
         # After a bad header nothing more is answered, and of a session nothing after its Stop.
         status = struct.pack(">IB", 0, 4)
-        check(f"{name}: after a bad header", server.talk([bytes.fromhex("00000000 09") + status], unix), refused(51))
+        check(f"{name}: after a bad header", server.talk([bytes.fromhex("00000000 0a") + status], unix), refused(51))
         stop = struct.pack(">IB", 0, 7)
         check(f"{name}: Stop and more", server.talk([stop + status], unix), struct.pack(">IB", 0, 0x87))
         server.ends(name, 2, 8)

@@ -64,7 +64,7 @@ static hhm_result ask_some(hhm_client *hhm)
 {
     hhm_value value;
     hhm_row_sum row;
-    hhm_status status;
+    hhm_status status, stored;
     hhm_result result;
     for (uint64_t place = 0; place < 3; place += 2) {
         if ((result = hhm_ask_cell(hhm, place, place, &value)))
@@ -80,6 +80,9 @@ static hhm_result ask_some(hhm_client *hhm)
     if ((result = hhm_ask_status(hhm, &status)))
         return result;
     printf("status: batches %" PRIu64 " total %" PRIu64 "\n", status.batches, status.total);
+    if ((result = hhm_ask_stored(hhm, &stored)))
+        return result;
+    printf("stored: batches %" PRIu64 " total %" PRIu64 "\n", stored.batches, stored.total);
     return HHM_OK;
 }
 

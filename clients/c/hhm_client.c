@@ -22,7 +22,7 @@
 #include <time.h>
 #include <unistd.h>
 
-enum { PUT = 0x01, CELL, ROW, STATUS, EXPORT, SAVE, STOP, PUT_CELLS };
+enum { PUT = 0x01, CELL, ROW, STATUS, EXPORT, SAVE, STOP, PUT_CELLS, STORED };
 enum { ACCEPTED = 0x81, VALUE, ROW_SUM, COUNTS, TEXT, SAVED, STOPPING, REFUSED = 0xff };
 
 /* The bytes of the longest reply but a text, the cells that are spelled at once, and the bytes of replies that are kept
@@ -113,11 +113,11 @@ const char *hhm_code_name(uint16_t code)
     } names[] = {
         {1, "Memory"}, {20, "DimensionsDiffer"}, {21, "SumTooLarge"}, {22, "IndexOutOfRange"},
         {23, "TooManyCells"}, {30, "NumberReused"}, {31, "OverTotal"}, {32, "BookFull"}, {33, "RecordsDiffer"},
-        {40, "ReplyTooLarge"}, {41, "OutOfRange"}, {42, "SaveFailed"}, {43, "SaveOff"}, {50, "TooLarge"},
-        {51, "UnknownKind"}, {52, "BadLength"}, {103, "BadBanner"}, {104, "Unsupported"}, {105, "LineTooLong"},
-        {106, "BadSize"}, {107, "BadDimension"}, {108, "NotSquare"}, {109, "TooManyEntries"}, {110, "BadEntry"},
-        {111, "Negative"}, {112, "NumberTooLarge"}, {113, "IndexOutOfRange"}, {114, "TooFewEntries"},
-        {115, "ExtraText"}, {116, "TooLong"},
+        {34, "LogFull"}, {35, "LogFailed"}, {40, "ReplyTooLarge"}, {41, "OutOfRange"}, {42, "SaveFailed"},
+        {43, "SaveOff"}, {50, "TooLarge"}, {51, "UnknownKind"}, {52, "BadLength"}, {103, "BadBanner"},
+        {104, "Unsupported"}, {105, "LineTooLong"}, {106, "BadSize"}, {107, "BadDimension"}, {108, "NotSquare"},
+        {109, "TooManyEntries"}, {110, "BadEntry"}, {111, "Negative"}, {112, "NumberTooLarge"},
+        {113, "IndexOutOfRange"}, {114, "TooFewEntries"}, {115, "ExtraText"}, {116, "TooLong"},
     };
     for (size_t i = 0; i < sizeof names / sizeof names[0]; i++)
         if (names[i].code == code)
@@ -756,14 +756,24 @@ hhm_result hhm_ask_row(hhm_client *hhm, uint64_t row, hhm_row_sum *sum)
     return result;
 }
 
-hhm_result hhm_ask_status(hhm_client *hhm, hhm_status *status)
+static hhm_result ask_counts(hhm_client *hhm, uint8_t kind, hhm_status *counts)
 {
-    request it = of_numbers(STATUS, 0, 0, 0);
+    request it = of_numbers(kind, 0, 0, 0);
     reply got;
     hhm_result result = ask(hhm, &it, COUNTS, &got);
     if (result == HHM_OK)
-        *status = status_of(&got);
+        *counts = status_of(&got);
     return result;
+}
+
+hhm_result hhm_ask_status(hhm_client *hhm, hhm_status *status)
+{
+    return ask_counts(hhm, STATUS, status);
+}
+
+hhm_result hhm_ask_stored(hhm_client *hhm, hhm_status *stored)
+{
+    return ask_counts(hhm, STORED, stored);
 }
 
 hhm_result hhm_export(hhm_client *hhm, char **text, size_t *length)

@@ -149,6 +149,10 @@ hhm_result hhm_ask_row(hhm_client *hhm, uint64_t row, hhm_row_sum *sum);
 /* How many batches were accepted, and their total. Counts every put that was answered before. */
 hhm_result hhm_ask_status(hhm_client *hhm, hhm_status *status);
 
+/* How many of the accepted batches are durable, the first so many, and their total: a crash of the server's machine
+   takes none of them back. A server without a log gives all that it accepted. */
+hhm_result hhm_ask_stored(hhm_client *hhm, hhm_status *stored);
+
 /* The sum of all accepted batches as a Matrix Market text, whose rows and columns count from 1. It ends with a byte 0
    that `length` doesn't count; free it with free(). */
 hhm_result hhm_export(hhm_client *hhm, char **text, size_t *length);

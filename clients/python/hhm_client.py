@@ -64,14 +64,15 @@ SPLIT = "put it as several batches, as the word load does with files of events"
 KEPT_RUNNING = ": nothing was stopped; `stop --discard` stops the server without what it can't save"
 BANNER = b"%%MatrixMarket matrix coordinate integer general\n"
 
-PUT, CELL, ROW, STATUS, EXPORT, SAVE, STOP, PUT_CELLS = range(1, 9)
+PUT, CELL, ROW, STATUS, EXPORT, SAVE, STOP, PUT_CELLS, STORED = range(1, 10)
 ACCEPTED, VALUE, ROW_SUM, COUNTS, TEXT, SAVED, STOPPING = range(0x81, 0x88)
 REFUSED = 0xFF
 
 CODES = {
     1: "Memory", 20: "DimensionsDiffer", 21: "SumTooLarge", 22: "IndexOutOfRange", 23: "TooManyCells",
-    30: "NumberReused", 31: "OverTotal", 32: "BookFull", 33: "RecordsDiffer", 40: "ReplyTooLarge",
-    41: "OutOfRange", 42: "SaveFailed", 43: "SaveOff", 50: "TooLarge", 51: "UnknownKind", 52: "BadLength",
+    30: "NumberReused", 31: "OverTotal", 32: "BookFull", 33: "RecordsDiffer", 34: "LogFull", 35: "LogFailed",
+    40: "ReplyTooLarge", 41: "OutOfRange", 42: "SaveFailed", 43: "SaveOff", 50: "TooLarge", 51: "UnknownKind",
+    52: "BadLength",
     103: "BadBanner", 104: "Unsupported", 105: "LineTooLong", 106: "BadSize", 107: "BadDimension",
     108: "NotSquare", 109: "TooManyEntries", 110: "BadEntry", 111: "Negative", 112: "NumberTooLarge",
     113: "IndexOutOfRange", 114: "TooFewEntries", 115: "ExtraText", 116: "TooLong",
@@ -494,6 +495,11 @@ class Client:
         """How many batches were accepted, and their total."""
         return Status(*struct.unpack(">QQ", self._ask(request(STATUS), COUNTS, 16)))
 
+    def stored(self) -> Status:
+        """How many of the accepted batches are durable, the first so many, and their total: a crash of the server's
+        machine takes none of them back. A server without a log gives all that it accepted."""
+        return Status(*struct.unpack(">QQ", self._ask(request(STORED), COUNTS, 16)))
+
     def export(self) -> bytes:
         """The text of the sum of all accepted batches; `cells_of` reads it."""
         return self._ask(request(EXPORT), TEXT, None)
@@ -731,6 +737,7 @@ def parser() -> argparse.ArgumentParser:
     row = asked.add_parser("row", help="a row's number of cells, and their sum")
     row.add_argument("row", type=number)
     asked.add_parser("status", help="the number of accepted batches, and their total")
+    asked.add_parser("stored", help="the number of durable batches, which no crash takes back, and their total")
     asked.add_parser("export", help="writes the sum as a Matrix Market text")
     asked.add_parser("save", help="saves a snapshot")
     stop = asked.add_parser("stop", help="saves, where the server has a place for snapshots, and stops the server")
@@ -772,6 +779,8 @@ def answer(hhm: Client, given: argparse.Namespace, text: bytes) -> bytes:
         return b"entries %d total %d\n" % hhm.row(given.row)
     if given.word == "status":
         return b"batches %d total %d\n" % hhm.status()
+    if given.word == "stored":
+        return b"batches %d total %d\n" % hhm.stored()
     if given.word in ("export", "save"):
         return hhm.export() if given.word == "export" else b"saved %d\n" % hhm.save()
     stop(hhm, given.discard)

@@ -97,6 +97,8 @@ fn ask_all(hhm: &mut Client) -> Result<(), Error> {
     println!("row: entries {} total {}", row.entries, row.total);
     let status = hhm.status()?;
     println!("status: batches {} total {}", status.batches, status.total);
+    let stored = hhm.stored()?;
+    println!("stored: batches {} total {}", stored.batches, stored.total);
     print!("{}", String::from_utf8_lossy(&hhm.export()?));
     println!("saved: {}", hhm.save()?);
     hhm.stop()?;

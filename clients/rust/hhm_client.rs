@@ -95,6 +95,8 @@ impl Refusal {
             31 => "OverTotal",
             32 => "BookFull",
             33 => "RecordsDiffer",
+            34 => "LogFull",
+            35 => "LogFailed",
             40 => "ReplyTooLarge",
             41 => "OutOfRange",
             42 => "SaveFailed",
@@ -511,6 +513,13 @@ impl Client {
     /// How many batches were accepted, and their total. Counts every put that was answered before.
     pub fn status(&mut self) -> Result<Status, Error> {
         let body = self.ask(&request(4, &[]), COUNTS)?;
+        Ok(status_of(&body))
+    }
+
+    /// How many of the accepted batches are durable, the first so many, and their total: a crash of the server's
+    /// machine takes none of them back. A server without a log gives all that it accepted.
+    pub fn stored(&mut self) -> Result<Status, Error> {
+        let body = self.ask(&request(9, &[]), COUNTS)?;
         Ok(status_of(&body))
     }
 

@@ -20,17 +20,18 @@ use Rattle.locked_engine.specs.Opened.{SharePast}
 use Rattle.locked_engine.specs.Told.{IsTold}
 use Rattle.locked_engine.specs.Versions.{IsVersion, version_status}
 use Rattle.locked_engine.specs.Views.{SeatView}
-use Rattle.wire_proto.specs.Keeping.{Event, put, cell, row, status, export, save}
+use Rattle.wire_proto.specs.Keeping.{Event, put, cell, row, status, export, save, stored}
 use Rattle.wire_proto.specs.declared.keeper.PutRefusal.TheVariants.{Put as Refuses, LogFull, LogFailed}
 
 abbrev pub LooksOn : SeatView → SeatView → Type 0
 LooksOn s t = (t.number ≡ s.number) × IsPrefix s.seen t.seen
 
--- There is no log. A put, a status and a save show the seat a version, of which the answer is true: a put's is that
--- version's word on the batch, whose total is added to the seat's share where the put was the first; a saved list has
--- just its entries, and the same batches are folded in it as when the engine was opened, into the same base.
--- A cell, a row and the parts of an export are what a shard of the row's number showed under its lock at a moment of
--- the call, over its part of the base that the engine was opened with; they leave the seat as it is.
+-- A put, a status, a stored and a save show the seat a version, of which the answer is true: a put's is that version's
+-- word on the batch, whose total is added to the seat's share where the put was the first; a saved list has just its
+-- entries, and the same batches are folded in it as when the engine was opened, into the same base. There is no log, so
+-- what is told as stored is all of the version. A cell, a row and the parts of an export are what a shard of the row's
+-- number showed under its lock at a moment of the call, over its part of the base that the engine was opened with; they
+-- leave the seat as it is.
 abbrev pub SeatGives : Setting → Accepted → (Accepted → Type 0) → SeatView → Event → SeatView → Type 0
 SeatGives v opened saved s (put batch (Ok kept)) t =
     LooksOn s t × ((t.first ≡ s.first + batch_total batch) ⊎ (t.first ≡ s.first)) ×
@@ -54,3 +55,5 @@ SeatGives v opened saved s (save (Ok count)) t =
     LooksOn s t × (t.first ≡ s.first) × (a : Accepted) × AreAccepted v a × (entries_in a ≡ t.seen) ×
     SharePast a opened × (count ≡ count_in a) × saved a
 SeatGives v opened saved s (save (Err refusal)) t = LooksOn s t × (t.first ≡ s.first)
+SeatGives v opened saved s (stored a) t =
+    LooksOn s t × (t.first ≡ s.first) × IsVersion v t.seen × (a ≡ version_status t.seen)

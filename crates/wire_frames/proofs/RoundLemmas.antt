@@ -8,7 +8,7 @@ use Rattle.wire_frames.specs.Frames.{front, frame, head_bytes, number, head_len,
 use Rattle.wire_frames.specs.Frames.{length_fits, request_of, number_at, request_frame, HasFrame}
 use Rattle.wire_frames.specs.declared.request.Request.{Request}
 use Rattle.wire_frames.specs.declared.request.Request.TheVariants.{Put, Cell, Row, Status, Export, Save, Stop}
-use Rattle.wire_frames.specs.declared.request.Request.TheVariants.{PutCells}
+use Rattle.wire_frames.specs.declared.request.Request.TheVariants.{PutCells, Stored}
 use Rattle.wire_frames.proofs.FrontLemmas.{front_whole}
 
 pub kind_read : (k : ℕ) (body more : List ℕ) → head_kind (frame k body ++ more) ≡ k
@@ -143,3 +143,4 @@ front_again (PutCells client n cells) more h =
     ) in
     front_of_frame 8 (number client ++ number n ++ cells) more h.short (cells_fit _ _ size h.whole)
     ∙ ap (λ x. Some (Ok x, more)) (cells_read client n cells h.numbers.0 h.numbers.1)
+front_again Stored more h = front_of_frame 9 [] more h.short refl

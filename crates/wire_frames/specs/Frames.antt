@@ -5,7 +5,7 @@ use Rattle.std.specs.Prelude.{Result, Ok, Err}
 use Rattle.std.specs.Int.{w32, w64, to_be_bytes, from_be_bytes}
 use Rattle.wire_frames.specs.declared.request.Request.{Request}
 use Rattle.wire_frames.specs.declared.request.Request.TheVariants.{Put, Cell, Row, Status, Export, Save, Stop}
-use Rattle.wire_frames.specs.declared.request.Request.TheVariants.{PutCells}
+use Rattle.wire_frames.specs.declared.request.Request.TheVariants.{PutCells, Stored}
 use Rattle.wire_frames.specs.declared.request.FrameFault.{FrameFault}
 use Rattle.wire_frames.specs.declared.request.FrameFault.TheVariants.{Memory, TooLarge, UnknownKind, BadLength}
 
@@ -30,6 +30,7 @@ kind_of Export = 5
 kind_of Save = 6
 kind_of Stop = 7
 kind_of (PutCells client n cells) = 8
+kind_of Stored = 9
 
 abbrev pub body_of : Request → List ℕ
 body_of (Put client n text) = number client ++ number n ++ text
@@ -40,6 +41,7 @@ body_of Export = []
 body_of Save = []
 body_of Stop = []
 body_of (PutCells client n cells) = number client ++ number n ++ cells
+body_of Stored = []
 
 abbrev pub request_frame : Request → List ℕ
 request_frame r = frame (kind_of r) (body_of r)
@@ -54,6 +56,7 @@ AreNumbers Export = Unit {0}
 AreNumbers Save = Unit {0}
 AreNumbers Stop = Unit {0}
 AreNumbers (PutCells client n cells) = (client < 2 ^ 64) × (n < 2 ^ 64)
+AreNumbers Stored = Unit {0}
 
 -- a whole number of cells, of 24 bytes each
 abbrev pub IsWhole : List ℕ → Type 0
@@ -76,6 +79,7 @@ length_fits kind len =
     else if kind == 3 then Some (len == 8)
     else if nat_le 4 kind && nat_le kind 7 then Some (len == 0)
     else if kind == 8 then Some (nat_le 16 len && ((len - 16) % 24 == 0))
+    else if kind == 9 then Some (len == 0)
     else None
 
 abbrev pub fault_of_kind : Option Bool → Option FrameFault
@@ -101,7 +105,8 @@ request_of kind body =
     else if kind == 5 then Export
     else if kind == 6 then Save
     else if kind == 7 then Stop
-    else PutCells (number_at 0 body) (number_at 8 body) (drop 16 body)
+    else if kind == 8 then PutCells (number_at 0 body) (number_at 8 body) (drop 16 body)
+    else Stored
 
 unfoldable pub head_len : List ℕ → ℕ
 head_len bytes = from_be_bytes w32 (take 4 bytes)

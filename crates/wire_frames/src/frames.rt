@@ -58,7 +58,7 @@ fn open(kind: u8, mut body: Bytes) -> Request
         5 => Request::Export,
         6 => Request::Save,
         7 => Request::Stop,
-        _ => {
+        8 => {
             let client = body.get_u64();
             let number = body.get_u64();
             Request::PutCells {
@@ -67,6 +67,7 @@ fn open(kind: u8, mut body: Bytes) -> Request
                 cells: body,
             }
         }
+        _ => Request::Stored,
     }
 }
 

@@ -52,6 +52,7 @@ fn fits(head: Head) -> Option<bool>
         3 => Some(head.len == 8),
         4..=7 => Some(head.len == 0),
         8 => Some(head.len >= 16 && (head.len - 16) % CELL as u32 == 0),
+        9 => Some(head.len == 0),
         _ => None,
     }
 }

@@ -33,6 +33,7 @@ pub enum Request {
         number: u64,
         cells: Bytes,
     },
+    Stored,
 }
 
 /// What is wrong with the bytes of a link, or that memory ran out.
@@ -97,6 +98,7 @@ fn kind(request: &Request) -> u8
         Request::Save => 6,
         Request::Stop => 7,
         Request::PutCells { .. } => 8,
+        Request::Stored => 9,
     }
 }
 
@@ -110,7 +112,7 @@ fn body_len(request: &Request) -> usize
         Request::PutCells { cells, .. } => 16 + cells.len(),
         Request::Cell { .. } => 16,
         Request::Row { .. } => 8,
-        Request::Status | Request::Export | Request::Save | Request::Stop => 0,
+        Request::Status | Request::Export | Request::Save | Request::Stop | Request::Stored => 0,
     }
 }
 
@@ -145,7 +147,9 @@ fn push_body(out: &mut Vec<u8>, request: &Request) -> Result<(), AllocError>
             Ok(())
         }
         Request::Row { row } => push_number(out, *row),
-        Request::Status | Request::Export | Request::Save | Request::Stop => Ok(()),
+        Request::Status | Request::Export | Request::Save | Request::Stop | Request::Stored => Ok(
+            (),
+        ),
     }
 }
 

@@ -3,12 +3,12 @@ use Rattle.std.proofs.Common.{◌≡◌, ℕ, ◌<◌, ◌≤◌, List, length, 
 use Rattle.std.proofs.lemmas.Bool.{lt-ltb, le-ltb, cases_lt}
 use Rattle.hyper_rows.specs.declared.search.RowSum.{RowSum}
 use Rattle.wire_frames.specs.Frames.{frame, head_bytes, number}
-use Rattle.wire_proto.specs.Keeping.{Event, cell, row, status, export, save}
+use Rattle.wire_proto.specs.Keeping.{Event, cell, row, status, export, save, stored}
 use Rattle.wire_proto.specs.Replies.{value, row_sum, counts, save_reply, text, text_reply, refused}
 use Rattle.mm_laws.specs.MatrixText.{matrix_text}
 use Rattle.wire_proto.specs.Answering.{Answers, asked}
 use Rattle.hyper_matrix.specs.Matrix.{Matrix}
-use Rattle.wire_frames.specs.declared.request.Request.TheVariants.{Cell as CellAt, Row, Status, Export, Save}
+use Rattle.wire_frames.specs.declared.request.Request.TheVariants.{Cell as CellAt, Row, Status, Export, Save, Stored}
 use Rattle.batch_store.specs.Setups.{Setting}
 use Rattle.wire_proto.proofs.SendLemmas.{length_text}
 use Rattle.plain_engine.specs.declared.status.Status.{Status as Counted}
@@ -30,6 +30,11 @@ pub status_answered : {S : Type 0} (gives : S → Event → S → Type 0) (setup
     (reply : List ℕ) →
     gives s (status n) t → reply ≡ counts n → Answers gives setup Status reply s t
 status_answered gives setup s t n reply h e = asked (status n) (n, refl) h (ap (λ x. Some x) (sym e))
+
+pub stored_answered : {S : Type 0} (gives : S → Event → S → Type 0) (setup : Setting) (s t : S) (n : Counted)
+    (reply : List ℕ) →
+    gives s (stored n) t → reply ≡ counts n → Answers gives setup Stored reply s t
+stored_answered gives setup s t n reply h e = asked (stored n) (n, refl) h (ap (λ x. Some x) (sym e))
 
 pub save_answered : {S : Type 0} (gives : S → Event → S → Type 0) (setup : Setting) (s t : S)
     (answer : Result ℕ SaveRefusal) (reply : List ℕ) →

@@ -1,25 +1,20 @@
 -- Cells as bytes, and what the cells of a PutCells lead to.
-use Rattle.std.proofs.Common.{◌≡◌, ℕ, zero, suc, ◌+◌, ◌*◌, ◌/◌, ◌<◌, ◌≤◌, ◌^◌, List, [], ◌∷◌, ◌++◌, length, map, refl, sym, ◌∙◌}
-use Rattle.std.proofs.Common.{ap, arith, append_assoc, length-append, take, drop, Some, None, Result, Ok, Err, IfOk}
-use Rattle.std.proofs.Common.{OnErr, subst}
+use Rattle.std.proofs.Common.{◌≡◌, ℕ, zero, suc, ◌+◌, ◌*◌, ◌/◌, ◌<◌, ◌^◌, List, [], ◌∷◌, ◌++◌, length, map, refl}
+use Rattle.std.proofs.Common.{sym, ◌∙◌, ap, arith, length-append}
+use Rattle.std.proofs.Common.{subst}
 use Rattle.std.specs.Prelude.{All, flat_map}
 use Rattle.std.specs.List.{range_with_len}
-use Rattle.std.proofs.lemmas.List.{drop_at, drop-drop, drop-append-le, take-append-le}
+use Rattle.std.proofs.lemmas.List.{drop_at, drop-drop}
 use Rattle.std.proofs.lemmas.List.Elements.{All-head, All-tail}
 use Rattle.std.proofs.lemmas.List.FromFn.{length-map-range_with_len, map-range_with_len_more}
 use Rattle.cells.specs.declared.cell.Cell.{Cell}
 use Rattle.batch_store.specs.Setups.{Setting}
-use Rattle.batch_store.specs.Batches.{Submission}
 use Rattle.batch_store.specs.Lists.{RefusesList}
 use Rattle.batch_store.specs.declared.fault.CellsFault.{CellsFault}
 use Rattle.batch_store.specs.declared.fault.CellsFault.TheVariants.{IndexOutOfRange}
-use Rattle.batch_store.specs.declared.verdict.Kept.{Kept}
-use Rattle.wire_proto.specs.declared.keeper.PutRefusal.{PutRefusal}
 use Rattle.wire_proto.specs.CellBytes.{cell_at, cells_of, cell_bytes, spelled_cells, FitsBytes}
 use Rattle.wire_frames.specs.Frames.{number, number_at}
-use Rattle.wire_proto.specs.Keeping.{Event, put}
-use Rattle.wire_proto.specs.Replies.{put_reply, refused}
-use Rattle.wire_proto.specs.Answering.{PutsCells, RefusesCells, too_many, outside, Answers, asked, unasked, RunsOut, in_call}
+use Rattle.wire_proto.specs.Answering.{RefusesCells, too_many, outside}
 use Rattle.wire_frames.specs.declared.request.Request.TheVariants.{PutCells}
 use Rattle.std.proofs.lemmas.Nat.{from_be_bytes-to_be_bytes_8}
 
@@ -125,27 +120,3 @@ read_again [] h = refl
 read_again (cell ∷ cells) h =
     one_more cell (flat_map cell_bytes cells) (All-head FitsBytes cell cells h) ∙
     ap (λ cs. cell ∷ cs) (read_again cells (All-tail FitsBytes cell cells h))
-
--- ---- puts of cells
-pub cells_answered : {S : Type 0} (gives : S → Event → S → Type 0) (setup : Setting) (s t : S) (client n : ℕ)
-    (bytes : List ℕ) (code detail : ℕ) (reply : List ℕ) →
-    RefusesCells setup bytes code detail → reply ≡ refused code detail → t ≡ s →
-    Answers gives setup (PutCells client n bytes) reply s t
-cells_answered gives setup s t client n bytes code detail reply r e same = unasked (code, detail, r, e) same
-
-pub cells_replied : {S T E : Type 0} (items : T → List ℕ) (gives : S → Event → S → Type 0) (setup : Setting) (s t : S)
-    (client n : ℕ) (bytes : List ℕ) (batch : Submission) (answer : Result Kept PutRefusal) (r : Result T E) →
-    PutsCells setup client n bytes batch → gives s (put batch answer) t →
-    IfOk r (λ short. put_reply answer ≡ Some (items short)) →
-    IfOk r (λ short. Answers gives setup (PutCells client n bytes) (items short) s t)
-cells_replied items gives setup s t client n bytes batch answer (Ok short) p h e =
-    asked (put batch answer) (batch, answer, p, refl) h e
-cells_replied items gives setup s t client n bytes batch answer (Err x) p h e = tt
-
-pub cells_out : {S T E : Type 0} (gives : S → Event → S → Type 0) (setup : Setting) (s t : S) (client n : ℕ)
-    (bytes : List ℕ) (batch : Submission) (answer : Result Kept PutRefusal) (r : Result T E) →
-    PutsCells setup client n bytes batch → gives s (put batch answer) t → OnErr r (put_reply answer ≡ None) →
-    OnErr r (RunsOut gives setup (PutCells client n bytes) s t)
-cells_out gives setup s t client n bytes batch answer (Ok short) p h e = tt
-cells_out gives setup s t client n bytes batch answer (Err x) p h e = in_call (put batch answer)
-    (batch, answer, p, refl) h e

@@ -3,6 +3,7 @@ pub mod TextLemmas
 pub mod SendLemmas
 pub mod LinkLemmas
 pub mod SessionLemmas
+pub mod HeldLemmas
 pub mod PutLemmas
 pub mod StreamLemmas
 pub mod CellLemmas

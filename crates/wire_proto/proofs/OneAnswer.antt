@@ -30,7 +30,7 @@ use Rattle.plain_engine.specs.declared.fault.PutFault.TheVariants as fault
 use Rattle.wire_proto.specs.declared.keeper.PutRefusal.{PutRefusal}
 use Rattle.wire_proto.specs.declared.keeper.PutRefusal.TheVariants.{Put as Refuses, LogFull, LogFailed}
 use Rattle.wire_frames.specs.Frames.{Message}
-use Rattle.wire_proto.specs.Keeping.{Event, put, cell, row, status, export, save}
+use Rattle.wire_proto.specs.Keeping.{Event, put, cell, row, status, export, save, stored}
 use Rattle.wire_proto.specs.Replies.{put_reply, reply_of, refused}
 use Rattle.wire_proto.specs.Answering.{put_limits, kind_number, PutsBatch, RefusesText, faulty, differs, too_large}
 use Rattle.wire_proto.specs.Answering.{Answers, asked, unasked, PutsCells, RefusesCells, too_many, outside, sum_passes}
@@ -39,7 +39,7 @@ use Rattle.wire_proto.specs.Plain.{PlainGives, IsAnswered}
 use Rattle.wire_proto.specs.declared.keeper.SaveRefusal.TheVariants.{SaveOff}
 use Rattle.wire_frames.specs.declared.request.Request.{Request}
 use Rattle.wire_frames.specs.declared.request.Request.TheVariants.{Put, Cell as CellAt, Row, Status, Export, Save, Stop}
-use Rattle.wire_frames.specs.declared.request.Request.TheVariants.{PutCells}
+use Rattle.wire_frames.specs.declared.request.Request.TheVariants.{PutCells, Stored}
 
 -- a text spells one file at most: its cells
 same_cells : (setup : Setting) (bytes : List ℕ) (cells cells' : List Cell) →
@@ -225,6 +225,11 @@ one_answer v state Save w w' t t' (asked e a h i) (asked e' a' h' i') =
     event_once v state e e' w w' t t' (a.1 ∙ ap save (g.0 ∙ sym g'.0) ∙ sym a'.1) (g.1 ∙ sym g'.1) i i'
 one_answer v state Save w w' t t' (asked e a h i) (unasked a' i') = absurd a'
 one_answer v state Save w w' t t' (unasked a i) other = absurd a
+one_answer v state Stored w w' t t' (asked e a h i) (asked e' a' h' i') =
+    let g = subst (λ x. PlainGives v state x t) a.1 h in let g' = subst (λ x. PlainGives v state x t') a'.1 h' in
+    event_once v state e e' w w' t t' (a.1 ∙ ap stored (g.0 ∙ sym g'.0) ∙ sym a'.1) (g.1 ∙ sym g'.1) i i'
+one_answer v state Stored w w' t t' (asked e a h i) (unasked a' i') = absurd a'
+one_answer v state Stored w w' t t' (unasked a i) other = absurd a
 one_answer v state Stop w w' t t' (asked e a h i) other = absurd a
 one_answer v state Stop w w' t t' (unasked a i) other = absurd a
 one_answer v state (PutCells c n bytes) w w' t t' (asked e a h i) (asked e' a' h' i') =
@@ -268,6 +273,8 @@ answered_once v state (Ok Status ∷ ms) w w' t t' a b = then_one v state Status
 answered_once v state (Ok Export ∷ ms) w w' t t' a b = then_one v state Export ms w w' t t'
     (λ m p q c d. answered_once v m ms p q t t' c d) a b
 answered_once v state (Ok Save ∷ ms) w w' t t' a b = then_one v state Save ms w w' t t'
+    (λ m p q c d. answered_once v m ms p q t t' c d) a b
+answered_once v state (Ok Stored ∷ ms) w w' t t' a b = then_one v state Stored ms w w' t t'
     (λ m p q c d. answered_once v m ms p q t t' c d) a b
 answered_once v state (Ok (PutCells x y z) ∷ ms) w w' t t' a b = then_one v state (PutCells x y z) ms w w' t t'
     (λ m p q c d. answered_once v m ms p q t t' c d) a b
@@ -410,6 +417,9 @@ has_answers v state (Ok (Row x) ∷ ms) = let h = then_some v state (Row x) ms (
     (λ m. has_answers v m ms) in (h.0, h.1, (h.2, h.3, h.4, h.5, h.6, h.7))
 has_answers v state (Ok Status ∷ ms) = let h = then_some v state Status ms
     (_, state, asked (status (status_of state)) (_, refl) (refl, refl) refl) (λ m. has_answers v m ms) in
+    (h.0, h.1, (h.2, h.3, h.4, h.5, h.6, h.7))
+has_answers v state (Ok Stored ∷ ms) = let h = then_some v state Stored ms
+    (_, state, asked (stored (status_of state)) (_, refl) (refl, refl) refl) (λ m. has_answers v m ms) in
     (h.0, h.1, (h.2, h.3, h.4, h.5, h.6, h.7))
 has_answers v state (Ok Export ∷ ms) = let h = then_some v state Export ms
     (_, state, asked (export (Ok (export_of v state))) (_, refl) (refl, refl) refl) (λ m. has_answers v m ms) in

@@ -1,6 +1,6 @@
 -- Puts: their texts, and their replies.
 use Rattle.std.proofs.Common.{◌≡◌, ◌≢◌, ◌⊎◌, inl, inr, ℕ, ◌+◌, List, [], ◌∷◌, ◌++◌, length, refl, sym, ◌∙◌, ap, subst}
-use Rattle.std.proofs.Common.{arith, append_assoc, Some, None, Result, Ok, Err, IfOk, OnErr}
+use Rattle.std.proofs.Common.{arith, append_assoc, Ok, Err}
 use Rattle.std.proofs.lemmas.List.{append-nil}
 use Rattle.std.proofs.lemmas.Bool.{cases_lt}
 use Rattle.byte_io.specs.Streams.{Answer, Calls, bytes_of_calls}
@@ -12,18 +12,11 @@ use Rattle.mm_text.specs.declared.limits.TextLimits.{TextLimits}
 use Rattle.mm_laws.proofs.FaultPlaces.{first_stays}
 use Rattle.cells.specs.declared.cell.Cell.{Cell}
 use Rattle.batch_store.specs.Setups.{Setting}
-use Rattle.batch_store.specs.Batches.{Submission}
 use Rattle.batch_store.specs.Files.{RefusesFile}
 use Rattle.batch_store.specs.declared.fault.BatchFault.TheVariants.{DimensionsDiffer, SumTooLarge}
 use Rattle.mm_text.specs.declared.file.MmFile.{MmFile}
-use Rattle.batch_store.specs.declared.verdict.Kept.{Kept}
-use Rattle.wire_proto.specs.declared.keeper.PutRefusal.{PutRefusal}
-use Rattle.wire_proto.specs.Keeping.{Event, put}
 use Rattle.wire_proto.specs.PutTexts.{HandsOut}
-use Rattle.wire_proto.specs.Replies.{put_reply, refused}
-use Rattle.wire_proto.specs.Answering.{put_limits, PutsBatch, RefusesText, differs, too_large, Answers, asked, unasked}
-use Rattle.wire_proto.specs.Answering.{RunsOut, in_call}
-use Rattle.wire_frames.specs.declared.request.Request.TheVariants.{Put}
+use Rattle.wire_proto.specs.Answering.{put_limits, RefusesText, differs, too_large}
 
 -- what a source in memory has handed out, and what is left
 pub handed_out : {S : Type 0} (left : S → List ℕ) (s t : S) (answers : List Answer) →
@@ -81,36 +74,6 @@ pub fault_told : {S : Type 0} (left : S → List ℕ) (s t : S) (answers : List 
 fault_told left s t answers kind line c (inl h) n = explained (left s) (bytes_of_calls answers) (left t) kind line
     (handed_out left s t answers c) h n
 fault_told left s t answers kind line c (inr h) n = absurd (n h.kind_is)
-
-pub put_answered : {S : Type 0} (gives : S → Event → S → Type 0) (setup : Setting) (s t : S) (client n : ℕ)
-    (bytes : List ℕ) (batch : Submission) (answer : Result Kept PutRefusal) (reply : List ℕ) →
-    PutsBatch setup client n bytes batch → gives s (put batch answer) t → put_reply answer ≡ Some reply →
-    Answers gives setup (Put client n bytes) reply s t
-put_answered gives setup s t client n bytes batch answer reply p h e = asked (put batch answer)
-    (batch, answer, p, refl) h e
-
-pub put_refused : {S : Type 0} (gives : S → Event → S → Type 0) (setup : Setting) (s : S) (client n : ℕ)
-    (bytes : List ℕ) (code detail : ℕ) (reply : List ℕ) →
-    RefusesText setup bytes code detail → reply ≡ refused code detail →
-    Answers gives setup (Put client n bytes) reply s s
-put_refused gives setup s client n bytes code detail reply r e = unasked (code, detail, r, e) refl
-
-pub put_replied : {S T E : Type 0} (items : T → List ℕ) (gives : S → Event → S → Type 0) (setup : Setting) (s t : S)
-    (client n : ℕ) (bytes : List ℕ) (batch : Submission) (answer : Result Kept PutRefusal) (r : Result T E) →
-    PutsBatch setup client n bytes batch → gives s (put batch answer) t →
-    IfOk r (λ short. put_reply answer ≡ Some (items short)) →
-    IfOk r (λ short. Answers gives setup (Put client n bytes) (items short) s t)
-put_replied items gives setup s t client n bytes batch answer
-    (Ok short) p h e = put_answered gives setup s t client n bytes batch answer (items short) p h e
-put_replied items gives setup s t client n bytes batch answer (Err x) p h e = tt
-
-pub put_out : {S T E : Type 0} (gives : S → Event → S → Type 0) (setup : Setting) (s t : S) (client n : ℕ)
-    (bytes : List ℕ) (batch : Submission) (answer : Result Kept PutRefusal) (r : Result T E) →
-    PutsBatch setup client n bytes batch → gives s (put batch answer) t → OnErr r (put_reply answer ≡ None) →
-    OnErr r (RunsOut gives setup (Put client n bytes) s t)
-put_out gives setup s t client n bytes batch answer (Ok short) p h e = tt
-put_out gives setup s t client n bytes batch answer (Err x) p h e = in_call (put batch answer)
-    (batch, answer, p, refl) h e
 
 -- ---- files that make no batch
 pub other_dimensions : (setup : Setting) (bytes : List ℕ) (file : MmFile) →

@@ -32,6 +32,7 @@ use Rattle.wire_proto.proofs.OneAnswer.{one_batch, never_both, put_is, one_cells
 use Rattle.wire_proto.proofs.PlainLemmas.{one_more}
 use Rattle.wire_frames.specs.declared.request.Request.{Request}
 use Rattle.wire_frames.specs.declared.request.Request.TheVariants.{Put, PutCells, Cell, Row, Status, Export, Save, Stop}
+use Rattle.wire_frames.specs.declared.request.Request.TheVariants.{Stored}
 
 -- ---- batches behind what was accepted
 none_behind : (state : Accepted) → with_batches state [] ≡ state
@@ -94,7 +95,7 @@ own_pair : (c n : ℕ) → ((c == c) && (n == n)) ≡ true
 own_pair c n = grind (arith, nat_tests)
 
 -- This reply is kept for a pair, at the first place where it stands.
-record Stored (state : Accepted) (c n : ℕ) (k : Kept) : Type 0 where
+record IsKept (state : Accepted) (c n : ℕ) (k : Kept) : Type 0 where
   found : position_or_len (pair_test c n) (entries_in state) < length (entries_in state)
   is : k ≡ kept (position_or_len (pair_test c n) (entries_in state))
       (total_of_entries (take (position_or_len (pair_test c n) (entries_in state) + 1) (entries_in state)))
@@ -113,8 +114,8 @@ stored_longer es ms c n k found is =
           (take-append-le (position_or_len (pair_test c n) es + 1) es ms (omega (arith, found))))),
     )
 
-stored_more : (state : Accepted) (more : List Submission) (c n : ℕ) (k : Kept) → Stored state c n k →
-    Stored (with_batches state more) c n k
+stored_more : (state : Accepted) (more : List Submission) (c n : ℕ) (k : Kept) → IsKept state c n k →
+    IsKept (with_batches state more) c n k
 stored_more state more c n k s =
     let both = stored_longer (entries_in state) (entries_of more) c n k s.found s.is in
     let e = entries_behind state more in
@@ -125,7 +126,7 @@ stored_more state more c n k s =
     }
 
 -- so there is one
-stored_once : (state : Accepted) (c n : ℕ) (k k' : Kept) → Stored state c n k → Stored state c n k' → k ≡ k'
+stored_once : (state : Accepted) (c n : ℕ) (k k' : Kept) → IsKept state c n k → IsKept state c n k' → k ≡ k'
 stored_once state c n k k' s t = s.is ∙ sym t.is
 
 -- ---- a fresh batch stands at the end, a known one where it stood
@@ -143,7 +144,7 @@ end_stored es b h =
     )
 
 stored_fresh : (v : Setting) (state : Accepted) (b : Submission) → verdict_in v state b ≡ verdict.Fresh →
-    Stored (with_batch state b) b.client b.number (kept (count_in state) (total_in state + batch_total b))
+    IsKept (with_batch state b) b.client b.number (kept (count_in state) (total_in state + batch_total b))
 stored_fresh v state b h =
     let es = entries_in state in
     let new = none_past (pair_test b.client b.number) es (fresh_is v.limit v.max_batches es (entry_of b) h).new_pair in
@@ -183,7 +184,7 @@ stored_at limit most es b k (Some i) is h =
     )
 
 stored_known : (v : Setting) (state : Accepted) (b : Submission) (k : Kept) →
-    verdict_in v state b ≡ verdict.Known k → Stored state b.client b.number k
+    verdict_in v state b ≡ verdict.Known k → IsKept state b.client b.number k
 stored_known v state b k h =
     let both = stored_at v.limit v.max_batches (entries_in state) (entry_of b) k
     (position (same_pair (entry_of b)) (entries_in state)) refl h in
@@ -194,11 +195,11 @@ ok_is x y e = cc
 
 by_stored : (v : Setting) (state t : Accepted) (b : Submission) (k : Kept) (vd : Verdict) →
     verdict_in v state b ≡ vd → ◌≡◌ {A = Result Kept PutFault} (Ok k) (answer_to state b vd) → t ≡ state_by state b vd →
-    Stored t b.client b.number k
-by_stored v state t b k verdict.Fresh is a h = subst (λ l. Stored l b.client b.number k) (sym h)
-    (subst (Stored (with_batch state b) b.client b.number) (sym (ok_is _ _ a)) (stored_fresh v state b is))
-by_stored v state t b k (verdict.Known k') is a h = subst (λ l. Stored l b.client b.number k) (sym h)
-    (subst (Stored state b.client b.number) (sym (ok_is _ _ a)) (stored_known v state b k' is))
+    IsKept t b.client b.number k
+by_stored v state t b k verdict.Fresh is a h = subst (λ l. IsKept l b.client b.number k) (sym h)
+    (subst (IsKept (with_batch state b) b.client b.number) (sym (ok_is _ _ a)) (stored_fresh v state b is))
+by_stored v state t b k (verdict.Known k') is a h = subst (λ l. IsKept l b.client b.number k) (sym h)
+    (subst (IsKept state b.client b.number) (sym (ok_is _ _ a)) (stored_known v state b k' is))
 by_stored v state t b k verdict.NumberReused is a h = absurd (cc)
 by_stored v state t b k (verdict.OverTotal total) is a h = absurd (cc)
 by_stored v state t b k verdict.BookFull is a h = absurd (cc)
@@ -214,7 +215,7 @@ some_reply x y e = cc
 
 by_answer : (v : Setting) (state t : Accepted) (b : Submission) (answer : Result Kept PutRefusal) (w : List ℕ)
     (k : Kept) → PlainGives v state (put b answer) t → put_reply answer ≡ Some w → w ≡ accepted k →
-    (k' : Kept) × (w ≡ accepted k') × Stored t b.client b.number k'
+    (k' : Kept) × (w ≡ accepted k') × IsKept t b.client b.number k'
 by_answer v state t b (Ok k') w k h i e = (
   k',
   sym (some_reply _ _ i),
@@ -236,17 +237,17 @@ by_answer v state t b (Err LogFailed) w k h i e = absurd h
 batch_stored : (v : Setting) (state t : Accepted) (c n : ℕ) (e : Event) (b : Submission)
     (answer : Result Kept PutRefusal) (w : List ℕ) (k : Kept) → e ≡ put b answer → b.client ≡ c → b.number ≡ n →
     PlainGives v state e t → reply_of e ≡ Some w → w ≡ accepted k →
-    (k' : Kept) × (w ≡ accepted k') × Stored t c n k'
+    (k' : Kept) × (w ≡ accepted k') × IsKept t c n k'
 batch_stored v state t c n e b answer w k is client number h i told =
     let found = by_answer v state t b answer w k (subst (λ x. PlainGives v state x t) is h)
     (subst (λ x. reply_of x ≡ Some w) is i) told in (
       found.0,
       found.1,
-      subst (λ m. Stored t c m found.0) number (subst (λ m. Stored t m b.number found.0) client found.2),
+      subst (λ m. IsKept t c m found.0) number (subst (λ m. IsKept t m b.number found.0) client found.2),
     )
 
 put_stored : (v : Setting) (state t : Accepted) (c n : ℕ) (r : Request) (w : List ℕ) (k : Kept) → IsPut c n r →
-    Answers (PlainGives v) v r w state t → w ≡ accepted k → (k' : Kept) × (w ≡ accepted k') × Stored t c n k'
+    Answers (PlainGives v) v r w state t → w ≡ accepted k → (k' : Kept) × (w ≡ accepted k') × IsKept t c n k'
 put_stored v state t c n (Put x y text) w k p (asked ev a h i) e =
     batch_stored v state t c n ev a.0 a.1 w k a.3 (ap (λ (b : Submission). b.client) a.2.batch_is ∙ p.0)
     (ap (λ (b : Submission). b.number) a.2.batch_is ∙ p.1) h i e
@@ -261,6 +262,7 @@ put_stored v state t c n Status w k p a e = absurd p
 put_stored v state t c n Export w k p a e = absurd p
 put_stored v state t c n Save w k p a e = absurd p
 put_stored v state t c n Stop w k p a e = absurd p
+put_stored v state t c n Stored w k p a e = absurd p
 
 -- ---- what a session adds to what was accepted
 -- P: it is the one batch of a put
@@ -311,6 +313,8 @@ adds v state t Export w (asked ev a h i) = inl ((λ x f. f), export_keeps v stat
 adds v state t Export w (unasked a i) = inl ((λ x f. f), i)
 adds v state t Save w (asked ev a h i) = inl ((λ x f. f), (subst (λ x. PlainGives v state x t) a.1 h).1)
 adds v state t Save w (unasked a i) = inl ((λ x f. f), i)
+adds v state t Stored w (asked ev a h i) = inl ((λ x f. f), (subst (λ x. PlainGives v state x t) a.1 h).1)
+adds v state t Stored w (unasked a i) = inl ((λ x f. f), i)
 adds v state t Stop w (asked ev a h i) = absurd a
 adds v state t Stop w (unasked a i) = absurd a
 
@@ -355,6 +359,7 @@ all_adds v state t (Ok (Row x) ∷ ms) w a = then_adds v state a.0 t (Row x) ms 
 all_adds v state t (Ok Status ∷ ms) w a = then_adds v state a.0 t Status ms a.1 a.3 (all_adds v a.0 t ms a.2 a.5)
 all_adds v state t (Ok Export ∷ ms) w a = then_adds v state a.0 t Export ms a.1 a.3 (all_adds v a.0 t ms a.2 a.5)
 all_adds v state t (Ok Save ∷ ms) w a = then_adds v state a.0 t Save ms a.1 a.3 (all_adds v a.0 t ms a.2 a.5)
+all_adds v state t (Ok Stored ∷ ms) w a = then_adds v state a.0 t Stored ms a.1 a.3 (all_adds v a.0 t ms a.2 a.5)
 all_adds v state t (Ok Stop ∷ ms) w a = ends_here state t a.1
 all_adds v state t (Err f ∷ ms) w a = ends_here state t a.1
 
@@ -380,6 +385,7 @@ first_answered v state t (Row x) ms w n a = a
 first_answered v state t Status ms w n a = a
 first_answered v state t Export ms w n a = a
 first_answered v state t Save ms w n a = a
+first_answered v state t Stored ms w n a = a
 first_answered v state t Stop ms w n a = absurd (n refl)
 
 -- requests, none of them a Stop, and then other messages
@@ -405,14 +411,14 @@ parts_answered v state t (r ∷ rs) ms w go a =
 alone_from : (v : Setting) (state t : Accepted) (c n : ℕ) (r : Request) (w : List ℕ) (k : Kept) → IsPut c n r →
     (m : Accepted) × (reply : List ℕ) × (more : List ℕ) × Answers (PlainGives v) v r reply state m ×
     (w ≡ reply ++ more) × IsAnswered v m [] more t → w ≡ accepted k →
-    (k' : Kept) × (w ≡ accepted k') × Stored t c n k'
+    (k' : Kept) × (w ≡ accepted k') × IsKept t c n k'
 alone_from v state t c n r w k p a e =
     let whole : w ≡ a.1 = a.4 ∙ ap (λ l. a.1 ++ l) a.5.0 ∙ append-nil a.1 in
     let one = put_stored v state a.0 c n r a.1 k p a.3 (sym whole ∙ e) in
-    (one.0, whole ∙ one.1, subst (λ l. Stored l c n one.0) (sym a.5.1) one.2)
+    (one.0, whole ∙ one.1, subst (λ l. IsKept l c n one.0) (sym a.5.1) one.2)
 
 alone_stored : (v : Setting) (state t : Accepted) (c n : ℕ) (r : Request) (w : List ℕ) (k : Kept) → IsPut c n r →
-    IsAnswered v state (Ok r ∷ []) w t → w ≡ accepted k → (k' : Kept) × (w ≡ accepted k') × Stored t c n k'
+    IsAnswered v state (Ok r ∷ []) w t → w ≡ accepted k → (k' : Kept) × (w ≡ accepted k') × IsKept t c n k'
 alone_stored v state t c n (Put x y z) w k p a e = alone_from v state t c n (Put x y z) w k p a e
 alone_stored v state t c n (PutCells x y z) w k p a e = alone_from v state t c n (PutCells x y z) w k p a e
 alone_stored v state t c n (Cell x y) w k p a e = absurd p
@@ -421,6 +427,7 @@ alone_stored v state t c n Status w k p a e = absurd p
 alone_stored v state t c n Export w k p a e = absurd p
 alone_stored v state t c n Save w k p a e = absurd p
 alone_stored v state t c n Stop w k p a e = absurd p
+alone_stored v state t c n Stored w k p a e = absurd p
 
 pub repeat_replied : (v : Setting) (state a b t : Accepted) (c n : ℕ) (r r' : Request) (w w' : List ℕ)
     (between : List (List Message)) (k k' : Kept) → IsPut c n r → IsPut c n r' →
@@ -431,7 +438,7 @@ repeat_replied v state a b t c n r r' w w' between k k' p p' one e all two e' =
     let second = alone_stored v b t c n r' w' k' p' two e' in
     let grown = all_grow v a b between all in
     let last = all_adds v b t (Ok r' ∷ []) w' two in
-    let s = stored_more b last.0 c n first.0 (subst (λ l. Stored l c n first.0) (sym grown.1)
+    let s = stored_more b last.0 c n first.0 (subst (λ l. IsKept l c n first.0) (sym grown.1)
     (stored_more a grown.0 c n first.0 first.2)) in
-    let same = stored_once t c n first.0 second.0 (subst (λ l. Stored l c n first.0) (sym last.1) s) second.2 in
+    let same = stored_once t c n first.0 second.0 (subst (λ l. IsKept l c n first.0) (sym last.1) s) second.2 in
     first.1 ∙ ap accepted same ∙ sym second.1

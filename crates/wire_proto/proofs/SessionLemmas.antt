@@ -14,14 +14,14 @@ use Rattle.wire_frames.specs.declared.request.Request.{Request}
 use Rattle.wire_frames.specs.declared.request.FrameFault.{FrameFault}
 use Rattle.wire_frames.specs.declared.request.FrameFault.TheVariants.{Memory as NoMemory, TooLarge, UnknownKind}
 use Rattle.wire_frames.specs.declared.request.FrameFault.TheVariants.{BadLength}
-use Rattle.wire_proto.specs.Closing.{Closes, whole, part, ClosesBehind, held_sent, held_cut, Sends, ended_of}
+use Rattle.wire_proto.specs.Closing.{Closes, whole, part, Sends, ended_of}
 use Rattle.wire_proto.specs.Keeping.{Event}
 use Rattle.wire_proto.specs.Replies.{refused, fault_code}
 use Rattle.wire_proto.specs.Answering.{Answers, RunsOut}
 use Rattle.wire_proto.specs.Sessions.{gave, bytes_given, Talks, AnswersAll, Stands, unasked, NextReply}
 use Rattle.wire_proto.specs.Sessions.{answer as answered, bad, out, LastReply, Carries, CarriesToEnd, TurnEnds, Says}
 use Rattle.wire_proto.specs.Sessions.{Rests, FailsToRead, Stops, Ends, OneEnds, says, breaks, OneAnswered}
-use Rattle.wire_proto.specs.Sessions.{AsksToPut, AllPut, Holds, Hands, HandsToEnd, CarriesHeld, alone, among_puts}
+use Rattle.wire_proto.specs.Sessions.{AsksToPut, AllPut, Owes, alone, among_puts}
 use Rattle.wire_proto.specs.declared.ended.Ended.{Ended}
 use Rattle.wire_proto.specs.declared.ended.Ended.TheVariants.{Closed, ReadFault, WriteFault, BadFrame, Memory, Stopped}
 use Rattle.wire_proto.specs.declared.ended.Ended.TheVariants.{TooManyTurns}
@@ -81,7 +81,7 @@ all_put_behind : (rs : List Request) (r : Request) (qs : List Request) → AllPu
 all_put_behind [] r qs h = h.1
 all_put_behind (x ∷ rs) r qs h = all_put_behind rs r qs h.1
 
-all_put_snoc : (rs : List Request) (r : Request) → AllPut rs → AsksToPut r → AllPut (rs ++ r ∷ [])
+pub all_put_snoc : (rs : List Request) (r : Request) → AllPut rs → AsksToPut r → AllPut (rs ++ r ∷ [])
 all_put_snoc [] r h put = (put, tt)
 all_put_snoc (x ∷ rs) r h put = (h.0, all_put_snoc rs r h.1 put)
 
@@ -305,56 +305,13 @@ module _ {L S : Type 0} (reads : L → Answer → L → Type 0) (writes : L → 
         refused_by = subst (λ n. HasStopped writes failures l l' reply n) {x = i} {y = 0 + i} (omega arith) stopped;
       })
 
-  -- ---- replies that are held back
-  pub stands_holds : (l0 l : L) (s0 s : S) (kept : List ℕ) (written turns : ℕ) →
-      Stands reads writes failures gives setup l0 l s0 s kept written turns →
-      Holds reads writes failures gives setup l0 l s0 s kept [] 0 written turns
-  stands_holds l0 l s0 s kept written turns a = record {
-    given = a.given;
-    replies = a.replies;
-    requests = a.requests;
-    puts = [];
-    mid = s;
-    talks = a.talks;
-    cut = subst (λ rs. Gives a.given rs kept) (sym (append-nil a.requests)) a.cut;
-    answered = a.answered;
-    behind = (refl, refl);
-    all_put = tt;
-    count_is = refl;
-    written_is = a.written_is;
-    each_gave = a.each_gave;
-    none_failed = a.none_failed;
-  }
-
-  -- one more is held back
-  pub holds_more : (l0 l : L) (s0 s s' : S) (kept rest held reply : List ℕ) (r : Request) (count written turns : ℕ) →
-      front kept ≡ Some (Ok r, rest) → AsksToPut r → Answers gives setup r reply s s' →
-      Holds reads writes failures gives setup l0 l s0 s kept held count written turns →
-      Holds reads writes failures gives setup l0 l s0 s' rest (held ++ reply) (count + 1) written turns
-  holds_more l0 l s0 s s' kept rest held reply r count written turns h put one a = record {
-    given = a.given;
-    replies = a.replies;
-    requests = a.requests;
-    puts = a.puts ++ r ∷ [];
-    mid = a.mid;
-    talks = a.talks;
-    cut = subst (λ rs. Gives a.given rs rest) (append_assoc a.requests a.puts (r ∷ []))
-        (gives_snoc a.given (a.requests ++ a.puts) kept r rest a.cut h);
-    answered = a.answered;
-    behind = answers_snoc gives setup a.mid s s' a.puts held reply r a.behind one;
-    all_put = all_put_snoc a.puts r a.all_put put;
-    count_is = length-append a.puts (r ∷ []) ∙ ap (λ n. n + 1) a.count_is;
-    written_is = a.written_is;
-    each_gave = a.each_gave;
-    none_failed = a.none_failed;
-  }
-
-  -- what was held back is sent
-  pub holds_sent : (l0 l l' : L) (s0 s : S) (kept held : List ℕ) (count written w turns : ℕ) →
+  -- ---- replies that are owed
+  -- they are sent
+  pub owes_sent : (l0 l l' : L) (s0 s : S) (kept held : List ℕ) (count written w turns : ℕ) →
       HasTaken writes failures l l' held → w ≡ written + length held →
-      Holds reads writes failures gives setup l0 l s0 s kept held count written turns →
+      Owes reads writes failures gives setup l0 l s0 s kept held count written turns →
       Stands reads writes failures gives setup l0 l' s0 s kept w turns
-  holds_sent l0 l l' s0 s kept held count written w turns taken is a = record {
+  owes_sent l0 l l' s0 s kept held count written w turns taken is a = record {
     given = a.given;
     replies = a.replies ++ held;
     requests = a.requests ++ a.puts;
@@ -366,13 +323,13 @@ module _ {L S : Type 0} (reads : L → Answer → L → Type 0) (writes : L → 
     none_failed = taken.none_failed ∙ a.none_failed;
   }
 
-  -- the link took a part of what was held back
-  pub holds_cut : (l0 l l' : L) (s0 s s' : S) (kept held : List ℕ) (count written turns i : ℕ) (e : Ended) →
+  -- the link took a part of them
+  pub owes_cut : (l0 l l' : L) (s0 s s' : S) (kept held : List ℕ) (count written turns i : ℕ) (e : Ended) →
       count ≤ 64 → HasStopped writes failures l l' held i → e ≡ WriteFault (written + i) →
       ((s' ≡ s) ⊎ ((r : Request) × RunsOut gives setup r s s')) →
-      Holds reads writes failures gives setup l0 l s0 s kept held count written turns →
+      Owes reads writes failures gives setup l0 l s0 s kept held count written turns →
       Stops reads writes failures gives setup l0 l' s0 s' turns e
-  holds_cut l0 l l' s0 s s' kept held count written turns i e few stopped is end a =
+  owes_cut l0 l l' s0 s s' kept held count written turns i e few stopped is end a =
       subst (λ v. Stops reads writes failures gives setup l0 l' s0 s' turns v) (sym is) (record {
         kept = cut.0;
         reply = p.reply;
@@ -426,105 +383,6 @@ module _ {L S : Type 0} (reads : L → Answer → L → Type 0) (writes : L → 
       taken_is : a.replies ++ take i held ≡ (a.replies ++ p.sent_bytes) ++ take p.some p.reply
       taken_is = ap (λ l. a.replies ++ l) (split_sent gives setup a.mid s a.puts held i p)
           ∙ sym (append_assoc a.replies p.sent_bytes (take p.some p.reply))
-
-  -- a request was answered behind what was sent first
-  pub hands_answered : (l m l' : L) (s s' : S) (held : List ℕ) (count written sent : ℕ) (r : Request)
-      (result : Result ℕ Ended) → HasTaken writes failures l m held → sent ≡ written + length held →
-      IfOk result (λ w. OneAnswered writes failures gives setup r m l' s s' sent w) →
-      IfOk result (λ w. (kept rest : List ℕ) → front kept ≡ Some (Ok r, rest) →
-      Hands reads writes failures gives setup l l' s s' kept rest held [] count 0 written w)
-  hands_answered l m l' s s' held count written sent r (Ok w) taken is one = λ kept rest h l0 s0 turns st.
-      stands_holds l0 l' s0 s' rest w turns (stands_answered l0 m l' s0 s s' kept rest r sent w turns h one
-      (holds_sent l0 l m s0 s kept held count written sent turns taken is st))
-  hands_answered l m l' s s' held count written sent r (Err e) taken is one = tt
-
-  pub hands_ended : (l m l' : L) (s s' : S) (held : List ℕ) (count written sent : ℕ) (r : Request)
-      (result : Result ℕ Ended) → HasTaken writes failures l m held → sent ≡ written + length held →
-      IfErr result (λ e. (kept rest : List ℕ) → front kept ≡ Some (Ok r, rest) →
-      OneEnds writes failures gives setup kept m l' s s' sent e) →
-      IfErr result (λ e. (kept rest : List ℕ) → front kept ≡ Some (Ok r, rest) →
-      HandsToEnd reads writes failures gives setup l l' s s' kept held count written e)
-  hands_ended l m l' s s' held count written sent r (Ok w) taken is one = tt
-  hands_ended l m l' s s' held count written sent r (Err e) taken is one = λ kept rest h l0 s0 turns st.
-      stands_ended l0 m l' s0 s s' kept sent turns e (one kept rest h)
-      (holds_sent l0 l m s0 s kept held count written sent turns taken is st)
-
-  -- what was held back was sent, and a put was answered then
-  pub hands_behind : (l m l' : L) (s s' : S) (held held' : List ℕ) (count count' written sent : ℕ) (r : Request)
-      (result : Result ℕ Ended) → HasTaken writes failures l m held → sent ≡ written + length held →
-      IfOk result (λ w. (kept rest : List ℕ) → front kept ≡ Some (Ok r, rest) →
-      Hands reads writes failures gives setup m l' s s' kept rest [] held' 0 count' sent w) →
-      IfOk result (λ w. (kept rest : List ℕ) → front kept ≡ Some (Ok r, rest) →
-      Hands reads writes failures gives setup l l' s s' kept rest held held' count count' written w)
-  hands_behind l m l' s s' held held' count count' written sent r (Ok w) taken is a = λ kept rest h l0 s0 turns st.
-      a kept rest h l0 s0 turns (stands_holds l0 m s0 s kept sent turns
-      (holds_sent l0 l m s0 s kept held count written sent turns taken is st))
-  hands_behind l m l' s s' held held' count count' written sent r (Err e) taken is a = tt
-
-  pub hands_ended_behind : (l m l' : L) (s s' : S) (held : List ℕ) (count written sent : ℕ) (r : Request)
-      (result : Result ℕ Ended) → HasTaken writes failures l m held → sent ≡ written + length held →
-      IfErr result (λ e. (kept rest : List ℕ) → front kept ≡ Some (Ok r, rest) →
-      HandsToEnd reads writes failures gives setup m l' s s' kept [] 0 sent e) →
-      IfErr result (λ e. (kept rest : List ℕ) → front kept ≡ Some (Ok r, rest) →
-      HandsToEnd reads writes failures gives setup l l' s s' kept held count written e)
-  hands_ended_behind l m l' s s' held count written sent r (Ok w) taken is a = tt
-  hands_ended_behind l m l' s s' held count written sent r (Err e) taken is a = λ kept rest h l0 s0 turns st.
-      a kept rest h l0 s0 turns (stands_holds l0 m s0 s kept sent turns
-      (holds_sent l0 l m s0 s kept held count written sent turns taken is st))
-
-  -- ---- whatever session stood here
-  pub carries_handed : (setup' : Setting) (l l' l'' : L) (s s' s'' : S) (kept kept' rest held held' : List ℕ)
-      (count count' written written' w : ℕ) →
-      CarriesHeld reads writes failures gives setup l l' s s' kept kept' held count written written' → setup' ≡ setup →
-      Hands reads writes failures gives setup' l' l'' s' s'' kept' rest held held' count count' written' w →
-      CarriesHeld reads writes failures gives setup l l'' s s'' kept rest held' count' written w
-  carries_handed setup' l l' l'' s s' s'' kept kept' rest held held' count count' written written' w a is h =
-      λ l0 s0 turns st.
-      let hands = subst (λ v. Hands reads writes failures gives v l' l'' s' s'' kept' rest held held' count count'
-      written' w) is h in hands l0 s0 turns (a l0 s0 turns st)
-
-  pub carries_handed_end : (setup' : Setting) (l l' l'' : L) (s s' s'' : S) (kept kept' held : List ℕ)
-      (count written written' : ℕ) (e : Ended) →
-      CarriesHeld reads writes failures gives setup l l' s s' kept kept' held count written written' → setup' ≡ setup →
-      HandsToEnd reads writes failures gives setup' l' l'' s' s'' kept' held count written' e →
-      CarriesToEnd reads writes failures gives setup l l'' s s'' kept written e
-  carries_handed_end setup' l l' l'' s s' s'' kept kept' held count written written' e a is h = λ l0 s0 turns st.
-      let hands = subst (λ v. HandsToEnd reads writes failures gives v l' l'' s' s'' kept' held count written' e) is h in
-      hands l0 s0 turns (a l0 s0 turns st)
-
-  -- what is held back at the end is sent
-  pub carries_sent : (l l' l'' : L) (s s' : S) (kept kept' held : List ℕ) (count written written' : ℕ)
-      (result : Result ℕ Ended) →
-      CarriesHeld reads writes failures gives setup l l' s s' kept kept' held count written written' →
-      Sends writes failures l' l'' held written' result →
-      IfOk result (λ w. Carries reads writes failures gives setup l l'' s s' kept kept' written w 0)
-  carries_sent l l' l'' s s' kept kept' held count written written' (Ok w) a h = λ l0 s0 turns st.
-      subst (λ n. Stands reads writes failures gives setup l0 l'' s0 s' kept' w n) {x = turns} {y = turns + 0} (omega arith)
-      (holds_sent l0 l' l'' s0 s' kept' held count written' w turns h.1 h.0 (a l0 s0 turns st))
-  carries_sent l l' l'' s s' kept kept' held count written written' (Err e) a h = tt
-
-  pub carries_cut : (l l' l'' : L) (s s' : S) (kept kept' held : List ℕ) (count written written' : ℕ)
-      (result : Result ℕ Ended) → count ≤ 64 →
-      CarriesHeld reads writes failures gives setup l l' s s' kept kept' held count written written' →
-      Sends writes failures l' l'' held written' result →
-      IfErr result (λ e. CarriesToEnd reads writes failures gives setup l l'' s s' kept written e)
-  carries_cut l l' l'' s s' kept kept' held count written written' (Ok w) few a h = tt
-  carries_cut l l' l'' s s' kept kept' held count written written' (Err e) few a h = λ l0 s0 turns st.
-      holds_cut l0 l' l'' s0 s' s' kept' held count written' turns h.0 e few h.2 h.1 (inl refl) (a l0 s0 turns st)
-
-  pub carries_refused : (old new : List ℕ) (fault : FrameFault) (l l' l'' : L) (s s' : S) (kept held : List ℕ)
-      (count written written' : ℕ) (result : Ended) → count ≤ 64 → NextGives old (Err fault) new →
-      CarriesHeld reads writes failures gives setup l l' s s' kept old held count written written' →
-      ClosesBehind writes failures l' l'' held (refused (fault_code fault) 0) written' (ended_of fault) result →
-      CarriesToEnd reads writes failures gives setup l l'' s s' kept written result
-  carries_refused old new fault l l' l'' s s' kept held count written written' result few n a (held_sent m taken c) =
-      λ l0 s0 turns st.
-      stands_ended l0 m l'' s0 s' s' old (written' + length held) turns result
-      (closes_fault writes failures gives setup old new fault m l'' s' (written' + length held) result n c)
-      (holds_sent l0 l' m s0 s' old held count written' (written' + length held) turns taken refl (a l0 s0 turns st))
-  carries_refused old new fault l l' l'' s s' kept held count written written' result few n a (held_cut i stopped is) =
-      λ l0 s0 turns st.
-      holds_cut l0 l' l'' s0 s' s' old held count written' turns i result few stopped is (inl refl) (a l0 s0 turns st)
 
   -- ---- turns
   pub stands_read : (l0 l l' : L) (s0 s : S) (kept bytes : List ℕ) (written turns : ℕ) →

@@ -23,11 +23,11 @@ use Rattle.batch_store.specs.Lists.{MakesBatch, LeavesAt, PassesSum}
 use Rattle.batch_store.specs.declared.verdict.Kept.{Kept}
 use Rattle.plain_engine.specs.declared.status.Status.{Status as Counted}
 use Rattle.wire_proto.specs.CellBytes.{cells_of}
-use Rattle.wire_proto.specs.Keeping.{Event, put, cell, row, status, export, save}
+use Rattle.wire_proto.specs.Keeping.{Event, put, cell, row, status, export, save, stored}
 use Rattle.wire_proto.specs.Replies.{reply_of, refused}
 use Rattle.wire_frames.specs.declared.request.Request.{Request}
 use Rattle.wire_frames.specs.declared.request.Request.TheVariants.{Put, Cell as CellAt, Row, Status, Export, Save, Stop}
-use Rattle.wire_frames.specs.declared.request.Request.TheVariants.{PutCells}
+use Rattle.wire_frames.specs.declared.request.Request.TheVariants.{PutCells, Stored}
 use Rattle.wire_proto.specs.declared.keeper.PutRefusal.{PutRefusal}
 use Rattle.wire_proto.specs.declared.keeper.SaveRefusal.{SaveRefusal}
 
@@ -93,6 +93,7 @@ Asks setup Stop e = ⊥
 Asks setup (PutCells client n bytes) e =
     (batch : Submission) × (answer : Result Kept PutRefusal) × PutsCells setup client n bytes batch ×
     (e ≡ put batch answer)
+Asks setup Stored e = (s : Counted) × (e ≡ stored s)
 
 abbrev pub Refuses : Setting → Request → List ℕ → Type 0
 Refuses setup (Put client n bytes) reply =
@@ -105,6 +106,7 @@ Refuses setup Save reply = ⊥
 Refuses setup Stop reply = ⊥
 Refuses setup (PutCells client n bytes) reply =
     (code : ℕ) × (detail : ℕ) × RefusesCells setup bytes code detail × (reply ≡ refused code detail)
+Refuses setup Stored reply = ⊥
 
 -- `gives s e t`: the keeper may answer this call in state s, and then stands in state t.
 pub data Answers {S : Type 0} (gives : S → Event → S → Type 0) (setup : Setting) (r : Request) (reply : List ℕ)

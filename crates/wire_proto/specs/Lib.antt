@@ -5,6 +5,7 @@ pub mod Replies
 pub mod Answering
 pub mod PutTexts
 pub mod Closing
+pub mod Settling
 pub mod Sessions
 pub mod Plain
 pub mod Decoding

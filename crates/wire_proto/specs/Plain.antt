@@ -18,7 +18,7 @@ use Rattle.batch_store.specs.Accepted.{Accepted, accepted, with_batch}
 use Rattle.plain_engine.specs.Object.{Puts, verdict_in, cell_of, row_sum_of, export_of, status_of}
 use Rattle.batch_store.specs.declared.verdict.Verdict.TheVariants.{Fresh}
 use Rattle.wire_frames.specs.Frames.{Message, front, Gives, messages}
-use Rattle.wire_proto.specs.Keeping.{Event, put, cell, row, status, export, save}
+use Rattle.wire_proto.specs.Keeping.{Event, put, cell, row, status, export, save, stored}
 use Rattle.wire_proto.specs.Replies.{stopping, refused, fault_code}
 use Rattle.wire_proto.specs.Answering.{Answers, PutsBatch, PutsCells}
 use Rattle.wire_proto.specs.Sessions.{Talks, AllPut}
@@ -45,6 +45,7 @@ PlainGives v state (status s) after = (s ≡ status_of state) × (after ≡ stat
 PlainGives v state (export (Ok m)) after = (m ≡ export_of v state) × (after ≡ state)
 PlainGives v state (export (Err e)) after = after ≡ state
 PlainGives v state (save answer) after = (answer ≡ Err SaveOff) × (after ≡ state)
+PlainGives v state (stored s) after = (s ≡ status_of state) × (after ≡ state)
 
 abbrev pub AnswersMessages : {S : Type 0} → (S → Event → S → Type 0) → Setting → S → List Message → List ℕ → S → Type 0
 AnswersMessages gives setup s [] bytes t = (bytes ≡ []) × (t ≡ s)

@@ -11,7 +11,7 @@ use Rattle.plain_engine.specs.declared.fault.PutFault.TheVariants.{Memory, Numbe
 use Rattle.plain_engine.specs.declared.fault.PutFault.TheVariants.{RecordsDiffer}
 use Rattle.wire_frames.specs.Frames.{frame, number}
 use Rattle.mm_laws.specs.MatrixText.{matrix_text}
-use Rattle.wire_proto.specs.Keeping.{Event, put, cell, row, status, export, save}
+use Rattle.wire_proto.specs.Keeping.{Event, put, cell, row, status, export, save, stored}
 use Rattle.wire_frames.specs.declared.request.FrameFault.{FrameFault}
 use Rattle.wire_frames.specs.declared.request.FrameFault.TheVariants.{Memory as NoMemory, TooLarge, UnknownKind}
 use Rattle.wire_frames.specs.declared.request.FrameFault.TheVariants.{BadLength}
@@ -83,3 +83,4 @@ reply_of (row r sum) = Some (row_sum sum)
 reply_of (status s) = Some (counts s)
 reply_of (export answer) = export_reply answer
 reply_of (save answer) = save_reply answer
+reply_of (stored s) = Some (counts s)

@@ -3,7 +3,8 @@
 --     AnswersAll      requests, one after another, are answered by these bytes
 --     AsksToPut       a request that puts a batch; AllPut: requests, each of which does
 --     Stands          a session under way, between two replies
---     Holds           a session under way, which holds back the replies to the last puts; Stands is one that holds none
+--     Owes            a session under way, which has the replies to the last puts and hasn't sent them
+--     Holds           a session under way, whose last puts were begun and aren't settled; Stands is one that holds none
 --     NextReply       a reply that may come next; LastReply: with which a session ends so
 --     Rests           a session that ended between two replies
 --     FailsToRead     a session that stood between two replies, and whose last call was a read that failed
@@ -12,7 +13,8 @@
 --     Breaks          a session that ended in the middle of a reply, since the link refused to take more
 --     Ends            how a session ends, by cases
 -- A reader of `serve`'s contract reads Ends first.
-use Rattle.std.specs.Prelude.{◌≡◌, ◌⊎◌, ℕ, ◌+◌, ◌<◌, ◌≤◌, List, [], ◌∷◌, ◌++◌, length, take, Some, None, Ok, Err}
+use Rattle.std.specs.Prelude.{◌≡◌, ◌⊎◌, ℕ, ◌+◌, ◌<◌, ◌≤◌, Bool, List, [], ◌∷◌, ◌++◌, length, take, Some, None, Ok}
+use Rattle.std.specs.Prelude.{Err}
 use Rattle.byte_io.specs.Streams.{Answer}
 use Rattle.byte_io.specs.declared.fault.DeviceFault.{DeviceFault}
 use Rattle.byte_io.specs.Writing.{HasTaken, HasStopped}
@@ -21,6 +23,8 @@ use Rattle.wire_frames.specs.Frames.{front, Gives}
 use Rattle.wire_proto.specs.Keeping.{Event}
 use Rattle.wire_proto.specs.Replies.{stopping, refused, fault_code}
 use Rattle.wire_proto.specs.Answering.{Answers, RunsOut}
+use Rattle.wire_proto.specs.Settling.{SettlesAll}
+use Rattle.wire_proto.specs.declared.held.Begun.{Begun}
 use Rattle.wire_frames.specs.declared.request.Request.{Request}
 use Rattle.wire_frames.specs.declared.request.Request.TheVariants.{Put, PutCells, Stop}
 use Rattle.wire_frames.specs.declared.request.FrameFault.{FrameFault}
@@ -162,8 +166,8 @@ module _ {L S : Type 0} (reads : L → Answer → L → Type 0) (writes : L → 
     pub each_gave : turns ≤ length given
     pub none_failed : failures l' ≡ failures l
 
-  -- The same, but that the replies to the last requests, each a put, are held back: these bytes, of so many.
-  pub record Holds (l l' : L) (s s' : S) (kept held : List ℕ) (count written turns : ℕ) : Type 0 where
+  -- The same, but that the replies to the last requests, each a put, aren't sent: these bytes, of so many.
+  pub record Owes (l l' : L) (s s' : S) (kept held : List ℕ) (count written turns : ℕ) : Type 0 where
     pub given : List ℕ
     pub replies : List ℕ
     pub requests : List Request
@@ -262,20 +266,43 @@ module _ {L S : Type 0} (reads : L → Answer → L → Type 0) (writes : L → 
   CarriesToEnd l l' s s' kept written e = (l0 : L) (s0 : S) (turns : ℕ) →
       Stands l0 l s0 s kept written turns → Stops l0 l' s0 s' turns e
 
-  -- Whatever session stood, or held replies back, at the one place holds them back at the other; or ends so.
-  abbrev pub CarriesHeld : L → L → S → S → List ℕ → List ℕ → List ℕ → ℕ → ℕ → ℕ → Type 0
-  CarriesHeld l l' s s' kept kept' held count written written' = (l0 : L) (s0 : S) (turns : ℕ) →
-      Stands l0 l s0 s kept written turns → Holds l0 l' s0 s' kept' held count written' turns
-
-  abbrev pub Hands : L → L → S → S → List ℕ → List ℕ → List ℕ → List ℕ → ℕ → ℕ → ℕ → ℕ → Type 0
-  Hands l l' s s' kept kept' held held' count count' written written' = (l0 : L) (s0 : S) (turns : ℕ) →
-      Holds l0 l s0 s kept held count written turns → Holds l0 l' s0 s' kept' held' count' written' turns
-
-  abbrev pub HandsToEnd : L → L → S → S → List ℕ → List ℕ → ℕ → ℕ → Ended → Type 0
-  HandsToEnd l l' s s' kept held count written e = (l0 : L) (s0 : S) (turns : ℕ) →
-      Holds l0 l s0 s kept held count written turns → Stops l0 l' s0 s' turns e
-
   -- Whatever session stood here, of at most `most` turns, ends so after one turn more.
   abbrev pub TurnEnds : (L → Type 0) → L → L → S → S → List ℕ → ℕ → Ended → Type 0
   TurnEnds at_end l l' s s' kept written e = (l0 : L) (s0 : S) (turns most : ℕ) →
       Stands l0 l s0 s kept written turns → Ends at_end l0 l' s0 s' most (turns + 1) e
+
+-- The same of sessions that hold puts back. What a keeper settles is told too.
+module _ {L S : Type 0} (reads : L → Answer → L → Type 0) (writes : L → List ℕ → Answer → L → Type 0) (failures : L → ℕ)
+    (gives : S → Event → S → Type 0) (settles : S → ℕ → Bool → S → Type 0) (setup : Setting) where
+  -- The session stood, but that the last requests, each a put, were begun and aren't settled: this is held back of
+  -- them. Once it is settled, these requests are answered one after another.
+  pub record Holds (l l' : L) (s s' : S) (kept : List ℕ) (begun : List Begun) (written turns : ℕ) : Type 0 where
+    pub given : List ℕ
+    pub replies : List ℕ
+    pub requests : List Request
+    pub puts : List Request
+    pub mid : S
+    pub talks : Talks reads writes l l' given replies turns
+    pub cut : Gives given (requests ++ puts) kept
+    pub answered : AnswersAll gives setup s requests replies mid
+    pub behind : (bytes : List ℕ) (t : S) → SettlesAll settles s' begun bytes t →
+        AnswersAll gives setup mid puts bytes t
+    pub all_put : AllPut puts
+    pub count_is : length puts ≡ length begun
+    pub written_is : written ≡ length replies
+    pub each_gave : turns ≤ length given
+    pub none_failed : failures l' ≡ failures l
+
+  -- Whatever session stood, or held puts back, at the one place holds them back at the other; or ends so.
+  abbrev pub CarriesHeld : L → L → S → S → List ℕ → List ℕ → List Begun → ℕ → ℕ → Type 0
+  CarriesHeld l l' s s' kept kept' begun written written' = (l0 : L) (s0 : S) (turns : ℕ) →
+      Stands reads writes failures gives setup l0 l s0 s kept written turns →
+      Holds l0 l' s0 s' kept' begun written' turns
+
+  abbrev pub Hands : L → L → S → S → List ℕ → List ℕ → List Begun → List Begun → ℕ → ℕ → Type 0
+  Hands l l' s s' kept kept' begun begun' written written' = (l0 : L) (s0 : S) (turns : ℕ) →
+      Holds l0 l s0 s kept begun written turns → Holds l0 l' s0 s' kept' begun' written' turns
+
+  abbrev pub HandsToEnd : L → L → S → S → List ℕ → List Begun → ℕ → Ended → Type 0
+  HandsToEnd l l' s s' kept begun written e = (l0 : L) (s0 : S) (turns : ℕ) →
+      Holds l0 l s0 s kept begun written turns → Stops reads writes failures gives setup l0 l' s0 s' turns e

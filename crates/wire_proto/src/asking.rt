@@ -1,11 +1,13 @@
 //! Asks the keeper what a request asks, and spells the reply.
 ghost use Rattle.std.specs.Prelude.{◌≡◌, ◌≢◌, ℕ, ◌+◌, ◌<◌, ◌≤◌, Some, None, IfOk, OnErr};
-ghost use Rattle.wire_proto.specs.Replies.{put_reply};
 ghost use Rattle.wire_proto.specs.Answering.{Answers, RunsOut};
+ghost use Rattle.wire_proto.specs.Sessions.{AsksToPut};
+ghost use Rattle.wire_proto.specs.Settling.{Begins, BeginsOut, begun_as};
 
 use crate::cell_bodies::batch_of_cells;
+use crate::held::Begun;
 use crate::keeper::{Keeper, PutRefusal, SaveRefusal};
-use crate::replies::{Short, accepted, counts, refused, row_sum, saved, value};
+use crate::replies::{Short, counts, refused, row_sum, saved, value};
 use crate::texts::{BodyRefusal, batch_of};
 use batch_store::Kept;
 use bytes::Bytes;
@@ -47,6 +49,15 @@ pub fn ask_status<K: Keeper>(keeper: &mut K) -> Short
     counts(keeper.status())
 }
 
+pub fn ask_stored<K: Keeper>(keeper: &mut K) -> Short
+    requires { K.fact keeper.old }
+    ensures reply { Answers K.gives (K.setup_of keeper.old) Request.Stored result.items keeper.old keeper.new }
+    ensures fact { K.fact keeper.new }
+    ensures setup { K.setup_of keeper.new ≡ K.setup_of keeper.old }
+{
+    counts(keeper.stored())
+}
+
 pub fn ask_save<K: Keeper>(alloc: Global, keeper: &mut K) -> Result<Short, AllocError>
     requires { K.fact keeper.old }
     ensures reply { IfOk result (λ short. Answers K.gives
@@ -63,34 +74,40 @@ pub fn ask_save<K: Keeper>(alloc: Global, keeper: &mut K) -> Result<Short, Alloc
     }
 }
 
-/// The reply to a put that the keeper answered; an Err where memory ran out.
-fn reply_to_put(answer: Result<Kept, PutRefusal>) -> Result<Short, AllocError>
-    ensures reply { IfOk result (λ short. put_reply answer ≡ Some short.items) }
-    ensures none { OnErr result (put_reply answer ≡ None) }
+/// What is held back of a put that the keeper answered; an Err where memory ran out.
+fn held_of(answer: Result<Kept, PutRefusal>) -> Result<Begun, AllocError>
+    ensures begun { IfOk result (λ begun. begun_as answer ≡ Some begun) }
+    ensures none { OnErr result (begun_as answer ≡ None) }
 {
     match answer {
-        Ok(kept) => Ok(accepted(kept)),
+        Ok(kept) => Ok(Begun::Accepted(kept)),
         Err(PutRefusal::Put(PutFault::Memory)) => Err(AllocError),
-        Err(PutRefusal::Put(PutFault::NumberReused)) => Ok(refused(30, 0)),
-        Err(PutRefusal::Put(PutFault::OverTotal { accepted })) => Ok(refused(31, accepted)),
-        Err(PutRefusal::Put(PutFault::BookFull)) => Ok(refused(32, 0)),
-        Err(PutRefusal::Put(PutFault::RecordsDiffer)) => Ok(refused(33, 0)),
-        Err(PutRefusal::LogFull) => Ok(refused(34, 0)),
-        Err(PutRefusal::LogFailed) => Ok(refused(35, 0)),
+        Err(PutRefusal::Put(PutFault::NumberReused)) => Ok(refused_with(30, 0)),
+        Err(PutRefusal::Put(PutFault::OverTotal { accepted })) => Ok(refused_with(31, accepted)),
+        Err(PutRefusal::Put(PutFault::BookFull)) => Ok(refused_with(32, 0)),
+        Err(PutRefusal::Put(PutFault::RecordsDiffer)) => Ok(refused_with(33, 0)),
+        Err(PutRefusal::LogFull) => Ok(refused_with(34, 0)),
+        Err(PutRefusal::LogFailed) => Ok(refused_with(35, 0)),
     }
 }
 
-pub fn ask_put<K: Keeper>(
+fn refused_with(code: u16, detail: u64) -> Begun
+    ensures { result ≡ Begun.Refused code detail }
+{
+    Begun::Refused { code, detail }
+}
+
+fn begin_text<K: Keeper>(
     alloc: Global,
     keeper: &mut K,
     client: u64,
     number: u64,
     text: Bytes,
-) -> Result<Short, AllocError>
+) -> Result<Begun, AllocError>
     requires { K.fact keeper.old }
-    ensures reply { IfOk result (λ short. Answers K.gives (K.setup_of keeper.old)
-        (Request.Put client number text) short.items keeper.old keeper.new) }
-    ensures none { OnErr result (RunsOut K.gives (K.setup_of keeper.old)
+    ensures begins { IfOk result (λ begun. Begins K.begins (K.setup_of keeper.old)
+        (Request.Put client number text) begun keeper.old keeper.new) }
+    ensures none { OnErr result (BeginsOut K.begins (K.setup_of keeper.old)
         (Request.Put client number text) keeper.old keeper.new) }
     ensures fact { K.fact keeper.new }
     ensures setup { K.setup_of keeper.new ≡ K.setup_of keeper.old }
@@ -98,25 +115,25 @@ pub fn ask_put<K: Keeper>(
     let setup = keeper.setup();
     match batch_of(alloc, &setup, client, number, text.as_slice()) {
         Err(BodyRefusal::Memory) => Err(AllocError),
-        Err(BodyRefusal::Refused { code, detail }) => Ok(refused(code, detail)),
+        Err(BodyRefusal::Refused { code, detail }) => Ok(refused_with(code, detail)),
         Ok(batch) => {
-            let answer = keeper.put(alloc, batch);
-            reply_to_put(answer)
+            let answer = keeper.begin_put(alloc, batch);
+            held_of(answer)
         }
     }
 }
 
-pub fn ask_put_cells<K: Keeper>(
+fn begin_cells<K: Keeper>(
     alloc: Global,
     keeper: &mut K,
     client: u64,
     number: u64,
     cells: Bytes,
-) -> Result<Short, AllocError>
+) -> Result<Begun, AllocError>
     requires { K.fact keeper.old }
-    ensures reply { IfOk result (λ short. Answers K.gives (K.setup_of keeper.old)
-        (Request.PutCells client number cells) short.items keeper.old keeper.new) }
-    ensures none { OnErr result (RunsOut K.gives (K.setup_of keeper.old)
+    ensures begins { IfOk result (λ begun. Begins K.begins (K.setup_of keeper.old)
+        (Request.PutCells client number cells) begun keeper.old keeper.new) }
+    ensures none { OnErr result (BeginsOut K.begins (K.setup_of keeper.old)
         (Request.PutCells client number cells) keeper.old keeper.new) }
     ensures fact { K.fact keeper.new }
     ensures setup { K.setup_of keeper.new ≡ K.setup_of keeper.old }
@@ -124,17 +141,47 @@ pub fn ask_put_cells<K: Keeper>(
     let setup = keeper.setup();
     match batch_of_cells(alloc, &setup, client, number, cells) {
         Err(BodyRefusal::Memory) => Err(AllocError),
-        Err(BodyRefusal::Refused { code, detail }) => Ok(refused(code, detail)),
+        Err(BodyRefusal::Refused { code, detail }) => Ok(refused_with(code, detail)),
         Ok(batch) => {
-            let answer = keeper.put(alloc, batch);
-            reply_to_put(answer)
+            let answer = keeper.begin_put(alloc, batch);
+            held_of(answer)
         }
     }
 }
 
-/// Asks what a request asks that is answered in a few bytes: all but an Export and a Stop.
+/// Begins a put. An Err where memory ran out.
+pub fn begin<K: Keeper>(
+    alloc: Global,
+    keeper: &mut K,
+    request: Request,
+) -> Result<Begun, AllocError>
+    requires fact { K.fact keeper.old }
+    requires put { AsksToPut request }
+    ensures begins { IfOk result (λ begun. Begins K.begins (K.setup_of keeper.old) request begun
+        keeper.old keeper.new) }
+    ensures none { OnErr result (BeginsOut K.begins (K.setup_of keeper.old) request keeper.old keeper.new) }
+    ensures fact { K.fact keeper.new }
+    ensures setup { K.setup_of keeper.new ≡ K.setup_of keeper.old }
+{
+    match request {
+        Request::Put {
+            client,
+            number,
+            text,
+        } => begin_text(alloc, keeper, client, number, text),
+        Request::PutCells {
+            client,
+            number,
+            cells,
+        } => begin_cells(alloc, keeper, client, number, cells),
+        _ => unreachable!(),
+    }
+}
+
+/// Asks what a request asks that is answered in a few bytes: all but a put, an Export and a Stop.
 pub fn ask<K: Keeper>(alloc: Global, keeper: &mut K, request: Request) -> Result<Short, AllocError>
     requires fact { K.fact keeper.old }
+    requires query { AsksToPut request → ⊥ }
     requires short { request ≢ Request.Export }
     requires goes_on { request ≢ Request.Stop }
     ensures reply { IfOk result (λ short. Answers K.gives (K.setup_of keeper.old) request
@@ -144,20 +191,13 @@ pub fn ask<K: Keeper>(alloc: Global, keeper: &mut K, request: Request) -> Result
     ensures setup { K.setup_of keeper.new ≡ K.setup_of keeper.old }
 {
     match request {
-        Request::Put {
-            client,
-            number,
-            text,
-        } => ask_put(alloc, keeper, client, number, text),
-        Request::PutCells {
-            client,
-            number,
-            cells,
-        } => ask_put_cells(alloc, keeper, client, number, cells),
         Request::Cell { row, col } => Ok(ask_cell(keeper, row, col)),
         Request::Row { row } => Ok(ask_row(keeper, row)),
         Request::Status => Ok(ask_status(keeper)),
         Request::Save => ask_save(alloc, keeper),
-        Request::Export | Request::Stop => unreachable!(),
+        Request::Stored => Ok(ask_stored(keeper)),
+        Request::Put { .. } | Request::PutCells { .. } | Request::Export | Request::Stop => {
+            unreachable!()
+        }
     }
 }

@@ -1,68 +1,133 @@
-//! Replies to puts that are held back, so that one write sends them all.
-ghost use Rattle.std.specs.Prelude.{◌≡◌, ◌+◌, ◌*◌, ◌^◌, ◌<◌, ◌≤◌, ◌++◌, [], length};
+//! Puts that are held back, so that they are settled together and one write sends their replies.
+ghost use Rattle.std.specs.Prelude.{◌≡◌, ◌+◌, ◌*◌, ◌^◌, ◌<◌, ◌≤◌, ◌++◌, ◌∷◌, [], length, IfOk};
 ghost use Rattle.std.specs.Bool.{OnFalse};
 ghost use Rattle.arrayvec.specs.ArrayVec.{array_vec_len};
-ghost use Rattle.wire_proto.specs.Closing.{Sends};
+ghost use Rattle.wire_proto.specs.Settling.{SettlesOne, SettlesAll, SendsSettled};
 
 use crate::ended::Ended;
+use crate::keeper::Keeper;
 use crate::limits::{HELD, HELD_BYTES};
-use crate::replies::Short;
+use crate::replies::{Short, accepted, refused};
 use crate::sending::send;
 use arrayvec::ArrayVec;
+use batch_store::Kept;
 use byte_io::Sink;
 
-/// The replies to the last puts of a session, in order, which weren't sent yet: at most `HELD`.
+/// What is held back of a put that was begun.
+#[derive(Clone, Copy)]
+pub enum Begun {
+    /// It was accepted. Its reply is known once its place is settled.
+    Accepted(Kept),
+    /// It was refused.
+    Refused { code: u16, detail: u64 },
+}
+
+impl Default for Begun {
+    fn default() -> Begun {
+        Begun::Refused { code: 0, detail: 0 }
+    }
+}
+
+/// The last puts of a session, in order, which were begun and aren't answered yet: at most `HELD`.
 #[derive(Drop)]
 pub struct Held {
-    pub(crate) bytes: ArrayVec<u8, HELD_BYTES>,
-    pub(crate) count: u64,
-    pub ghost few: { count ≤ 64 },
-    pub ghost short: { array_vec_len bytes ≤ 21 * count },
+    pub(crate) begun: ArrayVec<Begun, HELD>,
+    pub ghost few: { array_vec_len begun ≤ 64 },
 }
 
 impl Held {
     /// None.
     pub fn new() -> Held
-        ensures bytes { result.bytes.items ≡ [] }
-        ensures count { result.count ≡ 0 }
+        ensures { result.begun.items ≡ [] }
     {
         Held {
-            bytes: ArrayVec::new(),
-            count: 0,
+            begun: ArrayVec::new(),
         }
     }
 
-    /// Whether no further reply is held back.
+    /// Whether no further put is held back.
     pub fn is_full(&self) -> bool
-        ensures { OnFalse result (self.now.count < 64) }
+        ensures { OnFalse result (length self.now.begun.items < 64) }
     {
-        self.count >= HELD
+        self.begun.is_full()
     }
 
-    /// Holds a reply back, behind the others.
-    pub fn push(&mut self, reply: &Short)
-        requires { self.old.count < 64 }
-        ensures bytes { self.new.bytes.items ≡ self.old.bytes.items ++ reply.now.items }
-        ensures count { self.new.count ≡ self.old.count + 1 }
-        ensures short { length self.new.bytes.items ≤ length self.old.bytes.items + 21 }
+    /// Holds a put back, behind the others.
+    pub fn push(&mut self, begun: Begun)
+        requires { length self.old.begun.items < 64 }
+        ensures { self.new.begun.items ≡ self.old.begun.items ++ begun ∷ [] }
     {
-        match self.bytes.try_extend_from_slice(reply.as_slice()) {
-            Ok(()) => {}
-            Err(_) => unreachable!(),
-        }
-        self.count += 1;
+        self.begun.push(begun);
     }
 }
 
-/// Sends what is held back, if anything is, by one write as far as the link takes it.
-pub fn send_held<L: Sink>(link: &mut L, held: &mut Held, written: u128) -> Result<u128, Ended>
-    requires ready { L.failure_count link.old + 1 < 2 ^ 64 }
-    requires room { written + 2 ^ 27 < 2 ^ 128 }
-    ensures sends { Sends L.write_takes L.failure_count link.old link.new held.old.bytes.items written result }
-    ensures bytes { held.new.bytes.items ≡ [] }
-    ensures count { held.new.count ≡ 0 }
+/// The reply to a put that was begun, once it is settled.
+fn settle_one<K: Keeper>(keeper: &mut K, begun: Begun) -> Short
+    requires fact { K.fact keeper.old }
+    ensures settles { SettlesOne K.settles keeper.old begun result.items keeper.new }
+    ensures fact { K.fact keeper.new }
+    ensures setup { K.setup_of keeper.new ≡ K.setup_of keeper.old }
 {
-    let sent = send(link, held.bytes.as_slice(), written);
+    match begun {
+        Begun::Refused { code, detail } => refused(code, detail),
+        Begun::Accepted(kept) => {
+            if keeper.settle(kept.index) {
+                accepted(kept)
+            } else {
+                refused(35, 0)
+            }
+        }
+    }
+}
+
+/// Appends a reply, for which there is room.
+fn append(replies: &mut ArrayVec<u8, HELD_BYTES>, reply: &Short)
+    requires { length replies.old.items + 21 ≤ 1344 }
+    ensures items { replies.new.items ≡ replies.old.items ++ reply.now.items }
+    ensures short { length replies.new.items ≤ length replies.old.items + 21 }
+{
+    match replies.try_extend_from_slice(reply.as_slice()) {
+        Ok(()) => {}
+        Err(_) => unreachable!(),
+    }
+}
+
+/// The replies to puts that were begun, which are settled in order.
+fn settle_all<K: Keeper>(keeper: &mut K, begun: &[Begun]) -> ArrayVec<u8, HELD_BYTES>
+    requires fact { K.fact keeper.old }
+    requires few { length begun.now ≤ 64 }
+    ensures settles { SettlesAll K.settles keeper.old begun.now result.items keeper.new }
+    ensures short { length result.items ≤ 21 * length begun.now }
+    ensures fact { K.fact keeper.new }
+    ensures setup { K.setup_of keeper.new ≡ K.setup_of keeper.old }
+{
+    let mut replies = ArrayVec::new();
+    for one in begun {
+        let reply = settle_one(keeper, *one);
+        append(&mut replies, &reply);
+    }
+    replies
+}
+
+/// Settles what is held back, and sends the replies, by one write as far as the link takes it.
+pub fn send_held<L: Sink, K: Keeper>(
+    link: &mut L,
+    keeper: &mut K,
+    held: &mut Held,
+    written: u128,
+) -> Result<u128, Ended>
+    requires ready { L.failure_count link.old + 1 < 2 ^ 64 }
+    requires fact { K.fact keeper.old }
+    requires room { written + 2 ^ 27 < 2 ^ 128 }
+    ensures sends { SendsSettled K.settles L.write_takes L.failure_count keeper.old keeper.new link.old link.new
+        held.old.begun.items written result }
+    ensures none { held.new.begun.items ≡ [] }
+    ensures room { IfOk result (λ w. w ≤ written + 21 * length held.old.begun.items) }
+    ensures fact { K.fact keeper.new }
+    ensures setup { K.setup_of keeper.new ≡ K.setup_of keeper.old }
+{
+    let replies = settle_all(keeper, held.begun.as_slice());
+    let sent = send(link, replies.as_slice(), written);
     *held = Held::new();
     sent
 }

@@ -1,12 +1,15 @@
 //! What a session asks of the store behind it.
-ghost use Rattle.std.specs.Prelude.{◌≡◌, ◌<◌};
+ghost use Rattle.std.specs.Prelude.{◌≡◌, ℕ, ◌<◌, Bool, Result};
 ghost use Rattle.std.specs.Prelude.{Ok, Err};
 ghost use Rattle.std.specs.Arc.{arc_value};
 ghost use Rattle.std.specs.declared.alloc.AllocError.{AllocError};
 ghost use Rattle.hyper_matrix.specs.Matrix.{Matrix};
 ghost use Rattle.batch_store.specs.Setups.{Setting};
+ghost use Rattle.batch_store.specs.Batches.{Submission};
+ghost use Rattle.batch_store.specs.declared.verdict.Kept.{Kept};
 ghost use Rattle.wire_proto.specs.Keeping.{Event, put as putting, cell as looking, row as summing, status as counting};
-ghost use Rattle.wire_proto.specs.Keeping.{export as exporting, save as saving};
+ghost use Rattle.wire_proto.specs.Keeping.{export as exporting, save as saving, stored as telling, settled};
+ghost use Rattle.wire_proto.specs.declared.keeper.PutRefusal.{PutRefusal};
 
 use batch_store::{Batch, Kept, Setup};
 use hyper_matrix::RowSum;
@@ -60,9 +63,19 @@ pub enum SaveRefusal {
 /// What a call answers is a relation between the state before, the call with its answer, and the state after, since
 /// others may use the store at the same time. `fact` is whatever the keeper keeps across its calls: a session keeps it
 /// too, however it ends.
+///
+/// A put is two calls: `begin_put` has the store accept the batch, and `settle` waits until its place is durable.
+/// `gives` says what both may answer as one call. Where several puts are begun before the first is settled, it is as if
+/// each had been settled before the next was begun: so the laws have it.
 pub trait Keeper {
     // What a call may answer, and the state that it leaves.
     ghost gives: { Self → Event → Self → Type 0 };
+
+    // What the store may answer a put at once, and the state that this leaves.
+    ghost begins: { Self → Submission → Result Kept PutRefusal → Self → Type 0 };
+
+    // Whether a place is durable, and the state that this leaves.
+    ghost settles: { Self → ℕ → Bool → Self → Type 0 };
 
     // What the keeper keeps across its calls.
     ghost fact: { Self → Type 0 };
@@ -74,12 +87,21 @@ pub trait Keeper {
     fn setup(&self) -> Setup
         ensures { result ≡ setup_of self.now };
 
-    /// Accepts a batch of the setup's dimensions, gives the reply that it keeps for it, or refuses it.
-    fn put(&mut self, alloc: Global, batch: Arc<Batch>) -> Result<Kept, PutRefusal>
+    /// Accepts a batch of the setup's dimensions, gives the reply that it keeps for it, or refuses it. A refusal is
+    /// what the put is answered. Ok isn't, before its place was settled.
+    fn begin_put(&mut self, alloc: Global, batch: Arc<Batch>) -> Result<Kept, PutRefusal>
         requires fact { fact self.old }
         requires rows { (arc_value batch).matrix.rows ≡ (setup_of self.old).rows }
         requires cols { (arc_value batch).matrix.cols ≡ (setup_of self.old).cols }
-        ensures gives { gives self.old (putting (arc_value batch) result) self.new }
+        ensures begins { begins self.old (arc_value batch) result self.new }
+        ensures fact { fact self.new }
+        ensures setup { setup_of self.new ≡ setup_of self.old };
+
+    /// Waits until the batch at a place that `begin_put` gave is durable, and answers whether it is. False where the
+    /// log has failed, now or earlier. A store without a log answers true at once.
+    fn settle(&mut self, place: u64) -> bool
+        requires fact { fact self.old }
+        ensures settles { settles self.old place result self.new }
         ensures fact { fact self.new }
         ensures setup { setup_of self.new ≡ setup_of self.old };
 
@@ -124,6 +146,28 @@ pub trait Keeper {
         ensures gives { gives self.old (saving result) self.new }
         ensures fact { fact self.new }
         ensures setup { setup_of self.new ≡ setup_of self.old };
+
+    /// How many of the batches are durable, and their total: no crash takes these back. They are the first in the book.
+    /// A store without a log tells all that was accepted.
+    fn stored(&mut self) -> Status
+        requires fact { fact self.old }
+        ensures gives { gives self.old (telling result) self.new }
+        ensures fact { fact self.new }
+        ensures setup { setup_of self.new ≡ setup_of self.old };
+
+    // A refusal is what the put is answered.
+    ghost refused: { (s t : Self) (batch : Submission) (refusal : PutRefusal) → begins s batch (Err refusal) t →
+        gives s (putting batch (Err refusal)) t };
+
+    // What was accepted is answered once its place was settled.
+    ghost answered: { (s m t : Self) (batch : Submission) (kept : Kept) (is_durable : Bool) →
+        begins s batch (Ok kept) m → settles m kept.index is_durable t →
+        gives s (putting batch (settled kept is_durable)) t };
+
+    // What is settled behind a put that was begun could have been settled before it.
+    ghost earlier: { (s m t : Self) (batch : Submission) (answer : Result Kept PutRefusal) (place : ℕ)
+        (is_durable : Bool) → begins s batch answer m → settles m place is_durable t →
+        (x : Self) × settles s place is_durable x × begins x batch answer t };
 
     // To go through an exported sum takes memory too. Where that is refused it is as if the export had been.
     ghost may_lack: { (s t : Self) (m : Matrix) (e : AllocError) → gives s (exporting (Ok m)) t →

@@ -1,5 +1,7 @@
 //! The keeper over the engine of one thread.
-ghost use Rattle.std.specs.Prelude.{◌≡◌, ℕ, ◌+◌, ◌<◌, ◌≤◌, ◌^◌, ⊤};
+ghost use Rattle.std.specs.Prelude.{◌≡◌, ℕ, ◌+◌, ◌<◌, ◌≤◌, ◌^◌, ⊤, true};
+ghost use Rattle.wire_proto.specs.Keeping.{put as putting};
+ghost use Rattle.wire_proto.specs.Settling.{settled_at_once, earlier_at_once};
 ghost use Rattle.wire_proto.specs.Plain.{PlainGives, EndsPlain};
 
 use crate::ended::Ended;
@@ -12,7 +14,7 @@ use plain_engine::{PlainEngine, Status, ViewedSum};
 use std::alloc::{AllocError, Global};
 use std::sync::Arc;
 
-/// An engine of one thread, lent to a session.
+/// An engine of one thread, lent to a session. It has no log, so that a batch is settled as it is accepted.
 ///
 /// Its state is what was accepted, and nothing else, and each answer follows from it, but for want of memory. It saves
 /// nothing.
@@ -36,9 +38,27 @@ impl<'a> Keeper for PlainKeeper<'a> {
         × (t.engine.now.setup ≡ s.engine.now.setup)
         × PlainGives s.engine.now.setup s.engine.now.book.state e t.engine.now.book.state };
 
+    ghost begins = { λ s batch answer t. (t.engine.ghost_name ≡ s.engine.ghost_name)
+        × (t.engine.now.setup ≡ s.engine.now.setup)
+        × PlainGives s.engine.now.setup s.engine.now.book.state (putting batch answer) t.engine.now.book.state };
+
+    ghost settles = { λ s place is_durable t. (t ≡ s) × (is_durable ≡ true) };
+
     ghost fact = { λ s. ⊤ };
 
     ghost setup_of = { λ s. s.engine.now.setup };
+
+    ghost refused = { λ s t batch refusal h. h };
+
+    ghost answered = { λ s m t batch kept is_durable b h. settled_at_once
+        (λ answer v. (v.engine.ghost_name ≡ s.engine.ghost_name) × (v.engine.now.setup ≡ s.engine.now.setup)
+        × PlainGives s.engine.now.setup s.engine.now.book.state (putting batch answer) v.engine.now.book.state)
+        m t kept is_durable b h };
+
+    ghost earlier = { λ s m t batch answer place is_durable b h. earlier_at_once
+        (λ u v. (v.engine.ghost_name ≡ u.engine.ghost_name) × (v.engine.now.setup ≡ u.engine.now.setup)
+        × PlainGives u.engine.now.setup u.engine.now.book.state (putting batch answer) v.engine.now.book.state)
+        s m t is_durable b h };
 
     ghost may_lack = { λ s t m e h. (h.0, h.1, h.2.1) };
 
@@ -46,8 +66,12 @@ impl<'a> Keeper for PlainKeeper<'a> {
         self.engine.setup()
     }
 
-    fn put(&mut self, alloc: Global, batch: Arc<Batch>) -> Result<Kept, PutRefusal> {
+    fn begin_put(&mut self, alloc: Global, batch: Arc<Batch>) -> Result<Kept, PutRefusal> {
         Ok(self.engine.put(alloc, batch)?)
+    }
+
+    fn settle(&mut self, _place: u64) -> bool {
+        true
     }
 
     fn cell(&mut self, row: u64, col: u64) -> Option<u64> {
@@ -68,6 +92,10 @@ impl<'a> Keeper for PlainKeeper<'a> {
 
     fn save(&mut self, _alloc: Global) -> Result<u64, SaveRefusal> {
         Err(SaveRefusal::SaveOff)
+    }
+
+    fn stored(&mut self) -> Status {
+        self.engine.status()
     }
 }
 

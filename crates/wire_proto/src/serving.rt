@@ -96,8 +96,9 @@ fn read_piece<L: Link>(link: &mut L, buffer: &mut ReadBuffer) -> Result<usize, D
 
 /// Serves one link until the session ends.
 ///
-/// A turn is one read of at most 65,536 bytes. All whole frames read so far are answered in order before the next. The
-/// replies to puts that came one behind the other are sent together: at most 64, of bodies of at most 65,536 bytes.
+/// A turn is one read of at most 65,536 bytes. All whole frames read so far are answered in order before the next. Puts
+/// that came one behind the other, at most 64, are begun before the first is settled, so that a log needs one sync for
+/// all of them, and one write sends their replies.
 pub fn serve<L: Link, K: Keeper>(
     alloc: Global,
     link: &mut L,

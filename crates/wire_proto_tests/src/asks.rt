@@ -33,6 +33,7 @@ pub enum Ask {
     Export,
     Save,
     Stop,
+    Stored,
     /// These bytes, in hexadecimal digits.
     Raw(&'static str),
 }
@@ -118,6 +119,7 @@ fn short_request(ask: Ask) -> Option<Request>
         Ask::Export => Some(Request::Export),
         Ask::Save => Some(Request::Save),
         Ask::Stop => Some(Request::Stop),
+        Ask::Stored => Some(Request::Stored),
         Ask::Put(..) | Ask::Text(..) | Ask::Cells(..) | Ask::Raw(_) => None,
     }
 }

@@ -47,7 +47,10 @@ static HEADERS: &[(&str, Result<Option<u8>, FrameFault>)] = &[
     ("03fffff8 08", Err(FrameFault::BadLength)),
     ("04000000 08", Ok(None)),
     ("04000018 08", Err(FrameFault::TooLarge)),
-    ("00000000 09", Err(FrameFault::UnknownKind)),
+    ("00000000 09", Ok(Some(9))),
+    ("00000001 09", Err(FrameFault::BadLength)),
+    ("04000001 09", Err(FrameFault::TooLarge)),
+    ("00000000 0a", Err(FrameFault::UnknownKind)),
     ("01000000 81", Err(FrameFault::UnknownKind)),
     ("00000010 81", Err(FrameFault::UnknownKind)),
     ("00000000 ff", Err(FrameFault::UnknownKind)),
@@ -63,6 +66,7 @@ fn kind(request: &Request) -> u8 {
         Request::Save => 6,
         Request::Stop => 7,
         Request::PutCells { .. } => 8,
+        Request::Stored => 9,
     }
 }
 
@@ -202,6 +206,7 @@ static SPELLED: &[(Ask, &str)] = &[
     (Ask::Export, "00000000 05"),
     (Ask::Save, "00000000 06"),
     (Ask::Stop, "00000000 07"),
+    (Ask::Stored, "00000000 09"),
     (
         Ask::Cells(9, 1, &[(0, 1, 5), (2, 0, u64::MAX)]),
         "00000040 08 0000000000000009 0000000000000001

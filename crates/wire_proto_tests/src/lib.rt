@@ -10,6 +10,8 @@ mod cell_puts;
 #[cfg(test)]
 mod cuts;
 #[cfg(test)]
+mod durable;
+#[cfg(test)]
 mod failures;
 #[cfg(test)]
 mod frames;

@@ -93,6 +93,23 @@ static SESSIONS: &[Session] = &[
         Ended::Stopped,
         (0, 0),
     ),
+    // Without a log what is stored is what was accepted.
+    (
+        &[
+            Ask::Stored,
+            Ask::Put(7, 1, FIVE),
+            Ask::Put(8, 1, THREE),
+            Ask::Put(7, 1, FIVE),
+            Ask::Stored,
+        ],
+        "00000010 84 0000000000000000 0000000000000000
+         00000010 81 0000000000000000 0000000000000005
+         00000010 81 0000000000000001 0000000000000008
+         00000010 81 0000000000000000 0000000000000005
+         00000010 84 0000000000000002 0000000000000008",
+        Ended::Closed { rest: 0 },
+        (2, 8),
+    ),
     // An export of two batches, and one of none.
     (
         &[Ask::Put(7, 1, FIVE), Ask::Put(8, 1, THREE), Ask::Export],
@@ -120,13 +137,13 @@ static SESSIONS: &[Session] = &[
         (0, 0),
     ),
     (
-        &[Ask::Raw("04000001 09")],
+        &[Ask::Raw("04000001 0a")],
         "0000000a ff 0032 0000000000000000",
         Ended::BadFrame,
         (0, 0),
     ),
     (
-        &[Ask::Raw("00000000 09"), Ask::Status],
+        &[Ask::Raw("00000000 0a"), Ask::Status],
         "0000000a ff 0033 0000000000000000",
         Ended::BadFrame,
         (0, 0),

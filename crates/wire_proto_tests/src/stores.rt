@@ -15,7 +15,8 @@ use std::test::Fail;
 use test_support::same_at;
 use wire_proto::{Ended, Keeper, PutRefusal, SaveRefusal, serve};
 
-// A store that keeps nothing. It refuses each batch, and answers a save as it was told to; it has no memory to export.
+// A store that keeps nothing. It refuses each batch, and answers a save as it was told to; it has no memory to export,
+// and tells three batches as durable.
 #[derive(Clone, Copy, Drop)]
 struct Told {
     setup: Setup,
@@ -26,9 +27,19 @@ struct Told {
 impl Keeper for Told {
     ghost gives = { λ s e t. ⊤ };
 
+    ghost begins = { λ s batch answer t. ⊤ };
+
+    ghost settles = { λ s place is_durable t. ⊤ };
+
     ghost fact = { λ s. ⊤ };
 
     ghost setup_of = { λ s. s.setup };
+
+    ghost refused = { λ s t batch refusal h. h };
+
+    ghost answered = { λ s m t batch kept is_durable b h. b };
+
+    ghost earlier = { λ s m t batch answer place is_durable b h. (s, b, h) };
 
     ghost may_lack = { λ s t m e h. h };
 
@@ -36,8 +47,12 @@ impl Keeper for Told {
         self.setup
     }
 
-    fn put(&mut self, _alloc: Global, _batch: Arc<Batch>) -> Result<Kept, PutRefusal> {
+    fn begin_put(&mut self, _alloc: Global, _batch: Arc<Batch>) -> Result<Kept, PutRefusal> {
         Err(self.refusal)
+    }
+
+    fn settle(&mut self, _place: u64) -> bool {
+        true
     }
 
     fn cell(&mut self, _row: u64, _col: u64) -> Option<u64> {
@@ -65,6 +80,13 @@ impl Keeper for Told {
     fn save(&mut self, _alloc: Global) -> Result<u64, SaveRefusal> {
         self.saved
     }
+
+    fn stored(&mut self) -> Status {
+        Status {
+            batches: 3,
+            total: 12,
+        }
+    }
 }
 
 const PUT: Ask = Ask::Put(7, 1, "3 3 1\n1 1 5\n");
@@ -72,7 +94,13 @@ const PUT: Ask = Ask::Put(7, 1, "3 3 1\n1 1 5\n");
 const ON: Ended = Ended::Closed { rest: 0 };
 
 /// What the store answers a put and a save, what is asked, what comes back, and how the session ends.
-type Case = (PutRefusal, Result<u64, SaveRefusal>, Ask, &'static str, Ended);
+type Case = (
+    PutRefusal,
+    Result<u64, SaveRefusal>,
+    Ask,
+    &'static str,
+    Ended,
+);
 
 static CASES: &[Case] = &[
     (
@@ -129,6 +157,20 @@ static CASES: &[Case] = &[
         Ok(0),
         PUT,
         "0000000a ff 0021 0000000000000000",
+        ON,
+    ),
+    (
+        PutRefusal::LogFailed,
+        Ok(0),
+        Ask::Status,
+        "00000010 84 0000000000000000 0000000000000000",
+        ON,
+    ),
+    (
+        PutRefusal::LogFailed,
+        Ok(0),
+        Ask::Stored,
+        "00000010 84 0000000000000003 000000000000000c",
         ON,
     ),
     (

@@ -7,11 +7,11 @@ invariant-requests g l = record {
   failures : g.L.Sink.failure_count l.link ≡ g.L.Sink.failure_count l.initial.link;
   fact : g.K.Keeper.fact l.keeper;
   setup : g.K.Keeper.setup_of l.keeper ≡ g.K.Keeper.setup_of l.initial.keeper;
-  room : l.written + length l.held.bytes.items + 134217728 * length l.frames
+  room : l.written + 21 * length l.held.begun.items + 134217728 * length l.frames
       ≤ l.initial.written + 134217728 * length l.initial.frames;
   carries : CarriesHeld g.L.Source.read_gives g.L.Sink.write_takes g.L.Sink.failure_count g.K.Keeper.gives
-      (g.K.Keeper.setup_of l.initial.keeper) l.initial.link l.link l.initial.keeper l.keeper l.initial.frames l.frames
-      l.held.bytes.items l.held.count l.initial.written l.written;
+      g.K.Keeper.settles (g.K.Keeper.setup_of l.initial.keeper) l.initial.link l.link l.initial.keeper l.keeper
+      l.initial.frames l.frames l.held.begun.items l.initial.written l.written;
 }
 
 abbrev pub decreases-requests : goal.decreases-requests
