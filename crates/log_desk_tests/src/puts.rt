@@ -1,4 +1,6 @@
 //! Puts that are durable once they are answered.
+ghost use Rattle.std.specs.Prelude.{◌≡◌, []};
+ghost use Rattle.std.specs.Arc.{arc_value};
 
 use batch_store::Batch;
 use cells::Cell;
@@ -44,13 +46,12 @@ pub const NONE: Tally = Tally {
 
 impl Tally {
     fn count(&mut self, answer: &Answer) {
-        let field = match answer {
-            Ok(_) => &mut self.kept,
-            Err(Refusal::Desk(DeskFault::LogFull)) => &mut self.full,
-            Err(Refusal::Desk(DeskFault::LogFailed)) => &mut self.failed,
-            Err(_) => &mut self.other,
-        };
-        *field = field.saturating_add(1);
+        match answer {
+            Ok(_) => self.kept = self.kept.saturating_add(1),
+            Err(Refusal::Desk(DeskFault::LogFull)) => self.full = self.full.saturating_add(1),
+            Err(Refusal::Desk(DeskFault::LogFailed)) => self.failed = self.failed.saturating_add(1),
+            Err(_) => self.other = self.other.saturating_add(1),
+        }
     }
 }
 
@@ -83,7 +84,10 @@ pub fn batch_of<N: Named, H: Ledger>(
     engine: &Engine<N, H>,
     client: u64,
     number: u64,
-) -> Arc<Batch> {
+) -> Arc<Batch>
+    ensures rows { (arc_value result).matrix.rows ≡ N.setup.rows }
+    ensures cols { (arc_value result).matrix.cols ≡ N.setup.cols }
+{
     let cell = Cell {
         row: 1,
         col: 1,
@@ -93,7 +97,9 @@ pub fn batch_of<N: Named, H: Ledger>(
 }
 
 /// What an engine without batches has as durable in an empty log.
-pub fn nothing<N: Named, H: Ledger, P: Pause>(seat: &Seat<N, H>) -> Durable<N, MemoryLog<P>> {
+pub fn nothing<N: Named, H: Ledger, P: Pause>(seat: &Seat<N, H>) -> Durable<N, MemoryLog<P>>
+    ensures { result ≡ [] }
+{
     let none = Status {
         batches: 0,
         total: 0,
