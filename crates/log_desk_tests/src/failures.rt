@@ -35,7 +35,7 @@ pub fn fail_first<
         admitted: &admitted,
         count: 4,
     };
-    let log = MemoryLog::new(alloc, 16, 16, FailAt::Append(0), pause).expect(rt, "memory");
+    let log = MemoryLog::new(alloc, 16, 10_000, FailAt::Append(0), pause).expect(rt, "memory");
     let first = seats.first().expect(rt, "a seat");
     let desk = LogDesk::open(alloc, log, nothing(first), first.version()).expect(rt, "memory");
     let tally = put_all(rt, alloc, engine, &desk, seats, &admitted, 1);

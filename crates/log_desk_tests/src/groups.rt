@@ -33,7 +33,7 @@ pub fn share_a_sync<
         admitted: &admitted,
         count: 4,
     };
-    let log = MemoryLog::new(alloc, 16, 16, FailAt::Never, pause).expect(rt, "memory");
+    let log = MemoryLog::new(alloc, 16, 10_000, FailAt::Never, pause).expect(rt, "memory");
     let first = seats.first().expect(rt, "a seat");
     let desk = LogDesk::open(alloc, log, nothing(first), first.version()).expect(rt, "memory");
     let tally = put_all(rt, alloc, engine, &desk, seats, &admitted, 1);
