@@ -1,5 +1,5 @@
--- What the calls of a log's file do to it, and what a loss of power may do between two syncs. Behind its end a file is 00
--- without end.
+-- What the calls of a log's file do to it, and what a loss of power may do between two syncs. Behind its end a file is
+-- 00 without end.
 use Rattle.std.specs.Prelude.{◌≡◌, ◌⊎◌, ℕ, ◌+◌, ◌<◌, ◌≤◌, List, length, slice_index}
 use Rattle.log_blocks.specs.Files.{Mixed}
 

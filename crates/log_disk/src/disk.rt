@@ -3,7 +3,8 @@
 //! The file is seen as what is written, which is what a read gives; as the files that a loss of power may leave at this
 //! moment; and as the bytes that the next sync makes durable. A real file doesn't tell them, since nobody knows them
 //! beforehand; of such a one the contracts say when it failed.
-ghost use Rattle.std.specs.Prelude.{◌≡◌, ℕ, ◌+◌, ◌<◌, ◌≤◌, ◌^◌, List, length, slice_index, OnOk, OnErr, Bool, true, false};
+ghost use Rattle.std.specs.Prelude.{◌≡◌, ℕ, ◌+◌, ◌<◌, ◌≤◌, ◌^◌, List, length, slice_index, OnOk, OnErr, Bool};
+ghost use Rattle.std.specs.Prelude.{true, false};
 ghost use Rattle.log_disk.specs.Disk.{Holds, HoldsSome, IsCut, MayBeCut, Follows, Elapses};
 
 use byte_io::DeviceFault;
@@ -11,8 +12,8 @@ use byte_io::DeviceFault;
 /// The file of a log. Behind its end a file is 00 without end.
 ///
 /// A call answers `DeviceFault` exactly where it adds one to `failures`, and at most 2^64 - 1 calls may fail. Once a
-/// `write_at`, a `cut` or a `sync` has failed, nobody knows what the file has, or what of it is durable: it is in doubt,
-/// and no other call may be made. Only who opens the file anew finds out.
+/// `write_at`, a `cut` or a `sync` has failed, nobody knows what the file has, or what of it is durable: it is in
+/// doubt, and no other call may be made. Only who opens the file anew finds out.
 pub trait LogDisk {
     // Whether the file tells what it holds. A file that tells goes on so.
     ghost tells: { Self → Type 0 };
@@ -23,8 +24,8 @@ pub trait LogDisk {
     // What a loss of power at this moment may leave.
     ghost may_leave: { Self → List ℕ → Type 0 };
 
-    // The byte was written since the file was opened or last synced, so that a sync makes it durable. Of a byte that was
-    // written before a sync that failed, or before the file was opened, a sync says nothing.
+    // The byte was written since the file was opened or last synced, so that a sync makes it durable. Of a byte that
+    // was written before a sync that failed, or before the file was opened, a sync says nothing.
     ghost is_fresh: { Self → ℕ → Type 0 };
 
     // The moment, as a number that doesn't fall.
@@ -55,8 +56,8 @@ pub trait LogDisk {
         ensures ok { OnOk result (failure_count self.new ≡ failure_count self.old) }
         ensures err { OnErr result (failure_count self.new ≡ failure_count self.old + 1) };
 
-    /// Writes all of the bytes over what is there, and past the end. Until a sync a loss of power may leave each byte as
-    /// it was before or as it was written. After an Err any of them may be there.
+    /// Writes all of the bytes over what is there, and past the end. Until a sync a loss of power may leave each byte
+    /// as it was before or as it was written. After an Err any of them may be there.
     fn write_at(&mut self, at: u64, bytes: &[u8]) -> Result<(), DeviceFault>
         requires working { in_doubt self.old ≡ false }
         requires failures { failure_count self.old + 1 < 2 ^ 64 }

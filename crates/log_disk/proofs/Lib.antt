@@ -1,0 +1,2 @@
+mod MemoryLemmas
+pub mod Steps
