@@ -74,7 +74,8 @@ pub fn clear<R: Files>(rt: &R, name: &str) -> io::Result<()> {
     }
 }
 
-/// Makes a new file, which nobody else has open, in the place of what stands under `name`, a folder excepted.
+/// Makes a new file, which nobody else has open, in the place of what stands under `name`, a folder excepted, and opens
+/// it to read and to write.
 ///
 /// Where `access` is given, only its owner may use the file until it has the right group.
 pub fn make_file<R: Files>(rt: &R, name: &str, access: Option<Access>) -> io::Result<R::File> {
@@ -92,7 +93,7 @@ pub fn make_file<R: Files>(rt: &R, name: &str, access: Option<Access>) -> io::Re
 // Makes a file where nothing stands, which has no more than the owner's part of what it is to get.
 fn make_new<R: Files>(rt: &R, name: &str, access: Option<Access>) -> io::Result<R::File> {
     let mut options = OpenOptions::new();
-    options.write(true).create_new(true);
+    options.read(true).write(true).create_new(true);
     if let Some(access) = access {
         options.mode(access.mode & OWNER);
     }

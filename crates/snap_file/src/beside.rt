@@ -51,7 +51,7 @@ fn made_beside<R: Files>(rt: &R, path: &str, name: &str) -> Option<R::File>
 }
 
 /// The folder that a path's file is in.
-fn folder_of(path: &str) -> &str {
+pub fn folder_of(path: &str) -> &str {
     match Path::new(path).parent() {
         Some(folder) if !folder.as_str().is_empty() => folder.as_str(),
         _ => ".",

@@ -22,7 +22,8 @@ mod tally;
 mod write;
 mod writer;
 
-pub use beside::try_save;
+pub use access::{Access, access_under, clear, make_file};
+pub use beside::{folder_of, try_save};
 pub use fault::{FileFault, SaveFault, SnapFault};
 pub use file::{load, save};
 pub use file_folder::{Folder, MemoryFolder};
@@ -34,6 +35,6 @@ pub use laws::{
 };
 pub use path_lock::{PathLock, lock, lock_existing};
 pub use read::read_snapshot;
-pub use saving::save_in;
+pub use saving::{UNFINISHED, save_in};
 pub use snapshot::Snapshot;
 pub use write::write_snapshot;
