@@ -11,7 +11,7 @@ use Rattle.std.specs.Int.{w64, from_be_bytes}
 use Rattle.byte_io.specs.declared.fault.DeviceFault.{DeviceFault}
 use Rattle.cells.specs.declared.cell.Cell.{Cell}
 use Rattle.snap_file.specs.Table.{Reading, Tally, cells_behind, is_below}
-use Rattle.snap_file.specs.Outcomes.{ReaderState, HasJudged}
+use Rattle.snap_file.specs.Outcomes.{Task, ReaderState, HasJudged}
 use Rattle.snap_file.specs.Tallies.{tally_of, TakesCell}
 use Rattle.snap_file.specs.declared.fault.SnapFault.TheVariants.{BadBatch, OutOfOrder, TotalDiffers}
 use Rattle.snap_file.specs.declared.head.Head.{Head}
@@ -35,10 +35,10 @@ three_fields r l =
 
 -- what is still to be read is what was, but for the cell that was taken
 pub takes_cell : {S : Type 0} (gives : S → Result (List ℕ) DeviceFault → S → Type 0) (failures : S → ℕ)
-    (max_bytes : ℕ) (s t : S) (h : Head) (most n : ℕ) (old new : ReaderState) (tally next : CellTally) (done : List Cell)
+    (task : Task) (s t : S) (h : Head) (most n : ℕ) (old new : ReaderState) (tally next : CellTally) (done : List Cell)
     (k : Tally → Reading) → TakesCell h most old tally new next →
-    HasJudged gives failures max_bytes s t old (cells_behind h most (suc n) (tally_of done tally) k) →
-    HasJudged gives failures max_bytes s t new (cells_behind h most n (tally_of done next) k)
+    HasJudged gives failures task s t old (cells_behind h most (suc n) (tally_of done tally) k) →
+    HasJudged gives failures task s t new (cells_behind h most n (tally_of done next) k)
 unfolding cells_behind
 takes_cell gives failures m s t h most n old new tally next done k c j =
     let cell = c.cell in let a = c.ahead in let f = c.faultless in let p = c.passed in

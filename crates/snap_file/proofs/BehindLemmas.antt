@@ -23,20 +23,20 @@ abbrev outcome : Type 0
 outcome = Result Contents Fault
 
 -- none of the head's
-record IsNotOfHead (kind : SnapFault) : Type 0 where
-  no_mark : kind ≢ BadMark
-  no_version : kind ≢ BadVersion
-  no_head : kind ≢ BadHead
+pub record IsNotOfHead (kind : SnapFault) : Type 0 where
+  pub no_mark : kind ≢ BadMark
+  pub no_version : kind ≢ BadVersion
+  pub no_head : kind ≢ BadHead
 
 -- A fault of this reading is none of the head's, and shows no earlier than where the reading begins.
-record IsFromHere (left : Reading) : Type 0 where
-  shows : (input : Input) (kind : SnapFault) (shown : ℕ) → left input ≡ fault_at kind shown →
+pub record IsFromHere (left : Reading) : Type 0 where
+  pub shows : (input : Input) (kind : SnapFault) (shown : ℕ) → left input ≡ fault_at kind shown →
       IsNotOfHead kind × (length input.before ≤ shown)
 
 truncated : IsNotOfHead Truncated
 truncated = record { no_mark = λ e. absurd cc; no_version = λ e. absurd cc; no_head = λ e. absurd cc }
 
-bad_batch : IsNotOfHead BadBatch
+pub bad_batch : IsNotOfHead BadBatch
 bad_batch = record { no_mark = λ e. absurd cc; no_version = λ e. absurd cc; no_head = λ e. absurd cc }
 
 out_of_order : IsNotOfHead OutOfOrder
@@ -84,14 +84,14 @@ here at shown kind e h =
     }
 
 -- behind the head, so from here
-from_here : (left : Reading) → IsBehindHead left → IsFromHere left
+pub from_here : (left : Reading) → IsBehindHead left → IsFromHere left
 from_here left b = record {
   shows = λ input kind shown e.
       let s = b.shows input kind shown e in
       (record { no_mark = s.no_mark; no_version = s.no_version; no_head = s.no_head }, s.not_before);
 }
 
-tested : (test : Bool) (kind : SnapFault) (k : Unit {0} → Reading) → IsNotOfHead kind → IsFromHere (k tt) →
+pub tested : (test : Bool) (kind : SnapFault) (k : Unit {0} → Reading) → IsNotOfHead kind → IsFromHere (k tt) →
     IsFromHere (refuse_if test kind k)
 tested true kind k n f = record {
   shows = λ input j shown e.
@@ -110,7 +110,7 @@ field_there : (w : Width) (k : ℕ → Reading) (input : Input) → byte_len w �
 unfolding number
 field_there w k input long = rw (le-ltb (length input.rest) (byte_len w) long) refl
 
-behind_field : (w : Width) (k : ℕ → Reading) → 0 < byte_len w → ((n : ℕ) → IsFromHere (k n)) →
+pub behind_field : (w : Width) (k : ℕ → Reading) → 0 < byte_len w → ((n : ℕ) → IsFromHere (k n)) →
     IsBehindHead (number w k)
 behind_field w k wide each = record {
   shows = λ input kind shown e. elim (cases_lt (length input.rest) (byte_len w)) [
@@ -130,7 +130,7 @@ behind_field w k wide each = record {
   ];
 }
 
-field : (w : Width) (k : ℕ → Reading) → 0 < byte_len w → ((n : ℕ) → IsFromHere (k n)) → IsFromHere (number w k)
+pub field : (w : Width) (k : ℕ → Reading) → 0 < byte_len w → ((n : ℕ) → IsFromHere (k n)) → IsFromHere (number w k)
 field w k wide each = from_here _ (behind_field w k wide each)
 
 behind_choice : (test : Bool) (a b : Reading) → IsBehindHead a → IsBehindHead b → IsBehindHead (cond test a b)

@@ -7,7 +7,7 @@ use Rattle.byte_io.specs.declared.fault.DeviceFault.{DeviceFault}
 use Rattle.byte_io.proofs.StreamLemmas.{calls-append, calls_one, bytes_of_calls-append}
 use Rattle.snap_file.specs.Spelling.{IsBytes}
 use Rattle.snap_file.specs.Table.{Contents, fault_at, end, reading_of}
-use Rattle.snap_file.specs.Outcomes.{ReaderState, HasRead, HasEnded, HasFailed, Stops, ReadsSnapshot}
+use Rattle.snap_file.specs.Outcomes.{snapshot_task, ReaderState, HasRead, HasEnded, HasFailed, Stops, ReadsSnapshot}
 use Rattle.snap_file.specs.declared.fault.SnapFault.TheVariants.{Read, TooLong, ExtraBytes}
 use Rattle.snap_file.proofs.FileLaws.{first_in_field, first_at_limit, no_fault}
 use Rattle.snap_file.proofs.Kept.{kept_of}
@@ -24,7 +24,7 @@ end_here c before = refl
 
 pub reads_whole : {S : Type 0} (gives : S → Result (List ℕ) DeviceFault → S → Type 0) (failures : S → ℕ)
     (ended : Type 0) (m : ℕ) (s t : S) (reader : ReaderState) (c : Contents) →
-    HasEnded gives failures ended m s t reader (end c) → length reader.pending < 1 →
+    HasEnded gives failures ended (snapshot_task m) s t reader (end c) → length reader.pending < 1 →
     ReadsSnapshot gives failures ended m s t c.setup c.state
 reads_whole gives failures ended m s t reader c x short =
     let a = x.has_read in
@@ -53,7 +53,7 @@ reads_whole gives failures ended m s t reader c x short =
 
 pub fails_at_end : {S : Type 0} (gives : S → Result (List ℕ) DeviceFault → S → Type 0) (failures : S → ℕ)
     (ended : Type 0) (m : ℕ) (s t : S) (c : Contents) →
-    HasFailed gives failures m s t 1 (end c) → Stops gives failures ended m s t Read
+    HasFailed gives failures (snapshot_task m) s t 1 (end c) → Stops gives failures ended (snapshot_task m) s t Read
 fails_at_end gives failures ended m s t c x =
     let a = x.has_read in
     let last : List (Result (List ℕ) DeviceFault) = Err x.fault ∷ [] in
@@ -82,8 +82,8 @@ extra c before (x ∷ rest) h = end_more c before x rest
 
 pub stops_extra : {S : Type 0} (gives : S → Result (List ℕ) DeviceFault → S → Type 0) (failures : S → ℕ)
     (ended : Type 0) (m : ℕ) (s t : S) (reader : ReaderState) (c : Contents) →
-    HasRead gives failures m s t reader (end c) → 1 ≤ length reader.pending → reader.taken < reader.max_bytes →
-    Stops gives failures ended m s t ExtraBytes
+    HasRead gives failures (snapshot_task m) s t reader (end c) → 1 ≤ length reader.pending → reader.taken < reader.max_bytes →
+    Stops gives failures ended (snapshot_task m) s t ExtraBytes
 stops_extra gives failures ended m s t reader c a some room =
     let bytes = bytes_of_calls a.answers in
     let shows : reading_of bytes ≡ fault_at ExtraBytes (length a.front + 1) = ap reading_of a.bytes_are ∙
@@ -96,7 +96,7 @@ stops_extra gives failures ended m s t reader c a some room =
       few = omega arith;
       explains = record {
         place = length a.front + 1;
-        first = first_in_field m bytes
+        first = first_in_field (snapshot_task m) bytes
             (record { kind = ExtraBytes; place = length a.front + 1 }) shows (λ long. omega arith);
         at_end = λ h. absurd (omega arith);
       };
@@ -105,8 +105,8 @@ stops_extra gives failures ended m s t reader c a some room =
 
 pub stops_over : {S : Type 0} (gives : S → Result (List ℕ) DeviceFault → S → Type 0) (failures : S → ℕ) (ended : Type 0)
     (m : ℕ) (s t : S) (reader : ReaderState) (c : Contents) →
-    HasRead gives failures m s t reader (end c) → 1 ≤ length reader.pending → reader.taken ≡ reader.max_bytes →
-    Stops gives failures ended m s t TooLong
+    HasRead gives failures (snapshot_task m) s t reader (end c) → 1 ≤ length reader.pending → reader.taken ≡ reader.max_bytes →
+    Stops gives failures ended (snapshot_task m) s t TooLong
 stops_over gives failures ended m s t reader c a some room =
     let bytes = bytes_of_calls a.answers in
     let shows : reading_of bytes ≡ fault_at ExtraBytes (length a.front + 1) = ap reading_of a.bytes_are ∙
@@ -120,7 +120,7 @@ stops_over gives failures ended m s t reader c a some room =
       few = omega arith;
       explains = record {
         place = m + 1;
-        first = first_at_limit m bytes more
+        first = first_at_limit (snapshot_task m) bytes more
             (λ g e. let p = place_same ExtraBytes g.kind (length a.front + 1) g.place (sym shows ∙ e) in omega arith);
         at_end = λ h. absurd (omega arith);
       };

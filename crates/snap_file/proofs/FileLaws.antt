@@ -6,7 +6,7 @@ use Rattle.std.proofs.lemmas.Bool.{cases_lt}
 use Rattle.batch_store.specs.Setups.{Setting}
 use Rattle.snap_file.specs.Spelling.{IsBytes, IsSnapshot}
 use Rattle.snap_file.specs.Table.{Contents, Fault, fault_at, contents, end, reading_of}
-use Rattle.snap_file.specs.Outcomes.{Turn, FaultAt, FirstFaultAt, moment}
+use Rattle.snap_file.specs.Outcomes.{Turn, Task, snapshot_task, FaultIn, FirstFaultIn, FaultAt, FirstFaultAt, moment}
 use Rattle.snap_file.specs.Outcomes.Turn.{at_limit, in_field}
 use Rattle.batch_store.specs.Accepted.{Accepted}
 use Rattle.snap_file.specs.declared.fault.SnapFault.{SnapFault}
@@ -60,41 +60,41 @@ abbrev pub HasFirstFault : ℕ → List ℕ → Type 0
 HasFirstFault m bytes = (place : ℕ) × (kind : SnapFault) × FirstFaultAt m bytes place kind
 
 -- the place of a fault in a field
-same_fault : (bytes : List ℕ) (f : Fault) (p : ℕ) (k : SnapFault) → reading_of bytes ≡ Err f →
-    reading_of bytes ≡ fault_at k p → p ≡ f.place
-same_fault bytes f p k e h =
+same_fault : (reads : List ℕ → outcome) (bytes : List ℕ) (f : Fault) (p : ℕ) (k : SnapFault) → reads bytes ≡ Err f →
+    reads bytes ≡ fault_at k p → p ≡ f.place
+same_fault reads bytes f p k e h =
     let both : ◌≡◌ {A = outcome} (Err f) (Err (record { kind = k; place = p })) = sym e ∙ h in
     let same : ◌≡◌ {A = Fault} f (record { kind = k; place = p }) = cc in
     sym (ap (λ (x : Fault). x.place) same)
 
-pub first_in_field : (m : ℕ) (bytes : List ℕ) (f : Fault) → reading_of bytes ≡ Err f →
-    (m < length bytes → f.place ≤ m) → FirstFaultAt m bytes f.place f.kind
+pub first_in_field : (m : Task) (bytes : List ℕ) (f : Fault) → m.reads bytes ≡ Err f →
+    (m.max_bytes < length bytes → f.place ≤ m.max_bytes) → FirstFaultIn m bytes f.place f.kind
 first_in_field m bytes f e within = record {
   turn = in_field;
   stands = e;
   least = least;
 }
   where
-    least : (t : Turn) (p : ℕ) (k : SnapFault) → FaultAt t m bytes p k → moment f.place in_field ≤ moment p t
+    least : (t : Turn) (p : ℕ) (k : SnapFault) → FaultIn t m bytes p k → moment f.place in_field ≤ moment p t
     least at_limit p k h = let j = within h.longer in let i = h.place_is in omega arith
-    least in_field p k h = let j = same_fault bytes f p k e h in omega arith
+    least in_field p k h = let j = same_fault m.reads bytes f p k e h in omega arith
 
-pub first_at_limit : (m : ℕ) (bytes : List ℕ) → m < length bytes →
-    ((f : Fault) → reading_of bytes ≡ Err f → m < f.place) → FirstFaultAt m bytes (m + 1) TooLong
+pub first_at_limit : (m : Task) (bytes : List ℕ) → m.max_bytes < length bytes →
+    ((f : Fault) → m.reads bytes ≡ Err f → m.max_bytes < f.place) → FirstFaultIn m bytes (m.max_bytes + 1) TooLong
 first_at_limit m bytes long later = record {
   turn = at_limit;
   stands = record { longer = long; place_is = refl; kind_is = refl };
   least = least;
 }
   where
-    least : (t : Turn) (p : ℕ) (k : SnapFault) → FaultAt t m bytes p k → moment (m + 1) at_limit ≤ moment p t
+    least : (t : Turn) (p : ℕ) (k : SnapFault) → FaultIn t m bytes p k → moment (m.max_bytes + 1) at_limit ≤ moment p t
     least at_limit p k h = let i = h.place_is in omega arith
-    least in_field p k h = let i : m < p = later (record { kind = k; place = p }) h in omega arith
+    least in_field p k h = let i : m.max_bytes < p = later (record { kind = k; place = p }) h in omega arith
 
 told : (m : ℕ) (bytes : List ℕ) (r : outcome) → IsBytes bytes → reading_of bytes ≡ r →
     IsSomeSnapshot m bytes ⊎ HasFirstFault m bytes
 told m bytes (Ok v) fits e = elim (cases_lt m (length bytes)) [
-  | inl long ↦ inr (m + 1, TooLong, first_at_limit m bytes long (λ f h. absurd (apart v f (sym e ∙ h))))
+  | inl long ↦ inr (m + 1, TooLong, first_at_limit (snapshot_task m) bytes long (λ f h. absurd (apart v f (sym e ∙ h))))
   | inr short ↦ let r = file_read v bytes fits e in inl (
     v.setup,
     v.state,
@@ -106,12 +106,12 @@ told m bytes (Err f) fits e = elim (cases_lt m (length bytes)) [
     | inl later ↦ inr (
       m + 1,
       TooLong,
-      first_at_limit m bytes long
-          (λ g h. let i = same_fault bytes f g.place g.kind e h in omega arith),
+      first_at_limit (snapshot_task m) bytes long
+          (λ g h. let i = same_fault reading_of bytes f g.place g.kind e h in omega arith),
     )
-    | inr within ↦ inr (f.place, f.kind, first_in_field m bytes f e (λ _. within))
+    | inr within ↦ inr (f.place, f.kind, first_in_field (snapshot_task m) bytes f e (λ _. within))
   ]
-  | inr short ↦ inr (f.place, f.kind, first_in_field m bytes f e (λ long. absurd (omega arith)))
+  | inr short ↦ inr (f.place, f.kind, first_in_field (snapshot_task m) bytes f e (λ long. absurd (omega arith)))
 ]
 
 pub every : (m : ℕ) (bytes : List ℕ) → IsBytes bytes → IsSomeSnapshot m bytes ⊎ HasFirstFault m bytes

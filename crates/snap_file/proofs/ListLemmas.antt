@@ -22,7 +22,7 @@ use Rattle.batch_store.specs.declared.verdict.Entry.{Entry}
 use Rattle.snap_file.specs.Spelling.{stands_in}
 use Rattle.snap_file.specs.Table.{Reading, Tally, Progress, number, refuse_if, cells_behind, is_below, with_cells}
 use Rattle.snap_file.specs.Table.{entry, entries_behind, batch, batches_behind, check_in}
-use Rattle.snap_file.specs.Outcomes.{ReaderState, HasJudged}
+use Rattle.snap_file.specs.Outcomes.{Task, ReaderState, HasJudged}
 use Rattle.snap_file.specs.Lists.{pair_cmp, HasPairs}
 use Rattle.snap_file.specs.declared.head.Head.{Head}
 use Rattle.snap_file.specs.declared.fault.SnapFault.TheVariants.{BadBatch, OutOfOrder, TotalDiffers}
@@ -94,7 +94,7 @@ cells_parted h top (suc n) m tally k =
     ∙ (λ i. one_cell h top tally (λ t. rest t i))
     ∙ sym (step_is h top n tally (λ t. cells_behind h top m t k))
 
-module _ {S : Type 0} (gives : S → Result (List ℕ) DeviceFault → S → Type 0) (failures : S → ℕ) (m : ℕ) (s t : S)
+module _ {S : Type 0} (gives : S → Result (List ℕ) DeviceFault → S → Type 0) (failures : S → ℕ) (m : Task) (s t : S)
     (reader : ReaderState) (h : Head) (top : ℕ) (k : Tally → Reading) where
   -- the next run of cells
   pub run_next : (left run rest : ℕ) (tally : Tally) → left ≡ run + rest →
@@ -158,7 +158,7 @@ batch_none : (h : Head) (p : Progress) (k : Progress → Reading) → batches_be
 unfolding batches_behind
 batch_none h p k = refl
 
-module _ {S : Type 0} (gives : S → Result (List ℕ) DeviceFault → S → Type 0) (failures : S → ℕ) (m : ℕ) (s t : S)
+module _ {S : Type 0} (gives : S → Result (List ℕ) DeviceFault → S → Type 0) (failures : S → ℕ) (m : Task) (s t : S)
     (reader : ReaderState) (h : Head) (k : Progress → Reading) where
   pub batch_next : (left rest : ℕ) (p : Progress) → left ≡ suc rest →
       HasJudged gives failures m s t reader (batches_behind h left p k) →
@@ -182,7 +182,7 @@ entry_none : (h : Head) (p : Progress) (k : Progress → Reading) → entries_be
 unfolding entries_behind
 entry_none h p k = refl
 
-module _ {S : Type 0} (gives : S → Result (List ℕ) DeviceFault → S → Type 0) (failures : S → ℕ) (m : ℕ) (s t : S)
+module _ {S : Type 0} (gives : S → Result (List ℕ) DeviceFault → S → Type 0) (failures : S → ℕ) (m : Task) (s t : S)
     (reader : ReaderState) (h : Head) (k : Progress → Reading) where
   pub entry_next : (left rest : ℕ) (p : Progress) → left ≡ suc rest →
       HasJudged gives failures m s t reader (entries_behind h left p k) →

@@ -6,7 +6,7 @@ use Rattle.std.specs.Int.{w64}
 use Rattle.byte_io.specs.declared.fault.DeviceFault.{DeviceFault}
 use Rattle.snap_file.specs.Spelling.{old_version}
 use Rattle.snap_file.specs.Table.{Reading, Progress, field_in, entries_behind, base, folded_past, past, nothing_yet}
-use Rattle.snap_file.specs.Outcomes.{ReaderState, HasJudged}
+use Rattle.snap_file.specs.Outcomes.{Task, ReaderState, HasJudged}
 use Rattle.snap_file.specs.declared.head.Head.{Head}
 use Rattle.snap_file.specs.declared.fault.SnapFault.TheVariants.{BadHead}
 
@@ -21,7 +21,7 @@ begins : (h : Head) (k : Progress → Reading) →
 unfolding folded_past
 begins h k i = folded_past h k
 
-module _ {S : Type 0} (gives : S → Result (List ℕ) DeviceFault → S → Type 0) (failures : S → ℕ) (m : ℕ) (s t : S)
+module _ {S : Type 0} (gives : S → Result (List ℕ) DeviceFault → S → Type 0) (failures : S → ℕ) (m : Task) (s t : S)
     (reader : ReaderState) (h : Head) (k : Progress → Reading) where
   -- nothing is folded
   pub past_old : (p : Progress) → p ≡ nothing_yet → HasJudged gives failures m s t reader (past h k) →

@@ -11,7 +11,7 @@ use Rattle.byte_io.proofs.SinkLemmas.{each_takes-append}
 use Rattle.byte_io.proofs.KnownLemmas.{calls_at_most_bytes}
 use Rattle.snap_file.specs.Spelling.{IsBytes}
 use Rattle.snap_file.specs.Table.{Reading}
-use Rattle.snap_file.specs.Outcomes.{ReaderState, HasRead, HasJudged, HasAsked, HasEnded, piece_bytes}
+use Rattle.snap_file.specs.Outcomes.{Task, ReaderState, HasRead, HasJudged, HasAsked, HasEnded, piece_bytes}
 use Rattle.byte_io.specs.Buffers.{Fills}
 
 are_bytes-append : (xs ys : List ℕ) → IsBytes xs → IsBytes ys → IsBytes (xs ++ ys)
@@ -21,14 +21,14 @@ are_bytes-append xs ys a b i = elim (cases_lt i (length xs)) [
 ]
 
 -- bytes came for a field of which some were missing
-pub read_more : {S : Type 0} (gives : S → Result (List ℕ) DeviceFault → S → Type 0) (failures : S → ℕ) (max_bytes : ℕ)
+pub read_more : {S : Type 0} (gives : S → Result (List ℕ) DeviceFault → S → Type 0) (failures : S → ℕ) (task : Task)
     (s m t : S) (old new : ReaderState) (left : Reading) (n want : ℕ) →
-    HasRead gives failures max_bytes s m old left → Fills gives m t old.pending new.pending n → 0 < n →
+    HasRead gives failures task s m old left → Fills gives m t old.pending new.pending n → 0 < n →
     n ≤ piece_bytes → length old.pending < want →
     old.taken + length old.pending ≤ old.max_bytes →
     new.taken ≡ old.taken → new.remainder ≡ old.remainder → new.max_bytes ≡ old.max_bytes → failures t ≡ failures m →
-    HasAsked gives failures max_bytes s t new left want
-read_more gives failures max_bytes s m t old new left n want a f some most short small taken remainder limit same =
+    HasAsked gives failures task s t new left want
+read_more gives failures task s m t old new left n want a f some most short small taken remainder limit same =
     let one : List (Result (List ℕ) DeviceFault) = Ok f.bytes ∷ [] in
     let joined : bytes_of_calls (a.answers ++ one) ≡ bytes_of_calls a.answers ++
     f.bytes = bytes_of_calls-append a.answers one ∙ ap (λ (l : List ℕ). bytes_of_calls a.answers ++ l)
@@ -47,11 +47,12 @@ read_more gives failures max_bytes s m t old new left n want a f some most short
         remainder_is = remainder ∙ a.remainder_is;
         limit_is = limit ∙ a.limit_is;
         within = a.within;
-        few = bounded a.answers one a.front old.pending max_bytes (calls_at_most_bytes a.answers a.each)
+        few = bounded a.answers one a.front old.pending task.max_bytes (calls_at_most_bytes a.answers a.each)
             (ap length a.bytes_are) refl
-            (counted a.front old.pending max_bytes old.taken old.max_bytes a.taken_is a.limit_is small);
+            (counted a.front old.pending task.max_bytes old.taken old.max_bytes a.taken_is a.limit_is small);
         none_failed = same ∙ a.none_failed;
         resumes = a.resumes;
+        keeps = a.keeps;
       };
       reaches = inr (record {
         before = a.answers;
@@ -73,10 +74,10 @@ read_more gives failures max_bytes s m t old new left n want a f some most short
         let f = length-append front pending in omega arith
 
 -- nothing was asked for yet
-pub asked_none : {S : Type 0} (gives : S → Result (List ℕ) DeviceFault → S → Type 0) (failures : S → ℕ) (max_bytes : ℕ)
+pub asked_none : {S : Type 0} (gives : S → Result (List ℕ) DeviceFault → S → Type 0) (failures : S → ℕ) (task : Task)
     (s t : S) (reader : ReaderState) (left : Reading) (want : ℕ) →
-    HasJudged gives failures max_bytes s t reader left → HasAsked gives failures max_bytes s t reader left want
-asked_none gives failures max_bytes s t reader left want h = record {
+    HasJudged gives failures task s t reader left → HasAsked gives failures task s t reader left want
+asked_none gives failures task s t reader left want h = record {
   has_read = h.has_read;
   reaches = elim h.reaches [
     | inl none ↦ inl none
@@ -91,11 +92,11 @@ asked_none gives failures max_bytes s t reader left want h = record {
 }
 
 -- the same reading, with the same bytes pending
-pub read_same : {S : Type 0} (gives : S → Result (List ℕ) DeviceFault → S → Type 0) (failures : S → ℕ) (max_bytes : ℕ)
+pub read_same : {S : Type 0} (gives : S → Result (List ℕ) DeviceFault → S → Type 0) (failures : S → ℕ) (task : Task)
     (s t : S) (old new : ReaderState) (left : Reading) →
-    HasRead gives failures max_bytes s t old left → new.pending ≡ old.pending → new.taken ≡ old.taken →
-    new.remainder ≡ old.remainder → new.max_bytes ≡ old.max_bytes → HasRead gives failures max_bytes s t new left
-read_same gives failures max_bytes s t old new left a pending taken remainder limit = record {
+    HasRead gives failures task s t old left → new.pending ≡ old.pending → new.taken ≡ old.taken →
+    new.remainder ≡ old.remainder → new.max_bytes ≡ old.max_bytes → HasRead gives failures task s t new left
+read_same gives failures task s t old new left a pending taken remainder limit = record {
   answers = a.answers;
   calls = a.calls;
   each = a.each;
@@ -109,6 +110,7 @@ read_same gives failures max_bytes s t old new left a pending taken remainder li
   few = a.few;
   none_failed = a.none_failed;
   resumes = a.resumes;
+  keeps = a.keeps;
 }
 
 no_bytes : (l : List ℕ) → length l ≡ 0 → l ≡ []
@@ -116,15 +118,15 @@ no_bytes [] e = refl
 no_bytes (x ∷ l) e = absurd (omega arith)
 
 pub read_ended : {S : Type 0} (gives : S → Result (List ℕ) DeviceFault → S → Type 0) (failures : S → ℕ) (ended : Type 0)
-    (max_bytes : ℕ) (s m t : S) (old new : ReaderState) (left : Reading) (n : ℕ) →
-    HasRead gives failures max_bytes s m old left → Fills gives m t old.pending new.pending n → n ≡ 0 → ended →
+    (task : Task) (s m t : S) (old new : ReaderState) (left : Reading) (n : ℕ) →
+    HasRead gives failures task s m old left → Fills gives m t old.pending new.pending n → n ≡ 0 → ended →
     new.taken ≡ old.taken → new.remainder ≡ old.remainder → new.max_bytes ≡ old.max_bytes → failures t ≡ failures m →
-    HasEnded gives failures ended max_bytes s t new left
-read_ended gives failures ended max_bytes s m t old new left n a f none at_end taken remainder limit same =
+    HasEnded gives failures ended task s t new left
+read_ended gives failures ended task s m t old new left n a f none at_end taken remainder limit same =
     let empty = no_bytes f.bytes (f.count ∙ none) in
     record {
       before = m;
-      has_read = read_same gives failures max_bytes s m old new left a
+      has_read = read_same gives failures task s m old new left a
           (f.pending_is ∙ ap (λ (l : List ℕ). old.pending ++ l) empty ∙ append-nil old.pending) taken remainder limit;
       gave = subst (λ (l : List ℕ). gives m (Ok l) t) empty f.gave;
       at_end = at_end;

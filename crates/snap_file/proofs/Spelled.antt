@@ -49,7 +49,7 @@ pub record Came {A : Type 0} (k : A → Reading) (v : Contents) (start rest : Li
   pub fits : IsBytes left
   pub goes : k x (record { before = before; rest = left }) ≡ Ok v
 
-came_here : {A : Type 0} (k : A → Reading) (v : Contents) (before rest : List ℕ) (x : A) → IsBytes rest →
+pub came_here : {A : Type 0} (k : A → Reading) (v : Contents) (before rest : List ℕ) (x : A) → IsBytes rest →
     k x (record { before = before; rest = rest }) ≡ Ok v → Came k v before rest x []
 came_here k v before rest x fits e = record {
   before = before;
@@ -66,7 +66,7 @@ stands_more start rest a mid left b end behind s t = record {
   parts = s.parts ∙ ap (λ (l : List ℕ). a ++ l) t.parts ∙ sym (append_assoc a b behind);
 }
 
-came_behind : {A : Type 0} (k : A → Reading) (v : Contents) (start rest a mid left : List ℕ) (x : A) (b : List ℕ) →
+pub came_behind : {A : Type 0} (k : A → Reading) (v : Contents) (start rest a mid left : List ℕ) (x : A) (b : List ℕ) →
     Stands start rest a mid left → Came k v mid left x b → Came k v start rest x (a ++ b)
 came_behind k v start rest a mid left x b s c = record {
   before = c.before;
@@ -246,7 +246,7 @@ pub record CellsRead (k : Tally → Reading) (v : Contents) (before rest : List 
   pub fits : tally.counted + count_sum es ≤ top
   pub came : Came k v before rest (tally_after tally es) (cells_bytes es)
 
-cells_read : (h : Head) (top n : ℕ) (tally : Tally) (k : Tally → Reading) (v : Contents) (before rest : List ℕ) →
+pub cells_read : (h : Head) (top n : ℕ) (tally : Tally) (k : Tally → Reading) (v : Contents) (before rest : List ℕ) →
     IsBytes rest → tally.counted ≤ top →
     cells_behind h top n tally k (record { before = before; rest = rest }) ≡ Ok v → CellsRead k v before rest h top n tally
 unfolding cells_behind
@@ -282,12 +282,12 @@ cells_read h top (suc n) tally k v before rest fits below e =
           (came_behind k v f2.before f2.left (number_bytes w64 f3.value) f3.before f3.left _ _ f3.stands more.came)));
     })))))))
 
-cells_then : {P : Type 0} (h : Head) (top n : ℕ) (tally : Tally) (k : Tally → Reading) (v : Contents) (before rest : List ℕ) → IsBytes rest → tally.counted ≤ top →
+pub cells_then : {P : Type 0} (h : Head) (top n : ℕ) (tally : Tally) (k : Tally → Reading) (v : Contents) (before rest : List ℕ) → IsBytes rest → tally.counted ≤ top →
     cells_behind h top n tally k (record { before = before; rest = rest }) ≡ Ok v → (CellsRead k v before rest h top n tally → P) → P
 cells_then h top n tally k v before rest fits below e f = f (cells_read h top n tally k v before rest fits below e)
 
 -- cells that rise are the entries of what they build
-entries_are : (es : List (Place × ℕ)) → RiseFrom 0 0 es → entries (built (map entry_of (map cell_of es))) ≡ es
+pub entries_are : (es : List (Place × ℕ)) → RiseFrom 0 0 es → entries (built (map entry_of (map cell_of es))) ≡ es
 entries_are es rise = ap (λ (l : List (Place × ℕ)). entries (built l)) (entries_again es) ∙
     entries-built es (sorted_rising 0 0 es rise)
 

@@ -3,7 +3,7 @@ use Rattle.std.proofs.Common.{◌≡◌, ℕ, ◌+◌, ◌<◌, ◌≤◌, ◌�
 use Rattle.std.proofs.Common.{append_assoc, length-append, arith, inl, inr}
 use Rattle.std.proofs.lemmas.Bool.{cases_lt}
 use Rattle.snap_file.specs.Table.{Fault, fault_at, reading_of}
-use Rattle.snap_file.specs.Outcomes.{Turn, FaultAt, FirstFaultAt, moment}
+use Rattle.snap_file.specs.Outcomes.{Turn, snapshot_task, FaultAt, FirstFaultAt, moment}
 use Rattle.snap_file.specs.Outcomes.Turn.{at_limit, in_field}
 use Rattle.snap_file.specs.declared.fault.SnapFault.{SnapFault}
 use Rattle.snap_file.specs.declared.fault.SnapFault.TheVariants.{TooLong}
@@ -30,7 +30,7 @@ stays_in at_limit m bytes more p kind h least within =
     let long = h.longer in (
       m + 1,
       TooLong,
-      first_at_limit m (bytes ++ more) (let l = length-append bytes more in omega arith)
+      first_at_limit (snapshot_task m) (bytes ++ more) (let l = length-append bytes more in omega arith)
           (λ f e. later f e (cases_lt m f.place)),
       h.place_is,
       h.kind_is,
@@ -48,7 +48,7 @@ stays_in in_field m bytes more p kind h least within =
     (ap (λ (l : List ℕ). l ++ more) s.2 ∙ append_assoc s.0 s.1 more) ∙ s.4 (s.1 ++ more) in (
       p,
       kind,
-      first_in_field m (bytes ++ more) (record { kind = kind; place = p }) shows
+      first_in_field (snapshot_task m) (bytes ++ more) (record { kind = kind; place = p }) shows
           (λ _. before (cases_lt m (length bytes))),
       refl,
       refl,

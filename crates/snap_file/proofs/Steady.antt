@@ -59,7 +59,7 @@ number_there w k before field more len =
     (omega (arith, length-append field more)) in
     rw (long, take_at field more (byte_len w) len, drop_at field more (byte_len w) len) refl
 
-steady_number : (w : Width) (k : ℕ → Reading) → ((n : ℕ) → IsSteady (k n)) → IsSteady (number w k)
+pub steady_number : (w : Width) (k : ℕ → Reading) → ((n : ℕ) → IsSteady (k n)) → IsSteady (number w k)
 steady_number w k each = record {
   shows = λ before rest kind place e within. elim (cases_lt (length rest) (byte_len w)) [
     | inl short ↦ absurd (let p = place_same kind Truncated place (length before + length rest + 1)
@@ -105,7 +105,7 @@ pub goes_on : (k : Unit {0} → Reading) (test : Bool) (kind : SnapFault) (input
 unfolding refuse_if
 goes_on k test kind input e = rw e refl
 
-steady_test : (test : Bool) (kind : SnapFault) (k : Unit {0} → Reading) → IsSteady (k tt) →
+pub steady_test : (test : Bool) (kind : SnapFault) (k : Unit {0} → Reading) → IsSteady (k tt) →
     IsSteady (refuse_if test kind k)
 unfolding refuse_if
 steady_test true kind k s = record {
@@ -160,7 +160,7 @@ steady_head k each =
     (steady_number _ _ (λ batches. steady_test _ _ _
     (steady_number _ _ (λ total. steady_test _ _ _ (each _)))))))))))))))))))))
 
-steady_cells : (h : Head) (top n : ℕ) (tally : Tally) (k : Tally → Reading) → ((t : Tally) → IsSteady (k t)) →
+pub steady_cells : (h : Head) (top n : ℕ) (tally : Tally) (k : Tally → Reading) → ((t : Tally) → IsSteady (k t)) →
     IsSteady (cells_behind h top n tally k)
 unfolding cells_behind
 steady_cells h top zero tally k each = each tally
@@ -220,7 +220,7 @@ unfolding end
 end_more c before x rest = let some : eqb (length (x ∷ rest)) 0 ≡ false = ne_eqb (length (x ∷ rest)) 0 (λ e. omega arith) in
     rw some refl
 
-steady_end : (c : Contents) → IsSteady (end c)
+pub steady_end : (c : Contents) → IsSteady (end c)
 unfolding end
 steady_end c = record { shows = shows }
   where

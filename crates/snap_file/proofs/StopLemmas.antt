@@ -10,15 +10,15 @@ use Rattle.crc32c.proofs.Linear.{after_bytes-append}
 use Rattle.byte_io.specs.Streams.{Answer, bytes_of_calls}
 use Rattle.byte_io.specs.declared.fault.DeviceFault.{DeviceFault}
 use Rattle.byte_io.proofs.StreamLemmas.{calls-append, calls_one, bytes_of_calls-append}
-use Rattle.snap_file.specs.Table.{Input, Fault, Reading, fault_at, number, refuse_if, check, check_in, reading_of}
+use Rattle.snap_file.specs.Table.{Input, Fault, Reading, fault_at, number, refuse_if, check, check_in, Contents}
 use Rattle.snap_file.specs.Spelling.{version}
-use Rattle.snap_file.specs.Outcomes.{Turn, FaultAt, IsTold, IsOfBytes, ShowsBehind, ReachesLast, Explains, ReaderState}
+use Rattle.snap_file.specs.Outcomes.{Turn, Task, KeepsFaults, FaultIn, IsTold, IsOfBytes, ShowsBehind, ReachesLast, Explains, ReaderState}
 use Rattle.snap_file.specs.Outcomes.{HasRead, HasJudged, HasAsked, IsBehindHead, HasEnded, HasFailed, Stops}
 use Rattle.snap_file.specs.Outcomes.Turn.{at_limit, in_field}
 use Rattle.snap_file.specs.declared.fault.SnapFault.{SnapFault}
 use Rattle.snap_file.specs.declared.fault.SnapFault.TheVariants.{Read, Memory, Truncated, TooLong, BadCheck}
 use Rattle.snap_file.proofs.FileLaws.{first_in_field, first_at_limit}
-use Rattle.snap_file.proofs.Steady.{steady, number_short, number_there, goes_on, refused_at, place_same, kind_same}
+use Rattle.snap_file.proofs.Steady.{number_short, number_there, goes_on, refused_at, place_same, kind_same}
 
 pub split : (front pending a b : List ℕ) → front ++ pending ≡ a ++ b →
     (c : List ℕ) × ((front ≡ a ++ c) ⊎ (a ≡ front ++ c))
@@ -36,11 +36,11 @@ split (x ∷ front) pending (y ∷ a) b e =
     )
 
 -- a fault of what follows a field shows behind the field
-pub never_before : (front pending : List ℕ) (w : Width) (k : ℕ → Reading) → 0 < byte_len w →
-    ((more : List ℕ) → reading_of (front ++ more) ≡ number w k (record { before = front; rest = more })) →
-    (kind : SnapFault) (p : ℕ) → reading_of (front ++ pending) ≡ fault_at kind p → p ≤ length (front ++ pending) →
+pub never_before : (reads : List ℕ → Result Contents Fault) → KeepsFaults reads → (front pending : List ℕ) (w : Width) (k : ℕ → Reading) → 0 < byte_len w →
+    ((more : List ℕ) → reads (front ++ more) ≡ number w k (record { before = front; rest = more })) →
+    (kind : SnapFault) (p : ℕ) → reads (front ++ pending) ≡ fault_at kind p → p ≤ length (front ++ pending) →
     length front + byte_len w ≤ p
-never_before front pending w k wide resumes kind p e within = elim
+never_before reads steady front pending w k wide resumes kind p e within = elim
     (cases_lt p (length front + byte_len w)) [ inr le ↦ le | inl lt ↦ absurd (early lt) ]
   where
     early : p < length front + byte_len w → ⊥
@@ -52,7 +52,7 @@ never_before front pending w k wide resumes kind p e within = elim
         elim c.1 [
           | inl h ↦
               let whole : fault_at kind p ≡ fault_at Truncated (length front + 0 + 1) =
-              sym (s.4 c.0) ∙ ap reading_of (sym h ∙ sym (append-nil front)) ∙ resumes [] ∙
+              sym (s.4 c.0) ∙ ap reads (sym h ∙ sym (append-nil front)) ∙ resumes [] ∙
               number_short w k front [] wide in
               let q = place_same kind Truncated p _ whole in
               let l = ap length h ∙ length-append a c.0 in
@@ -61,27 +61,27 @@ never_before front pending w k wide resumes kind p e within = elim
               let l = ap length h ∙ length-append front c.0 in
               let short : length c.0 < byte_len w = omega arith in
               let whole : fault_at kind p ≡ fault_at Truncated (length front + length c.0 + 1) =
-              sym (s.4 []) ∙ ap reading_of (append-nil a ∙ h) ∙ resumes c.0 ∙
+              sym (s.4 []) ∙ ap reads (append-nil a ∙ h) ∙ resumes c.0 ∙
               number_short w k front c.0 short in
               let q = place_same kind Truncated p _ whole in
               omega arith
         ]
 
-told_as : (m : ℕ) (answers : List Answer) (ended failed : Type 0) (kind : SnapFault) → IsOfBytes kind →
+told_as : (m : Task) (answers : List Answer) (ended failed : Type 0) (kind : SnapFault) → IsOfBytes kind →
     IsTold m (bytes_of_calls answers) ended kind → Explains m answers ended failed kind
 told_as m answers ended failed Read judged t = absurd (judged.0 refl)
 told_as m answers ended failed Memory judged t = absurd (judged.1 refl)
 told_as m answers ended failed kind judged t = t
 
 pub stops_refused : {S : Type 0} (gives : S → Result (List ℕ) DeviceFault → S → Type 0) (failures : S → ℕ)
-    (ended : Type 0) (m : ℕ) (s t : S) (reader : ReaderState) (test : Bool) (kind : SnapFault)
+    (ended : Type 0) (m : Task) (s t : S) (reader : ReaderState) (test : Bool) (kind : SnapFault)
     (k : Unit {0} → Reading) →
     HasJudged gives failures m s t reader (refuse_if test kind k) → test ≡ true → IsOfBytes kind →
     Stops gives failures ended m s t kind
 stops_refused gives failures ended m s t reader test kind k h bad judged =
     let a = h.has_read in
     let bytes = bytes_of_calls a.answers in
-    let shows : reading_of bytes ≡ fault_at kind (length a.front) = ap reading_of a.bytes_are ∙
+    let shows : m.reads bytes ≡ fault_at kind (length a.front) = ap m.reads a.bytes_are ∙
     a.resumes reader.pending ∙ refused_at k test kind (record { before = a.front; rest = reader.pending }) bad in
     let longer : length a.front ≤ length bytes = let e = ap length a.bytes_are ∙ length-append a.front reader.pending in
     omega arith in
@@ -100,7 +100,7 @@ stops_refused gives failures ended m s t reader test kind k h bad judged =
     }
 
 -- the bytes that were judged, and those that are pending, where what is still to be read is read as something else
-left_as : {S : Type 0} (gives : S → Result (List ℕ) DeviceFault → S → Type 0) (failures : S → ℕ) (m : ℕ) (s t : S)
+left_as : {S : Type 0} (gives : S → Result (List ℕ) DeviceFault → S → Type 0) (failures : S → ℕ) (m : Task) (s t : S)
     (reader : ReaderState) (old new : Reading) → HasJudged gives failures m s t reader old →
     ((input : Input) → old input ≡ new input) → HasJudged gives failures m s t reader new
 left_as gives failures m s t reader old new h same =
@@ -120,18 +120,19 @@ left_as gives failures m s t reader old new h same =
         few = a.few;
         none_failed = a.none_failed;
         resumes = λ more. a.resumes more ∙ same (record { before = a.front; rest = more });
+        keeps = a.keeps;
       };
       reaches = h.reaches;
     }
 
-pub read_passed : {S : Type 0} (gives : S → Result (List ℕ) DeviceFault → S → Type 0) (failures : S → ℕ) (m : ℕ)
+pub read_passed : {S : Type 0} (gives : S → Result (List ℕ) DeviceFault → S → Type 0) (failures : S → ℕ) (m : Task)
     (s t : S) (reader : ReaderState) (test : Bool) (kind : SnapFault) (k : Unit {0} → Reading) →
     HasJudged gives failures m s t reader (refuse_if test kind k) → test ≡ false →
     HasJudged gives failures m s t reader (k tt)
 read_passed gives failures m s t reader test kind k h good =
     left_as gives failures m s t reader (refuse_if test kind k) (k tt) h (λ input. goes_on k test kind input good)
 
-pub read_field : {S : Type 0} (gives : S → Result (List ℕ) DeviceFault → S → Type 0) (failures : S → ℕ) (m : ℕ)
+pub read_field : {S : Type 0} (gives : S → Result (List ℕ) DeviceFault → S → Type 0) (failures : S → ℕ) (m : Task)
     (s t : S) (old new : ReaderState) (w : Width) (k : ℕ → Reading) →
     HasAsked gives failures m s t old (number w k) (byte_len w) → byte_len w ≤ length old.pending →
     old.taken + byte_len w ≤ old.max_bytes →
@@ -162,8 +163,9 @@ read_field gives failures m s t old new w k h long room pending taken remainder 
         within = omega arith;
         few = a.few;
         none_failed = a.none_failed;
-        resumes = λ more. ap reading_of (append_assoc a.front field more) ∙ a.resumes (field ++ more) ∙
+        resumes = λ more. ap m.reads (append_assoc a.front field more) ∙ a.resumes (field ++ more) ∙
             number_there w k a.front field more len;
+        keeps = a.keeps;
       };
       reaches = elim h.reaches [
         | inl none ↦ inl none
@@ -172,7 +174,7 @@ read_field gives failures m s t old new w k h long room pending taken remainder 
     }
 
 pub stops_long : {S : Type 0} (gives : S → Result (List ℕ) DeviceFault → S → Type 0) (failures : S → ℕ) (ended : Type 0)
-    (m : ℕ) (s t : S) (reader : ReaderState) (w : Width) (k : ℕ → Reading) →
+    (m : Task) (s t : S) (reader : ReaderState) (w : Width) (k : ℕ → Reading) →
     HasRead gives failures m s t reader (number w k) → reader.max_bytes < reader.taken + byte_len w →
     reader.max_bytes < reader.taken + length reader.pending → Stops gives failures ended m s t TooLong
 stops_long gives failures ended m s t reader w k a room long =
@@ -180,35 +182,36 @@ stops_long gives failures ended m s t reader w k a room long =
     let l = a.limit_is in let i = a.taken_is in let f = a.few in let in_front = a.within in
     let all : length bytes ≡ length a.front + length reader.pending = ap length a.bytes_are ∙
     length-append a.front reader.pending in
-    let over : m < length a.front + byte_len w = omega arith in
-    let more : m < length bytes = omega arith in
+    let over : m.max_bytes < length a.front + byte_len w = omega arith in
+    let more : m.max_bytes < length bytes = omega arith in
     record {
       answers = a.answers;
       calls = a.calls;
       few = omega arith;
       explains = record {
-        place = m + 1;
-        first = first_at_limit m bytes more (λ g e. later m a.front reader.pending w k bytes a.bytes_are a.resumes over
+        place = m.max_bytes + 1;
+        first = first_at_limit m bytes more (λ g e. later m a.keeps a.front reader.pending w k bytes a.bytes_are a.resumes over
             (omega arith) more g e);
         at_end = λ h. absurd (omega arith);
       };
       unfailed = λ n. a.none_failed;
     }
   where
-    later : (m : ℕ) (front pending : List ℕ) (w : Width) (k : ℕ → Reading) (bytes : List ℕ) → bytes ≡ front ++ pending →
-        ((more : List ℕ) → reading_of (front ++ more) ≡ number w k (record { before = front; rest = more })) →
-        m < length front + byte_len w → 0 < byte_len w → m < length bytes → (g : Fault) → reading_of bytes ≡ Err g →
-        m < g.place
-    later m front pending w k bytes is resumes over wide more g e = elim (cases_lt (length bytes) g.place) [
+    later : (m : Task) → KeepsFaults m.reads → (front pending : List ℕ) (w : Width) (k : ℕ → Reading) (bytes : List ℕ) →
+        bytes ≡ front ++ pending →
+        ((more : List ℕ) → m.reads (front ++ more) ≡ number w k (record { before = front; rest = more })) →
+        m.max_bytes < length front + byte_len w → 0 < byte_len w → m.max_bytes < length bytes → (g : Fault) → m.reads bytes ≡ Err g →
+        m.max_bytes < g.place
+    later m keeps front pending w k bytes is resumes over wide more g e = elim (cases_lt (length bytes) g.place) [
       | inl outside ↦ omega arith
       | inr inside ↦
-          let le = never_before front pending w k wide resumes g.kind g.place (ap reading_of (sym is) ∙ e)
+          let le = never_before m.reads keeps front pending w k wide resumes g.kind g.place (ap m.reads (sym is) ∙ e)
           (let q = ap length is in omega arith) in
           omega arith
     ]
 
 pub stops_short : {S : Type 0} (gives : S → Result (List ℕ) DeviceFault → S → Type 0) (failures : S → ℕ)
-    (ended : Type 0) (m : ℕ) (s t : S) (reader : ReaderState) (w : Width) (k : ℕ → Reading) →
+    (ended : Type 0) (m : Task) (s t : S) (reader : ReaderState) (w : Width) (k : ℕ → Reading) →
     HasEnded gives failures ended m s t reader (number w k) → length reader.pending < byte_len w →
     reader.taken + length reader.pending ≤ reader.max_bytes → Stops gives failures ended m s t Truncated
 stops_short gives failures ended m s t reader w k x short room =
@@ -221,7 +224,7 @@ stops_short gives failures ended m s t reader w k x short room =
     length-append a.front reader.pending in
     let l = a.limit_is in let i = a.taken_is in let f = a.few in
     let place = length a.front + length reader.pending + 1 in
-    let shows : reading_of bytes ≡ fault_at Truncated place = ap reading_of bytes_are ∙ a.resumes reader.pending ∙
+    let shows : m.reads bytes ≡ fault_at Truncated place = ap m.reads bytes_are ∙ a.resumes reader.pending ∙
     number_short w k a.front reader.pending short in
     record {
       answers = a.answers ++ last;
@@ -237,7 +240,7 @@ stops_short gives failures ended m s t reader w k x short room =
     }
 
 pub stops_failed : {S : Type 0} (gives : S → Result (List ℕ) DeviceFault → S → Type 0) (failures : S → ℕ)
-    (ended : Type 0) (m : ℕ) (s t : S) (want : ℕ) (w : Width) (k : ℕ → Reading) →
+    (ended : Type 0) (m : Task) (s t : S) (want : ℕ) (w : Width) (k : ℕ → Reading) →
     HasFailed gives failures m s t want (number w k) → want ≤ byte_len w → Stops gives failures ended m s t Read
 stops_failed gives failures ended m s t want w k x wanted =
     let a = x.has_read in
@@ -249,7 +252,7 @@ stops_failed gives failures ended m s t want w k x wanted =
     length-append a.front x.reader.pending in
     let l = a.limit_is in let i = a.taken_is in let f = a.few in let short = x.short in let room = x.room in
     let place = length a.front + length x.reader.pending + 1 in
-    let shows : reading_of bytes ≡ fault_at Truncated place = ap reading_of bytes_are ∙ a.resumes x.reader.pending ∙
+    let shows : m.reads bytes ≡ fault_at Truncated place = ap m.reads bytes_are ∙ a.resumes x.reader.pending ∙
     number_short w k a.front x.reader.pending (omega arith) in
     record {
       answers = a.answers ++ last;
@@ -262,14 +265,15 @@ stops_failed gives failures ended m s t want w k x wanted =
       unfailed = λ n. absurd (n refl);
     }
   where
-    only : (m : ℕ) (bytes : List ℕ) (place : ℕ) → reading_of bytes ≡ fault_at Truncated place → length bytes ≤ m →
-        (turn : Turn) (p : ℕ) (kind : SnapFault) → FaultAt turn m bytes p kind → kind ≡ Truncated
+    only : (m : Task) (bytes : List ℕ) (place : ℕ) → m.reads bytes ≡ fault_at Truncated place →
+        length bytes ≤ m.max_bytes →
+        (turn : Turn) (p : ℕ) (kind : SnapFault) → FaultIn turn m bytes p kind → kind ≡ Truncated
     only m bytes place shows fits at_limit p kind h = let long = h.longer in absurd (omega arith)
     only m bytes place shows fits in_field p kind h = kind_same kind Truncated p place (sym h ∙ shows)
 
 -- memory was refused
 pub stops_memory : {S : Type 0} (gives : S → Result (List ℕ) DeviceFault → S → Type 0) (failures : S → ℕ)
-    (ended : Type 0) (m : ℕ) (s t : S) (reader : ReaderState) (left : Reading) →
+    (ended : Type 0) (m : Task) (s t : S) (reader : ReaderState) (left : Reading) →
     HasJudged gives failures m s t reader left → IsBehindHead left → Stops gives failures ended m s t Memory
 stops_memory gives failures ended m s t reader left h behind =
     let a = h.has_read in
@@ -291,11 +295,11 @@ stops_memory gives failures ended m s t reader left h behind =
       unfailed = λ n. a.none_failed;
     }
   where
-    later : (m : ℕ) (front pending : List ℕ) (left : Reading) (bytes : List ℕ) → bytes ≡ front ++ pending →
-        length front ≤ m →
-        ((more : List ℕ) → reading_of (front ++ more) ≡ left (record { before = front; rest = more })) →
+    later : (m : Task) (front pending : List ℕ) (left : Reading) (bytes : List ℕ) → bytes ≡ front ++ pending →
+        length front ≤ m.max_bytes →
+        ((more : List ℕ) → m.reads (front ++ more) ≡ left (record { before = front; rest = more })) →
         IsBehindHead left → (more : List ℕ) (turn : Turn) (shown : ℕ) (kind : SnapFault) →
-        FaultAt turn m (bytes ++ more) shown kind → ShowsBehind (length front) shown kind
+        FaultIn turn m (bytes ++ more) shown kind → ShowsBehind (length front) shown kind
     later m front pending left bytes is within resumes behind more at_limit shown kind h =
         let place = h.place_is in
         record {
@@ -307,13 +311,13 @@ stops_memory gives failures ended m s t reader left h behind =
         }
     later m front pending left bytes is within resumes behind more in_field shown kind h =
         behind.shows (record { before = front; rest = pending ++ more }) kind shown
-        (sym (ap reading_of (ap (λ (l : List ℕ). l ++ more) is ∙ append_assoc front pending more) ∙
+        (sym (ap m.reads (ap (λ (l : List ℕ). l ++ more) is ∙ append_assoc front pending more) ∙
         resumes (pending ++ more)) ∙ h)
 
 -- ---- checksums
 
 -- The bytes that were judged have the checksum that the reader makes of them.
-pub read_check : {S : Type 0} (gives : S → Result (List ℕ) DeviceFault → S → Type 0) (failures : S → ℕ) (m : ℕ)
+pub read_check : {S : Type 0} (gives : S → Result (List ℕ) DeviceFault → S → Type 0) (failures : S → ℕ) (m : Task)
     (s t : S) (reader : ReaderState) (sum : ℕ) (k : Unit {0} → Reading) → sum ≡ complement reader.remainder →
     HasJudged gives failures m s t reader (check k) →
     HasJudged gives failures m s t reader (number w32 (λ n. refuse_if (not (n == sum)) BadCheck k))
@@ -338,6 +342,7 @@ read_check gives failures m s t reader sum k is h =
         resumes = λ more. a.resumes more ∙
             ap (λ (c : ℕ). number w32 (λ n. refuse_if (not (n == c)) BadCheck k)
             (record { before = a.front; rest = more })) same;
+        keeps = a.keeps;
       };
       reaches = h.reaches;
     }
@@ -348,13 +353,13 @@ unfolding check_in
 chosen_check v k test e = ap (λ (b : Bool). cond b (check k) (k tt)) e
 
 -- a file of this version has a checksum here, or none
-pub check_due : {S : Type 0} (gives : S → Result (List ℕ) DeviceFault → S → Type 0) (failures : S → ℕ) (m : ℕ)
+pub check_due : {S : Type 0} (gives : S → Result (List ℕ) DeviceFault → S → Type 0) (failures : S → ℕ) (m : Task)
     (s t : S) (reader : ReaderState) (v : ℕ) (k : Unit {0} → Reading) → v ≡ version →
     HasJudged gives failures m s t reader (check_in v k) → HasJudged gives failures m s t reader (check k)
 check_due gives failures m s t reader v k e h =
     subst (λ (r : Reading). HasJudged gives failures m s t reader r) (chosen_check v k true (eq-eqb v version e)) h
 
-pub check_none : {S : Type 0} (gives : S → Result (List ℕ) DeviceFault → S → Type 0) (failures : S → ℕ) (m : ℕ)
+pub check_none : {S : Type 0} (gives : S → Result (List ℕ) DeviceFault → S → Type 0) (failures : S → ℕ) (m : Task)
     (s t : S) (reader : ReaderState) (v : ℕ) (k : Unit {0} → Reading) → (v ≡ version → ⊥) →
     HasJudged gives failures m s t reader (check_in v k) → HasJudged gives failures m s t reader (k tt)
 check_none gives failures m s t reader v k n h =

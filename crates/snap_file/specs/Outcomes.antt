@@ -7,11 +7,26 @@ use Rattle.byte_io.specs.Writing.{EachTakes}
 use Rattle.byte_io.specs.declared.fault.DeviceFault.{DeviceFault}
 use Rattle.batch_store.specs.Setups.{Setting}
 use Rattle.snap_file.specs.Spelling.{IsBytes, IsSnapshot}
-use Rattle.snap_file.specs.Table.{Input, Reading, fault_at, reading_of}
+use Rattle.snap_file.specs.Table.{Input, Fault, Contents, Reading, fault_at, reading_of}
 use Rattle.batch_store.specs.Accepted.{Accepted}
 use Rattle.snap_file.specs.declared.fault.SnapFault.{SnapFault}
 use Rattle.snap_file.specs.declared.fault.SnapFault.TheVariants.{Read, Memory, BadMark, BadVersion, BadHead}
 use Rattle.snap_file.specs.declared.fault.SnapFault.TheVariants.{TotalDiffers, Truncated, TooLong}
+
+-- What is to be read: how many bytes may come, and what a list of bytes is read as.
+pub record Task : Type 0 where
+  pub max_bytes : ℕ
+  pub reads : List ℕ → Result Contents Fault
+
+-- a whole snapshot
+abbrev pub snapshot_task : ℕ → Task
+snapshot_task max_bytes = record { max_bytes = max_bytes; reads = reading_of }
+
+-- A fault that shows within the bytes is told by those up to it, whatever follows.
+abbrev pub KeepsFaults : (List ℕ → Result Contents Fault) → Type 0
+KeepsFaults reads = (bytes : List ℕ) (kind : SnapFault) (place : ℕ) → reads bytes ≡ fault_at kind place →
+    place ≤ length bytes → (front behind : List ℕ) × (bytes ≡ front ++ behind) × (length front ≡ place) ×
+    ((more : List ℕ) → reads (front ++ more) ≡ fault_at kind place)
 
 -- A place is the number of bytes that were read when a fault shows; the end of the bytes counts as one byte more.
 -- Two judgements are made at a place, in this order.
@@ -30,30 +45,37 @@ pub record TooManyBytes (max_bytes : ℕ) (bytes : List ℕ) (place : ℕ) (kind
   pub kind_is : kind ≡ TooLong
 
 -- A fault of this kind shows at this place and turn.
-abbrev pub FaultAt : Turn → ℕ → List ℕ → ℕ → SnapFault → Type 0
-FaultAt at_limit max_bytes bytes place kind = TooManyBytes max_bytes bytes place kind
-FaultAt in_field max_bytes bytes place kind = reading_of bytes ≡ fault_at kind place
+abbrev pub FaultIn : Turn → Task → List ℕ → ℕ → SnapFault → Type 0
+FaultIn at_limit task bytes place kind = TooManyBytes task.max_bytes bytes place kind
+FaultIn in_field task bytes place kind = task.reads bytes ≡ fault_at kind place
 
 -- the order of judging: by place, and at one place by turn
 abbrev pub moment : ℕ → Turn → ℕ
 moment place turn = 2 * place + turn_number turn
 
 -- The first fault of the bytes, at this place.
-pub record FirstFaultAt (max_bytes : ℕ) (bytes : List ℕ) (place : ℕ) (kind : SnapFault) : Type 0 where
+pub record FirstFaultIn (task : Task) (bytes : List ℕ) (place : ℕ) (kind : SnapFault) : Type 0 where
   pub turn : Turn
-  pub stands : FaultAt turn max_bytes bytes place kind
-  pub least : (t : Turn) (p : ℕ) (k : SnapFault) → FaultAt t max_bytes bytes p k → moment place turn ≤ moment p t
+  pub stands : FaultIn turn task bytes place kind
+  pub least : (t : Turn) (p : ℕ) (k : SnapFault) → FaultIn t task bytes p k → moment place turn ≤ moment p t
+
+-- the same of a snapshot
+abbrev pub FaultAt : Turn → ℕ → List ℕ → ℕ → SnapFault → Type 0
+FaultAt turn max_bytes bytes place kind = FaultIn turn (snapshot_task max_bytes) bytes place kind
+
+abbrev pub FirstFaultAt : ℕ → List ℕ → ℕ → SnapFault → Type 0
+FirstFaultAt max_bytes bytes place kind = FirstFaultIn (snapshot_task max_bytes) bytes place kind
 
 -- What was read has this first fault; one that shows at the end is told only where the source had ended.
-pub record IsTold (max_bytes : ℕ) (bytes : List ℕ) (ended : Type 0) (kind : SnapFault) : Type 0 where
+pub record IsTold (task : Task) (bytes : List ℕ) (ended : Type 0) (kind : SnapFault) : Type 0 where
   pub place : ℕ
-  pub first : FirstFaultAt max_bytes bytes place kind
+  pub first : FirstFaultIn task bytes place kind
   pub at_end : length bytes < place → ended
 
 -- The source failed, and what was read before bears no fault but Truncated.
-pub record IsReadFault (max_bytes : ℕ) (bytes : List ℕ) (failed : Type 0) : Type 0 where
+pub record IsReadFault (task : Task) (bytes : List ℕ) (failed : Type 0) : Type 0 where
   pub failed_now : failed
-  pub none_but : (place : ℕ) (kind : SnapFault) → FirstFaultAt max_bytes bytes place kind → kind ≡ Truncated
+  pub none_but : (place : ℕ) (kind : SnapFault) → FirstFaultIn task bytes place kind → kind ≡ Truncated
 
 -- what is told of bytes: neither a failed read nor want of memory
 abbrev pub IsOfBytes : SnapFault → Type 0
@@ -84,19 +106,19 @@ pub record ReachesLast (answers : List Answer) (n : ℕ) : Type 0 where
 -- Memory was refused behind the head, when so many bytes were judged: what the last call gave was needed for them. Each
 -- call gave bytes, so the end of the source was not seen. However the bytes go on, no fault shows in the head, and none
 -- up to this place.
-pub record IsMemoryFault (max_bytes : ℕ) (answers : List Answer) : Type 0 where
+pub record IsMemoryFault (task : Task) (answers : List Answer) : Type 0 where
   pub place : ℕ
   pub reaches : ReachesLast answers place
   pub within : place ≤ length (bytes_of_calls answers)
   pub each : EachTakes answers
   pub none_before : (more : List ℕ) (shown : ℕ) (kind : SnapFault) →
-      FirstFaultAt max_bytes (bytes_of_calls answers ++ more) shown kind → ShowsBehind place shown kind
+      FirstFaultIn task (bytes_of_calls answers ++ more) shown kind → ShowsBehind place shown kind
 
 -- what a fault of a reading says of the calls: for want of memory, that none was made, or where it was refused
-abbrev pub Explains : ℕ → List Answer → Type 0 → Type 0 → SnapFault → Type 0
-Explains max_bytes answers ended failed Read = IsReadFault max_bytes (bytes_of_calls answers) failed
-Explains max_bytes answers ended failed Memory = (answers ≡ []) ⊎ IsMemoryFault max_bytes answers
-Explains max_bytes answers ended failed kind = IsTold max_bytes (bytes_of_calls answers) ended kind
+abbrev pub Explains : Task → List Answer → Type 0 → Type 0 → SnapFault → Type 0
+Explains task answers ended failed Read = IsReadFault task (bytes_of_calls answers) failed
+Explains task answers ended failed Memory = (answers ≡ []) ⊎ IsMemoryFault task answers
+Explains task answers ended failed kind = IsTold task (bytes_of_calls answers) ended kind
 
 -- what a reader holds: the bytes that came and were not judged yet, how many were judged, the remainder of which their
 -- checksum is made, and the most that may come
@@ -115,7 +137,7 @@ pub record IsPassed (old new : ReaderState) (n : ℕ) : Type 0 where
 
 -- The calls that led from s to t gave bytes of which the front was judged without a fault; `left` is still to be read.
 pub record HasRead {S : Type 0} (gives : S → Result (List ℕ) DeviceFault → S → Type 0) (failures : S → ℕ)
-    (max_bytes : ℕ) (s t : S) (reader : ReaderState) (left : Reading) : Type 0 where
+    (task : Task) (s t : S) (reader : ReaderState) (left : Reading) : Type 0 where
   pub answers : List (Result (List ℕ) DeviceFault)
   pub calls : Calls gives s answers t
   pub each : EachTakes answers
@@ -124,22 +146,23 @@ pub record HasRead {S : Type 0} (gives : S → Result (List ℕ) DeviceFault →
   pub are_bytes : IsBytes (bytes_of_calls answers)
   pub taken_is : reader.taken ≡ length front
   pub remainder_is : reader.remainder ≡ after_bytes all_ones front
-  pub limit_is : reader.max_bytes ≡ max_bytes
-  pub within : length front ≤ max_bytes
-  pub few : length answers ≤ max_bytes + 1
+  pub limit_is : reader.max_bytes ≡ task.max_bytes
+  pub within : length front ≤ task.max_bytes
+  pub few : length answers ≤ task.max_bytes + 1
   pub none_failed : failures t ≡ failures s
-  pub resumes : (more : List ℕ) → reading_of (front ++ more) ≡ left (record { before = front; rest = more })
+  pub resumes : (more : List ℕ) → task.reads (front ++ more) ≡ left (record { before = front; rest = more })
+  pub keeps : KeepsFaults task.reads
 
 -- The same, and no call was made for what is still to be read: what was judged reaches into what the last call gave.
 pub record HasJudged {S : Type 0} (gives : S → Result (List ℕ) DeviceFault → S → Type 0) (failures : S → ℕ)
-    (max_bytes : ℕ) (s t : S) (reader : ReaderState) (left : Reading) : Type 0 where
-  pub has_read : HasRead gives failures max_bytes s t reader left
+    (task : Task) (s t : S) (reader : ReaderState) (left : Reading) : Type 0 where
+  pub has_read : HasRead gives failures task s t reader left
   pub reaches : (has_read.answers ≡ []) ⊎ ReachesLast has_read.answers (length has_read.front)
 
 -- The same where n bytes of what is still to be read were asked for.
 pub record HasAsked {S : Type 0} (gives : S → Result (List ℕ) DeviceFault → S → Type 0) (failures : S → ℕ)
-    (max_bytes : ℕ) (s t : S) (reader : ReaderState) (left : Reading) (n : ℕ) : Type 0 where
-  pub has_read : HasRead gives failures max_bytes s t reader left
+    (task : Task) (s t : S) (reader : ReaderState) (left : Reading) (n : ℕ) : Type 0 where
+  pub has_read : HasRead gives failures task s t reader left
   pub reaches : (has_read.answers ≡ []) ⊎ ReachesLast has_read.answers (length has_read.front + n)
 
 -- What is read behind the head has no fault of the head, and none before a byte of it is there, but that the total
@@ -150,32 +173,32 @@ pub record IsBehindHead (left : Reading) : Type 0 where
 
 -- One more call gave nothing: the source has ended.
 pub record HasEnded {S : Type 0} (gives : S → Result (List ℕ) DeviceFault → S → Type 0) (failures : S → ℕ)
-    (ended : Type 0) (max_bytes : ℕ) (s t : S) (reader : ReaderState) (left : Reading) : Type 0 where
+    (ended : Type 0) (task : Task) (s t : S) (reader : ReaderState) (left : Reading) : Type 0 where
   pub before : S
-  pub has_read : HasRead gives failures max_bytes s before reader left
+  pub has_read : HasRead gives failures task s before reader left
   pub gave : gives before (Ok []) t
   pub at_end : ended
   pub none_failed : failures t ≡ failures before
 
 -- One more call failed.
 pub record HasFailed {S : Type 0} (gives : S → Result (List ℕ) DeviceFault → S → Type 0) (failures : S → ℕ)
-    (max_bytes : ℕ) (s t : S) (want : ℕ) (left : Reading) : Type 0 where
+    (task : Task) (s t : S) (want : ℕ) (left : Reading) : Type 0 where
   pub before : S
   pub reader : ReaderState
-  pub has_read : HasRead gives failures max_bytes s before reader left
+  pub has_read : HasRead gives failures task s before reader left
   pub fault : DeviceFault
   pub gave : gives before (Err fault) t
   pub short : length reader.pending < want
-  pub room : reader.taken + want ≤ max_bytes + 1
+  pub room : reader.taken + want ≤ task.max_bytes + 1
   pub failed : failures t ≡ failures before + 1
 
 -- The reading ended with this fault.
 pub record Stops {S : Type 0} (gives : S → Result (List ℕ) DeviceFault → S → Type 0) (failures : S → ℕ) (ended : Type 0)
-    (max_bytes : ℕ) (s t : S) (kind : SnapFault) : Type 0 where
+    (task : Task) (s t : S) (kind : SnapFault) : Type 0 where
   pub answers : List (Result (List ℕ) DeviceFault)
   pub calls : Calls gives s answers t
-  pub few : length answers ≤ max_bytes + 2
-  pub explains : Explains max_bytes answers ended (failures t ≡ failures s + 1) kind
+  pub few : length answers ≤ task.max_bytes + 2
+  pub explains : Explains task answers ended (failures t ≡ failures s + 1) kind
   pub unfailed : (kind ≡ Read → ⊥) → failures t ≡ failures s
 
 -- The source gave a snapshot of these contents, and ended.

@@ -8,7 +8,7 @@ ghost use Rattle.batch_store.specs.Batches.{submission, values, entries_of};
 ghost use Rattle.batch_store.specs.declared.verdict.Entry.{Entry};
 ghost use Rattle.snap_file.specs.Spelling.{stands_in};
 ghost use Rattle.snap_file.specs.Table.{Reading, Progress, batch, rest_of, end, contents};
-ghost use Rattle.snap_file.specs.Outcomes.{HasJudged, IsBehindHead, Stops};
+ghost use Rattle.snap_file.specs.Outcomes.{Task, HasJudged, IsBehindHead, Stops};
 ghost use Rattle.snap_file.specs.Lists.{HasPairs, progress_in, progress_of};
 ghost use Rattle.snap_file.specs.declared.fault.SnapFault.{SnapFault};
 
@@ -32,8 +32,12 @@ pub struct BatchList {
     pub tally: CellTally,
 }
 
-// Appends a batch.
-fn push_batch(
+/// Appends a batch of these parts.
+///
+/// # Errors
+///
+/// `Memory`: a growth was refused.
+pub fn push_batch(
     alloc: Global,
     batches: &mut Vec<Arc<Batch>>,
     client: u64,
@@ -97,16 +101,16 @@ fn read_batch<R: Source>(
     requires pairs { HasPairs list.old.pairs (entries_of (values list.old.batches.items)) }
     ensures counted { OnOk result (list.new.tally.counted ≤ front.now.head.total) }
     ensures pairs { OnOk result (HasPairs list.new.pairs (entries_of (values list.new.batches.items))) }
-    ensures ok { OnOk result ((s : R) (max_bytes : ℕ) (k : Progress → Reading) →
-        HasJudged R.read_gives R.failure_count max_bytes s r.old reader.old
+    ensures ok { OnOk result ((s : R) (task : Task) (k : Progress → Reading) →
+        HasJudged R.read_gives R.failure_count task s r.old reader.old
         (batch front.now.head (progress_of front.now.past list.old) k) →
-        HasJudged R.read_gives R.failure_count max_bytes s r.new reader.new
+        HasJudged R.read_gives R.failure_count task s r.new reader.new
         (k (progress_of front.now.past list.new))) }
-    ensures err { IfErr result (λ f. (s : R) (max_bytes : ℕ) (k : Progress → Reading) →
+    ensures err { IfErr result (λ f. (s : R) (task : Task) (k : Progress → Reading) →
         ((p : Progress) → IsBehindHead (k p)) →
-        HasJudged R.read_gives R.failure_count max_bytes s r.old reader.old
+        HasJudged R.read_gives R.failure_count task s r.old reader.old
         (batch front.now.head (progress_of front.now.past list.old) k) →
-        Stops R.read_gives R.failure_count (R.at_end r.new) max_bytes s r.new f) }
+        Stops R.read_gives R.failure_count (R.at_end r.new) task s r.new f) }
     ensures no_failure { OnOk result (R.failure_count r.new ≡ R.failure_count r.old) }
 {
     let (client, number) = reader.next_pair(r)?;
@@ -129,16 +133,16 @@ pub fn read_batches<R: Source>(
     requires failures { R.failure_count r.old + 1 < 2 ^ 64 }
     requires counted { front.now.past.counted ≤ front.now.head.total }
     requires folded { HasPairs front.now.past.pairs front.now.past.folded.items }
-    ensures ok { IfOk result (λ list. (s : R) (max_bytes : ℕ) →
-        HasJudged R.read_gives R.failure_count max_bytes s r.old reader.old
+    ensures ok { IfOk result (λ list. (s : R) (task : Task) →
+        HasJudged R.read_gives R.failure_count task s r.old reader.old
         (rest_of front.now.head (progress_in front.now.past)) →
-        HasJudged R.read_gives R.failure_count max_bytes s r.new reader.new
+        HasJudged R.read_gives R.failure_count task s r.new reader.new
         (end (contents front.now.head.setup
         (accepted front.now.past.base.counts front.now.past.folded.items (values list.items))))) }
-    ensures err { IfErr result (λ f. (s : R) (max_bytes : ℕ) →
-        HasJudged R.read_gives R.failure_count max_bytes s r.old reader.old
+    ensures err { IfErr result (λ f. (s : R) (task : Task) →
+        HasJudged R.read_gives R.failure_count task s r.old reader.old
         (rest_of front.now.head (progress_in front.now.past)) →
-        Stops R.read_gives R.failure_count (R.at_end r.new) max_bytes s r.new f) }
+        Stops R.read_gives R.failure_count (R.at_end r.new) task s r.new f) }
     ensures no_failure { OnOk result (R.failure_count r.new ≡ R.failure_count r.old) }
 {
     let mut list = BatchList {

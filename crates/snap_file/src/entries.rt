@@ -8,7 +8,7 @@ ghost use Rattle.hyper_matrix.specs.Counts.{total, ewise_add};
 ghost use Rattle.hyper_matrix.specs.Cells.{built_of};
 ghost use Rattle.hyper_matrix.specs.Matrix.{matrix};
 ghost use Rattle.snap_file.specs.Table.{Reading, Tally, no_cells, cells_behind};
-ghost use Rattle.snap_file.specs.Outcomes.{HasJudged, IsBehindHead, Stops};
+ghost use Rattle.snap_file.specs.Outcomes.{Task, HasJudged, IsBehindHead, Stops};
 ghost use Rattle.snap_file.specs.Tallies.{IsRun};
 ghost use Rattle.snap_file.specs.declared.fault.SnapFault.{SnapFault};
 
@@ -48,17 +48,17 @@ pub fn read_entries<R: Source>(
     requires counted { tally.old.counted ≤ most }
     ensures counted { OnOk result (tally.new.counted ≤ most) }
     ensures dims { IfOk result (λ m. (m.rows ≡ head.now.setup.rows) × (m.cols ≡ head.now.setup.cols)) }
-    ensures ok { IfOk result (λ m. (s : R) (max_bytes : ℕ) (k : Tally → Reading) →
-        HasJudged R.read_gives R.failure_count max_bytes s r.old reader.old
+    ensures ok { IfOk result (λ m. (s : R) (task : Task) (k : Tally → Reading) →
+        HasJudged R.read_gives R.failure_count task s r.old reader.old
         (cells_behind head.now most count (no_cells tally.old.counted) k) →
         (t : Tally) × (m ≡ matrix head.now.setup.rows head.now.setup.cols (built_of t.cells)) ×
         (t.counted ≡ tally.new.counted)
-        × HasJudged R.read_gives R.failure_count max_bytes s r.new reader.new (k t)) }
-    ensures err { IfErr result (λ f. (s : R) (max_bytes : ℕ) (k : Tally → Reading) →
+        × HasJudged R.read_gives R.failure_count task s r.new reader.new (k t)) }
+    ensures err { IfErr result (λ f. (s : R) (task : Task) (k : Tally → Reading) →
         ((t : Tally) → IsBehindHead (k t)) →
-        HasJudged R.read_gives R.failure_count max_bytes s r.old reader.old
+        HasJudged R.read_gives R.failure_count task s r.old reader.old
         (cells_behind head.now most count (no_cells tally.old.counted) k) →
-        Stops R.read_gives R.failure_count (R.at_end r.new) max_bytes s r.new f) }
+        Stops R.read_gives R.failure_count (R.at_end r.new) task s r.new f) }
     ensures no_failure { OnOk result (R.failure_count r.new ≡ R.failure_count r.old) }
 {
     let mut m = Hyper::new(alloc, head.setup.rows(), head.setup.cols());

@@ -4,7 +4,7 @@ ghost use Rattle.cells.specs.Bounds.{IsDimension};
 ghost use Rattle.layer_cascade.specs.Cuts.{AreCuts};
 ghost use Rattle.batch_store.specs.Setups.{Setting, setting};
 ghost use Rattle.snap_file.specs.Table.{Reading, head, setup_fields, cuts_behind};
-ghost use Rattle.snap_file.specs.Outcomes.{HasJudged, Stops};
+ghost use Rattle.snap_file.specs.Outcomes.{Task, HasJudged, Stops};
 
 use crate::fault::SnapFault;
 use crate::limits::{MARK, OLD_VERSION, VERSION};
@@ -58,12 +58,12 @@ fn read_cuts<R: Source>(
     requires failures { R.failure_count r.old + 1 < 2 ^ 64 }
     requires few { count ≤ 7 }
     ensures cuts { IfOk result (λ cuts. AreCuts (take count cuts)) }
-    ensures ok { IfOk result (λ cuts. (s : R) (max_bytes : ℕ) (k : List ℕ → Reading) →
-        HasJudged R.read_gives R.failure_count max_bytes s r.old reader.old (cuts_behind count 1 [] k) →
-        HasJudged R.read_gives R.failure_count max_bytes s r.new reader.new (k (take count cuts))) }
-    ensures err { IfErr result (λ f. (s : R) (max_bytes : ℕ) (k : List ℕ → Reading) →
-        HasJudged R.read_gives R.failure_count max_bytes s r.old reader.old (cuts_behind count 1 [] k) →
-        Stops R.read_gives R.failure_count (R.at_end r.new) max_bytes s r.new f) }
+    ensures ok { IfOk result (λ cuts. (s : R) (task : Task) (k : List ℕ → Reading) →
+        HasJudged R.read_gives R.failure_count task s r.old reader.old (cuts_behind count 1 [] k) →
+        HasJudged R.read_gives R.failure_count task s r.new reader.new (k (take count cuts))) }
+    ensures err { IfErr result (λ f. (s : R) (task : Task) (k : List ℕ → Reading) →
+        HasJudged R.read_gives R.failure_count task s r.old reader.old (cuts_behind count 1 [] k) →
+        Stops R.read_gives R.failure_count (R.at_end r.new) task s r.new f) }
     ensures no_failure { OnOk result (R.failure_count r.new ≡ R.failure_count r.old) }
 {
     let mut cuts = [0u64; MAX_CUTS];
@@ -79,12 +79,12 @@ fn read_cuts<R: Source>(
 /// Reads the setup.
 fn read_setup<R: Source>(reader: &mut ByteReader, r: &mut R) -> Result<Setup, SnapFault>
     requires failures { R.failure_count r.old + 1 < 2 ^ 64 }
-    ensures ok { IfOk result (λ setup. (s : R) (max_bytes : ℕ) (k : Setting → Reading) →
-        HasJudged R.read_gives R.failure_count max_bytes s r.old reader.old (setup_fields k) →
-        HasJudged R.read_gives R.failure_count max_bytes s r.new reader.new (k setup)) }
-    ensures err { IfErr result (λ f. (s : R) (max_bytes : ℕ) (k : Setting → Reading) →
-        HasJudged R.read_gives R.failure_count max_bytes s r.old reader.old (setup_fields k) →
-        Stops R.read_gives R.failure_count (R.at_end r.new) max_bytes s r.new f) }
+    ensures ok { IfOk result (λ setup. (s : R) (task : Task) (k : Setting → Reading) →
+        HasJudged R.read_gives R.failure_count task s r.old reader.old (setup_fields k) →
+        HasJudged R.read_gives R.failure_count task s r.new reader.new (k setup)) }
+    ensures err { IfErr result (λ f. (s : R) (task : Task) (k : Setting → Reading) →
+        HasJudged R.read_gives R.failure_count task s r.old reader.old (setup_fields k) →
+        Stops R.read_gives R.failure_count (R.at_end r.new) task s r.new f) }
     ensures no_failure { OnOk result (R.failure_count r.new ≡ R.failure_count r.old) }
 {
     let rows = reader.next_u64_in(r, 1, MAX_DIMENSION, SnapFault::BadHead)?;
@@ -109,12 +109,12 @@ fn read_setup<R: Source>(reader: &mut ByteReader, r: &mut R) -> Result<Setup, Sn
 pub fn read_head<R: Source>(reader: &mut ByteReader, r: &mut R) -> Result<Head, SnapFault>
     requires failures { R.failure_count r.old + 1 < 2 ^ 64 }
     ensures few { IfOk result (λ h. h.batches ≤ h.setup.max_batches) }
-    ensures ok { IfOk result (λ h. (s : R) (max_bytes : ℕ) (k : Head → Reading) →
-        HasJudged R.read_gives R.failure_count max_bytes s r.old reader.old (head k) →
-        HasJudged R.read_gives R.failure_count max_bytes s r.new reader.new (k h)) }
-    ensures err { IfErr result (λ f. (s : R) (max_bytes : ℕ) (k : Head → Reading) →
-        HasJudged R.read_gives R.failure_count max_bytes s r.old reader.old (head k) →
-        Stops R.read_gives R.failure_count (R.at_end r.new) max_bytes s r.new f) }
+    ensures ok { IfOk result (λ h. (s : R) (task : Task) (k : Head → Reading) →
+        HasJudged R.read_gives R.failure_count task s r.old reader.old (head k) →
+        HasJudged R.read_gives R.failure_count task s r.new reader.new (k h)) }
+    ensures err { IfErr result (λ f. (s : R) (task : Task) (k : Head → Reading) →
+        HasJudged R.read_gives R.failure_count task s r.old reader.old (head k) →
+        Stops R.read_gives R.failure_count (R.at_end r.new) task s r.new f) }
     ensures no_failure { OnOk result (R.failure_count r.new ≡ R.failure_count r.old) }
 {
     let _mark = reader.next_u64_in(r, MARK, MARK, SnapFault::BadMark)?;

@@ -4,7 +4,7 @@ ghost use Rattle.byte_io.specs.Streams.{Answer, bytes_of_calls};
 ghost use Rattle.batch_store.specs.Accepted.{Accepted};
 ghost use Rattle.batch_store.specs.Setups.{Setting};
 ghost use Rattle.snap_file.specs.Spelling.{IsBytes, IsSnapshot};
-ghost use Rattle.snap_file.specs.Outcomes.{FirstFaultAt, IsMemoryFault};
+ghost use Rattle.snap_file.specs.Outcomes.{snapshot_task, FirstFaultAt, IsMemoryFault};
 ghost use Rattle.snap_file.specs.declared.fault.SnapFault.{SnapFault};
 
 /// Bytes have one first fault at most, at one place.
@@ -50,7 +50,7 @@ pub fn shown_fault_stays()
 /// in the head.
 pub fn refused_memory_hides_no_early_fault()
     ensures { (max_bytes : ℕ) (answers : List Answer) (place : ℕ) (kind : SnapFault) →
-        IsMemoryFault max_bytes answers → FirstFaultAt max_bytes (bytes_of_calls answers) place kind →
+        IsMemoryFault (snapshot_task max_bytes) answers → FirstFaultAt max_bytes (bytes_of_calls answers) place kind →
         (length (bytes_of_calls answers) < place + 65536)
         × (kind ≢ SnapFault.BadMark) × (kind ≢ SnapFault.BadVersion) × (kind ≢ SnapFault.BadHead) }
 {}

@@ -1,4 +1,6 @@
 //! Snapshot files: a setup and what a book of it accepted as bytes, and back.
+//!
+//! The parts that read numbers and cells are public, for other files that have batches in them.
 #![tactic(auto)]
 
 mod access;
@@ -23,10 +25,13 @@ mod write;
 mod writer;
 
 pub use access::{Access, access_under, clear, make_file};
+pub use batch::push_batch;
 pub use beside::{folder_of, try_save};
+pub use entries::read_entries;
 pub use fault::{FileFault, SaveFault, SnapFault};
 pub use file::{load, save};
 pub use file_folder::{Folder, MemoryFolder};
+pub use head::Head;
 pub use kept_file::{LockedFile, NamedFile, SnapshotFile};
 pub use laws::{
     every_file_is_a_snapshot_or_has_a_fault, no_snapshot_begins_another, one_first_fault,
@@ -35,6 +40,8 @@ pub use laws::{
 };
 pub use path_lock::{PathLock, lock, lock_existing};
 pub use read::read_snapshot;
+pub use reader::{ByteReader, refuse};
 pub use saving::{UNFINISHED, save_in};
 pub use snapshot::Snapshot;
+pub use tally::CellTally;
 pub use write::write_snapshot;

@@ -9,7 +9,7 @@ ghost use Rattle.batch_store.specs.declared.verdict.Entry.{Entry};
 ghost use Rattle.snap_file.specs.Spelling.{stands_in};
 ghost use Rattle.snap_file.specs.Table.{Reading, Progress, head, entry, entries_behind, base, past, with_entry};
 ghost use Rattle.snap_file.specs.Table.{nothing_yet, folded_past, check_in, checked};
-ghost use Rattle.snap_file.specs.Outcomes.{HasJudged, IsBehindHead, Stops};
+ghost use Rattle.snap_file.specs.Outcomes.{Task, HasJudged, IsBehindHead, Stops};
 ghost use Rattle.snap_file.specs.Lists.{HasPairs, progress_in};
 ghost use Rattle.snap_file.specs.declared.fault.SnapFault.{SnapFault};
 
@@ -83,15 +83,15 @@ fn read_entry<R: Source>(
     ensures counted { OnOk result (past.new.counted ≤ head.now.total) }
     ensures pairs { OnOk result (HasPairs past.new.pairs past.new.folded.items) }
     ensures base { OnOk result (past.new.base ≡ past.old.base) }
-    ensures ok { OnOk result ((s : R) (max_bytes : ℕ) (k : Progress → Reading) →
-        HasJudged R.read_gives R.failure_count max_bytes s r.old reader.old
+    ensures ok { OnOk result ((s : R) (task : Task) (k : Progress → Reading) →
+        HasJudged R.read_gives R.failure_count task s r.old reader.old
         (entry head.now (progress_in past.old) k) →
-        HasJudged R.read_gives R.failure_count max_bytes s r.new reader.new (k (progress_in past.new))) }
-    ensures err { IfErr result (λ f. (s : R) (max_bytes : ℕ) (k : Progress → Reading) →
+        HasJudged R.read_gives R.failure_count task s r.new reader.new (k (progress_in past.new))) }
+    ensures err { IfErr result (λ f. (s : R) (task : Task) (k : Progress → Reading) →
         ((p : Progress) → IsBehindHead (k p)) →
-        HasJudged R.read_gives R.failure_count max_bytes s r.old reader.old
+        HasJudged R.read_gives R.failure_count task s r.old reader.old
         (entry head.now (progress_in past.old) k) →
-        Stops R.read_gives R.failure_count (R.at_end r.new) max_bytes s r.new f) }
+        Stops R.read_gives R.failure_count (R.at_end r.new) task s r.new f) }
     ensures no_failure { OnOk result (R.failure_count r.new ≡ R.failure_count r.old) }
 {
     let (client, number) = reader.next_pair(r)?;
@@ -129,15 +129,15 @@ fn read_folded<R: Source>(
     ensures counted { OnOk result (past.new.counted ≤ head.now.total) }
     ensures pairs { OnOk result (HasPairs past.new.pairs past.new.folded.items) }
     ensures base { OnOk result (past.new.base ≡ past.old.base) }
-    ensures ok { OnOk result ((s : R) (max_bytes : ℕ) (k : Progress → Reading) →
-        HasJudged R.read_gives R.failure_count max_bytes s r.old reader.old
+    ensures ok { OnOk result ((s : R) (task : Task) (k : Progress → Reading) →
+        HasJudged R.read_gives R.failure_count task s r.old reader.old
         (entries_behind head.now count (progress_in past.old) k) →
-        HasJudged R.read_gives R.failure_count max_bytes s r.new reader.new (k (progress_in past.new))) }
-    ensures err { IfErr result (λ f. (s : R) (max_bytes : ℕ) (k : Progress → Reading) →
+        HasJudged R.read_gives R.failure_count task s r.new reader.new (k (progress_in past.new))) }
+    ensures err { IfErr result (λ f. (s : R) (task : Task) (k : Progress → Reading) →
         ((p : Progress) → IsBehindHead (k p)) →
-        HasJudged R.read_gives R.failure_count max_bytes s r.old reader.old
+        HasJudged R.read_gives R.failure_count task s r.old reader.old
         (entries_behind head.now count (progress_in past.old) k) →
-        Stops R.read_gives R.failure_count (R.at_end r.new) max_bytes s r.new f) }
+        Stops R.read_gives R.failure_count (R.at_end r.new) task s r.new f) }
     ensures no_failure { OnOk result (R.failure_count r.new ≡ R.failure_count r.old) }
 {
     for i in 0..count {
@@ -163,16 +163,16 @@ fn read_base<R: Source>(
 ) -> Result<Hyper, SnapFault>
     requires failures { R.failure_count r.old + 1 < 2 ^ 64 }
     ensures dims { IfOk result (λ m. (m.rows ≡ head.now.setup.rows) × (m.cols ≡ head.now.setup.cols)) }
-    ensures ok { IfOk result (λ m. (s : R) (max_bytes : ℕ) (k : Progress → Reading) →
-        HasJudged R.read_gives R.failure_count max_bytes s r.old reader.old
+    ensures ok { IfOk result (λ m. (s : R) (task : Task) (k : Progress → Reading) →
+        HasJudged R.read_gives R.failure_count task s r.old reader.old
         (base head.now (progress_in past.now) k) →
-        HasJudged R.read_gives R.failure_count max_bytes s r.new reader.new
+        HasJudged R.read_gives R.failure_count task s r.new reader.new
         (k (record { state = accepted m.counts past.now.folded.items []; counted = past.now.counted }))) }
-    ensures err { IfErr result (λ f. (s : R) (max_bytes : ℕ) (k : Progress → Reading) →
+    ensures err { IfErr result (λ f. (s : R) (task : Task) (k : Progress → Reading) →
         ((p : Progress) → IsBehindHead (k p)) →
-        HasJudged R.read_gives R.failure_count max_bytes s r.old reader.old
+        HasJudged R.read_gives R.failure_count task s r.old reader.old
         (base head.now (progress_in past.now) k) →
-        Stops R.read_gives R.failure_count (R.at_end r.new) max_bytes s r.new f) }
+        Stops R.read_gives R.failure_count (R.at_end r.new) task s r.new f) }
     ensures no_failure { OnOk result (R.failure_count r.new ≡ R.failure_count r.old) }
 {
     let count = reader.next_u64(r)?;
@@ -202,13 +202,13 @@ fn read_into<R: Source>(
     ensures pairs { OnOk result (HasPairs past.new.pairs past.new.folded.items) }
     ensures dims { OnOk result ((past.new.base.rows ≡ head.now.setup.rows) ×
         (past.new.base.cols ≡ head.now.setup.cols)) }
-    ensures ok { OnOk result ((s : R) (max_bytes : ℕ) (k : Progress → Reading) →
-        HasJudged R.read_gives R.failure_count max_bytes s r.old reader.old (folded_past head.now k) →
-        HasJudged R.read_gives R.failure_count max_bytes s r.new reader.new (k (progress_in past.new))) }
-    ensures err { IfErr result (λ f. (s : R) (max_bytes : ℕ) (k : Progress → Reading) →
+    ensures ok { OnOk result ((s : R) (task : Task) (k : Progress → Reading) →
+        HasJudged R.read_gives R.failure_count task s r.old reader.old (folded_past head.now k) →
+        HasJudged R.read_gives R.failure_count task s r.new reader.new (k (progress_in past.new))) }
+    ensures err { IfErr result (λ f. (s : R) (task : Task) (k : Progress → Reading) →
         ((p : Progress) → IsBehindHead (k p)) →
-        HasJudged R.read_gives R.failure_count max_bytes s r.old reader.old (folded_past head.now k) →
-        Stops R.read_gives R.failure_count (R.at_end r.new) max_bytes s r.new f) }
+        HasJudged R.read_gives R.failure_count task s r.old reader.old (folded_past head.now k) →
+        Stops R.read_gives R.failure_count (R.at_end r.new) task s r.new f) }
     ensures no_failure { OnOk result (R.failure_count r.new ≡ R.failure_count r.old) }
 {
     let most = head.setup.max_batches() - head.batches;
@@ -230,13 +230,13 @@ fn read_past<R: Source>(
     ensures counted { IfOk result (λ p. p.counted ≤ head.now.total) }
     ensures pairs { IfOk result (λ p. HasPairs p.pairs p.folded.items) }
     ensures dims { IfOk result (λ p. (p.base.rows ≡ head.now.setup.rows) × (p.base.cols ≡ head.now.setup.cols)) }
-    ensures ok { IfOk result (λ p. (s : R) (max_bytes : ℕ) (k : Progress → Reading) →
-        HasJudged R.read_gives R.failure_count max_bytes s r.old reader.old (past head.now k) →
-        HasJudged R.read_gives R.failure_count max_bytes s r.new reader.new (k (progress_in p))) }
-    ensures err { IfErr result (λ f. (s : R) (max_bytes : ℕ) (k : Progress → Reading) →
+    ensures ok { IfOk result (λ p. (s : R) (task : Task) (k : Progress → Reading) →
+        HasJudged R.read_gives R.failure_count task s r.old reader.old (past head.now k) →
+        HasJudged R.read_gives R.failure_count task s r.new reader.new (k (progress_in p))) }
+    ensures err { IfErr result (λ f. (s : R) (task : Task) (k : Progress → Reading) →
         ((p : Progress) → IsBehindHead (k p)) →
-        HasJudged R.read_gives R.failure_count max_bytes s r.old reader.old (past head.now k) →
-        Stops R.read_gives R.failure_count (R.at_end r.new) max_bytes s r.new f) }
+        HasJudged R.read_gives R.failure_count task s r.old reader.old (past head.now k) →
+        Stops R.read_gives R.failure_count (R.at_end r.new) task s r.new f) }
     ensures no_failure { OnOk result (R.failure_count r.new ≡ R.failure_count r.old) }
 {
     let mut past = Past {
@@ -256,14 +256,14 @@ fn read_past<R: Source>(
 fn read_checked_head<R: Source>(reader: &mut ByteReader, r: &mut R) -> Result<Head, SnapFault>
     requires failures { R.failure_count r.old + 1 < 2 ^ 64 }
     ensures few { IfOk result (λ h. h.batches ≤ h.setup.max_batches) }
-    ensures ok { IfOk result (λ h. (s : R) (max_bytes : ℕ) (k : Head → Reading) →
-        HasJudged R.read_gives R.failure_count max_bytes s r.old reader.old
+    ensures ok { IfOk result (λ h. (s : R) (task : Task) (k : Head → Reading) →
+        HasJudged R.read_gives R.failure_count task s r.old reader.old
         (head (λ x. check_in x.version (λ _. k x))) →
-        HasJudged R.read_gives R.failure_count max_bytes s r.new reader.new (k h)) }
-    ensures err { IfErr result (λ f. (s : R) (max_bytes : ℕ) (k : Head → Reading) →
-        HasJudged R.read_gives R.failure_count max_bytes s r.old reader.old
+        HasJudged R.read_gives R.failure_count task s r.new reader.new (k h)) }
+    ensures err { IfErr result (λ f. (s : R) (task : Task) (k : Head → Reading) →
+        HasJudged R.read_gives R.failure_count task s r.old reader.old
         (head (λ x. check_in x.version (λ _. k x))) →
-        Stops R.read_gives R.failure_count (R.at_end r.new) max_bytes s r.new f) }
+        Stops R.read_gives R.failure_count (R.at_end r.new) task s r.new f) }
     ensures no_failure { OnOk result (R.failure_count r.new ≡ R.failure_count r.old) }
 {
     let head = read_head(reader, r)?;
@@ -283,15 +283,15 @@ fn read_checked_past<R: Source>(
     ensures counted { IfOk result (λ p. p.counted ≤ head.now.total) }
     ensures pairs { IfOk result (λ p. HasPairs p.pairs p.folded.items) }
     ensures dims { IfOk result (λ p. (p.base.rows ≡ head.now.setup.rows) × (p.base.cols ≡ head.now.setup.cols)) }
-    ensures ok { IfOk result (λ p. (s : R) (max_bytes : ℕ) (k : Progress → Reading) →
-        HasJudged R.read_gives R.failure_count max_bytes s r.old reader.old
+    ensures ok { IfOk result (λ p. (s : R) (task : Task) (k : Progress → Reading) →
+        HasJudged R.read_gives R.failure_count task s r.old reader.old
         (checked head.now.version (past head.now) k) →
-        HasJudged R.read_gives R.failure_count max_bytes s r.new reader.new (k (progress_in p))) }
-    ensures err { IfErr result (λ f. (s : R) (max_bytes : ℕ) (k : Progress → Reading) →
+        HasJudged R.read_gives R.failure_count task s r.new reader.new (k (progress_in p))) }
+    ensures err { IfErr result (λ f. (s : R) (task : Task) (k : Progress → Reading) →
         ((p : Progress) → IsBehindHead (k p)) →
-        HasJudged R.read_gives R.failure_count max_bytes s r.old reader.old
+        HasJudged R.read_gives R.failure_count task s r.old reader.old
         (checked head.now.version (past head.now) k) →
-        Stops R.read_gives R.failure_count (R.at_end r.new) max_bytes s r.new f) }
+        Stops R.read_gives R.failure_count (R.at_end r.new) task s r.new f) }
     ensures no_failure { OnOk result (R.failure_count r.new ≡ R.failure_count r.old) }
 {
     let past = read_past(alloc, reader, r, head)?;
@@ -309,15 +309,15 @@ pub fn read_front<R: Source>(
     ensures counted { IfOk result (λ f. f.past.counted ≤ f.head.total) }
     ensures pairs { IfOk result (λ f. HasPairs f.past.pairs f.past.folded.items) }
     ensures dims { IfOk result (λ f. (f.past.base.rows ≡ f.head.setup.rows) × (f.past.base.cols ≡ f.head.setup.cols)) }
-    ensures ok { IfOk result (λ f. (s : R) (max_bytes : ℕ) (k : Head → Progress → Reading) →
-        HasJudged R.read_gives R.failure_count max_bytes s r.old reader.old
+    ensures ok { IfOk result (λ f. (s : R) (task : Task) (k : Head → Progress → Reading) →
+        HasJudged R.read_gives R.failure_count task s r.old reader.old
         (head (λ h. check_in h.version (λ _. checked h.version (past h) (k h)))) →
-        HasJudged R.read_gives R.failure_count max_bytes s r.new reader.new (k f.head (progress_in f.past))) }
-    ensures err { IfErr result (λ f. (s : R) (max_bytes : ℕ) (k : Head → Progress → Reading) →
+        HasJudged R.read_gives R.failure_count task s r.new reader.new (k f.head (progress_in f.past))) }
+    ensures err { IfErr result (λ f. (s : R) (task : Task) (k : Head → Progress → Reading) →
         ((h : Head) (p : Progress) → IsBehindHead (k h p)) →
-        HasJudged R.read_gives R.failure_count max_bytes s r.old reader.old
+        HasJudged R.read_gives R.failure_count task s r.old reader.old
         (head (λ h. check_in h.version (λ _. checked h.version (past h) (k h)))) →
-        Stops R.read_gives R.failure_count (R.at_end r.new) max_bytes s r.new f) }
+        Stops R.read_gives R.failure_count (R.at_end r.new) task s r.new f) }
     ensures no_failure { OnOk result (R.failure_count r.new ≡ R.failure_count r.old) }
 {
     let head = read_checked_head(reader, r)?;

@@ -4,7 +4,7 @@ ghost use Rattle.std.specs.Arc.{arc_value};
 ghost use Rattle.crc32c.specs.Remainders.{all_ones};
 ghost use Rattle.batch_store.specs.Books.{accepted_in};
 ghost use Rattle.snap_file.specs.declared.fault.SnapFault.{SnapFault};
-ghost use Rattle.snap_file.specs.Outcomes.{ReadsSnapshot, Stops};
+ghost use Rattle.snap_file.specs.Outcomes.{snapshot_task, ReadsSnapshot, Stops};
 
 use crate::batch::read_batches;
 use crate::fault::SnapFault;
@@ -53,7 +53,7 @@ fn read_whole<R: Source>(
         ReadsSnapshot R.read_gives R.failure_count
         (R.at_end r.new) reader.old.max_bytes r.old r.new snapshot.setup (accepted_in snapshot.list)) }
     ensures err { IfErr result (λ fault.
-        Stops R.read_gives R.failure_count (R.at_end r.new) reader.old.max_bytes r.old r.new fault) }
+        Stops R.read_gives R.failure_count (R.at_end r.new) (snapshot_task reader.old.max_bytes) r.old r.new fault) }
 {
     let head = read_front(alloc, reader, r)?;
     let batches = read_batches(alloc, reader, r, &head)?;
@@ -100,7 +100,7 @@ pub fn read_snapshot<R: Source>(
         (R.at_end r.new) max_bytes r.old r.new snapshot.setup (accepted_in snapshot.list)) }
     // What it gave has this first fault; or a read failed; or memory was refused, and up to there no fault shows.
     ensures err { IfErr result (λ fault.
-        Stops R.read_gives R.failure_count (R.at_end r.new) max_bytes r.old r.new fault) }
+        Stops R.read_gives R.failure_count (R.at_end r.new) (snapshot_task max_bytes) r.old r.new fault) }
 {
     let mut reader = ByteReader::new(alloc, max_bytes)?;
     read_whole(alloc, &mut reader, r)

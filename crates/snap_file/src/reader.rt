@@ -4,7 +4,7 @@ ghost use Rattle.std.specs.Prelude.{Ok, Err, IfOk, OnOk, IfErr, OnErr, IfSome, I
 ghost use Rattle.std.specs.Int.{Width, w8, w32, w64, byte_len, from_be_bytes};
 ghost use Rattle.crc32c.specs.Remainders.{all_ones, complement};
 ghost use Rattle.snap_file.specs.Table.{Reading, Contents, number, refuse_if, outside, field_in, check, check_in, end};
-ghost use Rattle.snap_file.specs.Outcomes.{HasJudged, HasAsked, HasEnded, HasFailed, IsOfBytes, Stops, ReadsSnapshot};
+ghost use Rattle.snap_file.specs.Outcomes.{Task, snapshot_task, HasJudged, HasAsked, HasEnded, HasFailed, IsOfBytes, Stops, ReadsSnapshot};
 ghost use Rattle.snap_file.specs.Outcomes.{piece_bytes, IsPassed};
 ghost use Rattle.snap_file.specs.Tallies.{IsAhead};
 ghost use Rattle.snap_file.specs.declared.limits.TheConstants.{CELL_BYTES};
@@ -19,7 +19,8 @@ use crc32c::Crc;
 use std::alloc::{AllocError, Global};
 use std::marker::Model;
 
-/// Bytes that came from a source and were not judged yet, and the checksum of those that were.
+/// Bytes that came from a source and were not judged yet, and the checksum of those that were. Each call is to be given
+/// the same source.
 #[derive(Drop)]
 pub struct ByteReader {
     buffer: ReadBuffer,
@@ -111,6 +112,27 @@ impl ByteReader {
         })
     }
 
+    /// Begins anew, as a reader that has read nothing: what was pending is forgotten. Takes no memory.
+    pub fn restart(&mut self, max_bytes: u64)
+        ensures pending { self.new.pending ≡ [] }
+        ensures taken { self.new.taken ≡ 0 }
+        ensures remainder { self.new.remainder ≡ all_ones }
+        ensures limit { self.new.max_bytes ≡ max_bytes }
+    {
+        let count = self.len();
+        self.buffer.consume(count);
+        self.crc = Crc::new();
+        self.taken = 0;
+        self.max_bytes = max_bytes;
+    }
+
+    /// How many bytes were judged.
+    pub fn taken(&self) -> u64
+        ensures { result ≡ self.now.taken }
+    {
+        self.taken
+    }
+
     /// How many bytes are pending.
     fn len(&self) -> usize
         ensures { result ≡ length self.now.pending }
@@ -152,15 +174,15 @@ impl ByteReader {
         ensures limit { self.new.max_bytes ≡ self.old.max_bytes }
         ensures yes { IfOk result (λ b. IsTrue b → want ≤ length self.new.pending) }
         ensures no { IfOk result (λ b. IsFalse b → length self.new.pending < want) }
-        ensures read { IfOk result (λ b. IsTrue b → (s : R) (max_bytes : ℕ) (left : Reading) →
-            HasJudged R.read_gives R.failure_count max_bytes s r.old self.old left →
-            HasAsked R.read_gives R.failure_count max_bytes s r.new self.new left want) }
-        ensures ended { IfOk result (λ b. IsFalse b → (s : R) (max_bytes : ℕ) (left : Reading) →
-            HasJudged R.read_gives R.failure_count max_bytes s r.old self.old left →
-            HasEnded R.read_gives R.failure_count (R.at_end r.new) max_bytes s r.new self.new left) }
-        ensures err { IfErr result (λ f. (f ≡ SnapFault.Read) × ((s : R) (max_bytes : ℕ) (left : Reading) →
-            HasJudged R.read_gives R.failure_count max_bytes s r.old self.old left →
-            HasFailed R.read_gives R.failure_count max_bytes s r.new want left)) }
+        ensures read { IfOk result (λ b. IsTrue b → (s : R) (task : Task) (left : Reading) →
+            HasJudged R.read_gives R.failure_count task s r.old self.old left →
+            HasAsked R.read_gives R.failure_count task s r.new self.new left want) }
+        ensures ended { IfOk result (λ b. IsFalse b → (s : R) (task : Task) (left : Reading) →
+            HasJudged R.read_gives R.failure_count task s r.old self.old left →
+            HasEnded R.read_gives R.failure_count (R.at_end r.new) task s r.new self.new left) }
+        ensures err { IfErr result (λ f. (f ≡ SnapFault.Read) × ((s : R) (task : Task) (left : Reading) →
+            HasJudged R.read_gives R.failure_count task s r.old self.old left →
+            HasFailed R.read_gives R.failure_count task s r.new want left)) }
         ensures no_failure { OnOk result (R.failure_count r.new ≡ R.failure_count r.old) }
     {
         'pieces: while self.len() < want {
@@ -179,12 +201,12 @@ impl ByteReader {
         requires width { (1 ≤ width) × (width ≤ 8) }
         ensures pending { OnOk result (width ≤ length self.new.pending) }
         ensures room { OnOk result (self.new.taken + width ≤ self.new.max_bytes) }
-        ensures ok { OnOk result ((s : R) (max_bytes : ℕ) (left : Reading) →
-            HasJudged R.read_gives R.failure_count max_bytes s r.old self.old left →
-            HasAsked R.read_gives R.failure_count max_bytes s r.new self.new left width) }
-        ensures err { IfErr result (λ f. (s : R) (max_bytes : ℕ) (w : Width) (k : ℕ → Reading) → byte_len w ≡ width →
-            HasJudged R.read_gives R.failure_count max_bytes s r.old self.old (number w k) →
-            Stops R.read_gives R.failure_count (R.at_end r.new) max_bytes s r.new f) }
+        ensures ok { OnOk result ((s : R) (task : Task) (left : Reading) →
+            HasJudged R.read_gives R.failure_count task s r.old self.old left →
+            HasAsked R.read_gives R.failure_count task s r.new self.new left width) }
+        ensures err { IfErr result (λ f. (s : R) (task : Task) (w : Width) (k : ℕ → Reading) → byte_len w ≡ width →
+            HasJudged R.read_gives R.failure_count task s r.old self.old (number w k) →
+            Stops R.read_gives R.failure_count (R.at_end r.new) task s r.new f) }
         ensures no_failure { OnOk result (R.failure_count r.new ≡ R.failure_count r.old) }
     {
         let room = self.room();
@@ -260,12 +282,12 @@ impl ByteReader {
     /// The next field of 8 bytes.
     pub fn next_u64<R: Source>(&mut self, r: &mut R) -> Result<u64, SnapFault>
         requires { R.failure_count r.old + 1 < 2 ^ 64 }
-        ensures ok { IfOk result (λ n. (s : R) (max_bytes : ℕ) (k : ℕ → Reading) →
-            HasJudged R.read_gives R.failure_count max_bytes s r.old self.old (number w64 k) →
-            HasJudged R.read_gives R.failure_count max_bytes s r.new self.new (k n)) }
-        ensures err { IfErr result (λ f. (s : R) (max_bytes : ℕ) (k : ℕ → Reading) →
-            HasJudged R.read_gives R.failure_count max_bytes s r.old self.old (number w64 k) →
-            Stops R.read_gives R.failure_count (R.at_end r.new) max_bytes s r.new f) }
+        ensures ok { IfOk result (λ n. (s : R) (task : Task) (k : ℕ → Reading) →
+            HasJudged R.read_gives R.failure_count task s r.old self.old (number w64 k) →
+            HasJudged R.read_gives R.failure_count task s r.new self.new (k n)) }
+        ensures err { IfErr result (λ f. (s : R) (task : Task) (k : ℕ → Reading) →
+            HasJudged R.read_gives R.failure_count task s r.old self.old (number w64 k) →
+            Stops R.read_gives R.failure_count (R.at_end r.new) task s r.new f) }
         ensures no_failure { OnOk result (R.failure_count r.new ≡ R.failure_count r.old) }
     {
         self.need_field(r, 8)?;
@@ -301,12 +323,12 @@ impl ByteReader {
     /// The next two fields of 8 bytes.
     pub fn next_pair<R: Source>(&mut self, r: &mut R) -> Result<(u64, u64), SnapFault>
         requires { R.failure_count r.old + 1 < 2 ^ 64 }
-        ensures ok { IfOk result (λ p. (s : R) (max_bytes : ℕ) (k : ℕ → ℕ → Reading) →
-            HasJudged R.read_gives R.failure_count max_bytes s r.old self.old (number w64 (λ n. number w64 (k n))) →
-            HasJudged R.read_gives R.failure_count max_bytes s r.new self.new (k p.0 p.1)) }
-        ensures err { IfErr result (λ f. (s : R) (max_bytes : ℕ) (k : ℕ → ℕ → Reading) →
-            HasJudged R.read_gives R.failure_count max_bytes s r.old self.old (number w64 (λ n. number w64 (k n))) →
-            Stops R.read_gives R.failure_count (R.at_end r.new) max_bytes s r.new f) }
+        ensures ok { IfOk result (λ p. (s : R) (task : Task) (k : ℕ → ℕ → Reading) →
+            HasJudged R.read_gives R.failure_count task s r.old self.old (number w64 (λ n. number w64 (k n))) →
+            HasJudged R.read_gives R.failure_count task s r.new self.new (k p.0 p.1)) }
+        ensures err { IfErr result (λ f. (s : R) (task : Task) (k : ℕ → ℕ → Reading) →
+            HasJudged R.read_gives R.failure_count task s r.old self.old (number w64 (λ n. number w64 (k n))) →
+            Stops R.read_gives R.failure_count (R.at_end r.new) task s r.new f) }
         ensures no_failure { OnOk result (R.failure_count r.new ≡ R.failure_count r.old) }
     {
         let first = self.next_u64(r)?;
@@ -325,12 +347,12 @@ impl ByteReader {
         requires failures { R.failure_count r.old + 1 < 2 ^ 64 }
         requires judged { IsOfBytes kind }
         ensures bounds { IfOk result (λ n. (low ≤ n) × (n ≤ high)) }
-        ensures ok { IfOk result (λ n. (s : R) (max_bytes : ℕ) (k : ℕ → Reading) →
-            HasJudged R.read_gives R.failure_count max_bytes s r.old self.old (field_in w64 low high kind k) →
-            HasJudged R.read_gives R.failure_count max_bytes s r.new self.new (k n)) }
-        ensures err { IfErr result (λ f. (s : R) (max_bytes : ℕ) (k : ℕ → Reading) →
-            HasJudged R.read_gives R.failure_count max_bytes s r.old self.old (field_in w64 low high kind k) →
-            Stops R.read_gives R.failure_count (R.at_end r.new) max_bytes s r.new f) }
+        ensures ok { IfOk result (λ n. (s : R) (task : Task) (k : ℕ → Reading) →
+            HasJudged R.read_gives R.failure_count task s r.old self.old (field_in w64 low high kind k) →
+            HasJudged R.read_gives R.failure_count task s r.new self.new (k n)) }
+        ensures err { IfErr result (λ f. (s : R) (task : Task) (k : ℕ → Reading) →
+            HasJudged R.read_gives R.failure_count task s r.old self.old (field_in w64 low high kind k) →
+            Stops R.read_gives R.failure_count (R.at_end r.new) task s r.new f) }
         ensures no_failure { OnOk result (R.failure_count r.new ≡ R.failure_count r.old) }
     {
         let n = self.next_u64(r)?;
@@ -342,12 +364,12 @@ impl ByteReader {
     /// The next field of 4 bytes.
     pub fn next_u32<R: Source>(&mut self, r: &mut R) -> Result<u32, SnapFault>
         requires { R.failure_count r.old + 1 < 2 ^ 64 }
-        ensures ok { IfOk result (λ n. (s : R) (max_bytes : ℕ) (k : ℕ → Reading) →
-            HasJudged R.read_gives R.failure_count max_bytes s r.old self.old (number w32 k) →
-            HasJudged R.read_gives R.failure_count max_bytes s r.new self.new (k n)) }
-        ensures err { IfErr result (λ f. (s : R) (max_bytes : ℕ) (k : ℕ → Reading) →
-            HasJudged R.read_gives R.failure_count max_bytes s r.old self.old (number w32 k) →
-            Stops R.read_gives R.failure_count (R.at_end r.new) max_bytes s r.new f) }
+        ensures ok { IfOk result (λ n. (s : R) (task : Task) (k : ℕ → Reading) →
+            HasJudged R.read_gives R.failure_count task s r.old self.old (number w32 k) →
+            HasJudged R.read_gives R.failure_count task s r.new self.new (k n)) }
+        ensures err { IfErr result (λ f. (s : R) (task : Task) (k : ℕ → Reading) →
+            HasJudged R.read_gives R.failure_count task s r.old self.old (number w32 k) →
+            Stops R.read_gives R.failure_count (R.at_end r.new) task s r.new f) }
         ensures no_failure { OnOk result (R.failure_count r.new ≡ R.failure_count r.old) }
     {
         self.need_field(r, 4)?;
@@ -365,12 +387,12 @@ impl ByteReader {
         requires failures { R.failure_count r.old + 1 < 2 ^ 64 }
         requires judged { IsOfBytes kind }
         ensures bounds { IfOk result (λ n. (low ≤ n) × (n ≤ high)) }
-        ensures ok { IfOk result (λ n. (s : R) (max_bytes : ℕ) (k : ℕ → Reading) →
-            HasJudged R.read_gives R.failure_count max_bytes s r.old self.old (field_in w32 low high kind k) →
-            HasJudged R.read_gives R.failure_count max_bytes s r.new self.new (k n)) }
-        ensures err { IfErr result (λ f. (s : R) (max_bytes : ℕ) (k : ℕ → Reading) →
-            HasJudged R.read_gives R.failure_count max_bytes s r.old self.old (field_in w32 low high kind k) →
-            Stops R.read_gives R.failure_count (R.at_end r.new) max_bytes s r.new f) }
+        ensures ok { IfOk result (λ n. (s : R) (task : Task) (k : ℕ → Reading) →
+            HasJudged R.read_gives R.failure_count task s r.old self.old (field_in w32 low high kind k) →
+            HasJudged R.read_gives R.failure_count task s r.new self.new (k n)) }
+        ensures err { IfErr result (λ f. (s : R) (task : Task) (k : ℕ → Reading) →
+            HasJudged R.read_gives R.failure_count task s r.old self.old (field_in w32 low high kind k) →
+            Stops R.read_gives R.failure_count (R.at_end r.new) task s r.new f) }
         ensures no_failure { OnOk result (R.failure_count r.new ≡ R.failure_count r.old) }
     {
         let n = self.next_u32(r)?;
@@ -382,12 +404,12 @@ impl ByteReader {
     /// The next field of 1 bytes.
     pub fn next_u8<R: Source>(&mut self, r: &mut R) -> Result<u8, SnapFault>
         requires { R.failure_count r.old + 1 < 2 ^ 64 }
-        ensures ok { IfOk result (λ n. (s : R) (max_bytes : ℕ) (k : ℕ → Reading) →
-            HasJudged R.read_gives R.failure_count max_bytes s r.old self.old (number w8 k) →
-            HasJudged R.read_gives R.failure_count max_bytes s r.new self.new (k n)) }
-        ensures err { IfErr result (λ f. (s : R) (max_bytes : ℕ) (k : ℕ → Reading) →
-            HasJudged R.read_gives R.failure_count max_bytes s r.old self.old (number w8 k) →
-            Stops R.read_gives R.failure_count (R.at_end r.new) max_bytes s r.new f) }
+        ensures ok { IfOk result (λ n. (s : R) (task : Task) (k : ℕ → Reading) →
+            HasJudged R.read_gives R.failure_count task s r.old self.old (number w8 k) →
+            HasJudged R.read_gives R.failure_count task s r.new self.new (k n)) }
+        ensures err { IfErr result (λ f. (s : R) (task : Task) (k : ℕ → Reading) →
+            HasJudged R.read_gives R.failure_count task s r.old self.old (number w8 k) →
+            Stops R.read_gives R.failure_count (R.at_end r.new) task s r.new f) }
         ensures no_failure { OnOk result (R.failure_count r.new ≡ R.failure_count r.old) }
     {
         self.need_field(r, 1)?;
@@ -405,12 +427,12 @@ impl ByteReader {
         requires failures { R.failure_count r.old + 1 < 2 ^ 64 }
         requires judged { IsOfBytes kind }
         ensures bounds { IfOk result (λ n. (low ≤ n) × (n ≤ high)) }
-        ensures ok { IfOk result (λ n. (s : R) (max_bytes : ℕ) (k : ℕ → Reading) →
-            HasJudged R.read_gives R.failure_count max_bytes s r.old self.old (field_in w8 low high kind k) →
-            HasJudged R.read_gives R.failure_count max_bytes s r.new self.new (k n)) }
-        ensures err { IfErr result (λ f. (s : R) (max_bytes : ℕ) (k : ℕ → Reading) →
-            HasJudged R.read_gives R.failure_count max_bytes s r.old self.old (field_in w8 low high kind k) →
-            Stops R.read_gives R.failure_count (R.at_end r.new) max_bytes s r.new f) }
+        ensures ok { IfOk result (λ n. (s : R) (task : Task) (k : ℕ → Reading) →
+            HasJudged R.read_gives R.failure_count task s r.old self.old (field_in w8 low high kind k) →
+            HasJudged R.read_gives R.failure_count task s r.new self.new (k n)) }
+        ensures err { IfErr result (λ f. (s : R) (task : Task) (k : ℕ → Reading) →
+            HasJudged R.read_gives R.failure_count task s r.old self.old (field_in w8 low high kind k) →
+            Stops R.read_gives R.failure_count (R.at_end r.new) task s r.new f) }
         ensures no_failure { OnOk result (R.failure_count r.new ≡ R.failure_count r.old) }
     {
         let n = self.next_u8(r)?;
@@ -422,12 +444,12 @@ impl ByteReader {
     /// The next field of 4 bytes, which is to be the checksum of all bytes before it.
     fn next_check<R: Source>(&mut self, r: &mut R) -> Result<(), SnapFault>
         requires { R.failure_count r.old + 1 < 2 ^ 64 }
-        ensures ok { OnOk result ((s : R) (max_bytes : ℕ) (k : Unit {0} → Reading) →
-            HasJudged R.read_gives R.failure_count max_bytes s r.old self.old (check k) →
-            HasJudged R.read_gives R.failure_count max_bytes s r.new self.new (k tt)) }
-        ensures err { IfErr result (λ f. (s : R) (max_bytes : ℕ) (k : Unit {0} → Reading) →
-            HasJudged R.read_gives R.failure_count max_bytes s r.old self.old (check k) →
-            Stops R.read_gives R.failure_count (R.at_end r.new) max_bytes s r.new f) }
+        ensures ok { OnOk result ((s : R) (task : Task) (k : Unit {0} → Reading) →
+            HasJudged R.read_gives R.failure_count task s r.old self.old (check k) →
+            HasJudged R.read_gives R.failure_count task s r.new self.new (k tt)) }
+        ensures err { IfErr result (λ f. (s : R) (task : Task) (k : Unit {0} → Reading) →
+            HasJudged R.read_gives R.failure_count task s r.old self.old (check k) →
+            Stops R.read_gives R.failure_count (R.at_end r.new) task s r.new f) }
         ensures no_failure { OnOk result (R.failure_count r.new ≡ R.failure_count r.old) }
     {
         let due = self.sum();
@@ -444,12 +466,12 @@ impl ByteReader {
         file_version: u32,
     ) -> Result<(), SnapFault>
         requires { R.failure_count r.old + 1 < 2 ^ 64 }
-        ensures ok { OnOk result ((s : R) (max_bytes : ℕ) (k : Unit {0} → Reading) →
-            HasJudged R.read_gives R.failure_count max_bytes s r.old self.old (check_in file_version k) →
-            HasJudged R.read_gives R.failure_count max_bytes s r.new self.new (k tt)) }
-        ensures err { IfErr result (λ f. (s : R) (max_bytes : ℕ) (k : Unit {0} → Reading) →
-            HasJudged R.read_gives R.failure_count max_bytes s r.old self.old (check_in file_version k) →
-            Stops R.read_gives R.failure_count (R.at_end r.new) max_bytes s r.new f) }
+        ensures ok { OnOk result ((s : R) (task : Task) (k : Unit {0} → Reading) →
+            HasJudged R.read_gives R.failure_count task s r.old self.old (check_in file_version k) →
+            HasJudged R.read_gives R.failure_count task s r.new self.new (k tt)) }
+        ensures err { IfErr result (λ f. (s : R) (task : Task) (k : Unit {0} → Reading) →
+            HasJudged R.read_gives R.failure_count task s r.old self.old (check_in file_version k) →
+            Stops R.read_gives R.failure_count (R.at_end r.new) task s r.new f) }
         ensures no_failure { OnOk result (R.failure_count r.new ≡ R.failure_count r.old) }
     {
         if file_version != VERSION {
@@ -463,12 +485,12 @@ impl ByteReader {
     pub fn expect_end<R: Source>(&mut self, r: &mut R) -> Result<(), SnapFault>
         requires { R.failure_count r.old + 1 < 2 ^ 64 }
         ensures ok { OnOk result ((s : R) (max_bytes : ℕ) (contents : Contents) →
-            HasJudged R.read_gives R.failure_count max_bytes s r.old self.old (end contents) →
+            HasJudged R.read_gives R.failure_count (snapshot_task max_bytes) s r.old self.old (end contents) →
             ReadsSnapshot R.read_gives R.failure_count
             (R.at_end r.new) max_bytes s r.new contents.setup contents.state) }
         ensures err { IfErr result (λ f. (s : R) (max_bytes : ℕ) (contents : Contents) →
-            HasJudged R.read_gives R.failure_count max_bytes s r.old self.old (end contents) →
-            Stops R.read_gives R.failure_count (R.at_end r.new) max_bytes s r.new f) }
+            HasJudged R.read_gives R.failure_count (snapshot_task max_bytes) s r.old self.old (end contents) →
+            Stops R.read_gives R.failure_count (R.at_end r.new) (snapshot_task max_bytes) s r.new f) }
     {
         let room = self.room();
         match self.need(r, 1) {

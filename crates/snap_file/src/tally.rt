@@ -3,7 +3,7 @@ ghost use Rattle.std.specs.Prelude.{◌≡◌, ℕ, List, suc, ◌+◌, ◌<◌,
 ghost use Rattle.cells.specs.Sums.{cell_total};
 ghost use Rattle.cells.specs.declared.cell.Cell.{Cell};
 ghost use Rattle.snap_file.specs.Table.{Reading, Tally, cells_behind, is_below};
-ghost use Rattle.snap_file.specs.Outcomes.{HasJudged, IsBehindHead, Stops};
+ghost use Rattle.snap_file.specs.Outcomes.{Task, HasJudged, IsBehindHead, Stops};
 ghost use Rattle.snap_file.specs.Tallies.{tally_of, IsRun, HasNoFault, TakesCell};
 
 use crate::fault::SnapFault;
@@ -69,16 +69,16 @@ fn read_fields<R: Source>(
         tally.new.least_row tally.new.least_col) }
     ensures added { OnOk result (tally.new.counted + cell_total tally.old.cells.items ≡
         tally.old.counted + cell_total tally.new.cells.items) }
-    ensures ok { OnOk result ((s : R) (max_bytes n : ℕ) (done : List Cell) (k : Tally → Reading) →
-        HasJudged R.read_gives R.failure_count max_bytes s r.old reader.old
+    ensures ok { OnOk result ((s : R) (task : Task) (n : ℕ) (done : List Cell) (k : Tally → Reading) →
+        HasJudged R.read_gives R.failure_count task s r.old reader.old
         (cells_behind head.now most (suc n) (tally_of done tally.old) k) →
-        HasJudged R.read_gives R.failure_count max_bytes s r.new reader.new
+        HasJudged R.read_gives R.failure_count task s r.new reader.new
         (cells_behind head.now most n (tally_of done tally.new) k)) }
-    ensures err { IfErr result (λ f. (s : R) (max_bytes n : ℕ) (done : List Cell) (k : Tally → Reading) →
+    ensures err { IfErr result (λ f. (s : R) (task : Task) (n : ℕ) (done : List Cell) (k : Tally → Reading) →
         ((t : Tally) → IsBehindHead (k t)) →
-        HasJudged R.read_gives R.failure_count max_bytes s r.old reader.old
+        HasJudged R.read_gives R.failure_count task s r.old reader.old
         (cells_behind head.now most (suc n) (tally_of done tally.old) k) →
-        Stops R.read_gives R.failure_count (R.at_end r.new) max_bytes s r.new f) }
+        Stops R.read_gives R.failure_count (R.at_end r.new) task s r.new f) }
     ensures no_failure { OnOk result (R.failure_count r.new ≡ R.failure_count r.old) }
 {
     let row = reader.next_u64_in(r, 0, head.setup.rows() - 1, SnapFault::BadBatch)?;
@@ -159,16 +159,16 @@ pub fn read_cell<R: Source>(
         tally.new.least_row tally.new.least_col) }
     ensures added { OnOk result (tally.new.counted + cell_total tally.old.cells.items ≡
         tally.old.counted + cell_total tally.new.cells.items) }
-    ensures ok { OnOk result ((s : R) (max_bytes n : ℕ) (done : List Cell) (k : Tally → Reading) →
-        HasJudged R.read_gives R.failure_count max_bytes s r.old reader.old
+    ensures ok { OnOk result ((s : R) (task : Task) (n : ℕ) (done : List Cell) (k : Tally → Reading) →
+        HasJudged R.read_gives R.failure_count task s r.old reader.old
         (cells_behind head.now most (suc n) (tally_of done tally.old) k) →
-        HasJudged R.read_gives R.failure_count max_bytes s r.new reader.new
+        HasJudged R.read_gives R.failure_count task s r.new reader.new
         (cells_behind head.now most n (tally_of done tally.new) k)) }
-    ensures err { IfErr result (λ f. (s : R) (max_bytes n : ℕ) (done : List Cell) (k : Tally → Reading) →
+    ensures err { IfErr result (λ f. (s : R) (task : Task) (n : ℕ) (done : List Cell) (k : Tally → Reading) →
         ((t : Tally) → IsBehindHead (k t)) →
-        HasJudged R.read_gives R.failure_count max_bytes s r.old reader.old
+        HasJudged R.read_gives R.failure_count task s r.old reader.old
         (cells_behind head.now most (suc n) (tally_of done tally.old) k) →
-        Stops R.read_gives R.failure_count (R.at_end r.new) max_bytes s r.new f) }
+        Stops R.read_gives R.failure_count (R.at_end r.new) task s r.new f) }
     ensures no_failure { OnOk result (R.failure_count r.new ≡ R.failure_count r.old) }
 {
     if take_ahead(reader, head, most, tally) {
@@ -195,15 +195,15 @@ pub fn read_cells<R: Source>(
         tally.new.least_row tally.new.least_col) }
     ensures added { OnOk result (tally.new.counted + cell_total tally.old.cells.items ≡
         tally.old.counted + cell_total tally.new.cells.items) }
-    ensures ok { OnOk result ((s : R) (max_bytes : ℕ) (done : List Cell) (k : Tally → Reading) →
-        HasJudged R.read_gives R.failure_count max_bytes s r.old reader.old
+    ensures ok { OnOk result ((s : R) (task : Task) (done : List Cell) (k : Tally → Reading) →
+        HasJudged R.read_gives R.failure_count task s r.old reader.old
         (cells_behind head.now most count (tally_of done tally.old) k) →
-        HasJudged R.read_gives R.failure_count max_bytes s r.new reader.new (k (tally_of done tally.new))) }
-    ensures err { IfErr result (λ f. (s : R) (max_bytes : ℕ) (done : List Cell) (k : Tally → Reading) →
+        HasJudged R.read_gives R.failure_count task s r.new reader.new (k (tally_of done tally.new))) }
+    ensures err { IfErr result (λ f. (s : R) (task : Task) (done : List Cell) (k : Tally → Reading) →
         ((t : Tally) → IsBehindHead (k t)) →
-        HasJudged R.read_gives R.failure_count max_bytes s r.old reader.old
+        HasJudged R.read_gives R.failure_count task s r.old reader.old
         (cells_behind head.now most count (tally_of done tally.old) k) →
-        Stops R.read_gives R.failure_count (R.at_end r.new) max_bytes s r.new f) }
+        Stops R.read_gives R.failure_count (R.at_end r.new) task s r.new f) }
     ensures no_failure { OnOk result (R.failure_count r.new ≡ R.failure_count r.old) }
 {
     for i in 0..count {

@@ -4,7 +4,7 @@ use Rattle.std.specs.Int.{w64}
 use Rattle.byte_io.specs.declared.fault.DeviceFault.{DeviceFault}
 use Rattle.batch_store.specs.Setups.{Setting}
 use Rattle.snap_file.specs.Table.{Reading, field_in, head}
-use Rattle.snap_file.specs.Outcomes.{ReaderState, HasJudged, IsOfBytes}
+use Rattle.snap_file.specs.Outcomes.{Task, ReaderState, HasJudged, IsOfBytes}
 use Rattle.snap_file.specs.declared.head.Head.{Head}
 use Rattle.snap_file.specs.declared.fault.SnapFault.TheVariants.{BadMark, BadVersion, BadHead}
 use Rattle.snap_file.proofs.head.read_head.Goals as goal
@@ -28,7 +28,7 @@ abbrev batch_fields : (Head → Reading) → ℕ → Setting → Reading
 batch_fields k version setup = field_in w64 0 setup.max_batches BadHead (total_field k version setup)
 
 -- a number that the code has from a call
-most_as : {S : Type 0} (gives : S → Result (List ℕ) DeviceFault → S → Type 0) (failures : S → ℕ) (m : ℕ) (s t : S)
+most_as : {S : Type 0} (gives : S → Result (List ℕ) DeviceFault → S → Type 0) (failures : S → ℕ) (m : Task) (s t : S)
     (reader : ReaderState) (n n' : ℕ) (k : ℕ → Reading) → n' ≡ n →
     HasJudged gives failures m s t reader (field_in w64 0 n BadHead k) →
     HasJudged gives failures m s t reader (field_in w64 0 n' BadHead k)

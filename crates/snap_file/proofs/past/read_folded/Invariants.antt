@@ -1,6 +1,6 @@
 use Rattle.std.proofs.Common.{◌≡◌, ◌-◌, ◌≤◌, ℕ}
 use Rattle.snap_file.specs.Table.{Reading, Progress, entries_behind}
-use Rattle.snap_file.specs.Outcomes.{HasJudged}
+use Rattle.snap_file.specs.Outcomes.{Task, HasJudged}
 use Rattle.snap_file.specs.Lists.{HasPairs, progress_in}
 use Rattle.snap_file.proofs.past.read_folded.Given as goal
 
@@ -10,7 +10,7 @@ invariant-loop-i g l = record {
   pairs : HasPairs l.past.pairs l.past.folded.items;
   base : l.past.base ≡ l.fn.past.base;
   failures : g.R.Source.failure_count l.r ≡ g.R.Source.failure_count l.fn.r;
-  read : (s : g.row.R.Denot) (m : ℕ) (k : Progress → Reading) →
+  read : (s : g.row.R.Denot) (m : Task) (k : Progress → Reading) →
       HasJudged {S = g.row.R.Denot} g.R.Source.read_gives g.R.Source.failure_count m s l.fn.r l.fn.reader
       (entries_behind l.head l.count (progress_in l.fn.past) k) →
       HasJudged {S = g.row.R.Denot} g.R.Source.read_gives g.R.Source.failure_count m s l.r l.reader

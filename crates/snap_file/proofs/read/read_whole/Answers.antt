@@ -4,7 +4,7 @@ use Rattle.hyper_matrix.specs.Counts.{Counts}
 use Rattle.hyper_matrix.specs.Matrix.{Matrix}
 use Rattle.batch_store.specs.Accepted.{accepted, IsBase}
 use Rattle.batch_store.specs.Batches.{values}
-use Rattle.snap_file.specs.Outcomes.{ReadsSnapshot}
+use Rattle.snap_file.specs.Outcomes.{snapshot_task, ReadsSnapshot}
 use Rattle.snap_file.specs.Spelling.{IsKept}
 use Rattle.snap_file.specs.Table.{contents, rest_of}
 use Rattle.snap_file.proofs.StartLemmas.{read_begun}
@@ -16,7 +16,7 @@ pub returns-in_err-head-clause-err : goal.returns-in_err-head-clause-err
 returns-in_err-head-clause-err g c =
     let p = err_from_is_err_and c.from_residual.result c.from_residual.ensures.1 in
     rw (p.1, p.2)
-    (c.in_err-head.ensures.err c.args.r.now c.args.reader.now.max_bytes rest_of (λ h p. behind_rest h p)
+    (c.in_err-head.ensures.err c.args.r.now (snapshot_task c.args.reader.now.max_bytes) rest_of (λ h p. behind_rest h p)
     (read_begun {S = g.row.R.Denot} g.R.Source.read_gives g.R.Source.failure_count c.args.reader.now.max_bytes
     c.args.r.now c.args.reader.now c.requires.pending c.requires.taken c.requires.remainder refl))
 
@@ -24,8 +24,8 @@ pub returns-in_err-batches-clause-err : goal.returns-in_err-batches-clause-err
 returns-in_err-batches-clause-err g c =
     let p = err_from_is_err_and c.from_residual-in_err-batches.result c.from_residual-in_err-batches.ensures.1 in
     rw (p.1, p.2)
-    (c.in_err-batches.ensures.err c.args.r.now c.args.reader.now.max_bytes
-    (c.in_ok-head.ensures.ok c.args.r.now c.args.reader.now.max_bytes rest_of
+    (c.in_err-batches.ensures.err c.args.r.now (snapshot_task c.args.reader.now.max_bytes)
+    (c.in_ok-head.ensures.ok c.args.r.now (snapshot_task c.args.reader.now.max_bytes) rest_of
     (read_begun {S = g.row.R.Denot} g.R.Source.read_gives g.R.Source.failure_count c.args.reader.now.max_bytes
     c.args.r.now c.args.reader.now c.requires.pending c.requires.taken c.requires.remainder refl)))
 
@@ -34,10 +34,10 @@ returns-in_err-base-clause-err g c =
     let p = err_from_is_err_and c.from_residual-in_err-base.result c.from_residual-in_err-base.ensures.1 in
     rw (p.1, p.2, c.in_err-base.ensures.err)
     (stops_memory {S = g.row.R.Denot} g.R.Source.read_gives g.R.Source.failure_count
-    (g.R.Source.at_end c.read_batches.new.r) c.args.reader.now.max_bytes c.args.r.now c.read_batches.new.r
+    (g.R.Source.at_end c.read_batches.new.r) (snapshot_task c.args.reader.now.max_bytes) c.args.r.now c.read_batches.new.r
     c.read_batches.new.reader _
-    (c.in_ok-batches.ensures.ok c.args.r.now c.args.reader.now.max_bytes
-    (c.in_ok-head.ensures.ok c.args.r.now c.args.reader.now.max_bytes rest_of
+    (c.in_ok-batches.ensures.ok c.args.r.now (snapshot_task c.args.reader.now.max_bytes)
+    (c.in_ok-head.ensures.ok c.args.r.now (snapshot_task c.args.reader.now.max_bytes) rest_of
     (read_begun {S = g.row.R.Denot} g.R.Source.read_gives g.R.Source.failure_count c.args.reader.now.max_bytes
     c.args.r.now c.args.reader.now c.requires.pending c.requires.taken c.requires.remainder refl))) (behind_end _))
 
@@ -48,8 +48,8 @@ returns-in_err-expect_end-clause-err g c =
     (c.in_err-expect_end.ensures.err c.args.r.now c.args.reader.now.max_bytes
     (contents c.in_ok-head.head.head.setup (accepted c.in_ok-head.head.past.base.counts
     c.in_ok-head.head.past.folded.items (values c.in_ok-batches.batches.items)))
-    (c.in_ok-batches.ensures.ok c.args.r.now c.args.reader.now.max_bytes
-    (c.in_ok-head.ensures.ok c.args.r.now c.args.reader.now.max_bytes rest_of
+    (c.in_ok-batches.ensures.ok c.args.r.now (snapshot_task c.args.reader.now.max_bytes)
+    (c.in_ok-head.ensures.ok c.args.r.now (snapshot_task c.args.reader.now.max_bytes) rest_of
     (read_begun {S = g.row.R.Denot} g.R.Source.read_gives g.R.Source.failure_count c.args.reader.now.max_bytes
     c.args.r.now c.args.reader.now c.requires.pending c.requires.taken c.requires.remainder refl))))
 
@@ -60,8 +60,8 @@ invariant_of-list g c =
     (c.in_ok-expect_end.ensures.ok c.args.r.now c.args.reader.now.max_bytes
     (contents c.in_ok-head.head.head.setup (accepted c.in_ok-head.head.past.base.counts
     c.in_ok-head.head.past.folded.items (values c.in_ok-batches.batches.items)))
-    (c.in_ok-batches.ensures.ok c.args.r.now c.args.reader.now.max_bytes
-    (c.in_ok-head.ensures.ok c.args.r.now c.args.reader.now.max_bytes rest_of
+    (c.in_ok-batches.ensures.ok c.args.r.now (snapshot_task c.args.reader.now.max_bytes)
+    (c.in_ok-head.ensures.ok c.args.r.now (snapshot_task c.args.reader.now.max_bytes) rest_of
     (read_begun {S = g.row.R.Denot} g.R.Source.read_gives g.R.Source.failure_count c.args.reader.now.max_bytes
     c.args.r.now c.args.reader.now c.requires.pending c.requires.taken c.requires.remainder refl)))).snapshot.kept.accepted.based
 
@@ -72,8 +72,8 @@ invariant_of-result g c = record {
       (c.in_ok-expect_end.ensures.ok c.args.r.now c.args.reader.now.max_bytes
       (contents c.in_ok-head.head.head.setup (accepted c.in_ok-head.head.past.base.counts
       c.in_ok-head.head.past.folded.items (values c.in_ok-batches.batches.items)))
-      (c.in_ok-batches.ensures.ok c.args.r.now c.args.reader.now.max_bytes
-      (c.in_ok-head.ensures.ok c.args.r.now c.args.reader.now.max_bytes rest_of
+      (c.in_ok-batches.ensures.ok c.args.r.now (snapshot_task c.args.reader.now.max_bytes)
+      (c.in_ok-head.ensures.ok c.args.r.now (snapshot_task c.args.reader.now.max_bytes) rest_of
       (read_begun {S = g.row.R.Denot} g.R.Source.read_gives g.R.Source.failure_count c.args.reader.now.max_bytes
       c.args.r.now c.args.reader.now c.requires.pending c.requires.taken c.requires.remainder refl)))).snapshot.kept;
   based = record {
@@ -92,7 +92,7 @@ returns-clause-ok g c =
     (c.in_ok-expect_end.ensures.ok c.args.r.now c.args.reader.now.max_bytes
     (contents c.in_ok-head.head.head.setup (accepted c.in_ok-head.head.past.base.counts
     c.in_ok-head.head.past.folded.items (values c.in_ok-batches.batches.items)))
-    (c.in_ok-batches.ensures.ok c.args.r.now c.args.reader.now.max_bytes
-    (c.in_ok-head.ensures.ok c.args.r.now c.args.reader.now.max_bytes rest_of
+    (c.in_ok-batches.ensures.ok c.args.r.now (snapshot_task c.args.reader.now.max_bytes)
+    (c.in_ok-head.ensures.ok c.args.r.now (snapshot_task c.args.reader.now.max_bytes) rest_of
     (read_begun {S = g.row.R.Denot} g.R.Source.read_gives g.R.Source.failure_count c.args.reader.now.max_bytes
     c.args.r.now c.args.reader.now c.requires.pending c.requires.taken c.requires.remainder refl))))

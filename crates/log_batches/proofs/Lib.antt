@@ -1,0 +1,6 @@
+mod Filled
+mod Sizes
+pub mod Chunks
+mod TableLemmas
+mod Taking
+mod BlockLemmas

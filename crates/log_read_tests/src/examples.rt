@@ -1,0 +1,62 @@
+//! Batches and pages whose bytes are known.
+
+use batch_store::{Batch, Setup};
+use cells::Cell;
+use log_page::PAGE;
+use std::alloc::Global;
+use std::process::Abort;
+use std::sync::Arc;
+
+/// Three rows, three columns, two shards, a limit of 100 and at most 10 batches.
+pub fn small_setup(rt: &impl Abort) -> Setup {
+    Setup::new(3, 3, &[2, 4], 2, 100, 10).expect(rt, "a setup")
+}
+
+/// The batch number 1 of a client, with one cell at (0, 0).
+pub fn one_cell(rt: &impl Abort, alloc: Global, client: u64, count: u64) -> Arc<Batch> {
+    let cells = [Cell {
+        row: 0,
+        col: 0,
+        count,
+    }];
+    Batch::from_cells(alloc, &small_setup(rt), client, 1, &cells).expect(rt, "a batch")
+}
+
+/// Writes numbers over bytes, from a place on.
+pub fn put_numbers(bytes: &mut [u8], from: usize, numbers: &[u64]) {
+    let mut at = from;
+    for number in numbers {
+        for byte in number.to_be_bytes() {
+            if at < bytes.len() {
+                bytes[at] = byte;
+                at += 1;
+            }
+        }
+    }
+}
+
+/// A page that begins with these 24 bytes, and has these numbers behind them.
+pub fn page_of(head: [u64; 3], numbers: &[u64]) -> [u8; PAGE] {
+    let mut page = [0; PAGE];
+    put_numbers(&mut page, 0, &head);
+    put_numbers(&mut page, 24, numbers);
+    page
+}
+
+/// Client 7, number 1, a count of 5 at (0, 0), at place 0.
+pub fn b1() -> [u8; PAGE] {
+    page_of([0x6665_30d2_0ff3_0001, 0, 1], &[1, 7, 1, 1, 0, 0, 5])
+}
+
+/// Client 8, number 1, a count of 3 at (0, 0), at place 1.
+pub fn b2() -> [u8; PAGE] {
+    page_of([0x511d_7306_0ff2_0001, 1, 1], &[1, 8, 1, 1, 0, 0, 3])
+}
+
+/// Both, at place 0.
+pub fn b12() -> [u8; PAGE] {
+    page_of(
+        [0xb4dc_6a97_0fef_0001, 0, 1],
+        &[2, 7, 1, 1, 0, 0, 5, 8, 1, 1, 0, 0, 3],
+    )
+}
