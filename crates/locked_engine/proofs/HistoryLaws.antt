@@ -64,7 +64,8 @@ length_set (x ∷ xs) (suc i) c = omega (arith, length_set xs i c)
 
 lifted_by : (n : ℕ) (b : Bool) → (n == 0) ≡ b → either b 1 n ≡ 0 → ⊥
 lifted_by n true is h = omega arith
-lifted_by n false is h = let same : n ≡ 0 = h in let no : (0 == 0) ≡ false = subst (λ (k : ℕ). (k == 0) ≡ false) same is in cc no
+lifted_by n false is h = let same : n ≡ 0 = h in
+    let no : (0 == 0) ≡ false = subst (λ (k : ℕ). (k == 0) ≡ false) same is in cc no
 
 lifted_some : (n : ℕ) → lifted n ≡ 0 → ⊥
 lifted_some n = lifted_by n (n == 0) refl
@@ -116,14 +117,16 @@ longer_kept cs c log kept = record {
 
 -- the place is at home, and a line more is there
 taken_kept : (cs : List Cell) (n : Nib) (log : List Line) (e : Line) → IsKept cs log → n.key < length cs →
-    (cell cs n.key).1 ≡ false → place_from 0 log ≡ n.key → IsKept (slice_set (word_set cs) n.key (n.value, true)) (log ++ e ∷ [])
+    (cell cs n.key).1 ≡ false → place_from 0 log ≡ n.key →
+    IsKept (slice_set (word_set cs) n.key (n.value, true)) (log ++ e ∷ [])
 taken_kept cs n log e kept room away at =
     let ds = word_set cs in
     let fs = slice_set ds n.key (n.value, true) in
     let had = set_kept cs log kept in
     let other : n.key ≡ 0 → ⊥ = λ z.
     not_home (cell cs 0).1 kept.home (subst (λ (k : ℕ). (cell cs k).1 ≡ false) z away) in
-    let here : IsHome fs n.key = home_here ds n.key n.value (omega (arith, room, length_set cs 0 (lifted (cell cs 0).0, true))) in
+    let here : IsHome fs n.key = home_here ds n.key n.value
+    (omega (arith, room, length_set cs 0 (lifted (cell cs 0).0, true))) in
     let keeps_home : (j : ℕ) → IsHome ds j → IsHome fs j = λ j. home_set ds n.key j n.value in
     record {
       some = omega (arith, had.some, length_set ds n.key (n.value, true));
@@ -140,7 +143,8 @@ opened_kept cs l kept =
       some = had.some;
       home = had.home;
       unopened = λ z. absurd (lifted_some (cell cs 0).0
-          (sym (value_here cs (lifted (cell cs 0).0) kept.some) ∙ sym (value_longer (word_set cs) (0, false) (set_kept cs [] kept).some) ∙ z));
+          (sym (value_here cs (lifted (cell cs 0).0) kept.some)
+          ∙ sym (value_longer (word_set cs) (0, false) (set_kept cs [] kept).some) ∙ z));
       taken = (had.home, tt);
     }
 

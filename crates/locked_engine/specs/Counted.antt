@@ -1,6 +1,7 @@
 -- What the answers of `Engine::put` and of `Engine::close` say together.
 --     Answered v seats e k
---             one of these seats was answered Ok, with this reply, to a put of a batch of this entry: the answer is true
+--             one of these seats was answered Ok, with this reply, to a put of a batch of this entry: the answer is
+-- true
 --             of what the seat was shown then, which begins what it was shown since
 --     CountsOnce es e k
 --             among these entries this one stands at the place that the reply tells, the totals up to there add up to

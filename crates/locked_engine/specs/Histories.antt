@@ -9,7 +9,8 @@
 --                      no line yet
 --     head_of          the first word of a history
 --     added_in         the entries of a history: those of its lines behind the first
---     Begins           the first line was written, and there is a pen for the place that it names; or the word was not 0
+--     Begins           the first line was written, and there is a pen for the place that it names; or the word was not
+-- 0
 --     Places           there is a pen for a new place
 --     Adds             the line was added to all that had been seen
 --     Looks            whatever begins the history, and names the pen's place as the next one, is the whole history

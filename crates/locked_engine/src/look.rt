@@ -116,7 +116,8 @@ impl<N: Named, H: Ledger> Engine<N, H> {
         ensures first { seat.new.first ≡ seat.old.first }
         ensures later { IsPrefix seat.old.seen seat.new.seen }
         ensures list { IfOk result (λ list. AreAccepted N.setup (unfolded (values list.items))) }
-        ensures shown { IfOk result (λ list. entries_of (values list.items) ≡ drop (length N.opened.folded) seat.new.seen) }
+        ensures shown { IfOk result (λ list.
+            entries_of (values list.items) ≡ drop (length N.opened.folded) seat.new.seen) }
     {
         let locked = self.book.lock(rt);
         let list = locked.list(alloc, &mut seat.seen);

@@ -47,8 +47,8 @@ impl<N: Named> Model for Version<N> {
 
     ghost view = { λ a. entries_in N.opened ++ added_in a.seen.log };
 
-    ghost invariant = { λ a. (a.status ≡ version_status (entries_in N.opened ++ added_in a.seen.log)) × (a.added ≡ length (added_in a.seen.log))
-        × (a.seen.book ≡ N.history) × IsVersion N.setup (entries_in N.opened ++ added_in a.seen.log) };
+    ghost invariant = { λ a. (a.status ≡ version_status (entries_in N.opened ++ added_in a.seen.log))
+        × (a.added ≡ length (added_in a.seen.log)) × (a.seen.book ≡ N.history) × IsVersion N.setup (entries_in N.opened ++ added_in a.seen.log) };
 }
 
 impl<N: Named> Version<N> {

@@ -36,7 +36,8 @@ unfolding chunks_from
 own_chunks_from i front [] start each = refl
 own_chunks_from i front (chunk ∷ block) start each =
     let here = part_is (4072 * i) 4072 front chunk (joined block) start each.0 in
-    let moved : length (front ++ chunk) ≡ 4072 * (i + 1) = let e = length-append front chunk in let c = each.0 in omega arith in
+    let moved : length (front ++ chunk) ≡ 4072 * (i + 1) = let e = length-append front chunk in
+    let c = each.0 in omega arith in
     let later = own_chunks_from (i + 1) (front ++ chunk) block moved each.1 in
     ap (λ (c : List ℕ). c ∷ chunks_from (i + 1) (length block) (front ++ (chunk ++ joined block))) here
     ∙ ap (λ (l : List ℕ). chunk ∷ chunks_from (i + 1) (length block) l) (sym (append_assoc front chunk (joined block)))
@@ -98,7 +99,8 @@ block_made block list zeros each is none short =
 
 -- ---- the bytes of the block of batches
 
-bytes_split : (m n at : ℕ) (file : List ℕ) → bytes_from at (m + n) file ≡ bytes_from at m file ++ bytes_from (at + m) n file
+bytes_split : (m n at : ℕ) (file : List ℕ) →
+    bytes_from at (m + n) file ≡ bytes_from at m file ++ bytes_from (at + m) n file
 unfolding bytes_from
 bytes_split zero n at file =
     let none : zero + n ≡ n = omega arith in
@@ -140,7 +142,8 @@ joined_block list z is =
     joined_chunks (chunk_count list) 0 bytes
     ∙ ap (λ (k : ℕ). bytes_from k (4072 * chunk_count list) bytes) all
     ∙ sym (listed_bytes (4072 * chunk_count list) 0 (bytes ++ replicate z 0) bytes
-    (let a = length-append bytes (replicate z 0) in let b : length {A = ℕ} (replicate z 0) ≡ z = length-replicate z 0 in omega arith)
+    (let a = length-append bytes (replicate z 0) in let b : length {A = ℕ} (replicate z 0) ≡ z = length-replicate z 0 in
+    omega arith)
     (λ k lt. let same : k ≡ 0 + k = omega arith in
     same_with_zeros bytes (replicate z 0) (zero_at z) k ∙ ap (λ (i : ℕ). get_or bytes i 0) same))
 
@@ -205,7 +208,8 @@ none_held s bytes none block list fills is has =
     let b = begins s block list fills has in
     none list (replicate b.zeros 0) has.some b.few has.each (sym is ∙ b.whole)
 
-pub not_filled : (h : Head) → IsFor h → (bytes : List ℕ) (list : List Submission) (n : ℕ) → IsTaken h.setup bytes list n →
+pub not_filled : (h : Head) → IsFor h → (bytes : List ℕ) (list : List Submission) (n : ℕ) →
+    IsTaken h.setup bytes list n →
     is_filled n bytes ≡ false → (block : Block) (other : List Submission) → FillsPages block → joined block ≡ bytes →
     HoldsBatches h.setup block other → ⊥
 not_filled h for bytes list n taken falls block other fills is has =

@@ -82,7 +82,8 @@ page_made place left pages file chunk new old lt is made before =
     ∙ ap (λ (l : List ℕ). page_of place left pages (bytes_from (4072 * left) 4072 file) ++ l) before
     ∙ ap (λ (n : ℕ). joined (pages_from place left pages (chunks_from left n file))) (sym one)
 
-pub none_made : (place pages : ℕ) (file : List ℕ) → [] ≡ joined (pages_from place pages pages (chunks_from pages (pages - pages) file))
+pub none_made : (place pages : ℕ) (file : List ℕ) →
+    [] ≡ joined (pages_from place pages pages (chunks_from pages (pages - pages) file))
 unfolding chunks_from
 none_made place pages file =
     let none : 0 ≡ pages - pages = omega arith in
@@ -94,7 +95,8 @@ first_eight : (n : ℕ) (rest : List ℕ) → n < 2 ^ 64 → from_be_bytes w64 (
 unfolding number_bytes
 first_eight n rest fits = from_be_bytes-to_be_bytes_8 n fits
 
-pub bytes_at : (n at : ℕ) (bytes : List ℕ) (k : ℕ) → k < n → get_or (bytes_from at n bytes) k 0 ≡ get_or bytes (at + k) 0
+pub bytes_at : (n at : ℕ) (bytes : List ℕ) (k : ℕ) → k < n →
+    get_or (bytes_from at n bytes) k 0 ≡ get_or bytes (at + k) 0
 unfolding bytes_from
 bytes_at zero at bytes k lt = absurd (omega arith)
 bytes_at (suc n) at bytes zero lt = ap (λ (i : ℕ). get_or bytes i 0) (omega arith)
@@ -104,10 +106,14 @@ bytes_at (suc n) at bytes (suc k) lt =
 -- the first bytes of the first chunk are those with which the bytes begin
 chunk_begins : (bytes : List ℕ) → 8 ≤ length bytes → take 8 (bytes_from 0 4072 bytes) ≡ take 8 bytes
 chunk_begins bytes long =
-    listed_bytes 8 0 (take 8 (bytes_from 0 4072 bytes)) bytes (length-take-le 8 (bytes_from 0 4072 bytes) (let e = length-bytes_from 0 4072 bytes in omega arith)) (λ k lt. get_or-take 8 (bytes_from 0 4072 bytes) k 0 lt ∙ bytes_at 4072 0 bytes k (omega arith))
-    ∙ sym (listed_bytes 8 0 (take 8 bytes) bytes (length-take-le 8 bytes long) (λ k lt. get_or-take 8 bytes k 0 lt ∙ ap (λ (i : ℕ). get_or bytes i 0) (omega arith)))
+    listed_bytes 8 0 (take 8 (bytes_from 0 4072 bytes)) bytes
+    (length-take-le 8 (bytes_from 0 4072 bytes) (let e = length-bytes_from 0 4072 bytes in omega arith))
+    (λ k lt. get_or-take 8 (bytes_from 0 4072 bytes) k 0 lt ∙ bytes_at 4072 0 bytes k (omega arith))
+    ∙ sym (listed_bytes 8 0 (take 8 bytes) bytes (length-take-le 8 bytes long) (λ k lt. get_or-take 8 bytes k 0 lt
+    ∙ ap (λ (i : ℕ). get_or bytes i 0) (omega arith)))
 
-batches_counted : (n : ℕ) (bytes : List ℕ) → 0 < n → batches_in (chunks_from 0 n bytes) ≡ from_be_bytes w64 (take 8 (bytes_from 0 4072 bytes))
+batches_counted : (n : ℕ) (bytes : List ℕ) → 0 < n →
+    batches_in (chunks_from 0 n bytes) ≡ from_be_bytes w64 (take 8 (bytes_from 0 4072 bytes))
 unfolding chunks_from batches_in
 batches_counted zero bytes some = absurd (omega arith)
 batches_counted (suc n) bytes some = refl
@@ -130,8 +136,10 @@ sound list some fits =
     let take24 = batches_take list in
     let pages = length-block list in
     let n = counted list fits in
-    and_from (nat_lt 0 (batches_in (block_of list))) (nat_le (8 + 24 * batches_in (block_of list)) (4072 * length (block_of list)))
-    (lt-ltb 0 (batches_in (block_of list)) (omega arith)) (le-leb (8 + 24 * batches_in (block_of list)) (4072 * length (block_of list)) (omega arith))
+    and_from (nat_lt 0 (batches_in (block_of list)))
+    (nat_le (8 + 24 * batches_in (block_of list)) (4072 * length (block_of list)))
+    (lt-ltb 0 (batches_in (block_of list)) (omega arith))
+    (le-leb (8 + 24 * batches_in (block_of list)) (4072 * length (block_of list)) (omega arith))
 
 each_fills : (list : List Submission) → AllByRecursion (λ chunk. length chunk ≡ 4072) (block_of list)
 unfolding block_of
@@ -156,7 +164,8 @@ is_block list some fits few = (
 
 -- ---- fronts
 
-pub same_front : (n : ℕ) (new old : List ℕ) → take n new ≡ take n old → (k : ℕ) → k < n → get_or new k 0 ≡ get_or old k 0
+pub same_front : (n : ℕ) (new old : List ℕ) → take n new ≡ take n old → (k : ℕ) → k < n →
+    get_or new k 0 ≡ get_or old k 0
 same_front n new old same k lt =
     sym (get_or-take n new k 0 lt) ∙ ap (λ (l : List ℕ). get_or l k 0) same ∙ get_or-take n old k 0 lt
 
@@ -183,10 +192,12 @@ page_chunk new old chunk long len behind =
     behind ∙ ap (λ (l : List ℕ). chunk ++ l) (drop_all (24 + length chunk) old (omega arith)) ∙ append-nil chunk
 
 -- a page was sealed in the middle
-pub sealed_length : (place number pages : ℕ) (chunk new old : List ℕ) → place < 2 ^ 64 → number < pages → pages < 2 ^ 32 →
+pub sealed_length : (place number pages : ℕ) (chunk new old : List ℕ) → place < 2 ^ 64 → number < pages →
+    pages < 2 ^ 32 →
     4096 * (number + 1) ≤ length old → length chunk ≡ 4072 →
     take (4096 * number) new ≡ take (4096 * number) old →
-    drop (4096 * number) new ≡ page_of place number pages chunk ++ drop (4096 * (number + 1)) old → length new ≡ length old
+    drop (4096 * number) new ≡ page_of place number pages chunk ++ drop (4096 * (number + 1)) old →
+    length new ≡ length old
 sealed_length place number pages chunk new old a b d room len front behind =
     let page_long = length-page_of place number pages chunk
     (record { place_fits = a; within = b; pages_fits = d; chunk_fits = len }) in

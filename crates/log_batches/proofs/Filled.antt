@@ -30,7 +30,8 @@ pub put_more : (old new bytes : List ℕ) (at n : ℕ) → at + length bytes ≤
     take n new ≡ take at old ++ bytes
 put_more old new bytes at n room is front behind =
     let len : length (take at old ++ bytes) ≡ n =
-    length-append (take at old) bytes ∙ ap (λ (k : ℕ). k + length bytes) (length-take-le at old (omega arith)) ∙ sym is in
+    length-append (take at old) bytes ∙ ap (λ (k : ℕ). k + length bytes) (length-take-le at old (omega arith))
+    ∙ sym is in
     ap (take n) (put_whole old new bytes at front behind)
     ∙ take_at (take at old ++ bytes) (drop (at + length bytes) old) n len
 

@@ -48,7 +48,8 @@ module _ {S : Type 0} (gives : S → Result (List ℕ) DeviceFault → S → Typ
       (ap (λ (i : ℕ). more_batches h i list k) e ∙ more_step h rest list k) a
 
   pub none_next : (left : ℕ) (list : List Submission) → left ≡ 0 →
-      HasJudged gives failures m s t reader (more_batches h left list k) → HasJudged gives failures m s t reader (k list)
+      HasJudged gives failures m s t reader (more_batches h left list k) →
+      HasJudged gives failures m s t reader (k list)
   none_next left list e a =
       subst (λ (r : Reading). HasJudged gives failures m s t reader r)
       (ap (λ (i : ℕ). more_batches h i list k) e ∙ more_none h list k) a
@@ -130,7 +131,8 @@ skips_more h for (b ∷ list) done each =
     let limit = for.limit in let below = for.below in let fits = each.0.fits in
     let one = skips_one h done b for.rows for.cols (omega arith) each.0.batch (omega arith) in
     let rest = skips_more h for list (done ++ b ∷ []) each.1 in
-    subst (λ (l : List Submission). Skips (more_batches h (suc (length list)) done) l (batch_bytes b ++ flat_map batch_bytes list))
+    subst (λ (l : List Submission). Skips (more_batches h (suc (length list)) done) l
+    (batch_bytes b ++ flat_map batch_bytes list))
     (append_assoc done (b ∷ []) list)
     (skips_bind (one_batch h done) (more_batches h (length list)) (done ++ b ∷ []) _ (batch_bytes b)
     (flat_map batch_bytes list) one rest)
@@ -259,5 +261,6 @@ counted_read h for k v before rest fits e =
       each = more.each;
       came = came_behind k v before rest (number_bytes w64 (length more.list)) f1.before f1.left more.list
           (flat_map batch_bytes more.list)
-          (subst (λ (n : ℕ). Stands before rest (number_bytes w64 n) f1.before f1.left) (sym count) f1.stands) more.came;
+          (subst (λ (n : ℕ). Stands before rest (number_bytes w64 n) f1.before f1.left) (sym count) f1.stands)
+          more.came;
     }))

@@ -137,7 +137,8 @@ list_taken h for bytes t reader list j =
           ∙ ap (λ (l : List ℕ). l ++ (reader.pending ++ t)) front_is;
     }
 
-pub taken_within : (h : Head) (n : ℕ) (k : List Submission → Reading) (s t : List ℕ) (reader : ReaderState) (left : Reading) →
+pub taken_within : (h : Head) (n : ℕ) (k : List Submission → Reading) (s t : List ℕ) (reader : ReaderState)
+    (left : Reading) →
     HasJudged gives_front (λ s. 0) (task_of h n k) s t reader left → reader.taken ≤ n
 taken_within h n k s t reader left j =
     let a = j.has_read in let is = a.taken_is in let within = a.within in omega arith
@@ -160,7 +161,8 @@ fault_of_all : (m : Task) → KeepsFaults m.reads → (given t bytes : List ℕ)
     m.max_bytes ≡ length bytes → IsTold m given (t ≡ []) kind → (place : ℕ) × (m.reads bytes ≡ fault_at kind place)
 fault_of_all m keeps given t bytes kind whole limit told = (told.place, turned told.first.turn told.first.stands)
   where
-    inner : m.reads given ≡ fault_at kind told.place → told.place ≤ length given → m.reads bytes ≡ fault_at kind told.place
+    inner : m.reads given ≡ fault_at kind told.place → told.place ≤ length given →
+        m.reads bytes ≡ fault_at kind told.place
     inner e within =
         let s = keeps given kind told.place e within in
         ap m.reads (whole ∙ ap (λ (l : List ℕ). l ++ t) s.2 ∙ append_assoc s.0 s.1 t) ∙ s.4 (s.1 ++ t)
@@ -214,5 +216,8 @@ one_list h for list other rest more each some few each_other some_other few_othe
     ∙ ap (λ (l : List ℕ). counted_batches h (goes h) (from_front l)) e
     ∙ all_read h for (goes h) other more each_other some_other few_other in
     let contents_are : contents h.setup (unfolded list) ≡ contents h.setup (unfolded other) = cc in
-    let same = same_list h.setup list other contents_are in
-    (same, append_cancel_left (payload_bytes other) rest more (ap (λ (l : List Submission). payload_bytes l ++ rest) (sym same) ∙ e))
+    let same = same_list h.setup list other contents_are in (
+      same,
+      append_cancel_left (payload_bytes other) rest more
+          (ap (λ (l : List Submission). payload_bytes l ++ rest) (sym same) ∙ e),
+    )

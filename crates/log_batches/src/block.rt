@@ -116,9 +116,9 @@ impl BlockReader {
     ///
     /// # Errors
     ///
-    /// - `BadBlock`: the block isn't made of batches. It says that it has none, a cell lies outside of the dimensions or
-    ///   out of order, the total of a batch passes the setup's limit, or it has not as many pages as its batches take, or
-    ///   other bytes than 00 behind them. That a pair of client and number stands twice is no fault here.
+    /// - `BadBlock`: the block isn't made of batches. It says that it has none, a cell lies outside of the dimensions
+    /// or   out of order, the total of a batch passes the setup's limit, or it has not as many pages as its batches
+    /// take, or   other bytes than 00 behind them. That a pair of client and number stands twice is no fault here.
     /// - `Memory`: a growth was refused.
     pub fn read(&mut self, alloc: Global, bytes: &[u8]) -> Result<Vec<Arc<Batch>>, LogKind>
         ensures setup { self.new ≡ self.old }

@@ -27,6 +27,12 @@ holds_some at bytes old new holds = record {
 
 pub cut_may : (len : ℕ) (old new : List ℕ) → IsCut len old new → MayBeCut len old new
 cut_may len old new cut = record {
-  bytes = λ i. elim (cases_lt i len) [ inl before ↦ inl (cut.before i before) | inr behind ↦ inr (behind, cut.behind i behind) ];
+  bytes = λ i. elim (cases_lt i len) [
+    | inl before ↦ inl (cut.before i before)
+    | inr behind ↦ inr (
+      behind,
+      cut.behind i behind,
+    )
+  ];
   longer = cut.longer;
 }

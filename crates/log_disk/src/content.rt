@@ -220,7 +220,8 @@ impl Content {
         Ok(())
     }
 
-    /// What a loss of power at this moment leaves, as it is picked. It is the whole file from then on, all of it durable.
+    /// What a loss of power at this moment leaves, as it is picked. It is the whole file from then on, all of it
+    /// durable.
     pub(crate) fn crash(&self, alloc: Global, picks: &mut Picks) -> Result<Content, AllocError>
         ensures left { IfOk result (λ new. Between self.now.durable.items self.now.written.items new.written.items) }
         ensures durable { IfOk result (λ new. new.durable.items ≡ new.written.items) }
@@ -230,7 +231,8 @@ impl Content {
         Content::new(alloc, &left, &left, *picks)
     }
 
-    /// The file as who opens it anew finds it: what is written stays, and of what was written a sync brings nothing more.
+    /// The file as who opens it anew finds it: what is written stays, and of what was written a sync brings nothing
+    /// more.
     pub(crate) fn kill(&self, alloc: Global) -> Result<Content, AllocError>
         ensures durable { IfOk result (λ new. new.durable.items ≡ self.now.durable.items) }
         ensures pending { IfOk result (λ new. new.pending.items ≡ new.durable.items) }

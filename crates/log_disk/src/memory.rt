@@ -21,8 +21,8 @@ pub struct MemoryDisk {
 }
 
 impl MemoryDisk {
-    /// A file of these bytes, all of them durable, whose call number `fail_at`, counted from 0, fails. What a failed call
-    /// leaves follows from the seed.
+    /// A file of these bytes, all of them durable, whose call number `fail_at`, counted from 0, fails. What a failed
+    /// call leaves follows from the seed.
     pub fn new(
         alloc: Global,
         bytes: &[u8],

@@ -17,7 +17,8 @@ use Rattle.log_head.specs.Links.{HasAdded, entries_bytes}
 pub pushed : (f g h a b : List ℕ) → g ≡ f ++ a → h ≡ g ++ b → h ≡ f ++ (a ++ b)
 pushed f g h a b one two = two ∙ ap (λ (l : List ℕ). l ++ b) one ∙ append_assoc f a b
 
-pub setup_pushed : (s : Setting) (f0 f1 f2 f3 f4 f5 f6 f7 : List ℕ) (rows cols count shards limit most : ℕ) (cuts : List ℕ) →
+pub setup_pushed : (s : Setting) (f0 f1 f2 f3 f4 f5 f6 f7 : List ℕ) (rows cols count shards limit most : ℕ)
+    (cuts : List ℕ) →
     rows ≡ s.rows → cols ≡ s.cols → count ≡ length s.cuts → cuts ≡ s.cuts → shards ≡ s.shards → limit ≡ s.limit →
     most ≡ s.max_batches → f1 ≡ f0 ++ number_bytes w64 rows → f2 ≡ f1 ++ number_bytes w64 cols →
     f3 ≡ f2 ++ number_bytes w8 count → f4 ≡ f3 ++ flat_map (number_bytes w64) cuts → f5 ≡ f4 ++ number_bytes w8 shards →

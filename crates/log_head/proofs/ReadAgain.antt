@@ -115,7 +115,8 @@ module _ (h : LogHead) (is : IsHead h) where
   cuts_are =
       ap (λ (i : ℕ). cuts_of i (drop 29 page)) count_is
       ∙ ap (λ (l : List ℕ). cuts_of (length h.setup.cuts) l) at_29
-      ∙ cuts_again 1 h.setup.cuts (((shards_on ++ first_on) ++ zeros) ++ check_on) (cuts_from_one h.setup.cuts is.setup.cuts)
+      ∙ cuts_again 1 h.setup.cuts (((shards_on ++ first_on) ++ zeros) ++ check_on)
+      (cuts_from_one h.setup.cuts is.setup.cuts)
 
   mark_read : u64_in page 0 ≡ mark
   unfolding number_bytes

@@ -1,4 +1,5 @@
--- A page whose mark, version and checksum are right, whose fields lie within their ranges, and which has 00 behind them,
+-- A page whose mark, version and checksum are right, whose fields lie within their ranges, and which has 00 behind
+-- them,
 -- is the page of its head.
 use Rattle.std.proofs.Common.{◌≡◌, ℕ, suc, ◌+◌, ◌-◌, ◌*◌, ◌^◌, ◌<◌, ◌≤◌, true, List, [], ◌∷◌, ◌++◌}
 use Rattle.std.proofs.Common.{length, take, drop, replicate, flat_map, refl, sym, ap, subst, ◌∙◌, append_assoc, arith}
@@ -59,7 +60,8 @@ module _ (p : List ℕ) (bytes : IsBytes p) (len : length p ≡ 4096) (few : cut
       (stands_as p 28 29 w8 n _ (sym (length-cuts_of n (drop 29 p))) (byte_stands p bytes 28 29 refl (omega arith)))
       (stands_on p 29 (29 + 8 * n) (46 + 8 * n) _ _ cuts_part
       (stands_on p (29 + 8 * n) (30 + 8 * n) (46 + 8 * n) _ _
-      (stands_as p (29 + 8 * n) (30 + 8 * n) w8 _ _ shards_is (byte_stands p bytes (29 + 8 * n) (30 + 8 * n) (omega arith) (omega arith)))
+      (stands_as p (29 + 8 * n) (30 + 8 * n) w8 _ _ shards_is
+      (byte_stands p bytes (29 + 8 * n) (30 + 8 * n) (omega arith) (omega arith)))
       (stands_on p (30 + 8 * n) (38 + 8 * n) (46 + 8 * n) _ _
       (behind64 1 (30 + 8 * n) (38 + 8 * n) (omega arith) (omega arith) (omega arith))
       (behind64 9 (38 + 8 * n) (46 + 8 * n) (omega arith) (omega arith) (omega arith)))))))
@@ -86,23 +88,27 @@ module _ (p : List ℕ) (bytes : IsBytes p) (len : length p ≡ 4096) (few : cut
         parts = sym (take-append-drop (4092 - fields_end n) rest)
             ∙ ap (λ (l : List ℕ). l ++ drop (4092 - fields_end n) rest) zeros
             ∙ ap (λ (l : List ℕ). replicate (4092 - fields_end n) 0 ++ l)
-            (drop-drop (4092 - fields_end n) (fields_end n) p ∙ ap (λ (i : ℕ). drop i p) {x = fields_end n + (4092 - fields_end n)} {y = 4092} (omega arith));
+            (drop-drop (4092 - fields_end n) (fields_end n) p
+            ∙ ap (λ (i : ℕ). drop i p) {x = fields_end n + (4092 - fields_end n)} {y = 4092} (omega arith));
       }
 
-  front_part : u64_in p 0 ≡ mark → u32_in p 8 ≡ version → is_blank (filler p) ≡ true → Stands p 0 (front_of (head_in p)) 4092
+  front_part : u64_in p 0 ≡ mark → u32_in p 8 ≡ version → is_blank (filler p) ≡ true →
+      Stands p 0 (front_of (head_in p)) 4092
   front_part mark_is version_is blank =
       subst (λ (i : ℕ). Stands p 0 (field_bytes (head_in p) ++ replicate (4092 - fields_end i) 0) 4092)
       (sym (length-cuts_of n (drop 29 p)))
       (stands_on p 0 (fields_end n) 4092 _ _ (field_part mark_is version_is) (filler_part blank))
 
-  page_is : u64_in p 0 ≡ mark → u32_in p 8 ≡ version → HasCheck p → is_blank (filler p) ≡ true → p ≡ head_page (head_in p)
+  page_is : u64_in p 0 ≡ mark → u32_in p 8 ≡ version → HasCheck p → is_blank (filler p) ≡ true →
+      p ≡ head_page (head_in p)
   page_is mark_is version_is check blank =
       let front = front_of (head_in p) in
       let parts : p ≡ front ++ drop 4092 p = (front_part mark_is version_is blank).parts in
       let whole : length p ≡ length front + length (drop 4092 p) =
       ap (λ (l : List ℕ). length l) parts ∙ length-append front (drop 4092 p) in
       let long : length front ≡ 4092 = omega (arith, length-drop 4092 p) in
-      let front_is : take 4092 p ≡ front = ap (λ (l : List ℕ). take 4092 l) parts ∙ take_at front (drop 4092 p) 4092 long in
+      let front_is : take 4092 p ≡ front = ap (λ (l : List ℕ). take 4092 l) parts
+      ∙ take_at front (drop 4092 p) 4092 long in
       let last = (number32 4092 4096 refl (omega arith)).parts in
       let none : drop 4096 p ≡ [] = drop_all 4096 p (omega arith) in
       let sum : u32_in p 4092 ≡ checksum_of front = check ∙ ap (λ (l : List ℕ). checksum_of l) front_is in

@@ -95,8 +95,10 @@ fn setup_told(page: &[u8; PAGE], count: usize) -> Result<Setup, LogKind>
 
 // Whether what a head says of the batches before it lies within what its setup allows.
 fn fits_setup(head: &LogHead) -> bool
-    ensures yes { result ≡ true → (head.now.first ≤ head.now.setup.max_batches) × (head.now.total ≤ head.now.setup.limit) }
-    ensures no { result ≡ false → head.now.first ≤ head.now.setup.max_batches → head.now.total ≤ head.now.setup.limit → ⊥ }
+    ensures yes { result ≡ true →
+        (head.now.first ≤ head.now.setup.max_batches) × (head.now.total ≤ head.now.setup.limit) }
+    ensures no { result ≡ false →
+        head.now.first ≤ head.now.setup.max_batches → head.now.total ≤ head.now.setup.limit → ⊥ }
 {
     head.first <= head.setup.max_batches() && head.total <= head.setup.limit()
 }

@@ -20,7 +20,8 @@ pub record IsKept (es : List Entry) (a : Answer) : Type 0 where
 pub kept_of_known : (limit most : ℕ) (es : List Entry) (a : Answer) → IsDistinct same_pair es →
     verdict_of limit most es a.entry ≡ Known a.kept → IsKept es a
 kept_of_known limit most es a distinct is =
-    let m = subst (λ (v : Verdict). IsVerdict limit most es a.entry v) is (verdict_means limit most es a.entry distinct) in
+    let m = subst (λ (v : Verdict). IsVerdict limit most es a.entry v) is (verdict_means limit most es a.entry distinct)
+    in
     record { entry = m.0; total = m.1 }
 
 pub known_of_kept : (limit most : ℕ) (es : List Entry) (a : Answer) → IsDistinct same_pair es → IsKept es a →

@@ -20,13 +20,14 @@ use Rattle.log_lives.proofs.Kept.{IsKept, kept_of_known, known_of_kept, kept_lon
 
 -- The book has distinct pairs, every snapshot and every log that a loss of power may leave begins it, each log begins
 -- within each snapshot, and every batch that was acknowledged stands in the book and in each log.
-pub record Keeps (book : List Entry) (answers : List Answer) (snapshots : List (List Entry)) (logs : List Log) : Type 0 where
-  pub distinct : IsDistinct same_pair book
-  pub listed : (s : List Entry) → IsAmong s snapshots → IsPrefix s book
-  pub logged : (l : Log) → IsAmong l logs → IsPrefix (up_to_end l ++ l.torn) book
-  pub linked : (s : List Entry) (l : Log) → IsAmong s snapshots → IsAmong l logs → length l.before ≤ length s
-  pub kept : (a : Answer) → IsAmong a answers → IsKept book a
-  pub durable : (a : Answer) (l : Log) → IsAmong a answers → IsAmong l logs → a.kept.index < length (up_to_end l)
+pub record Keeps (book : List Entry) (answers : List Answer) (snapshots : List (List Entry)) (logs : List Log) : Type 0
+  where
+    pub distinct : IsDistinct same_pair book
+    pub listed : (s : List Entry) → IsAmong s snapshots → IsPrefix s book
+    pub logged : (l : Log) → IsAmong l logs → IsPrefix (up_to_end l ++ l.torn) book
+    pub linked : (s : List Entry) (l : Log) → IsAmong s snapshots → IsAmong l logs → length l.before ≤ length s
+    pub kept : (a : Answer) → IsAmong a answers → IsKept book a
+    pub durable : (a : Answer) (l : Log) → IsAmong a answers → IsAmong l logs → a.kept.index < length (up_to_end l)
 
 abbrev pub KeepsAll : World → Type 0
 KeepsAll w = Keeps w.book w.answers (snapshots_of w) (logs_of w)
@@ -137,7 +138,12 @@ read_begins l false book p =
 
 read_no_shorter : (l : Log) (whole : Bool) → length (up_to_end l) ≤ length (up_to_end (read_as l whole))
 read_no_shorter l true =
-    omega (arith, length-append l.before l.whole, length-append l.before (l.whole ++ l.torn), length-append l.whole l.torn)
+    omega (
+      arith,
+      length-append l.before l.whole,
+      length-append l.before (l.whole ++ l.torn),
+      length-append l.whole l.torn,
+    )
 read_no_shorter l false = omega arith
 
 read_before : (l : Log) (whole : Bool) → (read_as l whole).before ≡ l.before
@@ -231,7 +237,8 @@ begun_keeps w list u h b = subst KeepsAll (sym b.now) (shorter_book list w.book 
 
     logged : (l : Log) → IsAmong l (logs_of w) → IsPrefix (up_to_end l ++ l.torn) list
     logged l among =
-        subst (λ (x : Log). IsPrefix (up_to_end x ++ x.torn) list) (sym (alone w.log l w.older_logs b.log_named among)) whole
+        subst (λ (x : Log). IsPrefix (up_to_end x ++ x.torn) list) (sym (alone w.log l w.older_logs b.log_named among))
+        whole
 
     within : (a : Answer) → IsAmong a w.answers → a.kept.index < length list
     within a among =
@@ -239,7 +246,8 @@ begun_keeps w list u h b = subst KeepsAll (sym b.now) (shorter_book list w.book 
         let le = prefix_length (up_to_end w.log) list covers.log_in in
         omega (arith, lt, le)
 
-renamed_keeps : (w : World) (before whole : List Entry) (u : World) → KeepsAll w → RenamesLog w before whole u → KeepsAll u
+renamed_keeps : (w : World) (before whole : List Entry) (u : World) → KeepsAll w → RenamesLog w before whole u →
+    KeepsAll u
 renamed_keeps w before whole u h r = subst KeepsAll (sym r.now)
     (one_log w.book w.answers (snapshots_of w) (logs_of w) (log before whole [])
     (subst (λ x. IsPrefix x w.book) (sym (append-nil (before ++ whole))) r.taken) within durable h)
@@ -256,7 +264,8 @@ renamed_keeps w before whole u h r = subst KeepsAll (sym r.now)
 lost_keeps : (w : World) (s : List Entry) (l : Log) (whole : Bool) (u : World) → KeepsAll w →
     LosesPower w s l whole u → KeepsAll u
 lost_keeps w s l whole u h p = subst KeepsAll (sym p.now)
-    (one_log w.book w.answers (s ∷ []) [] (read_as l whole) (read_begins l whole w.book (h.logged l p.log_is)) within durable
+    (one_log w.book w.answers (s ∷ []) [] (read_as l whole) (read_begins l whole w.book (h.logged l p.log_is)) within
+    durable
     (fewer w.book w.answers (snapshots_of w) (s ∷ []) (logs_of w) [] was (λ x none. absurd none) h))
   where
     was : (x : List Entry) → IsAmong x (s ∷ []) → IsAmong x (snapshots_of w)
@@ -304,7 +313,8 @@ steps_keep limit most w (Start list) u h s = begun_keeps w list u h s
 
 -- == Whole runs
 
-runs_keep : (limit most : ℕ) (w : World) (es : List Event) (u : World) → KeepsAll w → Runs limit most w es u → KeepsAll u
+runs_keep : (limit most : ℕ) (w : World) (es : List Event) (u : World) → KeepsAll w → Runs limit most w es u →
+    KeepsAll u
 runs_keep limit most w [] u h r = subst KeepsAll (sym r) h
 runs_keep limit most w (e ∷ es) u h r = runs_keep limit most r.0 es u (steps_keep limit most w e r.0 h r.1.0) r.1.1
 
@@ -340,7 +350,8 @@ outcome_covers : (w : World) (s : List Entry) (l : Log) → KeepsAll w → Outco
 outcome_covers w s l h o = restored_covers s l w.book (h.listed s o.snapshot) (outcome_begins w s l h o)
     (outcome_no_gap w s l h o)
 
-pub outcome_prefix : (w : World) (s : List Entry) (l : Log) → KeepsAll w → Outcome w s l → IsPrefix (restored s l) w.book
+pub outcome_prefix : (w : World) (s : List Entry) (l : Log) → KeepsAll w → Outcome w s l →
+    IsPrefix (restored s l) w.book
 outcome_prefix w s l h o = (outcome_covers w s l h o).begins
 
 pub outcome_taken : (w : World) (s : List Entry) (l : Log) → KeepsAll w → Outcome w s l → IsTaken s l

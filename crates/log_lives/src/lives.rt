@@ -9,9 +9,9 @@ ghost use Rattle.log_lives.specs.Lives.{Log, Answer, World, Event, Begins, Runs,
 ghost use Rattle.log_lives.specs.Lives.{restored, a_loss_of_power};
 
 /// However many kills, losses of power, failures and starts a run has: each start gives a list that begins the book of
-/// the life before; no client and number stands twice in a book; and every batch that any life acknowledged stands in it
-/// at its place, so that a repeat of it is answered what it was answered then. Whatever a loss of power leaves, at any
-/// moment, a start takes, and gives a list that begins the book and has every batch that was acknowledged.
+/// the life before; no client and number stands twice in a book; and every batch that any life acknowledged stands in
+/// it at its place, so that a repeat of it is answered what it was answered then. Whatever a loss of power leaves, at
+/// any moment, a start takes, and gives a list that begins the book and has every batch that was acknowledged.
 pub fn stays_one_list()
     ensures starts { (limit most : ℕ) (es : List Event) (w u : World) (list : List Entry) →
         Runs limit most at_first es w → Begins w list u → IsPrefix list w.book }

@@ -119,7 +119,8 @@ file_is s a = ap (λ (l : List ℕ). front_of s a ++ (checked_bytes version (fro
 -- the whole behind the head
 pub head_left : (s : Setting) (a : Accepted) →
     file s a ≡ head_of s a ++ (check_bytes version (head_of s a) ++ (past_of s a ++ batches_of s a))
-head_left s a = file_is s a ∙ append_assoc (head_of s a) (check_bytes version (head_of s a)) (past_of s a ++ batches_of s a)
+head_left s a = file_is s a ∙ append_assoc (head_of s a) (check_bytes version (head_of s a))
+    (past_of s a ++ batches_of s a)
 
 -- the whole behind the head's checksum
 pub past_left : (s : Setting) (a : Accepted) → file s a ≡ front_of s a ++ (past_of s a ++ batches_of s a)

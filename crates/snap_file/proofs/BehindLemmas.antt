@@ -118,7 +118,8 @@ behind_field w k wide each = record {
         let same : fault_at Truncated (length input.before + length input.rest + 1) ≡ fault_at kind shown =
         sym (number_short w k input.before input.rest short) ∙ e in
         let place = place_same Truncated kind _ shown same in
-        farther (length input.before) shown kind (same_kind Truncated kind (kind_same Truncated kind _ shown same) truncated)
+        farther (length input.before) shown kind
+        (same_kind Truncated kind (kind_same Truncated kind _ shown same) truncated)
         (omega arith)
     | inr long ↦
         let s = (each (from_be_bytes w (take (byte_len w) input.rest))).shows _ kind shown
@@ -182,7 +183,8 @@ behind_batches h (suc n) p k each =
 
 ended : (c : Contents) (before rest : List ℕ) (kind : SnapFault) (shown : ℕ) →
     end c (record { before = before; rest = rest }) ≡ fault_at kind shown → ShowsBehind (length before) shown kind
-ended c before [] kind shown e = absurd (let same : ◌≡◌ {A = outcome} (Ok c) (fault_at kind shown) = sym (end_here c before) ∙ e
+ended c before [] kind shown e =
+    absurd (let same : ◌≡◌ {A = outcome} (Ok c) (fault_at kind shown) = sym (end_here c before) ∙ e
     in cc)
 ended c before (x ∷ rest) kind shown e =
     let same = sym (end_more c before x rest) ∙ e in

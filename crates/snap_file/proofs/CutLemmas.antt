@@ -21,7 +21,8 @@ done_is : (least : ℕ) (done : List ℕ) (k : List ℕ → Reading) → cuts_be
 unfolding cuts_behind
 done_is least done k = refl
 
-pub cuts_step : {S : Type 0} (gives : S → Result (List ℕ) DeviceFault → S → Type 0) (failures : S → ℕ) (m : Task) (s t : S)
+pub cuts_step : {S : Type 0} (gives : S → Result (List ℕ) DeviceFault → S → Type 0) (failures : S → ℕ) (m : Task)
+    (s t : S)
     (reader : ReaderState) (n n' least : ℕ) (done : List ℕ) (k : List ℕ → Reading) →
     HasJudged gives failures m s t reader (cuts_behind n least done k) → n ≡ suc n' →
     HasJudged gives failures m s t reader (field_in w64 least (2 ^ 40) BadHead
@@ -30,7 +31,8 @@ cuts_step gives failures m s t reader n n' least done k a e =
     subst (λ (r : Reading). HasJudged gives failures m s t reader r) (step_is n' least done k)
     (subst (λ (i : ℕ). HasJudged gives failures m s t reader (cuts_behind i least done k)) e a)
 
-pub cuts_done : {S : Type 0} (gives : S → Result (List ℕ) DeviceFault → S → Type 0) (failures : S → ℕ) (m : Task) (s t : S)
+pub cuts_done : {S : Type 0} (gives : S → Result (List ℕ) DeviceFault → S → Type 0) (failures : S → ℕ) (m : Task)
+    (s t : S)
     (reader : ReaderState) (n least : ℕ) (done all : List ℕ) (k : List ℕ → Reading) →
     HasJudged gives failures m s t reader (cuts_behind n least done k) → n ≡ 0 → done ≡ all →
     HasJudged gives failures m s t reader (k all)

@@ -82,7 +82,8 @@ extra c before (x ∷ rest) h = end_more c before x rest
 
 pub stops_extra : {S : Type 0} (gives : S → Result (List ℕ) DeviceFault → S → Type 0) (failures : S → ℕ)
     (ended : Type 0) (m : ℕ) (s t : S) (reader : ReaderState) (c : Contents) →
-    HasRead gives failures (snapshot_task m) s t reader (end c) → 1 ≤ length reader.pending → reader.taken < reader.max_bytes →
+    HasRead gives failures (snapshot_task m) s t reader (end c) → 1 ≤ length reader.pending →
+    reader.taken < reader.max_bytes →
     Stops gives failures ended (snapshot_task m) s t ExtraBytes
 stops_extra gives failures ended m s t reader c a some room =
     let bytes = bytes_of_calls a.answers in
@@ -105,7 +106,8 @@ stops_extra gives failures ended m s t reader c a some room =
 
 pub stops_over : {S : Type 0} (gives : S → Result (List ℕ) DeviceFault → S → Type 0) (failures : S → ℕ) (ended : Type 0)
     (m : ℕ) (s t : S) (reader : ReaderState) (c : Contents) →
-    HasRead gives failures (snapshot_task m) s t reader (end c) → 1 ≤ length reader.pending → reader.taken ≡ reader.max_bytes →
+    HasRead gives failures (snapshot_task m) s t reader (end c) → 1 ≤ length reader.pending →
+    reader.taken ≡ reader.max_bytes →
     Stops gives failures ended (snapshot_task m) s t TooLong
 stops_over gives failures ended m s t reader c a some room =
     let bytes = bytes_of_calls a.answers in

@@ -30,7 +30,8 @@ reached m answers h =
     let last = ap length (append-nil r.last) in
     omega arith
 
-pub late_fault : (m : ℕ) (answers : List Answer) (shown : ℕ) (kind : SnapFault) → IsMemoryFault (snapshot_task m) answers →
+pub late_fault : (m : ℕ) (answers : List Answer) (shown : ℕ) (kind : SnapFault) →
+    IsMemoryFault (snapshot_task m) answers →
     FirstFaultAt m (bytes_of_calls answers) shown kind →
     (length (bytes_of_calls answers) < shown + 65536) × (kind ≢ BadMark) × (kind ≢ BadVersion) × (kind ≢ BadHead)
 late_fault m answers shown kind h f =

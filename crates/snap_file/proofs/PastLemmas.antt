@@ -28,7 +28,8 @@ module _ {S : Type 0} (gives : S → Result (List ℕ) DeviceFault → S → Typ
       h.version ≡ old_version → HasJudged gives failures m s t reader (k p)
   past_old p none read old =
       subst (λ (x : Progress). HasJudged gives failures m s t reader (k x)) (sym none)
-      (subst (λ (r : Reading). HasJudged gives failures m s t reader r) (chosen h k true (eq-eqb h.version old_version old)) read)
+      (subst (λ (r : Reading). HasJudged gives failures m s t reader r)
+      (chosen h k true (eq-eqb h.version old_version old)) read)
 
   -- what is folded is read
   pub past_new : HasJudged gives failures m s t reader (past h k) → (h.version ≡ old_version → ⊥) →

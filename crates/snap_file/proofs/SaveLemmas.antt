@@ -18,7 +18,8 @@ unfinished_differs path e =
 pub ok_mapped : {R S T : Type 0} (r : Result R WriteFault) (step : S → List ℕ → Answer → S → Type 0) (failures : S → ℕ)
     (s t : S) (bytes : List ℕ) → OnOk r (HasTaken step failures s t bytes) →
     (step' : T → List ℕ → Answer → T → Type 0) (failures' : T → ℕ) (g : S → T) →
-    ((x : S) (offered : List ℕ) (answer : Answer) (y : S) → step x offered answer y → step' (g x) offered answer (g y)) →
+    ((x : S) (offered : List ℕ) (answer : Answer) (y : S) → step x offered answer y →
+    step' (g x) offered answer (g y)) →
     ((x : S) → failures' (g x) ≡ failures x) →
     OnOk r (HasTaken step' failures' (g s) (g t) bytes)
 ok_mapped (Ok x) step failures s t bytes h step' failures' g moves same =
@@ -28,7 +29,8 @@ ok_mapped (Err x) step failures s t bytes h step' failures' g moves same = tt
 pub err_mapped : {R S T : Type 0} (r : Result R WriteFault) (step : S → List ℕ → Answer → S → Type 0) (failures : S → ℕ)
     (s t : S) (text : List ℕ) → IfErr r (λ f. HasStopped step failures s t text f.written) →
     (step' : T → List ℕ → Answer → T → Type 0) (failures' : T → ℕ) (g : S → T) →
-    ((x : S) (offered : List ℕ) (answer : Answer) (y : S) → step x offered answer y → step' (g x) offered answer (g y)) →
+    ((x : S) (offered : List ℕ) (answer : Answer) (y : S) → step x offered answer y →
+    step' (g x) offered answer (g y)) →
     ((x : S) → failures' (g x) ≡ failures x) →
     IfErr r (λ f. HasStopped step' failures' (g s) (g t) text f.written)
 err_mapped (Ok x) step failures s t text h step' failures' g moves same = tt

@@ -59,7 +59,8 @@ came_here k v before rest x fits e = record {
   goes = e;
 }
 
-stands_more : (start rest a mid left b end behind : List ℕ) → Stands start rest a mid left → Stands mid left b end behind →
+stands_more : (start rest a mid left b end behind : List ℕ) → Stands start rest a mid left →
+    Stands mid left b end behind →
     Stands start rest (a ++ b) end behind
 stands_more start rest a mid left b end behind s t = record {
   before_is = t.before_is ∙ ap (λ (l : List ℕ). l ++ b) s.before_is ∙ append_assoc start a b;
@@ -110,27 +111,31 @@ came_checked n k v start rest x bytes c =
     record {
       before = d.before;
       left = d.left;
-      stands = stands_more start rest bytes c.before c.left (check_bytes (n x) (start ++ bytes)) d.before d.left c.stands
+      stands = stands_more start rest bytes c.before c.left (check_bytes (n x) (start ++ bytes)) d.before d.left
+          c.stands
           (subst (λ (l : List ℕ). Stands c.before c.left (check_bytes (n x) l) d.before d.left) c.stands.before_is
           d.stands);
       fits = d.fits;
       goes = d.goes;
     }
 
-pub record CutsRead (k : List ℕ → Reading) (v : Contents) (before rest : List ℕ) (n least : ℕ) (done : List ℕ) : Type 0 where
-  pub cuts : List ℕ
-  pub count : length cuts ≡ n
-  pub are : CutsFrom least cuts
-  pub came : Came k v before rest (done ++ cuts) (flat_map (number_bytes w64) cuts)
+pub record CutsRead (k : List ℕ → Reading) (v : Contents) (before rest : List ℕ) (n least : ℕ) (done : List ℕ) : Type 0
+  where
+    pub cuts : List ℕ
+    pub count : length cuts ≡ n
+    pub are : CutsFrom least cuts
+    pub came : Came k v before rest (done ++ cuts) (flat_map (number_bytes w64) cuts)
 
 cuts_read : (n least : ℕ) (done : List ℕ) (k : List ℕ → Reading) (v : Contents) (before rest : List ℕ) →
-    IsBytes rest → cuts_behind n least done k (record { before = before; rest = rest }) ≡ Ok v → CutsRead k v before rest n least done
+    IsBytes rest → cuts_behind n least done k (record { before = before; rest = rest }) ≡ Ok v →
+    CutsRead k v before rest n least done
 unfolding cuts_behind
 cuts_read zero least done k v before rest fits e = record {
   cuts = [];
   count = refl;
   are = tt;
-  came = subst (λ (l : List ℕ). Came k v before rest l []) (sym (append-nil done)) (came_here k v before rest done fits e);
+  came = subst (λ (l : List ℕ). Came k v before rest l []) (sym (append-nil done))
+      (came_here k v before rest done fits e);
 }
 cuts_read (suc n) least done k v before rest fits e =
     field_then w64 (2 ^ 64) wide64 _ v before rest fits e (λ f.
@@ -222,13 +227,15 @@ head_read k v before rest fits e =
       high = (within old_version version f2.value t2.0).1;
       came =
           came_behind k v before rest (number_bytes w64 mark) f1.before f1.left h _
-          (subst (λ (n : ℕ). Stands before rest (number_bytes w64 n) f1.before f1.left) (one_value mark f1.value t1.0) f1.stands)
+          (subst (λ (n : ℕ). Stands before rest (number_bytes w64 n) f1.before f1.left) (one_value mark f1.value t1.0)
+          f1.stands)
           (came_behind k v f1.before f1.left (number_bytes w32 f2.value) f2.before f2.left h _ f2.stands
           (came_behind k v f2.before f2.left (number_bytes w64 f3.value) f3.before f3.left h _ f3.stands
           (came_behind k v f3.before f3.left (number_bytes w64 f4.value) f4.before f4.left h _ f4.stands
           (came_behind k v f4.before f4.left (number_bytes w8 (length c.cuts)) f5.before f5.left h _
           (subst (λ (n : ℕ). Stands f4.before f4.left (number_bytes w8 n) f5.before f5.left) (sym c.count) f5.stands)
-          (came_behind k v f5.before f5.left (flat_map (number_bytes w64) c.cuts) c.came.before c.came.left h _ c.came.stands
+          (came_behind k v f5.before f5.left (flat_map (number_bytes w64) c.cuts) c.came.before c.came.left h _
+          c.came.stands
           (came_behind k v c.came.before c.came.left (number_bytes w8 f6.value) f6.before f6.left h _ f6.stands
           (came_behind k v f6.before f6.left (number_bytes w64 f7.value) f7.before f7.left h _ f7.stands
           (came_behind k v f7.before f7.left (number_bytes w64 f8.value) f8.before f8.left h _ f8.stands
@@ -248,7 +255,8 @@ pub record CellsRead (k : Tally → Reading) (v : Contents) (before rest : List 
 
 pub cells_read : (h : Head) (top n : ℕ) (tally : Tally) (k : Tally → Reading) (v : Contents) (before rest : List ℕ) →
     IsBytes rest → tally.counted ≤ top →
-    cells_behind h top n tally k (record { before = before; rest = rest }) ≡ Ok v → CellsRead k v before rest h top n tally
+    cells_behind h top n tally k (record { before = before; rest = rest }) ≡ Ok v →
+    CellsRead k v before rest h top n tally
 unfolding cells_behind
 cells_read h top zero tally k v before rest fits below e = record {
   es = [];
@@ -282,8 +290,10 @@ cells_read h top (suc n) tally k v before rest fits below e =
           (came_behind k v f2.before f2.left (number_bytes w64 f3.value) f3.before f3.left _ _ f3.stands more.came)));
     })))))))
 
-pub cells_then : {P : Type 0} (h : Head) (top n : ℕ) (tally : Tally) (k : Tally → Reading) (v : Contents) (before rest : List ℕ) → IsBytes rest → tally.counted ≤ top →
-    cells_behind h top n tally k (record { before = before; rest = rest }) ≡ Ok v → (CellsRead k v before rest h top n tally → P) → P
+pub cells_then : {P : Type 0} (h : Head) (top n : ℕ) (tally : Tally) (k : Tally → Reading) (v : Contents)
+    (before rest : List ℕ) → IsBytes rest → tally.counted ≤ top →
+    cells_behind h top n tally k (record { before = before; rest = rest }) ≡ Ok v →
+    (CellsRead k v before rest h top n tally → P) → P
 cells_then h top n tally k v before rest fits below e f = f (cells_read h top n tally k v before rest fits below e)
 
 -- cells that rise are the entries of what they build
@@ -293,12 +303,13 @@ entries_are es rise = ap (λ (l : List (Place × ℕ)). entries (built l)) (entr
 
 -- ---- what is folded
 
-pub record EntryRead (k : Progress → Reading) (v : Contents) (before rest : List ℕ) (h : Head) (p : Progress) : Type 0 where
-  pub e : Entry
-  pub is : IsEntry e
-  pub new : stands_in e.client e.number p.state.folded ≡ false
-  pub fits : p.counted + e.total ≤ h.total
-  pub came : Came k v before rest (with_entry p e) (entry_bytes e)
+pub record EntryRead (k : Progress → Reading) (v : Contents) (before rest : List ℕ) (h : Head) (p : Progress) : Type 0
+  where
+    pub e : Entry
+    pub is : IsEntry e
+    pub new : stands_in e.client e.number p.state.folded ≡ false
+    pub fits : p.counted + e.total ≤ h.total
+    pub came : Came k v before rest (with_entry p e) (entry_bytes e)
 
 entry_read : (h : Head) (p : Progress) (k : Progress → Reading) (v : Contents) (before rest : List ℕ) →
     IsBytes rest → entry h p k (record { before = before; rest = rest }) ≡ Ok v → EntryRead k v before rest h p
@@ -364,13 +375,14 @@ entries_read h (suc n) p k v before rest fits below e =
           (entries_more p x more.es) more.came);
     }
 
-pub record BaseRead (k : Progress → Reading) (v : Contents) (before rest : List ℕ) (h : Head) (p : Progress) : Type 0 where
-  pub m : Counts
-  pub few : len m < 2 ^ 64
-  pub inner : AllByRecursion (LiesWithin h.setup.rows h.setup.cols) (entries m)
-  pub sum : total m ≡ p.counted
-  pub none : p.state.folded ≡ [] → m ≡ empty
-  pub came : Came k v before rest (based_on p m) (matrix_bytes m)
+pub record BaseRead (k : Progress → Reading) (v : Contents) (before rest : List ℕ) (h : Head) (p : Progress) : Type 0
+  where
+    pub m : Counts
+    pub few : len m < 2 ^ 64
+    pub inner : AllByRecursion (LiesWithin h.setup.rows h.setup.cols) (entries m)
+    pub sum : total m ≡ p.counted
+    pub none : p.state.folded ≡ [] → m ≡ empty
+    pub came : Came k v before rest (based_on p m) (matrix_bytes m)
 
 unfounded : (folded : List Entry) (n : ℕ) → ((length folded == 0) && not (n == 0)) ≡ false → folded ≡ [] → n ≡ 0
 unfounded [] n e h = grind (arith, nat_tests)
@@ -403,7 +415,8 @@ base_read h p k v before rest fits e =
           came_behind k v before rest (number_bytes w64 (len m)) f1.before f1.left (based_on p m) _
           (subst (λ (n : ℕ). Stands before rest (number_bytes w64 n) f1.before f1.left) (sym len_is) f1.stands)
           (came_behind k v f1.before f1.left (cells_bytes (entries m)) c.came.before c.came.left (based_on p m) []
-          (subst (λ (l : List (Place × ℕ)). Stands f1.before f1.left (cells_bytes l) c.came.before c.came.left) (sym same) c.came.stands)
+          (subst (λ (l : List (Place × ℕ)). Stands f1.before f1.left (cells_bytes l) c.came.before c.came.left)
+          (sym same) c.came.stands)
           (came_here k v c.came.before c.came.left (based_on p m) c.came.fits t2.1));
     }))))
   where
@@ -427,7 +440,8 @@ pub record PastRead (k : Progress → Reading) (v : Contents) (before rest : Lis
   pub came : Came k v before rest p (past_in h.version m es)
 
 folded_read : (h : Head) (k : Progress → Reading) (v : Contents) (before rest : List ℕ) → IsBytes rest →
-    (h.version ≡ old_version → ⊥) → folded_past h k (record { before = before; rest = rest }) ≡ Ok v → PastRead k v before rest h
+    (h.version ≡ old_version → ⊥) → folded_past h k (record { before = before; rest = rest }) ≡ Ok v →
+    PastRead k v before rest h
 unfolding folded_past
 folded_read h k v before rest fits new_one e =
     field_then w64 (2 ^ 64) wide64 _ v before rest fits e (λ f1.
@@ -450,10 +464,12 @@ folded_read h k v before rest fits new_one e =
       p = based_on q b.m;
       state_is = refl;
       counted_is = zero_plus (total_of_entries all.es);
-      came = subst (λ (l : List ℕ). Came k v before rest (based_on q b.m) l) (sym (past_there h.version b.m all.es new_one))
+      came = subst (λ (l : List ℕ). Came k v before rest (based_on q b.m) l)
+          (sym (past_there h.version b.m all.es new_one))
           (came_behind k v before rest (number_bytes w64 (length all.es)) f1.before f1.left (based_on q b.m) _
           (subst (λ (n : ℕ). Stands before rest (number_bytes w64 n) f1.before f1.left) (sym all.count) f1.stands)
-          (came_behind k v f1.before f1.left (flat_map entry_bytes all.es) all.came.before all.came.left (based_on q b.m) (matrix_bytes b.m)
+          (came_behind k v f1.before f1.left (flat_map entry_bytes all.es) all.came.before all.came.left
+          (based_on q b.m) (matrix_bytes b.m)
           all.came.stands b.came));
     }))
   where
@@ -471,7 +487,8 @@ either_version v = elim (cases_order v old_version) [
 ]
 
 past_read : (h : Head) (k : Progress → Reading) (v : Contents) (before rest : List ℕ) → IsBytes rest →
-    (h.version ≡ old_version → ⊥) ⊎ (h.version ≡ old_version) → past h k (record { before = before; rest = rest }) ≡ Ok v →
+    (h.version ≡ old_version → ⊥) ⊎ (h.version ≡ old_version) →
+    past h k (record { before = before; rest = rest }) ≡ Ok v →
     PastRead k v before rest h
 past_read h k v before rest fits (inl is) e =
     folded_read h k v before rest fits is
@@ -500,16 +517,18 @@ past_read h k v before rest fits (inr is) e = record {
     none (x ∷ xs) h = absurd (omega arith)
 
     no_entries : ◌≡◌ {A = List (Place × ℕ)} (entries (empty {R = place_cmp})) []
-    no_entries = none (entries (empty {R = place_cmp})) (sym (len-entries (empty {R = place_cmp})) ∙ len-empty place_cmp ℕ)
+    no_entries = none (entries (empty {R = place_cmp})) (sym (len-entries (empty {R = place_cmp}))
+        ∙ len-empty place_cmp ℕ)
 
 -- ---- batches
 
-pub record BatchRead (k : Progress → Reading) (v : Contents) (before rest : List ℕ) (h : Head) (p : Progress) : Type 0 where
-  pub b : Submission
-  pub is : IsBatch h.setup.rows h.setup.cols b
-  pub new : stands_in b.client b.number (entries_in p.state) ≡ false
-  pub fits : p.counted + total b.matrix.counts ≤ h.total
-  pub came : Came k v before rest (progress_with p b) (batch_bytes b)
+pub record BatchRead (k : Progress → Reading) (v : Contents) (before rest : List ℕ) (h : Head) (p : Progress) : Type 0
+  where
+    pub b : Submission
+    pub is : IsBatch h.setup.rows h.setup.cols b
+    pub new : stands_in b.client b.number (entries_in p.state) ≡ false
+    pub fits : p.counted + total b.matrix.counts ≤ h.total
+    pub came : Came k v before rest (progress_with p b) (batch_bytes b)
 
 batch_read : (h : Head) (p : Progress) (k : Progress → Reading) (v : Contents) (before rest : List ℕ) → IsBytes rest →
     p.counted ≤ h.total →
@@ -548,13 +567,17 @@ batch_read h p k v before rest fits below e =
       fits = subst (λ (n : ℕ). p.counted + n ≤ h.total) (sym total_are) c.fits;
       came =
           came_behind k v before rest (number_bytes w64 f1.value) f1.before f1.left (progress_with p b) _ f1.stands
-          (came_behind k v f1.before f1.left (number_bytes w64 f2.value) f2.before f2.left (progress_with p b) _ f2.stands
+          (came_behind k v f1.before f1.left (number_bytes w64 f2.value) f2.before f2.left (progress_with p b) _
+          f2.stands
           (came_behind k v f2.before f2.left (number_bytes w64 (len counts)) f3.before f3.left (progress_with p b) _
           (subst (λ (n : ℕ). Stands f2.before f2.left (number_bytes w64 n) f3.before f3.left) (sym len_is) f3.stands)
-          (came_behind k v f3.before f3.left (cells_bytes (entries counts)) c.came.before c.came.left (progress_with p b) []
-          (subst (λ (l : List (Place × ℕ)). Stands f3.before f3.left (cells_bytes l) c.came.before c.came.left) (sym same) c.came.stands)
+          (came_behind k v f3.before f3.left (cells_bytes (entries counts)) c.came.before c.came.left
+          (progress_with p b) []
+          (subst (λ (l : List (Place × ℕ)). Stands f3.before f3.left (cells_bytes l) c.came.before c.came.left)
+          (sym same) c.came.stands)
           (came_here k v c.came.before c.came.left (progress_with p b) c.came.fits
-          (subst (λ (x : Progress). k x (record { before = c.came.before; rest = c.came.left }) ≡ Ok v) y_is c.came.goes)))));
+          (subst (λ (x : Progress). k x (record { before = c.came.before; rest = c.came.left }) ≡ Ok v) y_is
+          c.came.goes)))));
     })))))
 
 pub record BatchesRead (k : Progress → Reading) (v : Contents) (before rest : List ℕ) (h : Head) (n : ℕ)

@@ -217,7 +217,8 @@ steady_batches h (suc n) p k each =
 pub end_more : (c : Contents) (before : List ℕ) (x : ℕ) (rest : List ℕ) →
     end c (record { before = before; rest = x ∷ rest }) ≡ fault_at ExtraBytes (length before + 1)
 unfolding end
-end_more c before x rest = let some : eqb (length (x ∷ rest)) 0 ≡ false = ne_eqb (length (x ∷ rest)) 0 (λ e. omega arith) in
+end_more c before x rest = let some : eqb (length (x ∷ rest)) 0 ≡ false =
+    ne_eqb (length (x ∷ rest)) 0 (λ e. omega arith) in
     rw some refl
 
 pub steady_end : (c : Contents) → IsSteady (end c)

@@ -36,7 +36,8 @@ split (x ∷ front) pending (y ∷ a) b e =
     )
 
 -- a fault of what follows a field shows behind the field
-pub never_before : (reads : List ℕ → Result Contents Fault) → KeepsFaults reads → (front pending : List ℕ) (w : Width) (k : ℕ → Reading) → 0 < byte_len w →
+pub never_before : (reads : List ℕ → Result Contents Fault) → KeepsFaults reads →
+    (front pending : List ℕ) (w : Width) (k : ℕ → Reading) → 0 < byte_len w →
     ((more : List ℕ) → reads (front ++ more) ≡ number w k (record { before = front; rest = more })) →
     (kind : SnapFault) (p : ℕ) → reads (front ++ pending) ≡ fault_at kind p → p ≤ length (front ++ pending) →
     length front + byte_len w ≤ p
@@ -190,7 +191,8 @@ stops_long gives failures ended m s t reader w k a room long =
       few = omega arith;
       explains = record {
         place = m.max_bytes + 1;
-        first = first_at_limit m bytes more (λ g e. later m a.keeps a.front reader.pending w k bytes a.bytes_are a.resumes over
+        first = first_at_limit m bytes more
+            (λ g e. later m a.keeps a.front reader.pending w k bytes a.bytes_are a.resumes over
             (omega arith) more g e);
         at_end = λ h. absurd (omega arith);
       };
@@ -200,7 +202,8 @@ stops_long gives failures ended m s t reader w k a room long =
     later : (m : Task) → KeepsFaults m.reads → (front pending : List ℕ) (w : Width) (k : ℕ → Reading) (bytes : List ℕ) →
         bytes ≡ front ++ pending →
         ((more : List ℕ) → m.reads (front ++ more) ≡ number w k (record { before = front; rest = more })) →
-        m.max_bytes < length front + byte_len w → 0 < byte_len w → m.max_bytes < length bytes → (g : Fault) → m.reads bytes ≡ Err g →
+        m.max_bytes < length front + byte_len w → 0 < byte_len w → m.max_bytes < length bytes → (g : Fault) →
+        m.reads bytes ≡ Err g →
         m.max_bytes < g.place
     later m keeps front pending w k bytes is resumes over wide more g e = elim (cases_lt (length bytes) g.place) [
       | inl outside ↦ omega arith

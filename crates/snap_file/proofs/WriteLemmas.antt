@@ -78,7 +78,8 @@ writing_begun step failures s front left writer taken pending remainder = record
 }
 
 -- a field more keeps that the remainder is that of all that is pending
-pub summed_more : (r old new : ℕ) (before after field : List ℕ) → after ≡ before ++ field → new ≡ after_bytes old field →
+pub summed_more : (r old new : ℕ) (before after field : List ℕ) → after ≡ before ++ field →
+    new ≡ after_bytes old field →
     old ≡ after_bytes r before → new ≡ after_bytes r after
 summed_more r old new before after field pending remainder is =
     remainder ∙ ap (λ (n : ℕ). after_bytes n field) is ∙ sym (after_bytes-append r before field) ∙
@@ -100,11 +101,13 @@ pub writing_check : {S : Type 0} (step : S → List ℕ → Answer → S → Typ
     (all front left : List ℕ) (old new : WriterState) (sum : ℕ) → sum ≡ complement old.remainder →
     all ≡ front ++ (check_bytes version front ++ left) →
     IsWriting step failures s t all old (check_bytes version front ++ left) → new.taken ≡ old.taken →
-    new.pending ≡ old.pending ++ number_bytes w32 sum → new.remainder ≡ after_bytes old.remainder (number_bytes w32 sum) →
+    new.pending ≡ old.pending ++ number_bytes w32 sum →
+    new.remainder ≡ after_bytes old.remainder (number_bytes w32 sum) →
     IsWriting step failures s t all new left
 writing_check step failures s t all front left old new sum is whole a taken pending remainder =
     let field = number_bytes w32 sum in
-    let text_is : a.text ≡ front = front_is step failures s t all front (check_bytes version front ++ left) old a whole in
+    let text_is : a.text ≡ front = front_is step failures s t all front (check_bytes version front ++ left) old a whole
+    in
     let sum_is : sum ≡ checksum_of front = is ∙ ap complement (a.remainder_is ∙ ap (after_bytes all_ones) text_is) in
     let field_is : check_bytes version front ≡ field = check_is front ∙ ap (number_bytes w32) (sym sum_is) in
     record {

@@ -70,8 +70,8 @@ impl<'a, R: Files> SnapshotFile for NamedFile<'a, R> {
     }
 }
 
-/// The file under a path, whose lock is taken by a load and held to the end of the next save, at most for as long as this
-/// lives: nobody else who takes it saves there between the two.
+/// The file under a path, whose lock is taken by a load and held to the end of the next save, at most for as long as
+/// this lives: nobody else who takes it saves there between the two.
 #[derive(Drop)]
 pub struct LockedFile<'a, R: Files<File = File>> {
     rt: &'a R,

@@ -41,8 +41,8 @@ fn write_to<F: Folder>(
     ensures same_reference { new_file.new.folder.ghost_name ≡ new_file.old.folder.ghost_name }
     ensures ok { OnOk result (HasTaken F.write_takes F.failure_count new_file.old.folder.now new_file.new.folder.now
         (file setup.now (accepted_in list.now))) }
-    ensures err { IfErr result (λ f. HasStopped F.write_takes F.failure_count new_file.old.folder.now new_file.new.folder.now
-        (file setup.now (accepted_in list.now)) f.written) }
+    ensures err { IfErr result (λ f. HasStopped F.write_takes F.failure_count new_file.old.folder.now
+        new_file.new.folder.now (file setup.now (accepted_in list.now)) f.written) }
 {
     write_snapshot(new_file, setup, list)
 }

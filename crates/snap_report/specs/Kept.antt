@@ -60,7 +60,8 @@ IsReadTold loads s t (check.Output fault) = Unit {0}
 abbrev pub IsFoldTold : {F : Type 0} → (F → ℕ → Result Saved FileFault → F → Type 0) →
     (F → Setting → Accepted → Result (Unit {0}) SaveFault → F → Type 0) → F → F → FoldFault → Type 0
 IsFoldTold loads saves s t (fold.File fault) = IsFileFault fault × loads s most_bytes (Err fault) t
-IsFoldTold loads saves s t (fold.Save fault) = IsSaveFault fault × ((x : Saved) × HasFolded loads saves s t x (Err fault))
+IsFoldTold loads saves s t (fold.Save fault) =
+    IsSaveFault fault × ((x : Saved) × HasFolded loads saves s t x (Err fault))
 IsFoldTold loads saves s t fold.Memory =
     loads s most_bytes (Err file.Memory) t ⊎ (((x : Saved) × HasLoaded loads s t x)
     ⊎ ((x : Saved) × HasFolded loads saves s t x (Err save.Memory)))

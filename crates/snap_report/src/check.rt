@@ -203,8 +203,8 @@ fn write_check<W: Sink>(
     write_parts(alloc, w, setup, &list.base, &list.folded, &list.batches)
 }
 
-/// Reads the snapshot in a file, and writes the line `rows R cols C shards K batches B total T entries E`, where B and T
-/// count folded batches too, and E is the number of cells of the sum of all.
+/// Reads the snapshot in a file, and writes the line `rows R cols C shards K batches B total T entries E`, where B and
+/// T count folded batches too, and E is the number of cells of the sum of all.
 ///
 /// Takes the memory of the list, of layers with the cuts 4,096, 65,536 and 1,048,576, and of a list of at most 2^21
 /// cells that wait before them, or as many as the base or one batch has; and at the end of one list of all cells in

@@ -94,7 +94,8 @@ pub fn run_export<F: SnapshotFile, W: Sink>(
         × HasTaken W.write_takes W.failure_count w.old w.new (accepted_text x.setup (accepted_in x.list))) }
     ensures output { (fault : WriteFault) → result ≡ Err (CheckFault.Output fault) →
         (x : Saved) × HasLoaded F.load_gives file.old file.new x
-        × HasStopped W.write_takes W.failure_count w.old w.new (accepted_text x.setup (accepted_in x.list)) fault.written }
+        × HasStopped W.write_takes W.failure_count w.old w.new (accepted_text x.setup (accepted_in x.list))
+        fault.written }
     ensures told { IfErr result (λ fault. IsReadTold F.load_gives file.old file.new fault) }
     ensures unwritten { IfErr result (λ fault. LeavesOutput fault ⊎ (w.new ≡ w.old)) }
 {

@@ -128,9 +128,9 @@ fn write_line<W: Sink>(w: &mut W, batches: u64, total: u64) -> Result<(), FoldFa
 ///
 /// # Errors
 ///
-/// `File` where there is no such file, where another may save there (`Busy`), where it can't be opened or read, or where
-/// it is no snapshot; `Memory`; `Save` where the file could not be saved; and `Output` where the line could not be
-/// written whole: the file is saved then.
+/// `File` where there is no such file, where another may save there (`Busy`), where it can't be opened or read, or
+/// where it is no snapshot; `Memory`; `Save` where the file could not be saved; and `Output` where the line could not
+/// be written whole: the file is saved then.
 pub fn run_fold<F: SnapshotFile, W: Sink>(
     alloc: Global,
     file: &mut F,

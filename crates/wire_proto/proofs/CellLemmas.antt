@@ -37,7 +37,8 @@ unfolding cells_of
 cells_counted bytes = length-map-range_with_len (λ k. cell_at (24 * k) bytes) 0 (length bytes / 24)
 
 -- ---- refusals of what a body spells
-pub too_many_cells : (v : Setting) (body : List ℕ) (n : ℕ) → n ≡ length body → 1048576 < n / 24 → RefusesCells v body 23 0
+pub too_many_cells : (v : Setting) (body : List ℕ) (n : ℕ) → n ≡ length body → 1048576 < n / 24 →
+    RefusesCells v body 23 0
 too_many_cells v body n e h = too_many (omega (arith, e, h, cells_counted body)) refl refl
 
 pub cell_outside : (v : Setting) (body : List ℕ) (list : List Cell) (f : CellsFault) (at : ℕ) → RefusesList v list f →

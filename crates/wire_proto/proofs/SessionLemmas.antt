@@ -128,7 +128,8 @@ split_here gives setup s t r rs bytes i a less = record {
   proper = less;
 }
 
-split_later : {S : Type 0} (gives : S → Event → S → Type 0) (setup : Setting) (s t : S) (r : Request) (rs : List Request)
+split_later : {S : Type 0} (gives : S → Event → S → Type 0) (setup : Setting) (s t : S) (r : Request)
+    (rs : List Request)
     (bytes : List ℕ) (i : ℕ) (a : AnswersAll gives setup s (r ∷ rs) bytes t) → length a.1 ≤ i →
     Split gives setup a.0 t rs a.2 (i - length a.1) → Split gives setup s t (r ∷ rs) bytes i
 split_later gives setup s t r rs bytes i a ge rest =
@@ -343,7 +344,8 @@ module _ {L S : Type 0} (reads : L → Answer → L → Type 0) (writes : L → 
           talks = subst (λ x. Talks reads writes l0 l' a.given x turns) taken_is
               (talks_stopped reads writes failures l0 l l' a.given a.replies held turns i a.talks stopped);
           cut = cut.1;
-          answered = answers_append gives setup s0 a.mid p.mid a.requests p.sent a.replies p.sent_bytes a.answered p.sent_all;
+          answered = answers_append gives setup s0 a.mid p.mid a.requests p.sent a.replies p.sent_bytes a.answered
+              p.sent_all;
           written_is = rw a.written_is (sym (length-append a.replies p.sent_bytes));
         };
         next = among_puts p.request cut.2.0 p.after cut.2.1 (all_put_at p.sent p.request p.behind puts) p.one (record {

@@ -25,7 +25,8 @@ pub data Closes {L : Type 0} (step : L → List ℕ → Answer → L → Type 0)
 -- Replies that were held back were taken whole, and the session ended as above; or they were taken in part.
 pub data ClosesBehind {L : Type 0} (step : L → List ℕ → Answer → L → Type 0) (failures : L → ℕ) (l l' : L)
     (held reply : List ℕ) (written : ℕ) (ended result : Ended) : Type 0 where
-  held_sent : (m : L) → HasTaken step failures l m held → Closes step failures m l' reply (written + length held) ended result →
+  held_sent : (m : L) → HasTaken step failures l m held →
+      Closes step failures m l' reply (written + length held) ended result →
       ClosesBehind step failures l l' held reply written ended result
   held_cut : (i : ℕ) → HasStopped step failures l l' held i → result ≡ WriteFault (written + i) →
       ClosesBehind step failures l l' held reply written ended result

@@ -49,7 +49,8 @@ fn line_length(first: u64, second: u64, third: u64) -> u64
 pub fn text_size(sum: &ViewedSum, cells: MergedCells<'_>) -> Option<TextSize>
     requires of_sum { cells ≡ sum.now.counts }
     requires within { LieWithin sum.now.rows sum.now.cols cells }
-    ensures { MatchOption result (67108864 < length (matrix_text sum.now)) (λ size. IsSizeOf sum.now size.len size.cells) }
+    ensures { MatchOption result (67108864 < length (matrix_text sum.now))
+        (λ size. IsSizeOf sum.now size.len size.cells) }
 {
     let (rows, cols) = sum.dims();
     let mut len = BANNER;

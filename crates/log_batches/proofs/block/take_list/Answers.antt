@@ -11,7 +11,8 @@ returns-in-Ok-clause-ok c =
     let is = c.new-source.ensures in
     let limit = c.restart.ensures.limit ∙ ap length (sym is) in
     let j = c.in-Ok.ensures.ok s (task_of h (length s) (ends h)) (ends h)
-    (begun_ends h s c.restart.new.self c.restart.ensures.pending c.restart.ensures.taken c.restart.ensures.remainder limit) in
+    (begun_ends h s c.restart.new.self c.restart.ensures.pending c.restart.ensures.taken c.restart.ensures.remainder
+    limit) in
     let t = list_taken h c.requires s c.read_list.new.r c.read_list.new.reader (values c.in-Ok.list.items) j in
     subst (λ (n : ℕ). IsTaken h.setup c.args.bytes.now (values c.in-Ok.list.items) n) (sym c.taken.ensures)
     (subst (λ (l : List ℕ). IsTaken h.setup l (values c.in-Ok.list.items) c.read_list.new.reader.taken) is t)
@@ -23,7 +24,8 @@ returns-in-Ok-clause-within c =
     let is = c.new-source.ensures in
     let limit = c.restart.ensures.limit ∙ ap length (sym is) in
     let j = c.in-Ok.ensures.ok s (task_of h (length s) (ends h)) (ends h)
-    (begun_ends h s c.restart.new.self c.restart.ensures.pending c.restart.ensures.taken c.restart.ensures.remainder limit) in
+    (begun_ends h s c.restart.new.self c.restart.ensures.pending c.restart.ensures.taken c.restart.ensures.remainder
+    limit) in
     let t = taken_within h (length s) (ends h) s c.read_list.new.r c.read_list.new.reader _ j in
     let same = ap length is in
     omega (arith, t, same, c.taken.ensures)
@@ -35,7 +37,8 @@ returns-in-Err-clause-err c =
     let is = c.new-source.ensures in
     let limit = c.restart.ensures.limit ∙ ap length (sym is) in
     let stops = c.in-Err.ensures.err s (task_of h (length s) (goes h)) (goes h) (λ list. behind_goes h list)
-    (begun_goes h s c.restart.new.self c.restart.ensures.pending c.restart.ensures.taken c.restart.ensures.remainder limit) in
+    (begun_goes h s c.restart.new.self c.restart.ensures.pending c.restart.ensures.taken c.restart.ensures.remainder
+    limit) in
     rw c.refusal.ensures (refused c.in-Err.fault (HasNoBatches h.setup c.args.bytes.now) (λ no_memory.
     subst (λ (l : List ℕ). HasNoBatches h.setup l) is
     (none_taken h c.requires s c.read_list.new.r c.in-Err.fault no_memory stops)))

@@ -33,10 +33,12 @@ pages-preserved c =
     taken_chunk 4072 (4072 * left) c.pages.out c.args.out.now (omega arith)
     (λ k lt. same_front (4096 * c.pages.left) c.pages.out c.args.out.now old.same k (omega arith)) in
     let before : drop (4096 * (left + 1)) c.pages.out ≡
-    joined (pages_from c.args.place (left + 1) c.args.pages (chunks_from (left + 1) (c.args.pages - (left + 1)) c.args.out.now)) =
+    joined (pages_from c.args.place (left + 1) c.args.pages
+    (chunks_from (left + 1) (c.args.pages - (left + 1)) c.args.out.now)) =
     (λ i. drop (4096 * (sym one i)) c.pages.out)
     ∙ old.made
-    ∙ (λ i. joined (pages_from c.args.place (one i) c.args.pages (chunks_from (one i) (c.args.pages - one i) c.args.out.now))) in
+    ∙ (λ i. joined (pages_from c.args.place (one i) c.args.pages
+    (chunks_from (one i) (c.args.pages - one i) c.args.out.now))) in
     record {
       within = omega arith;
       long = sealed_length c.args.place left c.args.pages chunk c.seal_chunk.new.out c.pages.out (omega arith)

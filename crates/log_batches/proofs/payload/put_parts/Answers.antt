@@ -28,4 +28,10 @@ put_number-at-requires-2 c =
 pub put_matrix-requires : goal.put_matrix-requires
 put_matrix-requires c =
     let n = length-batch (submission c.args.client c.args.number c.args.m.now) in
-    omega (arith, c.put_number-at.ensures.place, c.put_number-at.ensures.len, c.put_number-at-2.ensures.place, c.put_number-at-2.ensures.len)
+    omega (
+      arith,
+      c.put_number-at.ensures.place,
+      c.put_number-at.ensures.len,
+      c.put_number-at-2.ensures.place,
+      c.put_number-at-2.ensures.len,
+    )

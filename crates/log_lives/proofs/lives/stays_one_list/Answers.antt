@@ -8,7 +8,8 @@ pub returns-clause-distinct : goal.returns-clause-distinct
 returns-clause-distinct c limit most es w r = (run_keeps limit most es w r).distinct
 
 pub returns-clause-acknowledged : goal.returns-clause-acknowledged
-returns-clause-acknowledged c limit most es w a r among = answer_known limit most w a (run_keeps limit most es w r) among
+returns-clause-acknowledged c limit most es w a r among =
+    answer_known limit most w a (run_keeps limit most es w r) among
 
 pub returns-clause-taken : goal.returns-clause-taken
 returns-clause-taken c limit most es w s l r o = outcome_taken w s l (run_keeps limit most es w r) o

@@ -88,7 +88,8 @@ returns-clause-ok g c = λ s m k h.
     (sym (c.in_ok-repeated.ensures.told (entries_of (values c.args.list.now.batches.items)) c.requires.pairs) ∙
     c.in_ok-refuse.ensures.ok))) in
     let is = progress_is c.args.front.now.head c.args.front.now.past.base.counts c.args.front.now.past.folded.items
-    (values c.args.list.now.batches.items) c.args.list.now.tally.counted c.in_ok-client.client c.in_ok-client.number x.0 c.in_ok-matrix.matrix
+    (values c.args.list.now.batches.items) c.args.list.now.tally.counted c.in_ok-client.client c.in_ok-client.number x.0
+    c.in_ok-matrix.matrix
     (values c.push_batch.new.batches.items) c.read_entries.new.tally.counted x.1 x.2 c.in_ok-push_batch.ensures.ok in
     subst (λ (q : Progress). HasJudged {S = g.row.R.Denot} g.R.Source.read_gives g.R.Source.failure_count m s
     c.read_entries.new.r c.read_entries.new.reader (k q)) is x.3
@@ -114,8 +115,10 @@ returns-clause-pairs g c =
     let more = submission c.in_ok-client.client c.in_ok-client.number c.in_ok-matrix.matrix in
     let old = values c.args.list.now.batches.items in
     subst (λ (es : List Entry). HasPairs c.note_batch.new.pairs es)
-    (sym (ap (λ (l : List Submission). entries_of l) c.in_ok-push_batch.ensures.ok ∙ map-append entry_of old (more ∷ [])))
-    (c.in_ok-repeated.ensures.noted c.in_ok-refuse.ensures.ok (entries_of old) (entry_of more) c.requires.pairs refl refl)
+    (sym (ap (λ (l : List Submission). entries_of l) c.in_ok-push_batch.ensures.ok
+    ∙ map-append entry_of old (more ∷ [])))
+    (c.in_ok-repeated.ensures.noted c.in_ok-refuse.ensures.ok (entries_of old) (entry_of more) c.requires.pairs refl
+    refl)
 
 pub returns-clause-counted : goal.returns-clause-counted
 returns-clause-counted g c = c.in_ok-matrix.ensures.counted

@@ -31,7 +31,8 @@ returns-in_err-read_cells-clause-err g c =
     c.in_err-read_cells.ensures.err s m x.0 _
     (λ t. behind_cells c.args.head.now c.args.most (c.runs.left - c.min-run.result) t k b)
     (run_begun {S = g.row.R.Denot} g.R.Source.read_gives g.R.Source.failure_count m s c.runs.r c.runs.reader
-    c.args.head.now c.args.most k c.runs.left c.min-run.result (c.runs.left - c.min-run.result) x.0 c.clear.new.self.items
+    c.args.head.now c.args.most k c.runs.left c.min-run.result (c.runs.left - c.min-run.result) x.0
+    c.clear.new.self.items
     c.runs.tally.least_row c.runs.tally.least_col c.runs.tally.counted parts c.clear.ensures.items x.2))
 
 pub returns-in_err-m-clause-err : goal.returns-in_err-m-clause-err
@@ -44,7 +45,8 @@ returns-in_err-m-clause-err g c =
     (g.R.Source.at_end c.read_cells.new.r) m s c.read_cells.new.r c.read_cells.new.reader _
     (c.in_ok-read_cells.ensures.ok s m x.0 _
     (run_begun {S = g.row.R.Denot} g.R.Source.read_gives g.R.Source.failure_count m s c.runs.r c.runs.reader
-    c.args.head.now c.args.most k c.runs.left c.min-run.result (c.runs.left - c.min-run.result) x.0 c.clear.new.self.items
+    c.args.head.now c.args.most k c.runs.left c.min-run.result (c.runs.left - c.min-run.result) x.0
+    c.clear.new.self.items
     c.runs.tally.least_row c.runs.tally.least_col c.runs.tally.counted parts c.clear.ensures.items x.2))
     (behind_cells c.args.head.now c.args.most (c.runs.left - c.min-run.result) _ k b))
 

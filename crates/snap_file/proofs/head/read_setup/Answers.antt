@@ -122,7 +122,8 @@ returns-in_err-limit-clause-err g c =
 
 pub returns-in_err-max_batches-clause-err : goal.returns-in_err-max_batches-clause-err
 returns-in_err-max_batches-clause-err g c =
-    let p = err_from_is_err_and c.from_residual-in_err-max_batches.result c.from_residual-in_err-max_batches.ensures.1 in
+    let p = err_from_is_err_and c.from_residual-in_err-max_batches.result c.from_residual-in_err-max_batches.ensures.1
+    in
     rw (p.1, p.2) (λ s m k h.
     c.in_err-max_batches.ensures.err s m _ (c.in_ok-limit.ensures.ok s m _ (c.in_ok-shards.ensures.ok s m _
     (c.in_ok-cuts.ensures.ok s m _ (c.in_ok-cut_count.ensures.ok s m _ (c.in_ok-cols.ensures.ok s m _

@@ -37,7 +37,8 @@ returns-in_err-refuse-clause-err g c =
     let p = err_from_is_err_and c.from_residual-in_err-refuse.result c.from_residual-in_err-refuse.ensures.1 in
     rw (p.1, p.2, c.in_err-refuse.ensures.err.0) (λ s m k b h.
     stops_refused {S = g.row.R.Denot} g.R.Source.read_gives g.R.Source.failure_count
-    (g.R.Source.at_end c.next_u64.new.r) m s c.next_u64.new.r c.next_u64.new.self _ BadBatch _ (c.in_ok-count.ensures.ok s m _ h)
+    (g.R.Source.at_end c.next_u64.new.r) m s c.next_u64.new.r c.next_u64.new.self _ BadBatch _
+    (c.in_ok-count.ensures.ok s m _ h)
     (ap (λ (l : List Entry). (length l == 0) && not (c.in_ok-count.count == 0)) (sym c.deref.ensures.value)
     ∙ sym c.is_unfounded-unfounded.ensures ∙ c.in_err-refuse.ensures.err.1) batch_judged)
 
@@ -48,7 +49,8 @@ returns-in_err-m-clause-err g c =
     rw (p.1, p.2) (λ s m k b h.
     c.in_err-m.ensures.err s m (judged_sum c.args.past.now k) (λ t. behind_sum _ _ (b _))
     (subst (λ (n : ℕ). HasJudged {S = g.row.R.Denot} g.R.Source.read_gives g.R.Source.failure_count m s c.next_u64.new.r
-    c.next_u64.new.self (cells_behind c.args.head.now c.args.past.now.counted c.in_ok-count.count (no_cells n) (judged_sum c.args.past.now k)))
+    c.next_u64.new.self (cells_behind c.args.head.now c.args.past.now.counted c.in_ok-count.count (no_cells n)
+    (judged_sum c.args.past.now k)))
     (sym c.new-tally.ensures)
     (read_passed {S = g.row.R.Denot} g.R.Source.read_gives g.R.Source.failure_count m s c.next_u64.new.r
     c.next_u64.new.self _ BadBatch _ (c.in_ok-count.ensures.ok s m _ h)
@@ -62,7 +64,8 @@ returns-in_err-refuse-2-clause-err g c =
     rw (p.1, p.2, c.in_err-refuse-2.ensures.err.0) (λ s m k b h.
     let x = c.in_ok-m.ensures.ok s m (judged_sum c.args.past.now k)
     (subst (λ (n : ℕ). HasJudged {S = g.row.R.Denot} g.R.Source.read_gives g.R.Source.failure_count m s c.next_u64.new.r
-    c.next_u64.new.self (cells_behind c.args.head.now c.args.past.now.counted c.in_ok-count.count (no_cells n) (judged_sum c.args.past.now k)))
+    c.next_u64.new.self (cells_behind c.args.head.now c.args.past.now.counted c.in_ok-count.count (no_cells n)
+    (judged_sum c.args.past.now k)))
     (sym c.new-tally.ensures)
     (read_passed {S = g.row.R.Denot} g.R.Source.read_gives g.R.Source.failure_count m s c.next_u64.new.r
     c.next_u64.new.self _ BadBatch _ (c.in_ok-count.ensures.ok s m _ h)
@@ -77,7 +80,8 @@ unfolding base
 returns-clause-ok g c = λ s m k h.
     let x = c.in_ok-m.ensures.ok s m (judged_sum c.args.past.now k)
     (subst (λ (n : ℕ). HasJudged {S = g.row.R.Denot} g.R.Source.read_gives g.R.Source.failure_count m s c.next_u64.new.r
-    c.next_u64.new.self (cells_behind c.args.head.now c.args.past.now.counted c.in_ok-count.count (no_cells n) (judged_sum c.args.past.now k)))
+    c.next_u64.new.self (cells_behind c.args.head.now c.args.past.now.counted c.in_ok-count.count (no_cells n)
+    (judged_sum c.args.past.now k)))
     (sym c.new-tally.ensures)
     (read_passed {S = g.row.R.Denot} g.R.Source.read_gives g.R.Source.failure_count m s c.next_u64.new.r
     c.next_u64.new.self _ BadBatch _ (c.in_ok-count.ensures.ok s m _ h)
@@ -88,5 +92,6 @@ returns-clause-ok g c = λ s m k h.
       state = accepted n c.args.past.now.folded.items [];
       counted = c.args.past.now.counted;
     } in y))) (sym (ap (λ (y : Matrix). y.counts) x.1))
-    (read_passed {S = g.row.R.Denot} g.R.Source.read_gives g.R.Source.failure_count m s c.read_entries.new.r c.read_entries.new.reader _ TotalDiffers _ x.3
+    (read_passed {S = g.row.R.Denot} g.R.Source.read_gives g.R.Source.failure_count m s c.read_entries.new.r
+    c.read_entries.new.reader _ TotalDiffers _ x.3
     (ap (λ (n : ℕ). not (n == c.args.past.now.counted)) x.2 ∙ c.in_ok-refuse-2.ensures.ok))

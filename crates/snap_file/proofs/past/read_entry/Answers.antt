@@ -44,7 +44,8 @@ returns-in_err-refuse-clause-err g c =
     stops_refused {S = g.row.R.Denot} g.R.Source.read_gives g.R.Source.failure_count
     (g.R.Source.at_end c.next_pair.new.r) m s c.next_pair.new.r c.next_pair.new.self _ RepeatedNumber _
     (c.in_ok-client.ensures.ok s m _ h)
-    (sym (c.in_ok-repeated.ensures.told c.args.past.now.folded.items c.requires.pairs) ∙ c.in_err-refuse.ensures.err.1) repeat_judged)
+    (sym (c.in_ok-repeated.ensures.told c.args.past.now.folded.items c.requires.pairs) ∙ c.in_err-refuse.ensures.err.1)
+    repeat_judged)
 
 pub returns-in_err-cells-clause-err : goal.returns-in_err-cells-clause-err
 unfolding entry

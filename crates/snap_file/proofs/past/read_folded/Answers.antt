@@ -43,5 +43,6 @@ loop-i-preserved g c =
 pub returns-clause-ok : goal.returns-clause-ok
 returns-clause-ok g c = λ s m k h.
     let none : c.args.count - c.loop-i.i ≡ 0 = omega (arith, c.loop-i-test.false) in
-    entry_last {S = g.row.R.Denot} g.R.Source.read_gives g.R.Source.failure_count m s c.loop-i.r c.loop-i.reader c.args.head.now
+    entry_last {S = g.row.R.Denot} g.R.Source.read_gives g.R.Source.failure_count m s c.loop-i.r c.loop-i.reader
+    c.args.head.now
     k (c.args.count - c.loop-i.i) (progress_in c.loop-i.past) none (c.loop-i.invariant.read s m k h)

@@ -16,4 +16,5 @@ returns-in_err-past-clause-err g c =
 
 pub returns-clause-ok : goal.returns-clause-ok
 returns-clause-ok g c = λ s m k h.
-    c.in_ok-past.ensures.ok s m (k c.in_ok-head.head) (c.in_ok-head.ensures.ok s m (λ x. checked x.version (past x) (k x)) h)
+    c.in_ok-past.ensures.ok s m (k c.in_ok-head.head)
+    (c.in_ok-head.ensures.ok s m (λ x. checked x.version (past x) (k x)) h)

@@ -15,15 +15,18 @@ pub returns-in_err-count-clause-err : goal.returns-in_err-count-clause-err
 returns-in_err-count-clause-err g c =
     let p = err_from_is_err_and c.from_residual.result c.from_residual.ensures.1 in
     rw (p.1, p.2) (λ s m k b h.
-    c.in_err-count.ensures.err s m _ (folded_begins {S = g.row.R.Denot} g.R.Source.read_gives g.R.Source.failure_count m s c.args.r.now
+    c.in_err-count.ensures.err s m _ (folded_begins {S = g.row.R.Denot} g.R.Source.read_gives g.R.Source.failure_count m
+    s c.args.r.now
     c.args.reader.now c.args.head.now k _ c.requires.nothing h c.max_batches.result c.max_batches.ensures.value))
 
 pub returns-in_err-read_folded-clause-err : goal.returns-in_err-read_folded-clause-err
 returns-in_err-read_folded-clause-err g c =
-    let p = err_from_is_err_and c.from_residual-in_err-read_folded.result c.from_residual-in_err-read_folded.ensures.1 in
+    let p = err_from_is_err_and c.from_residual-in_err-read_folded.result c.from_residual-in_err-read_folded.ensures.1
+    in
     rw (p.1, p.2) (λ s m k b h.
     c.in_err-read_folded.ensures.err s m _ (λ q. behind_base c.args.head.now q k b)
-    (c.in_ok-count.ensures.ok s m _ (folded_begins {S = g.row.R.Denot} g.R.Source.read_gives g.R.Source.failure_count m s c.args.r.now
+    (c.in_ok-count.ensures.ok s m _ (folded_begins {S = g.row.R.Denot} g.R.Source.read_gives g.R.Source.failure_count m
+    s c.args.r.now
     c.args.reader.now c.args.head.now k _ c.requires.nothing h c.max_batches.result c.max_batches.ensures.value)))
 
 pub returns-in_err-past-clause-err : goal.returns-in_err-past-clause-err
@@ -31,11 +34,13 @@ returns-in_err-past-clause-err g c =
     let p = err_from_is_err_and c.from_residual-in_err-past.result c.from_residual-in_err-past.ensures.1 in
     rw (p.1, p.2) (λ s m k b h.
     c.in_err-past.ensures.err s m k b (c.in_ok-read_folded.ensures.ok s m _
-    (c.in_ok-count.ensures.ok s m _ (folded_begins {S = g.row.R.Denot} g.R.Source.read_gives g.R.Source.failure_count m s c.args.r.now
+    (c.in_ok-count.ensures.ok s m _ (folded_begins {S = g.row.R.Denot} g.R.Source.read_gives g.R.Source.failure_count m
+    s c.args.r.now
     c.args.reader.now c.args.head.now k _ c.requires.nothing h c.max_batches.result c.max_batches.ensures.value))))
 
 pub returns-clause-ok : goal.returns-clause-ok
 returns-clause-ok g c = λ s m k h.
     c.in_ok-past.ensures.ok s m k (c.in_ok-read_folded.ensures.ok s m _
-    (c.in_ok-count.ensures.ok s m _ (folded_begins {S = g.row.R.Denot} g.R.Source.read_gives g.R.Source.failure_count m s c.args.r.now
+    (c.in_ok-count.ensures.ok s m _ (folded_begins {S = g.row.R.Denot} g.R.Source.read_gives g.R.Source.failure_count m
+    s c.args.r.now
     c.args.reader.now c.args.head.now k _ c.requires.nothing h c.max_batches.result c.max_batches.ensures.value)))

@@ -15,7 +15,13 @@ read_into-requires-clause-nothing g c = λ i. record {
 
 pub returns-then-head-eq-OLD_VERSION-clause-ok : goal.returns-then-head-eq-OLD_VERSION-clause-ok
 returns-then-head-eq-OLD_VERSION-clause-ok g c = λ s m k h.
-    let begun : progress_in (record { base = c.new.result; folded = c.new-2.result; pairs = c.new-3.result; counted = 0 })
+    let begun : progress_in (record {
+      base = c.new.result;
+      folded = c.new-2.result;
+      pairs = c.new-3.result;
+      counted =
+          0;
+    })
     ≡ nothing_yet = (λ i. record {
       state = accepted (ap (λ (v : Matrix). v.counts) c.new.ensures i) (c.new-2.ensures.items i) [];
       counted = 0;
@@ -27,10 +33,12 @@ pub returns-in_err-read_into-clause-err : goal.returns-in_err-read_into-clause-e
 returns-in_err-read_into-clause-err g c =
     let p = err_from_is_err_and c.from_residual.result c.from_residual.ensures.1 in
     rw (p.1, p.2) (λ s m k b h.
-    c.in_err-read_into.ensures.err s m k b (past_new {S = g.row.R.Denot} g.R.Source.read_gives g.R.Source.failure_count m s c.args.r.now
+    c.in_err-read_into.ensures.err s m k b (past_new {S = g.row.R.Denot} g.R.Source.read_gives g.R.Source.failure_count
+    m s c.args.r.now
     c.args.reader.now c.args.head.now k h c.if-head-eq-OLD_VERSION.false))
 
 pub returns-clause-ok : goal.returns-clause-ok
 returns-clause-ok g c = λ s m k h.
-    c.in_ok-read_into.ensures.ok s m k (past_new {S = g.row.R.Denot} g.R.Source.read_gives g.R.Source.failure_count m s c.args.r.now
+    c.in_ok-read_into.ensures.ok s m k (past_new {S = g.row.R.Denot} g.R.Source.read_gives g.R.Source.failure_count m s
+    c.args.r.now
     c.args.reader.now c.args.head.now k h c.if-head-eq-OLD_VERSION.false)

@@ -34,7 +34,8 @@ returns-in_err-base-clause-err g c =
     let p = err_from_is_err_and c.from_residual-in_err-base.result c.from_residual-in_err-base.ensures.1 in
     rw (p.1, p.2, c.in_err-base.ensures.err)
     (stops_memory {S = g.row.R.Denot} g.R.Source.read_gives g.R.Source.failure_count
-    (g.R.Source.at_end c.read_batches.new.r) (snapshot_task c.args.reader.now.max_bytes) c.args.r.now c.read_batches.new.r
+    (g.R.Source.at_end c.read_batches.new.r) (snapshot_task c.args.reader.now.max_bytes) c.args.r.now
+    c.read_batches.new.r
     c.read_batches.new.reader _
     (c.in_ok-batches.ensures.ok c.args.r.now (snapshot_task c.args.reader.now.max_bytes)
     (c.in_ok-head.ensures.ok c.args.r.now (snapshot_task c.args.reader.now.max_bytes) rest_of
@@ -63,7 +64,8 @@ invariant_of-list g c =
     (c.in_ok-batches.ensures.ok c.args.r.now (snapshot_task c.args.reader.now.max_bytes)
     (c.in_ok-head.ensures.ok c.args.r.now (snapshot_task c.args.reader.now.max_bytes) rest_of
     (read_begun {S = g.row.R.Denot} g.R.Source.read_gives g.R.Source.failure_count c.args.reader.now.max_bytes
-    c.args.r.now c.args.reader.now c.requires.pending c.requires.taken c.requires.remainder refl)))).snapshot.kept.accepted.based
+    c.args.r.now c.args.reader.now c.requires.pending c.requires.taken c.requires.remainder
+    refl)))).snapshot.kept.accepted.based
 
 pub invariant_of-result : goal.invariant_of-result
 invariant_of-result g c = record {

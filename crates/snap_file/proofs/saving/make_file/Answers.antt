@@ -16,7 +16,8 @@ returns-in-Err-clause-kept g c =
     let begun = told_map _ _ (made_holds c.args.name.now) (g.F.Folder.files c.args.f.now)
     (g.F.Folder.files c.create.new.self) made in
     stopped_keeps g.F.Folder.write_takes g.F.Folder.files g.F.Folder.last_created g.met.F.Folder.write_appends
-    g.F.Folder.failure_count c.args.name.now (file c.args.setup.now (accepted_in c.args.list.now)) c.in-Err.fault.written
+    g.F.Folder.failure_count c.args.name.now (file c.args.setup.now (accepted_in c.args.list.now))
+    c.in-Err.fault.written
     (g.F.Folder.files c.args.f.now) c.create.new.self c.write_new.new.f c.in-Err.ensures.err created begun
 
 pub sync-requires-clause-created : goal.sync-requires-clause-created

@@ -8,6 +8,7 @@ loop-cut-preserved c = record {
   taken = search rules;
   pending = first_of (search rules, grind (arith, common_steps));
   count = first_of (search rules, grind (arith, common_steps));
-  summed = λ r h. summed_more r _ _ c.loop-cut.writer.pending _ _ c.push_u64.ensures.pending c.push_u64.ensures.remainder
+  summed = λ r h. summed_more r _ _ c.loop-cut.writer.pending _ _ c.push_u64.ensures.pending
+      c.push_u64.ensures.remainder
       (c.loop-cut.invariant.summed r h);
 }

@@ -9,6 +9,7 @@ returns-in_err-make_room-clause-err g c =
 
 pub returns-clause-ok : goal.returns-clause-ok
 returns-clause-ok g c = λ s all front left whole h.
-    writing_check _ _ s _ all front left c.make_room.new.self c.push_u32.new.self c.sum-sum.result c.sum-sum.ensures whole
+    writing_check _ _ s _ all front left c.make_room.new.self c.push_u32.new.self c.sum-sum.result c.sum-sum.ensures
+    whole
     (c.in_ok-make_room.ensures.ok s all _ h) c.push_u32.ensures.taken c.push_u32.ensures.pending
     c.push_u32.ensures.remainder

@@ -28,7 +28,12 @@ returns-in_err-write_entry-clause-err g c =
     c.in_err-write_entry.ensures.err s all _ (c.loop-entry.invariant.written s all left h))
 
 pub returns-clause-count : goal.returns-clause-count
-returns-clause-count g c = omega (arith, c.loop-entry.invariant.counted, c.loop-entry.auto.entry-index-end, c.requires.few)
+returns-clause-count g c = omega (
+  arith,
+  c.loop-entry.invariant.counted,
+  c.loop-entry.auto.entry-index-end,
+  c.requires.few,
+)
 
 pub returns-clause-ok : goal.returns-clause-ok
 returns-clause-ok g c = λ s all left h.

@@ -67,7 +67,8 @@ loop-batch-init g c =
       written = batches_begun _ _ c.args.w.now _ c.args.setup.now a _
           (c.in_ok-write_checked_past.ensures.ok c.args.w.now _ (front_of c.args.setup.now a)
           (batches_of c.args.setup.now a) (past_left c.args.setup.now a)
-          (c.in_ok-write_check.ensures.ok c.args.w.now _ (head_of c.args.setup.now a) (past_of c.args.setup.now a ++ batches_of c.args.setup.now a)
+          (c.in_ok-write_check.ensures.ok c.args.w.now _ (head_of c.args.setup.now a)
+          (past_of c.args.setup.now a ++ batches_of c.args.setup.now a)
           (head_left c.args.setup.now a) begun));
     }
 
@@ -112,7 +113,8 @@ returns-in_err-write_checked_past-clause-err g c =
     (c.new-writer.ensures.remainder ∙ ap (after_bytes all_ones) (sym c.new-writer.ensures.pending))) in
     rw (p.1, p.2) (c.in_err-write_checked_past.ensures.err c.args.w.now _ (front_of c.args.setup.now a)
     (batches_of c.args.setup.now a)
-    (c.in_ok-write_check.ensures.ok c.args.w.now _ (head_of c.args.setup.now a) (past_of c.args.setup.now a ++ batches_of c.args.setup.now a)
+    (c.in_ok-write_check.ensures.ok c.args.w.now _ (head_of c.args.setup.now a)
+    (past_of c.args.setup.now a ++ batches_of c.args.setup.now a)
     (head_left c.args.setup.now a) begun))
 
 pub total_of-requires : goal.total_of-requires
@@ -173,7 +175,8 @@ write_check-requires g c = record {
 }
 
 pub write_checked_past-requires-clause-failures : goal.write_checked_past-requires-clause-failures
-write_checked_past-requires-clause-failures g c = omega (arith, c.requires.failures, c.in_ok-write_check.ensures.failures)
+write_checked_past-requires-clause-failures g c =
+    omega (arith, c.requires.failures, c.in_ok-write_check.ensures.failures)
 
 pub write_checked_past-requires-clause-countable : goal.write_checked_past-requires-clause-countable
 write_checked_past-requires-clause-countable g c =

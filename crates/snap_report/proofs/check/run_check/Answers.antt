@@ -20,8 +20,10 @@ returns-clause-output g c fault is = (
 )
 
 pub returns-clause-told : goal.returns-clause-told
-returns-clause-told g c = all_later_told g.F.SnapshotFile.load_gives c.args.file.now c.load.new.self c.write_check.result
+returns-clause-told g c = all_later_told g.F.SnapshotFile.load_gives c.args.file.now c.load.new.self
+    c.write_check.result
     (saved c.snapshot.inside.setup c.snapshot.inside.list)
-    (has_loaded g.F.SnapshotFile.load_gives c.args.file.now c.load.new.self c.snapshot.inside.setup c.snapshot.inside.list
+    (has_loaded g.F.SnapshotFile.load_gives c.args.file.now c.load.new.self c.snapshot.inside.setup
+    c.snapshot.inside.list
     c.in_ok-snapshot.snapshot c.snapshot.view_is c.in_ok-snapshot.ensures.answer c.snapshot.invariant.kept.accepted)
     c.write_check.ensures.later

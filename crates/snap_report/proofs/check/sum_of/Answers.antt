@@ -43,7 +43,8 @@ with_batch-requires-clause-cols c =
 
 pub with_batch-requires-clause-fits : goal.with_batch-requires-clause-fits
 with_batch-requires-clause-fits c =
-    sum_fits c.args.base.now.counts c.args.batches.now c.loop-batch.batch-index c.batch-item.result c.deref.result.now c.loop-batch-test.true
+    sum_fits c.args.base.now.counts c.args.batches.now c.loop-batch.batch-index c.batch-item.result c.deref.result.now
+    c.loop-batch-test.true
     c.batch-item.is c.deref.ensures
     c.loop-batch.layers.counts c.loop-batch.invariant.sum c.requires.fits
 
@@ -51,7 +52,8 @@ pub loop-batch-preserved : goal.loop-batch-preserved
 loop-batch-preserved c = record {
   rows = c.in_ok-layers-2.ensures.dims.0 ∙ c.loop-batch.invariant.rows;
   cols = c.in_ok-layers-2.ensures.dims.1 ∙ c.loop-batch.invariant.cols;
-  sum = sum_more c.args.base.now.counts c.args.batches.now c.loop-batch.batch-index c.batch-item.result c.deref.result.now
+  sum = sum_more c.args.base.now.counts c.args.batches.now c.loop-batch.batch-index c.batch-item.result
+      c.deref.result.now
       c.loop-batch-test.true c.batch-item.is c.deref.ensures
       c.loop-batch.layers.counts c.in_ok-layers-2.layers.counts c.loop-batch.invariant.sum c.in_ok-layers-2.ensures.sum;
 }

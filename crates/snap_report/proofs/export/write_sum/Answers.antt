@@ -23,7 +23,8 @@ pub returns-clause-output : goal.returns-clause-output
 returns-clause-output g c fault is =
     let same : c.in-Err-write_matrix.fault ≡ fault = cc in
     subst (λ (f : WriteFault). HasStopped g.W.Sink.write_takes g.W.Sink.failure_count c.args.w.now
-    c.write_matrix.new.w (accepted_text c.args.setup.now (accepted c.args.base.now.counts [] (values c.args.batches.now))) f.written) same
+    c.write_matrix.new.w (accepted_text c.args.setup.now
+    (accepted c.args.base.now.counts [] (values c.args.batches.now))) f.written) same
     (subst (λ (text : List ℕ). HasStopped g.W.Sink.write_takes g.W.Sink.failure_count c.args.w.now
     c.write_matrix.new.w text c.in-Err-write_matrix.fault.written)
     (ap (λ n. canonical n c.cols.result c.deref.result.now) c.rows.ensures.value

@@ -11,7 +11,8 @@ use Rattle.wire_proto.proofs.answering.answer_export.Goals as goal
 
 pub returns-in_default-clause-err : goal.returns-in_default-clause-err
 returns-in_default-clause-err g c = λ kept rest h.
-    let none : RunsOut g.K.Keeper.gives (g.K.Keeper.setup_of c.args.keeper.now) Export c.args.keeper.now c.export.new.self =
+    let none : RunsOut g.K.Keeper.gives (g.K.Keeper.setup_of c.args.keeper.now) Export c.args.keeper.now
+    c.export.new.self =
     in_call _ (_, refl) c.in_default.ensures.gives refl in
     let lacks = asked _ rest h none in
     closes_ends _ _ _ _ kept _ _ _ _ _ _ _ _ c.close.ensures (lacks, c.refused.ensures) (out lacks c.refused.ensures)
@@ -30,7 +31,8 @@ returns-in-Ok-send_sum-clause-err g c =
 
 pub returns-clause-err : goal.returns-clause-err
 returns-clause-err g c = λ kept rest h.
-    let none : RunsOut g.K.Keeper.gives (g.K.Keeper.setup_of c.args.keeper.now) Export c.args.keeper.now c.export.new.self =
+    let none : RunsOut g.K.Keeper.gives (g.K.Keeper.setup_of c.args.keeper.now) Export c.args.keeper.now
+    c.export.new.self =
     in_call (export (Err c.in-Err.field-0)) (Err c.in-Err.field-0, refl)
     (g.met.K.Keeper.may_lack c.args.keeper.now c.export.new.self c.in-Ok.sum c.in-Err.field-0 c.in-Ok.ensures.gives)
     refl in

@@ -17,7 +17,8 @@ loop-cell-init c =
       finite = tt;
       rows = c.dims-rows.ensures.rows;
       cols = c.dims-rows.ensures.cols;
-      within = subst (LieWithin c.args.sum.now.rows c.args.sum.now.cols) (sym c.into_iter-cell-iterator.ensures.into_iter_gives)
+      within = subst (LieWithin c.args.sum.now.rows c.args.sum.now.cols)
+          (sym c.into_iter-cell-iterator.ensures.into_iter_gives)
           c.requires.within;
       bound = omega arith;
       few = omega arith;

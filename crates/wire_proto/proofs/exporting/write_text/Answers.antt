@@ -50,7 +50,8 @@ loop-cell-preserved g c =
       written = (
         old.written.0 ++ entry_line c.in-Some.cell,
         c.in_ok-write_cell.ensures.ok c.args.w.now old.written.0 old.written.1,
-        line_next old.written.0 _ (entries c.loop-cell.cell-iterator) (entries c.next.new.self) c.in-Some.cell step old.written.2,
+        line_next old.written.0 _ (entries c.loop-cell.cell-iterator) (entries c.next.new.self) c.in-Some.cell step
+            old.written.2,
       );
     }
 
@@ -61,7 +62,8 @@ returns-in_err-write_cell-clause-err g c =
     rw (p.1, p.2)
     (subst (λ (text : List ℕ). HasStopped g.W.Sink.write_takes g.W.Sink.failure_count c.args.w.now c.write_cell.new.w
     text c.in_err-write_cell.field-0.0.written)
-    (line_next old.0 _ (entries c.loop-cell.cell-iterator) (entries c.next.new.self) c.in-Some.cell c.in-Some.ensures.steps old.2)
+    (line_next old.0 _ (entries c.loop-cell.cell-iterator) (entries c.next.new.self) c.in-Some.cell
+    c.in-Some.ensures.steps old.2)
     (has_stopped_longer _ _ c.args.w.now c.write_cell.new.w (old.0 ++ entry_line c.in-Some.cell)
     (entry_lines (map cell_of (entries c.next.new.self))) _
     (c.in_err-write_cell.ensures.err c.args.w.now old.0 old.1)))

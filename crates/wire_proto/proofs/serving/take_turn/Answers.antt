@@ -20,7 +20,8 @@ returns-in-Ok-eq0-clause-err g c = λ l0 s0 turns most st. (
 
 pub returns-in-Ok-clause-ok : goal.returns-in-Ok-clause-ok
 returns-in-Ok-clause-ok g c =
-    let some : 0 < length c.read_piece.new.buffer = let t = c.in-Ok.count-test.1 in omega (arith, c.in-Ok.ensures.count) in
+    let some : 0 < length c.read_piece.new.buffer =
+    let t = c.in-Ok.count-test.1 in omega (arith, c.in-Ok.ensures.count) in
     carries_turn _ _ _ _ _ _ _ _ _ _ _ _ _ _ _ some c.in-Ok.ensures.gives c.in-Ok.ensures.ok
     (subst (λ v. IfOk c.take_piece-answered.result
     (λ w. Carries g.L.Source.read_gives g.L.Sink.write_takes g.L.Sink.failure_count g.K.Keeper.gives
@@ -30,7 +31,8 @@ returns-in-Ok-clause-ok g c =
 
 pub returns-in-Ok-clause-err : goal.returns-in-Ok-clause-err
 returns-in-Ok-clause-err g c =
-    let some : 0 < length c.read_piece.new.buffer = let t = c.in-Ok.count-test.1 in omega (arith, c.in-Ok.ensures.count) in
+    let some : 0 < length c.read_piece.new.buffer =
+    let t = c.in-Ok.count-test.1 in omega (arith, c.in-Ok.ensures.count) in
     ends_turn g.L.Source.read_gives g.L.Sink.write_takes g.L.Sink.failure_count
     g.K.Keeper.gives (g.K.Keeper.setup_of c.args.keeper.now) g.L.Source.at_end
     c.args.link.now c.read_piece.new.link c.take_piece-answered.new.link c.args.keeper.now

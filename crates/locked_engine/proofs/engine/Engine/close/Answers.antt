@@ -52,14 +52,16 @@ returns-clause-differ g c = λ shards book e.
 pub returns-in-Ok-clause-shown : goal.returns-in-Ok-clause-shown
 returns-in-Ok-clause-shown g c =
     subst (λ (e : Standing). AreShown c.args.seats.items (entries_in e.book.state)) (sym c.in-Ok.ensures.ok)
-    (shown_later c.args.seats.items c.gather-first.result.2 (entries_in c.end-book.result.0.state) c.end-book.ensures.shown
+    (shown_later c.args.seats.items c.gather-first.result.2 (entries_in c.end-book.result.0.state)
+    c.end-book.ensures.shown
     c.gather-first.ensures.shown)
 
 pub returns-clause-shown_apart : goal.returns-clause-shown_apart
 returns-clause-shown_apart g c = λ shards book e.
     let same_book : c.end-book.result.0 ≡ book = cc (c.in-Err.ensures.err.0, e) in
     subst (λ (w : Register). AreShown c.args.seats.items (entries_in w.state)) same_book
-    (shown_later c.args.seats.items c.gather-first.result.2 (entries_in c.end-book.result.0.state) c.end-book.ensures.shown
+    (shown_later c.args.seats.items c.gather-first.result.2 (entries_in c.end-book.result.0.state)
+    c.end-book.ensures.shown
     c.gather-first.ensures.shown)
 
 pub returns-in-Ok-clause-opened : goal.returns-in-Ok-clause-opened

@@ -12,5 +12,6 @@ returns-in-Some g c =
 
 pub returns-in-None : goal.returns-in-None
 returns-in-None g c =
-    viewed_looked g.N.Named.setup g.N.Named.opened c.args.s c.look.result _ c.unwrap_or.result _ (λ x t q. subst (λ (y : Holding). IfOk t (λ w. w.layers ≡ layering_of y)) q.2 q.1) c.look.ensures
+    viewed_looked g.N.Named.setup g.N.Named.opened c.args.s c.look.result _ c.unwrap_or.result _
+    (λ x t q. subst (λ (y : Holding). IfOk t (λ w. w.layers ≡ layering_of y)) q.2 q.1) c.look.ensures
     c.unwrap_or.ensures

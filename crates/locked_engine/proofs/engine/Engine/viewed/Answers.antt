@@ -20,5 +20,6 @@ returns g c =
       seen.0,
       seen.1,
       seen.2,
-      sum_shown g.N.Named.setup c.self.inside.setup vs vs seen.0 c.new.result c.new.ensures c.self.invariant.0 refl seen.3,
+      sum_shown g.N.Named.setup c.self.inside.setup vs vs seen.0 c.new.result c.new.ensures c.self.invariant.0 refl
+          seen.3,
     )

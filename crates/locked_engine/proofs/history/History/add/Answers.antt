@@ -42,7 +42,8 @@ invariant_of-self g c =
       more_status v opened (added_in old) (added_in c.compare_exchange.new.seen.log) e more c.self.inside.status
           c.self.invariant.0,
       omega (arith, c.self.invariant.1, ap length more, length-append (added_in old) (e ∷ [])),
-      more_is_version v opened (added_in old) (added_in c.compare_exchange.new.seen.log) e more c.self.invariant.2 fresh,
+      more_is_version v opened (added_in old) (added_in c.compare_exchange.new.seen.log) e more c.self.invariant.2
+          fresh,
       omega (arith, ap length log, length-append old (l ∷ [])),
       c.self.invariant.4,
       told.0 ∙ c.self.invariant.5,

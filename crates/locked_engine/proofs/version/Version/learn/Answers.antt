@@ -14,7 +14,8 @@ returns-then-self-other-clause-later g c =
     let theirs = added_in c.other.inside.seen.log in
     let both = added_in c.learn.new.self.log in
     let this : IsPrefix mine both = added_prefix c.self.inside.seen.log c.learn.new.self.log
-    (subst (λ (l : List Line). IsPrefix l c.learn.new.self.log) (ap (λ s. s.log) c.again-both.ensures) c.learn.ensures.2) in
+    (subst (λ (l : List Line). IsPrefix l c.learn.new.self.log) (ap (λ s. s.log) c.again-both.ensures)
+    c.learn.ensures.2) in
     let that : IsPrefix theirs both = added_prefix c.other.inside.seen.log c.learn.new.self.log c.learn.ensures.3 in
     let less : length mine ≤ length theirs = omega (arith, c.self.invariant.1, c.other.invariant.1) in
     rw (c.drop.view_is, c.again.ensures, ← c.self.view_is, ← c.other.view_is)
@@ -26,7 +27,8 @@ returns-clause-no_less g c =
     let theirs = added_in c.other.inside.seen.log in
     let both = added_in c.learn.new.self.log in
     let this : IsPrefix mine both = added_prefix c.self.inside.seen.log c.learn.new.self.log
-    (subst (λ (l : List Line). IsPrefix l c.learn.new.self.log) (ap (λ s. s.log) c.again-both.ensures) c.learn.ensures.2) in
+    (subst (λ (l : List Line). IsPrefix l c.learn.new.self.log) (ap (λ s. s.log) c.again-both.ensures)
+    c.learn.ensures.2) in
     let that : IsPrefix theirs both = added_prefix c.other.inside.seen.log c.learn.new.self.log c.learn.ensures.3 in
     let less : length theirs ≤ length mine = omega (arith, c.self.invariant.1, c.other.invariant.1) in
     rw (← c.self.view_is, ← c.other.view_is)

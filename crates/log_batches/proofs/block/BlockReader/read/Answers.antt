@@ -11,7 +11,8 @@ returns-in_err-list-clause-err c =
       | inl memory ↦ inl memory
       | inr bad ↦ inr (
         bad.0,
-        λ block list fills is holds. none_held c.self.inside.head.setup c.args.bytes.now bad.1 block list fills is holds,
+        λ block list fills is holds. none_held c.self.inside.head.setup c.args.bytes.now bad.1 block list fills is
+            holds,
       )
     ])
 
@@ -19,7 +20,8 @@ pub returns-then-not-is_filled-clause-err : goal.returns-then-not-is_filled-clau
 returns-then-not-is_filled-clause-err c = rw (← c.self.view_is) (inr (
   refl,
   λ block other fills is holds. not_filled c.self.inside.head c.self.invariant c.args.bytes.now
-      (values c.in_ok-list.list.items) c.in_ok-list.taken c.in_ok-list.ensures.ok (first_of (cc, search rules)) block other
+      (values c.in_ok-list.list.items) c.in_ok-list.taken c.in_ok-list.ensures.ok (first_of (cc, search rules)) block
+      other
       fills is holds,
 ))
 

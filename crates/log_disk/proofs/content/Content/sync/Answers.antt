@@ -22,4 +22,5 @@ returns-clause-time c =
     let old = c.args.self.now in
     let new = c.in_ok-durable.durable in
     let kept = c.in_ok-keep.ensures.ok in
-    elapses_to old.past.items c.keep.new.past.items old.durable.items old.written.items new.items old.written.items (kept.0, kept.1 ∙ c.deref-3.ensures.value, kept.2 ∙ c.deref-4.ensures.value, kept.3)
+    elapses_to old.past.items c.keep.new.past.items old.durable.items old.written.items new.items old.written.items
+    (kept.0, kept.1 ∙ c.deref-3.ensures.value, kept.2 ∙ c.deref-4.ensures.value, kept.3)

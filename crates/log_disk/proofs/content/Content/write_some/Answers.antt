@@ -20,11 +20,13 @@ returns-clause-crash c =
     let new = c.in_ok-written.written in
     let is : Holds c.args.at c.args.bytes.now old.written.items all.items = search rules in
     let between : Between old.written.items all.items new.items = search rules in
-    follows_some old.durable.items old.written.items new.items c.args.bytes.now c.args.at (mixed_some c.args.at c.args.bytes.now old.written.items all.items new.items is between)
+    follows_some old.durable.items old.written.items new.items c.args.bytes.now c.args.at
+    (mixed_some c.args.at c.args.bytes.now old.written.items all.items new.items is between)
 
 pub returns-clause-time : goal.returns-clause-time
 returns-clause-time c =
     let old = c.args.self.now in
     let new = c.in_ok-written.written in
     let kept = c.in_ok-keep.ensures.ok in
-    elapses_to old.past.items c.keep.new.past.items old.durable.items old.written.items old.durable.items new.items (kept.0, kept.1 ∙ c.deref-4.ensures.value, kept.2 ∙ c.deref-5.ensures.value, kept.3)
+    elapses_to old.past.items c.keep.new.past.items old.durable.items old.written.items old.durable.items new.items
+    (kept.0, kept.1 ∙ c.deref-4.ensures.value, kept.2 ∙ c.deref-5.ensures.value, kept.3)
