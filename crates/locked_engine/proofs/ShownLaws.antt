@@ -21,10 +21,11 @@ use Rattle.locked_engine.specs.Opened.{IsBased}
 use Rattle.locked_engine.specs.Shown.{Shown, shown, IsSightOf}
 
 -- what shows a shard with a batch more is of a shard
-pub next_shown : (v : Setting) (opened : Accepted) (n : ℕ) (a : Sight) (x : Holding) (b : Submission) → x.setup ≡ v →
-    n ≡ x.number → IsBased opened v.shards x →
+pub next_shown : (v : Setting) (opened : Accepted) (n : ℕ) (a : Sight) (x : Holding) (b : Submission) →
+    x.setup ≡ v → n ≡ x.number → IsBased opened v.shards x →
     AreHeld x.setup x.number (cascade x.layers x.setup.cuts (part_in x b)) x.base (x.record_list ++ b ∷ []) →
-    a.layers ≡ layering_with x b → a.record_len ≡ length x.record_list + 1 → (y : Holding) × IsSightOf v opened n a y
+    a.layers ≡ layering_with x b → a.record_len ≡ length x.record_list + 1 →
+    (y : Holding) × IsSightOf v opened n a y
 next_shown v opened n a x b setup number based held layers count =
     let list = x.record_list ++ b ∷ [] in (
       holding x.setup x.number (cascade x.layers x.setup.cuts (part_in x b)) x.base list 0,
@@ -46,9 +47,8 @@ module _ (v : Setting) (opened : Accepted) (n : ℕ) (w : Shown) (a : Sight) (vi
       let s = told.1 in
       let at : get (content x.layers) (row, col) ≡ Some k =
       ap (λ (l : Layering). get (content l.layers) (row, col)) (sym s.layers) ∙ sym is in
-      subst (λ (u : Shown). (y : Holding) × IsShardOf v opened u.number y ×
-      (get (content y.layers) (row, col) ≡ Some k)) view
-      (x, s.shard, at)
+      subst (λ (u : Shown). (y : Holding) × IsShardOf v opened u.number y
+      × (get (content y.layers) (row, col) ≡ Some k)) view (x, s.shard, at)
 
   pub shown_row : (row : ℕ) (r : RowSum) → r.entries ≡ len (row_of (content a.layers.layers) row) →
       r.total ≡ total (row_of (content a.layers.layers) row) →
@@ -59,11 +59,8 @@ module _ (v : Setting) (opened : Accepted) (n : ℕ) (w : Shown) (a : Sight) (vi
       let counted = entries ∙ ap (λ (l : Layering). len (row_of (content l.layers) row)) s.layers in
       let summed = sum ∙ ap (λ (l : Layering). total (row_of (content l.layers) row)) s.layers in
       let at : r ≡ row_sum_in x row = λ i. record { entries = counted i; total = summed i } in
-      subst (λ (u : Shown). (y : Holding) × IsShardOf v opened u.number y × (r ≡ row_sum_in y row)) view (
-        x,
-        s.shard,
-        at,
-      )
+      subst (λ (u : Shown). (y : Holding) × IsShardOf v opened u.number y × (r ≡ row_sum_in y row)) view
+      (x, s.shard, at)
 
   pub shown_sight : (x : Holding) × IsSightOf v opened w.number a x
   shown_sight = subst (λ (u : Shown). (x : Holding) × IsSightOf v opened u.number a x) view told

@@ -2,8 +2,7 @@
 --     Shown               a shard's number, and its layers and the length of its record at a moment
 --     IsSightOf v opened s a x
 --                         x is a shard of this setup with number s, as a shard keeps itself in an engine that was
--- opened
---                         with this, and these are its layers and the length of its record
+--                         opened with this, and these are its layers and the length of its record
 --     IsOf x a            this shows a shard as it is
 --     IsNext x p a        this shows a shard as it will be once what was prepared is committed
 use Rattle.std.specs.Prelude.{◌≡◌, ℕ, ◌+◌, length, refl}

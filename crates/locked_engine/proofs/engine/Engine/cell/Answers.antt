@@ -22,9 +22,8 @@ pub returns-in-None-clause-some : goal.returns-in-None-clause-some
 returns-in-None-clause-some g c =
     let v = g.N.Named.setup in
     let opened = g.N.Named.opened in
-    let place = ap (λ (k : ℕ). c.args.row % k) (c.shards.ensures.value
-    ∙ ap (λ (w : Setting). w.shards) c.self.invariant.0)
-    in
+    let place = ap (λ (k : ℕ). c.args.row % k)
+    (c.shards.ensures.value ∙ ap (λ (w : Setting). w.shards) c.self.invariant.0) in
     subst (λ (s : ℕ). IfSome c.flatten.result (λ n. (x : Holding) × IsShardOf v opened s x
     × (get (content x.layers) (c.args.row, c.args.col) ≡ Some n))) place
     (looked_cell v opened (c.args.row % c.shards.result) c.args.row c.args.col c.look.result c.flatten.result _

@@ -20,9 +20,8 @@ pub returns-in-None-clause-sum : goal.returns-in-None-clause-sum
 returns-in-None-clause-sum g c =
     let v = g.N.Named.setup in
     let opened = g.N.Named.opened in
-    let place = ap (λ (k : ℕ). c.args.row % k) (c.shards.ensures.value
-    ∙ ap (λ (w : Setting). w.shards) c.self.invariant.0)
-    in
+    let place = ap (λ (k : ℕ). c.args.row % k)
+    (c.shards.ensures.value ∙ ap (λ (w : Setting). w.shards) c.self.invariant.0) in
     subst (λ (s : ℕ). (c.unwrap_or.result ≡ no_sum) ⊎ ((x : Holding) × IsShardOf v opened s x
     × (c.unwrap_or.result ≡ row_sum_in x c.args.row))) place
     (looked_row v opened (c.args.row % c.shards.result) c.args.row c.look.result c.unwrap_or.result _
