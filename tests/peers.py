@@ -94,12 +94,15 @@ def frame_of(link):
     return head + (link.recv(length, socket.MSG_WAITALL) if length else b"")
 
 
-class Liar:
-    """Answers the first request on each connection with the same bytes, or not at all, and counts the connections."""
+class Peer:
+    """Listens at a Unix socket, and meets one connection after another as its kind does it. At its end all `links` that
+    it keeps are ended."""
 
-    def __init__(self, answer):
-        self.answer, self.count = answer, 0
-        self.path = os.path.join(server.FOLDER, "liar")
+    name = ""
+
+    def __init__(self):
+        self.links = []
+        self.path = os.path.join(server.FOLDER, self.name)
         with contextlib.suppress(FileNotFoundError):
             os.remove(self.path)
         self.listener = socket.socket(socket.AF_UNIX)
@@ -111,17 +114,34 @@ class Liar:
         return self
 
     def __exit__(self, *_):
-        end(self.listener)
+        for link in [self.listener, *self.links]:
+            end(link)
 
     def accept(self):
         with contextlib.suppress(OSError):
             while True:
-                with self.listener.accept()[0] as link:
-                    self.count += 1
-                    frame_of(link)
-                    if self.answer is not None:
-                        link.sendall(self.answer)
-                    link.recv(1)
+                self.meet(self.listener.accept()[0])
+
+    def meet(self, link):
+        raise NotImplementedError
+
+
+class Liar(Peer):
+    """Answers the first request on each connection with the same bytes, or not at all, and counts the connections."""
+
+    name = "liar"
+
+    def __init__(self, answer):
+        self.answer, self.count = answer, 0
+        super().__init__()
+
+    def meet(self, link):
+        with link:
+            self.count += 1
+            frame_of(link)
+            if self.answer is not None:
+                link.sendall(self.answer)
+            link.recv(1)
 
 
 def run(words, **how):
@@ -188,37 +208,27 @@ class Driver:
             late.cancel()
 
 
-class Gate:
+class Gate(Peer):
     """Forwards so many bytes of its first connection to a server; the rest, and each reply, wait until the event
     `is_open` is set. Further connections are forwarded as they are."""
 
-    def __init__(self, at, most):
-        self.at, self.most, self.links = at, most, []
-        self.is_open, self.is_full = threading.Event(), threading.Event()
-        self.path = os.path.join(server.FOLDER, "gate")
-        with contextlib.suppress(FileNotFoundError):
-            os.remove(self.path)
-        self.listener = socket.socket(socket.AF_UNIX)
-        self.listener.bind(self.path)
-        self.listener.listen(16)
-        threading.Thread(target=self.accept, daemon=True).start()
+    name = "gate"
 
-    def __enter__(self):
-        return self
+    def __init__(self, at, most):
+        self.at, self.most = at, most
+        self.is_open, self.is_full = threading.Event(), threading.Event()
+        super().__init__()
 
     def __exit__(self, *_):
         self.is_open.set()
-        for link in [self.listener, *self.links]:
-            end(link)
+        super().__exit__()
 
-    def accept(self):
-        with contextlib.suppress(OSError):
-            while True:
-                ours, theirs = self.listener.accept()[0], self.at.link()
-                most = None if self.links else self.most
-                self.links += [ours, theirs]
-                threading.Thread(target=self.forward, args=(ours, theirs, most), daemon=True).start()
-                threading.Thread(target=self.forward, args=(theirs, ours, most and 0), daemon=True).start()
+    def meet(self, link):
+        theirs = self.at.link()
+        most = None if self.links else self.most
+        self.links += [link, theirs]
+        threading.Thread(target=self.forward, args=(link, theirs, most), daemon=True).start()
+        threading.Thread(target=self.forward, args=(theirs, link, most and 0), daemon=True).start()
 
     def forward(self, source, target, most):
         with contextlib.suppress(OSError):
@@ -231,63 +241,37 @@ class Gate:
         end(target)
 
 
-class Sink:
+class Sink(Peer):
     """Reads all that comes over one connection after another, answers nothing, and counts the bytes of each."""
+
+    name = "sink"
 
     def __init__(self):
         self.counts = []
-        self.path = os.path.join(server.FOLDER, "sink")
-        with contextlib.suppress(FileNotFoundError):
-            os.remove(self.path)
-        self.listener = socket.socket(socket.AF_UNIX)
-        self.listener.bind(self.path)
-        self.listener.listen(16)
-        threading.Thread(target=self.accept, daemon=True).start()
+        super().__init__()
 
-    def __enter__(self):
-        return self
-
-    def __exit__(self, *_):
-        end(self.listener)
-
-    def accept(self):
-        with contextlib.suppress(OSError):
-            while True:
-                with self.listener.accept()[0] as link:
-                    self.counts.append(0)
-                    while more := link.recv(65536):
-                        self.counts[-1] += len(more)
+    def meet(self, link):
+        with link:
+            self.counts.append(0)
+            while more := link.recv(65536):
+                self.counts[-1] += len(more)
 
 
-class Slow:
+class Slow(Peer):
     """Accepts every put that it reads, one by one, its number for its place, and has next to no room for replies that
     aren't read. With `most` it reads nothing more over its first connection after so many."""
 
+    name = "slow"
+
     def __init__(self, most=None):
-        self.most, self.links = most, []
-        self.path = os.path.join(server.FOLDER, "slow")
-        with contextlib.suppress(FileNotFoundError):
-            os.remove(self.path)
-        self.listener = socket.socket(socket.AF_UNIX)
-        self.listener.bind(self.path)
-        self.listener.listen(16)
-        threading.Thread(target=self.accept, daemon=True).start()
+        self.most = most
+        super().__init__()
 
-    def __enter__(self):
-        return self
-
-    def __exit__(self, *_):
-        for link in [self.listener, *self.links]:
-            end(link)
-
-    def accept(self):
-        with contextlib.suppress(OSError):
-            while True:
-                link = self.listener.accept()[0]
-                link.setsockopt(socket.SOL_SOCKET, socket.SO_SNDBUF, 1)
-                most = None if self.links else self.most
-                self.links.append(link)
-                threading.Thread(target=self.answer, args=(link, most), daemon=True).start()
+    def meet(self, link):
+        link.setsockopt(socket.SOL_SOCKET, socket.SO_SNDBUF, 1)
+        most = None if self.links else self.most
+        self.links.append(link)
+        threading.Thread(target=self.answer, args=(link, most), daemon=True).start()
 
     @staticmethod
     def answer(link, most):

@@ -59,6 +59,17 @@ def refused(code, detail=0):
     return struct.pack(">IBHQ", 10, 0xFF, code, detail)
 
 
+def run_all(tests):
+    """Runs tests of the program that is named first, in a folder of their own, and gives the status."""
+    global PROGRAM, FOLDER
+    PROGRAM = os.path.abspath(sys.argv[1])
+    signal.signal(signal.SIGPIPE, signal.SIG_IGN)
+    with tempfile.TemporaryDirectory() as FOLDER:
+        tests()
+    print(f"{passed} passed, {failed} failed")
+    return 1 if failed else 0
+
+
 class Server:
     """The program with the word serve, on a Unix socket and on a port of its own choice."""
 

@@ -10,11 +10,9 @@ five. Linux, and nothing but Python's own library.
 import os
 import random
 import resource
-import signal
 import struct
 import subprocess
 import sys
-import tempfile
 import threading
 import time
 
@@ -441,31 +439,26 @@ def kills_lose_what_was_not_saved_alone(kills):
             check(f"kill {seed}: check", told.stdout.startswith(line), True)
 
 
-def main():
-    server.PROGRAM = os.path.abspath(sys.argv[1])
+def all_are_tried():
     is_long = "--long" in sys.argv[2:]
-    signal.signal(signal.SIGPIPE, signal.SIG_IGN)
-    with tempfile.TemporaryDirectory() as server.FOLDER:
-        for unix in [True, False]:
-            replies_outlive_a_bad_header(unix)
-            a_rude_client_holds_no_worker(unix)
-            silent_clients_are_let_go(unix)
-            a_client_that_reads_nothing_is_let_go(unix)
-            for idle in [True, False]:
-                deaf_clients_on_all_workers(unix, idle)
-            headers_take_no_memory(unix)
-            half_closed_connections_are_answered(unix)
-        without_a_limit_silence_is_kept()
-        silent_machines_are_asked()
-        one_number_from_many_clients(20)
-        kills_lose_what_was_not_saved_alone(100 if is_long else 5)
-        for how in [{}, in_a_small_space()]:
-            exports_keep_no_memory(far_apart, 0xFF, **how)
-            exports_keep_no_memory(in_rows_of_seven, 0x85, **how)
-        exports_keep_no_memory(side_by_side, 0x85)
-    print(f"{server.passed} passed, {server.failed} failed")
-    return 1 if server.failed else 0
+    for unix in [True, False]:
+        replies_outlive_a_bad_header(unix)
+        a_rude_client_holds_no_worker(unix)
+        silent_clients_are_let_go(unix)
+        a_client_that_reads_nothing_is_let_go(unix)
+        for idle in [True, False]:
+            deaf_clients_on_all_workers(unix, idle)
+        headers_take_no_memory(unix)
+        half_closed_connections_are_answered(unix)
+    without_a_limit_silence_is_kept()
+    silent_machines_are_asked()
+    one_number_from_many_clients(20)
+    kills_lose_what_was_not_saved_alone(100 if is_long else 5)
+    for how in [{}, in_a_small_space()]:
+        exports_keep_no_memory(far_apart, 0xFF, **how)
+        exports_keep_no_memory(in_rows_of_seven, 0x85, **how)
+    exports_keep_no_memory(side_by_side, 0x85)
 
 
 if __name__ == "__main__":
-    sys.exit(main())
+    sys.exit(server.run_all(all_are_tried))

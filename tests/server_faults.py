@@ -17,7 +17,6 @@ import os
 import platform
 import resource
 import shutil
-import signal
 import socket
 import stat
 import struct
@@ -625,37 +624,32 @@ def a_full_queue_holds_no_end(unix):
         check("it ended at once", time.monotonic() - begun < 30, True)
 
 
-def main():
-    server.PROGRAM = os.path.abspath(sys.argv[1])
-    signal.signal(signal.SIGPIPE, signal.SIG_IGN)
-    with tempfile.TemporaryDirectory() as server.FOLDER:
-        numbers_come_first()
-        help_is_printed()
-        no_snapshots_are_told()
-        addresses_are_bound_in_order()
-        each_step_of_a_save_fails()
-        what_stands_beside_is_not_written()
-        no_plain_file_is_told()
-        owner_and_mode_are_kept()
-        a_link_as_a_snapshot_is_replaced()
-        flipped_bits_are_told()
-        no_output_is_taken()
-        the_last_line_is_not_taken()
-        memory_is_refused()
-        no_thread_is_started()
-        for unix in [True, False]:
-            accepting_goes_on_after_faults(unix)
-            a_full_queue_holds_no_end(unix)
-            a_stop_needs_no_connection(unix)
-            for is_full in [True, False]:
-                a_stop_ends_wherever_the_path_is(unix, is_full)
-        a_long_want_of_descriptors_ends_nothing()
-        a_pause_between_faults_holds_no_end()
-        if "--long" in sys.argv[2:]:
-            an_acceptor_ends_after_sixteen_faults()
-    print(f"{server.passed} passed, {server.failed} failed")
-    return 1 if server.failed else 0
+def all_are_tried():
+    numbers_come_first()
+    help_is_printed()
+    no_snapshots_are_told()
+    addresses_are_bound_in_order()
+    each_step_of_a_save_fails()
+    what_stands_beside_is_not_written()
+    no_plain_file_is_told()
+    owner_and_mode_are_kept()
+    a_link_as_a_snapshot_is_replaced()
+    flipped_bits_are_told()
+    no_output_is_taken()
+    the_last_line_is_not_taken()
+    memory_is_refused()
+    no_thread_is_started()
+    for unix in [True, False]:
+        accepting_goes_on_after_faults(unix)
+        a_full_queue_holds_no_end(unix)
+        a_stop_needs_no_connection(unix)
+        for is_full in [True, False]:
+            a_stop_ends_wherever_the_path_is(unix, is_full)
+    a_long_want_of_descriptors_ends_nothing()
+    a_pause_between_faults_holds_no_end()
+    if "--long" in sys.argv[2:]:
+        an_acceptor_ends_after_sixteen_faults()
 
 
 if __name__ == "__main__":
-    sys.exit(main())
+    sys.exit(server.run_all(all_are_tried))
