@@ -371,6 +371,9 @@ def table():
         yield refused(f"cuts {word!r}", word, SMALL, "settings: BadCuts", 2)
     for words in NO_COMMANDS:
         yield Case(f"hhm {' '.join(words)}", words, error=SOME, status=2)
+    usage = "Usage: hhm sum [OPTIONS] < TEXT\n\nFor more information, try '--help'.\n"
+    named = f"error: unexpected argument 'x' found\n\n{usage}"
+    yield Case("a file that is named to sum", ["sum", "x"], error=named, status=2)
     yield Case("an argument that isn't UTF-8", ["sum", b"--cuts=\xff"], error=SOME, status=2)
     for words in [["--help"], ["sum", "--help"], ["check", "--help"], ["export", "--help"]]:
         yield Case(f"hhm {' '.join(words)}", words, output=SOME)

@@ -9,7 +9,9 @@ five. Linux, and nothing but Python's own library.
 """
 import os
 import random
+import re
 import resource
+import signal
 import struct
 import subprocess
 import sys
@@ -370,6 +372,49 @@ def one_number_from_many_clients(rounds):
         at.ends("one number at once", rounds, total)
 
 
+def written_by(process):
+    """How many bytes a process has written so far."""
+    with open(f"/proc/{process.pid}/io") as file:
+        return int(re.search(r"^wchar: (\d+)$", file.read(), re.M)[1])
+
+
+def of_file(path):
+    held = os.stat(path)
+    return held.st_ino, held.st_mtime_ns
+
+
+def saves_at_once_are_few():
+    """Of clients that ask for a save at the same time, and nothing is put meanwhile, those that waited for one get its
+    answer. A save that waits for none writes, also where nothing was put, and where the file was removed."""
+    name, path, saved = "saves at once", in_folder("at once.snap"), struct.pack(">IBQ", 8, 0x86, 1)
+    words = ["--rows", "500000", "--cols", "1", "--workers", "17", "--snapshot", path]
+    with Server(words, tcp=False) as at:
+        links = [at.link() for _ in range(16)]
+        with at.client(7) as hhm:
+            hhm.put(1, [(row, 0, 1) for row in range(500_000)])
+        check(f"{name}: all have a worker", at_once(links, [STATUS] * 16), [counts(1, 500_000)] * 16)
+        before = written_by(at.process)
+        os.kill(at.process.pid, signal.SIGSTOP)
+        for link in links:
+            link.sendall(SAVE)
+        os.kill(at.process.pid, signal.SIGCONT)
+        check(f"{name}: replies", [received(link, 13) for link in links], [saved] * 16)
+        written = (written_by(at.process) - before) // os.path.getsize(path)
+        check(f"{name}: some are written", 1 <= written <= 8, True)
+        for why, prepare in [("again", lambda _: None), ("removed", os.remove)]:
+            left = of_file(path)
+            prepare(path)
+            check(f"{name}, {why}: saved", asked(links[0], SAVE, 13), saved)
+            check(f"{name}, {why}: anew", of_file(path) != left, True)
+        with at.client(8) as hhm:
+            hhm.put(1, [(0, 0, 5)])
+        check(f"{name}: a put is saved", asked(links[1], SAVE, 13), struct.pack(">IBQ", 8, 0x86, 2))
+        check(f"{name}: stop", asked(links[0], STOP, 5), STOPPING)
+        for link in links:
+            link.close()
+        at.ends(name, 2, 500_005)
+
+
 class Book:
     """A plain model of what a server accepts of one client: the batches in order, and how many are surely saved."""
 
@@ -453,6 +498,7 @@ def all_are_tried():
     without_a_limit_silence_is_kept()
     silent_machines_are_asked()
     one_number_from_many_clients(20)
+    saves_at_once_are_few()
     kills_lose_what_was_not_saved_alone(100 if is_long else 5)
     for how in [{}, in_a_small_space()]:
         exports_keep_no_memory(far_apart, 0xFF, **how)

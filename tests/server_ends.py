@@ -10,13 +10,11 @@ Python's own library.
 """
 import os
 import re
-import signal
 import socket
 import stat
 import struct
 import subprocess
 import sys
-import tempfile
 import threading
 import time
 
@@ -267,11 +265,34 @@ def starts_saves_and_ends_are_told():
         lines = error.splitlines()
         events, _ = events_of("told again", "\n".join(lines[:-1]))
         check("told again: the end", (output, lines[-1:], at.process.returncode), ("", ["hhm: file: Create"], 4))
-        failed = "save-failed"
+        failed = 'save-failed step=Create error="Is a directory (os error 21)"'
         check("told again: all", events, ["loaded batches=1 total=5", failed, "stopping", failed,
                                           "refused code=42 count=1"])
     os.rmdir(path + ".new")
     os.remove(path)
+
+
+def failed_saves_are_told():
+    """The step that failed, and what the system said: a file that would be too large, and a place that is taken."""
+
+    def a_full_folder(path, _):
+        os.makedirs(os.path.join(path, "full"))
+
+    for name, fail, error in [
+        ("Write", lambda _, process: server.limit_files(process, 50), "File too large (os error 27)"),
+        ("Rename", a_full_folder, "Is a directory (os error 21)"),
+    ]:
+        path = in_folder(f"told {name}")
+        # The signal of a file that is too large stays ignored, as Python has it.
+        with told_server(["--snapshot", path], restore_signals=False) as at:
+            fail(path, at.process)
+            with at.link() as link:
+                check(f"told {name}: no save", asked(link, SAVE, 15), refused(42))
+                check(f"told {name}: stop", asked(link, STOP, 5), STOPPING)
+            _, told = at.process.communicate(timeout=WAIT)
+            events, _ = events_of(f"told {name}", "".join(told.splitlines(True)[:-1]))
+            failed = f'save-failed step={name} error="{error}"'
+            check(f"told {name}: all", [it for it in events if it.startswith("save-failed")], [failed, failed])
 
 
 def a_want_of_workers_is_told():
@@ -363,27 +384,23 @@ def without_the_option_nothing_is_told():
         at.ends("untold", 0, 0)
 
 
-def main():
-    server.PROGRAM = os.path.abspath(sys.argv[1])
-    signal.signal(signal.SIGPIPE, signal.SIG_IGN)
-    with tempfile.TemporaryDirectory() as server.FOLDER:
-        for unix in [True, False]:
-            a_drain_ends_sessions(unix)
-        a_drain_ends_many_silent_ones()
-        a_drain_ends_a_slow_reader()
-        without_a_drain_sessions_go_on()
-        a_left_socket_is_taken()
-        what_is_no_left_socket_stays()
-        starts_saves_and_ends_are_told()
-        a_want_of_workers_is_told()
-        short_waits_are_not_told()
-        nobody_reads_events()
-        without_the_option_nothing_is_told()
-        if "--long" in sys.argv[2:]:
-            refusals_are_told_each_minute()
-    print(f"{server.passed} passed, {server.failed} failed")
-    return 1 if server.failed else 0
+def all_are_tried():
+    for unix in [True, False]:
+        a_drain_ends_sessions(unix)
+    a_drain_ends_many_silent_ones()
+    a_drain_ends_a_slow_reader()
+    without_a_drain_sessions_go_on()
+    a_left_socket_is_taken()
+    what_is_no_left_socket_stays()
+    starts_saves_and_ends_are_told()
+    failed_saves_are_told()
+    a_want_of_workers_is_told()
+    short_waits_are_not_told()
+    nobody_reads_events()
+    without_the_option_nothing_is_told()
+    if "--long" in sys.argv[2:]:
+        refusals_are_told_each_minute()
 
 
 if __name__ == "__main__":
-    sys.exit(main())
+    sys.exit(server.run_all(all_are_tried))

@@ -1,6 +1,6 @@
 //! What has happened and isn't told yet.
 
-use crate::event::Event;
+use crate::event::{Event, Unsaved};
 use crate::stamp::since;
 use std::alloc::Global;
 use std::mem;
@@ -98,10 +98,15 @@ impl EventLog {
         self.note(rt, Event::Saved { batches, took });
     }
 
-    /// A save fails now that was asked for then.
-    pub fn note_unsaved<R: Wait + Clock>(&self, rt: &R, asked: Option<Instant>) {
+    /// A save fails now that was asked for then, for this reason where it is known.
+    pub fn note_unsaved<R: Wait + Clock>(
+        &self,
+        rt: &R,
+        why: Option<Unsaved>,
+        asked: Option<Instant>,
+    ) {
         let took = since(rt, asked);
-        self.note(rt, Event::NotSaved { took });
+        self.note(rt, Event::NotSaved { why, took });
     }
 
     /// A request is refused with this code.

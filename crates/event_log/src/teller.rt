@@ -1,6 +1,6 @@
 //! The lines of what happens.
 
-use crate::event::Event;
+use crate::event::{Event, Unsaved};
 use crate::file_sizes::FileSizes;
 use crate::log::{CODES, EventLog, News};
 use crate::stamp::{Seconds, Stamp, since};
@@ -78,10 +78,7 @@ impl<'a, R: Wait + Clock + Eprint + FileSizes> Teller<'a, R> {
             }
             Event::Started { batches, total } => self.tell_start(batches, total),
             Event::Saved { batches, took } => self.tell_save(batches, Seconds(took)),
-            Event::NotSaved { took } => {
-                let took = Seconds(took);
-                eprintln!(rt; "{now} save-failed seconds={took}")
-            }
+            Event::NotSaved { why, took } => self.tell_failure(why, Seconds(took)),
             Event::Stopping => eprintln!(rt; "{now} stopping"),
             Event::Stopped { batches, total } => {
                 eprintln!(rt; "{now} stopped batches={batches} total={total}")
@@ -108,6 +105,19 @@ impl<'a, R: Wait + Clock + Eprint + FileSizes> Teller<'a, R> {
             }
             None => eprintln!(self.rt; "{now} saved batches={batches} seconds={took}"),
         }
+    }
+
+    // Tells that a save failed, at which step, and what the system said.
+    fn tell_failure(&self, why: Option<Unsaved>, took: Seconds) -> io::Result<()> {
+        let now = self.now();
+        let Some(Unsaved { step, error }) = why else {
+            return eprintln!(self.rt; "{now} save-failed seconds={took}");
+        };
+        let Some(code) = error else {
+            return eprintln!(self.rt; "{now} save-failed step={step} seconds={took}");
+        };
+        let error = io::Error::from_raw_os_error(code);
+        eprintln!(self.rt; "{now} save-failed step={step} error=\"{error}\" seconds={took}")
     }
 
     // Tells that a snapshot is still loaded, and of connections that wait.

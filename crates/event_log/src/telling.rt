@@ -17,7 +17,7 @@ use std::time::{Clock, Duration};
 /// - `no-worker connections seconds`: connections wait for a worker, one of them for more than a second: as it is
 ///   noticed and then once a minute; `worker-free seconds`: no longer;
 /// - `refused code count seconds`: once a minute, and at the end, for each code;
-/// - `saved batches bytes seconds`, `save-failed seconds`: since it was asked for;
+/// - `saved batches bytes seconds`, `save-failed step error seconds`: since it was asked for;
 /// - `stopping`: no further connection is accepted; `stopped batches total`: the end;
 /// - `lost events`: so many lines could not be kept.
 pub fn tell_events<R: Wait + Clock + Eprint + FileSizes>(rt: &R, log: &EventLog) {

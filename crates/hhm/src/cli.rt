@@ -13,6 +13,9 @@ const ABOUT: &str = "Sums counted cells (row, column, count) into a hypersparse 
 const SUM_ABOUT: &str =
     "Sum a Matrix Market text from standard input, and write the canonical text of the sum";
 
+// What it reads stands here too, for who names a file.
+const SUM_USAGE: &str = "hhm sum [OPTIONS] < TEXT";
+
 const SUM_HELP: &str = "\
 Reads one Matrix Market text (matrix coordinate, integer or unsigned-integer,
 general or symmetric) from standard input to its end, adds the counts of each
@@ -93,6 +96,7 @@ fn sum_command<'a>(alloc: Global) -> Result<Command<'a>, AllocError> {
         .help(CUTS_HELP);
     Command::new(alloc, "sum")
         .about(SUM_ABOUT)
+        .override_usage(SUM_USAGE)
         .after_help(SUM_HELP)
         .arg(cuts)
 }

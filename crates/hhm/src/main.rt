@@ -22,12 +22,17 @@ use byte_io::{Counted, write_all};
 use clap::error::ErrorKind;
 use clap::{ArgMatches, Error};
 use mm_sum::run_sum;
+use progress::{Entries, ProgressLine, Watched};
 use snap_file::{LockedFile, NamedFile};
 use snap_report::{run_check, run_export, run_fold};
 use socket_server::{ServerFault, Settings};
 use std::alloc::AllocError;
+use std::io::IsTerminal;
 use std::process::ExitCode;
 use std::{env, io};
+
+/// A line on a terminal, where there is one.
+type Shown<'a> = Option<ProgressLine<'a, HostRuntime>>;
 
 /// What a command line has come to.
 #[derive(Drop)]
@@ -94,27 +99,66 @@ fn run_matches(rt: &HostRuntime, matches: &ArgMatches) -> Result<Outcome, Fault>
     }
 }
 
-/// Does what a word asks for that is given a list of cuts, or the path of a snapshot.
+/// Does what a word asks for that is given a list of cuts, or the path of a snapshot. How far the reading has come is
+/// said on a terminal, unless the text is typed there.
 fn run_word(rt: &HostRuntime, word: &str, given: &ArgMatches) -> Result<(), Fault> {
-    let mut out = Counted::new(rt.stdout());
-    let path = given.get_str("path").unwrap_or("");
-    match word {
-        "sum" => run_sum_word(rt, given.get_str("cuts").unwrap_or(cli::DEFAULT_SUM_CUTS))?,
-        "check" => run_check(rt.alloc(), &mut NamedFile::new(rt, path), &mut out)?,
-        "export" => run_export(rt.alloc(), &mut NamedFile::new(rt, path), &mut out)?,
-        "fold" => run_fold(rt.alloc(), &mut LockedFile::new(rt, path), &mut out)?,
-        _ => {}
+    if word == "sum" {
+        let cuts = given.get_str("cuts").unwrap_or(cli::DEFAULT_SUM_CUTS);
+        let is_shown = rt.stderr().is_terminal() && !rt.stdin().is_terminal();
+        let mut line = progress_line(rt, is_shown, Entries::Lines);
+        let outcome = run_sum_word(rt, cuts, &mut line);
+        clear(&mut line);
+        outcome
+    } else {
+        let path = given.get_str("path").unwrap_or("");
+        let is_shown = rt.stderr().is_terminal();
+        let mut line = progress_line(rt, is_shown, Entries::Cells);
+        let outcome = run_snapshot_word(rt, word, path, &mut line);
+        clear(&mut line);
+        outcome
     }
-    Ok(())
+}
+
+/// A line that says how far the reading has come, where it is to be shown.
+fn progress_line(rt: &HostRuntime, is_shown: bool, entries: Entries) -> Shown<'_> {
+    if is_shown {
+        Some(ProgressLine::new(rt, entries))
+    } else {
+        None
+    }
+}
+
+/// Takes the line away, where the end of what is read hasn't done so.
+fn clear(line: &mut Shown<'_>) {
+    if let Some(line) = line {
+        line.clear();
+    }
 }
 
 /// Sums the text on standard input, and writes the sum to standard output.
-fn run_sum_word(rt: &HostRuntime, list: &str) -> Result<(), Fault> {
+fn run_sum_word(rt: &HostRuntime, list: &str, line: &mut Shown<'_>) -> Result<(), Fault> {
     let cuts = read_list(rt.alloc(), list)?;
     keep_freed_memory(rt.alloc());
-    let mut input = Counted::new(rt.stdin());
+    let mut input = Watched::new(Counted::new(rt.stdin()), line);
     let mut output = Counted::new(rt.stdout());
     run_sum(rt.alloc(), &mut input, &mut output, &cuts)?;
+    Ok(())
+}
+
+/// Does what a word asks for that reads the snapshot under a path.
+fn run_snapshot_word(
+    rt: &HostRuntime,
+    word: &str,
+    path: &str,
+    line: &mut Shown<'_>,
+) -> Result<(), Fault> {
+    let mut out = Counted::new(rt.stdout());
+    match word {
+        "check" => run_check(rt.alloc(), &mut NamedFile::new(rt, path, line), &mut out)?,
+        "export" => run_export(rt.alloc(), &mut NamedFile::new(rt, path, line), &mut out)?,
+        "fold" => run_fold(rt.alloc(), &mut LockedFile::new(rt, path, line), &mut out)?,
+        _ => {}
+    }
     Ok(())
 }
 

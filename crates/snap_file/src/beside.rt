@@ -1,5 +1,5 @@
 //! The real folder of a file, as a save of that file sees it.
-ghost use Rattle.std.specs.Prelude.{◌≡◌, ◌⊎◌, ◌+◌, ◌<◌, ◌^◌, None, IsTrue, IfSome, IfErr, ⊤};
+ghost use Rattle.std.specs.Prelude.{◌≡◌, ◌⊎◌, ◌+◌, ◌<◌, ◌^◌, None, IsTrue, IfOk, IfErr, ⊤};
 ghost use Rattle.std.proofs.Common.{◌∙◌};
 ghost use Rattle.snap_file.specs.Saving.{unfinished, beside};
 ghost use Rattle.snap_file.specs.declared.fault.SaveFault.{SaveFault};
@@ -26,6 +26,8 @@ pub struct Beside<'a, R: Files> {
     // Whether the file is made, and has its first name.
     is_made: bool,
     file: Option<R::File>,
+    // The system's number of the error by which a call failed last.
+    error: Option<i32>,
     failures: u64,
 }
 
@@ -40,14 +42,16 @@ fn is_unfinished(name: &str, path: &str) -> bool
 }
 
 /// Makes the file of this name, if it is to take the place of the one under the path.
-fn made_beside<R: Files>(rt: &R, path: &str, name: &str) -> Option<R::File>
-    ensures { IfSome result (λ _. name.now ≡ unfinished path.now) }
+fn made_beside<R: Files>(rt: &R, path: &str, name: &str) -> io::Result<R::File>
+    ensures { IfOk result (λ _. name.now ≡ unfinished path.now) }
 {
     if !is_unfinished(name, path) {
-        return None;
+        return Err(io::Error::from(io::ErrorKind::Other));
     }
-    let access = access_under(rt, path).ok()?;
-    make_file(rt, name, access).ok()
+    let Ok(access) = access_under(rt, path) else {
+        return Err(io::Error::from(io::ErrorKind::Other));
+    };
+    make_file(rt, name, access)
 }
 
 /// The folder that a path's file is in.
@@ -103,6 +107,7 @@ impl<'a, R: Files> Beside<'a, R> {
             path,
             is_made: false,
             file: None,
+            error: None,
             failures: 0,
         }
     }
@@ -117,6 +122,11 @@ impl<'a, R: Files> Beside<'a, R> {
         if let Ok(name) = format!(in alloc; "{path}{UNFINISHED}") {
             let _ = clear(self.rt, name.as_str());
         }
+    }
+
+    /// The system's number of the error by which a call failed last, if it had one.
+    pub fn error(&self) -> Option<i32> {
+        self.error
     }
 
     /// Counts a call that fails.
@@ -145,12 +155,18 @@ impl<'a, R: Files> Folder for Beside<'a, R> {
 
     /// Removes what stands under the name, a folder excepted, and makes the file anew.
     fn create(&mut self, name: &str) -> Result<(), DeviceFault> {
-        self.file = made_beside(self.rt, self.path, name);
-        self.is_made = self.file.is_some();
-        if self.is_made {
-            Ok(())
-        } else {
-            Err(self.fail())
+        match made_beside(self.rt, self.path, name) {
+            Ok(file) => {
+                self.file = Some(file);
+                self.is_made = true;
+                Ok(())
+            }
+            Err(error) => {
+                self.file = None;
+                self.is_made = false;
+                self.error = error.raw_os_error();
+                Err(self.fail())
+            }
         }
     }
 
@@ -160,7 +176,10 @@ impl<'a, R: Files> Folder for Beside<'a, R> {
         };
         match file.write(buf) {
             Ok(count) => Ok(count),
-            Err(_) => Err(self.fail()),
+            Err(error) => {
+                self.error = error.raw_os_error();
+                Err(self.fail())
+            }
         }
     }
 
@@ -170,14 +189,18 @@ impl<'a, R: Files> Folder for Beside<'a, R> {
         };
         match file.sync_all() {
             Ok(()) => Ok(()),
-            Err(_) => Err(self.fail()),
+            Err(error) => {
+                self.error = error.raw_os_error();
+                Err(self.fail())
+            }
         }
     }
 
     /// Closes the file, renames it, and syncs the folder. Of the file and the folder one is open at a time.
     fn rename(&mut self, from: &str, to: &str) -> Result<(), DeviceFault> {
         self.file = None;
-        if rename_synced(self.rt, from, to).is_err() {
+        if let Err(error) = rename_synced(self.rt, from, to) {
+            self.error = error.raw_os_error();
             return Err(self.fail());
         }
         self.is_made = false;

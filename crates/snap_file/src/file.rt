@@ -15,6 +15,7 @@ use crate::saving::save_in;
 use crate::snapshot::Snapshot;
 use batch_store::{BookList, Setup};
 use byte_io::Counted;
+use progress::{Unwatched, Watch, Watched};
 use std::alloc::Global;
 use std::rt::Files;
 use std::{fs, io};
@@ -49,11 +50,27 @@ pub fn save<R: Files>(
     requires accepted { AreAccepted setup.now (accepted_in list.now) }
     requires based { HasBase setup.now list.now }
 {
+    save_telling(rt, alloc, path, setup, list, &mut None)
+}
+
+/// Saves a snapshot so. After a fault `error` is the system's number of the error, if it had one.
+pub fn save_telling<R: Files>(
+    rt: &R,
+    alloc: Global,
+    path: &str,
+    setup: &Setup,
+    list: &BookList,
+    error: &mut Option<i32>,
+) -> Result<(), SaveFault>
+    requires accepted { AreAccepted setup.now (accepted_in list.now) }
+    requires based { HasBase setup.now list.now }
+{
     let mut folder = Beside::new(rt, path);
     let saved = save_in(alloc, &mut folder, path, setup, list);
     if saved.is_err() {
         folder.remove_made(alloc);
     }
+    *error = folder.error();
     saved
 }
 
@@ -73,12 +90,26 @@ pub fn load<R: Files>(
     // Want of memory is told as such.
     ensures memory { IfErr result (λ f. f ≢ FileFault.Snap SnapFault.Memory) }
 {
+    load_watched(rt, alloc, path, max_bytes, &mut Unwatched)
+}
+
+/// Loads a snapshot so, and tells the watch of the bytes that are read.
+pub fn load_watched<R: Files, W: Watch>(
+    rt: &R,
+    alloc: Global,
+    path: &str,
+    max_bytes: u64,
+    watch: &mut W,
+) -> Result<Snapshot, FileFault>
+    // Want of memory is told as such.
+    ensures memory { IfErr result (λ f. f ≢ FileFault.Snap SnapFault.Memory) }
+{
     find_file(rt, path)?;
     let file = match fs::open(rt, path) {
         Ok(file) => file,
         Err(error) => return Err(opening_fault(error.kind())),
     };
-    let mut source = Counted::new(file);
+    let mut source = Watched::new(Counted::new(file), watch);
     let snapshot = read_snapshot(alloc, &mut source, max_bytes)?;
     Ok(snapshot)
 }

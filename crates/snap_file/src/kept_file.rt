@@ -9,10 +9,11 @@ ghost use Rattle.snap_file.specs.declared.fault.FileFault.{FileFault};
 ghost use Rattle.snap_file.specs.declared.fault.SaveFault.{SaveFault};
 
 use crate::fault::{FileFault, SaveFault};
-use crate::file::{load, save};
+use crate::file::{load_watched, save};
 use crate::path_lock::{PathLock, lock_existing};
 use crate::snapshot::Snapshot;
 use batch_store::{BookList, Setup};
+use progress::Watch;
 use std::alloc::Global;
 use std::fs::File;
 use std::rt::Files;
@@ -42,27 +43,28 @@ pub trait SnapshotFile {
         ensures { save_gives self.old setup.now (accepted_in list.now) result self.new };
 }
 
-/// The file under a path.
+/// The file under a path, and who is told of what is read of it.
 #[derive(Drop)]
-pub struct NamedFile<'a, R: Files> {
+pub struct NamedFile<'a, R: Files, W: Watch> {
     rt: &'a R,
     path: &'a str,
+    watch: &'a mut W,
 }
 
-impl<'a, R: Files> NamedFile<'a, R> {
+impl<'a, R: Files, W: Watch> NamedFile<'a, R, W> {
     /// The file under this path, which may be there or not.
-    pub fn new(rt: &'a R, path: &'a str) -> NamedFile<'a, R> {
-        NamedFile { rt, path }
+    pub fn new(rt: &'a R, path: &'a str, watch: &'a mut W) -> NamedFile<'a, R, W> {
+        NamedFile { rt, path, watch }
     }
 }
 
-impl<'a, R: Files> SnapshotFile for NamedFile<'a, R> {
+impl<'a, R: Files, W: Watch> SnapshotFile for NamedFile<'a, R, W> {
     ghost load_gives = { λ s max_bytes answer t. ⊤ };
 
     ghost save_gives = { λ s setup a answer t. ⊤ };
 
     fn load(&mut self, alloc: Global, max_bytes: u64) -> Result<Snapshot, FileFault> {
-        load(self.rt, alloc, self.path, max_bytes)
+        load_watched(self.rt, alloc, self.path, max_bytes, self.watch)
     }
 
     fn save(&mut self, alloc: Global, setup: &Setup, list: &BookList) -> Result<(), SaveFault> {
@@ -71,26 +73,28 @@ impl<'a, R: Files> SnapshotFile for NamedFile<'a, R> {
 }
 
 /// The file under a path, whose lock is taken by a load and held to the end of the next save, at most for as long as
-/// this lives: nobody else who takes it saves there between the two.
+/// this lives: nobody else who takes it saves there between the two. Somebody is told of what is read of it.
 #[derive(Drop)]
-pub struct LockedFile<'a, R: Files<File = File>> {
+pub struct LockedFile<'a, R: Files<File = File>, W: Watch> {
     rt: &'a R,
     path: &'a str,
+    watch: &'a mut W,
     lock: Option<PathLock>,
 }
 
-impl<'a, R: Files<File = File>> LockedFile<'a, R> {
+impl<'a, R: Files<File = File>, W: Watch> LockedFile<'a, R, W> {
     /// The file under this path, which may be there or not. Its lock isn't taken yet.
-    pub fn new(rt: &'a R, path: &'a str) -> LockedFile<'a, R> {
+    pub fn new(rt: &'a R, path: &'a str, watch: &'a mut W) -> LockedFile<'a, R, W> {
         LockedFile {
             rt,
             path,
+            watch,
             lock: None,
         }
     }
 }
 
-impl<'a, R: Files<File = File>> SnapshotFile for LockedFile<'a, R> {
+impl<'a, R: Files<File = File>, W: Watch> SnapshotFile for LockedFile<'a, R, W> {
     ghost load_gives = { λ s max_bytes answer t. ⊤ };
 
     ghost save_gives = { λ s setup a answer t. ⊤ };
@@ -101,7 +105,7 @@ impl<'a, R: Files<File = File>> SnapshotFile for LockedFile<'a, R> {
         if self.lock.is_none() {
             self.lock = lock_existing(self.rt, alloc, self.path)?;
         }
-        load(self.rt, alloc, self.path, max_bytes)
+        load_watched(self.rt, alloc, self.path, max_bytes, self.watch)
     }
 
     /// Saves, `Create` where the lock isn't held, and gives it back.

@@ -29,7 +29,7 @@ pub use batch::push_batch;
 pub use beside::{folder_of, try_save};
 pub use entries::read_entries;
 pub use fault::{FileFault, SaveFault, SnapFault};
-pub use file::{load, save};
+pub use file::{load, load_watched, save, save_telling};
 pub use file_folder::{Folder, MemoryFolder};
 pub use head::Head;
 pub use kept_file::{LockedFile, NamedFile, SnapshotFile};

@@ -12,6 +12,7 @@ use crate::watched_listener::{Listen, WatchedListener};
 use byte_io::{Sink, WriteFault, write_all};
 use event_log::EventLog;
 use mio::Waker;
+use session_pool::LastFailure;
 use std::alloc::Global;
 use std::io;
 use std::net::{Net, TcpListener, TcpStream};
@@ -20,7 +21,7 @@ use std::sync::Arc;
 use std::time::Duration;
 
 /// Where a server listens, how many connections it takes, how long one may be silent, how long sessions go on after a
-/// Stop, and where what happens is noted.
+/// Stop, where what happens is noted, and why the last save that failed did.
 #[derive(Drop)]
 pub struct Places {
     pub tcp: Option<String>,
@@ -29,6 +30,7 @@ pub struct Places {
     pub idle: Option<Duration>,
     pub drain: Option<Duration>,
     pub events: Option<Arc<EventLog>>,
+    pub failure: Arc<LastFailure>,
 }
 
 /// The path at which a Unix socket was bound, and the file that was made there, where that could be told.
@@ -193,6 +195,7 @@ pub fn bind_listeners<R: Host + Net<Listener = TcpListener, Stream = TcpStream>,
         idle,
         drain,
         events,
+        failure,
     } = places;
     let (tcp, tcp_waker) = parted(bind_tcp(rt, alloc, tcp, out, written)?);
     let (unix, unix_waker, own) = match unix {
@@ -206,6 +209,7 @@ pub fn bind_listeners<R: Host + Net<Listener = TcpListener, Stream = TcpStream>,
         gate: StopGate::new(tcp_waker, unix_waker, drain.map(Drain::new), events),
         numbers: SessionNumbers::new(sessions),
         idle,
+        failure,
     };
     let Ok(shared) = Arc::new(alloc, shared) else {
         if let Some(own) = own {

@@ -13,16 +13,17 @@ use crate::host::Host;
 use crate::serving::{close_all, serve_listeners};
 use crate::settings::{Settings, time_limit};
 use crate::start::{note_start, starting_engine, take_lock};
+use crate::unsaved::last_unsaved;
 use byte_io::Sink;
 use locked_engine::{Engine, Named, Names, Seat, Status};
 use plain_engine::PlainEngine;
-use session_pool::{Disk, Saver};
+use session_pool::{Disk, LastFailure, Saver};
 use std::alloc::Global;
 use std::marker::Brand;
 use std::net::{Net, TcpListener, TcpStream};
 use std::random::RandomSource;
-use std::sync::Wait;
 use std::sync::ledger::Ledger;
+use std::sync::{Arc, Wait};
 use std::thread::Threads;
 use std::time::{Clock, Instant};
 
@@ -85,7 +86,10 @@ fn note_last_save<R: Wait + Clock>(
     };
     match outcome {
         Ok(status) => events.note_saved(rt, status.batches, begun),
-        Err(ServerFault::Save(_)) => events.note_unsaved(rt, begun),
+        Err(ServerFault::Save(_)) => {
+            let why = last_unsaved(rt, &listeners.shared.failure);
+            events.note_unsaved(rt, why, begun);
+        }
         Err(_) => {}
     }
 }
@@ -206,6 +210,19 @@ fn serve_plan<
     Ok(status)
 }
 
+// Where it is told why a save failed, in two hands: by one it is told, and by the other it is read.
+fn failure_of_saves(alloc: Global) -> Result<(Arc<LastFailure>, Arc<LastFailure>), ServerFault>
+    ensures { IfErr result IsMetServing }
+{
+    let Ok(told) = Arc::new(alloc, LastFailure::new()) else {
+        return Err(ServerFault::Memory);
+    };
+    match Arc::try_clone(&told) {
+        Ok(read) => Ok((told, read)),
+        Err(_) => Err(ServerFault::Memory),
+    }
+}
+
 // Serves as the settings say, which were judged.
 #[tactic(auto, using(crate::proofs::FaultLaws::serving_met, crate::proofs::FaultLaws::serving_told))]
 fn serve_settings<
@@ -245,6 +262,7 @@ fn serve_settings<
     let _lock = take_lock(rt, alloc, &snapshot, must_load, must_save)?;
     let plain = starting_engine(rt, alloc, setup, &snapshot, must_load, &events)?;
     note_start(rt, &events, plain.status());
+    let (told, failure) = failure_of_saves(alloc)?;
     let plan = Plan {
         places: Places {
             tcp,
@@ -253,8 +271,9 @@ fn serve_settings<
             idle: time_limit(idle),
             drain: time_limit(drain),
             events,
+            failure,
         },
-        saver: Saver::new(snapshot),
+        saver: Saver::telling(snapshot, told),
     };
     serve_plan(rt, alloc, plain, workers, plan, out)
 }

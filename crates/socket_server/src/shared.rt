@@ -2,15 +2,17 @@
 
 use crate::numbers::SessionNumbers;
 use crate::stop::StopGate;
-use std::sync::Wait;
+use session_pool::LastFailure;
+use std::sync::{Arc, Wait};
 use std::time::Duration;
 
-/// The stop flag, the numbers of sessions, and how long a connection may be silent.
+/// The stop flag, the numbers of sessions, how long a connection may be silent, and why the last save that failed did.
 #[derive(Drop)]
 pub struct Shared {
     pub gate: StopGate,
     pub numbers: SessionNumbers,
     pub idle: Option<Duration>,
+    pub failure: Arc<LastFailure>,
 }
 
 impl Shared {

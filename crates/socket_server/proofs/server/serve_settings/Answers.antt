@@ -12,9 +12,9 @@ returns-clause-ended g c =
     let a = c.in_ok-plain.plain.book.state in
     IfOk-weaker c.serve_plan.result _ _ (λ s h. (a, h.0, c.in_ok-plain.ensures.start, h.1, h.2))
     (subst (λ (p : Option (String _)). IfOk c.serve_plan.result (λ s. (b : Accepted) × GoesOn a b
-    × EndsWith g.R.Disk.saves c.args.rt.now p c.args.settings.setup b s)) c.new.ensures
+    × EndsWith g.R.Disk.saves c.args.rt.now p c.args.settings.setup b s)) c.telling.ensures
     (subst (λ (v : Setting). IfOk c.serve_plan.result (λ s. (b : Accepted) × GoesOn a b
-    × EndsWith g.R.Disk.saves c.args.rt.now c.new.result.path v b s)) c.in_ok-plain.ensures.setup
+    × EndsWith g.R.Disk.saves c.args.rt.now c.telling.result.path v b s)) c.in_ok-plain.ensures.setup
     c.serve_plan.ensures.ended))
 
 -- a fault of the lock is told, whatever the setup
