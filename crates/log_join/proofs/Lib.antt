@@ -1,0 +1,4 @@
+pub mod PlaceLemmas
+pub mod FreshLemmas
+pub mod JoinLemmas
+pub mod OutcomeLaws
