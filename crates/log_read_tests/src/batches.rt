@@ -5,10 +5,10 @@ use batch_store::Batch;
 use log_batches::{BlockReader, block_pages, encode_block};
 use log_blocks::LogKind;
 use log_page::{CHUNK, PAGE};
-use std::alloc::Global;
+use std::alloc::{AllocError, Global};
 use std::process::Abort;
 use std::sync::Arc;
-use test_support::{holds_at, same, same_at};
+use test_support::{holds_at, same_at};
 
 /// What stands behind a page that is written.
 const BEHIND: u8 = 0xa5;
@@ -25,13 +25,14 @@ fn makes(place: u64, batches: &[Arc<Batch>], want: &[u8; PAGE]) -> bool {
 }
 
 #[test]
-fn known_blocks_are_written(rt: HostRuntime) {
+fn known_blocks_are_written(rt: HostRuntime) -> Result<(), AllocError> {
     let alloc = rt.alloc();
     let first = one_cell(&rt, alloc, 7, 5);
     let second = one_cell(&rt, alloc, 8, 3);
-    assert!(rt; makes(0, &[Arc::clone(&first)], &b1()));
-    assert!(rt; makes(1, &[Arc::clone(&second)], &b2()));
+    assert!(rt; makes(0, &[Arc::clone(&first)?], &b1()));
+    assert!(rt; makes(1, &[Arc::clone(&second)?], &b2()));
     assert!(rt; makes(0, &[first, second], &b12()));
+    Ok(())
 }
 
 /// Client, number and total of each batch, or the fault.
@@ -61,7 +62,7 @@ fn block_of(rt: &impl Abort, alloc: Global, pages: usize, numbers: &[u64]) -> Ve
 // Blocks that hold no batches.
 const REFUSED: &[(&str, usize, &[u64])] = &[
     ("no batches", 1, &[0]),
-    ("fewer than it says", 1, &[2, 7, 1, 1, 0, 0, 5]),
+    ("more batches than bytes", 1, &[170, 7, 1, 1, 0, 0, 5]),
     ("a row that isn't there", 1, &[1, 7, 1, 1, 3, 0, 5]),
     ("a column that isn't there", 1, &[1, 7, 1, 1, 0, 3, 5]),
     ("a cell twice", 1, &[1, 7, 1, 2, 0, 0, 5, 0, 0, 1]),
@@ -77,7 +78,6 @@ const REFUSED: &[(&str, usize, &[u64])] = &[
     ),
     ("another byte behind", 1, &[1, 7, 1, 1, 0, 0, 5, 1]),
     ("a page too many", 2, &[1, 7, 1, 1, 0, 0, 5]),
-    ("more cells than bytes", 1, &[1, 7, 1, 170, 0, 0, 5]),
 ];
 
 #[test]
@@ -95,6 +95,8 @@ fn other_blocks_are_refused(rt: HostRuntime) {
 // Blocks that hold batches, and client, number and total of each.
 const TAKEN: &[(&[u64], &[(u64, u64, u64)])] = &[
     (&[1, 7, 1, 1, 0, 0, 5], &[(7, 1, 5)]),
+    // The zeros behind the first batch are the second.
+    (&[2, 7, 1, 1, 0, 0, 5], &[(7, 1, 5), (0, 0, 0)]),
     (
         &[2, 7, 1, 1, 0, 0, 5, 8, 1, 1, 0, 0, 3],
         &[(7, 1, 5), (8, 1, 3)],
