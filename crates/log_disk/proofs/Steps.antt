@@ -29,10 +29,8 @@ pub cut_may : (len : ℕ) (old new : List ℕ) → IsCut len old new → MayBeCu
 cut_may len old new cut = record {
   bytes = λ i. elim (cases_lt i len) [
     | inl before ↦ inl (cut.before i before)
-    | inr behind ↦ inr (
-      behind,
-      cut.behind i behind,
-    )
+    | inr behind ↦ inr
+        (behind, cut.behind i behind)
   ];
   longer = cut.longer;
 }

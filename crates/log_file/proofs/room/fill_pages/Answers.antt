@@ -5,8 +5,8 @@ use Rattle.log_file.proofs.room.fill_pages.Goals as goal
 pub returns-in_err-fill-clause-stays : goal.returns-in_err-fill-clause-stays
 returns-in_err-fill-clause-stays g c = λ t.
     let told = c.loop-i.invariant.tells t in
-    fill_more g.D.LogDisk.written g.D.LogDisk.may_leave g.D.LogDisk.moment g.D.LogDisk.left_since c.args.disk.now g.log
-    (4096 * c.args.from) (4096 * (c.args.from + 16 * c.loop-i.i)) c.zeros_of-zeros.result.now c.loop-i.disk
+    fill_more g.D.LogDisk.written g.D.LogDisk.may_leave g.D.LogDisk.moment g.D.LogDisk.left_since c.args.disk.now
+    g.log (4096 * c.args.from) (4096 * (c.args.from + 16 * c.loop-i.i)) c.zeros_of-zeros.result.now c.loop-i.disk
     c.fill.new.self (c.requires.1.0 t) (omega arith) c.zeros_of-zeros.ensures (c.loop-i.invariant.stays t)
     (c.in_err-fill.ensures.part told) (c.fill.ensures.crash told) (c.fill.ensures.time told)
 
@@ -23,10 +23,11 @@ pub loop-i-preserved : goal.loop-i-preserved
 loop-i-preserved g c = record {
   stays = λ t.
       let told = c.loop-i.invariant.tells t in
-      fill_all g.D.LogDisk.written g.D.LogDisk.may_leave g.D.LogDisk.moment g.D.LogDisk.left_since c.args.disk.now g.log
-      (4096 * c.args.from) (4096 * (c.args.from + 16 * c.loop-i.i)) c.zeros_of-zeros.result.now c.loop-i.disk
-      c.fill.new.self (c.requires.1.0 t) (omega arith) c.zeros_of-zeros.ensures (c.loop-i.invariant.stays t)
-      (c.in_ok-fill.ensures.written told) (c.fill.ensures.crash told) (c.fill.ensures.time told);
+      fill_all g.D.LogDisk.written g.D.LogDisk.may_leave g.D.LogDisk.moment g.D.LogDisk.left_since c.args.disk.now
+      g.log (4096 * c.args.from) (4096 * (c.args.from + 16 * c.loop-i.i)) c.zeros_of-zeros.result.now
+      c.loop-i.disk c.fill.new.self (c.requires.1.0 t) (omega arith) c.zeros_of-zeros.ensures
+      (c.loop-i.invariant.stays t) (c.in_ok-fill.ensures.written told) (c.fill.ensures.crash told)
+      (c.fill.ensures.time told);
   tells = λ t. c.fill.ensures.tells (c.loop-i.invariant.tells t);
   sound = c.fill.ensures.sound;
   count = c.in_ok-fill.ensures.ok ∙ c.loop-i.invariant.count;

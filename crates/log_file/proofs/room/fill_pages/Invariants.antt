@@ -6,8 +6,8 @@ use Rattle.log_file.proofs.room.fill_pages.Given as goal
 
 abbrev pub invariant-loop-i : goal.invariant-loop-i
 invariant-loop-i g l = record {
-  stays : g.D.LogDisk.tells l.initial.disk →
-      Stays g.D.LogDisk.written g.D.LogDisk.may_leave g.D.LogDisk.moment g.D.LogDisk.left_since (HoldsLog g.log)
+  stays : g.D.LogDisk.tells l.initial.disk
+      → Stays g.D.LogDisk.written g.D.LogDisk.may_leave g.D.LogDisk.moment g.D.LogDisk.left_since (HoldsLog g.log)
       l.initial.disk l.disk;
   tells : g.D.LogDisk.tells l.initial.disk → g.D.LogDisk.tells l.disk;
   sound : g.D.LogDisk.in_doubt l.disk ≡ false;

@@ -1,6 +1,7 @@
 use Rattle.std.proofs.Common.{◌≡◌, ◌*◌, ◌+◌, ◌-◌, length, arith, rules, subst}
 use Rattle.std.proofs.lemmas.Result.{on_ok_weaker}
-use Rattle.log_file.proofs.Again.{some_written, read_same, read_crash, read_time, again_same, again_longer, again_crash, again_time}
+use Rattle.log_file.proofs.Again.{some_written, read_same, read_crash, read_time, again_same, again_longer}
+use Rattle.log_file.proofs.Again.{again_crash, again_time}
 use Rattle.log_file.proofs.settle.write_page_again.Goals as goal
 
 pub returns-in_err-read_at-clause-same : goal.returns-in_err-read_at-clause-same
@@ -24,8 +25,9 @@ returns-clause-same g c = λ t.
     again_same g.D.LogDisk.written g.D.LogDisk.may_leave g.D.LogDisk.moment g.D.LogDisk.left_since c.args.disk.now
     c.read_at.new.self (c.read_at.ensures.same t) (c.read_at.ensures.crash t) (c.read_at.ensures.time t)
     c.write_at.new.self (4096 * c.args.page) c.read_at.new.buf (c.in_ok-read_at.ensures.read t)
-    (some_written c.write_at.result (4096 * c.args.page) c.read_at.new.buf (g.D.LogDisk.written c.read_at.new.self)
-    (g.D.LogDisk.written c.write_at.new.self) (c.write_at.ensures.written told) (c.write_at.ensures.part told))
+    (some_written c.write_at.result (4096 * c.args.page) c.read_at.new.buf
+    (g.D.LogDisk.written c.read_at.new.self) (g.D.LogDisk.written c.write_at.new.self)
+    (c.write_at.ensures.written told) (c.write_at.ensures.part told))
 
 pub returns-clause-longer : goal.returns-clause-longer
 returns-clause-longer g c = λ t.
@@ -33,8 +35,9 @@ returns-clause-longer g c = λ t.
     again_longer g.D.LogDisk.written g.D.LogDisk.may_leave g.D.LogDisk.moment g.D.LogDisk.left_since c.args.disk.now
     c.read_at.new.self (c.read_at.ensures.same t) (c.read_at.ensures.crash t) (c.read_at.ensures.time t)
     c.write_at.new.self (4096 * c.args.page) c.read_at.new.buf (c.in_ok-read_at.ensures.read t)
-    (some_written c.write_at.result (4096 * c.args.page) c.read_at.new.buf (g.D.LogDisk.written c.read_at.new.self)
-    (g.D.LogDisk.written c.write_at.new.self) (c.write_at.ensures.written told) (c.write_at.ensures.part told))
+    (some_written c.write_at.result (4096 * c.args.page) c.read_at.new.buf
+    (g.D.LogDisk.written c.read_at.new.self) (g.D.LogDisk.written c.write_at.new.self)
+    (c.write_at.ensures.written told) (c.write_at.ensures.part told))
 
 pub returns-clause-crash : goal.returns-clause-crash
 returns-clause-crash g c = λ t.

@@ -28,8 +28,8 @@ returns-clause-still c =
     let next = c.in_ok-pending.pending in
     let is : Holds c.args.at c.args.bytes.now old.written.items new.items = search rules in
     let pends : Holds c.args.at c.args.bytes.now old.pending.items next.items = search rules in
-    λ i was. write_still c.args.at c.args.bytes.now old.written.items new.items old.pending.items next.items is pends i
-    was
+    λ i was. write_still c.args.at c.args.bytes.now old.written.items new.items old.pending.items next.items is pends
+    i was
 
 pub returns-clause-crash : goal.returns-clause-crash
 returns-clause-crash c =

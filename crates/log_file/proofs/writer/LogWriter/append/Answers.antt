@@ -2,7 +2,8 @@ use Rattle.std.proofs.Common.{◌≡◌, ◌*◌, ◌+◌, ◌∙◌, List, ℕ,
 use Rattle.std.proofs.lemmas.Result.{err_from_is_err_and}
 use Rattle.log_file.specs.Logs.{with_next}
 use Rattle.log_file.proofs.LogLemmas.{log_is_read}
-use Rattle.log_file.proofs.Appending.{write_run, part_written, all_written, all_may_hold, sync_run, moments_of, unsettled_of, next_is_log, synced_left, settled_next}
+use Rattle.log_file.proofs.Appending.{write_run, part_written, all_written, all_may_hold, sync_run, moments_of}
+use Rattle.log_file.proofs.Appending.{unsettled_of, next_is_log, synced_left, settled_next}
 use Rattle.log_file.proofs.writer.LogWriter.append.Goals as goal
 
 pub returns-in_err-write_at-clause-any_moment : goal.returns-in_err-write_at-clause-any_moment
@@ -13,8 +14,8 @@ returns-in_err-write_at-clause-any_moment g c = λ t.
     c.write_at.new.self (g.met.D.LogDisk.only_now c.args.disk.now)
     (part_written g.D.LogDisk.written g.D.LogDisk.may_leave g.D.LogDisk.moment g.D.LogDisk.left_since
     c.args.disk.now c.args.self.now g.known.0 g.known.1 c.args.bytes.now c.args.pages c.args.batches can
-    c.write_at.new.self (c.in_err-write_at.ensures.part t)) (c.write_at.ensures.crash t) (c.write_at.ensures.time t)
-    in
+    c.write_at.new.self (c.in_err-write_at.ensures.part t)) (c.write_at.ensures.crash t)
+    (c.write_at.ensures.time t) in
     moments_of g.D.LogDisk.written g.D.LogDisk.may_leave g.D.LogDisk.moment g.D.LogDisk.left_since c.args.disk.now
     c.args.self.now g.known.0 g.known.1 c.args.bytes.now c.args.pages c.args.batches can c.write_at.new.self run
 
@@ -26,8 +27,8 @@ returns-in_err-write_at-clause-failed g c = λ t.
     c.write_at.new.self (g.met.D.LogDisk.only_now c.args.disk.now)
     (part_written g.D.LogDisk.written g.D.LogDisk.may_leave g.D.LogDisk.moment g.D.LogDisk.left_since
     c.args.disk.now c.args.self.now g.known.0 g.known.1 c.args.bytes.now c.args.pages c.args.batches can
-    c.write_at.new.self (c.in_err-write_at.ensures.part t)) (c.write_at.ensures.crash t) (c.write_at.ensures.time t)
-    in
+    c.write_at.new.self (c.in_err-write_at.ensures.part t)) (c.write_at.ensures.crash t)
+    (c.write_at.ensures.time t) in
     let p = err_from_is_err_and c.from_residual.result c.from_residual.ensures.1 in
     rw p.1 (unsettled_of g.D.LogDisk.written g.D.LogDisk.may_leave g.D.LogDisk.moment g.D.LogDisk.left_since
     c.args.disk.now c.args.self.now g.known.0 g.known.1 c.args.bytes.now c.args.pages c.args.batches can
@@ -126,10 +127,10 @@ returns-clause-durable g c = λ t.
     c.write_at.new.self c.sync.new.self wrote (c.sync.ensures.same told) (c.sync.ensures.crash told)
     (c.sync.ensures.time told) in
     λ left now. log_is_read (with_next g.known.0 g.known.1) left
-    (next_is_log g.D.LogDisk.written g.D.LogDisk.may_leave g.D.LogDisk.moment g.D.LogDisk.left_since c.args.disk.now
-    c.args.self.now g.known.0 g.known.1 c.args.bytes.now c.args.pages c.args.batches can c.requires.1.1.places)
-    (synced_left g.D.LogDisk.written g.D.LogDisk.may_leave g.D.LogDisk.moment g.D.LogDisk.left_since c.args.disk.now
-    c.args.self.now g.known.0 g.known.1 c.args.bytes.now c.args.pages c.args.batches can c.write_at.new.self
-    c.sync.new.self left run holds now
+    (next_is_log g.D.LogDisk.written g.D.LogDisk.may_leave g.D.LogDisk.moment g.D.LogDisk.left_since
+    c.args.disk.now c.args.self.now g.known.0 g.known.1 c.args.bytes.now c.args.pages c.args.batches can
+    c.requires.1.1.places) (synced_left g.D.LogDisk.written g.D.LogDisk.may_leave g.D.LogDisk.moment
+    g.D.LogDisk.left_since c.args.disk.now c.args.self.now g.known.0 g.known.1 c.args.bytes.now c.args.pages
+    c.args.batches can c.write_at.new.self c.sync.new.self left run holds now
     (λ j lt. c.in_ok-sync.ensures.durable told left now (4096 * c.args.self.now.page + j)
     (c.in_ok-write_at.ensures.fresh t j lt)))

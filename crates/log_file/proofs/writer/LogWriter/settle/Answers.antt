@@ -2,7 +2,9 @@ use Rattle.std.proofs.Common.{◌≡◌, ◌*◌, ◌+◌, ◌∙◌, ◌<◌, �
 use Rattle.std.proofs.lemmas.Bool.{cases_lt}
 use Rattle.std.proofs.lemmas.Result.{err_from_is_err_and}
 use Rattle.log_disk.proofs.Steps.{cut_may}
-use Rattle.log_file.proofs.Settled.{next_after_cut, next_after_page, next_after_sync, next_moments, next_unsettled, whole_after_cut, whole_after_page, settled_after_sync, gone_after_cut, gone_after_page, gone_after_sync, gone_moments}
+use Rattle.log_file.proofs.Settled.{next_after_cut, next_after_page, next_after_sync, next_moments, next_unsettled}
+use Rattle.log_file.proofs.Settled.{whole_after_cut, whole_after_page, settled_after_sync, gone_after_cut}
+use Rattle.log_file.proofs.Settled.{gone_after_page, gone_after_sync, gone_moments}
 use Rattle.log_file.proofs.writer.LogWriter.settle.Goals as goal
 
 pub returns-in_err-cut-clause-any_moment : goal.returns-in_err-cut-clause-any_moment
@@ -79,8 +81,8 @@ returns-in_err-sync-clause-any_moment g c = λ t.
     let told = c.loop-page.invariant.tells t in
     let run = next_after_sync g.D.LogDisk.written g.D.LogDisk.may_leave g.D.LogDisk.moment g.D.LogDisk.left_since
     c.args.disk.now c.args.first c.args.end.now g.known.0 g.known.1 r c.loop-page.disk c.sync.new.self
-    (c.loop-page.invariant.next t) (c.sync.ensures.same told) (c.sync.ensures.crash told) (c.sync.ensures.time told)
-    in
+    (c.loop-page.invariant.next t) (c.sync.ensures.same told) (c.sync.ensures.crash told)
+    (c.sync.ensures.time told) in
     next_moments g.D.LogDisk.written g.D.LogDisk.may_leave g.D.LogDisk.moment g.D.LogDisk.left_since c.args.disk.now
     c.args.first c.args.end.now g.known.0 g.known.1 r c.sync.new.self run
 
@@ -101,8 +103,8 @@ returns-in_err-sync-clause-failed g c = λ t.
     let told = c.loop-page.invariant.tells t in
     let run = next_after_sync g.D.LogDisk.written g.D.LogDisk.may_leave g.D.LogDisk.moment g.D.LogDisk.left_since
     c.args.disk.now c.args.first c.args.end.now g.known.0 g.known.1 r c.loop-page.disk c.sync.new.self
-    (c.loop-page.invariant.next t) (c.sync.ensures.same told) (c.sync.ensures.crash told) (c.sync.ensures.time told)
-    in
+    (c.loop-page.invariant.next t) (c.sync.ensures.same told) (c.sync.ensures.crash told)
+    (c.sync.ensures.time told) in
     let p = err_from_is_err_and c.from_residual-in_err-sync.result c.from_residual-in_err-sync.ensures.1 in
     rw p.1 (next_unsettled g.D.LogDisk.written g.D.LogDisk.may_leave g.D.LogDisk.moment g.D.LogDisk.left_since
     c.args.disk.now c.args.first c.args.end.now g.known.0 g.known.1 r c.sync.new.self run)
@@ -113,8 +115,8 @@ returns-clause-any_moment g c = λ t.
     let told = c.loop-page.invariant.tells t in
     let run = next_after_sync g.D.LogDisk.written g.D.LogDisk.may_leave g.D.LogDisk.moment g.D.LogDisk.left_since
     c.args.disk.now c.args.first c.args.end.now g.known.0 g.known.1 r c.loop-page.disk c.sync.new.self
-    (c.loop-page.invariant.next t) (c.sync.ensures.same told) (c.sync.ensures.crash told) (c.sync.ensures.time told)
-    in
+    (c.loop-page.invariant.next t) (c.sync.ensures.same told) (c.sync.ensures.crash told)
+    (c.sync.ensures.time told) in
     next_moments g.D.LogDisk.written g.D.LogDisk.may_leave g.D.LogDisk.moment g.D.LogDisk.left_since c.args.disk.now
     c.args.first c.args.end.now g.known.0 g.known.1 r c.sync.new.self run
 
@@ -135,10 +137,10 @@ returns-clause-settled g c = λ t found read.
     let told = c.loop-page.invariant.tells t in
     let run = next_after_sync g.D.LogDisk.written g.D.LogDisk.may_leave g.D.LogDisk.moment g.D.LogDisk.left_since
     c.args.disk.now c.args.first c.args.end.now g.known.0 g.known.1 r c.loop-page.disk c.sync.new.self
-    (c.loop-page.invariant.next t) (c.sync.ensures.same told) (c.sync.ensures.crash told) (c.sync.ensures.time told)
-    in
-    let brought : (left : List ℕ) → g.D.LogDisk.may_leave c.sync.new.self left → (i : ℕ) →
-    4096 * c.args.end.now.last ≤ i → get_or left i 0 ≡ get_or (g.D.LogDisk.written c.loop-page.disk) i 0 =
+    (c.loop-page.invariant.next t) (c.sync.ensures.same told) (c.sync.ensures.crash told)
+    (c.sync.ensures.time told) in
+    let brought : (left : List ℕ) → g.D.LogDisk.may_leave c.sync.new.self left → (i : ℕ)
+    → 4096 * c.args.end.now.last ≤ i → get_or left i 0 ≡ get_or (g.D.LogDisk.written c.loop-page.disk) i 0 =
     λ left now i le.
     c.in_ok-sync.ensures.durable told left now i
     (elim (cases_lt i (4096 * c.loop-page.page)) [
@@ -147,8 +149,8 @@ returns-clause-settled g c = λ t found read.
           (omega (arith, c.loop-page-test.false))
     ]) in
     settled_after_sync g.D.LogDisk.written g.D.LogDisk.may_leave g.D.LogDisk.moment g.D.LogDisk.left_since
-    c.args.disk.now c.args.first c.args.end.now g.known.0 g.known.1 r found read c.loop-page.disk c.sync.new.self _
-    c.new.ensures.first c.new.ensures.next c.new.ensures.page run (c.loop-page.invariant.whole t found read)
+    c.args.disk.now c.args.first c.args.end.now g.known.0 g.known.1 r found read c.loop-page.disk c.sync.new.self
+    _ c.new.ensures.first c.new.ensures.next c.new.ensures.page run (c.loop-page.invariant.whole t found read)
     (c.sync.ensures.same told) brought
 
 pub loop-page-init : goal.loop-page-init
@@ -157,20 +159,19 @@ loop-page-init g c = record {
       let r = c.requires.1.0 t in
       let part = cut_may (4096 * c.args.end.now.page) (g.D.LogDisk.written c.args.disk.now)
       (g.D.LogDisk.written c.cut.new.self) (c.in_ok-cut.ensures.cut t) in
-      next_after_cut g.D.LogDisk.written g.D.LogDisk.may_leave g.D.LogDisk.moment g.D.LogDisk.left_since c.args.disk.now
-      c.args.first c.args.end.now g.known.0 g.known.1 r c.cut.new.self (g.met.D.LogDisk.only_now c.args.disk.now)
-      part (c.cut.ensures.crash t) (c.cut.ensures.time t);
+      next_after_cut g.D.LogDisk.written g.D.LogDisk.may_leave g.D.LogDisk.moment g.D.LogDisk.left_since
+      c.args.disk.now c.args.first c.args.end.now g.known.0 g.known.1 r c.cut.new.self
+      (g.met.D.LogDisk.only_now c.args.disk.now) part (c.cut.ensures.crash t) (c.cut.ensures.time t);
   gone = λ t found read only.
       let r = c.requires.1.0 t in
       let part = cut_may (4096 * c.args.end.now.page) (g.D.LogDisk.written c.args.disk.now)
       (g.D.LogDisk.written c.cut.new.self) (c.in_ok-cut.ensures.cut t) in
-      gone_after_cut g.D.LogDisk.written g.D.LogDisk.may_leave g.D.LogDisk.moment g.D.LogDisk.left_since c.args.disk.now
-      c.args.first c.args.end.now g.known.0 g.known.1 r found read only c.cut.new.self
+      gone_after_cut g.D.LogDisk.written g.D.LogDisk.may_leave g.D.LogDisk.moment g.D.LogDisk.left_since
+      c.args.disk.now c.args.first c.args.end.now g.known.0 g.known.1 r found read only c.cut.new.self
       (g.met.D.LogDisk.only_now c.args.disk.now) part (c.cut.ensures.crash t) (c.cut.ensures.time t);
-  whole = λ t found read. let r = c.requires.1.0 t in
-      whole_after_cut g.D.LogDisk.written g.D.LogDisk.may_leave g.D.LogDisk.moment g.D.LogDisk.left_since
-      c.args.disk.now c.args.first c.args.end.now g.known.0 g.known.1 r found read c.cut.new.self
-      (c.in_ok-cut.ensures.cut t);
+  whole = λ t found read. let r = c.requires.1.0 t in whole_after_cut g.D.LogDisk.written g.D.LogDisk.may_leave
+      g.D.LogDisk.moment g.D.LogDisk.left_since c.args.disk.now c.args.first c.args.end.now g.known.0 g.known.1 r
+      found read c.cut.new.self (c.in_ok-cut.ensures.cut t);
   fresh = λ t i low high. absurd (omega arith);
   behind = λ t i le. c.in_ok-cut.ensures.fresh t i le;
   tells = c.cut.ensures.tells;
