@@ -1,6 +1,8 @@
 -- Parts of a page of bytes: what stands from one place to another.
-use Rattle.std.proofs.Common.{◌≡◌, ℕ, zero, suc, ◌+◌, ◌-◌, ◌*◌, ◌%◌, ◌^◌, ◌<◌, ◌≤◌, Bool, true, false, List, [], ◌∷◌, ◌++◌}
-use Rattle.std.proofs.Common.{length, get_or, take, drop, replicate, flat_map, refl, sym, ap, subst, ◌∙◌, append_assoc, arith}
+use Rattle.std.proofs.Common.{◌≡◌, ℕ, zero, suc, ◌+◌, ◌-◌, ◌*◌, ◌%◌, ◌^◌, ◌<◌, ◌≤◌, Bool, true, false, List, [], ◌∷◌}
+use Rattle.std.proofs.Common.{◌++◌}
+use Rattle.std.proofs.Common.{length, get_or, take, drop, replicate, flat_map, refl, sym, ap, subst, ◌∙◌}
+use Rattle.std.proofs.Common.{append_assoc, arith}
 use Rattle.std.specs.Prelude.{◌==◌, slice_index}
 use Rattle.std.specs.Int.{Width, w8, w32, w64, byte_len, from_be_bytes}
 use Rattle.std.proofs.lemmas.Bool.{and_parts, eqb-true}

@@ -12,7 +12,8 @@ use Rattle.snap_file.proofs.Fields.{wide32, wide64}
 use Rattle.snap_file.proofs.Kept.{CutsFrom, cuts_of as cuts_from_one}
 use Rattle.log_page.specs.Pages.{is_blank}
 use Rattle.log_head.specs.declared.head.LogHead.{LogHead}
-use Rattle.log_head.specs.Heads.{mark, version, setup_bytes, field_bytes, fields_end, front_of, head_page, u64_in, u32_in}
+use Rattle.log_head.specs.Heads.{mark, version, setup_bytes, field_bytes, fields_end, front_of, head_page, u64_in}
+use Rattle.log_head.specs.Heads.{u32_in}
 use Rattle.log_head.specs.Heads.{cuts_of, cut_count, behind_cuts, head_in, filler, HasCheck, IsHead}
 use Rattle.log_head.proofs.PageParts.{zeros_blank}
 

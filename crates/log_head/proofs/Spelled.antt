@@ -5,17 +5,20 @@ use Rattle.std.proofs.Common.{◌≡◌, ℕ, suc, ◌+◌, ◌-◌, ◌*◌, �
 use Rattle.std.proofs.Common.{length, take, drop, replicate, flat_map, refl, sym, ap, subst, ◌∙◌, append_assoc, arith}
 use Rattle.std.specs.Prelude.{slice_index}
 use Rattle.std.specs.Int.{w8, w32, w64, from_be_bytes}
-use Rattle.std.proofs.lemmas.List.{take-append-drop, length-append, length-take, length-drop, drop-drop, drop_all, take_at}
+use Rattle.std.proofs.lemmas.List.{take-append-drop, length-append, length-take, length-drop, drop-drop, drop_all}
+use Rattle.std.proofs.lemmas.List.{take_at}
 use Rattle.std.proofs.lemmas.List.{append-nil, get_or-drop}
 use Rattle.byte_io.proofs.BufferLemmas.{bytes_behind}
 use Rattle.crc32c.specs.Remainders.{checksum_of}
 use Rattle.snap_file.specs.Spelling.{IsBytes, number_bytes}
 use Rattle.snap_file.proofs.Fields.{wide32, wide64}
 use Rattle.log_page.specs.Pages.{is_blank}
-use Rattle.log_head.specs.Heads.{mark, version, setup_bytes, field_bytes, fields_end, front_of, head_page, u64_in, u32_in}
+use Rattle.log_head.specs.Heads.{mark, version, setup_bytes, field_bytes, fields_end, front_of, head_page, u64_in}
+use Rattle.log_head.specs.Heads.{u32_in}
 use Rattle.log_head.specs.Heads.{cuts_of, cut_count, behind_cuts, setup_in, head_in, filler, HasCheck, IsHead, HasHead}
 use Rattle.log_head.specs.Heads.{HasFields}
-use Rattle.log_head.proofs.PageParts.{Stands, stands_on, number_stands, byte_stands, stands_as, length-cuts_of, cuts_stand}
+use Rattle.log_head.proofs.PageParts.{Stands, stands_on, number_stands, byte_stands, stands_as, length-cuts_of}
+use Rattle.log_head.proofs.PageParts.{cuts_stand}
 use Rattle.log_head.proofs.PageParts.{blank_is}
 
 module _ (p : List ℕ) (bytes : IsBytes p) (len : length p ≡ 4096) (few : cut_count p ≤ 7) where
@@ -60,8 +63,8 @@ module _ (p : List ℕ) (bytes : IsBytes p) (len : length p ≡ 4096) (few : cut
       (stands_as p 28 29 w8 n _ (sym (length-cuts_of n (drop 29 p))) (byte_stands p bytes 28 29 refl (omega arith)))
       (stands_on p 29 (29 + 8 * n) (46 + 8 * n) _ _ cuts_part
       (stands_on p (29 + 8 * n) (30 + 8 * n) (46 + 8 * n) _ _
-      (stands_as p (29 + 8 * n) (30 + 8 * n) w8 _ _ shards_is
-      (byte_stands p bytes (29 + 8 * n) (30 + 8 * n) (omega arith) (omega arith)))
+      (stands_as p (29 + 8 * n) (30 + 8 * n) w8 _ _ shards_is (byte_stands p bytes (29 + 8 * n) (30 + 8 * n)
+      (omega arith) (omega arith)))
       (stands_on p (30 + 8 * n) (38 + 8 * n) (46 + 8 * n) _ _
       (behind64 1 (30 + 8 * n) (38 + 8 * n) (omega arith) (omega arith) (omega arith))
       (behind64 9 (38 + 8 * n) (46 + 8 * n) (omega arith) (omega arith) (omega arith)))))))

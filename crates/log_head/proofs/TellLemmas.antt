@@ -1,5 +1,6 @@
 -- What is read of a page field by field is the head that the page says.
-use Rattle.std.proofs.Common.{◌≡◌, ℕ, ◌+◌, ◌*◌, ◌^◌, ◌<◌, ◌≤◌, true, List, drop, length, refl, sym, ap, subst, ◌∙◌, arith}
+use Rattle.std.proofs.Common.{◌≡◌, ℕ, ◌+◌, ◌*◌, ◌^◌, ◌<◌, ◌≤◌, true, List, drop, length, refl, sym, ap, subst, ◌∙◌}
+use Rattle.std.proofs.Common.{arith}
 use Rattle.std.specs.Prelude.{slice_index}
 use Rattle.batch_store.specs.Setups.{Setting, setting, IsSetting, FirstFails}
 use Rattle.batch_store.specs.declared.fault.SetupFault.{SetupFault}
@@ -8,7 +9,8 @@ use Rattle.batch_store.specs.declared.fault.SetupFault.TheVariants.{BadBatches}
 use Rattle.snap_file.specs.Spelling.{IsBytes}
 use Rattle.log_page.specs.Pages.{is_blank}
 use Rattle.log_head.specs.declared.head.LogHead.{LogHead}
-use Rattle.log_head.specs.Heads.{HasCheck, HasHead, HasVersion, IsHead, behind_cuts, cut_count, cuts_of, filler, head_in}
+use Rattle.log_head.specs.Heads.{HasCheck, HasHead, HasVersion, IsHead, behind_cuts, cut_count, cuts_of, filler}
+use Rattle.log_head.specs.Heads.{head_in}
 use Rattle.log_head.specs.Heads.{setup_in, u32_in, u64_in}
 use Rattle.log_head.proofs.Spelled.{spelled}
 

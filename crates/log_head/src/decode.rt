@@ -1,5 +1,6 @@
 //! Reads the head page of a log.
-ghost use Rattle.std.specs.Prelude.{◌≡◌, ◌+◌, ◌*◌, ◌<◌, ◌≤◌, ◌^◌, true, false, length, drop, take, slice_index, Ok, Err, OnOk};
+ghost use Rattle.std.specs.Prelude.{◌≡◌, ◌+◌, ◌*◌, ◌<◌, ◌≤◌, ◌^◌, true, false, length, drop, take, slice_index, Ok};
+ghost use Rattle.std.specs.Prelude.{Err, OnOk};
 ghost use Rattle.std.specs.Prelude.{IfOk, IfErr};
 ghost use Rattle.std.specs.Int.{w32, w64, from_be_bytes};
 ghost use Rattle.batch_store.specs.Setups.{IsSetting};
@@ -95,10 +96,10 @@ fn setup_told(page: &[u8; PAGE], count: usize) -> Result<Setup, LogKind>
 
 // Whether what a head says of the batches before it lies within what its setup allows.
 fn fits_setup(head: &LogHead) -> bool
-    ensures yes { result ≡ true →
-        (head.now.first ≤ head.now.setup.max_batches) × (head.now.total ≤ head.now.setup.limit) }
-    ensures no { result ≡ false →
-        head.now.first ≤ head.now.setup.max_batches → head.now.total ≤ head.now.setup.limit → ⊥ }
+    ensures yes { result ≡ true → (head.now.first ≤ head.now.setup.max_batches) ×
+        (head.now.total ≤ head.now.setup.limit) }
+    ensures no { result ≡ false → head.now.first ≤ head.now.setup.max_batches →
+        head.now.total ≤ head.now.setup.limit → ⊥ }
 {
     head.first <= head.setup.max_batches() && head.total <= head.setup.limit()
 }

@@ -1,6 +1,8 @@
 -- Which entries are fresh behind a list, by the pairs, the number and the total of the list.
-use Rattle.std.proofs.Common.{◌≡◌, ◌≢◌, ℕ, suc, ◌+◌, ◌<◌, ◌≤◌, Bool, true, false, cond, not, eqb, ◌&&◌, ◌||◌, List, [], ◌∷◌, ◌++◌}
-use Rattle.std.proofs.Common.{length, take, Option, None, Some, position, refl, sym, ap, subst, ◌∙◌, append_assoc, append-nil, arith}
+use Rattle.std.proofs.Common.{◌≡◌, ◌≢◌, ℕ, suc, ◌+◌, ◌<◌, ◌≤◌, Bool, true, false, cond, not, eqb, ◌&&◌, ◌||◌, List}
+use Rattle.std.proofs.Common.{[], ◌∷◌, ◌++◌}
+use Rattle.std.proofs.Common.{length, take, Option, None, Some, position, refl, sym, ap, subst, ◌∙◌, append_assoc}
+use Rattle.std.proofs.Common.{append-nil, arith}
 use Rattle.std.specs.Prelude.{◌==◌, nat_lt, nat_le, if◌then◌else◌}
 use Rattle.std.specs.List.{AllByRecursion}
 use Rattle.std.proofs.lemmas.Bool.{or_from, or_parts}
@@ -71,7 +73,8 @@ never_stale limit most es [] behind b all stale =
     stale (subst (λ (l : List Entry). verdict_of limit most l b ≡ Fresh) (sym (append-nil es)) all.0)
 never_stale limit most es (x ∷ front) behind b all stale =
     never_stale limit most (es ++ x ∷ []) front behind b all.1
-    (λ fresh. stale (subst (λ (l : List Entry). verdict_of limit most l b ≡ Fresh) (append_assoc es (x ∷ []) front) fresh))
+    (λ fresh. stale (subst (λ (l : List Entry). verdict_of limit most l b ≡ Fresh) (append_assoc es
+    (x ∷ []) front) fresh))
 
 pub one_stale : (limit most : ℕ) (es f g e d : List Entry) (b c : Entry) → f ++ b ∷ e ≡ g ++ c ∷ d →
     AllFresh limit most es f → AllFresh limit most es g → verdict_of limit most (es ++ f) b ≢ Fresh →

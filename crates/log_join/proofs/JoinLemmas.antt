@@ -1,6 +1,8 @@
 -- A list with the batches of a log behind it.
-use Rattle.std.proofs.Common.{◌≡◌, ◌≢◌, ℕ, zero, suc, ◌+◌, ◌-◌, ◌<◌, ◌≤◌, List, [], ◌∷◌, ◌++◌, length, take, drop, slice_get}
-use Rattle.std.proofs.Common.{◌⊎◌, map, Some, None, refl, sym, ap, subst, ◌∙◌, append_assoc, append-nil, length-append, length-take, inl, inr, arith}
+use Rattle.std.proofs.Common.{◌≡◌, ◌≢◌, ℕ, zero, suc, ◌+◌, ◌-◌, ◌<◌, ◌≤◌, List, [], ◌∷◌, ◌++◌, length, take, drop}
+use Rattle.std.proofs.Common.{slice_get}
+use Rattle.std.proofs.Common.{◌⊎◌, map, Some, None, refl, sym, ap, subst, ◌∙◌, append_assoc, append-nil}
+use Rattle.std.proofs.Common.{length-append, length-take, inl, inr, arith}
 use Rattle.std.specs.Arc.{arc_value}
 use Rattle.std.proofs.lemmas.Bool.{cases_lt}
 use Rattle.std.proofs.lemmas.List.{length-map, map-append, drop-map, drop_all, take-append-drop}
@@ -132,7 +134,8 @@ module _ (limit most : ℕ) (v old : Listing) (xs : List Submission) (i : ℕ) (
       is
       ∙ (λ j. listing (told j).base (told j).folded ((told j).list ++ b ∷ []))
       ∙ ap (λ (l : List Submission). listing v.base v.folded l)
-      (append_assoc v.list (take i xs) (b ∷ []) ∙ ap (λ (l : List Submission). v.list ++ l) (sym (next_taken xs i b here)))
+      (append_assoc v.list (take i xs) (b ∷ [])
+      ∙ ap (λ (l : List Submission). v.list ++ l) (sym (next_taken xs i b here)))
 
   old_entries : known_entries old ≡ known_entries v ++ entries_of (take i xs)
   old_entries = ap known_entries told ∙ entries-joined v (take i xs)
@@ -225,7 +228,8 @@ if_err_map (Err e) f a = f e a
 
 -- ---- a log beside a list
 
-pub beside_of : {Z : Type 0} (s : Setting) (es : List Entry) (h : LogHead) (bs : List (Arc Submission Z)) (count shared : ℕ) →
+pub beside_of : {Z : Type 0} (s : Setting) (es : List Entry) (h : LogHead) (bs : List (Arc Submission Z))
+    (count shared : ℕ) →
     IsLinked s es h → count ≡ length es → shared ≤ length bs → (shared < length bs → h.first + shared ≡ count) →
     ((i : ℕ) → i < shared → slice_get es (h.first + i) ≡ slice_get (entries_of (values bs)) i) →
     IsBeside s es h (entries_of (values bs))
@@ -242,8 +246,10 @@ place_of count first shared logged n more within all is = elim (cases_lt shared 
   | inr ge ↦ absurd (more (omega arith))
 ]
 
-pub joins_shared : {Z : Type 0} (s : Setting) (v : Listing) (h : LogHead) (bs : List (Arc Submission Z)) (count shared : ℕ) →
-    IsBeside s (known_entries v) h (entries_of (values bs)) → count ≡ length (known_entries v) → h.first + shared ≤ count →
+pub joins_shared : {Z : Type 0} (s : Setting) (v : Listing) (h : LogHead) (bs : List (Arc Submission Z))
+    (count shared : ℕ) →
+    IsBeside s (known_entries v) h (entries_of (values bs)) → count ≡ length (known_entries v) →
+    h.first + shared ≤ count →
     shared ≡ length bs → AreAccepted s (accepted_in v) → Joins s v h (values bs) v
 joins_shared s v h bs count shared beside count_is listed whole accepted =
     joins_nothing s v h (values bs) beside (let a = length-map bs arc_value in omega arith) accepted

@@ -1,5 +1,6 @@
 -- One refusal at most, and none where a list is made.
-use Rattle.std.proofs.Common.{◌≡◌, ◌≢◌, ℕ, ◌+◌, ◌<◌, ◌≤◌, List, [], ◌∷◌, ◌++◌, length, slice_get, Some, refl, sym, ap, subst, ◌∙◌, inl, inr, arith}
+use Rattle.std.proofs.Common.{◌≡◌, ◌≢◌, ℕ, ◌+◌, ◌<◌, ◌≤◌, List, [], ◌∷◌, ◌++◌, length, slice_get, Some, refl, sym, ap}
+use Rattle.std.proofs.Common.{subst, ◌∙◌, inl, inr, arith}
 use Rattle.std.proofs.lemmas.Bool.{cases_lt}
 use mathlib.Core.List.{IsPrefix}
 use Rattle.batch_store.specs.declared.verdict.Entry.{Entry}
@@ -22,7 +23,8 @@ never_gap s es h first g no_gap = let a = g.gap in omega arith
 never_unlinked : (s : Setting) (es : List Entry) (h : LogHead) → IsUnlinked s es h → IsLinked s es h → ⊥
 never_unlinked s es h u l = u.differs l.total l.link
 
-never_differs : (first : ℕ) (es entries : List Entry) (at : ℕ) → DiffersAt first es entries at → Agrees first es entries → ⊥
+never_differs : (first : ℕ) (es entries : List Entry) (at : ℕ) → DiffersAt first es entries at →
+    Agrees first es entries → ⊥
 never_differs first es entries at d same =
     let within = d.within in
     let is = d.at_is in

@@ -1,5 +1,6 @@
 -- What stands at a place of a list.
-use Rattle.std.proofs.Common.{◌≡◌, ℕ, zero, suc, ◌+◌, ◌-◌, ◌<◌, ◌≤◌, List, [], ◌∷◌, ◌++◌, length, take, drop, map, get_or}
+use Rattle.std.proofs.Common.{◌≡◌, ℕ, zero, suc, ◌+◌, ◌-◌, ◌<◌, ◌≤◌, List, [], ◌∷◌, ◌++◌, length, take, drop, map}
+use Rattle.std.proofs.Common.{get_or}
 use Rattle.std.proofs.Common.{slice_get, Some, None, refl, sym, ap, subst, ◌∙◌, inl, inr, arith}
 use Rattle.std.specs.Arc.{arc_value}
 use Rattle.std.specs.declared.sync.Arc.{Arc}
@@ -68,7 +69,8 @@ total_within es i =
 -- the same up to the next place
 pub same_more : (es entries : List Entry) (first i : ℕ) →
     ((j : ℕ) → j < i → slice_get es (first + j) ≡ slice_get entries j) →
-    slice_get es (first + i) ≡ slice_get entries i → (j : ℕ) → j < i + 1 → slice_get es (first + j) ≡ slice_get entries j
+    slice_get es (first + i) ≡ slice_get entries i → (j : ℕ) → j < i + 1 →
+    slice_get es (first + j) ≡ slice_get entries j
 same_more es entries first i same here j within = elim (cases_lt j i) [
   | inl less ↦ same j less
   | inr ge ↦ (let e : i ≡ j = omega arith in subst (λ (k : ℕ). slice_get es (first + k) ≡ slice_get entries k) e here)

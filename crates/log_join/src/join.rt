@@ -97,7 +97,7 @@ fn append_new(
     Ok(list)
 }
 
-/// The list of a snapshot and a log: that of the snapshot, and behind it the log's batches at the places from its end on.
+/// The list of a snapshot and a log: that of the snapshot, and behind it the log's batches at places from its end on.
 /// A log that ends before the snapshot does adds nothing. Where there is no snapshot the list is an empty one.
 ///
 /// It costs one pass over the entries before the log, and where the log goes on behind the snapshot the time of a

@@ -1,5 +1,6 @@
 //! The entries of a snapshot's list.
-ghost use Rattle.std.specs.Prelude.{◌≡◌, ◌≢◌, ◌↔◌, ◌+◌, ◌<◌, ◌≤◌, ◌^◌, true, false, ℕ, Some, List, OnOk, IfErr, length, slice_get, take};
+ghost use Rattle.std.specs.Prelude.{◌≡◌, ◌≢◌, ◌↔◌, ◌+◌, ◌<◌, ◌≤◌, ◌^◌, true, false, ℕ, Some, List, OnOk, IfErr};
+ghost use Rattle.std.specs.Prelude.{length, slice_get, take};
 ghost use Rattle.batch_store.specs.Batches.{Submission, entry_of, entries_of, values};
 ghost use Rattle.batch_store.specs.Books.{AreAccepted, accepted_in};
 ghost use Rattle.batch_store.specs.Verdicts.{total_of_entries};

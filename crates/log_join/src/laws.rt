@@ -15,7 +15,8 @@ pub fn a_join_has_one_outcome()
         f ≢ JoinFault.Memory → g ≢ JoinFault.Memory → RefusesJoin s v h bs f → RefusesJoin s v h bs g → f ≡ g }
     ensures list { (s : Setting) (v : Listing) (h : LogHead) (bs : List Submission) (a b : Listing) →
         Joins s v h bs a → Joins s v h bs b → a ≡ b }
-    ensures no_fault { (s : Setting) (v : Listing) (h : LogHead) (bs : List Submission) (list : Listing) (f : JoinFault) →
+    ensures no_fault { (s : Setting) (v : Listing) (h : LogHead) (bs : List Submission) (list : Listing)
+        (f : JoinFault) →
         f ≢ JoinFault.Memory → Joins s v h bs list → RefusesJoin s v h bs f → ⊥ }
 {}
 

@@ -6,4 +6,8 @@ mod blocks;
 #[cfg(test)]
 mod examples;
 #[cfg(test)]
+mod heads;
+#[cfg(test)]
+mod joins;
+#[cfg(test)]
 mod pages;

@@ -10,8 +10,8 @@ cuts_at-cuts-requires-clause-bytes c =
 pub returns-in-Ok-clause-ok : goal.returns-in-Ok-clause-ok
 returns-in-Ok-clause-ok c = (
   c.in-Ok.ensures.ok.0
-      ∙ setup_same c.args.page.now c.args.count c.behind-rest.result.now c.requires.count c.behind-rest.ensures _ _ _ _
-      _ _
+      ∙ setup_same c.args.page.now c.args.count c.behind-rest.result.now c.requires.count c.behind-rest.ensures _ _ _
+      _ _ _
       c.u64_at-rows.ensures c.u64_at-cols.ensures
       (c.cuts_at-cuts.ensures ∙ ap (λ (l : List ℕ). cuts_of c.args.count l) c.behind-listed.ensures)
       c.u8_at-shards.ensures c.u64_at-limit.ensures c.u64_at-most.ensures,
@@ -22,8 +22,8 @@ pub returns-in-Err-clause-err : goal.returns-in-Err-clause-err
 returns-in-Err-clause-err c = (
   refl,
   setup_refused c.args.page.now _ _
-      (setup_same c.args.page.now c.args.count c.behind-rest.result.now c.requires.count c.behind-rest.ensures _ _ _ _ _
-      _
+      (setup_same c.args.page.now c.args.count c.behind-rest.result.now c.requires.count c.behind-rest.ensures _ _ _
+      _ _ _
       c.u64_at-rows.ensures c.u64_at-cols.ensures
       (c.cuts_at-cuts.ensures ∙ ap (λ (l : List ℕ). cuts_of c.args.count l) c.behind-listed.ensures)
       c.u8_at-shards.ensures c.u64_at-limit.ensures c.u64_at-most.ensures) c.in-Err.ensures.err,

@@ -38,10 +38,12 @@ batches-preserved c =
     let here = item_at bs c.batches.i d c.batches-test.true c.index-batches-i.is in
     let inv = c.batches.invariant in
     record {
-      list = listed_more s.limit s.max_batches c.args.known c.batches.list (values bs) c.batches.i (arc_value d) inv.list here
+      list = listed_more s.limit s.max_batches c.args.known c.batches.list (values bs) c.batches.i
+          (arc_value d) inv.list here
           c.take_batch.new.list c.in_ok-take_batch.ensures.list;
       seen = c.in_ok-take_batch.ensures.seen;
       accepted = c.in_ok-take_batch.ensures.accepted;
-      fresh = fresh_more s.limit s.max_batches c.args.known c.batches.list (values bs) c.batches.i (arc_value d) inv.list
+      fresh = fresh_more s.limit s.max_batches c.args.known c.batches.list (values bs) c.batches.i
+          (arc_value d) inv.list
           here inv.fresh c.in_ok-take_batch.ensures.fresh;
     }

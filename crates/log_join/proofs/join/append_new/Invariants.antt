@@ -10,5 +10,6 @@ invariant-batches l = record {
   list : l.list ≡ listing l.fn.known.base l.fn.known.folded (l.fn.known.list ++ take l.i (values l.batches));
   seen : HasSeen l.seen (known_entries l.list);
   accepted : AreAccepted l.setup (accepted_in l.list);
-  fresh : AllFresh l.setup.limit l.setup.max_batches (known_entries l.fn.known) (entries_of (take l.i (values l.batches)));
+  fresh : AllFresh l.setup.limit l.setup.max_batches (known_entries l.fn.known) (entries_of (take l.i
+      (values l.batches)));
 }

@@ -19,7 +19,8 @@ returns-then-shared-batches-clause-ok c =
     let count = c.count_of-count.result in
     let part = c.shared_of-shared in
     joins_shared c.args.setup.now v h bs count part.result
-    (beside_of c.args.setup.now (known_entries v) h bs count part.result c.in_ok-judge_head.ensures.ok c.count_of-count.ensures
+    (beside_of c.args.setup.now (known_entries v) h bs count part.result c.in_ok-judge_head.ensures.ok
+    c.count_of-count.ensures
     part.ensures.logged part.ensures.all c.in_ok-judge_shared.ensures.ok)
     c.count_of-count.ensures part.ensures.listed c.if-shared-batches.true c.requires.accepted
 
@@ -37,7 +38,8 @@ returns-clause-ok c =
     let count = c.count_of-count.result in
     let part = c.shared_of-shared in
     let new = c.behind-new.result.now in
-    let beside = beside_of s (known_entries v) h bs count part.result c.in_ok-judge_head.ensures.ok c.count_of-count.ensures
+    let beside = beside_of s (known_entries v) h bs count part.result c.in_ok-judge_head.ensures.ok
+    c.count_of-count.ensures
     part.ensures.logged part.ensures.all c.in_ok-judge_shared.ensures.ok in
     let place = place_of count h.first part.result (length bs) (length (known_entries v)) c.if-shared-batches.false
     part.ensures.logged part.ensures.all c.count_of-count.ensures in
@@ -55,7 +57,8 @@ returns-clause-err c =
     let count = c.count_of-count.result in
     let part = c.shared_of-shared in
     let new = c.behind-new.result.now in
-    let beside = beside_of s (known_entries v) h bs count part.result c.in_ok-judge_head.ensures.ok c.count_of-count.ensures
+    let beside = beside_of s (known_entries v) h bs count part.result c.in_ok-judge_head.ensures.ok
+    c.count_of-count.ensures
     part.ensures.logged part.ensures.all c.in_ok-judge_shared.ensures.ok in
     let place = place_of count h.first part.result (length bs) (length (known_entries v)) c.if-shared-batches.false
     part.ensures.logged part.ensures.all c.count_of-count.ensures in

@@ -19,6 +19,7 @@ entries-preserved c =
     let next = total_next es c.entries.i c.in-Some.entry c.in-Some.ensures in
     record {
       total = omega (arith, next, c.entries.invariant.total);
-      link = subst (λ (l : List Entry). HasAdded c.add.new.self l) (next_item es c.entries.i c.in-Some.entry c.in-Some.ensures)
+      link = subst (λ (l : List Entry). HasAdded c.add.new.self l)
+          (next_item es c.entries.i c.in-Some.entry c.in-Some.ensures)
           (c.add.ensures (take c.entries.i es) c.entries.invariant.link);
     }
