@@ -1,4 +1,4 @@
 pub mod FilePages
-mod ScanLemmas
+pub mod ScanLemmas
 pub mod Sound
 pub mod Torn
