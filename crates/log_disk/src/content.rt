@@ -1,5 +1,6 @@
 //! What a file in memory holds, and what its calls make of it.
-ghost use Rattle.std.specs.Prelude.{◌≡◌, ◌⊎◌, ℕ, ◌+◌, ◌<◌, ◌≤◌, ◌^◌, List, [], ◌∷◌, ◌++◌, length, slice_index, OnOk, OnErr, IfOk};
+ghost use Rattle.std.specs.Prelude.{◌≡◌, ◌⊎◌, ℕ, ◌+◌, ◌<◌, ◌≤◌, ◌^◌, List, [], ◌∷◌, ◌++◌, length, slice_index};
+ghost use Rattle.std.specs.Prelude.{OnOk, OnErr, IfOk};
 ghost use Rattle.log_disk.specs.Disk.{Holds, HoldsSome, IsCut, MayBeCut, Follows, Elapses};
 ghost use Rattle.log_disk.specs.Memory.{Between, IsPending, LeftSince};
 
@@ -220,7 +221,7 @@ impl Content {
         Ok(())
     }
 
-    /// What a loss of power at this moment leaves, as it is picked. It is the whole file from then on, all of it
+    /// What a loss of power at this moment leaves, as it is picked. It is the whole file from then on, and all of it is
     /// durable.
     pub(crate) fn crash(&self, alloc: Global, picks: &mut Picks) -> Result<Content, AllocError>
         ensures left { IfOk result (λ new. Between self.now.durable.items self.now.written.items new.written.items) }
