@@ -117,57 +117,37 @@ fn the_last_block(rt: HostRuntime) -> Result<(), AllocError> {
     Ok(())
 }
 
-// A block of two pages, of which the second or the first is lost; and one behind which no page may stand.
+// A block of two pages, of which the second or the first is lost.
 #[test]
 fn blocks_of_two_pages(rt: HostRuntime) -> Result<(), AllocError> {
     let alloc = rt.alloc();
     let blank = [0; PAGE];
     let front = page_of(0, 0, 2, &[2]);
     let back = page_of(0, 1, 2, &[3]);
-    assert!(rt;
-        same(
-            &rt,
-            &read(&joined(alloc, &[front, back])?),
-            &Ok((2, 3, 1, 0))
-        )
-    );
-    assert!(rt;
-        same(
-            &rt,
-            &read(&joined(alloc, &[front, blank])?),
-            &Ok((0, 1, 0, 1))
-        )
-    );
-    assert!(rt;
-        same(
-            &rt,
-            &read(&joined(alloc, &[blank, back])?),
-            &Ok((0, 1, 0, 1))
-        )
-    );
+    let whole = joined(alloc, &[front, back])?;
+    assert!(rt; same(&rt, &read(&whole), &Ok((2, 3, 1, 0))));
+    let no_back = joined(alloc, &[front, blank])?;
+    assert!(rt; same(&rt, &read(&no_back), &Ok((0, 1, 0, 1))));
+    let no_front = joined(alloc, &[blank, back])?;
+    assert!(rt; same(&rt, &read(&no_front), &Ok((0, 1, 0, 1))));
+    Ok(())
+}
+
+// The same with a short page behind, which may stand behind the whole block alone.
+#[test]
+fn a_page_behind_two(rt: HostRuntime) -> Result<(), AllocError> {
+    let alloc = rt.alloc();
+    let blank = [0; PAGE];
+    let front = page_of(0, 0, 2, &[2]);
+    let back = page_of(0, 1, 2, &[3]);
     let mut short = page_of(2, 0, 1, &SECOND);
     short[79] = 0;
-    assert!(rt;
-        same(
-            &rt,
-            &read(&joined(alloc, &[front, blank, short])?),
-            &damaged(3)
-        )
-    );
-    assert!(rt;
-        same(
-            &rt,
-            &read(&joined(alloc, &[blank, back, short])?),
-            &damaged(3)
-        )
-    );
-    assert!(rt;
-        same(
-            &rt,
-            &read(&joined(alloc, &[front, back, short])?),
-            &Ok((2, 3, 1, 1))
-        )
-    );
+    let no_back = joined(alloc, &[front, blank, short])?;
+    assert!(rt; same(&rt, &read(&no_back), &damaged(3)));
+    let no_front = joined(alloc, &[blank, back, short])?;
+    assert!(rt; same(&rt, &read(&no_front), &damaged(3)));
+    let whole = joined(alloc, &[front, back, short])?;
+    assert!(rt; same(&rt, &read(&whole), &Ok((2, 3, 1, 1))));
     Ok(())
 }
 
