@@ -13,15 +13,22 @@ use test_support::{holds_at, same_at};
 /// What stands behind a page that is written.
 const BEHIND: u8 = 0xa5;
 
+/// Whether these bytes are a page, and what stood behind it.
+fn is_page(bytes: &[u8], want: &[u8; PAGE]) -> bool {
+    if bytes.len() <= PAGE {
+        return false;
+    }
+    let (page, behind) = bytes.split_at(PAGE);
+    page == want.as_slice() && behind.iter().all(|byte| *byte == BEHIND)
+}
+
 /// Whether the batches take one page, it is this one, and what stands behind it stays.
 fn makes(place: u64, batches: &[Arc<Batch>], want: &[u8; PAGE]) -> bool {
     let mut out = [BEHIND; PAGE + 8];
     if block_pages(batches) != 1 {
         return false;
     }
-    encode_block(&mut out, place, batches) == 1
-        && out[..PAGE] == want[..]
-        && out[PAGE..] == [BEHIND; 8]
+    encode_block(&mut out, place, batches) == 1 && is_page(&out, want)
 }
 
 #[test]
