@@ -254,6 +254,10 @@ sync_brings written pending all left size now i fresh =
     (λ w. w)
     (now.bytes i)
 
+pub sync_long : (written pending all left : List ℕ) → IsSized (length written) pending all → Between all written left
+    → length written ≤ length left
+sync_long written pending all left size now = ⊎_elim (λ a. omega (arith, a, size.long)) (λ w. w) now.longer
+
 pub sync_some_left : (durable written pending all next left : List ℕ) → IsPending durable written pending
     → IsSized (length written) pending all → Between durable all next → Between next written left
     → Between durable written left
@@ -300,6 +304,14 @@ overwritten_holds front bytes old new at size is = record {
     length-append
         front bytes,
     length-drop (at + length bytes) old,
+    size.long,
+  );
+  ends = omega (
+    arith,
+    ap length is,
+    length-append (front ++ bytes) (drop (at + length bytes) old),
+    length-append
+        front bytes,
     size.long,
   );
 }

@@ -9,6 +9,7 @@ pub record Holds (at : ℕ) (bytes old new : List ℕ) : Type 0 where
   pub before : (i : ℕ) → i < at → slice_index new i ≡ slice_index old i
   pub behind : (i : ℕ) → at + length bytes ≤ i → slice_index new i ≡ slice_index old i
   pub longer : length old ≤ length new
+  pub ends : at + length bytes ≤ length new
 
 -- new is old, and some of these bytes, which were written from this place on, stand in it
 pub record HoldsSome (at : ℕ) (bytes old new : List ℕ) : Type 0 where

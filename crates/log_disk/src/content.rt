@@ -186,6 +186,8 @@ impl Content {
         ensures durable { OnOk result ((left : List ℕ) → Between self.new.durable.items self.new.written.items left →
             (i : ℕ) → slice_index self.old.pending.items i ≡ slice_index self.old.written.items i →
             slice_index left i ≡ slice_index self.old.written.items i) }
+        ensures long { OnOk result ((left : List ℕ) → Between self.new.durable.items self.new.written.items left →
+            length self.old.written.items ≤ length left) }
         ensures pending { OnOk result (self.new.pending.items ≡ self.new.durable.items) }
         ensures crash { IsPending self.old.durable.items self.old.written.items self.old.pending.items →
             (left : List ℕ) → Between self.new.durable.items self.new.written.items left →

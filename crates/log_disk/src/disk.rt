@@ -107,13 +107,15 @@ pub trait LogDisk {
         ensures ok { OnOk result (failure_count self.new ≡ failure_count self.old) }
         ensures err { OnErr result (failure_count self.new ≡ failure_count self.old + 1) };
 
-    /// Makes each byte that is fresh durable: a loss of power leaves it from then on.
+    /// Makes each byte that is fresh durable, and the length: a loss of power leaves them from then on.
     fn sync(&mut self) -> Result<(), DeviceFault>
         requires working { in_doubt self.old ≡ false }
         requires failures { failure_count self.old + 1 < 2 ^ 64 }
         ensures same { tells self.old → written self.new ≡ written self.old }
         ensures durable { tells self.old → OnOk result ((left : List ℕ) → may_leave self.new left →
             (i : ℕ) → is_fresh self.old i → slice_index left i ≡ slice_index (written self.old) i) }
+        ensures long { tells self.old → OnOk result ((left : List ℕ) → may_leave self.new left →
+            length (written self.old) ≤ length left) }
         ensures tells { tells self.old → tells self.new }
         ensures crash { tells self.old → (left : List ℕ) → may_leave self.new left → may_leave self.old left }
         ensures time { tells self.old → Elapses (moment self.old) (moment self.new)
