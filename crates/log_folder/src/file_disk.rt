@@ -1,0 +1,162 @@
+//! A real file as that of a log.
+ghost use Rattle.std.specs.Prelude.{◌≡◌, ◌+◌, ◌<◌, ◌^◌, [], true, false};
+
+use byte_io::DeviceFault;
+use log_disk::LogDisk;
+use std::fs::File;
+use std::io::{self, ErrorKind};
+use std::os::unix::fs::FileExt;
+
+/// A file of the system. It doesn't tell what it holds.
+#[derive(Drop)]
+pub struct FileDisk {
+    file: File,
+    // It has so many bytes at least.
+    length: u64,
+    // Whether it may have got longer or shorter since it was last synced.
+    is_resized: bool,
+    in_doubt: bool,
+    failures: u64,
+}
+
+/// Reads into the whole of `buf`, 00 behind the end of the file.
+fn read_padded(file: &File, at: u64, buf: &mut [u8]) -> io::Result<()> {
+    buf.fill(0);
+    match file.read_exact_at(buf, at) {
+        Err(error) if error.kind() == ErrorKind::UnexpectedEof => Ok(()),
+        answer => answer,
+    }
+}
+
+/// Cuts a file to a length, if it is longer.
+fn cut_longer(file: &File, len: u64) -> io::Result<()> {
+    if file.metadata()?.len() <= len {
+        return Ok(());
+    }
+    file.set_len(len)
+}
+
+impl FileDisk {
+    /// The file that was opened to read and to write, and has so many bytes at least. No call of it has failed.
+    ///
+    /// Its first sync brings its length too to where it outlasts a loss of power, since nobody knows what an earlier
+    /// life left.
+    pub fn new(file: File, length: u64) -> FileDisk
+        ensures sound { result.in_doubt ≡ false }
+        ensures failures { result.failures ≡ 0 }
+    {
+        FileDisk {
+            file,
+            length,
+            is_resized: true,
+            in_doubt: false,
+            failures: 0,
+        }
+    }
+
+    /// Writes all of the bytes, in as many calls as the system takes.
+    fn put(&mut self, at: u64, bytes: &[u8]) -> io::Result<()>
+        ensures sound { self.new.in_doubt ≡ self.old.in_doubt }
+        ensures failures { self.new.failures ≡ self.old.failures }
+    {
+        let end = at.saturating_add(bytes.len() as u64);
+        if self.length < end {
+            self.is_resized = true;
+        }
+        self.file.write_all_at(bytes, at)?;
+        self.length = self.length.max(end);
+        Ok(())
+    }
+
+    /// Counts a call that fails.
+    fn fail(&mut self) -> DeviceFault
+        requires { self.old.failures + 1 < 2 ^ 64 }
+        ensures { self.new ≡ record self.old { failures = self.old.failures + 1 } }
+    {
+        self.failures += 1;
+        DeviceFault
+    }
+
+    /// Counts a call that fails and leaves the file in doubt.
+    fn fail_in_doubt(&mut self) -> DeviceFault
+        requires { self.old.failures + 1 < 2 ^ 64 }
+        ensures { self.new ≡ record self.old { failures = self.old.failures + 1; in_doubt = true } }
+    {
+        self.in_doubt = true;
+        self.fail()
+    }
+}
+
+impl LogDisk for FileDisk {
+    ghost tells = { λ s. ⊥ };
+
+    ghost written = { λ s. [] };
+
+    ghost may_leave = { λ s left. ⊥ };
+
+    ghost is_fresh = { λ s i. ⊥ };
+
+    ghost moment = { λ s. 0 };
+
+    ghost left_since = { λ s t left. ⊥ };
+
+    ghost failure_count = { λ s. s.failures };
+
+    ghost in_doubt = { λ s. s.in_doubt };
+
+    ghost counts_now = { λ file t left later may. may };
+
+    ghost only_now = { λ file left since. since };
+
+    fn read_at(&mut self, at: u64, buf: &mut [u8]) -> Result<(), DeviceFault> {
+        match read_padded(&self.file, at, buf) {
+            Ok(()) => Ok(()),
+            Err(_) => Err(self.fail()),
+        }
+    }
+
+    fn write_at(&mut self, at: u64, bytes: &[u8]) -> Result<(), DeviceFault> {
+        match self.put(at, bytes) {
+            Ok(()) => Ok(()),
+            Err(_) => Err(self.fail_in_doubt()),
+        }
+    }
+
+    fn fill(&mut self, at: u64, zeros: &[u8]) -> Result<(), DeviceFault> {
+        match self.put(at, zeros) {
+            Ok(()) => Ok(()),
+            Err(_) => Err(self.fail()),
+        }
+    }
+
+    fn cut(&mut self, len: u64) -> Result<(), DeviceFault> {
+        self.is_resized = true;
+        self.length = self.length.min(len);
+        match cut_longer(&self.file, len) {
+            Ok(()) => Ok(()),
+            Err(_) => Err(self.fail_in_doubt()),
+        }
+    }
+
+    /// Syncs the bytes, and the length where it may have changed.
+    fn sync(&mut self) -> Result<(), DeviceFault> {
+        let synced = if self.is_resized {
+            self.file.sync_all()
+        } else {
+            self.file.sync_data()
+        };
+        if synced.is_err() {
+            return Err(self.fail_in_doubt());
+        }
+        self.is_resized = false;
+        Ok(())
+    }
+
+    fn failures(&self) -> u64 {
+        self.failures
+    }
+
+    fn is_in_doubt(&self) -> bool {
+        self.in_doubt
+    }
+}

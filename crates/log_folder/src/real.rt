@@ -1,0 +1,184 @@
+//! The real folder of a log.
+ghost use Rattle.std.specs.Prelude.{◌≡◌, ◌+◌, ◌<◌, ◌^◌, None, ⊤, IfOk, IfSome, false};
+
+use crate::calls::{FoundFile, LogFolder, NumberedFile};
+use crate::fault::FolderFault;
+use crate::file_disk::FileDisk;
+use byte_io::DeviceFault;
+use snap_file::{UNFINISHED, access_under, clear, folder_of, make_file};
+use std::alloc::Global;
+use std::fs::{self, File, OpenFile, OpenOptions};
+use std::io::{self, ErrorKind};
+use std::rt::Files;
+
+/// The folder of the log under a path, which stays open for as long as this lives. It doesn't tell its files.
+///
+/// Two that write to the log of one path write over each other: whoever may meet another takes the path's lock first,
+/// by `snap_file::lock`.
+#[derive(Drop)]
+pub struct FileLogFolder<'a, R: Files<File = File>> {
+    rt: &'a R,
+    path: &'a str,
+    // The path with `UNFINISHED` behind it.
+    new_name: String,
+    folder: File,
+    // The folder of the snapshot, if there is one.
+    snapshot_folder: Option<File>,
+    // How many files it has made and found.
+    files: u64,
+    failures: u64,
+}
+
+/// Opens a folder, so that it can be synced.
+fn open_folder<R: Files<File = File>>(rt: &R, path: &str) -> Result<File, FolderFault> {
+    match fs::open(rt, folder_of(path)) {
+        Ok(folder) => Ok(folder),
+        Err(_) => Err(FolderFault::OpenFailed),
+    }
+}
+
+/// Opens the file under a path, None where nothing stands there. Nothing but a file is opened: the opening of a FIFO
+/// would wait for a writer.
+fn open_log<R: Files<File = File>>(rt: &R, path: &str) -> io::Result<Option<(FileDisk, u64)>>
+    ensures { IfOk result (λ found. IfSome found (λ f. (f.0.in_doubt ≡ false) × (f.0.failures ≡ 0))) }
+{
+    match fs::metadata(rt, path) {
+        Ok(found) if found.is_file() => {}
+        Ok(_) => return Err(io::Error::from(ErrorKind::Other)),
+        Err(error) if error.kind() == ErrorKind::NotFound => return Ok(None),
+        Err(error) => return Err(error),
+    }
+    let file = OpenOptions::new().read(true).write(true).open(rt, path)?;
+    let length = file.metadata()?.len();
+    Ok(Some((FileDisk::new(file, length), length)))
+}
+
+/// Makes the new file of the log under a path.
+fn make_beside<R: Files<File = File>>(rt: &R, path: &str, name: &str) -> Option<FileDisk>
+    ensures { IfSome result (λ disk. (disk.in_doubt ≡ false) × (disk.failures ≡ 0)) }
+{
+    let access = access_under(rt, path).ok()?;
+    let file = make_file(rt, name, access).ok()?;
+    Some(FileDisk::new(file, 0))
+}
+
+impl<'a, R: Files<File = File>> FileLogFolder<'a, R> {
+    /// The folder of the log under `path`, and that of the snapshot beside which it stands.
+    ///
+    /// # Errors
+    ///
+    /// `Memory` for the name of the new file, and `OpenFailed` where a folder can't be opened.
+    pub fn open(
+        rt: &'a R,
+        alloc: Global,
+        path: &'a str,
+        snapshot: Option<&str>,
+    ) -> Result<FileLogFolder<'a, R>, FolderFault>
+        ensures { IfOk result (λ folder. folder.failures ≡ 0) }
+    {
+        let Ok(new_name) = format!(in alloc; "{path}{UNFINISHED}") else {
+            return Err(FolderFault::Memory);
+        };
+        let folder = open_folder(rt, path)?;
+        let snapshot_folder = match snapshot {
+            Some(beside) => Some(open_folder(rt, beside)?),
+            None => None,
+        };
+        Ok(FileLogFolder {
+            rt,
+            path,
+            new_name,
+            folder,
+            snapshot_folder,
+            files: 0,
+            failures: 0,
+        })
+    }
+
+    /// Gives a file its number.
+    fn number(&mut self, disk: FileDisk) -> NumberedFile<FileDisk>
+        ensures disk { result.disk ≡ disk }
+        ensures failures { self.new.failures ≡ self.old.failures }
+    {
+        let number = self.files;
+        self.files = number.saturating_add(1);
+        NumberedFile { disk, number }
+    }
+
+    /// Syncs the snapshot's folder and the log's.
+    fn sync_folders(&self) -> io::Result<()> {
+        if let Some(folder) = &self.snapshot_folder {
+            folder.sync_all()?;
+        }
+        self.folder.sync_all()
+    }
+
+    /// Counts a call that fails.
+    fn fail(&mut self) -> DeviceFault
+        requires { self.old.failures + 1 < 2 ^ 64 }
+        ensures { self.new ≡ record self.old { failures = self.old.failures + 1 } }
+    {
+        self.failures += 1;
+        DeviceFault
+    }
+}
+
+impl<'a, R: Files<File = File>> LogFolder for FileLogFolder<'a, R> {
+    type Disk = FileDisk;
+
+    ghost tells = { λ s. ⊥ };
+
+    ghost stored = { λ s disk. ⊥ };
+
+    ghost named = { λ s. None };
+
+    ghost made = { λ s. None };
+
+    ghost may_name = { λ s x. ⊥ };
+
+    ghost call_gives = { λ s call answer t. ⊤ };
+
+    ghost failure_count = { λ s. s.failures };
+
+    fn find(&mut self) -> Result<Option<FoundFile<FileDisk>>, DeviceFault> {
+        match open_log(self.rt, self.path) {
+            Ok(Some((disk, length))) => {
+                let file = self.number(disk);
+                Ok(Some(FoundFile { file, length }))
+            }
+            Ok(None) => Ok(None),
+            Err(_) => Err(self.fail()),
+        }
+    }
+
+    /// Removes what stands under the new file's name, a folder excepted, and makes the file anew. What is neither a
+    /// file nor a folder under the log's name isn't replaced.
+    fn make_new(&mut self) -> Result<NumberedFile<FileDisk>, DeviceFault> {
+        match make_beside(self.rt, self.path, self.new_name.as_str()) {
+            Some(disk) => Ok(self.number(disk)),
+            None => Err(self.fail()),
+        }
+    }
+
+    fn take_name(&mut self, _file: &NumberedFile<FileDisk>) -> Result<(), DeviceFault> {
+        match fs::rename(self.rt, self.new_name.as_str(), self.path) {
+            Ok(()) => Ok(()),
+            Err(_) => Err(self.fail()),
+        }
+    }
+
+    fn sync_names(&mut self) -> Result<(), DeviceFault> {
+        match self.sync_folders() {
+            Ok(()) => Ok(()),
+            Err(_) => Err(self.fail()),
+        }
+    }
+
+    fn remove_new(&mut self) {
+        let _ = clear(self.rt, self.new_name.as_str());
+    }
+
+    fn failures(&self) -> u64 {
+        self.failures
+    }
+}
