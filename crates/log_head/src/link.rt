@@ -9,7 +9,7 @@ use batch_store::Entry;
 use crc32c::Crc;
 use std::marker::Model;
 
-/// A link in the making. It costs one pass over the entries, some 30 nanoseconds for each, and takes no memory.
+/// A link in the making. It costs one pass over the entries, and takes no memory.
 ///
 /// Contracts see the remainder of the checksum.
 #[derive(Drop)]

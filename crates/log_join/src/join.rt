@@ -101,7 +101,7 @@ fn append_new(
 /// A log that ends before the snapshot does adds nothing. Where there is no snapshot the list is an empty one.
 ///
 /// It costs one pass over the entries before the log, and where the log goes on behind the snapshot the time of a
-/// look-up for each batch of both, and some 40 bytes for each until it returns. The log's batches are shared.
+/// look-up for each batch of both, and a place in a set for each until it returns. The log's batches are shared.
 ///
 /// # Errors
 ///

@@ -33,7 +33,7 @@ fn note_pair(pairs: &mut BTreeSet<(u64, u64)>, client: u64, number: u64) -> Resu
     Ok(!added)
 }
 
-/// The batches of a list. It takes some 40 bytes for each, and the time of a look-up.
+/// The batches of a list. It takes a place in a set for each, and the time of a look-up.
 pub fn seen_in(alloc: Global, list: &BookList) -> Result<Seen, AllocError>
     requires { total_of_entries (known_entries list.now) < 2 ^ 64 }
     ensures { IfOk result (λ seen. HasSeen seen (known_entries list.now)) }
