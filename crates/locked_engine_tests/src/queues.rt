@@ -37,23 +37,23 @@ fn batches_are_read_from_a_place_on(rt: HostRuntime) -> Result<(), Fail> {
 }
 
 // The numbers of the first two batches that are read.
-type Read = [Option<u64>; 2];
+type Read = (Option<u64>, Option<u64>);
 
 // From where, at most how many cells, room for how many batches, and what is read, or None where that is refused.
 static READS: &[(u64, u64, usize, Option<Read>)] = &[
     // Folded batches have no cells of their own.
     (0, 100, 8, None),
     (1, 100, 8, None),
-    (2, 100, 8, Some([Some(1), Some(2)])),
-    (3, 100, 8, Some([Some(2), None])),
-    (4, 100, 8, Some([None, None])),
+    (2, 100, 8, Some((Some(1), Some(2)))),
+    (3, 100, 8, Some((Some(2), None))),
+    (4, 100, 8, Some((None, None))),
     // The book ends before that place.
     (5, 100, 8, None),
     (u64::MAX, 100, 8, None),
-    (2, 100, 1, Some([Some(1), None])),
-    (2, 3, 8, Some([Some(1), Some(2)])),
-    (2, 2, 8, Some([Some(1), None])),
-    (2, 0, 8, Some([Some(1), None])),
+    (2, 100, 1, Some((Some(1), None))),
+    (2, 3, 8, Some((Some(1), Some(2)))),
+    (2, 2, 8, Some((Some(1), None))),
+    (2, 0, 8, Some((Some(1), None))),
 ];
 
 /// Reads from places by a version that was taken before two puts, and is shown these.
@@ -95,7 +95,7 @@ fn read<N: Named, H: Ledger, R: Wait + Abort>(
     let is_there = engine.batches_from(rt, seen, from, most_cells, &mut out);
     assert!(rt; out.len() <= 2);
     let number = |i: usize| -> Option<u64> { Some(out.get(i)?.number) };
-    let found = [number(0), number(1)];
+    let found = (number(0), number(1));
     drop(out);
     is_there.then_some(found)
 }

@@ -39,24 +39,27 @@ static BATCHES: &[Put] = &[
     ),
 ];
 
+// The clients of the first three batches.
+type Clients = (Option<u64>, Option<u64>, Option<u64>);
+
 // From where, at most how many cells, room for how many batches, and the clients of those that are shared.
-static SHARED: &[(u64, u64, usize, [Option<u64>; 3])] = &[
-    (0, 100, 8, [Some(7), Some(8), Some(9)]),
-    (1, 100, 8, [Some(8), Some(9), None]),
-    (2, 100, 8, [Some(9), None, None]),
+static SHARED: &[(u64, u64, usize, Clients)] = &[
+    (0, 100, 8, (Some(7), Some(8), Some(9))),
+    (1, 100, 8, (Some(8), Some(9), None)),
+    (2, 100, 8, (Some(9), None, None)),
     // Nothing stands behind the end.
-    (3, 100, 8, [None; 3]),
-    (u64::MAX, 100, 8, [None; 3]),
+    (3, 100, 8, (None, None, None)),
+    (u64::MAX, 100, 8, (None, None, None)),
     // As far as there is room.
-    (0, 100, 1, [Some(7), None, None]),
-    (0, 100, 2, [Some(7), Some(8), None]),
+    (0, 100, 1, (Some(7), None, None)),
+    (0, 100, 2, (Some(7), Some(8), None)),
     // As many as have at most so many cells together, and the first in any case.
-    (0, 6, 8, [Some(7), Some(8), Some(9)]),
-    (0, 5, 8, [Some(7), Some(8), None]),
-    (0, 3, 8, [Some(7), Some(8), None]),
-    (0, 2, 8, [Some(7), None, None]),
-    (0, 0, 8, [Some(7), None, None]),
-    (2, 0, 8, [Some(9), None, None]),
+    (0, 6, 8, (Some(7), Some(8), Some(9))),
+    (0, 5, 8, (Some(7), Some(8), None)),
+    (0, 3, 8, (Some(7), Some(8), None)),
+    (0, 2, 8, (Some(7), None, None)),
+    (0, 0, 8, (Some(7), None, None)),
+    (2, 0, 8, (Some(9), None, None)),
 ];
 
 // The clients of the first three batches that a book shares, and whether these are all.
@@ -67,12 +70,12 @@ fn clients(
     from: u64,
     most_cells: u64,
     room: usize,
-) -> ([Option<u64>; 3], bool) {
+) -> (Clients, bool) {
     assert!(rt; room > 0 && book.folded() <= from);
     let mut out = Vec::with_capacity(alloc, room).expect(rt, "memory");
     assert!(rt; book.share_from(from, most_cells, &mut out));
     let client = |i: usize| -> Option<u64> { Some(out.get(i)?.client) };
-    let found = ([client(0), client(1), client(2)], out.len() <= 3);
+    let found = ((client(0), client(1), client(2)), out.len() <= 3);
     drop(out);
     found
 }
