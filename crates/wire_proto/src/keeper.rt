@@ -53,7 +53,8 @@ pub enum SaveRefusal {
     /// There is no place to save to.
     #[error("there is no place to save to")]
     SaveOff,
-    /// The place refused it. What was saved before stands as it was.
+    /// The place refused it. What was saved before stands as it was, or, where the folder wasn't synced behind the
+    /// rename, what was to be saved.
     #[error("the save failed")]
     SaveFailed,
 }
