@@ -1,8 +1,8 @@
 //! What happens to a server, and a line for each on standard error.
 //!
-//! Threads note what happens in an `EventLog`, which waits for nobody but them; one thread more, `tell_events`, takes it
-//! out and writes the lines, so that a standard error that takes nothing keeps no server waiting. What isn't told yet
-//! is kept up to a bound, behind which it is lost and counted.
+//! Threads note what happens in an `EventLog`, which waits for nobody but them; one thread more, `tell_events`, takes
+//! it out and writes the lines, so that a standard error that takes nothing keeps no server waiting. What isn't told
+//! yet is kept up to a bound, behind which it is lost and counted.
 #![tactic(auto)]
 
 mod event;

@@ -30,7 +30,8 @@ joined_push [] chunk = append-nil chunk
 joined_push (first ∷ made) chunk =
     ap (λ (l : List ℕ). first ++ l) (joined_push made chunk) ∙ sym (append_assoc first (joined made) chunk)
 
-each_push : (P : List ℕ → Type 0) (xs : List (List ℕ)) (x : List ℕ) → AllByRecursion P xs → P x → AllByRecursion P (xs ++ x ∷ [])
+each_push : (P : List ℕ → Type 0) (xs : List (List ℕ)) (x : List ℕ) → AllByRecursion P xs → P x →
+    AllByRecursion P (xs ++ x ∷ [])
 each_push P [] x each one = (one, tt)
 each_push P (y ∷ xs) x each one = (each.0, each_push P xs x each.1 one)
 
@@ -38,7 +39,8 @@ last_is : (P : Chunks → Type 0) (xs : List Chunks) (x : Chunks) → AllByRecur
 last_is P [] x each = each.0
 last_is P (y ∷ xs) x each = last_is P xs x each.1
 
-blocks_push : (s : Setting) (page last : ℕ) (found : List Chunks) (blocks : List Block) (chunks : Chunks) (block : Block) →
+blocks_push : (s : Setting) (page last : ℕ) (found : List Chunks) (blocks : List Block) (chunks : Chunks)
+    (block : Block) →
     AreBlocks s page found blocks → block.page ≡ last_begin page last (found ++ chunks ∷ []) →
     HoldsBatches s chunks (values block.batches.items) → AreBlocks s page (found ++ chunks ∷ []) (blocks ++ block ∷ [])
 blocks_push s page last [] [] chunks block are at holds = (at, holds, tt)
@@ -55,7 +57,8 @@ whole_block first scan found block made pages are taken =
     let reads = read_holds first pages (found ++ block ∷ []) are read in
     (last_is IsBlock found block reads.each).fills
 
-module _ (first : ℕ) (log new : LogScan) (pages : List Page) (page : Page) (long : length page ≡ 4096) (bytes : IsBytes page)
+module _ (first : ℕ) (log new : LogScan) (pages : List Page) (page : Page) (long : length page ≡ 4096)
+    (bytes : IsBytes page)
     (has : HasCome first log pages) (reader : new.reader ≡ log.reader) where
   all_pages : ArePages (pages ++ page ∷ [])
   all_pages = each_push (λ p. (length p ≡ 4096) × IsBytes p) pages page has.pages_are (long, bytes)
@@ -70,7 +73,8 @@ module _ (first : ℕ) (log new : LogScan) (pages : List Page) (page : Page) (lo
       (subst (λ (l : List Block). AreBlocks log.reader 1 has.found l) (sym same) has.blocks)
 
   pub come_step : (step : Step) (at : ℕ) → at ≡ new.scan.last →
-      HasTaken first new.scan (blocks_after step has.found has.made page) (made_after step has.made page) (pages ++ page ∷ []) →
+      HasTaken first new.scan (blocks_after step has.found has.made page) (made_after step has.made page)
+      (pages ++ page ∷ []) →
       Keeps log.reader at page log.chunks.items new.chunks.items log.blocks.items new.blocks.items step →
       HasCome first new (pages ++ page ∷ [])
   come_step Part at at_is taken keeps = record {
@@ -102,7 +106,8 @@ module _ (first : ℕ) (log new : LogScan) (pages : List Page) (page : Page) (lo
         taken = taken;
         blocks = subst (λ (s : Setting). AreBlocks s 1 (has.found ++ block ∷ []) new.blocks.items) (sym reader)
             (subst (λ (l : List Block). AreBlocks log.reader 1 (has.found ++ block ∷ []) l) (sym one.is)
-            (blocks_push log.reader 1 0 has.found log.blocks.items block one.block has.blocks (one.page_is ∙ at_is ∙ taken.lasts) one.holds));
+            (blocks_push log.reader 1 0 has.found log.blocks.items block one.block has.blocks (one.page_is ∙ at_is
+            ∙ taken.lasts) one.holds));
         chunks_are = sym keeps.0;
         each = tt;
         pages_are = all_pages;
@@ -111,7 +116,8 @@ module _ (first : ℕ) (log new : LogScan) (pages : List Page) (page : Page) (lo
 -- a block that is read whole holds no batches
 pub bad_step : (log : LogScan) (scan : BlockScan) (page : Page) → length page ≡ 4096 → IsBytes page → (step : Step)
     (kind : LogKind) (at : ℕ) → at ≡ scan.last → ((first : ℕ) (pages : List Page) (has : HasCome first log pages) →
-    HasTaken first scan (blocks_after step has.found has.made page) (made_after step has.made page) (pages ++ page ∷ [])) →
+    HasTaken first scan (blocks_after step has.found has.made page) (made_after step has.made page)
+    (pages ++ page ∷ [])) →
     Refuses log.reader page log.chunks.items step kind → (kind ≡ Memory) ⊎ ((first : ℕ) (pages rest : List Page) →
     HasCome first log pages →
     HasFaultBehind log.reader first (pages ++ page ∷ rest) (record { kind = kind; page = at }))
@@ -139,7 +145,8 @@ bad_step log scan page long bytes Last kind at at_is taken refuses = elim refuse
 ]
 
 -- the bytes of a block's chunks, once the last is kept
-pub kept_bytes : (made : Chunks) (chunk old kept bytes : List ℕ) → joined made ≡ old → kept ≡ old ++ chunk → bytes ≡ kept →
+pub kept_bytes : (made : Chunks) (chunk old kept bytes : List ℕ) → joined made ≡ old → kept ≡ old ++ chunk →
+    bytes ≡ kept →
     joined (made ++ chunk ∷ []) ≡ bytes
 kept_bytes made chunk old kept bytes is more same =
     joined_push made chunk ∙ ap (λ (l : List ℕ). l ++ chunk) is ∙ sym more ∙ sym same

@@ -288,8 +288,8 @@ fn serve_settings<
 /// The snapshot's path is locked, as `snap_file::lock` does it, from before the load until the answer. Where the lock
 /// can't be had, the server goes on without it, unless it must be seen that a snapshot can be saved.
 ///
-/// It may wait for as long as clients keep their connections open, unless the settings have an idle limit or one for the
-/// time after a Stop: without them each session that was accepted is served to its own end.
+/// It may wait for as long as clients keep their connections open, unless the settings have an idle limit or one for
+/// the time after a Stop: without them each session that was accepted is served to its own end.
 ///
 /// # Errors
 ///
