@@ -1,9 +1,8 @@
 -- What a server ends with, by the word of its disk.
 --     EndsWith saves d path v a s
 --                     an engine of setup v was closed with this as accepted, which a book accepts: s tells its number
--- of
---                     batches and its total, and where there is a path the disk d has answered that it was saved under
---                     it
+--                     of batches and its total, and where there is a path the disk d has answered that it was saved
+--                     under it
 --     GoesOn a b      what an engine had accepted when it was closed, b, goes on from what it was opened with, a: the
 --                     entries of a are the first of b's, and the same batches are folded, into the same base
 --     IsClosed seats a
