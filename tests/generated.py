@@ -26,8 +26,8 @@ from hhm_client import BANNER, put_cells_frame, put_frame
 from server import Server, accepted, check, program, refused
 
 ROWS, COLS = 5, 4
-STATUS, EXPORT, SAVE, STOP = (struct.pack(">IB", 0, kind) for kind in (4, 5, 6, 7))
-LARGE, KIND, LENGTH = bytes.fromhex("0400000104"), bytes.fromhex("0000000009"), bytes.fromhex("0000000104")
+STATUS, EXPORT, SAVE, STOP, STORED = (struct.pack(">IB", 0, kind) for kind in (4, 5, 6, 7, 9))
+LARGE, KIND, LENGTH = bytes.fromhex("0400000104"), bytes.fromhex("000000000a"), bytes.fromhex("0000000104")
 
 
 def added(cells):
@@ -144,7 +144,8 @@ def drawn_frame(draw, model):
     if kind == 2:
         return SAVE, model.save(), True
     if kind < 5:
-        return STATUS, model.status(), True
+        # Without a log all that was accepted is told as stored.
+        return draw.choice([STATUS, STORED]), model.status(), True
     if kind < 7:
         row = draw.randrange(ROWS + 1)
         return struct.pack(">IBQ", 8, 3, row), model.row(row), True
