@@ -1,27 +1,28 @@
 -- One page more of a log.
-use Rattle.std.proofs.Common.{◌≡◌, ◌⊎◌, ℕ, ◌+◌, ◌*◌, ◌^◌, ◌<◌, ◌≤◌, List, [], ◌∷◌, ◌++◌, length, Result, Ok, Err}
-use Rattle.std.proofs.Common.{inl, inr, refl, sym, ap, subst, ◌∙◌, append_assoc, arith}
+use Rattle.std.proofs.Common.{◌≡◌, ◌⊎◌, ℕ, ◌+◌, List, [], ◌∷◌, ◌++◌, length}
+use Rattle.std.proofs.Common.{refl, Err}
+use Rattle.log_blocks.specs.declared.fault.LogFault.{LogFault}
+use Rattle.std.proofs.Common.{inl, inr, sym, ap, subst, ◌∙◌, append_assoc, arith}
 use Rattle.std.proofs.lemmas.List.{append-nil, length-drop}
 use Rattle.std.specs.List.{AllByRecursion}
 use Rattle.batch_store.specs.Setups.{Setting}
-use Rattle.batch_store.specs.Batches.{Submission, values}
+use Rattle.batch_store.specs.Batches.{values}
 use Rattle.log_page.specs.Pages.{IsBytes, chunk_field}
 use Rattle.log_blocks.specs.Blocks.{Page, ArePages, FillsPages, IsBlock}
 use Rattle.log_blocks.specs.Blocks.{Block as Chunks}
 use Rattle.log_blocks.specs.Files.{joined}
-use Rattle.log_blocks.specs.Reading.{read_pages, with_blocks}
-use Rattle.log_blocks.specs.Scanning.{HasTaken, last_begin, goes_on, blocks_after, made_after}
+use Rattle.log_blocks.specs.Reading.{read_pages}
+use Rattle.log_blocks.specs.Scanning.{HasTaken, last_begin, blocks_after, made_after}
 use Rattle.log_blocks.specs.declared.scan.BlockScan.{BlockScan}
 use Rattle.log_blocks.specs.declared.scan.Step.{Step}
 use Rattle.log_blocks.specs.declared.scan.Step.TheVariants.{Part, Last, Torn}
-use Rattle.log_blocks.specs.declared.fault.LogFault.{LogFault}
 use Rattle.log_blocks.specs.declared.fault.LogKind.{LogKind}
-use Rattle.log_blocks.specs.declared.fault.LogKind.TheVariants.{Memory, BadBlock}
+use Rattle.log_blocks.specs.declared.fault.LogKind.TheVariants.{Memory}
 use Rattle.log_blocks.proofs.ScanLemmas.{scanned_all}
 use Rattle.log_blocks.proofs.Sound.{read_holds}
 use Rattle.log_batches.specs.Held.{HoldsBatches}
-use Rattle.log_read.specs.Logs.{AreBlocks, HasBadBlock, HasFaultBehind}
-use Rattle.log_read.specs.Scans.{HasCome, HasRead, Keeps, Refuses}
+use Rattle.log_read.specs.Logs.{AreBlocks, HasFaultBehind}
+use Rattle.log_read.specs.Scans.{HasCome, Keeps, Refuses}
 use Rattle.log_read.specs.declared.file.Block.{Block}
 use Rattle.log_read.specs.declared.scan.LogScan.{LogScan}
 
@@ -30,8 +31,8 @@ joined_push [] chunk = append-nil chunk
 joined_push (first ∷ made) chunk =
     ap (λ (l : List ℕ). first ++ l) (joined_push made chunk) ∙ sym (append_assoc first (joined made) chunk)
 
-each_push : (P : List ℕ → Type 0) (xs : List (List ℕ)) (x : List ℕ) → AllByRecursion P xs → P x →
-    AllByRecursion P (xs ++ x ∷ [])
+each_push : (P : List ℕ → Type 0) (xs : List (List ℕ)) (x : List ℕ) → AllByRecursion P xs → P x → AllByRecursion P
+    (xs ++ x ∷ [])
 each_push P [] x each one = (one, tt)
 each_push P (y ∷ xs) x each one = (each.0, each_push P xs x each.1 one)
 
@@ -106,8 +107,8 @@ module _ (first : ℕ) (log new : LogScan) (pages : List Page) (page : Page) (lo
         taken = taken;
         blocks = subst (λ (s : Setting). AreBlocks s 1 (has.found ++ block ∷ []) new.blocks.items) (sym reader)
             (subst (λ (l : List Block). AreBlocks log.reader 1 (has.found ++ block ∷ []) l) (sym one.is)
-            (blocks_push log.reader 1 0 has.found log.blocks.items block one.block has.blocks (one.page_is ∙ at_is
-            ∙ taken.lasts) one.holds));
+            (blocks_push log.reader 1 0 has.found log.blocks.items block one.block has.blocks
+            (one.page_is ∙ at_is ∙ taken.lasts) one.holds));
         chunks_are = sym keeps.0;
         each = tt;
         pages_are = all_pages;
@@ -132,12 +133,14 @@ bad_step log scan page long bytes Last kind at at_is taken refuses = elim refuse
       each_push (λ p. (length p ≡ 4096) × IsBytes p) pages page has.pages_are (long, bytes) in
       let fills = whole_block first scan has.found block [] (pages ++ page ∷ []) are t in
       inr (record {
+        front = pages ++ page ∷ [];
+        behind = rest;
+        pages_are = sym (append_assoc pages (page ∷ []) rest);
         good = has.found;
         blocks = log.blocks.items;
-        held = has.blocks;
         block = block;
-        rest = goes_on scan [] rest;
-        read = ap (read_pages first) (sym (append_assoc pages (page ∷ []) rest)) ∙ t.reads rest;
+        read = (scanned_all first scan (has.found ++ block ∷ []) [] (pages ++ page ∷ []) t).read;
+        held = has.blocks;
         none = λ list holds. bad.1 has.made list has.chunks_are fills holds;
         kind_is = bad.0;
         page_is = at_is ∙ t.lasts;
@@ -145,8 +148,25 @@ bad_step log scan page long bytes Last kind at at_is taken refuses = elim refuse
 ]
 
 -- the bytes of a block's chunks, once the last is kept
-pub kept_bytes : (made : Chunks) (chunk old kept bytes : List ℕ) → joined made ≡ old → kept ≡ old ++ chunk →
-    bytes ≡ kept →
+pub kept_bytes : (made : Chunks) (chunk old kept bytes : List ℕ) → joined made ≡ old → kept ≡ old ++ chunk → bytes ≡
+    kept →
     joined (made ++ chunk ∷ []) ≡ bytes
 kept_bytes made chunk old kept bytes is more same =
     joined_push made chunk ∙ ap (λ (l : List ℕ). l ++ chunk) is ∙ sym more ∙ sym same
+
+-- a page that may not stand behind those that were taken
+pub bad_page : (log : LogScan) (page : Page) (fault : LogFault) (first : ℕ) (pages rest : List Page) →
+    (has : HasCome first log pages) →
+    ((more : List Page) → read_pages first (pages ++ page ∷ more) ≡ Err fault) →
+    HasFaultBehind log.reader first (pages ++ page ∷ rest) fault
+bad_page log page fault first pages rest has refused = inl (record {
+  front = pages;
+  page = page;
+  behind = rest;
+  pages_are = refl;
+  good = has.found;
+  blocks = log.blocks.items;
+  read = (scanned_all first log.scan has.found has.made pages has.taken).read;
+  held = has.blocks;
+  refused = refused;
+})

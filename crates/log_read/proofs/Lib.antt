@@ -1,1 +1,3 @@
 mod ComeLemmas
+mod GivenLemmas
+mod ReadLemmas

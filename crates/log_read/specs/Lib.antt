@@ -1,2 +1,4 @@
+pub mod Given
 pub mod Logs
+pub mod Outcomes
 pub mod Scans

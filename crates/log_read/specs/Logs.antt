@@ -1,15 +1,15 @@
 -- Which log bytes hold, and what is wrong with those that hold none.
-use Rattle.std.specs.Prelude.{◌≡◌, ◌⊎◌, ℕ, ◌+◌, ◌<◌, ◌≤◌, List, [], ◌∷◌, ◌++◌, length, take, drop, Result, Ok, Err}
+use Rattle.std.specs.Prelude.{◌≡◌, ◌⊎◌, ℕ, ◌+◌, ◌≤◌, List, [], ◌∷◌, ◌++◌, length, take, drop, Ok, Err}
 use Rattle.batch_store.specs.Setups.{Setting}
 use Rattle.batch_store.specs.Batches.{Submission, values}
 use Rattle.log_blocks.specs.Blocks.{Page, log_pages}
 use Rattle.log_blocks.specs.Blocks.{Block as Chunks}
-use Rattle.log_blocks.specs.Reading.{read_pages, with_blocks}
+use Rattle.log_blocks.specs.Reading.{read_pages}
 use Rattle.log_blocks.specs.Scanning.{used_pages, last_begin}
 use Rattle.log_blocks.specs.Files.{pages_of, page_count}
 use Rattle.log_blocks.specs.declared.fault.LogFault.{LogFault}
-use Rattle.log_blocks.specs.declared.fault.LogKind.TheVariants.{Truncated, BadBlock}
-use Rattle.log_head.specs.Heads.{HasHead, RefusesPage}
+use Rattle.log_blocks.specs.declared.fault.LogKind.TheVariants.{BadBlock}
+use Rattle.log_head.specs.Heads.{HasHead}
 use Rattle.log_batches.specs.Held.{HoldsBatches}
 use Rattle.log_read.specs.declared.file.Block.{Block}
 use Rattle.log_read.specs.declared.file.LogFile.{LogFile}
@@ -36,18 +36,33 @@ pub record HoldsLog (bytes : List ℕ) (file : LogFile) : Type 0 where
   pub blocks : AreBlocks file.head.setup 1 found file.blocks.items
   pub rest_is : file.rest ≡ used_pages (drop (length (log_pages file.head.first found)) (pages_behind bytes))
 
--- Behind blocks that hold batches stands one that holds none.
-pub record HasBadBlock (s : Setting) (first : ℕ) (pages : List Page) (fault : LogFault) : Type 0 where
+-- The pages before this one are those of blocks that hold batches, and of what could be one in the making. With it they
+-- have this fault, whatever follows.
+pub record HasBadPage (s : Setting) (first : ℕ) (pages : List Page) (fault : LogFault) : Type 0 where
+  pub front : List Page
+  pub page : Page
+  pub behind : List Page
+  pub pages_are : pages ≡ front ++ page ∷ behind
   pub good : List Chunks
   pub blocks : List Block
+  pub read : read_pages first front ≡ Ok good
   pub held : AreBlocks s 1 good blocks
+  pub refused : (more : List Page) → read_pages first (front ++ page ∷ more) ≡ Err fault
+
+-- Behind the pages of blocks that hold batches stand those of one that holds none.
+pub record HasBadBlock (s : Setting) (first : ℕ) (pages : List Page) (fault : LogFault) : Type 0 where
+  pub front : List Page
+  pub behind : List Page
+  pub pages_are : pages ≡ front ++ behind
+  pub good : List Chunks
+  pub blocks : List Block
   pub block : Chunks
-  pub rest : Result (List Chunks) LogFault
-  pub read : read_pages first pages ≡ with_blocks (good ++ block ∷ []) rest
+  pub read : read_pages first front ≡ Ok (good ++ block ∷ [])
+  pub held : AreBlocks s 1 good blocks
   pub none : (list : List Submission) → HoldsBatches s block list → ⊥
   pub kind_is : fault.kind ≡ BadBlock
   pub page_is : fault.page ≡ last_begin 1 0 (good ++ block ∷ [])
 
 -- what is wrong behind a head: with the pages, or with the batches of a block
 abbrev pub HasFaultBehind : Setting → ℕ → List Page → LogFault → Type 0
-HasFaultBehind s first pages fault = (read_pages first pages ≡ Err fault) ⊎ HasBadBlock s first pages fault
+HasFaultBehind s first pages fault = HasBadPage s first pages fault ⊎ HasBadBlock s first pages fault

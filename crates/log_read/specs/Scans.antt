@@ -1,9 +1,9 @@
 -- How far a log was read.
-use Rattle.std.specs.Prelude.{◌≡◌, ◌⊎◌, ℕ, ◌<◌, ◌^◌, List, [], ◌∷◌, ◌++◌, length}
+use Rattle.std.specs.Prelude.{◌≡◌, ◌⊎◌, ℕ, List, [], ◌∷◌, ◌++◌, length}
 use Rattle.std.specs.List.{AllByRecursion}
 use Rattle.batch_store.specs.Setups.{Setting}
 use Rattle.batch_store.specs.Batches.{Submission, values}
-use Rattle.log_page.specs.Pages.{IsBytes, chunk_field}
+use Rattle.log_page.specs.Pages.{chunk_field}
 use Rattle.log_blocks.specs.Blocks.{Page, ArePages, FillsPages}
 use Rattle.log_blocks.specs.Blocks.{Block as Chunks}
 use Rattle.log_blocks.specs.Files.{joined}

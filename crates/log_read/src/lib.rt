@@ -1,11 +1,14 @@
-//! Makes the blocks of a log, with their batches, of its pages.
+//! Reads a log from a source, from its head to its end.
 //!
-//! Pages are taken one after another, and no more of the file is held than one block's chunks and the batches that were
-//! read.
+//! The file is read page by page, and no more of it is held than one block's chunks and the batches that were read.
 #![tactic(auto)]
 
 mod file;
+mod read;
 mod scan;
+mod source;
+mod stop;
 
 pub use file::{Block, LogFile};
+pub use read::read_log;
 pub use scan::LogScan;

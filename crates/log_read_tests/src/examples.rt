@@ -60,3 +60,21 @@ pub fn b12() -> [u8; PAGE] {
         &[2, 7, 1, 1, 0, 0, 5, 8, 1, 1, 0, 0, 3],
     )
 }
+
+/// The head of the setup with nothing before it.
+pub fn head() -> [u8; PAGE] {
+    let mut page = [0; PAGE];
+    let fields = [
+        0x4848_4d2d_4c4f_470a,
+        0x0000_0001_0000_0000,
+        0x0000_0003_0000_0000,
+        0x0000_0003_0200_0000,
+        0x0000_0000_0200_0000,
+        0x0000_0000_0402_0000,
+        0x0000_0000_0064_0000,
+        0x0000_0000_000a_0000,
+    ];
+    put_numbers(&mut page, 0, &fields);
+    put_numbers(&mut page, PAGE - 8, &[0xba8a_a704]);
+    page
+}

@@ -5,3 +5,5 @@
 mod batches;
 #[cfg(test)]
 mod examples;
+#[cfg(test)]
+mod files;
