@@ -1,7 +1,6 @@
 //! The bytes of a source as pages.
 ghost use Rattle.std.specs.Prelude.{◌≡◌, ℕ, ◌+◌, ◌/◌, ◌<◌, ◌≤◌, ◌^◌, List, [], ◌++◌, length, take, drop, IfOk, OnOk};
-ghost use Rattle.std.specs.Prelude.{IfErr, IsTrue, IsFalse};
-ghost use Rattle.std.specs.Prelude.{slice_index};
+ghost use Rattle.std.specs.Prelude.{IfErr, IsTrue, IsFalse, slice_index};
 ghost use Rattle.log_page.specs.Pages.{IsBytes};
 ghost use Rattle.log_read.specs.Given.{HasDrained, HasEnded, HasFailed, HasNext, IsAt};
 
