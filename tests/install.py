@@ -202,7 +202,7 @@ def the_session_of_the_readme(prefix):
     wanted = [it for it in block.splitlines() if not it.startswith("$ ")]
     with tempfile.TemporaryDirectory() as folder:
         os.symlink(os.path.join(TOP, "examples"), os.path.join(folder, "examples"))
-        found = {**os.environ, "PATH": f"{prefix}/bin:{os.environ['PATH']}"}
+        found = {**os.environ, "PATH": f"{prefix}/bin:{os.environ['PATH']}", "XDG_STATE_HOME": folder}
         status, output, error = ran("bash", "-c", "\n".join([*commands, "wait"]), cwd=folder, env=found)
     # The server and its clients write side by side.
     check("README.md: a session", (status, sorted(output.splitlines()), error), (0, sorted(wanted), ""))
