@@ -220,7 +220,7 @@ def names_keep_their_numbers():
         feed = subprocess.Popen(words(at, *given, "--format", "csv", 602, "-"), stdin=subprocess.PIPE,
                                 stdout=subprocess.PIPE, text=True, env=environment)
         ends = time.monotonic() + WAIT
-        while load(at, *given, "--state", path_of("other"), 602, first)[2] != 4 and time.monotonic() < ends:
+        while load(at, *given, "--state", path_of("another"), 604, first)[2] != 4 and time.monotonic() < ends:
             pass
         _, error, status = load(at, *given, "--state", path_of("other"), 603, first)
         check("two loads, one table", (status, "another load uses this table" in error), (4, True))
@@ -232,20 +232,20 @@ def names_keep_their_numbers():
 
 def killed_and_begun_again(by_names):
     """A load that is killed ten times, and begun again with the same words, counts each event once."""
-    lines, cells = flows(5, 60_000)
+    lines, cells = flows(5, 200_000)
     file = written("killed.csv", "source,destination,packets\n" + "".join(lines))
     given = ["--map", "name", "--names", path_of("killed.names")] if by_names else []
-    given += ["--batch", "200", "8" if by_names else "9", file]
+    given += ["--batch", "100", "8" if by_names else "9", file]
     dice, kills = random.Random(6), 0
     with Server(LARGE, tcp=False) as at:
         for _ in range(10):
             run = subprocess.Popen(words(at, *given), stdout=subprocess.DEVNULL, stderr=subprocess.DEVNULL,
                                    env={**os.environ, "XDG_STATE_HOME": path_of("state")})
-            time.sleep(0.2 + dice.random() * 0.5)
+            time.sleep(0.1 + dice.random() * 0.4)
             run.send_signal(signal.SIGKILL)
             kills += run.wait() == -signal.SIGKILL
         output, error, status = load(at, *given)
-        check(f"killed, names {by_names}", (output.split()[5:], error, status), (["60000"], "", 0))
+        check(f"killed, names {by_names}", (output.split()[5:], error, status), (["200000"], "", 0))
         check(f"killed, names {by_names}: by a kill", kills > 0, True)
         numbers = {}
         for row, col, _ in cells if by_names else []:
