@@ -217,16 +217,21 @@ def names_keep_their_numbers():
         check("names: the sum", sum_of(at), added([(0, 1, 1), (1, 2, 1), (2, 3, 1), (0, 3, 1)]))
         check("names: the table", server.content(names), b"a\nb\nc\nd\n")
         environment = {**os.environ, "XDG_STATE_HOME": path_of("state")}
-        feed = subprocess.Popen(words(at, *given, "--format", "csv", 602, "-"), stdin=subprocess.PIPE,
-                                stdout=subprocess.PIPE, text=True, env=environment)
+        given_one = [*given, "--batch", "1", "--format", "csv"]
+        feed = subprocess.Popen(words(at, *given_one, 602, "-"), stdin=subprocess.PIPE, stdout=subprocess.PIPE,
+                                text=True, env=environment)
+        # Once its first event is put, it has both files.
+        feed.stdin.write("e,a\n")
+        feed.stdin.flush()
         ends = time.monotonic() + WAIT
-        while load(at, *given, "--state", path_of("another"), 604, first)[2] != 4 and time.monotonic() < ends:
-            pass
+        with Client(unix=at.path) as hhm:
+            while hhm.status().batches < 3 and time.monotonic() < ends:
+                time.sleep(0.01)
         _, error, status = load(at, *given, "--state", path_of("other"), 603, first)
         check("two loads, one table", (status, "another load uses this table" in error), (4, True))
         _, error, status = load(at, 602, first)
         check("two loads, one client", (status, "another load uses client 602" in error), (4, True))
-        check("the first goes on", (feed.communicate("e,a\n", timeout=WAIT)[0], feed.returncode),
+        check("the first goes on", (feed.communicate(timeout=WAIT)[0], feed.returncode),
               ("new 1 repeats 0 events 1\n", 0))
 
 
