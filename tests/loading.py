@@ -16,7 +16,6 @@ import random
 import signal
 import subprocess
 import sys
-import tempfile
 import time
 
 import server
@@ -307,24 +306,18 @@ def a_terminal_sees_it_go_on():
         check("a terminal: told", b" events, " in told and parts[-1] == b"" and parts[-2].strip() == b"", True)
 
 
-def main():
-    if len(sys.argv) != 2:
-        sys.exit(__doc__)
-    server.PROGRAM = os.path.abspath(sys.argv[1])
-    with tempfile.TemporaryDirectory() as server.FOLDER:
-        a_file_counts_once()
-        each_form_is_read()
-        other_ways_to_a_text()
-        lines_that_are_no_events()
-        refusals_tell_the_line()
-        names_keep_their_numbers()
-        killed_and_begun_again(False)
-        killed_and_begun_again(True)
-        a_server_that_went_back()
-        a_terminal_sees_it_go_on()
-    print(f"{server.passed} passed, {server.failed} failed")
-    sys.exit(server.failed > 0)
+def all_are_tried():
+    a_file_counts_once()
+    each_form_is_read()
+    other_ways_to_a_text()
+    lines_that_are_no_events()
+    refusals_tell_the_line()
+    names_keep_their_numbers()
+    killed_and_begun_again(False)
+    killed_and_begun_again(True)
+    a_server_that_went_back()
+    a_terminal_sees_it_go_on()
 
 
 if __name__ == "__main__":
-    main()
+    sys.exit(server.run_all(all_are_tried))

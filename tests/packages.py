@@ -11,7 +11,6 @@ import os
 import shutil
 import subprocess
 import sys
-import tempfile
 
 import server
 from clients import CLIENTS, EXAMPLE
@@ -105,17 +104,11 @@ def by_make():
     writes_the_example("make", program)
 
 
-def main():
-    if len(sys.argv) != 2:
-        sys.exit(__doc__)
-    server.PROGRAM = os.path.abspath(sys.argv[1])
-    with tempfile.TemporaryDirectory() as server.FOLDER:
-        by_pip()
-        by_cargo()
-        by_make()
-    print(f"{server.passed} passed, {server.failed} failed")
-    sys.exit(server.failed > 0)
+def all_are_tried():
+    by_pip()
+    by_cargo()
+    by_make()
 
 
 if __name__ == "__main__":
-    main()
+    sys.exit(server.run_all(all_are_tried))
