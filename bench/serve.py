@@ -3,6 +3,7 @@
 
     python3 bench/serve.py PATH-TO-HHM [--cells N] [--batches "1000 100000"] [--streams "powerlaw uniform"]
                                        [--connections W] [--depth D] [--repeat R]
+    python3 bench/serve.py PATH-TO-HHM --log [--repeat R] [--seconds S]
     python3 bench/serve.py PATH-TO-HHM --check
 
 It builds the programs of this folder with rustc, generates each stream and cuts it into frames. Each server is started
@@ -16,9 +17,14 @@ The plain server (`counting_server.rs`) has hash tables and keeps no batch. As `
 much do sockets and this program take by themselves. `hhm` gets the same batches as texts and as cells of 24 bytes each
 (`hhm, cells`); the plain server reads texts alone.
 
+With `--log` the server has a log, and is measured beside others that keep each record before they answer
+(serve_log.py): batches of one cell over 1, 4 and 16 connections with one and with eight on the way on each, and of
+1,000 cells over two with four, each for S seconds in each of R rounds.
+
 With `--check` nothing is timed: two connections put a short stream of each kind, some batches twice (to `hhm` also as
-cells, and the second time as the other of both), and all replies,
-the cells and the export are compared with what a dictionary of Python holds. The last line is `N passed, M failed`.
+cells, and the second time as the other of both), and all replies, the cells and the export are compared with what a
+dictionary of Python holds. So are those of a server with a log, which must have each batch once, in no more blocks than
+there were batches, also for a second start. The last line is `N passed, M failed`.
 
 The status is 1 where an answer is wrong. Linux, and nothing but Python's own library and the client of clients/python.
 Programs and data go to a folder of their own below the system's one for temporary files, and are removed at the end.
@@ -39,6 +45,7 @@ sys.path.insert(0, os.path.join(HERE, "..", "clients", "python"))
 sys.path.insert(1, HERE)
 from hhm_client import Client, put_frame, text_of  # noqa: E402
 from run import SIZE, STREAMS, build, run_or_check, short_stream  # noqa: E402
+from serve_log import blocks_of, measure_logs  # noqa: E402
 
 # Cells and batches of a stream that is checked and not timed.
 CHECKED_CELLS, CHECKED_BATCH = 20_000, 500
@@ -46,6 +53,7 @@ CHECKED_CELLS, CHECKED_BATCH = 20_000, 500
 QUESTIONS, PAUSE = 2_000, 0.0005
 WAIT = 300
 STATUS = struct.pack(">IB", 0, 4)
+STORED = struct.pack(">IB", 0, 9)
 STOP = struct.pack(">IB", 0, 7)
 FORK = multiprocessing.get_context("fork")
 
@@ -378,6 +386,21 @@ def check_server(kind, name, command, forms):
         yield f"the connection: {fault}", False
 
 
+def check_log(command, folder):
+    """As `check_stream`, of a server with a log; and whether that has each batch once when the server was killed."""
+    path, parts = os.path.join(folder, "log"), CHECKED_CELLS // CHECKED_BATCH
+    command = [*command, "--log", path]
+    for what, is_right in check_stream("powerlaw", "hhm", command, (cells_frame, text_frame)):
+        yield what, is_right
+    blocks, batches = blocks_of(path)
+    yield "the blocks of a log", 0 < blocks <= batches == parts
+    with Server(command) as server:
+        with server.connect() as link:
+            yield "what is stored", ask(link, STORED) == ask(link, STATUS) != (0x84, bytes(16))
+        server.process.kill()
+    yield "the log again", blocks_of(path) == (blocks, batches)
+
+
 def check(arguments, folder):
     """Compares what the servers answer on a short stream of each kind, and says whether all is right."""
     baseline = build("counting_server.rs", folder) if shutil.which("rustc") else None
@@ -392,6 +415,10 @@ def check(arguments, folder):
                 passed, failed = passed + is_right, failed + (not is_right)
                 if not is_right:
                     print(f"FAILED {kind}: {name}: {what}")
+    for what, is_right in check_log(commands(arguments.hhm, None, 2)[0][1], folder):
+        passed, failed = passed + is_right, failed + (not is_right)
+        if not is_right:
+            print(f"FAILED with a log: {what}")
     print(f"{passed} passed, {failed} failed")
     return failed == 0
 
@@ -404,7 +431,9 @@ def main():
     parser.add_argument("--connections", type=int, default=2)
     parser.add_argument("--depth", type=int, default=4, help="puts on the way on each connection")
     parser.add_argument("--repeat", type=int, default=3)
-    run_or_check(parser, measure_all, check)
+    parser.add_argument("--log", action="store_true", help="measure a server with a log beside others")
+    parser.add_argument("--seconds", type=float, default=2, help="with --log: of each program and shape in a round")
+    run_or_check(parser, lambda given, folder: (measure_logs if given.log else measure_all)(given, folder), check)
 
 
 if __name__ == "__main__":

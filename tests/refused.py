@@ -25,6 +25,7 @@ from typing import Callable, NamedTuple
 
 HERE = os.path.dirname(os.path.abspath(__file__))
 sys.path.insert(0, HERE)
+import log_bytes  # noqa: E402
 from program import BANNER, NONE, snapshot  # noqa: E402
 from server import SMALL, accepted, put_frame, refused, text  # noqa: E402
 
@@ -122,6 +123,24 @@ def runs(folder):
             file.write(snapshot(batches, count * total, 11, 11, limit=10**9, most=1_000))
         line = f"rows 11 cols 11 shards 2 batches {count} total {count * total} entries {len(one)}\n"
         yield Run(name, ["check", path], b"", line.encode(), r"hhm: snapshot: Read\n")
+    yield logged_check(folder)
+
+
+def logged_check(folder):
+    """A snapshot of 40 batches, and a log of 60, of which it has 20."""
+    setup = log_bytes.Setup(11, 11, (2, 4), 2, 10**9, 1_000)
+    batches = [(7, number, summed(spread(40, 11))) for number in range(80)]
+    entries = [log_bytes.entry_of(batch) for batch in batches]
+    path, log_path = (os.path.join(folder, name) for name in ("beside_a_log", "log"))
+    with open(path, "wb") as file:
+        total = sum(entry[3] for entry in entries[:40])
+        file.write(snapshot(batches[:40], total, 11, 11, limit=setup.limit, most=setup.most, past=NONE))
+    logged = log_bytes.log([batches[20:50], batches[50:51], batches[51:]], entries[:20], setup)
+    with open(log_path, "wb") as file:
+        file.write(logged)
+    output = f"{log_bytes.check_line(batches, setup)}\n{log_bytes.Log(logged).line()}\n"
+    fault = r"hhm: (snapshot: Read|log: Read at page [0-9]+)\n"
+    return Run("check with a log", ["check", path, "--log", log_path], b"", output.encode(), fault)
 
 
 class Refusing:
@@ -143,14 +162,18 @@ class Refusing:
             return told.read() != b""
 
 
+def library_of(source, folder):
+    """Makes the library of a source of this folder, by the clang of the toolchain, and gives its path."""
+    kit = os.path.dirname(subprocess.check_output(["rt", "doc"], text=True).strip())
+    tools, library = os.path.join(kit, "toolchain", "bin"), os.path.join(folder, source.replace(".c", ".so"))
+    words = ["-O1", "-fPIC", "-ffreestanding", "-shared", "-nostdlib", f"--ld-path={tools}/ld.lld"]
+    subprocess.run([os.path.join(tools, "clang"), *words, "-o", library, os.path.join(HERE, source)], check=True)
+    return library
+
+
 def build_library(folder):
     """The library that refuses a call."""
-    kit = os.path.dirname(subprocess.check_output(["rt", "doc"], text=True).strip())
-    tools = os.path.join(kit, "toolchain", "bin")
-    Refusing.library = os.path.join(folder, "refuse.so")
-    words = ["-O1", "-fPIC", "-ffreestanding", "-shared", "-nostdlib", f"--ld-path={tools}/ld.lld"]
-    words += ["-o", Refusing.library, os.path.join(HERE, "refuse.c")]
-    subprocess.run([os.path.join(tools, "clang"), *words], check=True)
+    Refusing.library = library_of("refuse.c", folder)
 
 
 def refused_run(program, run, kind, error, at):
@@ -188,6 +211,8 @@ REPLIES = [
 ]
 STOPPING = struct.pack(">IB", 0, 0x87)
 SAVED = snapshot([(7, 1, [(0, 0, 5)]), (8, 1, [(0, 0, 3)])], 8, past=NONE)
+# The snapshot that a server starts with, and whether it has a log.
+STARTS = {"serve": (None, False), "serve of a snapshot": (SAVED, False), "serve with a log": (SAVED, True)}
 # One growth is refused, so the second time is the last at which anything may be.
 TRIES = 3
 
@@ -290,17 +315,19 @@ def judge_server(kind, process, path, saved, before):
     return talk_to_slow_server(process, path, saved)
 
 
-def served_run(program, folder, before, kind, error, at):
+def served_run(program, folder, start, kind, error, at):
     """What was wrong with a server whose call number `at` was refused, and whether there was such a call.
 
-    It starts with this snapshot, or with none.
+    It starts with a snapshot, or with none, and has a log, or none.
     """
+    before, has_log = start
     path, saved = (os.path.join(folder, f"{name}{at}") for name in ("socket", "snap"))
     if before is not None:
         with open(saved, "wb") as file:
             file.write(before)
     refusing = Refusing(kind, error, at)
     words = [program, "serve", "--unix", path, "--workers", "1", "--snapshot", saved, *SMALL]
+    words += ["--log", f"{saved}.log"] if has_log else []
     process = subprocess.Popen(words, stdout=subprocess.PIPE, stderr=subprocess.PIPE, **refusing.how)
     try:
         wrong = judge_server(kind, process, path, saved, before)
@@ -359,11 +386,14 @@ def sweeps(program, folder):
             yield f"{run.name}: {name}", lambda at, run=run, kind=kind, error=error: judged_run(
                 program, run, kind, error, at
             )
-    for name, before in [("serve", None), ("serve of a snapshot", SAVED)]:
+    for name, start in STARTS.items():
         for what, (kind, error) in REFUSALS.items():
+            if start[1] and kind == "fault":
+                # server_log_faults.py has what is told then.
+                continue
             within = tempfile.mkdtemp(dir=folder)
-            yield f"{name}: {what}", lambda at, within=within, before=before, kind=kind, error=error: served_run(
-                program, within, before, kind, error, at
+            yield f"{name}: {what}", lambda at, within=within, start=start, kind=kind, error=error: served_run(
+                program, within, start, kind, error, at
             )
 
 

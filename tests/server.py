@@ -198,12 +198,12 @@ def settings_are_refused():
         check(f"{' '.join(words)}: status and output", (run.stdout, run.returncode), ("", 2))
 
 
-def frames_are_answered(unix):
+def frames_are_answered(unix, more=()):
     """Frames in one piece, and cut at each byte; bad headers; queries out of range; a stop."""
     puts = put_frame(7, 1, text(5)) + put_frame(8, 1, text(3)) + struct.pack(">IBQQ", 16, 2, 0, 0)
     first = accepted(0, 5) + accepted(1, 8) + struct.pack(">IBBQ", 9, 0x82, 1, 8)
     name = "unix" if unix else "tcp"
-    with Server(SMALL) as server:
+    with Server([*SMALL, *more]) as server:
         check(f"{name}: frames at once", server.talk([puts], unix), first)
         for place in range(1, len(puts), 1 if unix else 7):
             check(f"{name}: cut at {place}", server.talk([puts[:place], puts[place:]], unix), first)

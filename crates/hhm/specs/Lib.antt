@@ -1,3 +1,4 @@
 pub mod Options
 pub mod Reports
+pub mod Logs
 pub mod Serving

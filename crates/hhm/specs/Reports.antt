@@ -13,6 +13,10 @@ use Rattle.snap_report.specs.declared.fault.CheckFault.{CheckFault}
 use Rattle.snap_report.specs.declared.fault.CheckFault.TheVariants as check
 use Rattle.snap_report.specs.declared.fault.FoldFault.{FoldFault}
 use Rattle.snap_report.specs.declared.fault.FoldFault.TheVariants as fold
+use Rattle.snap_report.specs.declared.kept_log.LogFileFault.{LogFileFault}
+use Rattle.snap_report.specs.declared.kept_log.LogFileFault.TheVariants as log_file
+use Rattle.log_blocks.specs.declared.fault.LogKind.{LogKind}
+use Rattle.log_blocks.specs.declared.fault.LogKind.TheVariants as log_kind
 use Rattle.snap_file.specs.declared.fault.FileFault.{FileFault}
 use Rattle.snap_file.specs.declared.fault.FileFault.TheVariants as file
 use Rattle.snap_file.specs.declared.fault.SnapFault.{SnapFault}
@@ -43,10 +47,23 @@ abbrev pub file_status : FileFault → ℕ
 file_status (file.Snap fault) = snapshot_status fault
 file_status _ = 4
 
+-- a read that failed is the device's fault, and all else the log's
+abbrev pub log_kind_status : LogKind → ℕ
+log_kind_status log_kind.Read = 4
+log_kind_status log_kind.Memory = 5
+log_kind_status _ = 3
+
+abbrev pub log_file_status : LogFileFault → ℕ
+log_file_status (log_file.Log fault) = log_kind_status fault.kind
+log_file_status _ = 4
+
 abbrev pub check_status : CheckFault → ℕ
 check_status (check.File fault) = file_status fault
 check_status check.Memory = 5
 check_status (check.Output fault) = 4
+check_status (check.Log fault) = log_file_status fault
+check_status check.LogDiffers = 2
+check_status (check.Join fault) = 3
 
 abbrev pub fold_status : FoldFault → ℕ
 fold_status (fold.File fault) = file_status fault

@@ -39,10 +39,26 @@ output, where E is the number of cells of the sum of all batches:
 
   rows R cols C shards K batches B total T entries E
 
+With --log it reads the log in that file too. The line is then of what the
+snapshot and the log hold together, and behind it stands another: the place of
+the log's first batch, how many batches it has, how many whole pages of 4096
+bytes with its head, and how many pages behind them aren't empty, which are of
+a block that was being written:
+
+  log first F batches N pages P rest R
+
+Where a log is given, a snapshot that isn't there counts as an empty one. No
+file is changed, and no lock is taken.
+
 A fault is one line on standard error:
 
   hhm: file: NotFound, OpenFailed  status 4
   hhm: snapshot: KIND              status 3 (KIND Read: 4)
+  hhm: log: NotFound, OpenFailed   status 4
+  hhm: log: KIND at page N         status 3 (KIND Read: 4)
+  hhm: settings: LogDiffers        status 2
+  hhm: log: LinkDiffers            status 3
+  hhm: log: Gap, EntryDiffers, NotFresh at batch N  status 3
   hhm: output failed after N bytes status 4
   hhm: memory                      status 5";
 
@@ -119,6 +135,17 @@ fn snapshot_command<'a>(
         .arg(path)
 }
 
+// `check`, which reads a log too.
+fn check_command<'a>(alloc: Global) -> Result<Command<'a>, AllocError> {
+    let log = Arg::new(alloc, "log")
+        .long("log")
+        .value_name("PATH")
+        .value_parser(ValueParser::NonEmptyString)
+        .help("The file of the log to read with it");
+    let check = snapshot_command(alloc, "check", CHECK_ABOUT, CHECK_HELP)?;
+    check.arg(log)
+}
+
 // The program without a word.
 fn program<'a>(alloc: Global) -> Result<Command<'a>, AllocError> {
     let program = Command::new(alloc, "hhm").bin_name("hhm")?;
@@ -139,9 +166,8 @@ fn with<'a>(
     program.subcommand(word?)
 }
 
-// The words that read a snapshot: each with what is said of it in one line, and in its help.
+// The other words that read a snapshot: each with what is said of it in one line, and in its help.
 static SNAPSHOT_WORDS: &[(&str, &str, &str)] = &[
-    ("check", CHECK_ABOUT, CHECK_HELP),
     ("export", EXPORT_ABOUT, EXPORT_HELP),
     ("fold", FOLD_ABOUT, FOLD_HELP),
 ];
@@ -149,6 +175,7 @@ static SNAPSHOT_WORDS: &[(&str, &str, &str)] = &[
 /// The command line of the program.
 pub fn command<'a>(alloc: Global) -> Result<Command<'a>, AllocError> {
     let mut hhm = with(program(alloc)?, sum_command(alloc))?;
+    hhm = with(hhm, check_command(alloc))?;
     for (name, about, help) in SNAPSHOT_WORDS {
         hhm = with(hhm, snapshot_command(alloc, name, about, help))?;
     }

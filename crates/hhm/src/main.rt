@@ -6,6 +6,7 @@
 
 mod cli;
 mod limits;
+mod log_report;
 mod memory;
 mod numbers;
 mod report;
@@ -24,7 +25,7 @@ use clap::{ArgMatches, Error};
 use mm_sum::run_sum;
 use progress::{Entries, ProgressLine, Watched};
 use snap_file::{LockedFile, NamedFile};
-use snap_report::{run_check, run_export, run_fold};
+use snap_report::{NamedLog, run_check, run_check_with_log, run_export, run_fold};
 use socket_server::{ServerFault, Settings};
 use std::alloc::AllocError;
 use std::io::IsTerminal;
@@ -113,7 +114,10 @@ fn run_word(rt: &HostRuntime, word: &str, given: &ArgMatches) -> Result<(), Faul
         let path = given.get_str("path").unwrap_or("");
         let is_shown = rt.stderr().is_terminal();
         let mut line = progress_line(rt, is_shown, Entries::Cells);
-        let outcome = run_snapshot_word(rt, word, path, &mut line);
+        let outcome = match given.get_str("log") {
+            Some(log) => run_check_word(rt, path, log, &mut line),
+            None => run_snapshot_word(rt, word, path, &mut line),
+        };
         clear(&mut line);
         outcome
     }
@@ -159,6 +163,24 @@ fn run_snapshot_word(
         "fold" => run_fold(rt.alloc(), &mut LockedFile::new(rt, path, line), &mut out)?,
         _ => {}
     }
+    Ok(())
+}
+
+/// Reads the snapshot under a path and the log under another, and says what they hold together. How far the reading of
+/// the log has come is said where that of the snapshot is.
+fn run_check_word(
+    rt: &HostRuntime,
+    path: &str,
+    log_path: &str,
+    line: &mut Shown<'_>,
+) -> Result<(), Fault> {
+    let mut out = Counted::new(rt.stdout());
+    let mut log_line = progress_line(rt, line.is_some(), Entries::Cells);
+    let mut file = NamedFile::new(rt, path, line);
+    let mut log = NamedLog::new(rt, log_path, &mut log_line);
+    let outcome = run_check_with_log(rt.alloc(), &mut file, &mut log, &mut out);
+    clear(&mut log_line);
+    outcome?;
     Ok(())
 }
 

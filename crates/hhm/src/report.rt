@@ -1,16 +1,17 @@
 //! What the program says of a fault, and the status that it ends with.
 ghost use Rattle.std.specs.Prelude.{◌≡◌};
-ghost use Rattle.hhm.specs.Reports.{fault_of_list, fault_status};
+ghost use Rattle.hhm.specs.Reports.{fault_of_list, fault_status, log_kind_status};
 ghost use Rattle.mm_sum.specs.declared.fault.SumFault.TheVariants.{Memory, Output};
 ghost use Rattle.hhm.specs.declared.report.Fault.TheVariants.{Setup, Sum, Check, Fold};
 
 use crate::numbers::ListFault;
 use batch_store::SetupFault;
 use byte_io::WriteFault;
+use log_blocks::LogKind;
 use mm_sum::SumFault;
 use mm_text::{MmFault, MmKind};
 use snap_file::{FileFault, SnapFault};
-use snap_report::{CheckFault, FoldFault};
+use snap_report::{CheckFault, FoldFault, LogFileFault};
 use std::alloc::AllocError;
 use std::process::ExitCode;
 use thiserror::Error;
@@ -94,6 +95,17 @@ impl From<WriteFault> for Fault {
     }
 }
 
+/// The status of what is wrong with a log: a read that failed is the device's fault, and all else the log's.
+pub fn log_kind_status(kind: LogKind) -> u8
+    ensures { result ≡ log_kind_status kind }
+{
+    match kind {
+        LogKind::Read => 4,
+        LogKind::Memory => 5,
+        _ => 3,
+    }
+}
+
 impl Fault {
     /// The status: 2 for settings, 3 for what the text says, 4 for a device, 5 for memory.
     pub fn status(self) -> u8
@@ -120,6 +132,10 @@ impl Fault {
             Fault::Check(CheckFault::File(_)) => 4,
             Fault::Check(CheckFault::Memory) => 5,
             Fault::Check(CheckFault::Output(_)) => 4,
+            Fault::Check(CheckFault::Log(LogFileFault::Log(fault))) => log_kind_status(fault.kind),
+            Fault::Check(CheckFault::Log(_)) => 4,
+            Fault::Check(CheckFault::LogDiffers) => 2,
+            Fault::Check(CheckFault::Join(_)) => 3,
             Fault::Fold(FoldFault::File(FileFault::Snap(SnapFault::Read))) => 4,
             Fault::Fold(FoldFault::File(FileFault::Snap(_))) => 3,
             Fault::Fold(FoldFault::File(_)) => 4,

@@ -2,6 +2,7 @@
 ghost use Rattle.std.specs.Prelude.{◌≡◌};
 ghost use Rattle.hhm.specs.Serving.{server_status};
 
+use crate::log_report::status_of_log;
 use crate::numbers::{read_list, read_number};
 use crate::report::Fault;
 use batch_store::Setup;
@@ -13,18 +14,20 @@ use std::alloc::{AllocError, Global};
 use std::num::NonZeroU64;
 use std::sync::Arc;
 
-/// The status that a server's fault ends the program with: 2 for settings, 3 for what a snapshot says, 4 for a device,
-/// an address or a thread, 5 for memory, 6 for records that differ.
+/// The status that a server's fault ends the program with: 2 for settings, 3 for what a snapshot or a log says, 4 for a
+/// device, an address or a thread, 5 for memory, 6 for records that differ.
 pub fn status_of(fault: &ServerFault) -> u8
     ensures { result ≡ server_status fault.now }
 {
     match fault {
         ServerFault::BadWorkers => 2,
         ServerFault::NoAddress => 2,
+        ServerFault::SamePath => 2,
         ServerFault::SnapshotDiffers => 2,
         ServerFault::File(FileFault::Snap(SnapFault::Read)) => 4,
         ServerFault::File(FileFault::Snap(_)) => 3,
         ServerFault::File(_) => 4,
+        ServerFault::Log(fault) => status_of_log(fault),
         ServerFault::Listen(_) => 4,
         ServerFault::NoWorker => 4,
         ServerFault::Save(_) => 4,
@@ -92,6 +95,7 @@ pub fn settings_of(alloc: Global, matches: &ArgMatches) -> Result<Settings, Faul
         setup,
         workers,
         snapshot: word_of(alloc, matches, "snapshot")?,
+        log: word_of(alloc, matches, "log")?,
         must_load: matches.get_flag("must-load"),
         must_save: matches.get_flag("must-save"),
         sessions,

@@ -11,13 +11,22 @@ const SERVE_HELP: &str = "\
 Writes 'listening tcp ADDRESS' and 'listening unix PATH' to standard output once
 it listens, and 'stopped batches B total T' at the end. A client ends it by a
 Stop. With --snapshot it starts from that file, if there is one, and saves what
-was accepted there, when a client asks for it and at the end; what came after
-the last save is lost if the process is killed. At a Unix socket's path there
-must be nothing at the start, or a socket that nobody listens at, which is
-removed; it is removed at the end.
+was accepted there, when a client asks for it and at the end; without --log,
+what came after the last save is lost if the process is killed. At a Unix
+socket's path there must be nothing at the start, or a socket that nobody
+listens at, which is removed; it is removed at the end.
+
+With --log each batch is written to that file and synced before it is answered:
+what was answered as accepted is there after a kill or a loss of power, once the
+server is started again with the same --snapshot and --log. Each save begins the
+log anew behind the snapshot. Without --snapshot it grows, and nothing is saved.
+Where the disk is full, or a write failed, batches are refused (LogFull,
+LogFailed) and the server goes on; after LogFailed a save makes it take batches
+again.
 
 As long as it runs it holds the lock of the file PATH.lock, so that no second
-server and no 'hhm fold' saves there ('hhm: file: Busy').
+server and no 'hhm fold' saves there ('hhm: file: Busy'), and that of the log's
+path ('hhm: log: Busy').
 
 A connection keeps its worker until it is closed, whether it sends or not, or
 until it has sent nothing for the time of --idle, or until the time of --drain
@@ -28,6 +37,10 @@ A fault is one line on standard error:
   hhm: settings: NAME              status 2
   hhm: snapshot: KIND              status 3 (KIND Read: 4)
   hhm: file: KIND                  status 4
+  hhm: log: KIND at page N         status 3 (KIND Read: 4)
+  hhm: log: KIND at batch N        status 3
+  hhm: log: LinkDiffers            status 3
+  hhm: log: Create, Write, Sync, Rename, Busy   status 4
   hhm: listen failed: ADDRESS      status 4
   hhm: no worker                   status 4
   hhm: output failed after N bytes status 4
@@ -94,6 +107,13 @@ static OPTIONS: &[ServeOption] = &[
         value: "PATH",
         is_path: true,
         help: "Start from this snapshot, and save there",
+        ..LEFT_OUT
+    },
+    ServeOption {
+        name: "log",
+        value: "PATH",
+        is_path: true,
+        help: "Write each batch to this log before it is answered, and start from it too",
         ..LEFT_OUT
     },
     ServeOption {

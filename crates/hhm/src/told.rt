@@ -4,8 +4,8 @@ ghost use Rattle.std.specs.Prelude.{◌+◌, ◌<◌, ◌^◌};
 use byte_io::Sink;
 use event_log::{Event, FileSizes, tell_events};
 use locked_engine::Status;
-use session_pool::Disk;
-use socket_server::{Host, ServerFault, Settings, run_server};
+use session_pool::{Disk, LogPlace};
+use socket_server::{FileLog, Host, LogHost, ServerFault, Settings, run_server};
 use std::alloc::Global;
 use std::io::Eprint;
 use std::net::{Net, TcpListener, TcpStream};
@@ -22,7 +22,9 @@ pub fn run_told<
         + Wait
         + Clock
         + Disk
+        + LogPlace<FileLog>
         + Host
+        + LogHost<FileLog>
         + RandomSource
         + Eprint
         + FileSizes
@@ -34,7 +36,7 @@ pub fn run_told<
 {
     let copy = match &settings.events {
         Some(events) => Arc::try_clone(events),
-        None => return run_server(rt, alloc, settings, out),
+        None => return run_server::<FileLog, R, W>(rt, alloc, settings, out),
     };
     let Ok(events) = copy else {
         return Err(ServerFault::Memory);
@@ -45,7 +47,7 @@ pub fn run_told<
         ||
             requires { W.failure_count out.now + 1 < 2 ^ 64 }
         {
-            let outcome = run_server(rt, alloc, settings, out);
+            let outcome = run_server::<FileLog, R, W>(rt, alloc, settings, out);
             if let Ok(Status { batches, total }) = outcome {
                 events.note(rt, Event::Stopped { batches, total });
             }

@@ -3,4 +3,4 @@ mod Sizes
 pub mod Chunks
 mod TableLemmas
 mod Taking
-mod BlockLemmas
+pub mod BlockLemmas

@@ -1,5 +1,7 @@
 -- How many bytes batches take.
-use Rattle.std.proofs.Common.{◌≡◌, ℕ, ◌+◌, ◌*◌, ◌<◌, ◌≤◌, List, [], ◌∷◌, ◌++◌, length, flat_map, refl, sym, ap, ◌∙◌, length-append, arith}
+use Rattle.std.proofs.Common.{◌≡◌, ℕ, ◌+◌, ◌-◌, ◌*◌, ◌/◌, ◌^◌, ◌<◌, ◌≤◌, List, [], ◌∷◌, ◌++◌, length, flat_map, refl, sym, ap, ◌∙◌, length-append, arith, inl, inr}
+use Rattle.std.specs.Prelude.{min}
+use Rattle.std.proofs.lemmas.Bool.{cases_lt}
 use Rattle.std.specs.FinMap.{entries, len, len-entries}
 use Rattle.hyper_matrix.specs.Counts.{Place, Counts}
 use Rattle.batch_store.specs.Batches.{Submission}
@@ -56,3 +58,14 @@ length-payload list =
     let a = length-append (number_bytes w64 (length list)) (flat_map batch_bytes list) in
     let b = length-number (length list) in
     omega arith
+
+-- a sum that stays at the greatest number once it is reached
+pub pages_of_sum : (bytes left len : ℕ) → left ≡ 0 → bytes < 2 ^ 64 → bytes + left ≤ len →
+    (bytes < 2 ^ 64 - 1 → bytes + left ≡ len) → (bytes - 1) / 4072 + 1 ≡ (min len (2 ^ 64 - 1) - 1) / 4072 + 1
+pages_of_sum bytes left len none fits within exact = ap (λ (n : ℕ). (n - 1) / 4072 + 1) sum_is
+  where
+    sum_is : bytes ≡ min len (2 ^ 64 - 1)
+    sum_is = elim (cases_lt bytes (2 ^ 64 - 1)) [
+      | inl low ↦ let e = exact low in omega arith
+      | inr high ↦ omega arith
+    ]

@@ -1,8 +1,8 @@
 //! How many pages a block takes.
-ghost use Rattle.std.specs.Prelude.{◌≡◌, ◌+◌, ◌-◌, ◌*◌, ◌<◌, ◌≤◌, ◌^◌, length, min};
+ghost use Rattle.std.specs.Prelude.{◌≡◌, ◌+◌, ◌-◌, ◌*◌, ◌/◌, ◌<◌, ◌≤◌, ◌^◌, length, min};
 ghost use Rattle.batch_store.specs.Batches.{values};
 ghost use Rattle.snap_file.specs.Spelling.{batch_bytes, matrix_bytes};
-ghost use Rattle.log_batches.specs.Payloads.{block_of};
+ghost use Rattle.log_batches.specs.Payloads.{block_of, payload_bytes};
 
 use batch_store::Batch;
 use hyper_matrix::Hyper;
@@ -25,6 +25,7 @@ fn batch_size(batch: &Batch) -> u64
 /// How many pages the block of these batches takes, where that is below 2^50; else a number from there on, so that
 /// whoever compares it with the room that there is isn't misled. Takes constant time for each batch.
 pub fn block_pages(batches: &[Arc<Batch>]) -> u64
+    ensures exact { result ≡ (min (length (payload_bytes (values batches.now))) (2 ^ 64 - 1) - 1) / 4072 + 1 }
     ensures few { result < 2 ^ 50 → result ≡ length (block_of (values batches.now)) }
     ensures many { 2 ^ 50 ≤ result → 2 ^ 50 ≤ length (block_of (values batches.now)) }
 {

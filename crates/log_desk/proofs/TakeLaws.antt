@@ -1,6 +1,6 @@
 -- Fronts of lists that begin one list.
 use Rattle.std.proofs.Common.{◌≡◌, ℕ, zero, suc, ◌+◌, ◌≤◌, ◌<◌, List, [], ◌∷◌, ◌++◌, length, take, drop, slice_get}
-use Rattle.std.proofs.Common.{refl, ap, sym, ◌∙◌, arith}
+use Rattle.std.proofs.Common.{refl, ap, sym, ◌∙◌, arith, append_assoc}
 use Rattle.std.proofs.lemmas.List.{take-append-drop, take-take, length-take-le}
 use mathlib.Core.List.{IsPrefix}
 
@@ -45,3 +45,10 @@ pub front_of_other : {A : Type 0} (n : ℕ) (old xs ys zs : List A) → old ≡ 
 front_of_other n old xs ys zs is within p q less =
     let len : length old ≡ n = ap length is ∙ length-take-le n xs within in
     is ∙ (same_front n xs ys zs p q within (omega (arith, len, less)) ∙ ap (λ k. take k ys) (sym len))
+
+-- a front of a beginning begins the list too
+pub front_of_all : {A : Type 0} (n : ℕ) (xs zs : List A) → IsPrefix xs zs → IsPrefix (take n xs) zs
+front_of_all n xs zs p = (
+  drop n xs ++ p.0,
+  sym (append_assoc (take n xs) (drop n xs) p.0) ∙ (ap (λ l. l ++ p.0) (take-append-drop n xs) ∙ p.1),
+)

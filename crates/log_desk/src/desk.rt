@@ -1,5 +1,6 @@
 //! The desk: where threads wait until a place is durable.
 ghost use Rattle.std.specs.Prelude.{◌≡◌, ◌≢◌, ◌<◌, true, false, Err, length, OnOk, IfOk, IfSome};
+ghost use Rattle.std.specs.Bool.{OnTrue};
 ghost use mathlib.Core.List.{IsPrefix};
 ghost use Rattle.locked_engine.specs.Versions.{version_status};
 
@@ -21,7 +22,7 @@ use std::thread;
 ///
 /// Contracts see nothing of what it holds, since others may change that at any time.
 ///
-/// Its lock is taken inside no other, and no other is taken inside it.
+/// Its lock is taken inside none of an engine's, and no lock is taken inside it.
 #[derive(Drop)]
 pub struct LogDesk<N: Named, L: Log> {
     state: Mutex<DeskState<N, L>>,
@@ -180,6 +181,28 @@ impl<N: Named, L: Log> LogDesk<N, L> {
         state.put_back(turn);
         let _ = MutexGuard::unlock(state);
         self.told.notify_all();
+    }
+
+    /// What is durable: what a session knows as it begins. It waits for the desk's lock, under which nobody writes.
+    pub fn known<R: Wait>(&self, rt: &R) -> Durable<N, L>
+        ensures { L.was_synced result }
+    {
+        let state = self.state.lock(rt);
+        let known = state.durable();
+        let _ = MutexGuard::unlock(state);
+        // It tells that a sync made it so.
+        let _status = known.status();
+        known
+    }
+
+    /// Whether a call on the log has failed, and no fresh log was put in its place since.
+    pub fn is_failed<R: Wait>(&self, rt: &R) -> bool
+        ensures { OnTrue result L.has_failed }
+    {
+        let state = self.state.lock(rt);
+        let is_failed = state.is_failed();
+        let _ = MutexGuard::unlock(state);
+        is_failed
     }
 
     /// Shows what is durable, and tells how many batches that are, and their total. It waits for the desk's lock, under

@@ -1,8 +1,9 @@
 //! What is known as durable.
-ghost use Rattle.std.specs.Prelude.{◌≡◌, ◌≤◌, ◌<◌, ◌++◌, length, take, slice_get, IfSome};
+ghost use Rattle.std.specs.Prelude.{◌≡◌, ◌≤◌, ◌<◌, ◌++◌, List, length, take, slice_get, IfSome};
 ghost use mathlib.Core.List.{IsPrefix};
+ghost use Rattle.batch_store.specs.declared.verdict.Entry.{Entry};
 ghost use Rattle.batch_store.specs.Batches.{entries_of, values};
-ghost use Rattle.locked_engine.specs.Versions.{version_status};
+ghost use Rattle.locked_engine.specs.Versions.{IsVersion, version_status};
 
 use crate::log::Log;
 use batch_store::Batch;
@@ -118,6 +119,16 @@ impl<N: Named, L: Log> Durable<N, L> {
     {
         let mut both = self.version.again();
         both.learn(version);
+    }
+
+    /// What is durable and a version begin one list.
+    pub fn joins(&self, version: &Version<N>)
+        ensures { (all : List Entry) × IsVersion N.setup all × IsPrefix self.now all × IsPrefix version.now all }
+    {
+        let mut both = self.version.again();
+        both.learn(version);
+        // It tells that both together are legal.
+        let _status = both.status();
     }
 
     /// What a version has at a place is what is durable there, where both have it.

@@ -16,9 +16,9 @@ use std::sync::{Arc, Wait};
 /// The most batches of a group.
 const MOST_BATCHES: usize = 1024;
 
-/// The most cells of a group of more than one batch. With them and 1,024 batches a block has at most 67,108,864 bytes
-/// of payload: 24 for each cell, 24 for each batch, and 8 for their number.
-const MOST_CELLS: u64 = 2_795_177;
+/// The most cells of a group of more than one batch: as many as one batch may have. So the block of a group has at most
+/// 25,190,408 bytes of payload: 24 for each cell, 24 for each of 1,024 batches, and 8 for their number.
+const MOST_CELLS: u64 = 1_048_576;
 
 /// Room for the batches of one group, and what the book was seen to have, which is what contracts see.
 #[derive(Drop)]

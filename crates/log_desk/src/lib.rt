@@ -29,4 +29,5 @@ pub use group::Group;
 pub use log::Log;
 pub use memory::{FailAt, MemoryLog, NoPause, Pause};
 pub use ticket::Ticket;
+pub use turn::Turn;
 pub use work::TurnWork;

@@ -1,11 +1,13 @@
 //! A log in memory for tests: it counts its syncs, fails at one of its calls, runs out of room, and lets a test hold a
 //! sync back.
 ghost use Rattle.std.specs.Prelude.{◌≡◌, ◌++◌, [], false, true, IfOk};
+ghost use Rattle.batch_store.specs.Accepted.{entries_in};
 ghost use Rattle.batch_store.specs.Batches.{entries_of, values};
+ghost use Rattle.batch_store.specs.Books.{accepted_in};
 
 use crate::fault::{LogFailed, RoomFault};
 use crate::log::Log;
-use batch_store::{Batch, Entry};
+use batch_store::{Batch, BookList, Entry};
 use std::alloc::{AllocError, Global};
 use std::sync::Arc;
 
@@ -71,6 +73,44 @@ impl<P: Pause> MemoryLog<P> {
             failed: false,
             pause,
         })
+    }
+
+    /// A log without blocks behind what a list tells, of so many pages, none of them ready; a call of it fails.
+    ///
+    /// # Errors
+    ///
+    /// A growth was refused.
+    pub fn behind(
+        alloc: Global,
+        list: &BookList,
+        pages: u64,
+        fail_at: FailAt,
+        pause: P,
+    ) -> Result<MemoryLog<P>, AllocError>
+        ensures works { IfOk result (λ l. l.failed ≡ false) }
+        ensures durable { IfOk result (λ l. l.entries.items ≡ entries_in (accepted_in list.now)) }
+    {
+        let mut entries = Vec::from_slice(alloc, list.folded.as_slice())?;
+        if !write(&mut entries, list.batches.as_slice()) {
+            return Err(AllocError);
+        }
+        Ok(MemoryLog {
+            entries,
+            ready: 0,
+            left: pages,
+            syncs: 0,
+            stretches: 0,
+            fail_at,
+            failed: false,
+            pause,
+        })
+    }
+
+    /// Fails from now on, as a log does that couldn't be given its name.
+    pub fn fail(&mut self)
+        ensures { self.new ≡ record self.old { failed = true } }
+    {
+        self.failed = true;
     }
 
     /// How many appends were called.

@@ -107,6 +107,13 @@ impl<N: Named, L: Log> DeskState<N, L> {
         known.learn(&self.durable);
     }
 
+    /// What is durable.
+    pub fn durable(&self) -> Durable<N, L>
+        ensures { result ≡ self.now.durable }
+    {
+        self.durable.again()
+    }
+
     /// Whether a call on the log has failed.
     pub fn is_failed(&self) -> bool
         ensures failed { result ≡ self.now.failed }

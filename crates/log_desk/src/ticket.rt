@@ -1,11 +1,11 @@
 //! What a desk has promised.
-ghost use Rattle.std.specs.Prelude.{◌≡◌};
+ghost use Rattle.std.specs.Prelude.{◌≡◌, ◌+◌, ◌<◌, ◌^◌};
 
 use std::marker::Model;
 
-/// Pages of a log that are promised to a put. Contracts see how many.
+/// Pages of a log that are promised to puts. Contracts see how many.
 ///
-/// It isn't Drop: `LogDesk::leave` takes it back, once the batch is durable or was refused.
+/// It isn't Drop: `LogDesk::leave` takes it back, once the batches are durable or were refused.
 pub struct Ticket {
     pages: u64,
 }
@@ -27,6 +27,20 @@ impl Ticket {
         ensures { result ≡ pages }
     {
         Ticket { pages }
+    }
+
+    /// No pages: what a session holds that has begun no put.
+    pub fn none() -> Ticket
+        ensures { result ≡ 0 }
+    {
+        Ticket::new(0)
+    }
+
+    /// Adds another's pages, so that all go back together. No desk promises more pages than 64 bits count.
+    pub fn join(&mut self, other: Ticket)
+        ensures { self.old + other < 2 ^ 64 → self.new ≡ self.old + other }
+    {
+        self.pages = self.pages.saturating_add(other.into_pages());
     }
 
     // How many pages go back.

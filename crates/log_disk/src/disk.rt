@@ -15,6 +15,9 @@ use byte_io::DeviceFault;
 /// `write_at`, a `cut` or a `sync` has failed, nobody knows what the file has, or what of it is durable: it is in
 /// doubt, and no other call may be made. Only who opens the file anew finds out.
 pub trait LogDisk {
+    // Whether files of this type tell what they hold, where whoever made one says that it does.
+    ghost telling: { Type 0 };
+
     // Whether the file tells what it holds. A file that tells goes on so.
     ghost tells: { Self → Type 0 };
 
@@ -39,6 +42,9 @@ pub trait LogDisk {
 
     // Whether a write, a cut or a sync has failed.
     ghost in_doubt: { Self → Bool };
+
+    // A folder of such files has answered a failure to a rename, or to a sync of its names.
+    ghost lost_name: { Type 0 };
 
     /// Reads bytes of the file into the whole of `buf`, 00 behind the end. After an Err nothing is known of `buf`.
     fn read_at(&mut self, at: u64, buf: &mut [u8]) -> Result<(), DeviceFault>

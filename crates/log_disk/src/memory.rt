@@ -1,5 +1,5 @@
 //! A file in memory that can lose what it was not synced.
-ghost use Rattle.std.specs.Prelude.{◌≡◌, ◌⊎◌, ℕ, ◌+◌, ◌<◌, ◌≤◌, ◌^◌, List, length, slice_index, IfOk, true, false};
+ghost use Rattle.std.specs.Prelude.{◌≡◌, ◌⊎◌, ℕ, ◌+◌, ◌<◌, ◌≤◌, ◌^◌, List, length, slice_index, IfOk, true, false, ⊤};
 ghost use Rattle.std.proofs.Common.{inl};
 ghost use Rattle.log_disk.specs.Memory.{Between, IsPending, LeftSince, only_now_left};
 
@@ -93,6 +93,8 @@ impl MemoryDisk {
 }
 
 impl LogDisk for MemoryDisk {
+    ghost telling = { ⊤ };
+
     ghost tells = { λ d. d.calls.in_doubt ≡ false →
         IsPending d.content.durable.items d.content.written.items d.content.pending.items };
 
@@ -110,6 +112,8 @@ impl LogDisk for MemoryDisk {
     ghost failure_count = { λ d. d.calls.failed };
 
     ghost in_doubt = { λ d. d.calls.in_doubt };
+
+    ghost lost_name = { ⊤ };
 
     ghost counts_now = { λ d t left le now. inl now };
 

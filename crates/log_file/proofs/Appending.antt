@@ -1,12 +1,11 @@
 -- The two calls of an append.
-use Rattle.std.proofs.Common.{◌≡◌, ℕ, ◌+◌, ◌*◌, ◌^◌, ◌<◌, List, length, get_or, sym, ◌∙◌, ap, arith}
-use Rattle.log_blocks.specs.Blocks.{Block, IsBlock, batches_in}
-use Rattle.log_blocks.specs.Files.{next_bytes}
-use Rattle.log_blocks.proofs.FilePages.{page_total, place_push}
+use Rattle.std.proofs.Common.{◌≡◌, ℕ, ◌+◌, ◌*◌, ◌^◌, ◌<◌, ◌≤◌, ◌-◌, List, length, get_or, sym, ◌∙◌, ap, arith}
+use Rattle.log_blocks.specs.Blocks.{Block}
+use Rattle.log_blocks.proofs.FilePages.{page_total, place_push, next_end}
 use Rattle.log_disk.specs.Disk.{Holds, HoldsSome, Elapses, Follows, LeavesOnly}
 use Rattle.log_file.specs.Logs.{Log, IsLog, HoldsLog, MayHoldNext, IsBeforeOrAfter, with_next, file_of}
 use Rattle.log_file.specs.Runs.{Stays}
-use Rattle.log_file.specs.Writer.{CanAppend, IsSettled, IsUnsettled}
+use Rattle.log_file.specs.Writer.{CanAppend, IsLong, IsSettled, IsUnsettled}
 use Rattle.log_file.specs.declared.writer.LogWriter.{LogWriter}
 use Rattle.log_file.proofs.LogLemmas.{file_long, log_held, next_held, part_held, all_held, all_left, held_is_read}
 use Rattle.log_file.proofs.LogLemmas.{next_log}
@@ -105,4 +104,24 @@ module _ {D : Type 0} (written : D → List ℕ) (may_leave : D → List ℕ →
               (λ (l : List ℕ). get_or l i 0) same ∙ there.same i;
         };
         durable = λ left now. synced_left mid new left run holds now (brought left now);
+      }
+
+  -- the room that there was
+  pub room_stays : (mid new : D) (page room : ℕ) → page ≡ writer.page + pages → room ≡ writer.room - pages
+      → IsLong written may_leave old (4096 * (writer.page + writer.room))
+      → Holds (4096 * writer.page) bytes (written old) (written mid) → written new ≡ written mid
+      → ((left : List ℕ) → may_leave new left → length (written mid) ≤ length left)
+      → IsLong written may_leave new (4096 * (page + room))
+  room_stays mid new page room page_is room_is long holds same left =
+      let block_long : length bytes ≡ 4096 * pages =
+      ap length can.bytes_are
+      ∙ next_end log.first log.blocks block can.settled.is_log.places can.block_is.fills
+      ∙ ap (λ n. 4096 * n) (sym can.pages_are)
+      in
+      let enough : 4096 * (page + room) ≤ length (written mid) =
+      omega (arith, page_is, room_is, long.file, holds.longer, holds.ends, block_long)
+      in
+      record {
+        file = omega (arith, enough, ap length same);
+        left = λ l now. omega (arith, enough, left l now);
       }

@@ -1,15 +1,22 @@
 -- Zeros behind a log, call by call.
-use Rattle.std.proofs.Common.{◌≡◌, ℕ, ◌<◌, ◌≤◌, ◌+◌, ◌*◌, List, length, get_or, ap, subst, sym, ◌∙◌, arith}
-use Rattle.std.specs.Prelude.{Result, Ok, Err, OnOk, OnErr}
+use Rattle.std.proofs.Common.{◌≡◌, ℕ, ◌<◌, ◌≤◌, ◌+◌, ◌*◌, List, length, get_or, ap, subst, sym, refl, ◌∙◌, arith}
+use Rattle.std.proofs.Common.{true≢false}
+use Rattle.std.specs.Prelude.{Result, Ok, Err, OnOk, OnErr, false, is_err}
 use Rattle.log_blocks.specs.Blocks.{Block}
-use Rattle.log_disk.specs.Disk.{Holds, HoldsSome, Elapses, Follows, LeavesOnly}
-use Rattle.log_disk.proofs.Steps.{holds_some}
+use Rattle.log_disk.specs.Disk.{Holds, HoldsSome, IsCut, MayBeCut, Elapses, Follows, LeavesOnly}
+use Rattle.log_disk.proofs.Steps.{holds_some, cut_may}
 use Rattle.log_file.specs.Logs.{Log, IsLog, HoldsLog, IsReadAs, file_of}
 use Rattle.log_file.specs.Runs.{Stays}
-use Rattle.log_file.specs.Writer.{IsBehind, IsSettled}
+use Rattle.log_file.specs.Writer.{IsBehind, IsLong, IsSettled}
 use Rattle.log_file.specs.declared.writer.LogWriter.{LogWriter}
-use Rattle.log_file.proofs.LogLemmas.{file_long, zeros_held, log_is_read}
+use Rattle.log_file.proofs.LogLemmas.{file_long, zeros_held, cut_held, log_is_read}
 use Rattle.log_file.proofs.RunLemmas.{begun, stepped, kept, moments_to}
+
+-- what a cut leaves, whatever it answers
+pub cut_either : {A E : Type 0} (len : ℕ) (x y : List ℕ) (answer : Result A E) → OnOk answer (IsCut len x y)
+    → OnErr answer (MayBeCut len x y) → MayBeCut len x y
+cut_either len x y (Ok a) cut part = cut_may len x y cut
+cut_either len x y (Err e) cut part = part
 
 module _ {D : Type 0} (written : D → List ℕ) (may_leave : D → List ℕ → Type 0) (moment : D → ℕ)
     (left_since : D → ℕ → List ℕ → Type 0) (old : D) (log : Log) where
@@ -76,3 +83,37 @@ module _ {D : Type 0} (written : D → List ℕ) (may_leave : D → List ℕ →
         → LeavesOnly moment left_since old new (IsReadAs log)
     still_read new run = moments_to written may_leave moment left_since (HoldsLog log) (IsReadAs log) old new
         (λ left held. log_is_read log left s.is_log held) run
+
+    -- a cut behind the room leaves the log
+    module _ (new : D) (only_now : (left : List ℕ) → left_since old (moment old) left → may_leave old left)
+        (cut : MayBeCut (4096 * (writer.page + writer.room)) (written old) (written new))
+        (follows : Follows (MayBeCut (4096 * (writer.page + writer.room))) (may_leave old) (may_leave new))
+        (time : Elapses (moment old) (moment new) (left_since old) (left_since new) (may_leave new)) where
+      pub cut_stays : Stays written may_leave moment left_since (HoldsLog log) old new
+      cut_stays =
+          let at = 4096 * (writer.page + writer.room) in
+          let past : length (file_of log) ≤ at = omega (arith, s.page, file_long log s.is_log) in
+          let some : 4096 ≤ at = omega (arith, s.page) in
+          stepped written may_leave moment left_since (HoldsLog log) (MayBeCut at) old old new
+          (begun written may_leave moment left_since (HoldsLog log) old s.file s.durable only_now)
+          (λ x y held step. cut_held log at x y past some held step)
+          (cut_held log at (written old) (written new) past some s.file cut)
+          follows time
+
+      pub cut_settled : IsSettled written may_leave new writer log
+      cut_settled = still_settled new writer refl refl refl cut_stays
+
+      pub cut_read : LeavesOnly moment left_since old new (IsReadAs log)
+      cut_read = still_read new cut_stays
+
+pub room_is_long : {D : Type 0} (written : D → List ℕ) (may_leave : D → List ℕ → Type 0) (mid new : D) (bytes : ℕ)
+    → bytes ≤ length (written mid) → written new ≡ written mid
+    → ((left : List ℕ) → may_leave new left → length (written mid) ≤ length left) → IsLong written may_leave new bytes
+room_is_long written may_leave mid new bytes long same left = record {
+  file = omega (arith, long, ap length same);
+  left = λ l now. omega (arith, long, left l now);
+}
+
+pub on_ok : {T E : Type 0} (r : Result T E) (P : Type 0) → is_err r ≡ false → OnOk r P → P
+on_ok (Ok x) P is p = p
+on_ok (Err e) P is p = absurd (true≢false is)

@@ -233,6 +233,17 @@ zeros_held log at zeros x y behind are held some = record {
       (some.mixed i);
 }
 
+pub cut_held : (log : Log) (len : ℕ) (x y : List ℕ) → length (file_of log) ≤ len → 4096 ≤ len → HoldsLog log x
+    → MayBeCut len x y → HoldsLog log y
+cut_held log len x y behind some held cut = record {
+  long = ⊎_elim (λ a. omega (arith, held.long)) (λ b. omega arith) cut.longer;
+  same = λ i.
+      ⊎_elim
+      (λ same. same ∙ held.same i)
+      (λ gone. gone.1 ∙ sym (get_or_past (file_of log) i 0 (omega (arith, gone.0))))
+      (cut.bytes i);
+}
+
 -- ---- what is read
 
 pub log_is_read : (log : Log) (file : List ℕ) → IsLog log → HoldsLog log file → IsReadAs log file

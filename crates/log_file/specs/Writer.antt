@@ -67,6 +67,12 @@ pub record IsBehind {D : Type 0} (written : D → List ℕ) (may_leave : D → L
   pub left : (left : List ℕ) → may_leave disk left → HoldsLog log left
   pub behind : length (file_of log) ≤ at
 
+-- the file has so many bytes, and so has what a loss of power leaves of it
+pub record IsLong {D : Type 0} (written : D → List ℕ) (may_leave : D → List ℕ → Type 0) (disk : D)
+    (bytes : ℕ) : Type 0 where
+  pub file : bytes ≤ length (written disk)
+  pub left : (left : List ℕ) → may_leave disk left → bytes ≤ length left
+
 -- each byte of the new file is that of the old one or that of another
 pub record Mixes (other old new : List ℕ) : Type 0 where
   pub bytes : (i : ℕ) → (slice_index new i ≡ slice_index old i) ⊎ (slice_index new i ≡ slice_index other i)

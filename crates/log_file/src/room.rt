@@ -5,7 +5,7 @@ ghost use Rattle.log_disk.specs.Disk.{LeavesOnly};
 ghost use Rattle.log_file.specs.declared.room.RoomFault.TheVariants.{Full, Failed};
 ghost use Rattle.log_file.specs.Logs.{Log, HoldsLog, IsReadAs};
 ghost use Rattle.log_file.specs.Runs.{Stays};
-ghost use Rattle.log_file.specs.Writer.{IsBehind, IsSettled};
+ghost use Rattle.log_file.specs.Writer.{IsBehind, IsLong, IsSettled};
 
 use crate::writer::LogWriter;
 use byte_io::DeviceFault;
@@ -39,7 +39,8 @@ fn stretch_of_zeros() -> [u8; STRETCH]
 fn zeros_of(stretch: &[u8; STRETCH], pages: u64) -> &[u8]
     requires pages { pages ≤ 16 }
     requires zeros { (j : ℕ) → slice_index stretch.now j ≡ 0 }
-    ensures { (j : ℕ) → slice_index result.now j ≡ 0 }
+    ensures zeros { (j : ℕ) → slice_index result.now j ≡ 0 }
+    ensures long { length result.now ≡ 4096 * pages }
 {
     &stretch[..4096 * pages as usize]
 }
@@ -47,12 +48,15 @@ fn zeros_of(stretch: &[u8; STRETCH], pages: u64) -> &[u8]
 /// Writes zeros behind a log, from a page on.
 fn fill_pages<D: LogDisk>(disk: &mut D, from: u64, pages: u64) -> Result<(), DeviceFault>
     ghost log: { Log }
-    requires told { D.tells disk.old → IsBehind D.written D.may_leave disk.old (4096 * from) log }
+    requires told { D.telling → D.tells disk.old ×
+        IsBehind D.written D.may_leave disk.old (4096 * from) log }
     requires working { D.in_doubt disk.old ≡ false }
     requires failures { D.failure_count disk.old + 1 < 2 ^ 64 }
     requires fits { 4096 * (from + pages) < 2 ^ 63 }
-    ensures stays { D.tells disk.old →
+    ensures stays { D.telling →
         Stays D.written D.may_leave D.moment D.left_since (HoldsLog log) disk.old disk.new }
+    ensures long { D.tells disk.old →
+        OnOk result (0 < pages → 4096 * (from + pages) ≤ length (D.written disk.new)) }
     ensures tells { D.tells disk.old → D.tells disk.new }
     ensures sound { D.in_doubt disk.new ≡ false }
     ensures ok { OnOk result (D.failure_count disk.new ≡ D.failure_count disk.old) }
@@ -75,15 +79,20 @@ impl LogWriter {
     /// Whatever it answers, the log is settled as before.
     pub fn make_room<D: LogDisk>(&mut self, disk: &mut D, pages: u64) -> Result<(), RoomFault>
         ghost log: { Log }
-        requires told { D.tells disk.old → IsSettled D.written D.may_leave disk.old self.old log }
+        requires told { D.telling → D.tells disk.old ×
+            IsSettled D.written D.may_leave disk.old self.old log }
         requires working { D.in_doubt disk.old ≡ false }
         requires failures { D.failure_count disk.old + 1 < 2 ^ 64 }
         requires fits { 4096 * (self.old.page + self.old.room + pages) < 2 ^ 63 }
-        ensures settled { D.tells disk.old → IsSettled D.written D.may_leave disk.new self.new log }
-        ensures any_moment { D.tells disk.old → LeavesOnly D.moment D.left_since disk.old disk.new (IsReadAs log) }
+        ensures settled { D.telling → IsSettled D.written D.may_leave disk.new self.new log }
+        ensures any_moment { D.telling →
+            LeavesOnly D.moment D.left_since disk.old disk.new (IsReadAs log) }
         ensures mark { (self.new.first ≡ self.old.first) × (self.new.next ≡ self.old.next)
             × (self.new.page ≡ self.old.page) }
         ensures room { OnOk result (self.new.room ≡ self.old.room + pages) }
+        // The room is in the file, and a loss of power leaves it there.
+        ensures written { D.tells disk.old → OnOk result (0 < pages →
+            IsLong D.written D.may_leave disk.new (4096 * (self.new.page + self.new.room))) }
         ensures same { OnErr result (self.new ≡ self.old) }
         ensures working { OnOk result ((D.in_doubt disk.new ≡ false)
             × (D.failure_count disk.new ≡ D.failure_count disk.old)) }
@@ -100,5 +109,30 @@ impl LogWriter {
         }
         self.room += pages;
         Ok(())
+    }
+
+    /// Cuts off what stands behind the room, as zeros that were written for room that wasn't to be had, so that they
+    /// take no space from others. Whatever it answers, the log is settled as before.
+    ///
+    /// # Errors
+    ///
+    /// `DeviceFault`: the cut failed. No other call of the file may be made.
+    pub fn cut_room<D: LogDisk>(&self, disk: &mut D) -> Result<(), DeviceFault>
+        ghost log: { Log }
+        requires told { D.telling → D.tells disk.old ×
+            IsSettled D.written D.may_leave disk.old self.now log }
+        requires working { D.in_doubt disk.old ≡ false }
+        requires failures { D.failure_count disk.old + 1 < 2 ^ 64 }
+        requires fits { 4096 * (self.now.page + self.now.room) < 2 ^ 63 }
+        ensures settled { D.telling → IsSettled D.written D.may_leave disk.new self.now log }
+        ensures any_moment { D.telling →
+            LeavesOnly D.moment D.left_since disk.old disk.new (IsReadAs log) }
+        ensures working { OnOk result ((D.in_doubt disk.new ≡ false)
+            × (D.failure_count disk.new ≡ D.failure_count disk.old)) }
+        ensures doubt { OnErr result (D.in_doubt disk.new ≡ true) }
+        ensures cause { OnErr result (D.failure_count disk.new ≡ D.failure_count disk.old + 1) }
+        ensures tells { D.tells disk.old → D.tells disk.new }
+    {
+        disk.cut(4096 * (self.page + self.room))
     }
 }

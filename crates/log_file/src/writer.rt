@@ -1,9 +1,9 @@
 //! Appends blocks to a log.
-ghost use Rattle.std.specs.Prelude.{◌≡◌, ◌⊎◌, ℕ, ◌+◌, ◌-◌, ◌<◌, ◌≤◌, List, OnOk, OnErr, true, false};
+ghost use Rattle.std.specs.Prelude.{◌≡◌, ◌⊎◌, ℕ, ◌+◌, ◌-◌, ◌*◌, ◌<◌, ◌≤◌, List, OnOk, OnErr, true, false};
 ghost use Rattle.log_blocks.specs.Blocks.{Block};
 ghost use Rattle.log_disk.specs.Disk.{LeavesOnly};
 ghost use Rattle.log_file.specs.Logs.{Log, IsReadAs, IsBeforeOrAfter, with_next};
-ghost use Rattle.log_file.specs.Writer.{CanAppend, HasRoom, IsSettled, IsUnsettled};
+ghost use Rattle.log_file.specs.Writer.{CanAppend, HasRoom, IsLong, IsSettled, IsUnsettled};
 
 use byte_io::DeviceFault;
 use log_blocks::BlockScan;
@@ -102,21 +102,21 @@ impl LogWriter {
         batches: u64,
     ) -> Result<(), DeviceFault>
         ghost known: { Log × Block }
-        requires told { D.tells disk.old → CanAppend D.written D.may_leave disk.old self.old known.0 known.1
-            bytes.now pages batches }
+        requires told { D.telling → D.tells disk.old ×
+            CanAppend D.written D.may_leave disk.old self.old known.0 known.1 bytes.now pages batches }
         requires fits { HasRoom D.in_doubt D.failure_count disk.old self.old pages batches }
 
-        ensures acknowledged { D.tells disk.old → OnOk result (
+        ensures acknowledged { D.telling → OnOk result (
             IsSettled D.written D.may_leave disk.new self.new (with_next known.0 known.1)) }
-        ensures durable { D.tells disk.old → OnOk result ((left : List ℕ) → D.may_leave disk.new left →
+        ensures durable { D.telling → OnOk result ((left : List ℕ) → D.may_leave disk.new left →
             IsReadAs (with_next known.0 known.1) left) }
 
         // A loss of power at any moment of the call leaves the blocks from before it, with the new one or without.
-        ensures any_moment { D.tells disk.old →
+        ensures any_moment { D.telling →
             LeavesOnly D.moment D.left_since disk.old disk.new (IsBeforeOrAfter known.0 known.1) }
 
         // After a failure the file is one that `settle` settles.
-        ensures failed { D.tells disk.old → OnErr result (
+        ensures failed { D.telling → OnErr result (
             IsUnsettled D.written D.may_leave disk.new known.0 known.1) }
         ensures cause { OnErr result (D.failure_count disk.new ≡ D.failure_count disk.old + 1) }
         ensures doubt { OnErr result (D.in_doubt disk.new ≡ true) }
@@ -125,6 +125,9 @@ impl LogWriter {
         ensures mark { OnOk result ((self.new.first ≡ self.old.first) × (self.new.next ≡ self.old.next + batches)
             × (self.new.page ≡ self.old.page + pages)) }
         ensures room { OnOk result (self.new.room ≡ self.old.room - pages) }
+        ensures room_stays { D.telling →
+            IsLong D.written D.may_leave disk.old (4096 * (self.old.page + self.old.room)) →
+            OnOk result (IsLong D.written D.may_leave disk.new (4096 * (self.new.page + self.new.room))) }
         ensures same { OnErr result (self.new ≡ self.old) }
         ensures tells { D.tells disk.old → D.tells disk.new }
     {

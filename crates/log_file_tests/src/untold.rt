@@ -11,6 +11,8 @@ pub struct Untold<D: LogDisk> {
 }
 
 impl<D: LogDisk> LogDisk for Untold<D> {
+    ghost telling = { ⊥ };
+
     ghost tells = { λ _. ⊥ };
 
     ghost written = { λ _. [] };
@@ -26,6 +28,8 @@ impl<D: LogDisk> LogDisk for Untold<D> {
     ghost failure_count = { λ d. D.failure_count d.disk };
 
     ghost in_doubt = { λ d. D.in_doubt d.disk };
+
+    ghost lost_name = { D.lost_name };
 
     ghost counts_now = { λ file t left le now. now };
 

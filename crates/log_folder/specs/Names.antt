@@ -8,9 +8,12 @@
 --                         from s to t, the file of this number took the name, and then the folder was synced
 --     HasFailedToName .. s t number
 --                         one of the two calls failed, and none followed
+--     failed_calls fault  how many calls of the folder failed where a log wasn't begun: a write and a sync are calls of
+--                         its file
 use Rattle.std.specs.Prelude.{◌≡◌, ◌⊎◌, ℕ, ◌≤◌, List, [], length, Option, Some, Result, Ok, Err}
 use Rattle.byte_io.specs.declared.fault.DeviceFault.{DeviceFault}
 use Rattle.log_blocks.specs.Files.{IsSame}
+use Rattle.log_folder.specs.declared.fault.RotateFault.{RotateFault}
 use Rattle.file_folder.specs.Calls.{Done}
 
 pub data LogCall : Type 0 where
@@ -65,3 +68,9 @@ pub record HasFailedToName {S : Type 0} (calls : S → LogCall → Done → S �
       ⊎ ((renamed : S) × calls s (take_name number) (Ok tt) renamed × calls renamed sync_names (Err fault) t)
   pub stands : tells s → (named t ≡ named s) ⊎ (named t ≡ Some number)
   pub crash : tells s → MayName may_name s t number
+
+abbrev pub failed_calls : RotateFault → ℕ
+failed_calls RotateFault.Create = 1
+failed_calls RotateFault.Write = 0
+failed_calls RotateFault.Sync = 0
+failed_calls RotateFault.Rename = 1

@@ -66,6 +66,8 @@ pub trait LogFolder {
         ensures found { tells self.old → IfOk result (λ found. IfSome found (λ f.
             stored self.old f.file.disk × (named self.old ≡ Some f.file.number)
             × (f.length ≡ length (Self.Disk.written f.file.disk)))) }
+        // Files that tell what they hold are those of a folder that tells.
+        ensures teller { (disk : Self.Disk) → Self.Disk.tells disk → tells self.old }
         ensures none { tells self.old → IfOk result (λ found. IfNone found (named self.old ≡ None)) }
         ensures same { tells self.old → KeepsName named may_name self.old self.new }
         ensures sound { IfOk result (λ found. IfSome found (λ f.
@@ -102,6 +104,7 @@ pub trait LogFolder {
         ensures unsure { tells self.old →
             OnErr result ((named self.new ≡ named self.old) ⊎ (named self.new ≡ Some file.now.number)) }
         ensures crash { tells self.old → MayName may_name self.old self.new file.now.number }
+        ensures lost { OnErr result Self.Disk.lost_name }
         ensures ok { OnOk result (failure_count self.new ≡ failure_count self.old) }
         ensures err { OnErr result (failure_count self.new ≡ failure_count self.old + 1) };
 
@@ -114,6 +117,7 @@ pub trait LogFolder {
         ensures durable { tells self.old → OnOk result ((x : Option ℕ) → may_name self.new x → x ≡ named self.new) }
         ensures same { tells self.old → KeepsName named may_name self.old self.new }
         ensures stored { tells self.old → (disk : Self.Disk) → stored self.new disk → stored self.old disk }
+        ensures lost { OnErr result Self.Disk.lost_name }
         ensures ok { OnOk result (failure_count self.new ≡ failure_count self.old) }
         ensures err { OnErr result (failure_count self.new ≡ failure_count self.old + 1) };
 
@@ -126,4 +130,7 @@ pub trait LogFolder {
     /// How many calls have failed.
     fn failures(&self) -> u64
         ensures { result ≡ failure_count self.now };
+
+    // A folder tells what stands under the name where its files tell what they hold.
+    ghost files_tell: { (folder : Self) → tells folder ↔ Self.Disk.telling };
 }

@@ -1,5 +1,5 @@
 //! A real file as that of a log.
-ghost use Rattle.std.specs.Prelude.{◌≡◌, ◌+◌, ◌<◌, ◌^◌, [], true, false};
+ghost use Rattle.std.specs.Prelude.{◌≡◌, ◌+◌, ◌<◌, ◌^◌, [], ⊤, true, false};
 
 use byte_io::DeviceFault;
 use log_disk::LogDisk;
@@ -88,6 +88,8 @@ impl FileDisk {
 }
 
 impl LogDisk for FileDisk {
+    ghost telling = { ⊥ };
+
     ghost tells = { λ s. ⊥ };
 
     ghost written = { λ s. [] };
@@ -103,6 +105,8 @@ impl LogDisk for FileDisk {
     ghost failure_count = { λ s. s.failures };
 
     ghost in_doubt = { λ s. s.in_doubt };
+
+    ghost lost_name = { ⊤ };
 
     ghost counts_now = { λ file t left later may. may };
 

@@ -180,6 +180,8 @@ impl LogFolder for MemoryLogFolder {
 
     ghost failure_count = { λ s. s.calls.failed };
 
+    ghost files_tell = { λ folder. (λ told. told, λ told. told) };
+
     /// A file that is lent already isn't found, and one that has failed.
     fn find(&mut self) -> Result<Option<FoundFile<MemoryDisk>>, DeviceFault> {
         if self.calls.next_fails() {

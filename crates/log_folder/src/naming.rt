@@ -1,7 +1,8 @@
 //! A new file of a log, from its making to its name.
-ghost use Rattle.std.specs.Prelude.{◌≡◌, ◌≢◌, ◌↔◌, ℕ, ◌+◌, ◌<◌, ◌^◌, Option, Some, IfOk, IfErr, OnErr, OnOk, false};
+ghost use Rattle.std.specs.Prelude.{◌≡◌, ◌≢◌, ◌↔◌, ◌⊎◌, ℕ, ◌+◌, ◌<◌, ◌^◌, Option, Some, IfOk, IfErr, OnErr, OnOk, false};
 ghost use Rattle.log_folder.specs.declared.fault.RotateFault.{RotateFault};
 ghost use Rattle.log_folder.specs.Names.{KeepsName, IsFreshFile, IsDurable, HasHead, HasTakenName, HasFailedToName};
+ghost use Rattle.log_folder.specs.Names.{failed_calls};
 
 use crate::calls::{LogFolder, NumberedFile};
 use crate::fault::RotateFault;
@@ -14,8 +15,10 @@ fn write_head<D: LogDisk>(disk: &mut D, head: &[u8]) -> Result<(), RotateFault>
     requires sound { D.in_doubt disk.old ≡ false }
     requires failures { D.failure_count disk.old + 1 < 2 ^ 64 }
     ensures head { D.tells disk.old → OnOk result (HasHead D.tells D.written D.may_leave disk.new head.now) }
+    ensures why { IfErr result (λ fault. (fault ≡ RotateFault.Write) ⊎ (fault ≡ RotateFault.Sync)) }
     ensures sound { OnOk result (D.in_doubt disk.new ≡ false) }
     ensures failures { OnOk result (D.failure_count disk.new ≡ D.failure_count disk.old) }
+    ensures cause { IfErr result (λ fault. failed_calls fault ≡ 0) }
 {
     let Ok(()) = disk.write_at(0, head) else {
         return Err(RotateFault::Write);
@@ -41,12 +44,16 @@ pub fn make_with_head<F: LogFolder>(
     ensures head { F.tells folder.old →
         IfOk result (λ file. HasHead F.Disk.tells F.Disk.written F.Disk.may_leave file.disk head.now) }
     ensures made { F.tells folder.old → IfOk result (λ file. F.made folder.new ≡ Some file.number) }
+    // The name was left alone.
+    ensures why { IfErr result (λ fault. fault ≢ RotateFault.Rename) }
     ensures sound { IfOk result (λ file.
         (F.Disk.in_doubt file.disk ≡ false) × (F.Disk.failure_count file.disk ≡ 0)) }
     ensures tells { F.tells folder.old ↔ F.tells folder.new }
     // The file under the name stays the one that a loss of power leaves there.
     ensures same { F.tells folder.old → KeepsName F.named F.may_name folder.old folder.new }
     ensures failures { OnOk result (F.failure_count folder.new ≡ F.failure_count folder.old) }
+    ensures cause { IfErr result (λ fault.
+        F.failure_count folder.new ≡ F.failure_count folder.old + failed_calls fault) }
 {
     let Ok(mut file) = folder.make_new() else {
         return Err(RotateFault::Create);
@@ -78,6 +85,7 @@ pub fn give_name<F: LogFolder>(
         (HasTakenName F.call_gives F.tells F.named F.may_name folder.old folder.new file.now.number) }
     ensures err { OnErr result
         (HasFailedToName F.call_gives F.tells F.named F.may_name folder.old folder.new file.now.number) }
+    ensures lost { OnErr result F.Disk.lost_name }
     ensures tells { F.tells folder.old ↔ F.tells folder.new }
     ensures no_failure { OnOk result (F.failure_count folder.new ≡ F.failure_count folder.old) }
     ensures one_failure { OnErr result (F.failure_count folder.new ≡ F.failure_count folder.old + 1) }
@@ -107,6 +115,8 @@ pub fn begin_named<F: LogFolder>(
         KeepsName F.named F.may_name folder.old folder.new) }
     ensures tells { F.tells folder.old ↔ F.tells folder.new }
     ensures failures { OnOk result (F.failure_count folder.new ≡ F.failure_count folder.old) }
+    ensures cause { IfErr result (λ fault.
+        F.failure_count folder.new ≡ F.failure_count folder.old + failed_calls fault) }
 {
     let file = make_with_head(folder, head)?;
     match give_name(folder, &file) {

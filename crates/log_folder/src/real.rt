@@ -140,6 +140,8 @@ impl<'a, R: Files<File = File>> LogFolder for FileLogFolder<'a, R> {
 
     ghost failure_count = { λ s. s.failures };
 
+    ghost files_tell = { λ folder. (λ told. told, λ told. told) };
+
     fn find(&mut self) -> Result<Option<FoundFile<FileDisk>>, DeviceFault> {
         match open_log(self.rt, self.path) {
             Ok(Some((disk, length))) => {

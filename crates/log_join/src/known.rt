@@ -4,6 +4,7 @@ ghost use Rattle.std.specs.Prelude.{length, slice_get, take};
 ghost use Rattle.batch_store.specs.Batches.{Submission, entry_of, entries_of, values};
 ghost use Rattle.batch_store.specs.Books.{AreAccepted, accepted_in};
 ghost use Rattle.batch_store.specs.Verdicts.{total_of_entries};
+ghost use Rattle.log_head.specs.Heads.{IsHead};
 ghost use Rattle.log_head.specs.Links.{link_in};
 ghost use Rattle.log_join.specs.Joins.{DiffersAt, IsLinked, RefusesJoin, known_entries};
 ghost use Rattle.log_join.specs.declared.fault.JoinFault.{JoinFault};
@@ -67,6 +68,25 @@ fn front_of(list: &BookList, first: usize) -> Front
     Front {
         total,
         link: link.value(),
+    }
+}
+
+/// The head of a log that begins behind all batches of a list. It costs one pass over their entries.
+pub fn head_of(setup: &Setup, list: &BookList) -> LogHead
+    requires { AreAccepted setup.now (accepted_in list.now) }
+    ensures setup { result.setup ≡ setup.now }
+    ensures first { result.first ≡ length (known_entries list.now) }
+    ensures total { result.total ≡ total_of_entries (known_entries list.now) }
+    ensures link { result.link ≡ link_in (known_entries list.now) }
+    ensures within { IsHead result }
+{
+    let count = count_of(list);
+    let front = front_of(list, count);
+    LogHead {
+        setup: *setup,
+        first: count as u64,
+        total: front.total,
+        link: front.link,
     }
 }
 

@@ -1,3 +1,5 @@
 mod ComeLemmas
 mod GivenLemmas
+pub mod LogFacts
+mod OneLog
 mod ReadLemmas

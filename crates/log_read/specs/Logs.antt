@@ -1,5 +1,5 @@
 -- Which log bytes hold, and what is wrong with those that hold none.
-use Rattle.std.specs.Prelude.{◌≡◌, ◌⊎◌, ℕ, ◌+◌, ◌≤◌, List, [], ◌∷◌, ◌++◌, length, take, drop, Ok, Err}
+use Rattle.std.specs.Prelude.{◌≡◌, ◌⊎◌, ℕ, ◌+◌, ◌≤◌, List, [], ◌∷◌, ◌++◌, length, take, drop, flat_map, sum_by, Ok, Err}
 use Rattle.batch_store.specs.Setups.{Setting}
 use Rattle.batch_store.specs.Batches.{Submission, values}
 use Rattle.log_blocks.specs.Blocks.{Page, log_pages}
@@ -10,6 +10,7 @@ use Rattle.log_blocks.specs.Files.{pages_of, page_count}
 use Rattle.log_blocks.specs.declared.fault.LogFault.{LogFault}
 use Rattle.log_blocks.specs.declared.fault.LogKind.TheVariants.{BadBlock}
 use Rattle.log_head.specs.Heads.{HasHead}
+use Rattle.log_batches.specs.Payloads.{block_of}
 use Rattle.log_batches.specs.Held.{HoldsBatches}
 use Rattle.log_read.specs.declared.file.Block.{Block}
 use Rattle.log_read.specs.declared.file.LogFile.{LogFile}
@@ -23,6 +24,13 @@ AreBlocks s page (chunks ∷ found) (block ∷ blocks) =
     (block.page ≡ page) × HoldsBatches s chunks (values block.batches.items)
     × AreBlocks s (page + length chunks) found blocks
 
+-- the batches of blocks, one block behind another, and how many pages the blocks have
+abbrev pub batches_in : List Block → List Submission
+batches_in blocks = flat_map (λ block. values block.batches.items) blocks
+
+abbrev pub pages_in : List Block → ℕ
+pages_in blocks = sum_by (λ block. length (block_of (values block.batches.items))) blocks
+
 -- the pages behind the head
 abbrev pub pages_behind : List ℕ → List Page
 pages_behind bytes = pages_of 0 (page_count (drop 4096 bytes)) (drop 4096 bytes)
@@ -35,6 +43,19 @@ pub record HoldsLog (bytes : List ℕ) (file : LogFile) : Type 0 where
   pub read : read_pages file.head.first (pages_behind bytes) ≡ Ok found
   pub blocks : AreBlocks file.head.setup 1 found file.blocks.items
   pub rest_is : file.rest ≡ used_pages (drop (length (log_pages file.head.first found)) (pages_behind bytes))
+
+-- the same batches in the same blocks
+abbrev pub AreSameBlocks : List Block → List Block → Type 0
+AreSameBlocks [] [] = Unit {0}
+AreSameBlocks [] (other ∷ others) = ⊥
+AreSameBlocks (block ∷ blocks) [] = ⊥
+AreSameBlocks (block ∷ blocks) (other ∷ others) =
+    (block.page ≡ other.page) × (values block.batches.items ≡ values other.batches.items) × AreSameBlocks blocks others
+
+pub record IsSameLog (file other : LogFile) : Type 0 where
+  pub head : file.head ≡ other.head
+  pub blocks : AreSameBlocks file.blocks.items other.blocks.items
+  pub rest : file.rest ≡ other.rest
 
 -- The pages before this one are those of blocks that hold batches, and of what could be one in the making. With it they
 -- have this fault, whatever follows.

@@ -4,11 +4,15 @@
 #![tactic(auto)]
 
 mod file;
+mod flat;
+mod laws;
 mod read;
 mod scan;
 mod source;
 mod stop;
 
 pub use file::{Block, LogFile};
+pub use flat::all_batches;
+pub use laws::{bytes_are_one_log, bytes_have_one_fault};
 pub use read::read_log;
 pub use scan::LogScan;

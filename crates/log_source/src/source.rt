@@ -1,13 +1,13 @@
 //! A log's file as a source of bytes, from its first to its last.
-ghost use Rattle.std.specs.Prelude.{◌≡◌, ℕ, ◌+◌, ◌<◌, ◌≤◌, ◌^◌, length, slice_index, OnOk, OnErr, false};
+ghost use Rattle.std.specs.Prelude.{◌≡◌, ℕ, ◌+◌, ◌<◌, ◌≤◌, ◌^◌, List, length, slice_index, OnOk, OnErr, false};
 ghost use Rattle.byte_io.specs.Streams.{answer_of};
-ghost use Rattle.log_source.specs.Sources.{GivesFrom};
+ghost use Rattle.log_source.specs.Sources.{GivesFrom, IsUntouched};
 
 use byte_io::{DeviceFault, Source};
 use log_disk::LogDisk;
 
 /// The bytes of a log's file, for a reader. Where the file tells them, each read gives those that stand behind the ones
-/// before.
+/// before, and leaves the file as it was.
 #[derive(Drop)]
 pub struct LogSource<'a, D: LogDisk> {
     disk: &'a mut D,
@@ -43,8 +43,8 @@ fn read_front<D: LogDisk>(
     ensures read { D.tells disk.old → OnOk result ((j : ℕ) → j < count →
         slice_index buf.new j ≡ slice_index (D.written disk.old) (at + j)) }
     ensures long { length buf.new ≡ length buf.old }
-    ensures tells { D.tells disk.old → D.tells disk.new }
-    ensures same { D.tells disk.old → D.written disk.new ≡ D.written disk.old }
+    ensures same { D.tells disk.old → IsUntouched D.tells D.written D.may_leave D.moment D.left_since
+        disk.old disk.new }
     ensures sound { D.in_doubt disk.new ≡ false }
     ensures ok { OnOk result (D.failure_count disk.new ≡ D.failure_count disk.old) }
     ensures err { OnErr result (D.failure_count disk.new ≡ D.failure_count disk.old + 1) }
@@ -71,7 +71,7 @@ impl<'a, D: LogDisk> LogSource<'a, D> {
 
 impl<'a, D: LogDisk> Source for LogSource<'a, D> {
     ghost read_gives = { λ s answer t. (t.disk.ghost_name ≡ s.disk.ghost_name) × (t.end ≡ s.end)
-        × (D.tells s.disk.now → D.tells t.disk.now × (D.written t.disk.now ≡ D.written s.disk.now)
+        × (D.tells s.disk.now → IsUntouched D.tells D.written D.may_leave D.moment D.left_since s.disk.now t.disk.now
         × GivesFrom (D.written s.disk.now) s.at answer t.at) };
 
     ghost at_end = { λ s. s.at ≡ s.end };

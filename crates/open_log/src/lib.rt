@@ -6,10 +6,12 @@
 //! the new one the name.
 #![tactic(auto)]
 
+mod fault;
 mod log;
 mod rotation;
 mod start;
 
+pub use fault::FindFault;
 pub use log::OpenLog;
 pub use rotation::{abandon_rotation, begin_rotation, finish_rotation};
 pub use start::{begin_log, find_log};

@@ -1,5 +1,5 @@
 //! The steps by which a new log takes the place of the one in use.
-ghost use Rattle.std.specs.Prelude.{◌≡◌, ◌↔◌, ◌+◌, ◌<◌, ◌^◌, Some, None, IfOk, OnOk, OnErr, IfErr, false};
+ghost use Rattle.std.specs.Prelude.{◌≡◌, ◌≢◌, ◌↔◌, ◌+◌, ◌<◌, ◌^◌, Some, None, IfOk, OnOk, OnErr, IfErr, false};
 ghost use Rattle.log_folder.specs.Names.{KeepsName, HasTakenName, HasFailedToName};
 ghost use Rattle.log_folder.specs.declared.fault.RotateFault.{RotateFault};
 ghost use Rattle.log_file.specs.Logs.{Log};
@@ -42,6 +42,7 @@ pub fn begin_rotation<F: LogFolder>(
         IsSettled F.Disk.written F.Disk.may_leave log.file.disk log.writer (begun head.now first)) }
     ensures told { F.tells folder.old → IfOk result (λ log. F.Disk.tells log.file.disk) }
     ensures made { F.tells folder.old → IfOk result (λ log. F.made folder.new ≡ Some log.file.number) }
+    ensures why { IfErr result (λ fault. fault ≢ RotateFault.Rename) }
     ensures sound { IfOk result (λ log.
         (F.Disk.in_doubt log.file.disk ≡ false) × (F.Disk.failure_count log.file.disk ≡ 0)) }
     ensures mark { IfOk result (λ log. (log.writer.first ≡ first) × (log.writer.next ≡ first)
@@ -96,6 +97,7 @@ pub fn finish_rotation<F: LogFolder>(
     ensures err { OnErr result
         (HasFailedToName F.call_gives F.tells F.named F.may_name folder.old folder.new new.file.number) }
     ensures why { IfErr result (λ fault. fault ≡ RotateFault.Rename) }
+    ensures lost { OnErr result F.Disk.lost_name }
     ensures tells { F.tells folder.old ↔ F.tells folder.new }
     ensures no_failure { OnOk result (F.failure_count folder.new ≡ F.failure_count folder.old) }
     ensures one_failure { OnErr result (F.failure_count folder.new ≡ F.failure_count folder.old + 1) }

@@ -1,14 +1,14 @@
 //! How a log is found at a start, and begun where there is none.
 ghost use Rattle.std.specs.Prelude.{◌≡◌, ◌↔◌, ◌≢◌, ℕ, ◌+◌, ◌<◌, ◌^◌, length, Option, Some, None, IfOk, IfErr, IfSome};
 ghost use Rattle.std.specs.Prelude.{IfNone, OnOk, OnErr, false};
-ghost use Rattle.log_folder.specs.Names.{KeepsName};
+ghost use Rattle.log_folder.specs.Names.{KeepsName, failed_calls};
 ghost use Rattle.log_folder.specs.declared.fault.RotateFault.{RotateFault};
 ghost use Rattle.log_file.specs.Writer.{IsSettled};
 ghost use Rattle.open_log.specs.Rotations.{begun, HasFound};
 
+use crate::fault::FindFault;
 use crate::log::OpenLog;
 use crate::rotation::empty_writer;
-use byte_io::DeviceFault;
 use log_folder::{FoundFile, LogFolder, RotateFault, begin_named};
 use log_page::PAGE;
 
@@ -17,8 +17,8 @@ use log_page::PAGE;
 ///
 /// # Errors
 ///
-/// `DeviceFault` where the names couldn't be synced, or the file not be opened.
-pub fn find_log<F: LogFolder>(folder: &mut F) -> Result<Option<FoundFile<F::Disk>>, DeviceFault>
+/// `Sync` where the names couldn't be synced, and `Open` where the file couldn't be opened.
+pub fn find_log<F: LogFolder>(folder: &mut F) -> Result<Option<FoundFile<F::Disk>>, FindFault>
     requires { F.failure_count folder.old + 1 < 2 ^ 64 }
     // A loss of power from then on leaves the file under the name that was found, or none.
     ensures durable { F.tells folder.old → OnOk result ((x : Option ℕ) →
@@ -26,6 +26,8 @@ pub fn find_log<F: LogFolder>(folder: &mut F) -> Result<Option<FoundFile<F::Disk
     ensures found { F.tells folder.old → IfOk result (λ found. IfSome found (λ f.
         F.stored folder.old f.file.disk × (F.named folder.new ≡ Some f.file.number)
         × (f.length ≡ length (F.Disk.written f.file.disk)))) }
+    // Files that tell what they hold are those of a folder that tells.
+    ensures teller { OnOk result ((disk : F.Disk) → F.Disk.tells disk → F.tells folder.old) }
     ensures none { F.tells folder.old → IfOk result (λ found. IfNone found (F.named folder.new ≡ None)) }
     ensures order { OnOk result (HasFound F.call_gives folder.old folder.new) }
     ensures same { F.tells folder.old → KeepsName F.named F.may_name folder.old folder.new }
@@ -35,8 +37,13 @@ pub fn find_log<F: LogFolder>(folder: &mut F) -> Result<Option<FoundFile<F::Disk
     ensures no_failure { OnOk result (F.failure_count folder.new ≡ F.failure_count folder.old) }
     ensures one_failure { OnErr result (F.failure_count folder.new ≡ F.failure_count folder.old + 1) }
 {
-    folder.sync_names()?;
-    folder.find()
+    let Ok(()) = folder.sync_names() else {
+        return Err(FindFault::Sync);
+    };
+    match folder.find() {
+        Ok(found) => Ok(found),
+        Err(_) => Err(FindFault::Open),
+    }
 }
 
 /// Begins a log under the name, of this head and no blocks, in the place of one that stands there: where there is no
@@ -65,6 +72,8 @@ pub fn begin_log<F: LogFolder>(
         KeepsName F.named F.may_name folder.old folder.new) }
     ensures tells { F.tells folder.old ↔ F.tells folder.new }
     ensures failures { OnOk result (F.failure_count folder.new ≡ F.failure_count folder.old) }
+    ensures cause { IfErr result (λ fault.
+        F.failure_count folder.new ≡ F.failure_count folder.old + failed_calls fault) }
 {
     let file = begin_named(folder, head)?;
     Ok(OpenLog {

@@ -5,33 +5,44 @@ use mathlib.Core.List.{IsPrefix}
 use Rattle.std.specs.FinMap.{get}
 use Rattle.layer_compaction.specs.Shared.{content}
 use Rattle.batch_store.specs.Setups.{Setting}
+use Rattle.batch_store.specs.declared.verdict.Entry.{Entry}
 use Rattle.batch_store.specs.Accepted.{Accepted, entries_in, count_in}
 use Rattle.batch_store.specs.Books.{AreAccepted}
 use Rattle.batch_store.specs.Shards.{Holding}
 use Rattle.locked_engine.specs.Moments.{IsShardOf}
-use Rattle.locked_engine.specs.Views.{SeatView}
 use Rattle.locked_engine.specs.Opened.{SharePast}
 use Rattle.wire_proto.specs.Keeping.{cell, save}
 use Rattle.wire_proto.specs.declared.keeper.SaveRefusal.{SaveRefusal}
 use Rattle.session_pool.specs.Saves.{IsSaved}
-use Rattle.session_pool.specs.Seats.{SeatGives}
+use Rattle.session_pool.specs.Seats.{Sight, SeatGives}
 
--- a cell is what a shard of its row held, and leaves the seat
-pub gives_cell : (v : Setting) (opened : Accepted) (saved : Accepted → Type 0) (s : SeatView)
-    (r c : ℕ) (o : Option ℕ) →
-    IfSome o (λ n. (x : Holding) × IsShardOf v opened (r % v.shards) x × (get (content x.layers) (r, c) ≡ Some n)) →
-    SeatGives v opened saved s (cell r c o) s
-gives_cell v opened saved s r c None h = refl
-gives_cell v opened saved s r c (Some n) h = (refl, h.0, h.1, h.2)
+module _ (v : Setting) (opened : Accepted) (saved : Accepted → Type 0) (synced : List Entry → Type 0)
+    (failed full : Type 0) where
+  -- a cell is what a shard of its row held, and leaves the seat
+  pub gives_cell : (s : Sight) (r c : ℕ) (o : Option ℕ) →
+      IfSome o (λ n. (x : Holding) × IsShardOf v opened (r % v.shards) x
+      × (get (content x.layers) (r, c) ≡ Some n)) →
+      SeatGives v opened saved synced failed full s (cell r c o) s
+  gives_cell s r c None h = refl
+  gives_cell s r c (Some n) h = (refl, h.0, h.1, h.2)
 
--- a save shows the seat the entries of what was saved
-pub gives_save : (v : Setting) (opened : Accepted) (saved : Accepted → Type 0) (s t : SeatView)
-    (r : Result ℕ SaveRefusal) → t.number ≡ s.number → IsPrefix s.seen t.seen → t.first ≡ s.first →
-    IfOk r (λ n. (a : Accepted) × AreAccepted v a × (entries_in a ≡ t.seen) × SharePast a opened
-    × (n ≡ count_in a) × saved a) → SeatGives v opened saved s (save r) t
-gives_save v opened saved s t (Err e) number later first h = ((number, later), first)
-gives_save v opened saved s t (Ok n) number later first h =
-    ((number, later), first, h.0, h.1, h.2, h.3, h.4, h.5)
+  -- a save shows the seat the entries of what was saved
+  pub gives_save : (s t : Sight) (r : Result ℕ SaveRefusal) → t.known ≡ s.known → t.seat.number ≡ s.seat.number →
+      IsPrefix s.seat.seen t.seat.seen → t.seat.first ≡ s.seat.first →
+      IfOk r (λ n. (a : Accepted) × AreAccepted v a × (entries_in a ≡ t.seat.seen) × SharePast a opened
+      × (n ≡ count_in a) × saved a) → SeatGives v opened saved synced failed full s (save r) t
+  gives_save s t (Err e) known number later first h = (known, (number, later), first)
+  gives_save s t (Ok n) known number later first h = (
+    known,
+    (number, later),
+    first,
+    h.0,
+    h.1,
+    h.2,
+    h.3,
+    h.4,
+    h.5,
+  )
 
 -- what a disk has answered as saved, in the words of the saver
 pub is_saved : {D Z : Type 0} (saves : D → List ℕ → Setting → Accepted → Type 0) (d : D) (o : Option (String Z))

@@ -1,59 +1,145 @@
--- What an engine of several threads answers by a seat, while others use it.
+-- What an engine of several threads answers by a seat, while others use it, with a log or without one.
+--     Sight               what a session sees: a seat, and with a log what is known as durable
 --     LooksOn s t         the same seat, whose version t has grown out of that of s
---     SeatGives v opened saved s e t
---                         the engine of this setup, which was opened with this as accepted, may answer this call; the
---                         seat is s before and t after; saved says of what was accepted that a disk has answered that
---                         it was saved
-use Rattle.std.specs.Prelude.{◌≡◌, ◌⊎◌, ℕ, ◌+◌, ◌%◌, List, length, Some, None, Ok, Err}
+--     MayRise batch s t   the seat's share rose by the batch's total, or it is as before
+--     Grows               what is known as durable only grows
+--     IsLogged            there is a log
+--     IsDurable           with a log, this entry stands at this place of what is known as durable, which was synced
+--     StaysRefused        the share after a refusal
+--     SeatBegins          the engine may answer a put so at once; the log was asked for room alone
+--     SeatSettles         this may be known of a place; the log was asked alone
+--     IsStored            what is told as stored: with a log what is known as durable, which begins what the book has;
+--                         without one all of the version
+--     SeatGives v opened saved synced failed full s e t
+--                         the engine of this setup, which was opened with this as accepted, may answer this call; s is
+--                         seen before and t after; saved says of what was accepted that a disk has answered that it was
+--                         saved, synced of entries that a log has answered so, and failed and full that a log has
+--                         answered that
+use Rattle.std.specs.Prelude.{◌≡◌, ◌⊎◌, ℕ, ◌+◌, ◌%◌, List, length, slice_get, Option, Some, None, Result, Ok, Err}
 use Rattle.std.specs.FinMap.{get}
 use mathlib.Core.List.{IsPrefix}
 use Rattle.hyper_matrix.specs.Matrix.{matrix}
 use Rattle.layer_compaction.specs.Shared.{content}
 use Rattle.batch_store.specs.Setups.{Setting}
-use Rattle.batch_store.specs.Batches.{batch_total, entry_of}
+use Rattle.batch_store.specs.declared.verdict.Entry.{Entry}
+use Rattle.batch_store.specs.declared.verdict.Kept.{Kept}
+use Rattle.batch_store.specs.Batches.{Submission, batch_total, entry_of}
 use Rattle.batch_store.specs.Accepted.{Accepted, entries_in, count_in}
 use Rattle.batch_store.specs.Books.{AreAccepted}
 use Rattle.batch_store.specs.Shards.{Holding}
 use Rattle.plain_engine.specs.Standing.{shards_content}
+use Rattle.plain_engine.specs.declared.fault.PutFault.{PutFault}
+use Rattle.plain_engine.specs.declared.fault.PutFault.TheVariants.{RecordsDiffer}
+use Rattle.plain_engine.specs.declared.status.Status.{Status}
 use Rattle.locked_engine.specs.Moments.{IsShardOf, AreShards, no_sum, row_sum_in}
 use Rattle.locked_engine.specs.Opened.{SharePast}
 use Rattle.locked_engine.specs.Told.{IsTold}
 use Rattle.locked_engine.specs.Versions.{IsVersion, version_status}
 use Rattle.locked_engine.specs.Views.{SeatView}
 use Rattle.wire_proto.specs.Keeping.{Event, put, cell, row, status, export, save, stored}
+use Rattle.wire_proto.specs.declared.keeper.PutRefusal.{PutRefusal}
 use Rattle.wire_proto.specs.declared.keeper.PutRefusal.TheVariants.{Put as Refuses, LogFull, LogFailed}
+use Rattle.wire_proto.specs.declared.keeper.Settled.{Settled}
+use Rattle.wire_proto.specs.declared.keeper.Settled.TheVariants as place_is
+
+pub record Sight : Type 0 where
+  pub seat : SeatView
+  pub known : Option (List Entry)
+
+abbrev pub sight : SeatView → Option (List Entry) → Sight
+sight seat known = record { seat = seat; known = known }
 
 abbrev pub LooksOn : SeatView → SeatView → Type 0
 LooksOn s t = (t.number ≡ s.number) × IsPrefix s.seen t.seen
 
--- A put, a status, a stored and a save show the seat a version, of which the answer is true: a put's is that version's
--- word on the batch, whose total is added to the seat's share where the put was the first; a saved list has just its
--- entries, and the same batches are folded in it as when the engine was opened, into the same base. There is no log, so
--- what is told as stored is all of the version. A cell, a row and the parts of an export are what a shard of the row's
--- number showed under its lock at a moment of the call, over its part of the base that the engine was opened with; they
--- leave the seat as it is.
-abbrev pub SeatGives : Setting → Accepted → (Accepted → Type 0) → SeatView → Event → SeatView → Type 0
-SeatGives v opened saved s (put batch (Ok kept)) t =
-    LooksOn s t × ((t.first ≡ s.first + batch_total batch) ⊎ (t.first ≡ s.first)) ×
-    IsTold v (entry_of batch) t.seen (Ok kept)
-SeatGives v opened saved s (put batch (Err (Refuses fault))) t =
-    LooksOn s t × (t.first ≡ s.first) × IsTold v (entry_of batch) t.seen (Err fault)
-SeatGives v opened saved s (put batch (Err LogFull)) t = ⊥
-SeatGives v opened saved s (put batch (Err LogFailed)) t = ⊥
-SeatGives v opened saved s (cell r c (Some count)) t =
+abbrev pub MayRise : Submission → SeatView → SeatView → Type 0
+MayRise batch s t = (t.first ≡ s.first + batch_total batch) ⊎ (t.first ≡ s.first)
+
+abbrev pub Grows : Option (List Entry) → Option (List Entry) → Type 0
+Grows None known = known ≡ None
+Grows (Some before) None = ⊥
+Grows (Some before) (Some after) = IsPrefix before after
+
+abbrev pub IsLogged : Option (List Entry) → Type 0
+IsLogged None = ⊥
+IsLogged (Some known) = Unit {0}
+
+abbrev pub IsDurable : (List Entry → Type 0) → Entry → ℕ → Option (List Entry) → Type 0
+IsDurable synced entry place None = Unit {0}
+IsDurable synced entry place (Some known) = (slice_get known place ≡ Some entry) × synced known
+
+-- The share after a refusal. A put that was accepted is refused so where its place can't be settled, since book and log
+-- differ.
+abbrev pub StaysRefused : Option (List Entry) → PutFault → Submission → SeatView → SeatView → Type 0
+StaysRefused None fault batch s t = t.first ≡ s.first
+StaysRefused (Some known) RecordsDiffer batch s t = MayRise batch s t
+StaysRefused (Some known) fault batch s t = t.first ≡ s.first
+
+abbrev pub SeatBegins : Setting → Type 0 → Sight → Submission → Result Kept PutRefusal → Sight → Type 0
+SeatBegins v full s batch (Ok kept) t =
+    (t.known ≡ s.known) × LooksOn s.seat t.seat × MayRise batch s.seat t.seat ×
+    IsTold v (entry_of batch) t.seat.seen (Ok kept)
+SeatBegins v full s batch (Err (Refuses fault)) t =
+    (t.known ≡ s.known) × LooksOn s.seat t.seat × (t.seat.first ≡ s.seat.first) ×
+    IsTold v (entry_of batch) t.seat.seen (Err fault)
+SeatBegins v full s batch (Err LogFull) t = (t ≡ s) × IsLogged s.known × full
+SeatBegins v full s batch (Err LogFailed) t = ⊥
+
+-- what stands at the place of what was shown stands there in what is known as durable
+abbrev pub HasPlace : (List Entry → Type 0) → List Entry → ℕ → Option (List Entry) → Type 0
+HasPlace synced seen place None = Unit {0}
+HasPlace synced seen place (Some known) =
+    ((entry : Entry) → slice_get seen place ≡ Some entry → slice_get known place ≡ Some entry) × synced known
+
+abbrev pub SeatSettles : (List Entry → Type 0) → Type 0 → Sight → ℕ → Settled → Sight → Type 0
+SeatSettles synced failed s place place_is.Durable t =
+    (t.seat ≡ s.seat) × Grows s.known t.known × HasPlace synced s.seat.seen place t.known
+SeatSettles synced failed s place place_is.LogFailed t =
+    (t.seat ≡ s.seat) × Grows s.known t.known × IsLogged t.known × failed
+SeatSettles synced failed s place place_is.RecordsDiffer t =
+    (t.seat ≡ s.seat) × Grows s.known t.known × IsLogged t.known
+
+abbrev pub IsStored : Setting → (List Entry → Type 0) → Status → List Entry → Option (List Entry) → Type 0
+IsStored v synced a seen None = IsVersion v seen × (a ≡ version_status seen)
+IsStored v synced a seen (Some known) =
+    (a ≡ version_status known) × synced known × (all : List Entry) × IsVersion v all × IsPrefix known all ×
+    IsPrefix seen all
+
+-- A put, a status and a save show the seat a version, of which the answer is true: a put's is that version's word on
+-- the batch, whose total is added to the seat's share where the put was the first; a saved list has just its entries,
+-- and the same batches are folded in it as when the engine was opened, into the same base. With a log a put is accepted
+-- once its entry is known as durable. Where the log was full the put leaves the seat as it is; where it had failed, the
+-- batch may be accepted all the same. A cell, a row and the parts of an export are what a shard of the row's number
+-- showed under its lock at a moment of the call, over its part of the base that the engine was opened with; they leave
+-- the seat as it is.
+abbrev pub SeatGives : Setting → Accepted → (Accepted → Type 0) → (List Entry → Type 0) → Type 0 → Type 0 → Sight →
+    Event → Sight → Type 0
+SeatGives v opened saved synced failed full s (put batch (Ok kept)) t =
+    Grows s.known t.known × LooksOn s.seat t.seat × MayRise batch s.seat t.seat ×
+    IsTold v (entry_of batch) t.seat.seen (Ok kept) × IsDurable synced (entry_of batch) kept.index t.known
+SeatGives v opened saved synced failed full s (put batch (Err (Refuses fault))) t =
+    Grows s.known t.known × LooksOn s.seat t.seat × StaysRefused t.known fault batch s.seat t.seat ×
+    IsTold v (entry_of batch) t.seat.seen (Err fault)
+SeatGives v opened saved synced failed full s (put batch (Err LogFull)) t = (t ≡ s) × IsLogged s.known × full
+SeatGives v opened saved synced failed full s (put batch (Err LogFailed)) t =
+    Grows s.known t.known × LooksOn s.seat t.seat × MayRise batch s.seat t.seat × IsLogged t.known × failed
+SeatGives v opened saved synced failed full s (cell r c (Some count)) t =
     (t ≡ s) × (x : Holding) × IsShardOf v opened (r % v.shards) x × (get (content x.layers) (r, c) ≡ Some count)
-SeatGives v opened saved s (cell r c None) t = t ≡ s
-SeatGives v opened saved s (row r sum) t =
+SeatGives v opened saved synced failed full s (cell r c None) t = t ≡ s
+SeatGives v opened saved synced failed full s (row r sum) t =
     (t ≡ s) × ((sum ≡ no_sum) ⊎ ((x : Holding) × IsShardOf v opened (r % v.shards) x × (sum ≡ row_sum_in x r)))
-SeatGives v opened saved s (status a) t =
-    LooksOn s t × (t.first ≡ s.first) × IsVersion v t.seen × (a ≡ version_status t.seen)
-SeatGives v opened saved s (export (Ok sum)) t =
+SeatGives v opened saved synced failed full s (status a) t =
+    (t.known ≡ s.known) × LooksOn s.seat t.seat × (t.seat.first ≡ s.seat.first) × IsVersion v t.seat.seen ×
+    (a ≡ version_status t.seat.seen)
+SeatGives v opened saved synced failed full s (export (Ok sum)) t =
     (t ≡ s) × (xs : List Holding) × AreShards v opened 0 xs × (length xs ≡ v.shards) ×
     (sum ≡ matrix v.rows v.cols (shards_content xs))
-SeatGives v opened saved s (export (Err e)) t = t ≡ s
-SeatGives v opened saved s (save (Ok count)) t =
-    LooksOn s t × (t.first ≡ s.first) × (a : Accepted) × AreAccepted v a × (entries_in a ≡ t.seen) ×
-    SharePast a opened × (count ≡ count_in a) × saved a
-SeatGives v opened saved s (save (Err refusal)) t = LooksOn s t × (t.first ≡ s.first)
-SeatGives v opened saved s (stored a) t =
-    LooksOn s t × (t.first ≡ s.first) × IsVersion v t.seen × (a ≡ version_status t.seen)
+SeatGives v opened saved synced failed full s (export (Err e)) t = t ≡ s
+SeatGives v opened saved synced failed full s (save (Ok count)) t =
+    (t.known ≡ s.known) × LooksOn s.seat t.seat × (t.seat.first ≡ s.seat.first) × (a : Accepted) × AreAccepted v a ×
+    (entries_in a ≡ t.seat.seen) × SharePast a opened × (count ≡ count_in a) × saved a
+SeatGives v opened saved synced failed full s (save (Err refusal)) t =
+    (t.known ≡ s.known) × LooksOn s.seat t.seat × (t.seat.first ≡ s.seat.first)
+SeatGives v opened saved synced failed full s (stored a) t =
+    Grows s.known t.known × LooksOn s.seat t.seat × (t.seat.first ≡ s.seat.first) ×
+    IsStored v synced a t.seat.seen t.known

@@ -2,18 +2,19 @@
 
 use batch_store::Kept;
 use crossbeam_channel::{Receiver, Sender, TryRecvError};
-use locked_engine::{Engine, Named, PutFault};
+use locked_engine::{Engine, Named};
 use std::alloc::Global;
 use std::sync::Wait;
 use std::sync::ledger::Ledger;
 use std::thread::{Scope, Threads};
+use wire_proto::PutRefusal;
 
 /// Wakes whoever compacts, if anyone does, after a put that was answered so. It waits for no room: where there is none,
 /// a message is there that hasn't been seen. One that is lost is made up for by the next.
 pub(crate) fn wake_after<R: Wait>(
     rt: &R,
     compactor: Option<&Sender<()>>,
-    answer: &Result<Kept, PutFault>,
+    answer: &Result<Kept, PutRefusal>,
 ) {
     if let (Some(compactor), Ok(_)) = (compactor, answer) {
         let _ = compactor.try_send(rt, ());

@@ -40,6 +40,9 @@ module _ {F : Type 0} (loads : F → ℕ → Result Saved FileFault → F → Ty
   later_told x (check.File fault) h is = absurd is
   later_told x check.Memory h is = inr (x, h)
   later_told x (check.Output fault) h is = tt
+  later_told x (check.Log fault) h is = absurd is
+  later_told x check.LogDiffers h is = absurd is
+  later_told x (check.Join fault) h is = absurd is
 
   pub all_later_told : {T : Type 0} (r : Result T CheckFault) (x : Saved) → HasLoaded loads s t x →
       IfErr r ComesLater → IfErr r (λ fault. IsReadTold loads s t fault)

@@ -1,3 +1,4 @@
 pub mod CheckLemmas
 pub mod FoldLemmas
 mod KeptLemmas
+mod LoggedLemmas

@@ -6,12 +6,29 @@ use Rattle.batch_store.specs.Setups.{Setting}
 use Rattle.batch_store.specs.Accepted.{Accepted, count_in, total_in, summed}
 use Rattle.snap_file.specs.declared.fault.FileFault.{FileFault}
 use Rattle.mm_laws.specs.MatrixText.{matrix_text}
+use Rattle.log_blocks.specs.declared.fault.LogFault.{LogFault}
+use Rattle.log_blocks.specs.declared.fault.LogKind.{LogKind}
+use Rattle.log_join.specs.declared.fault.JoinFault.{JoinFault}
+use Rattle.snap_report.specs.declared.kept_log.LogFileFault.{LogFileFault}
 use Rattle.snap_report.specs.declared.fault.CheckFault.{CheckFault}
 
 -- want of memory is told as such, wherever it came up
 abbrev pub fault_of_file : FileFault → CheckFault
 fault_of_file FileFault.Memory = CheckFault.Memory
 fault_of_file fault = CheckFault.File fault
+
+abbrev pub fault_of_kind : LogKind → LogFault → CheckFault
+fault_of_kind LogKind.Memory fault = CheckFault.Memory
+fault_of_kind _ fault = CheckFault.Log (LogFileFault.Log fault)
+
+abbrev pub fault_of_log : LogFileFault → CheckFault
+fault_of_log (LogFileFault.Log fault) = fault_of_kind fault.kind fault
+fault_of_log fault = CheckFault.Log fault
+
+abbrev pub fault_of_join : JoinFault → CheckFault
+fault_of_join JoinFault.Memory = CheckFault.Memory
+fault_of_join JoinFault.SetupDiffers = CheckFault.LogDiffers
+fault_of_join fault = CheckFault.Join fault
 
 -- the canonical text of the sum of all that was accepted
 abbrev pub accepted_text : Setting → Accepted → List ℕ

@@ -25,7 +25,7 @@ use Rattle.snap_report.specs.declared.fault.CheckFault.TheVariants as check
 use Rattle.snap_report.specs.declared.fault.FoldFault.{FoldFault}
 use Rattle.snap_report.specs.declared.fault.FoldFault.TheVariants as fold
 
--- the most bytes of a snapshot that is loaded
+-- the most bytes of a snapshot that is loaded, and of a log that is read
 abbrev pub most_bytes : ℕ
 most_bytes = 2 ^ 40
 
@@ -56,6 +56,9 @@ abbrev pub IsReadTold : {F : Type 0} → (F → ℕ → Result Saved FileFault �
 IsReadTold loads s t (check.File fault) = IsFileFault fault × loads s most_bytes (Err fault) t
 IsReadTold loads s t check.Memory = loads s most_bytes (Err file.Memory) t ⊎ ((x : Saved) × HasLoaded loads s t x)
 IsReadTold loads s t (check.Output fault) = Unit {0}
+IsReadTold loads s t (check.Log fault) = ⊥
+IsReadTold loads s t check.LogDiffers = ⊥
+IsReadTold loads s t (check.Join fault) = ⊥
 
 abbrev pub IsFoldTold : {F : Type 0} → (F → ℕ → Result Saved FileFault → F → Type 0) →
     (F → Setting → Accepted → Result (Unit {0}) SaveFault → F → Type 0) → F → F → FoldFault → Type 0
@@ -70,4 +73,8 @@ IsFoldTold loads saves s t (fold.Output fault) = Unit {0}
 -- a fault that comes after the load: of memory, or of the output
 abbrev pub ComesLater : CheckFault → Type 0
 ComesLater (check.File fault) = ⊥
-ComesLater _ = Unit {0}
+ComesLater check.Memory = Unit {0}
+ComesLater (check.Output fault) = Unit {0}
+ComesLater (check.Log fault) = ⊥
+ComesLater check.LogDiffers = ⊥
+ComesLater (check.Join fault) = ⊥

@@ -1,3 +1,4 @@
 pub mod Checks
 pub mod Folds
 pub mod Kept
+pub mod Logged

@@ -30,8 +30,8 @@ use snap_file::SnapshotFile;
 use std::alloc::{AllocError, Global};
 use std::sync::Arc;
 
-// More than the bytes of the longest line: six numbers of at most 20 digits, and 44 more.
-pub(crate) const LINE_CAPACITY: usize = 256;
+// More than the bytes of the longest lines: ten numbers of at most 20 digits, and 78 more.
+pub(crate) const LINE_CAPACITY: usize = 320;
 
 // Empty layers in the dimensions of a setup.
 fn empty_layers(alloc: Global, setup: &Setup) -> Result<PendingLayers, AllocError>
@@ -123,7 +123,7 @@ fn total_of(batches: &[Arc<Batch>]) -> u64
 
 // Appends a word and a number.
 pub(crate) fn push_number(line: &mut ArrayString<LINE_CAPACITY>, word: &str, n: u64)
-    requires room { array_string_len line.old + length word.now + 20 ≤ 256 }
+    requires room { array_string_len line.old + length word.now + 20 ≤ 320 }
     ensures bytes { line.new.bytes ≡ line.old.bytes ++ (word.now ++ decimal n) }
     ensures short { array_string_len line.new ≤ array_string_len line.old + length word.now + 20 }
 {
@@ -134,7 +134,8 @@ pub(crate) fn push_number(line: &mut ArrayString<LINE_CAPACITY>, word: &str, n: 
 
 // The line of a snapshot of these numbers.
 fn line_of(setup: &Setup, batches: u64, total: u64, entries: u64) -> ArrayString<LINE_CAPACITY>
-    ensures { result.bytes ≡ line_of setup.now.rows setup.now.cols setup.now.shards batches total entries }
+    ensures bytes { result.bytes ≡ line_of setup.now.rows setup.now.cols setup.now.shards batches total entries }
+    ensures short { array_string_len result ≤ 165 }
 {
     let mut line = ArrayString::new();
     push_number(&mut line, "rows ", setup.rows());
@@ -147,35 +148,53 @@ fn line_of(setup: &Setup, batches: u64, total: u64, entries: u64) -> ArrayString
     line
 }
 
-// Writes the line of a setup and of what was accepted.
-fn write_parts<W: Sink>(
+// The line of a setup and of what was accepted.
+fn line_of_parts(
     alloc: Global,
-    w: &mut W,
     setup: &Setup,
     base: &Hyper,
     folded: &[Entry],
     batches: &[Arc<Batch>],
-) -> Result<(), CheckFault>
-    requires failures { W.failure_count w.old + 1 < 2 ^ 64 }
+) -> Result<ArrayString<LINE_CAPACITY>, AllocError>
     requires accepted { AreAccepted setup.now (accepted base.now.counts folded.now (values batches.now)) }
     requires based { (base.now.rows ≡ setup.now.rows) × (base.now.cols ≡ setup.now.cols) }
-    ensures ok { OnOk result (HasTaken W.write_takes W.failure_count w.old w.new
-        (check_line setup.now (accepted base.now.counts folded.now (values batches.now)))) }
-    ensures output { (fault : WriteFault) → result ≡ Err (CheckFault.Output fault) →
-        HasStopped W.write_takes W.failure_count w.old w.new
-        (check_line setup.now (accepted base.now.counts folded.now (values batches.now))) fault.written }
-    ensures unwritten { IfErr result (λ fault. LeavesOutput fault ⊎ (w.new ≡ w.old)) }
-    ensures later { IfErr result ComesLater }
+    ensures bytes { IfOk result (λ line.
+        line.bytes ≡ check_line setup.now (accepted base.now.counts folded.now (values batches.now))) }
+    ensures short { IfOk result (λ line. array_string_len line ≤ 165) }
 {
     // The limits bound the total and the number of batches.
     let _limits = (setup.limit(), setup.max_batches());
-    let entries = match entries_of(alloc, setup, base, batches) {
-        Ok(entries) => entries,
-        Err(_) => return Err(CheckFault::Memory),
-    };
+    let entries = entries_of(alloc, setup, base, batches)?;
     let count = folded.len() as u64 + batches.len() as u64;
     let total = base.total() + total_of(batches);
-    let line = line_of(setup, count, total, entries);
+    Ok(line_of(setup, count, total, entries))
+}
+
+// The line of a setup and a list.
+pub(crate) fn line_of_list(
+    alloc: Global,
+    setup: &Setup,
+    list: &BookList,
+) -> Result<ArrayString<LINE_CAPACITY>, AllocError>
+    requires accepted { AreAccepted setup.now (accepted_in list.now) }
+    requires based { HasBase setup.now list.now }
+    ensures bytes { IfOk result (λ line. line.bytes ≡ check_line setup.now (accepted_in list.now)) }
+    ensures short { IfOk result (λ line. array_string_len line ≤ 165) }
+{
+    line_of_parts(alloc, setup, &list.base, &list.folded, &list.batches)
+}
+
+// Writes what was put together.
+pub(crate) fn write_line<W: Sink>(
+    w: &mut W,
+    line: &ArrayString<LINE_CAPACITY>,
+) -> Result<(), CheckFault>
+    requires { W.failure_count w.old + 1 < 2 ^ 64 }
+    ensures ok { OnOk result (HasTaken W.write_takes W.failure_count w.old w.new line.now.bytes) }
+    ensures output { (fault : WriteFault) → result ≡ Err (CheckFault.Output fault) →
+        HasStopped W.write_takes W.failure_count w.old w.new line.now.bytes fault.written }
+    ensures only { IfErr result LeavesOutput }
+{
     match write_all(w, line.as_str().as_bytes()) {
         Ok(()) => Ok(()),
         Err(fault) => Err(CheckFault::Output(fault)),
@@ -200,7 +219,11 @@ fn write_check<W: Sink>(
     ensures unwritten { IfErr result (λ fault. LeavesOutput fault ⊎ (w.new ≡ w.old)) }
     ensures later { IfErr result ComesLater }
 {
-    write_parts(alloc, w, setup, &list.base, &list.folded, &list.batches)
+    let line = match line_of_list(alloc, setup, list) {
+        Ok(line) => line,
+        Err(_) => return Err(CheckFault::Memory),
+    };
+    write_line(w, &line)
 }
 
 /// Reads the snapshot in a file, and writes the line `rows R cols C shards K batches B total T entries E`, where B and

@@ -1,6 +1,9 @@
 //! Why no line, and no text, is written of a snapshot, or why it isn't folded.
 
+use crate::kept_log::LogFileFault;
 use byte_io::WriteFault;
+use log_blocks::{LogFault, LogKind};
+use log_join::JoinFault;
 use snap_file::{FileFault, SaveFault};
 use std::alloc::AllocError;
 use thiserror::Error;
@@ -17,6 +20,15 @@ pub enum CheckFault {
     /// The sink failed, or took nothing of what it was offered.
     #[error(transparent)]
     Output(WriteFault),
+    /// The log's file could not be opened or read, or is no log. The fault is never want of memory.
+    #[error("log: {0}")]
+    Log(LogFileFault),
+    /// The log is of another setup than the snapshot.
+    #[error("settings: LogDiffers")]
+    LogDiffers,
+    /// The snapshot and the log don't belong together. The fault is neither another setup nor want of memory.
+    #[error("log: {0}")]
+    Join(JoinFault),
 }
 
 impl From<FileFault> for CheckFault {
@@ -30,6 +42,51 @@ impl From<FileFault> for CheckFault {
             FileFault::Memory => CheckFault::Memory,
             fault => CheckFault::File(fault),
         }
+    }
+}
+
+impl From<LogFileFault> for CheckFault {
+    ghost use Rattle.std.specs.Prelude.{◌≡◌};
+    ghost use Rattle.snap_report.specs.Checks.{fault_of_log};
+
+    ghost from_gives = { λ fault e. e ≡ fault_of_log fault };
+
+    fn from(fault: LogFileFault) -> CheckFault {
+        match fault {
+            LogFileFault::Log(
+                LogFault {
+                    kind: LogKind::Memory,
+                    ..
+                },
+            ) => CheckFault::Memory,
+            fault => CheckFault::Log(fault),
+        }
+    }
+}
+
+impl From<JoinFault> for CheckFault {
+    ghost use Rattle.std.specs.Prelude.{◌≡◌};
+    ghost use Rattle.snap_report.specs.Checks.{fault_of_join};
+
+    ghost from_gives = { λ fault e. e ≡ fault_of_join fault };
+
+    fn from(fault: JoinFault) -> CheckFault {
+        match fault {
+            JoinFault::Memory => CheckFault::Memory,
+            JoinFault::SetupDiffers => CheckFault::LogDiffers,
+            fault => CheckFault::Join(fault),
+        }
+    }
+}
+
+impl From<AllocError> for CheckFault {
+    ghost use Rattle.std.specs.Prelude.{◌≡◌};
+    ghost use Rattle.snap_report.specs.declared.fault.CheckFault.TheVariants.{Memory};
+
+    ghost from_gives = { λ _ fault. fault ≡ Memory };
+
+    fn from(_error: AllocError) -> CheckFault {
+        CheckFault::Memory
     }
 }
 

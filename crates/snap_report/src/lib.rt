@@ -1,17 +1,22 @@
 //! What is told of a snapshot's file: `run_check` writes one line of its numbers, and `run_export` the canonical text
-//! of the sum of its batches. `run_fold` folds its batches into one matrix and saves it again.
+//! of the sum of its batches. `run_check_with_log` tells what it and a log hold together. `run_fold` folds its batches
+//! into one matrix and saves it again.
 //!
-//! Both read the file whole and add its batches up before they write. The line and the text are said by
-//! `specs/Checks`, of the setup and the list of batches that the file holds.
+//! All read the files whole and add the batches up before they write. The line and the text are said by
+//! `specs/Checks`, of the setup and the list of batches that the file holds, and the line of a log by `specs/Logged`.
 #![tactic(auto)]
 
 mod check;
+mod check_log;
 mod export;
 mod fault;
 mod fold;
+mod kept_log;
 mod limits;
 
 pub use check::run_check;
+pub use check_log::run_check_with_log;
 pub use export::run_export;
 pub use fault::{CheckFault, FoldFault};
 pub use fold::run_fold;
+pub use kept_log::{KeptLog, LogFileFault, NamedLog};

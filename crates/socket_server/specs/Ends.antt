@@ -5,10 +5,14 @@
 --                     under it
 --     GoesOn a b      what an engine had accepted when it was closed, b, goes on from what it was opened with, a: the
 --                     entries of a are the first of b's, and the same batches are folded, into the same base
+--     IsStored synced has_log a b
+--                     where there is a log, a sync of it has made this much durable at the end: all that the engine was
+--                     opened with, a, and of what it had accepted when it was closed, b, a beginning
 --     IsClosed seats a
 --                     what the seats of an engine say of what it had accepted when it was closed
-use Rattle.std.specs.Prelude.{◌≡◌, ℕ, List, Option, String}
+use Rattle.std.specs.Prelude.{◌≡◌, ℕ, List, Bool, true, false, Option, String}
 use mathlib.Core.List.{IsPrefix}
+use Rattle.batch_store.specs.declared.verdict.Entry.{Entry}
 use Rattle.batch_store.specs.Setups.{Setting}
 use Rattle.batch_store.specs.Accepted.{Accepted, entries_in, total_in}
 use Rattle.batch_store.specs.Books.{AreAccepted}
@@ -31,3 +35,8 @@ pub record GoesOn (a b : Accepted) : Type 0 where
 pub record IsClosed (seats : List SeatView) (a : Accepted) : Type 0 where
   pub shares : firsts seats ≡ total_in a
   pub shown : AreShown seats (entries_in a)
+
+abbrev pub IsStored : (List Entry → Type 0) → Bool → Accepted → Accepted → Type 0
+IsStored synced false a b = Unit {0}
+IsStored synced true a b =
+    (es : List Entry) × synced es × IsPrefix (entries_in a) es × IsPrefix es (entries_in b)

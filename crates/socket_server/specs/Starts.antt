@@ -1,24 +1,44 @@
 -- What a server starts with, by the word of its host.
---     StartsFrom loads h path must_load v a
---                     an engine of setup v starts with this as accepted: with nothing where there is no path, or where
---                     the host h has answered that no file is there, and none must be; else with just the snapshot that
---                     it has answered, of setup v
+--     IsOnePath path log
+--                     there is a snapshot and a log, and they have the same path
+--     IsLoaded loads h path must_load v a
+--                     this is accepted before a log is read: nothing where there is no path, or where the host h has
+--                     answered that no file is there, and none must be; else just the snapshot that it has answered, of
+--                     setup v
+--     IsReady failed durable synced log a
+--                     where there is a log, it works, and what is durable in it is this, behind a sync
+--     StartsFrom loads starts h path log must_load v a
+--                     an engine of setup v starts with this as accepted: with what was loaded where there is no log;
+--                     else with just what the host has answered to a start of the log over what was loaded, which goes
+--                     on from that
 --     IsLocked locks h path must_save
 --                     where there is a path, the host has answered that its lock is held, or, where a save needn't be
 --                     seen to be possible, that it can't be had
 --     IsLoadTold loads locks h path v fault
 --                     a fault of the file is told only where the host has answered it, to a load or to a call for the
 --                     lock, and that the snapshot differs only where it has answered one of another setup
+--     IsLogTold loads locks starts h path log must_load v fault
+--                     a fault of the log is told only where the host has answered it, to a start of the log over what
+--                     was loaded; or that another has the log's lock, or that it can't be had
 use Rattle.std.specs.Prelude.{◌≡◌, ◌≢◌, ◌⊎◌, ℕ, ◌^◌, Bool, true, false, List, [], Option, Some, None, is_some}
 use Rattle.std.specs.Prelude.{Result, Ok, Err, String, string_bytes}
 use Rattle.batch_store.specs.Setups.{Setting}
-use Rattle.batch_store.specs.Accepted.{Accepted, unfolded}
-use Rattle.batch_store.specs.Books.{listed_in}
+use Rattle.batch_store.specs.declared.verdict.Entry.{Entry}
+use Rattle.batch_store.specs.Accepted.{Accepted, entries_in, unfolded}
+use Rattle.batch_store.specs.Books.{Listing, accepted_in, listed_in}
 use Rattle.snap_file.specs.Snapshots.{Saved, saved}
 use Rattle.snap_file.specs.declared.fault.FileFault.{FileFault}
 use Rattle.snap_file.specs.declared.fault.FileFault.TheVariants as file
+use Rattle.log_start.specs.declared.fault.StartFault.{StartFault}
+use Rattle.log_start.specs.declared.fault.StartFault.TheVariants as start
+use Rattle.socket_server.specs.Ends.{GoesOn}
 use Rattle.socket_server.specs.declared.fault.ServerFault.{ServerFault}
-use Rattle.socket_server.specs.declared.fault.ServerFault.TheVariants.{SnapshotDiffers, File}
+use Rattle.socket_server.specs.declared.fault.ServerFault.TheVariants.{SnapshotDiffers, File, Log}
+
+abbrev pub IsOnePath : {Y Z : Type 0} → Option (String Y) → Option (String Z) → Type 0
+IsOnePath (Some path) (Some log) = string_bytes path ≡ string_bytes log
+IsOnePath (Some path) None = ⊥
+IsOnePath None log = ⊥
 
 -- the most bytes of a snapshot that is loaded
 abbrev pub most_bytes : ℕ
@@ -30,11 +50,42 @@ abbrev pub HasLoaded : {H Z : Type 0} → (H → List ℕ → ℕ → Result Sav
 HasLoaded loads h None answer = ⊥
 HasLoaded loads h (Some path) answer = loads h (string_bytes path) most_bytes answer
 
-abbrev pub StartsFrom : {H Z : Type 0} → (H → List ℕ → ℕ → Result Saved FileFault → Type 0) → H → Option (String Z) →
+abbrev pub IsLoaded : {H Z : Type 0} → (H → List ℕ → ℕ → Result Saved FileFault → Type 0) → H → Option (String Z) →
     Bool → Setting → Accepted → Type 0
-StartsFrom loads h path must_load v a =
+IsLoaded loads h path must_load v a =
     HasLoaded loads h path (Ok (saved v (listed_in v a)))
     ⊎ (((path ≡ None) ⊎ (HasLoaded loads h path (Err file.NotFound) × (must_load ≡ false))) × (a ≡ unfolded []))
+
+-- what is told of a log that was started, beside the log itself
+abbrev pub started_list : {L : Type 0} → Result (L × Listing) StartFault → Result Listing StartFault
+started_list (Ok started) = Ok started.1
+started_list (Err fault) = Err fault
+
+-- there is a log, and the host has answered this to a start of it over what this list tells
+abbrev pub HasStarted : {H Z : Type 0} → (H → List ℕ → Setting → Listing → Result Listing StartFault → Type 0) → H →
+    Option (String Z) → Setting → Listing → Result Listing StartFault → Type 0
+HasStarted starts h None v known answer = ⊥
+HasStarted starts h (Some log) v known answer = starts h (string_bytes log) v known answer
+
+-- this list is what is known where there is no log, and else what the host has answered to a start of it over that
+abbrev pub IsJoined : {H Z : Type 0} → (H → List ℕ → Setting → Listing → Result Listing StartFault → Type 0) → H →
+    Option (String Z) → Setting → Listing → Listing → Type 0
+IsJoined starts h None v known list = list ≡ known
+IsJoined starts h (Some log) v known list =
+    GoesOn (accepted_in known) (accepted_in list) × HasStarted starts h (Some log) v known (Ok list)
+
+abbrev pub IsReady : {L : Type 0} → (L → Bool) → (L → List Entry) → (List Entry → Type 0) → Option L → Accepted → Type 0
+IsReady failed durable synced None a = Unit {0}
+IsReady failed durable synced (Some log) a =
+    (failed log ≡ false) × (durable log ≡ entries_in a) × synced (entries_in a)
+
+abbrev pub StartsFrom : {H Y Z : Type 0} → (H → List ℕ → ℕ → Result Saved FileFault → Type 0) →
+    (H → List ℕ → Setting → Listing → Result Listing StartFault → Type 0) → H → Option (String Y) →
+    Option (String Z) → Bool → Setting → Accepted → Type 0
+StartsFrom loads starts h path None must_load v a = IsLoaded loads h path must_load v a
+StartsFrom loads starts h path (Some log) must_load v a =
+    (k : Accepted) × IsLoaded loads h path must_load v k
+    × IsJoined starts h (Some log) v (listed_in v k) (listed_in v a)
 
 -- whether a lock is held from then on, or why not
 abbrev pub lock_answer : {L : Type 0} → Result (Option L) FileFault → Result Bool FileFault
@@ -59,3 +110,25 @@ IsLoadTold loads locks h path v SnapshotDiffers = (s : Saved) × HasLoaded loads
 IsLoadTold loads locks h path v (File fault) =
     HasLoaded loads h path (Err fault) ⊎ HasAnsweredLock locks h path (Err fault)
 IsLoadTold loads locks h path v _ = Unit {0}
+
+-- a fault of the log is told only where another has its lock, or where that can't be had
+abbrev pub IsLockTold : {H Z : Type 0} → (H → List ℕ → Result Bool FileFault → Type 0) → H → Option (String Z) →
+    ServerFault → Type 0
+IsLockTold locks h log (Log fault) =
+    (HasAnsweredLock locks h log (Err file.Busy) × (fault ≡ start.Busy))
+    ⊎ (HasAnsweredLock locks h log (Ok false) × (fault ≡ start.Create))
+IsLockTold locks h log _ = Unit {0}
+
+-- a fault of the log is told only where the host has answered it to a start of the log over what is known
+abbrev pub IsStartTold : {H Z : Type 0} → (H → List ℕ → Setting → Listing → Result Listing StartFault → Type 0) →
+    H → Option (String Z) → Setting → Listing → ServerFault → Type 0
+IsStartTold starts h log v known (Log fault) = HasStarted starts h log v known (Err fault)
+IsStartTold starts h log v known _ = Unit {0}
+
+abbrev pub IsLogTold : {H Y Z : Type 0} → (H → List ℕ → ℕ → Result Saved FileFault → Type 0) →
+    (H → List ℕ → Result Bool FileFault → Type 0) →
+    (H → List ℕ → Setting → Listing → Result Listing StartFault → Type 0) → H → Option (String Y) →
+    Option (String Z) → Bool → Setting → ServerFault → Type 0
+IsLogTold loads locks starts h path log must_load v fault =
+    IsLockTold locks h log fault
+    ⊎ ((k : Accepted) × IsLoaded loads h path must_load v k × IsStartTold starts h log v (listed_in v k) fault)

@@ -1,23 +1,25 @@
 //! The server, from its settings to its last line.
 ghost use Rattle.std.specs.Prelude.{◌≡◌, ◌+◌, ◌<◌, ◌≤◌, ◌^◌, ◌↔◌, ◌⊎◌, length, None, Err, IfOk, IfErr, OnOk};
-ghost use Rattle.batch_store.specs.Accepted.{entries_in};
+ghost use Rattle.std.specs.Prelude.{is_some, true};
 ghost use Rattle.batch_store.specs.Accepted.{Accepted};
 ghost use Rattle.locked_engine.specs.Opened.{NamesEngine};
-ghost use Rattle.socket_server.specs.Ends.{EndsWith, GoesOn};
+ghost use Rattle.socket_server.specs.Ends.{EndsWith, GoesOn, IsStored};
 ghost use Rattle.socket_server.specs.Faults.{IsMet, IsMetServing};
-ghost use Rattle.socket_server.specs.Starts.{StartsFrom, IsLocked, IsLoadTold};
+ghost use Rattle.socket_server.specs.Starts.{IsReady, StartsFrom, IsLocked, IsLoadTold, IsLogTold, IsOnePath};
 
 use crate::bind::{Listeners, Places, bind_listeners, tell};
 use crate::fault::ServerFault;
 use crate::host::Host;
-use crate::serving::{close_all, serve_listeners};
+use crate::log_host::LogHost;
+use crate::opened::Opened;
+use crate::serving::{close_opened, serve_listeners};
 use crate::settings::{Settings, time_limit};
-use crate::start::{note_start, starting_engine, take_lock};
+use crate::start::{Start, make_start, take_locks};
 use crate::unsaved::last_unsaved;
 use byte_io::Sink;
-use locked_engine::{Engine, Named, Names, Seat, Status};
-use plain_engine::PlainEngine;
-use session_pool::{Disk, LastFailure, Saver};
+use locked_engine::{Named, Names, Status};
+use log_desk::Log;
+use session_pool::{Disk, LastFailure, LogPlace, Saver};
 use std::alloc::Global;
 use std::marker::Brand;
 use std::net::{Net, TcpListener, TcpStream};
@@ -38,34 +40,35 @@ struct Plan {
 fn serve_open<
     N: Named + Send + Sync,
     H: Ledger + Send + Sync,
-    R: Threads + Wait + Clock + Disk + Sync,
+    L: Log + Send,
+    R: Threads + Wait + Clock + Disk + LogPlace<L> + Sync,
 >(
     rt: &R,
     alloc: Global,
-    engine: Engine<N, H>,
-    mut seats: Vec<Seat<N, H>>,
+    mut opened: Opened<N, H, L>,
     listeners: &Listeners,
     saver: &Saver,
 ) -> Result<Status, ServerFault>
-    requires seats { length seats.items ≡ N.seats }
-    ensures ended { IfOk result (λ s. (a : Accepted)
-        × GoesOn N.opened a × EndsWith R.saves rt.now saver.now.path N.setup a s) }
+    requires seats { length opened.seats.items ≡ N.seats }
+    ensures ended { IfOk result (λ s. (a : Accepted) × GoesOn N.opened a
+        × EndsWith R.saves rt.now saver.now.path N.setup a s
+        × IsStored L.was_synced (is_some opened.log) N.opened a) }
     ensures met { IfErr result IsMetServing }
 {
     if let Err(fault) = serve_listeners(
         rt,
         alloc,
-        &engine,
-        seats.as_mut_slice(),
+        &opened.engine,
+        opened.seats.as_mut_slice(),
+        &opened.log,
         listeners,
         saver,
     ) {
-        drop(seats);
-        engine.end(rt);
+        opened.end(rt);
         return Err(fault);
     }
     let begun = Instant::now(rt).ok();
-    let outcome = close_all(rt, alloc, engine, seats, saver);
+    let outcome = close_opened(rt, alloc, opened, saver);
     note_last_save(rt, listeners, saver, begun, &outcome);
     outcome
 }
@@ -98,21 +101,22 @@ fn note_last_save<R: Wait + Clock>(
 fn serve_bound<
     N: Named + Send + Sync,
     H: Ledger + Send + Sync,
-    R: Threads + Wait + Clock + Disk + Host + Sync,
+    L: Log + Send,
+    R: Threads + Wait + Clock + Disk + LogPlace<L> + Host + Sync,
 >(
     rt: &R,
     alloc: Global,
-    engine: Engine<N, H>,
-    seats: Vec<Seat<N, H>>,
+    opened: Opened<N, H, L>,
     listeners: Listeners,
     saver: &Saver,
 ) -> Result<Status, ServerFault>
-    requires seats { length seats.items ≡ N.seats }
-    ensures ended { IfOk result (λ s. (a : Accepted)
-        × GoesOn N.opened a × EndsWith R.saves rt.now saver.now.path N.setup a s) }
+    requires seats { length opened.seats.items ≡ N.seats }
+    ensures ended { IfOk result (λ s. (a : Accepted) × GoesOn N.opened a
+        × EndsWith R.saves rt.now saver.now.path N.setup a s
+        × IsStored L.was_synced (is_some opened.log) N.opened a) }
     ensures met { IfErr result IsMetServing }
 {
-    let outcome = serve_open(rt, alloc, engine, seats, &listeners, saver);
+    let outcome = serve_open(rt, alloc, opened, &listeners, saver);
     listeners.remove_path(rt);
     outcome
 }
@@ -121,10 +125,12 @@ fn serve_bound<
 fn serve_named<
     N: Named + Send + Sync,
     H: Ledger + Send + Sync,
+    L: Log + Send,
     R: Threads
         + Wait
         + Clock
         + Disk
+        + LogPlace<L>
         + Host
         + Net<Listener = TcpListener, Stream = TcpStream>
         + Sync,
@@ -132,7 +138,7 @@ fn serve_named<
 >(
     rt: &R,
     alloc: Global,
-    plain: PlainEngine,
+    start: Start<L>,
     names: Names,
     plan: Plan,
     out: &mut W,
@@ -140,34 +146,38 @@ fn serve_named<
 ) -> Result<Status, ServerFault>
     requires failures { W.failure_count out.old + 1 < 2 ^ 64 }
     requires named { NamesEngine names N.setup N.seats N.history N.name N.parts H.name H.parts }
-    requires made_from { plain.setup ≡ names.setup }
-    requires opened { plain.book.state ≡ N.opened }
+    requires made_from { start.plain.setup ≡ names.setup }
+    requires opened { start.plain.book.state ≡ N.opened }
+    requires ready { IsReady L.failed L.durable L.was_synced start.log N.opened }
     ensures failures { OnOk result (W.failure_count out.new ≡ W.failure_count out.old) }
-    ensures ended { IfOk result (λ s. (a : Accepted)
-        × GoesOn N.opened a × EndsWith R.saves rt.now plan.saver.path names.setup a s) }
+    ensures ended { IfOk result (λ s. (a : Accepted) × GoesOn N.opened a
+        × EndsWith R.saves rt.now plan.saver.path names.setup a s
+        × IsStored L.was_synced (is_some start.log) N.opened a) }
     ensures met { IfErr result IsMetServing }
 {
-    let Ok((engine, seats)) = Engine::<N, H>::open(alloc, plain, names) else {
-        return Err(ServerFault::Memory);
+    let opened = match Opened::<N, H, L>::open(rt, alloc, start, names) {
+        Ok(opened) => opened,
+        Err(fault) => return Err(fault),
     };
     let Plan { places, saver } = plan;
     let listeners = match bind_listeners(rt, alloc, places, out, written) {
         Ok(listeners) => listeners,
         Err(fault) => {
-            drop(seats);
-            engine.end(rt);
+            opened.end(rt);
             return Err(fault);
         }
     };
-    serve_bound(rt, alloc, engine, seats, listeners, &saver)
+    serve_bound(rt, alloc, opened, listeners, &saver)
 }
 
-// Serves by so many workers, from an engine of this setup.
+// Serves by so many workers, from what a start has made.
 fn serve_plan<
+    L: Log + Send,
     R: Threads
         + Wait
         + Clock
         + Disk
+        + LogPlace<L>
         + Host
         + RandomSource
         + Net<Listener = TcpListener, Stream = TcpStream>
@@ -176,25 +186,27 @@ fn serve_plan<
 >(
     rt: &R,
     alloc: Global,
-    plain: PlainEngine,
+    start: Start<L>,
     workers: u64,
     plan: Plan,
     out: &mut W,
 ) -> Result<Status, ServerFault>
     requires failures { W.failure_count out.old + 1 < 2 ^ 64 }
     requires workers { (1 ≤ workers) × (workers ≤ 32) }
-    ensures ended { IfOk result (λ s. (a : Accepted)
-        × GoesOn plain.book.state a × EndsWith R.saves rt.now plan.saver.path plain.setup a s) }
+    requires ready { IsReady L.failed L.durable L.was_synced start.log start.plain.book.state }
+    ensures ended { IfOk result (λ s. (a : Accepted) × GoesOn start.plain.book.state a
+        × EndsWith R.saves rt.now plan.saver.path start.plain.setup a s
+        × IsStored L.was_synced (is_some start.log) start.plain.book.state a) }
     ensures met { IfErr result IsMetServing }
 {
-    let Ok(names) = Names::new(rt, alloc, &plain, workers as usize) else {
+    let Ok(names) = Names::new(rt, alloc, &start.plain, workers as usize) else {
         return Err(ServerFault::Memory);
     };
     let mut written = 0;
-    let status = serve_named::<Brand, Brand, R, W>(
+    let status = serve_named::<Brand, Brand, L, R, W>(
         rt,
         alloc,
-        plain,
+        start,
         names,
         plan,
         out,
@@ -223,47 +235,27 @@ fn failure_of_saves(alloc: Global) -> Result<(Arc<LastFailure>, Arc<LastFailure>
     }
 }
 
-// Serves as the settings say, which were judged.
-#[tactic(auto, using(crate::proofs::FaultLaws::serving_met, crate::proofs::FaultLaws::serving_told))]
-fn serve_settings<
-    R: Threads
-        + Wait
-        + Clock
-        + Disk
-        + Host
-        + RandomSource
-        + Net<Listener = TcpListener, Stream = TcpStream>
-        + Sync,
-    W: Sink,
->(rt: &R, alloc: Global, settings: Settings, out: &mut W) -> Result<Status, ServerFault>
-    requires failures { W.failure_count out.old + 1 < 2 ^ 64 }
-    requires workers { (1 ≤ settings.workers) × (settings.workers ≤ 32) }
-    ensures locked { IfOk result (λ _. IsLocked R.locks rt.now settings.snapshot settings.must_save) }
-    ensures ended { IfOk result (λ s. (a : Accepted) × (b : Accepted)
-        × StartsFrom R.loads rt.now settings.snapshot settings.must_load settings.setup a × GoesOn a b
-        × EndsWith R.saves rt.now settings.snapshot settings.setup b s) }
-    ensures met { IfErr result (λ f. IsMet settings.must_load f) }
-    ensures told { IfErr result (λ f. IsLoadTold R.loads R.locks rt.now settings.snapshot settings.setup f) }
+// Where a server listens, and where it saves, as its settings say.
+fn plan_of(alloc: Global, settings: Settings) -> Result<Plan, ServerFault>
+    ensures path { IfOk result (λ p. p.saver.path ≡ settings.snapshot) }
+    ensures met { IfErr result IsMetServing }
 {
     let Settings {
         tcp,
         unix,
-        setup,
-        workers,
+        setup: _,
+        workers: _,
         snapshot,
-        must_load,
-        must_save,
+        log,
+        must_load: _,
+        must_save: _,
         sessions,
         idle,
         drain,
         events,
     } = settings;
-    // Held to the end: nobody else saves there.
-    let _lock = take_lock(rt, alloc, &snapshot, must_load, must_save)?;
-    let plain = starting_engine(rt, alloc, setup, &snapshot, must_load, &events)?;
-    note_start(rt, &events, plain.status());
     let (told, failure) = failure_of_saves(alloc)?;
-    let plan = Plan {
+    Ok(Plan {
         places: Places {
             tcp,
             unix,
@@ -273,9 +265,45 @@ fn serve_settings<
             events,
             failure,
         },
-        saver: Saver::telling(snapshot, told),
-    };
-    serve_plan(rt, alloc, plain, workers, plan, out)
+        saver: Saver::telling(snapshot, told).with_log(log),
+    })
+}
+
+// Serves as the settings say, which were judged.
+#[tactic(auto, using(crate::proofs::FaultLaws::serving_met, crate::proofs::FaultLaws::serving_told,
+    crate::proofs::FaultLaws::serving_log_told, crate::proofs::FaultLaws::lock_log_told))]
+fn serve_settings<
+    L: Log + Send,
+    R: Threads
+        + Wait
+        + Clock
+        + Disk
+        + LogPlace<L>
+        + Host
+        + LogHost<L>
+        + RandomSource
+        + Net<Listener = TcpListener, Stream = TcpStream>
+        + Sync,
+    W: Sink,
+>(rt: &R, alloc: Global, settings: Settings, out: &mut W) -> Result<Status, ServerFault>
+    requires failures { W.failure_count out.old + 1 < 2 ^ 64 }
+    requires workers { (1 ≤ settings.workers) × (settings.workers ≤ 32) }
+    ensures locked { IfOk result (λ _. IsLocked R.locks rt.now settings.snapshot settings.must_save) }
+    ensures log_locked { IfOk result (λ _. IsLocked R.locks rt.now settings.log true) }
+    ensures ended { IfOk result (λ s. (a : Accepted) × (b : Accepted)
+        × StartsFrom R.loads R.log_starts rt.now settings.snapshot settings.log settings.must_load settings.setup a
+        × GoesOn a b × EndsWith R.saves rt.now settings.snapshot settings.setup b s
+        × IsStored L.was_synced (is_some settings.log) a b) }
+    ensures met { IfErr result (λ f. IsMet settings.must_load f) }
+    ensures told { IfErr result (λ f. IsLoadTold R.loads R.locks rt.now settings.snapshot settings.setup f) }
+    ensures log_told { IfErr result (λ f. IsLogTold R.loads R.locks R.log_starts rt.now settings.snapshot settings.log
+        settings.must_load settings.setup f) }
+{
+    let _locks = take_locks(rt, alloc, &settings)?;
+    let start = make_start::<L, R>(rt, alloc, &settings)?;
+    let workers = settings.workers;
+    let plan = plan_of(alloc, settings)?;
+    serve_plan(rt, alloc, start, workers, plan, out)
 }
 
 /// Serves at TCP and Unix addresses until a session ends with a Stop or all sessions were numbered, and answers what
@@ -285,21 +313,31 @@ fn serve_settings<
 /// `listening unix PATH`, and at the end `stopped batches B total T`. The Unix socket's path is removed before any
 /// answer, unless another file stands there by then.
 ///
+/// `L` is the type of logs: `FileLog`, but in tests.
+///
 /// The snapshot's path is locked, as `snap_file::lock` does it, from before the load until the answer. Where the lock
 /// can't be had, the server goes on without it, unless it must be seen that a snapshot can be saved.
+///
+/// Where a log's path is given, that is locked too, and the server starts from the snapshot and what the log has behind
+/// it. A batch is answered only once a sync of the log has made it durable. Each save begins the log anew behind the
+/// snapshot, the last one too; where that one fails, which is an event, the snapshot has all, and the next start does it.
+/// Without a snapshot the log is kept whole, and only grows.
 ///
 /// It may wait for as long as clients keep their connections open, unless the settings have an idle limit or one for
 /// the time after a Stop: without them each session that was accepted is served to its own end.
 ///
 /// # Errors
 ///
-/// As `ServerFault` says. `BadWorkers` and `NoAddress` are judged in this order and before anything is done.
+/// As `ServerFault` says. `BadWorkers`, `NoAddress` and `SamePath` are judged in this order and before anything is done.
 pub fn run_server<
+    L: Log + Send,
     R: Threads
         + Wait
         + Clock
         + Disk
+        + LogPlace<L>
         + Host
+        + LogHost<L>
         + RandomSource
         + Net<Listener = TcpListener, Stream = TcpStream>
         + Sync,
@@ -310,14 +348,21 @@ pub fn run_server<
         ↔ ((1 ≤ settings.workers) × (settings.workers ≤ 32) → ⊥) }
     ensures nowhere { (result ≡ Err ServerFault.NoAddress)
         ↔ ((1 ≤ settings.workers) × (settings.workers ≤ 32) × (settings.tcp ≡ None) × (settings.unix ≡ None)) }
-    ensures others { IfErr result (λ f.
-        (f ≡ ServerFault.BadWorkers) ⊎ (f ≡ ServerFault.NoAddress) ⊎ IsMet settings.must_load f) }
+    ensures one_path { (result ≡ Err ServerFault.SamePath)
+        ↔ ((1 ≤ settings.workers) × (settings.workers ≤ 32) × ((settings.tcp ≡ None) × (settings.unix ≡ None) → ⊥)
+        × IsOnePath settings.snapshot settings.log) }
+    ensures others { IfErr result (λ f. (f ≡ ServerFault.BadWorkers) ⊎ (f ≡ ServerFault.NoAddress)
+        ⊎ (f ≡ ServerFault.SamePath) ⊎ IsMet settings.must_load f) }
     ensures told { IfErr result (λ f. IsLoadTold R.loads R.locks rt.now settings.snapshot settings.setup f) }
+    ensures log_told { IfErr result (λ f. IsLogTold R.loads R.locks R.log_starts rt.now settings.snapshot settings.log
+        settings.must_load settings.setup f) }
     ensures locked { IfOk result (λ _. IsLocked R.locks rt.now settings.snapshot settings.must_save) }
+    ensures log_locked { IfOk result (λ _. IsLocked R.locks rt.now settings.log true) }
     ensures ended { IfOk result (λ s. (a : Accepted) × (b : Accepted)
-        × StartsFrom R.loads rt.now settings.snapshot settings.must_load settings.setup a × GoesOn a b
-        × EndsWith R.saves rt.now settings.snapshot settings.setup b s) }
+        × StartsFrom R.loads R.log_starts rt.now settings.snapshot settings.log settings.must_load settings.setup a
+        × GoesOn a b × EndsWith R.saves rt.now settings.snapshot settings.setup b s
+        × IsStored L.was_synced (is_some settings.log) a b) }
 {
     settings.judge()?;
-    serve_settings(rt, alloc, settings, out)
+    serve_settings::<L, R, W>(rt, alloc, settings, out)
 }

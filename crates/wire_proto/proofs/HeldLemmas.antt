@@ -1,5 +1,5 @@
 -- Sessions that hold puts back, which are begun and not yet settled.
-use Rattle.std.proofs.Common.{◌≡◌, ℕ, ◌+◌, ◌≤◌, Bool, true, false, List, [], ◌∷◌, ◌++◌, length, refl, sym, ◌∙◌, ap}
+use Rattle.std.proofs.Common.{◌≡◌, ℕ, ◌+◌, ◌≤◌, List, [], ◌∷◌, ◌++◌, length, refl, sym, ◌∙◌, ap}
 use Rattle.std.proofs.Common.{subst, arith, append_assoc, length-append, Some, None, Result, Ok, Err, IfOk}
 use Rattle.std.proofs.Common.{IfErr, OnErr}
 use Rattle.std.proofs.Common.{◌⊎◌, inl, inr}
@@ -33,11 +33,13 @@ use Rattle.wire_proto.specs.declared.held.Begun.{Begun}
 use Rattle.wire_proto.specs.declared.held.Begun.TheVariants.{Accepted, Refused}
 use Rattle.wire_proto.specs.declared.keeper.PutRefusal.{PutRefusal}
 use Rattle.wire_proto.specs.declared.keeper.PutRefusal.TheVariants.{Put as ByEngine, LogFull, LogFailed}
+use Rattle.wire_proto.specs.declared.keeper.Settled.{Settled}
+use Rattle.wire_proto.specs.declared.keeper.Settled.TheVariants as place_is
 use Rattle.wire_proto.proofs.SessionLemmas.{answers_snoc, all_put_snoc, stands_answered, stands_ended, owes_sent}
 use Rattle.wire_proto.proofs.SessionLemmas.{owes_cut, closes_ends, closes_fault}
 
 -- ---- what is settled
-module _ {S : Type 0} (settles : S → ℕ → Bool → S → Type 0) where
+module _ {S : Type 0} (settles : S → ℕ → Settled → S → Type 0) where
   split_settled : (s t : S) (some : List Begun) (one : Begun) (bytes : List ℕ) →
       SettlesAll settles s (some ++ one ∷ []) bytes t →
       (m : S) × (first : List ℕ) × (last : List ℕ) × SettlesAll settles s some first m ×
@@ -105,10 +107,11 @@ out_reply (Err (ByEngine fault.RecordsDiffer)) e = absurd (cc)
 out_reply (Err LogFull) e = absurd (cc)
 out_reply (Err LogFailed) e = absurd (cc)
 
-reply_settled : (kept : Kept) (is_durable : Bool) → put_reply (settled kept is_durable) ≡
-    Some (settled_reply kept is_durable)
-reply_settled kept true = refl
-reply_settled kept false = refl
+reply_settled : (kept : Kept) (known : Settled) → put_reply (settled kept known) ≡
+    Some (settled_reply kept known)
+reply_settled kept place_is.Durable = refl
+reply_settled kept place_is.LogFailed = refl
+reply_settled kept place_is.RecordsDiffer = refl
 
 asks_put : (setup : Setting) (r : Request) (batch : Submission) (answer : Result Kept PutRefusal) →
     PutsIt setup r batch → Asks setup r (put batch answer)
@@ -164,7 +167,7 @@ module _ {S : Type 0} (begins : S → Submission → Result Kept PutRefusal → 
 
 -- ---- a put that was begun behind others, which are settled before it
 module _ {S : Type 0} (gives : S → Event → S → Type 0) (begins : S → Submission → Result Kept PutRefusal → S → Type 0)
-    (settles : S → ℕ → Bool → S → Type 0) (setup : Setting) where
+    (settles : S → ℕ → Settled → S → Type 0) (setup : Setting) where
   one_earlier : SettlesEarlier gives begins settles → (s m t : S) (batch : Submission) (answer : Result Kept PutRefusal)
       (one : Begun) (reply : List ℕ) → begins s batch answer m → SettlesOne settles m one reply t →
       (x : S) × SettlesOne settles s one reply x × begins x batch answer t
@@ -250,7 +253,7 @@ module _ {S : Type 0} (gives : S → Event → S → Type 0) (begins : S → Sub
       (x.0, x.1, called_out at_once x.0 t r batch answer p x.2 e)
 
 module _ {L S : Type 0} (reads : L → Answer → L → Type 0) (writes : L → List ℕ → Answer → L → Type 0) (failures : L → ℕ)
-    (gives : S → Event → S → Type 0) (settles : S → ℕ → Bool → S → Type 0) (setup : Setting) where
+    (gives : S → Event → S → Type 0) (settles : S → ℕ → Settled → S → Type 0) (setup : Setting) where
   -- ---- a session that holds puts back
   pub stands_holds : (l0 l : L) (s0 s : S) (kept : List ℕ) (written turns : ℕ) →
       Stands reads writes failures gives setup l0 l s0 s kept written turns →
@@ -450,7 +453,7 @@ module _ {L S : Type 0} (reads : L → Answer → L → Type 0) (writes : L → 
 
 module _ {L S : Type 0} (reads : L → Answer → L → Type 0) (writes : L → List ℕ → Answer → L → Type 0) (failures : L → ℕ)
     (gives : S → Event → S → Type 0) (begins : S → Submission → Result Kept PutRefusal → S → Type 0)
-    (settles : S → ℕ → Bool → S → Type 0) (setup : Setting) where
+    (settles : S → ℕ → Settled → S → Type 0) (setup : Setting) where
   -- ---- one put more is held back
   pub holds_more : RefusesAtOnce gives begins settles → AnswersSettled gives begins settles →
       SettlesEarlier gives begins settles → (l : L) (s s' : S) (kept rest : List ℕ) (begun : List Begun) (one : Begun)

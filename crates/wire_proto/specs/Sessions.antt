@@ -13,7 +13,7 @@
 --     Breaks          a session that ended in the middle of a reply, since the link refused to take more
 --     Ends            how a session ends, by cases
 -- A reader of `serve`'s contract reads Ends first.
-use Rattle.std.specs.Prelude.{◌≡◌, ◌⊎◌, ℕ, ◌+◌, ◌<◌, ◌≤◌, Bool, List, [], ◌∷◌, ◌++◌, length, take, Some, None, Ok}
+use Rattle.std.specs.Prelude.{◌≡◌, ◌⊎◌, ℕ, ◌+◌, ◌<◌, ◌≤◌, List, [], ◌∷◌, ◌++◌, length, take, Some, None, Ok}
 use Rattle.std.specs.Prelude.{Err}
 use Rattle.byte_io.specs.Streams.{Answer}
 use Rattle.byte_io.specs.declared.fault.DeviceFault.{DeviceFault}
@@ -31,6 +31,7 @@ use Rattle.wire_frames.specs.declared.request.FrameFault.{FrameFault}
 use Rattle.wire_proto.specs.declared.ended.Ended.{Ended}
 use Rattle.wire_proto.specs.declared.ended.Ended.TheVariants.{Closed, ReadFault, WriteFault, BadFrame, Memory, Stopped}
 use Rattle.wire_proto.specs.declared.ended.Ended.TheVariants.{TooManyTurns}
+use Rattle.wire_proto.specs.declared.keeper.Settled.{Settled}
 
 -- one call of a link: a read with what it gave, or a write with what it was offered and what of that it took
 pub data Move : Type 0 where
@@ -273,7 +274,7 @@ module _ {L S : Type 0} (reads : L → Answer → L → Type 0) (writes : L → 
 
 -- The same of sessions that hold puts back. What a keeper settles is told too.
 module _ {L S : Type 0} (reads : L → Answer → L → Type 0) (writes : L → List ℕ → Answer → L → Type 0) (failures : L → ℕ)
-    (gives : S → Event → S → Type 0) (settles : S → ℕ → Bool → S → Type 0) (setup : Setting) where
+    (gives : S → Event → S → Type 0) (settles : S → ℕ → Settled → S → Type 0) (setup : Setting) where
   -- The session stood, but that the last requests, each a put, were begun and aren't settled: this is held back of
   -- them. Once it is settled, these requests are answered one after another.
   pub record Holds (l l' : L) (s s' : S) (kept : List ℕ) (begun : List Begun) (written turns : ℕ) : Type 0 where

@@ -9,9 +9,10 @@
 --     RefusesAtOnce, AnswersSettled, SettlesEarlier
 --                     the laws of a keeper: what it begins and settles is what it gives, as if each put were settled
 --                     before the next is begun
+--     SettlesAtOnce   a store without a log settles nothing later
 --     settled_at_once, earlier_at_once
---                     a store without a log, which settles nothing later, meets them
-use Rattle.std.specs.Prelude.{◌≡◌, ℕ, Bool, true, false, List, [], ◌∷◌, ◌++◌, Option, Some, None, Result, Ok, Err}
+--                     so it meets them
+use Rattle.std.specs.Prelude.{◌≡◌, ℕ, List, [], ◌∷◌, ◌++◌, Option, Some, None, Result, Ok, Err}
 use Rattle.std.specs.Prelude.{refl}
 use Rattle.std.proofs.Common.{sym, subst}
 use Rattle.byte_io.specs.Streams.{Answer}
@@ -31,6 +32,8 @@ use Rattle.wire_proto.specs.declared.held.Begun.{Begun}
 use Rattle.wire_proto.specs.declared.held.Begun.TheVariants.{Accepted, Refused}
 use Rattle.wire_proto.specs.declared.keeper.PutRefusal.{PutRefusal}
 use Rattle.wire_proto.specs.declared.keeper.PutRefusal.TheVariants.{Put, LogFull, LogFailed}
+use Rattle.wire_proto.specs.declared.keeper.Settled.{Settled}
+use Rattle.wire_proto.specs.declared.keeper.Settled.TheVariants as place_is
 
 abbrev pub PutsIt : Setting → Request → Submission → Type 0
 PutsIt setup (asked_for.Put client n bytes) batch = PutsBatch setup client n bytes batch
@@ -60,22 +63,23 @@ pub data BeginsOut {S : Type 0} (begins : S → Submission → Result Kept PutRe
   in_keeper : (batch : Submission) (answer : Result Kept PutRefusal) → PutsIt setup r batch → begins s batch answer t →
       begun_as answer ≡ None → BeginsOut begins setup r s t
 
-abbrev pub settled_reply : Kept → Bool → List ℕ
-settled_reply kept true = accepted kept
-settled_reply kept false = refused 35 0
+abbrev pub settled_reply : Kept → Settled → List ℕ
+settled_reply kept place_is.Durable = accepted kept
+settled_reply kept place_is.LogFailed = refused 35 0
+settled_reply kept place_is.RecordsDiffer = refused 33 0
 
-abbrev pub SettlesOne : {S : Type 0} → (S → ℕ → Bool → S → Type 0) → S → Begun → List ℕ → S → Type 0
+abbrev pub SettlesOne : {S : Type 0} → (S → ℕ → Settled → S → Type 0) → S → Begun → List ℕ → S → Type 0
 SettlesOne settles s (Accepted kept) reply t =
-    (is_durable : Bool) × settles s kept.index is_durable t × (reply ≡ settled_reply kept is_durable)
+    (known : Settled) × settles s kept.index known t × (reply ≡ settled_reply kept known)
 SettlesOne settles s (Refused code detail) reply t = (t ≡ s) × (reply ≡ refused code detail)
 
-abbrev pub SettlesAll : {S : Type 0} → (S → ℕ → Bool → S → Type 0) → S → List Begun → List ℕ → S → Type 0
+abbrev pub SettlesAll : {S : Type 0} → (S → ℕ → Settled → S → Type 0) → S → List Begun → List ℕ → S → Type 0
 SettlesAll settles s [] bytes t = (t ≡ s) × (bytes ≡ [])
 SettlesAll settles s (one ∷ more) bytes t =
     (m : _) × (reply : List ℕ) × (replies : List ℕ) × SettlesOne settles s one reply m × (bytes ≡ reply ++ replies) ×
     SettlesAll settles m more replies t
 
-module _ {L S : Type 0} (settles : S → ℕ → Bool → S → Type 0) (writes : L → List ℕ → Answer → L → Type 0)
+module _ {L S : Type 0} (settles : S → ℕ → Settled → S → Type 0) (writes : L → List ℕ → Answer → L → Type 0)
     (failures : L → ℕ) where
   abbrev pub SendsSettled : S → S → L → L → List Begun → ℕ → Result ℕ Ended → Type 0
   SendsSettled s t l l' begun written result = (bytes : List ℕ) × SettlesAll settles s begun bytes t ×
@@ -87,25 +91,29 @@ module _ {L S : Type 0} (settles : S → ℕ → Bool → S → Type 0) (writes 
       ClosesBehind writes failures l l' bytes reply written ended result
 
 module _ {S : Type 0} (gives : S → Event → S → Type 0) (begins : S → Submission → Result Kept PutRefusal → S → Type 0)
-    (settles : S → ℕ → Bool → S → Type 0) where
+    (settles : S → ℕ → Settled → S → Type 0) where
   abbrev pub RefusesAtOnce : Type 0
   RefusesAtOnce = (s t : S) (batch : Submission) (refusal : PutRefusal) → begins s batch (Err refusal) t →
       gives s (put batch (Err refusal)) t
 
   abbrev pub AnswersSettled : Type 0
-  AnswersSettled = (s m t : S) (batch : Submission) (kept : Kept) (is_durable : Bool) → begins s batch (Ok kept) m →
-      settles m kept.index is_durable t → gives s (put batch (settled kept is_durable)) t
+  AnswersSettled = (s m t : S) (batch : Submission) (kept : Kept) (known : Settled) → begins s batch (Ok kept) m →
+      settles m kept.index known t → gives s (put batch (settled kept known)) t
 
   abbrev pub SettlesEarlier : Type 0
-  SettlesEarlier = (s m t : S) (batch : Submission) (answer : Result Kept PutRefusal) (place : ℕ) (is_durable : Bool) →
-      begins s batch answer m → settles m place is_durable t →
-      (x : S) × settles s place is_durable x × begins x batch answer t
+  SettlesEarlier = (s m t : S) (batch : Submission) (answer : Result Kept PutRefusal) (place : ℕ) (known : Settled) →
+      begins s batch answer m → settles m place known t →
+      (x : S) × settles s place known x × begins x batch answer t
+
+-- it is settled as soon as it is accepted
+abbrev pub SettlesAtOnce : {S : Type 0} → S → Settled → S → Type 0
+SettlesAtOnce s known t = (t ≡ s) × (known ≡ place_is.Durable)
 
 pub settled_at_once : {S : Type 0} (gives : Result Kept PutRefusal → S → Type 0) (m t : S) (kept : Kept)
-    (is_durable : Bool) → gives (Ok kept) m → (t ≡ m) × (is_durable ≡ true) → gives (settled kept is_durable) t
-settled_at_once gives m t kept is_durable b h =
-    subst (λ (d : Bool). gives (settled kept d) t) (sym h.1) (subst (gives (Ok kept)) (sym h.0) b)
+    (known : Settled) → gives (Ok kept) m → SettlesAtOnce m known t → gives (settled kept known) t
+settled_at_once gives m t kept known b h =
+    subst (λ (d : Settled). gives (settled kept d) t) (sym h.1) (subst (gives (Ok kept)) (sym h.0) b)
 
-pub earlier_at_once : {S : Type 0} (begins : S → S → Type 0) (s m t : S) (is_durable : Bool) →
-    begins s m → (t ≡ m) × (is_durable ≡ true) → (x : S) × ((x ≡ s) × (is_durable ≡ true)) × begins x t
-earlier_at_once begins s m t is_durable b h = (s, (refl, h.1), subst (begins s) (sym h.0) b)
+pub earlier_at_once : {S : Type 0} (begins : S → S → Type 0) (s m t : S) (known : Settled) →
+    begins s m → SettlesAtOnce m known t → (x : S) × SettlesAtOnce s known x × begins x t
+earlier_at_once begins s m t known b h = (s, (refl, h.1), subst (begins s) (sym h.0) b)

@@ -2,10 +2,10 @@
 ghost use Rattle.std.specs.Prelude.{◌≡◌, ◌+◌, ◌*◌, ◌^◌, ◌<◌, ◌≤◌, ◌++◌, ◌∷◌, [], length, IfOk};
 ghost use Rattle.std.specs.Bool.{OnFalse};
 ghost use Rattle.arrayvec.specs.ArrayVec.{array_vec_len};
-ghost use Rattle.wire_proto.specs.Settling.{SettlesOne, SettlesAll, SendsSettled};
+ghost use Rattle.wire_proto.specs.Settling.{settled_reply as reply_of, SettlesOne, SettlesAll, SendsSettled};
 
 use crate::ended::Ended;
-use crate::keeper::Keeper;
+use crate::keeper::{Keeper, Settled};
 use crate::limits::{HELD, HELD_BYTES};
 use crate::replies::{Short, accepted, refused};
 use crate::sending::send;
@@ -61,6 +61,17 @@ impl Held {
     }
 }
 
+/// The reply to a put that was accepted, once this is known of its place.
+fn settled_reply(kept: Kept, known: Settled) -> Short
+    ensures { result.items ≡ reply_of kept known }
+{
+    match known {
+        Settled::Durable => accepted(kept),
+        Settled::LogFailed => refused(35, 0),
+        Settled::RecordsDiffer => refused(33, 0),
+    }
+}
+
 /// The reply to a put that was begun, once it is settled.
 fn settle_one<K: Keeper>(keeper: &mut K, begun: Begun) -> Short
     requires fact { K.fact keeper.old }
@@ -71,11 +82,8 @@ fn settle_one<K: Keeper>(keeper: &mut K, begun: Begun) -> Short
     match begun {
         Begun::Refused { code, detail } => refused(code, detail),
         Begun::Accepted(kept) => {
-            if keeper.settle(kept.index) {
-                accepted(kept)
-            } else {
-                refused(35, 0)
-            }
+            let known = keeper.settle(kept.index);
+            settled_reply(kept, known)
         }
     }
 }

@@ -1,5 +1,5 @@
 //! What a session asks of the store behind it.
-ghost use Rattle.std.specs.Prelude.{◌≡◌, ℕ, ◌<◌, Bool, Result};
+ghost use Rattle.std.specs.Prelude.{◌≡◌, ℕ, ◌<◌, Result};
 ghost use Rattle.std.specs.Prelude.{Ok, Err};
 ghost use Rattle.std.specs.Arc.{arc_value};
 ghost use Rattle.std.specs.declared.alloc.AllocError.{AllocError};
@@ -10,6 +10,7 @@ ghost use Rattle.batch_store.specs.declared.verdict.Kept.{Kept};
 ghost use Rattle.wire_proto.specs.Keeping.{Event, put as putting, cell as looking, row as summing, status as counting};
 ghost use Rattle.wire_proto.specs.Keeping.{export as exporting, save as saving, stored as telling, settled};
 ghost use Rattle.wire_proto.specs.declared.keeper.PutRefusal.{PutRefusal};
+ghost use Rattle.wire_proto.specs.declared.keeper.Settled.{Settled};
 
 use batch_store::{Batch, Kept, Setup};
 use hyper_matrix::RowSum;
@@ -44,6 +45,17 @@ impl From<PutFault> for PutRefusal {
     }
 }
 
+/// What is known of a place once a store was asked to settle it.
+#[derive(Clone, Copy, Debug, PartialEq, Eq)]
+pub enum Settled {
+    /// Its batch is durable.
+    Durable,
+    /// A write to the log has failed, now or earlier. The batch is in the store, and isn't known to be durable.
+    LogFailed,
+    /// The store's book and its log don't belong together, so that nothing is known of the place.
+    RecordsDiffer,
+}
+
 /// Why nothing was saved.
 #[derive(Clone, Copy, Debug, PartialEq, Eq, Error)]
 pub enum SaveRefusal {
@@ -75,8 +87,8 @@ pub trait Keeper {
     // What the store may answer a put at once, and the state that this leaves.
     ghost begins: { Self → Submission → Result Kept PutRefusal → Self → Type 0 };
 
-    // Whether a place is durable, and the state that this leaves.
-    ghost settles: { Self → ℕ → Bool → Self → Type 0 };
+    // What may be known of a place once it was settled, and the state that this leaves.
+    ghost settles: { Self → ℕ → Settled → Self → Type 0 };
 
     // What the keeper keeps across its calls.
     ghost fact: { Self → Type 0 };
@@ -98,9 +110,9 @@ pub trait Keeper {
         ensures fact { fact self.new }
         ensures setup { setup_of self.new ≡ setup_of self.old };
 
-    /// Waits until the batch at a place that `begin_put` gave is durable, and answers whether it is. False where the
-    /// log has failed, now or earlier. A store without a log answers true at once.
-    fn settle(&mut self, place: u64) -> bool
+    /// Waits until the batch at a place that `begin_put` gave is durable, and answers that, or why it can't be known. A
+    /// store without a log answers at once.
+    fn settle(&mut self, place: u64) -> Settled
         requires fact { fact self.old }
         ensures settles { settles self.old place result self.new }
         ensures fact { fact self.new }
@@ -161,14 +173,14 @@ pub trait Keeper {
         gives s (putting batch (Err refusal)) t };
 
     // What was accepted is answered once its place was settled.
-    ghost answered: { (s m t : Self) (batch : Submission) (kept : Kept) (is_durable : Bool) →
-        begins s batch (Ok kept) m → settles m kept.index is_durable t →
-        gives s (putting batch (settled kept is_durable)) t };
+    ghost answered: { (s m t : Self) (batch : Submission) (kept : Kept) (known : Settled) →
+        begins s batch (Ok kept) m → settles m kept.index known t →
+        gives s (putting batch (settled kept known)) t };
 
     // What is settled behind a put that was begun could have been settled before it.
     ghost earlier: { (s m t : Self) (batch : Submission) (answer : Result Kept PutRefusal) (place : ℕ)
-        (is_durable : Bool) → begins s batch answer m → settles m place is_durable t →
-        (x : Self) × settles s place is_durable x × begins x batch answer t };
+        (known : Settled) → begins s batch answer m → settles m place known t →
+        (x : Self) × settles s place known x × begins x batch answer t };
 
     // To go through an exported sum takes memory too. Where that is refused it is as if the export had been.
     ghost may_lack: { (s t : Self) (m : Matrix) (e : AllocError) → gives s (exporting (Ok m)) t →

@@ -31,7 +31,7 @@ mod texts;
 
 pub use decoding::{Reply, decode_reply};
 pub use ended::Ended;
-pub use keeper::{Keeper, PutRefusal, SaveRefusal};
+pub use keeper::{Keeper, PutRefusal, SaveRefusal, Settled};
 pub use laws::{
     cells_are_read_again, messages_are_answered_in_parts, messages_have_one_answer,
     repeats_get_their_reply, sessions_accept_fresh_batches, sessions_answer_messages,

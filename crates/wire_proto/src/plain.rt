@@ -1,11 +1,11 @@
 //! The keeper over the engine of one thread.
-ghost use Rattle.std.specs.Prelude.{◌≡◌, ℕ, ◌+◌, ◌<◌, ◌≤◌, ◌^◌, ⊤, true};
+ghost use Rattle.std.specs.Prelude.{◌≡◌, ℕ, ◌+◌, ◌<◌, ◌≤◌, ◌^◌, ⊤};
 ghost use Rattle.wire_proto.specs.Keeping.{put as putting};
-ghost use Rattle.wire_proto.specs.Settling.{settled_at_once, earlier_at_once};
+ghost use Rattle.wire_proto.specs.Settling.{SettlesAtOnce, settled_at_once, earlier_at_once};
 ghost use Rattle.wire_proto.specs.Plain.{PlainGives, EndsPlain};
 
 use crate::ended::Ended;
-use crate::keeper::{Keeper, PutRefusal, SaveRefusal};
+use crate::keeper::{Keeper, PutRefusal, SaveRefusal, Settled};
 use crate::serving::serve;
 use batch_store::{Batch, Kept, Setup};
 use byte_io::Link;
@@ -42,7 +42,7 @@ impl<'a> Keeper for PlainKeeper<'a> {
         × (t.engine.now.setup ≡ s.engine.now.setup)
         × PlainGives s.engine.now.setup s.engine.now.book.state (putting batch answer) t.engine.now.book.state };
 
-    ghost settles = { λ s place is_durable t. (t ≡ s) × (is_durable ≡ true) };
+    ghost settles = { λ s place known t. SettlesAtOnce s known t };
 
     ghost fact = { λ s. ⊤ };
 
@@ -50,15 +50,15 @@ impl<'a> Keeper for PlainKeeper<'a> {
 
     ghost refused = { λ s t batch refusal h. h };
 
-    ghost answered = { λ s m t batch kept is_durable b h. settled_at_once
+    ghost answered = { λ s m t batch kept known b h. settled_at_once
         (λ answer v. (v.engine.ghost_name ≡ s.engine.ghost_name) × (v.engine.now.setup ≡ s.engine.now.setup)
         × PlainGives s.engine.now.setup s.engine.now.book.state (putting batch answer) v.engine.now.book.state)
-        m t kept is_durable b h };
+        m t kept known b h };
 
-    ghost earlier = { λ s m t batch answer place is_durable b h. earlier_at_once
+    ghost earlier = { λ s m t batch answer place known b h. earlier_at_once
         (λ u v. (v.engine.ghost_name ≡ u.engine.ghost_name) × (v.engine.now.setup ≡ u.engine.now.setup)
         × PlainGives u.engine.now.setup u.engine.now.book.state (putting batch answer) v.engine.now.book.state)
-        s m t is_durable b h };
+        s m t known b h };
 
     ghost may_lack = { λ s t m e h. (h.0, h.1, h.2.1) };
 
@@ -70,8 +70,8 @@ impl<'a> Keeper for PlainKeeper<'a> {
         Ok(self.engine.put(alloc, batch)?)
     }
 
-    fn settle(&mut self, _place: u64) -> bool {
-        true
+    fn settle(&mut self, _place: u64) -> Settled {
+        Settled::Durable
     }
 
     fn cell(&mut self, row: u64, col: u64) -> Option<u64> {

@@ -14,7 +14,7 @@ use std::process::Abort;
 use std::random::RandomSource;
 use std::sync::Arc;
 use test_support::{same, same_at};
-use wire_proto::{Ended, Keeper, PutRefusal, SaveRefusal, serve};
+use wire_proto::{Ended, Keeper, PutRefusal, SaveRefusal, Settled, serve};
 
 // An engine, and how much of what it accepted was synced. A sync makes all durable that is accepted by then. After so
 // many syncs one fails, and from then on none is tried.
@@ -32,7 +32,7 @@ impl Keeper for Logged {
 
     ghost begins = { λ s batch answer t. ⊤ };
 
-    ghost settles = { λ s place is_durable t. ⊤ };
+    ghost settles = { λ s place known t. ⊤ };
 
     ghost fact = { λ s. ⊤ };
 
@@ -40,9 +40,9 @@ impl Keeper for Logged {
 
     ghost refused = { λ s t batch refusal h. h };
 
-    ghost answered = { λ s m t batch kept is_durable b h. b };
+    ghost answered = { λ s m t batch kept known b h. b };
 
-    ghost earlier = { λ s m t batch answer place is_durable b h. (s, h, b) };
+    ghost earlier = { λ s m t batch answer place known b h. (s, h, b) };
 
     ghost may_lack = { λ s t m e h. h };
 
@@ -54,19 +54,19 @@ impl Keeper for Logged {
         Ok(self.engine.put(alloc, batch)?)
     }
 
-    fn settle(&mut self, place: u64) -> bool {
+    fn settle(&mut self, place: u64) -> Settled {
         if place < self.durable.batches {
-            return true;
+            return Settled::Durable;
         }
         if self.syncs >= self.most_syncs {
             self.has_failed = true;
         }
         if self.has_failed {
-            return false;
+            return Settled::LogFailed;
         }
         self.syncs = self.syncs.saturating_add(1);
         self.durable = self.engine.status();
-        true
+        Settled::Durable
     }
 
     fn cell(&mut self, row: u64, col: u64) -> Option<u64> {

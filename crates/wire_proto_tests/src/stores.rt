@@ -13,7 +13,7 @@ use std::process::Abort;
 use std::sync::Arc;
 use std::test::Fail;
 use test_support::same_at;
-use wire_proto::{Ended, Keeper, PutRefusal, SaveRefusal, serve};
+use wire_proto::{Ended, Keeper, PutRefusal, SaveRefusal, Settled, serve};
 
 // A store that keeps nothing. It refuses each batch, and answers a save as it was told to; it has no memory to export,
 // and tells three batches as durable.
@@ -29,7 +29,7 @@ impl Keeper for Told {
 
     ghost begins = { λ s batch answer t. ⊤ };
 
-    ghost settles = { λ s place is_durable t. ⊤ };
+    ghost settles = { λ s place known t. ⊤ };
 
     ghost fact = { λ s. ⊤ };
 
@@ -37,9 +37,9 @@ impl Keeper for Told {
 
     ghost refused = { λ s t batch refusal h. h };
 
-    ghost answered = { λ s m t batch kept is_durable b h. b };
+    ghost answered = { λ s m t batch kept known b h. b };
 
-    ghost earlier = { λ s m t batch answer place is_durable b h. (s, b, h) };
+    ghost earlier = { λ s m t batch answer place known b h. (s, b, h) };
 
     ghost may_lack = { λ s t m e h. h };
 
@@ -51,8 +51,8 @@ impl Keeper for Told {
         Err(self.refusal)
     }
 
-    fn settle(&mut self, _place: u64) -> bool {
-        true
+    fn settle(&mut self, _place: u64) -> Settled {
+        Settled::Durable
     }
 
     fn cell(&mut self, _row: u64, _col: u64) -> Option<u64> {

@@ -4,7 +4,8 @@
 use crate::pool::engines::{Accepted, InTurn, sessions_in_turn};
 use byte_io::{Once, Script, Source, Trickle};
 use byte_io_tests::pieces;
-use session_pool::Disk;
+use session_pool::{Disk, LogPlace};
+use socket_server::FileLog;
 use std::alloc::Global;
 use std::process::Abort;
 use std::random::RandomSource;
@@ -189,7 +190,7 @@ fn taken_of(rt: &impl Abort, alloc: Global, link: &Script) -> Option<u64> {
 type Found = (InTurn, (u64, u64), [Option<u64>; 2]);
 
 // The session whose call with this number fails, and behind it, where asked for, the session without a failure.
-fn found_at<R: Wait + Disk + RandomSource + Abort>(
+fn found_at<R: Wait + Disk + LogPlace<FileLog> + RandomSource + Abort>(
     rt: &R,
     alloc: Global,
     call: u32,

@@ -7,8 +7,10 @@ use batch_store::Setup;
 use byte_io::{Link, Script, Sink};
 use crossbeam_channel::{Receiver, Sender, bounded};
 use locked_engine::{Engine, Named, Names, Seat};
+use log_desk::LogDesk;
 use plain_engine::PlainEngine;
-use session_pool::{Disk, Gate, PoolFault, PoolReport, Saver, SeatKeeper, Session, run_pool};
+use session_pool::{Disk, Gate, LogPlace, PoolFault, PoolReport, Saver, SeatKeeper, Session, SessionLog, run_pool};
+use socket_server::FileLog;
 use std::alloc::Global;
 use std::marker::Brand;
 use std::process::Abort;
@@ -106,7 +108,7 @@ fn pooled<
     N: Named + Send + Sync,
     H: Ledger + Send + Sync,
     G: Gate<R> + Sync,
-    R: Threads + Wait + Disk + Abort + Sync,
+    R: Threads + Wait + Disk + LogPlace<FileLog> + Abort + Sync,
 >(
     rt: &R,
     alloc: Global,
@@ -123,12 +125,23 @@ fn pooled<
 {
     let (engine, mut seats) = opened::<N, H>(rt, alloc, plain, names);
     let (serving, _) = seats.split_at_mut_checked(workers).expect(rt, "seats");
-    let report = run_pool(rt, alloc, &engine, serving, sessions, gate, saver);
+    let desk: Option<LogDesk<N, FileLog>> = None;
+    let report = run_pool(
+        rt,
+        alloc,
+        &engine,
+        serving,
+        sessions,
+        gate,
+        saver,
+        desk.as_ref(),
+    );
+    drop(desk);
     (report, closed(rt, alloc, engine, seats))
 }
 
 /// Serves sessions over these links, numbered in order, by a pool with the first `workers` of an engine's seats.
-pub fn pool_over<G: Gate<R> + Sync, R: Threads + Wait + Disk + RandomSource + Abort + Sync>(
+pub fn pool_over<G: Gate<R> + Sync, R: Threads + Wait + Disk + LogPlace<FileLog> + RandomSource + Abort + Sync>(
     rt: &R,
     alloc: Global,
     seats: usize,
@@ -155,7 +168,7 @@ pub fn found_of(outcome: &Outcome) -> Found {
 }
 
 /// Serves sessions over these links by a pool with the first `workers` of an engine's seats and without snapshots.
-pub fn found_over<G: Gate<R> + Sync, R: Threads + Wait + Disk + RandomSource + Abort + Sync>(
+pub fn found_over<G: Gate<R> + Sync, R: Threads + Wait + Disk + LogPlace<FileLog> + RandomSource + Abort + Sync>(
     rt: &R,
     alloc: Global,
     seats: usize,
@@ -180,7 +193,7 @@ pub fn served_by(started: u64, served: u64, accepted: Accepted) -> Found {
 pub type After = (Ended, Accepted);
 
 // Serves a session by a seat, over a link that hasn't failed.
-fn serve_link<N: Named, H: Ledger, L: Link, R: Wait + Disk + Abort>(
+fn serve_link<N: Named, H: Ledger, L: Link, R: Wait + Disk + LogPlace<FileLog> + Abort>(
     rt: &R,
     alloc: Global,
     engine: &Engine<N, H>,
@@ -190,8 +203,10 @@ fn serve_link<N: Named, H: Ledger, L: Link, R: Wait + Disk + Abort>(
 ) -> After {
     assert!(rt; Sink::failures(link) == 0);
     let saver = Saver::new(None);
-    let mut keeper = SeatKeeper::new(rt, engine, seat, &saver, compactor);
+    let log: Option<SessionLog<'_, N, FileLog>> = None;
+    let mut keeper = SeatKeeper::new(rt, engine, seat, &saver, log, compactor);
     let ended = serve(alloc, link, &mut keeper, 1 << 40);
+    keeper.end();
     drop(saver);
     let status = engine.status(seat);
     (ended, (status.batches, status.total))
@@ -209,7 +224,7 @@ fn total_of_shards(closed: &PlainEngine) -> Option<u64> {
 pub type InTurn = (After, Option<After>, Accepted, Option<u64>);
 
 // Opens an engine, serves these links by its first seat, and closes it.
-fn served_in_turn<N: Named, H: Ledger, L: Link, R: Wait + Disk + Abort>(
+fn served_in_turn<N: Named, H: Ledger, L: Link, R: Wait + Disk + LogPlace<FileLog> + Abort>(
     rt: &R,
     alloc: Global,
     plain: PlainEngine,
@@ -238,7 +253,7 @@ fn served_in_turn<N: Named, H: Ledger, L: Link, R: Wait + Disk + Abort>(
 
 /// Serves a session over the first link and then one over the second, if there is one, by one of a new engine's seats.
 /// Their puts wake whoever receives from `compactor`, where there is one.
-pub fn sessions_in_turn<L: Link, R: Wait + Disk + RandomSource + Abort>(
+pub fn sessions_in_turn<L: Link, R: Wait + Disk + LogPlace<FileLog> + RandomSource + Abort>(
     rt: &R,
     alloc: Global,
     seats: usize,

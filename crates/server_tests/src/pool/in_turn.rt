@@ -5,7 +5,8 @@ use crate::pool::frames::{REPLIES, TWO_PUTS_AND_A_CELL};
 use crate::pool::gates::end_after;
 use byte_io::Script;
 use byte_io_tests::pieces;
-use session_pool::Disk;
+use session_pool::{Disk, LogPlace};
+use socket_server::FileLog;
 use std::alloc::Global;
 use std::process::Abort;
 use std::random::RandomSource;
@@ -82,7 +83,7 @@ fn has_taken(link: &Script, case: &Case) -> bool {
 type Found = (InTurn, [bool; 2]);
 
 // A session of a case, and then one that doesn't fail.
-fn found_of<R: Wait + Disk + RandomSource + Abort>(rt: &R, alloc: Global, case: &Case) -> Found {
+fn found_of<R: Wait + Disk + LogPlace<FileLog> + RandomSource + Abort>(rt: &R, alloc: Global, case: &Case) -> Found {
     let mut first = link_of(rt, alloc, case);
     let mut second = link_of(rt, alloc, &WHOLE);
     let sessions = sessions_in_turn(rt, alloc, 1, &mut first, Some(&mut second), None);

@@ -2,9 +2,9 @@
 
 use crate::sockets::settings::{ANY_PORT, PLAIN, Plan, settings};
 use byte_io::{Script, WriteFault};
-use session_pool::Disk;
+use session_pool::{Disk, LogPlace};
 use snap_file::{FileFault, SaveFault, SnapFault};
-use socket_server::{Host, ServerFault, Settings, run_server};
+use socket_server::{FileLog, Host, LogHost, ServerFault, Settings, run_server};
 use std::alloc::Global;
 use std::io::Write;
 use std::net::{Net, TcpListener, TcpStream};
@@ -24,7 +24,9 @@ fn is_fault<
         + Wait
         + Clock
         + Disk
+        + LogPlace<FileLog>
         + Host
+        + LogHost<FileLog>
         + RandomSource
         + Net<Listener = TcpListener, Stream = TcpStream>
         + Abort
@@ -35,7 +37,7 @@ fn is_fault<
         sessions: 0,
         ..settings(rt, alloc, plan)
     };
-    let fault = run_server(rt, alloc, settings, &mut out).err();
+    let fault = run_server::<FileLog, _, _>(rt, alloc, settings, &mut out).err();
     let is_wanted = fault == *wanted;
     drop(fault);
     drop(out);

@@ -9,9 +9,9 @@ use crate::sockets::said::Said;
 use crate::sockets::settings::{ANY_PORT, PLAIN, Plan, settings};
 use byte_io::Counted;
 use locked_engine::Status;
-use session_pool::Disk;
+use session_pool::{Disk, LogPlace};
 use snap_file::SaveFault;
-use socket_server::{Host, ServerFault, Settings, run_server};
+use socket_server::{FileLog, Host, LogHost, ServerFault, Settings, run_server};
 use std::alloc::Global;
 use std::net::{Net, TcpListener, TcpStream};
 use std::process::Abort;
@@ -32,13 +32,15 @@ fn run_saying<
         + Wait
         + Clock
         + Disk
+        + LogPlace<FileLog>
         + Host
+        + LogHost<FileLog>
         + RandomSource
         + Net<Listener = TcpListener, Stream = TcpStream>
         + Sync,
 >(rt: &R, alloc: Global, settings: Settings, said: &Mutex<Vec<u8>>) -> Result<Status, ServerFault> {
     let mut out = Counted::new(Said { rt, bytes: said });
-    let answer = run_server(rt, alloc, settings, &mut out);
+    let answer = run_server::<FileLog, _, _>(rt, alloc, settings, &mut out);
     drop(out);
     answer
 }
@@ -49,7 +51,9 @@ fn outcome_of<
         + Wait
         + Clock
         + Disk
+        + LogPlace<FileLog>
         + Host
+        + LogHost<FileLog>
         + RandomSource
         + Net<Listener = TcpListener, Stream = TcpStream>
         + Abort

@@ -49,6 +49,7 @@ pub fn settings(rt: &impl Abort, alloc: Global, plan: &Plan) -> Settings {
         setup: Setup::new(3, 3, &[2, 4], 2, 100, 10).expect(rt, "setup"),
         workers: plan.workers,
         snapshot: owned(rt, alloc, plan.snapshot),
+        log: None,
         must_load: plan.must_load,
         must_save: plan.must_save,
         sessions: plan.sessions,

@@ -2,9 +2,10 @@ use Rattle.std.proofs.Common.{◌≡◌, ◌+◌, ap, flat_map, length, sym, ◌
 use Rattle.std.specs.Int.{w64}
 use Rattle.batch_store.specs.Batches.{values}
 use Rattle.snap_file.specs.Spelling.{number_bytes, batch_bytes}
-use Rattle.log_batches.proofs.Sizes.{length-payload}
+use Rattle.log_batches.specs.Payloads.{payload_bytes}
+use Rattle.log_batches.proofs.Sizes.{length-payload, pages_of_sum}
 use Rattle.log_batches.proofs.Chunks.{length-block}
-use Rattle.log_batches.proofs.Filled.{left_length, left_none}
+use Rattle.log_batches.proofs.Filled.{left_from, left_length, left_none}
 use Rattle.log_batches.proofs.size.block_pages.Goals as goal
 
 pub loop-batch-init : goal.loop-batch-init
@@ -22,6 +23,13 @@ loop-batch-preserved c =
       within = omega (arith, c.saturating_add-bytes.ensures, c.batch_size.ensures, old.within, more);
       exact = λ low. omega (arith, c.saturating_add-bytes.ensures, c.batch_size.ensures, old.within, old.exact, more);
     }
+
+pub returns-clause-exact : goal.returns-clause-exact
+returns-clause-exact c =
+    let none = ap length (left_none c.args.batches.now c.loop-batch.batch-index c.loop-batch-test.false) in
+    let inv = c.loop-batch.invariant in
+    pages_of_sum c.loop-batch.bytes (length (left_from c.loop-batch.batch-index c.args.batches.now))
+    (length (payload_bytes (values c.args.batches.now))) none (omega arith) inv.within inv.exact
 
 pub returns-clause-few : goal.returns-clause-few
 returns-clause-few c = λ low.

@@ -1,19 +1,20 @@
-use Rattle.std.proofs.Common.{◌≡◌, ◌*◌, ◌+◌, ◌∙◌, ◌≤◌, ℕ, get_or, refl, arith}
+use Rattle.std.proofs.Common.{◌*◌, ◌+◌, ◌∙◌, refl, arith}
 use Rattle.log_file.proofs.Filling.{fill_start, fill_more, fill_all}
 use Rattle.log_file.proofs.room.fill_pages.Goals as goal
 
 pub returns-in_err-fill-clause-stays : goal.returns-in_err-fill-clause-stays
-returns-in_err-fill-clause-stays g c = λ t.
-    let told = c.loop-i.invariant.tells t in
+returns-in_err-fill-clause-stays g c = λ premise.
+    let told = c.loop-i.invariant.tells (c.requires.1.0 premise).0 in
     fill_more g.D.LogDisk.written g.D.LogDisk.may_leave g.D.LogDisk.moment g.D.LogDisk.left_since c.args.disk.now
     g.log (4096 * c.args.from) (4096 * (c.args.from + 16 * c.loop-i.i)) c.zeros_of-zeros.result.now c.loop-i.disk
-    c.fill.new.self (c.requires.1.0 t) (omega arith) c.zeros_of-zeros.ensures (c.loop-i.invariant.stays t)
+    c.fill.new.self (c.requires.1.0 premise).1 (omega arith) c.zeros_of-zeros.ensures.zeros (c.loop-i.invariant.stays premise)
     (c.in_err-fill.ensures.part told) (c.fill.ensures.crash told) (c.fill.ensures.time told)
 
 pub loop-i-init : goal.loop-i-init
 loop-i-init g c = record {
-  stays = λ t. fill_start g.D.LogDisk.written g.D.LogDisk.may_leave g.D.LogDisk.moment g.D.LogDisk.left_since
-      c.args.disk.now g.log (4096 * c.args.from) (c.requires.1.0 t) (g.met.D.LogDisk.only_now c.args.disk.now);
+  stays = λ premise. fill_start g.D.LogDisk.written g.D.LogDisk.may_leave g.D.LogDisk.moment g.D.LogDisk.left_since
+      c.args.disk.now g.log (4096 * c.args.from) (c.requires.1.0 premise).1 (g.met.D.LogDisk.only_now c.args.disk.now);
+  long = λ t some. absurd (omega (arith, some));
   tells = λ t. t;
   sound = c.requires.1.1.0;
   count = refl;
@@ -21,13 +22,16 @@ loop-i-init g c = record {
 
 pub loop-i-preserved : goal.loop-i-preserved
 loop-i-preserved g c = record {
-  stays = λ t.
-      let told = c.loop-i.invariant.tells t in
+  stays = λ premise.
+      let told = c.loop-i.invariant.tells (c.requires.1.0 premise).0 in
       fill_all g.D.LogDisk.written g.D.LogDisk.may_leave g.D.LogDisk.moment g.D.LogDisk.left_since c.args.disk.now
       g.log (4096 * c.args.from) (4096 * (c.args.from + 16 * c.loop-i.i)) c.zeros_of-zeros.result.now
-      c.loop-i.disk c.fill.new.self (c.requires.1.0 t) (omega arith) c.zeros_of-zeros.ensures
-      (c.loop-i.invariant.stays t) (c.in_ok-fill.ensures.written told) (c.fill.ensures.crash told)
+      c.loop-i.disk c.fill.new.self (c.requires.1.0 premise).1 (omega arith) c.zeros_of-zeros.ensures.zeros
+      (c.loop-i.invariant.stays premise) (c.in_ok-fill.ensures.written told) (c.fill.ensures.crash told)
       (c.fill.ensures.time told);
+  long = λ t some.
+      let holds = c.in_ok-fill.ensures.written (c.loop-i.invariant.tells t) in
+      omega (arith, holds.ends, c.zeros_of-zeros.ensures.long);
   tells = λ t. c.fill.ensures.tells (c.loop-i.invariant.tells t);
   sound = c.fill.ensures.sound;
   count = c.in_ok-fill.ensures.ok ∙ c.loop-i.invariant.count;

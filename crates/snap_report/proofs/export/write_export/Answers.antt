@@ -1,4 +1,4 @@
-use Rattle.std.proofs.Common.{◌≡◌, ℕ, ap, sym, ◌∙◌, arith}
+use Rattle.std.proofs.Common.{◌≡◌, ap, ◌∙◌, arith}
 use Rattle.hyper_matrix.specs.Counts.{total}
 use Rattle.hyper_matrix.specs.Matrix.{Matrix}
 use Rattle.batch_store.specs.Batches.{values}

@@ -10,7 +10,7 @@ ghosts-serve_named-N-Named g a = record {
   setup = a.names.setup;
   seats = a.names.seats;
   history = a.names.history;
-  opened = a.plain.book.state;
+  opened = a.start.plain.book.state;
 }
 
 abbrev pub ghosts-serve_named-H-Ledger : goal.ghosts-serve_named-H-Ledger

@@ -5,8 +5,8 @@ use Rattle.session_pool.specs.Saves.{IsSaved}
 use Rattle.socket_server.proofs.serving.close_all.Goals as goal
 
 -- what the engine of one thread has accepted was saved, and the seats agree with it
-pub returns-in_ok-save_plain-in-Ok-clause-ended : goal.returns-in_ok-save_plain-in-Ok-clause-ended
-returns-in_ok-save_plain-in-Ok-clause-ended g c =
+pub returns-in-Ok-clause-ended : goal.returns-in-Ok-clause-ended
+returns-in-Ok-clause-ended g c =
     let a = c.in-Ok.plain.book.state in
     let told = c.in-Ok.ensures in (
       a,

@@ -1,6 +1,5 @@
-use Rattle.std.proofs.Common.{◌≡◌, ◌+◌, ap, arith, rules}
+use Rattle.std.proofs.Common.{◌≡◌, ◌+◌, arith, rules}
 use Rattle.std.specs.Arc.{arc_value}
-use Rattle.batch_store.specs.declared.verdict.Entry.{Entry}
 use Rattle.batch_store.specs.Batches.{batch_total}
 use Rattle.log_desk.proofs.StatusLaws.{status_more}
 use Rattle.log_desk.proofs.durable.Durable.status_with.Goals as goal

@@ -1,14 +1,15 @@
-use Rattle.std.proofs.Common.{◌≡◌, ◌*◌, ◌+◌, ◌∙◌, List, ℕ, length, get_or, ap, sym, refl}
+use Rattle.std.proofs.Common.{◌*◌, ◌+◌, refl}
 use Rattle.std.proofs.lemmas.Result.{err_from_is_err_and}
 use Rattle.log_file.specs.Logs.{with_next}
 use Rattle.log_file.proofs.LogLemmas.{log_is_read}
-use Rattle.log_file.proofs.Appending.{write_run, part_written, all_written, all_may_hold, sync_run, moments_of}
-use Rattle.log_file.proofs.Appending.{unsettled_of, next_is_log, synced_left, settled_next}
+use Rattle.log_file.proofs.Appending.{write_run, part_written, all_may_hold, sync_run, moments_of}
+use Rattle.log_file.proofs.Appending.{unsettled_of, next_is_log, synced_left, settled_next, room_stays}
 use Rattle.log_file.proofs.writer.LogWriter.append.Goals as goal
 
 pub returns-in_err-write_at-clause-any_moment : goal.returns-in_err-write_at-clause-any_moment
-returns-in_err-write_at-clause-any_moment g c = λ t.
-    let can = c.requires.1.0 t in
+returns-in_err-write_at-clause-any_moment g c = λ premise.
+    let t = (c.requires.1.0 premise).0 in
+    let can = (c.requires.1.0 premise).1 in
     let run = write_run g.D.LogDisk.written g.D.LogDisk.may_leave g.D.LogDisk.moment g.D.LogDisk.left_since
     c.args.disk.now c.args.self.now g.known.0 g.known.1 c.args.bytes.now c.args.pages c.args.batches can
     c.write_at.new.self (g.met.D.LogDisk.only_now c.args.disk.now)
@@ -20,8 +21,9 @@ returns-in_err-write_at-clause-any_moment g c = λ t.
     c.args.self.now g.known.0 g.known.1 c.args.bytes.now c.args.pages c.args.batches can c.write_at.new.self run
 
 pub returns-in_err-write_at-clause-failed : goal.returns-in_err-write_at-clause-failed
-returns-in_err-write_at-clause-failed g c = λ t.
-    let can = c.requires.1.0 t in
+returns-in_err-write_at-clause-failed g c = λ premise.
+    let t = (c.requires.1.0 premise).0 in
+    let can = (c.requires.1.0 premise).1 in
     let run = write_run g.D.LogDisk.written g.D.LogDisk.may_leave g.D.LogDisk.moment g.D.LogDisk.left_since
     c.args.disk.now c.args.self.now g.known.0 g.known.1 c.args.bytes.now c.args.pages c.args.batches can
     c.write_at.new.self (g.met.D.LogDisk.only_now c.args.disk.now)
@@ -35,8 +37,9 @@ returns-in_err-write_at-clause-failed g c = λ t.
     c.write_at.new.self run)
 
 pub returns-in_err-sync-clause-any_moment : goal.returns-in_err-sync-clause-any_moment
-returns-in_err-sync-clause-any_moment g c = λ t.
-    let can = c.requires.1.0 t in
+returns-in_err-sync-clause-any_moment g c = λ premise.
+    let t = (c.requires.1.0 premise).0 in
+    let can = (c.requires.1.0 premise).1 in
     let holds = c.in_ok-write_at.ensures.written t in
     let wrote = write_run g.D.LogDisk.written g.D.LogDisk.may_leave g.D.LogDisk.moment g.D.LogDisk.left_since
     c.args.disk.now c.args.self.now g.known.0 g.known.1 c.args.bytes.now c.args.pages c.args.batches can
@@ -53,8 +56,9 @@ returns-in_err-sync-clause-any_moment g c = λ t.
     c.args.self.now g.known.0 g.known.1 c.args.bytes.now c.args.pages c.args.batches can c.sync.new.self run
 
 pub returns-in_err-sync-clause-failed : goal.returns-in_err-sync-clause-failed
-returns-in_err-sync-clause-failed g c = λ t.
-    let can = c.requires.1.0 t in
+returns-in_err-sync-clause-failed g c = λ premise.
+    let t = (c.requires.1.0 premise).0 in
+    let can = (c.requires.1.0 premise).1 in
     let holds = c.in_ok-write_at.ensures.written t in
     let wrote = write_run g.D.LogDisk.written g.D.LogDisk.may_leave g.D.LogDisk.moment g.D.LogDisk.left_since
     c.args.disk.now c.args.self.now g.known.0 g.known.1 c.args.bytes.now c.args.pages c.args.batches can
@@ -73,8 +77,9 @@ returns-in_err-sync-clause-failed g c = λ t.
     c.sync.new.self run)
 
 pub returns-clause-any_moment : goal.returns-clause-any_moment
-returns-clause-any_moment g c = λ t.
-    let can = c.requires.1.0 t in
+returns-clause-any_moment g c = λ premise.
+    let t = (c.requires.1.0 premise).0 in
+    let can = (c.requires.1.0 premise).1 in
     let holds = c.in_ok-write_at.ensures.written t in
     let wrote = write_run g.D.LogDisk.written g.D.LogDisk.may_leave g.D.LogDisk.moment g.D.LogDisk.left_since
     c.args.disk.now c.args.self.now g.known.0 g.known.1 c.args.bytes.now c.args.pages c.args.batches can
@@ -91,8 +96,9 @@ returns-clause-any_moment g c = λ t.
     c.args.self.now g.known.0 g.known.1 c.args.bytes.now c.args.pages c.args.batches can c.sync.new.self run
 
 pub returns-clause-acknowledged : goal.returns-clause-acknowledged
-returns-clause-acknowledged g c = λ t.
-    let can = c.requires.1.0 t in
+returns-clause-acknowledged g c = λ premise.
+    let t = (c.requires.1.0 premise).0 in
+    let can = (c.requires.1.0 premise).1 in
     let holds = c.in_ok-write_at.ensures.written t in
     let wrote = write_run g.D.LogDisk.written g.D.LogDisk.may_leave g.D.LogDisk.moment g.D.LogDisk.left_since
     c.args.disk.now c.args.self.now g.known.0 g.known.1 c.args.bytes.now c.args.pages c.args.batches can
@@ -112,8 +118,9 @@ returns-clause-acknowledged g c = λ t.
     (c.in_ok-write_at.ensures.fresh t j lt))
 
 pub returns-clause-durable : goal.returns-clause-durable
-returns-clause-durable g c = λ t.
-    let can = c.requires.1.0 t in
+returns-clause-durable g c = λ premise.
+    let t = (c.requires.1.0 premise).0 in
+    let can = (c.requires.1.0 premise).1 in
     let holds = c.in_ok-write_at.ensures.written t in
     let wrote = write_run g.D.LogDisk.written g.D.LogDisk.may_leave g.D.LogDisk.moment g.D.LogDisk.left_since
     c.args.disk.now c.args.self.now g.known.0 g.known.1 c.args.bytes.now c.args.pages c.args.batches can
@@ -134,3 +141,12 @@ returns-clause-durable g c = λ t.
     c.args.batches can c.write_at.new.self c.sync.new.self left run holds now
     (λ j lt. c.in_ok-sync.ensures.durable told left now (4096 * c.args.self.now.page + j)
     (c.in_ok-write_at.ensures.fresh t j lt)))
+
+pub returns-clause-room_stays : goal.returns-clause-room_stays
+returns-clause-room_stays g c = λ premise long.
+    let t = (c.requires.1.0 premise).0 in
+    let told = c.write_at.ensures.tells t in
+    room_stays g.D.LogDisk.written g.D.LogDisk.may_leave g.D.LogDisk.moment g.D.LogDisk.left_since c.args.disk.now
+    c.args.self.now g.known.0 g.known.1 c.args.bytes.now c.args.pages c.args.batches
+    (c.requires.1.0 premise).1 c.write_at.new.self c.sync.new.self _ _ refl c.saturating_sub-self.ensures long (c.in_ok-write_at.ensures.written t)
+    (c.sync.ensures.same told) (c.in_ok-sync.ensures.long told)

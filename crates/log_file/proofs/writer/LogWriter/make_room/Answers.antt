@@ -1,55 +1,67 @@
-use Rattle.std.proofs.Common.{◌≡◌, ◌*◌, ◌+◌, refl, rules}
-use Rattle.log_file.proofs.Filling.{fill_synced, room_behind, still_settled, still_read}
+use Rattle.std.proofs.Common.{◌∙◌, sym, refl, arith, rules}
+use Rattle.log_file.proofs.Filling.{fill_synced, room_behind, still_settled, still_read, on_ok, room_is_long}
 use Rattle.log_file.proofs.writer.LogWriter.make_room.Goals as goal
 
 pub fill_pages-requires : goal.fill_pages-requires
 fill_pages-requires g c κs within = (
   search rules,
   (
-    λ t. room_behind g.D.LogDisk.written g.D.LogDisk.may_leave g.D.LogDisk.moment g.D.LogDisk.left_since
-        c.args.disk.now g.log c.args.self.now (c.requires.1.0 t) c.args.self.now.room,
+    λ premise. (
+      (c.requires.1.0 premise).0,
+      room_behind g.D.LogDisk.written g.D.LogDisk.may_leave g.D.LogDisk.moment g.D.LogDisk.left_since
+          c.args.disk.now g.log c.args.self.now (c.requires.1.0 premise).1 c.args.self.now.room,
+    ),
     search rules,
   ),
 )
 
 pub returns-then-is_err-clause-settled : goal.returns-then-is_err-clause-settled
-returns-then-is_err-clause-settled g c = λ t. still_settled g.D.LogDisk.written g.D.LogDisk.may_leave
-    g.D.LogDisk.moment g.D.LogDisk.left_since c.args.disk.now g.log c.args.self.now (c.requires.1.0 t)
-    c.fill_pages.new.disk _ refl refl refl (c.fill_pages.ensures.stays t)
+returns-then-is_err-clause-settled g c = λ premise. let t = (c.requires.1.0 premise).0 in still_settled g.D.LogDisk.written g.D.LogDisk.may_leave
+    g.D.LogDisk.moment g.D.LogDisk.left_since c.args.disk.now g.log c.args.self.now (c.requires.1.0 premise).1
+    c.fill_pages.new.disk _ refl refl refl (c.fill_pages.ensures.stays premise)
 
 pub returns-then-is_err-clause-any_moment : goal.returns-then-is_err-clause-any_moment
-returns-then-is_err-clause-any_moment g c = λ t. still_read g.D.LogDisk.written g.D.LogDisk.may_leave
-    g.D.LogDisk.moment g.D.LogDisk.left_since c.args.disk.now g.log c.args.self.now (c.requires.1.0 t)
-    c.fill_pages.new.disk (c.fill_pages.ensures.stays t)
+returns-then-is_err-clause-any_moment g c = λ premise. let t = (c.requires.1.0 premise).0 in still_read g.D.LogDisk.written g.D.LogDisk.may_leave
+    g.D.LogDisk.moment g.D.LogDisk.left_since c.args.disk.now g.log c.args.self.now (c.requires.1.0 premise).1
+    c.fill_pages.new.disk (c.fill_pages.ensures.stays premise)
 
 pub returns-then-is_err-2-clause-settled : goal.returns-then-is_err-2-clause-settled
-returns-then-is_err-2-clause-settled g c = λ t. still_settled g.D.LogDisk.written g.D.LogDisk.may_leave
-    g.D.LogDisk.moment g.D.LogDisk.left_since c.args.disk.now g.log c.args.self.now (c.requires.1.0 t) c.sync.new.self
+returns-then-is_err-2-clause-settled g c = λ premise. let t = (c.requires.1.0 premise).0 in still_settled g.D.LogDisk.written g.D.LogDisk.may_leave
+    g.D.LogDisk.moment g.D.LogDisk.left_since c.args.disk.now g.log c.args.self.now (c.requires.1.0 premise).1 c.sync.new.self
     _ refl refl refl (fill_synced g.D.LogDisk.written g.D.LogDisk.may_leave g.D.LogDisk.moment g.D.LogDisk.left_since
-    c.args.disk.now g.log c.fill_pages.new.disk c.sync.new.self (c.fill_pages.ensures.stays t)
+    c.args.disk.now g.log c.fill_pages.new.disk c.sync.new.self (c.fill_pages.ensures.stays premise)
     (c.sync.ensures.same (c.fill_pages.ensures.tells t)) (c.sync.ensures.crash (c.fill_pages.ensures.tells t))
     (c.sync.ensures.time (c.fill_pages.ensures.tells t)))
 
 pub returns-then-is_err-2-clause-any_moment : goal.returns-then-is_err-2-clause-any_moment
-returns-then-is_err-2-clause-any_moment g c = λ t. still_read g.D.LogDisk.written g.D.LogDisk.may_leave
-    g.D.LogDisk.moment g.D.LogDisk.left_since c.args.disk.now g.log c.args.self.now (c.requires.1.0 t) c.sync.new.self
+returns-then-is_err-2-clause-any_moment g c = λ premise. let t = (c.requires.1.0 premise).0 in still_read g.D.LogDisk.written g.D.LogDisk.may_leave
+    g.D.LogDisk.moment g.D.LogDisk.left_since c.args.disk.now g.log c.args.self.now (c.requires.1.0 premise).1 c.sync.new.self
     (fill_synced g.D.LogDisk.written g.D.LogDisk.may_leave g.D.LogDisk.moment g.D.LogDisk.left_since c.args.disk.now
-    g.log c.fill_pages.new.disk c.sync.new.self (c.fill_pages.ensures.stays t)
+    g.log c.fill_pages.new.disk c.sync.new.self (c.fill_pages.ensures.stays premise)
     (c.sync.ensures.same (c.fill_pages.ensures.tells t)) (c.sync.ensures.crash (c.fill_pages.ensures.tells t))
     (c.sync.ensures.time (c.fill_pages.ensures.tells t)))
 
 pub returns-clause-settled : goal.returns-clause-settled
-returns-clause-settled g c = λ t. still_settled g.D.LogDisk.written g.D.LogDisk.may_leave g.D.LogDisk.moment
-    g.D.LogDisk.left_since c.args.disk.now g.log c.args.self.now (c.requires.1.0 t) c.sync.new.self _ refl refl refl
+returns-clause-settled g c = λ premise. let t = (c.requires.1.0 premise).0 in still_settled g.D.LogDisk.written g.D.LogDisk.may_leave g.D.LogDisk.moment
+    g.D.LogDisk.left_since c.args.disk.now g.log c.args.self.now (c.requires.1.0 premise).1 c.sync.new.self _ refl refl refl
     (fill_synced g.D.LogDisk.written g.D.LogDisk.may_leave g.D.LogDisk.moment g.D.LogDisk.left_since c.args.disk.now
-    g.log c.fill_pages.new.disk c.sync.new.self (c.fill_pages.ensures.stays t)
+    g.log c.fill_pages.new.disk c.sync.new.self (c.fill_pages.ensures.stays premise)
     (c.sync.ensures.same (c.fill_pages.ensures.tells t)) (c.sync.ensures.crash (c.fill_pages.ensures.tells t))
     (c.sync.ensures.time (c.fill_pages.ensures.tells t)))
 
 pub returns-clause-any_moment : goal.returns-clause-any_moment
-returns-clause-any_moment g c = λ t. still_read g.D.LogDisk.written g.D.LogDisk.may_leave g.D.LogDisk.moment
-    g.D.LogDisk.left_since c.args.disk.now g.log c.args.self.now (c.requires.1.0 t) c.sync.new.self
+returns-clause-any_moment g c = λ premise. let t = (c.requires.1.0 premise).0 in still_read g.D.LogDisk.written g.D.LogDisk.may_leave g.D.LogDisk.moment
+    g.D.LogDisk.left_since c.args.disk.now g.log c.args.self.now (c.requires.1.0 premise).1 c.sync.new.self
     (fill_synced g.D.LogDisk.written g.D.LogDisk.may_leave g.D.LogDisk.moment g.D.LogDisk.left_since c.args.disk.now
-    g.log c.fill_pages.new.disk c.sync.new.self (c.fill_pages.ensures.stays t)
+    g.log c.fill_pages.new.disk c.sync.new.self (c.fill_pages.ensures.stays premise)
     (c.sync.ensures.same (c.fill_pages.ensures.tells t)) (c.sync.ensures.crash (c.fill_pages.ensures.tells t))
     (c.sync.ensures.time (c.fill_pages.ensures.tells t)))
+
+pub returns-clause-written : goal.returns-clause-written
+returns-clause-written g c = λ t some.
+    let told = c.fill_pages.ensures.tells t in
+    let filled = on_ok c.fill_pages.result _ (sym c.is_err.ensures.value ∙ c.if-is_err.false)
+    (c.fill_pages.ensures.long t) some in
+    room_is_long g.D.LogDisk.written g.D.LogDisk.may_leave c.fill_pages.new.disk c.sync.new.self _
+    (omega (arith, filled)) (c.sync.ensures.same told)
+    (on_ok c.sync.result _ (sym c.is_err-2.ensures.value ∙ c.if-is_err-2.false) (c.sync.ensures.long told))

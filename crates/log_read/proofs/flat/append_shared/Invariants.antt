@@ -1,0 +1,6 @@
+use Rattle.std.proofs.Common.{◌≡◌, ◌++◌, take}
+use Rattle.batch_store.specs.Batches.{values}
+use Rattle.log_read.proofs.flat.append_shared.Given as goal
+
+abbrev pub invariant-batches : goal.invariant-batches
+invariant-batches l = values l.list.items ≡ values l.fn.list.items ++ values (take l.batch-index l.batches)

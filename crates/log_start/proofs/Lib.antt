@@ -1,0 +1,6 @@
+mod Blocks
+mod Listed
+mod Reading
+mod Refusals
+mod Settles
+mod Summed

@@ -1,0 +1,128 @@
+-- A run of reads of a log's file.
+use Rattle.std.proofs.Common.{◌≡◌, inl, inr, ⊎_elim, ℕ, ◌≤◌, List, [], ◌∷◌, length, get_or, refl, sym}
+use Rattle.std.proofs.Common.{◌∙◌, ap, subst, arith}
+use Rattle.std.specs.Prelude.{Result, Ok, Err, OnOk, IfOk, IfErr}
+use Rattle.std.proofs.lemmas.List.{ext_get_or}
+use Rattle.byte_io.specs.Streams.{Answer, Calls, bytes_of_calls}
+use Rattle.log_source.specs.Sources.{GivesFrom, IsUntouched}
+use Rattle.log_source.proofs.RunLemmas.{read_next, read_bytes}
+use Rattle.log_start.specs.Found.{IsAsBefore}
+
+pub if_ok_on : {T E : Type 0} {P : T → Type 0} {Q : Type 0} (r : Result T E) → IfOk r P → ((x : T) → P x → Q) → OnOk r Q
+if_ok_on (Ok x) h f = f x h
+if_ok_on (Err e) h f = tt
+
+pub if_ok_map : {T E : Type 0} {P Q : T → Type 0} (r : Result T E) → IfOk r P → ((x : T) → P x → Q x) → IfOk r Q
+if_ok_map (Ok x) h f = f x h
+if_ok_map (Err e) h f = tt
+
+pub if_err_map : {T E : Type 0} {P Q : E → Type 0} (r : Result T E) → IfErr r P → ((e : E) → P e → Q e) → IfErr r Q
+if_err_map (Ok x) h f = tt
+if_err_map (Err e) h f = f e h
+
+pub if_ok_both : {T E : Type 0} {P Q R : T → Type 0} (r : Result T E) → IfOk r P → IfOk r Q →
+    ((x : T) → P x → Q x → R x) → IfOk r R
+if_ok_both (Ok x) g h f = f x g h
+if_ok_both (Err e) g h f = tt
+
+-- what one read does, of a source whose state has these parts
+abbrev pub IsStep : {S D N : Type 0} → (S → Answer → S → Type 0) → (S → N) → (S → D) → (S → ℕ) → (S → ℕ)
+    → (D → Type 0) → (D → List ℕ) → (D → List ℕ → Type 0) → (D → ℕ) → (D → ℕ → List ℕ → Type 0) → Type 0
+IsStep {S} gives name disk at end tells written may_leave moment left_since =
+    (s : S) (answer : Answer) (t : S) → gives s answer t → (name t ≡ name s) × (end t ≡ end s)
+    × (tells (disk s) → IsUntouched tells written may_leave moment left_since (disk s) (disk t)
+    × GivesFrom (written (disk s)) (at s) answer (at t))
+
+module _ {S D N : Type 0} (gives : S → Answer → S → Type 0) (name : S → N) (disk : S → D) (at end : S → ℕ)
+    (tells : D → Type 0) (written : D → List ℕ) (may_leave : D → List ℕ → Type 0) (moment : D → ℕ)
+    (left_since : D → ℕ → List ℕ → Type 0)
+    (step : IsStep gives name disk at end tells written may_leave moment left_since) where
+  name_of : (answers : List Answer) (s t : S) → Calls gives s answers t → name t ≡ name s
+  name_of [] s t same = ap name (sym same)
+  name_of (answer ∷ answers) s t calls =
+      name_of answers calls.0 t calls.2 ∙ (step s answer calls.0 calls.1).0
+
+  end_of : (answers : List Answer) (s t : S) → Calls gives s answers t → end t ≡ end s
+  end_of [] s t same = ap end (sym same)
+  end_of (answer ∷ answers) s t calls =
+      end_of answers calls.0 t calls.2 ∙ (step s answer calls.0 calls.1).1
+
+  kept_of : (answers : List Answer) (s t : S) → tells (disk s) → Calls gives s answers t →
+      IsAsBefore tells written may_leave moment left_since (disk s) (disk t)
+  kept_of [] s t told same =
+      subst (λ (u : S). IsAsBefore tells written may_leave moment left_since (disk s) (disk u)) same (record {
+        told = told;
+        same = refl;
+        fewer = λ left may. may;
+        time = record {
+          later = omega arith;
+          nothing_else = λ n left le since. inl since;
+          keeps = λ n left le past. past;
+        };
+      })
+  kept_of (answer ∷ answers) s t told calls =
+      let here = ((step s answer calls.0 calls.1).2 told).0 in
+      let later = kept_of answers calls.0 t here.told calls.2 in
+      record {
+        told = later.told;
+        same = later.same ∙ here.same;
+        fewer = λ left may. here.fewer left (later.fewer left may);
+        time = record {
+          later = omega (arith, here.time.later, later.time.later);
+          nothing_else = λ n left le since.
+              ⊎_elim
+              (λ mid. ⊎_elim (λ past. inl past) (λ now. inr (here.fewer left now))
+              (here.time.nothing_else n left le mid))
+              (λ now. inr (here.fewer left now))
+              (later.time.nothing_else n left (omega (arith, le, here.time.later)) since);
+          keeps = λ n left le past.
+              later.time.keeps n left (omega (arith, le, here.time.later)) (here.time.keeps n left le past);
+        };
+      }
+
+  abbrev Known : S → S → Type 0
+  Known s u = tells (disk u) × (written (disk u) ≡ written (disk s))
+
+  known_step : (s u : S) (answer : Answer) (v : S) → Known s u → gives u answer v →
+      Known s v × GivesFrom (written (disk s)) (at u) answer (at v)
+  known_step s u answer v k g =
+      let here = (step u answer v g).2 k.0 in (
+        (here.0.told, here.0.same ∙ k.1),
+        subst (λ (file : List ℕ). GivesFrom file (at u) answer (at v)) k.1 here.1,
+      )
+
+-- a run, of which the calls say the rest
+module _ {S : Type 0} {gives : S → Answer → S → Type 0} {s t : S} (answers : List Answer)
+    (calls : Calls gives s answers t) {D N : Type 0} (name : S → N) (disk : S → D) (at end : S → ℕ)
+    (tells : D → Type 0) (written : D → List ℕ) (may_leave : D → List ℕ → Type 0) (moment : D → ℕ)
+    (left_since : D → ℕ → List ℕ → Type 0)
+    (step : IsStep gives name disk at end tells written may_leave moment left_since) where
+  pub same_name : name t ≡ name s
+  same_name = name_of gives name disk at end tells written may_leave moment left_since step answers s t calls
+
+  pub as_before : tells (disk s) → IsAsBefore tells written may_leave moment left_since (disk s) (disk t)
+  as_before told = kept_of gives name disk at end tells written may_leave moment left_since step answers s t told calls
+
+  module _ (told : tells (disk s)) (begins : at s ≡ 0) where
+    -- how many bytes came
+    pub read_so_far : at t ≡ length (bytes_of_calls answers)
+    read_so_far =
+        let next = read_next gives at (Known gives name disk at end tells written may_leave moment left_since step s)
+        (written (disk s)) (known_step gives name disk at end tells written may_leave moment left_since step s)
+        answers s t (told, refl) calls in
+        omega (arith, begins, next)
+
+    -- at the end it was all of the file
+    pub read_whole : at t ≡ end t → end s ≡ length (written (disk s)) → bytes_of_calls answers ≡ written (disk s)
+    read_whole ended long =
+        let ends = end_of gives name disk at end tells written may_leave moment left_since step answers s t calls in
+        ext_get_or 0 (bytes_of_calls answers) (written (disk s)) (omega (arith, read_so_far, ended, long, ends))
+        (λ j lt. read_bytes gives at (Known gives name disk at end tells written may_leave moment left_since step s)
+        (written (disk s)) (known_step gives name disk at end tells written may_leave moment left_since step s)
+        answers s t (told, refl) calls j lt
+        ∙ ap (λ (i : ℕ). get_or (written (disk s)) i 0) (omega (arith, begins)))
+
+    pub read_within : at t ≤ end t → length (bytes_of_calls answers) ≤ end s
+    read_within within =
+        let ends = end_of gives name disk at end tells written may_leave moment left_since step answers s t calls in
+        omega (arith, read_so_far, within, ends)

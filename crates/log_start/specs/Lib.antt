@@ -1,0 +1,4 @@
+pub mod Found
+pub mod Fronts
+pub mod Records
+pub mod Starts

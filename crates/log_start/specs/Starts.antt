@@ -1,0 +1,147 @@
+-- How a log is started.
+--     WasLeft .. disk l block     an earlier life left the file so: it has the log, and of the next block any part
+--     MayGoOn .. disk l block     where the file can be read as a log, it was left so
+--     GoesOn .. old new l block   what a loss of power leaves of the file at any moment of a start
+--     IsJoined s v bytes list     the bytes are a log, and a start makes this list of it and the known one
+--     IsList .. list              the list that a start gives: the known one where no log was found, or one so joined
+--     RefusesStart .. fault       why there is no start
+use Rattle.std.specs.Prelude.{◌≡◌, ◌≢◌, ◌⊎◌, ℕ, ◌+◌, ◌^◌, ◌<◌, List, length, drop, Option, None, Ok}
+use Rattle.batch_store.specs.Setups.{Setting}
+use Rattle.batch_store.specs.Batches.{Submission}
+use Rattle.batch_store.specs.Books.{Listing}
+use Rattle.log_blocks.specs.Blocks.{Block, IsBlock, batches_in, place_behind}
+use Rattle.log_blocks.specs.Files.{IsSame, recovered}
+use Rattle.log_blocks.specs.declared.fault.LogFault.{LogFault}
+use Rattle.log_blocks.specs.declared.fault.LogKind.{LogKind}
+use Rattle.log_disk.specs.Disk.{LeavesOnly}
+use Rattle.log_head.specs.Heads.{HasHead}
+use Rattle.log_head.specs.declared.head.LogHead.{LogHead}
+use Rattle.log_join.specs.Joins.{Joins, RefusesJoin}
+use Rattle.log_join.specs.declared.fault.JoinFault.{JoinFault}
+use Rattle.log_file.specs.Logs.{Log, IsLog, IsReadAs, IsBeforeOrAfter, with_blocks}
+use Rattle.log_file.specs.Writer.{IsUnsettled}
+use Rattle.log_folder.specs.Names.{failed_calls}
+use Rattle.log_folder.specs.declared.fault.RotateFault.{RotateFault}
+use Rattle.log_start.specs.Found.{AreBytesOf, IsRefused, ReadsAs}
+use Rattle.log_start.specs.Records.{joined}
+use Rattle.log_start.specs.declared.fault.StartFault.{StartFault}
+
+-- ---- the file
+
+pub record WasLeft {D : Type 0} (written : D → List ℕ) (may_leave : D → List ℕ → Type 0) (disk : D) (l : Log)
+    (block : Block) : Type 0 where
+  pub unsettled : IsUnsettled written may_leave disk l block
+  pub is_log : IsLog l
+  pub block_is : IsBlock block
+  pub places : place_behind l.first l.blocks + batches_in block < 2 ^ 64
+  pub head : LogHead
+  pub has_head : HasHead l.head head
+  pub first_is : l.first ≡ head.first
+
+abbrev pub MayGoOn : {D : Type 0} → (D → List ℕ) → (D → List ℕ → Type 0) → D → Log → Block → Type 0
+MayGoOn written may_leave disk l block = (head : LogHead) (lists : List (List Submission)) →
+    ReadsAs (written disk) head lists → WasLeft written may_leave disk l block
+
+-- A loss of power leaves the log, with the next block or without. Where all that is read is durable, as after a loss of
+-- power, it leaves what is read.
+pub record GoesOn {D : Type 0} (written : D → List ℕ) (may_leave : D → List ℕ → Type 0) (moment : D → ℕ)
+    (left_since : D → ℕ → List ℕ → Type 0) (old new : D) (l : Log) (block : Block) : Type 0 where
+  pub any_moment : LeavesOnly moment left_since old new (IsBeforeOrAfter l block)
+  pub same_list : (found : List Block) → recovered l.first (drop 4096 (written old)) ≡ Ok found →
+      ((left : List ℕ) → may_leave old left → IsSame left (written old)) →
+      LeavesOnly moment left_since old new (IsReadAs (with_blocks l found))
+
+-- ---- the list
+
+pub record IsJoined (s : Setting) (v : Listing) (bytes : List ℕ) (list : Listing) : Type 0 where
+  pub head : LogHead
+  pub lists : List (List Submission)
+  pub read : ReadsAs bytes head lists
+  pub joins : Joins s v head (joined lists) list
+
+-- a folder that tells its files lent one of which these are the bytes
+abbrev pub AreOfFile : {D : Type 0} → Type 0 → (D → Type 0) → (D → List ℕ) → List ℕ → Type 0
+AreOfFile {D} folder_tells stored written bytes = folder_tells → (disk : D) × stored disk × (bytes ≡ written disk)
+
+abbrev pub IsList : {D : Type 0} → Type 0 → (D → Type 0) → (D → List ℕ) → Option ℕ → Setting → Listing → Listing
+    → Type 0
+IsList folder_tells stored written named s v list =
+    ((list ≡ v) × (folder_tells → named ≡ None))
+    ⊎ ((bytes : List ℕ) × IsJoined s v bytes list × AreOfFile folder_tells stored written bytes)
+
+-- ---- the refusals
+
+-- how each is told
+abbrev pub of_join : JoinFault → StartFault
+of_join JoinFault.SetupDiffers = StartFault.SetupDiffers
+of_join (JoinFault.Gap first) = StartFault.Gap first
+of_join JoinFault.LinkDiffers = StartFault.LinkDiffers
+of_join (JoinFault.EntryDiffers at) = StartFault.EntryDiffers at
+of_join (JoinFault.NotFresh at) = StartFault.NotFresh at
+of_join JoinFault.Memory = StartFault.Memory
+
+abbrev pub of_rotate : RotateFault → StartFault
+of_rotate RotateFault.Create = StartFault.Create
+of_rotate RotateFault.Write = StartFault.Write
+of_rotate RotateFault.Sync = StartFault.Sync
+of_rotate RotateFault.Rename = StartFault.Rename
+
+-- the file that was found isn't a log, or can't be read
+pub record RefusesFile {D : Type 0} (tells : D → Type 0) (written : D → List ℕ) (failures : D → ℕ) (old : D)
+    (len : ℕ) (fault : StartFault) : Type 0 where
+  pub why : LogFault
+  pub fault_is : fault ≡ StartFault.Log why
+  pub no_memory : why.kind ≢ LogKind.Memory
+  pub new : D
+  pub refused : IsRefused tells written failures old new len why
+
+-- it is one, which doesn't belong to the known list
+pub record RefusesBoth {D : Type 0} (tells : D → Type 0) (written : D → List ℕ) (old : D) (len : ℕ) (s : Setting)
+    (v : Listing) (fault : StartFault) : Type 0 where
+  pub why : JoinFault
+  pub fault_is : fault ≡ of_join why
+  pub bytes : List ℕ
+  pub head : LogHead
+  pub lists : List (List Submission)
+  pub are_bytes : AreBytesOf tells written old len bytes
+  pub read : ReadsAs bytes head lists
+  pub refused : RefusesJoin s v head (joined lists) why
+
+-- A call of it failed while it was settled. It can be settled again, and a loss of power meanwhile left the log, with the
+-- next block or without.
+pub record FailsFile {D : Type 0} (tells : D → Type 0) (written : D → List ℕ) (may_leave : D → List ℕ → Type 0)
+    (moment : D → ℕ) (left_since : D → ℕ → List ℕ → Type 0) (failures : D → ℕ) (old : D) (l : Log) (block : Block)
+    (fault : StartFault) : Type 0 where
+  pub fault_is : fault ≡ StartFault.Sync
+  pub new : D
+  pub failed : failures new ≡ failures old + 1
+  pub unsettled : tells old → IsUnsettled written may_leave new l block
+  pub any_moment : tells old → LeavesOnly moment left_since old new (IsBeforeOrAfter l block)
+
+-- no log was begun
+pub record FailsNew (old new : ℕ) (fault : StartFault) : Type 0 where
+  pub why : RotateFault
+  pub fault_is : fault ≡ of_rotate why
+  pub failed : new ≡ old + failed_calls why
+
+-- the names weren't synced, or the file not opened
+abbrev pub FailsToFind : ℕ → ℕ → StartFault → Type 0
+FailsToFind old new fault = ((fault ≡ StartFault.Sync) ⊎ (fault ≡ StartFault.Create)) × (new ≡ old + 1)
+
+-- where a file was found
+abbrev pub RefusesFound : {D : Type 0} → (D → Type 0) → (D → List ℕ) → (D → List ℕ → Type 0) → (D → ℕ)
+    → (D → ℕ → List ℕ → Type 0) → (D → ℕ) → D → ℕ → Log → Block → Setting → Listing → ℕ → ℕ → StartFault → Type 0
+RefusesFound tells written may_leave moment left_since failures file len l block s v old new fault =
+    (fault ≡ StartFault.Memory)
+    ⊎ (RefusesFile tells written failures file len fault
+    ⊎ (RefusesBoth tells written file len s v fault
+    ⊎ (FailsFile tells written may_leave moment left_since failures file l block fault
+    ⊎ FailsNew old new fault)))
+
+abbrev pub RefusesStart : {D : Type 0} → Type 0 → (D → Type 0) → (D → Type 0) → (D → List ℕ) → (D → List ℕ → Type 0)
+    → (D → ℕ) → (D → ℕ → List ℕ → Type 0) → (D → ℕ) → Log → Block → Setting → Listing → ℕ → ℕ → StartFault → Type 0
+RefusesStart {D} folder_tells stored tells written may_leave moment left_since failures l block s v old new fault =
+    FailsToFind old new fault
+    ⊎ (FailsNew old new fault
+    ⊎ ((file : D) × (len : ℕ) × (folder_tells → stored file × (len ≡ length (written file)))
+    × RefusesFound tells written may_leave moment left_since failures file len l block s v old new fault))

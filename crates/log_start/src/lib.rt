@@ -1,0 +1,14 @@
+//! Starts a log: finds it, reads it, joins it with a snapshot's list, and settles it, or begins it anew.
+#![tactic(auto)]
+
+mod fault;
+mod head;
+mod join;
+mod read;
+mod settle;
+mod start;
+mod told;
+
+pub use fault::StartFault;
+pub use head::head_of;
+pub use start::{Started, start_log};

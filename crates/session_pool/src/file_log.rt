@@ -1,0 +1,64 @@
+//! A log in a file.
+ghost use Rattle.std.specs.Prelude.{◌≡◌};
+
+use batch_store::Batch;
+use log_desk::{Log, LogFailed, RoomFault};
+use log_folder::FileDisk;
+use std::sync::Arc;
+use stored_log::StoredLog;
+
+/// A log in a file of the system: a `StoredLog` as a type of its own, which has no parameters.
+#[derive(Drop)]
+pub struct FileLog {
+    pub(crate) stored: StoredLog<FileDisk>,
+}
+
+impl FileLog {
+    /// This log.
+    pub fn new(stored: StoredLog<FileDisk>) -> FileLog
+        ensures { result.stored ≡ stored }
+    {
+        FileLog { stored }
+    }
+}
+
+impl Log for FileLog {
+    ghost use Rattle.std.specs.Prelude.{⊤, []};
+    ghost use Rattle.log_folder.specs.declared.file_disk.FileDisk.{FileDisk};
+    ghost use Rattle.stored_log.specs.Kept.{is_failed, room_of, WasSynced, HasFailed, WasFull};
+    ghost use Rattle.stored_log.specs.Sizes.{pages_taken};
+
+    ghost durable = { λ l. l.stored.entries };
+
+    ghost failed = { λ l. is_failed (λ (d : FileDisk). d.in_doubt) l.stored.in_use };
+
+    ghost ready = { λ l. room_of l.stored.in_use };
+
+    ghost takes = { pages_taken };
+
+    ghost was_synced = { WasSynced ⊥ (λ (d : FileDisk). ⊥) (λ d. []) (λ d left. ⊥) };
+
+    ghost has_failed = { HasFailed (λ (d : FileDisk). d.in_doubt) ⊤ };
+
+    ghost was_full = { WasFull (λ (d : FileDisk). d.failures) };
+
+    fn is_failed(&self) -> bool {
+        self.stored.is_failed()
+    }
+
+    fn room(&self) -> u64 {
+        self.stored.room()
+    }
+
+    fn pages_of(batches: &[Arc<Batch>]) -> u64 {
+        <StoredLog<FileDisk> as Log>::pages_of(batches)
+    }
+
+    fn append(&mut self, batches: &[Arc<Batch>]) -> Result<(), LogFailed> {
+        self.stored.append(batches)
+    }
+
+    fn make_room(&mut self, pages: u64) -> Result<(), RoomFault> {
+        self.stored.make_room(pages)
+    }
+}

@@ -1,0 +1,65 @@
+//! What a save asks of the folder of a log.
+ghost use Rattle.std.specs.Prelude.{◌≡◌, ◌⊎◌, ℕ, List, true, false, IfOk, OnOk, OnErr};
+ghost use Rattle.batch_store.specs.declared.verdict.Entry.{Entry};
+ghost use Rattle.batch_store.specs.Accepted.{entries_in};
+ghost use Rattle.batch_store.specs.Books.{AreAccepted, accepted_in};
+
+use batch_store::{BookList, Setup};
+use log_desk::Log;
+use snap_file::SaveFault;
+use std::alloc::Global;
+
+/// A place where a log can be begun anew. As of a `Disk`, workers know this trait, and every runtime with files has it
+/// for logs in files.
+///
+/// `path` is that of the log, and `snapshot` that of the snapshot beside which it stands, if there is one.
+pub trait LogPlace<L: Log> {
+    // What it has answered to be named: under this path, a log of these entries. Of a real folder's files no clause can
+    // speak, so there it is any; but since callers are proved for every place, a log that they tell to have taken the
+    // place of another was named by it.
+    ghost names: { Self → List ℕ → List Entry → Type 0 };
+
+    /// Makes a new log beside the one under `path`, without blocks, behind what the list tells. The one in use isn't
+    /// touched.
+    ///
+    /// # Errors
+    ///
+    /// `Memory`, `Create`, `Write` or `Sync` where that step failed. The new file is removed then, where that can be
+    /// done.
+    fn begin_log(
+        &self,
+        alloc: Global,
+        path: &str,
+        snapshot: Option<&str>,
+        setup: &Setup,
+        list: &BookList,
+    ) -> Result<L, SaveFault>
+        requires accepted { AreAccepted setup.now (accepted_in list.now) }
+        ensures working { IfOk result (λ new. L.failed new ≡ false) }
+        ensures durable { IfOk result (λ new. L.durable new ≡ entries_in (accepted_in list.now)) }
+        ensures synced { IfOk result (λ new. L.was_synced (L.durable new)) };
+
+    /// Gives the new log the name, and makes that durable. Then it is in use, and the other one is closed.
+    ///
+    /// # Errors
+    ///
+    /// `Memory` where the folder couldn't be named: the log in use stands as it was, and the new one is given up.
+    /// `Rename` where the new log wasn't renamed or the folder not synced. Then none is in use, since a loss of power
+    /// may leave either: the log is failed.
+    fn name_log(
+        &self,
+        alloc: Global,
+        path: &str,
+        snapshot: Option<&str>,
+        in_use: &mut L,
+        new: L,
+    ) -> Result<(), SaveFault>
+        requires working { L.failed new ≡ false }
+        ensures working { OnOk result (L.failed in_use.new ≡ false) }
+        ensures durable { OnOk result (L.durable in_use.new ≡ L.durable new) }
+        ensures named { OnOk result (names self.now path.now (L.durable new)) }
+        ensures stands { OnErr result ((in_use.new ≡ in_use.old) ⊎ ((L.failed in_use.new ≡ true) × L.has_failed)) };
+
+    /// Gives a new log up: it is closed, and removed where that can be done. The one in use isn't touched.
+    fn abandon_log(&self, alloc: Global, path: &str, new: L);
+}

@@ -1,0 +1,218 @@
+//! How a new log takes the place of the one in use, behind a list that was saved.
+ghost use Rattle.std.specs.Prelude.{◌≡◌, ◌≤◌, List, false, length, IfOk, OnOk};
+ghost use Rattle.batch_store.specs.declared.verdict.Entry.{Entry};
+ghost use Rattle.batch_store.specs.Accepted.{entries_in};
+ghost use Rattle.batch_store.specs.Books.{AreAccepted, accepted_in};
+
+use crate::log_place::LogPlace;
+use batch_store::{BookList, Setup};
+use byte_io::WriteFault;
+use locked_engine::{Engine, Named, Version};
+use log_desk::{DeskFault, Durable, Group, Log, LogDesk, Turn, TurnWork};
+use snap_file::SaveFault;
+use std::alloc::Global;
+use std::sync::Wait;
+use std::sync::ledger::Ledger;
+
+/// Where a log stands, and the snapshot beside it, if there is one.
+#[derive(Clone, Copy)]
+pub(crate) struct LogNames<'a> {
+    pub log: &'a str,
+    pub snapshot: Option<&'a str>,
+}
+
+// Why nothing more was written to a new log.
+fn not_written(fault: DeskFault) -> SaveFault {
+    match fault {
+        DeskFault::LogFailed => SaveFault::Sync,
+        DeskFault::LogFull | DeskFault::HistoriesDiffer => {
+            SaveFault::Write(WriteFault { written: 0 })
+        }
+    }
+}
+
+// Begins a new log behind a list, whose entries these are.
+fn begin<N: Named, L: Log, R: LogPlace<L>>(
+    rt: &R,
+    alloc: Global,
+    names: LogNames<'_>,
+    setup: &Setup,
+    list: &BookList,
+    shown: Version<N>,
+) -> Result<Turn<N, L>, SaveFault>
+    requires accepted { AreAccepted setup.now (accepted_in list.now) }
+    requires shown { shown ≡ entries_in (accepted_in list.now) }
+    ensures { IfOk result (λ new. new.failed ≡ false) }
+{
+    let Ok(group) = Group::new(alloc, shown.again()) else {
+        return Err(SaveFault::Memory);
+    };
+    match rt.begin_log(alloc, names.log, names.snapshot, setup, list) {
+        Ok(log) => Ok(Turn::new(log, Durable::all_of(&shown), group)),
+        Err(fault) => Err(fault),
+    }
+}
+
+// Appends to a new log what the book has, until so many entries are in it.
+fn catch_up<N: Named, H: Ledger, L: Log, R: Wait>(
+    rt: &R,
+    engine: &Engine<N, H>,
+    new: &mut Turn<N, L>,
+    count: u64,
+) -> Result<(), DeskFault>
+    requires works { new.old.failed ≡ false }
+    ensures works { OnOk result (new.new.failed ≡ false) }
+    ensures whole { OnOk result (count ≤ length new.new.durable) }
+{
+    while new.durable().count() < count {
+        if let Err(fault) = new.write_group(rt, engine) {
+            return Err(fault);
+        }
+    }
+    Ok(())
+}
+
+// Makes a stretch of room in a new log, and appends to it what the book has, until so many entries are in it.
+fn prepare<N: Named, H: Ledger, L: Log, R: Wait>(
+    rt: &R,
+    engine: &Engine<N, H>,
+    new: &mut Turn<N, L>,
+    count: u64,
+) -> Result<(), DeskFault>
+    requires works { new.old.failed ≡ false }
+    ensures works { OnOk result (new.new.failed ≡ false) }
+{
+    if let Err(fault) = new.make_room(0) {
+        return Err(fault);
+    }
+    catch_up(rt, engine, new, count)
+}
+
+// Appends to a new log what the book has, until so many entries are in it, and makes as many pages ready as are
+// promised.
+fn complete<N: Named, H: Ledger, L: Log, R: Wait>(
+    rt: &R,
+    engine: &Engine<N, H>,
+    new: &mut Turn<N, L>,
+    count: u64,
+    promised: u64,
+) -> Result<(), DeskFault>
+    requires works { new.old.failed ≡ false }
+    ensures works { OnOk result (new.new.failed ≡ false) }
+    ensures whole { OnOk result (count ≤ length new.new.durable) }
+{
+    if let Err(fault) = catch_up(rt, engine, new, count) {
+        return Err(fault);
+    }
+    if new.room() >= promised {
+        return Ok(());
+    }
+    new.make_room(promised)
+}
+
+/// What is done with the log in its turn: the new one is brought to where the one in use is, and gets the name.
+struct Rotation<'a, N: Named, H: Ledger, L: Log, R> {
+    rt: &'a R,
+    alloc: Global,
+    engine: &'a Engine<N, H>,
+    names: LogNames<'a>,
+    new: Turn<N, L>,
+    pub ghost works: { new.failed ≡ false },
+}
+
+impl<'a, N: Named, H: Ledger, L: Log, R: Wait + LogPlace<L>> TurnWork<N, L, Result<(), SaveFault>>
+    for Rotation<'a, N, H, L, R> {
+    // A new log has got the name.
+    ghost gives = { λ s answer. OnOk answer ((entries : List Entry) × R.names s.rt.now s.names.log.now entries) };
+
+    fn run(self, log: &mut L, durable: &mut Durable<N, L>, promised: u64) -> Result<(), SaveFault> {
+        let Rotation {
+            rt,
+            alloc,
+            engine,
+            names,
+            mut new,
+        } = self;
+        let answer = complete(rt, engine, &mut new, durable.count(), promised);
+        if let Err(fault) = answer {
+            let (new, _) = new.into_log();
+            rt.abandon_log(alloc, names.log, new);
+            return Err(not_written(fault));
+        }
+        let (new, whole) = new.into_log();
+        if let Err(fault) = rt.name_log(alloc, names.log, names.snapshot, log, new) {
+            return Err(fault);
+        }
+        durable.learn(&whole);
+        Ok(())
+    }
+}
+
+/// Begins a new log behind a list that was saved, whose entries these are, and puts it in the place of the one in use,
+/// which may have failed. Puts go on but for the last step, for which no other thread has the turn: then the new one
+/// is brought to hold all that is durable, and to have as many pages ready as are promised.
+///
+/// # Errors
+///
+/// The log in use stands as it was, but after `Rename`: then it is failed.
+pub(crate) fn rotate<N: Named, H: Ledger, L: Log, R: Wait + LogPlace<L>>(
+    rt: &R,
+    alloc: Global,
+    engine: &Engine<N, H>,
+    desk: &LogDesk<N, L>,
+    names: LogNames<'_>,
+    list: &BookList,
+    shown: Version<N>,
+) -> Result<(), SaveFault>
+    requires accepted { AreAccepted N.setup (accepted_in list.now) }
+    requires shown { shown ≡ entries_in (accepted_in list.now) }
+    ensures { OnOk result ((entries : List Entry) × R.names rt.now names.entry.log.now entries) }
+{
+    let mut new = match begin(rt, alloc, names, &engine.setup(), list, shown) {
+        Ok(new) => new,
+        Err(fault) => return Err(fault),
+    };
+    let known = desk.known(rt);
+    let answer = prepare(rt, engine, &mut new, known.count());
+    if let Err(fault) = answer {
+        let (new, _) = new.into_log();
+        rt.abandon_log(alloc, names.log, new);
+        return Err(not_written(fault));
+    }
+    desk.with_turn(
+        rt,
+        Rotation {
+            rt,
+            alloc,
+            engine,
+            names,
+            new,
+        },
+    )
+}
+
+/// Begins a new log behind a list that was saved last, and puts it in the place of the one in use, which nobody uses any
+/// more. Both are closed.
+///
+/// # Errors
+///
+/// As `LogPlace` says.
+pub(crate) fn rotate_last<L: Log, R: LogPlace<L>>(
+    rt: &R,
+    alloc: Global,
+    names: LogNames<'_>,
+    setup: &Setup,
+    list: &BookList,
+    in_use: L,
+) -> Result<(), SaveFault>
+    requires { AreAccepted setup.now (accepted_in list.now) }
+    ensures { OnOk result (R.names rt.now names.entry.log.now (entries_in (accepted_in list.now))) }
+{
+    match rt.begin_log(alloc, names.log, names.snapshot, setup, list) {
+        Ok(new) => {
+            let mut in_use = in_use;
+            rt.name_log(alloc, names.log, names.snapshot, &mut in_use, new)
+        }
+        Err(fault) => Err(fault),
+    }
+}

@@ -1,0 +1,196 @@
+//! A log that threads share, as one session uses it.
+ghost use Rattle.std.specs.Prelude.{◌≡◌, ◌<◌, length, Some, Err, IfNone, OnOk};
+ghost use Rattle.std.specs.Arc.{arc_value};
+ghost use mathlib.Core.List.{IsPrefix};
+ghost use Rattle.session_pool.specs.Seats.{sight, SeatBegins, SeatSettles, IsStored};
+
+use batch_store::{Batch, Kept};
+use locked_engine::{Engine, Named, Seat, Status};
+use log_desk::{DeskFault, Durable, Log, LogDesk, Ticket};
+use std::alloc::Global;
+use std::marker::Model;
+use std::sync::ledger::Ledger;
+use std::sync::{Arc, Wait};
+use std::{mem, slice};
+use wire_proto::{PutRefusal, Settled};
+
+/// The desk of a log, what a session knows to be durable, and what it was promised for the puts that it has begun.
+///
+/// Contracts see what is known as durable. It isn't Drop: `end` gives back what is promised yet.
+pub struct SessionLog<'a, N: Named, L: Log> {
+    desk: &'a LogDesk<N, L>,
+    known: Durable<N, L>,
+    promised: Ticket,
+    // How many puts were begun and not yet settled. What they were promised goes back once there is none.
+    begun: u64,
+}
+
+impl<'a, N: Named, L: Log> Model for SessionLog<'a, N, L> {
+    ghost use Rattle.std.specs.Prelude.{List};
+    ghost use Rattle.batch_store.specs.declared.verdict.Entry.{Entry};
+
+    ghost Value = { List Entry };
+
+    ghost view = { λ l. l.known };
+}
+
+impl<'a, N: Named, L: Log> SessionLog<'a, N, L> {
+    /// The log at this desk, for a session that has begun nothing and knows this.
+    pub fn new(desk: &'a LogDesk<N, L>, known: Durable<N, L>) -> SessionLog<'a, N, L>
+        ensures { result ≡ known }
+    {
+        SessionLog {
+            desk,
+            known,
+            promised: Ticket::none(),
+            begun: 0,
+        }
+    }
+
+    /// The desk.
+    pub fn desk(&self) -> &'a LogDesk<N, L> {
+        self.desk
+    }
+
+    // Room for a batch, None where the log is full. Where it has failed there is none to be promised, and the batch is
+    // put all the same: a repeat is accepted if its first is durable.
+    fn enter<R: Wait>(&self, rt: &R, batch: &Arc<Batch>) -> Option<Ticket>
+        ensures { IfNone result L.was_full }
+    {
+        let pages = L::pages_of(slice::from_ref(batch));
+        match self.desk.enter(rt, pages) {
+            Ok(ticket) => Some(ticket),
+            Err(DeskFault::LogFull) => None,
+            Err(DeskFault::LogFailed | DeskFault::HistoriesDiffer) => Some(Ticket::none()),
+        }
+    }
+
+    // Keeps what was promised to a put that was begun, or gives it back where the put was refused.
+    fn keep<R: Wait>(&mut self, rt: &R, ticket: Ticket, is_begun: bool)
+        ensures { self.new ≡ self.old }
+    {
+        if is_begun {
+            self.promised.join(ticket);
+            self.begun = self.begun.saturating_add(1);
+        } else {
+            self.desk.leave(rt, ticket);
+        }
+    }
+
+    /// Has the log promise room for a batch, and the engine accept it.
+    ///
+    /// # Errors
+    ///
+    /// - `LogFull`: there is no room for the batch. The engine wasn't asked.
+    /// - `Put`: as `Engine::put` says. What was promised went back.
+    pub fn begin_put<H: Ledger, R: Wait>(
+        &mut self,
+        rt: &R,
+        alloc: Global,
+        engine: &Engine<N, H>,
+        seat: &mut Seat<N, H>,
+        batch: Arc<Batch>,
+    ) -> Result<Kept, PutRefusal>
+        requires rows { (arc_value batch).matrix.rows ≡ N.setup.rows }
+        requires cols { (arc_value batch).matrix.cols ≡ N.setup.cols }
+        ensures { SeatBegins N.setup L.was_full (sight seat.old (Some self.old)) (arc_value batch) result
+            (sight seat.new (Some self.new)) }
+    {
+        let Some(ticket) = self.enter(rt, &batch) else {
+            return Err(PutRefusal::LogFull);
+        };
+        let answer = engine.put(rt, alloc, seat, batch);
+        self.keep(rt, ticket, answer.is_ok());
+        Ok(answer?)
+    }
+
+    // Waits until a place is durable, without a lock where that is known.
+    fn wait<H: Ledger, R: Wait>(
+        &mut self,
+        rt: &R,
+        engine: &Engine<N, H>,
+        place: u64,
+    ) -> Result<(), DeskFault>
+        ensures later { IsPrefix self.old self.new }
+        ensures ok { OnOk result (place < length self.new) }
+        ensures told { result ≡ Err DeskFault.LogFailed → L.has_failed }
+    {
+        if place < self.known.count() {
+            return Ok(());
+        }
+        self.desk.wait(rt, engine, &mut self.known, place)
+    }
+
+    // One put less is begun. Where that was the last, all that was promised goes back.
+    fn settle_one<R: Wait>(&mut self, rt: &R)
+        ensures { self.new ≡ self.old }
+    {
+        self.begun = self.begun.saturating_sub(1);
+        if self.begun == 0 {
+            let promised = mem::replace(&mut self.promised, Ticket::none());
+            self.desk.leave(rt, promised);
+        }
+    }
+
+    // What is known of a place behind a wait that ended so.
+    fn settled<H: Ledger>(
+        &self,
+        seat: &Seat<N, H>,
+        place: u64,
+        answer: Result<(), DeskFault>,
+    ) -> Settled
+        requires ok { OnOk answer (place < length self.now) }
+        requires told { answer ≡ Err DeskFault.LogFailed → L.has_failed }
+        ensures { SeatSettles L.was_synced L.has_failed (sight seat.now (Some self.now)) place result
+            (sight seat.now (Some self.now)) }
+    {
+        match answer {
+            Ok(()) => {}
+            Err(DeskFault::LogFailed) => return Settled::LogFailed,
+            Err(DeskFault::LogFull | DeskFault::HistoriesDiffer) => return Settled::RecordsDiffer,
+        }
+        // What the seat was shown has the same there.
+        self.known.joins(&seat.version());
+        // A sync has made it durable.
+        let _status = self.known.status();
+        Settled::Durable
+    }
+
+    /// Waits until a place is durable, and tells what is known of it then. It takes no lock where that was known before,
+    /// but where no further put is begun, to give back what was promised.
+    pub fn settle<H: Ledger, R: Wait>(
+        &mut self,
+        rt: &R,
+        engine: &Engine<N, H>,
+        seat: &Seat<N, H>,
+        place: u64,
+    ) -> Settled
+        ensures { SeatSettles L.was_synced L.has_failed (sight seat.now (Some self.old)) place result
+            (sight seat.now (Some self.new)) }
+    {
+        let answer = self.wait(rt, engine, place);
+        self.settle_one(rt);
+        self.settled(seat, place, answer)
+    }
+
+    /// How many of the batches are durable, and their total.
+    pub fn stored<H: Ledger, R: Wait>(&mut self, rt: &R, seat: &Seat<N, H>) -> Status
+        ensures later { IsPrefix self.old self.new }
+        ensures stored { IsStored N.setup L.was_synced result seat.now.seen (Some self.new) }
+    {
+        let status = self.desk.stored(rt, &mut self.known);
+        self.known.joins(&seat.version());
+        status
+    }
+
+    /// Gives back what is promised yet, as where a session ended with puts that weren't settled.
+    pub fn end<R: Wait>(self, rt: &R) {
+        let SessionLog {
+            desk,
+            known: _,
+            promised,
+            begun: _,
+        } = self;
+        desk.leave(rt, promised);
+    }
+}

@@ -1,0 +1,77 @@
+//! Logs in files, for every runtime that has files.
+ghost use Rattle.std.specs.Prelude.{◌≡◌, ◌+◌, ◌<◌, ◌^◌, ⊤, false, IfOk};
+ghost use Rattle.batch_store.specs.Accepted.{entries_in};
+ghost use Rattle.batch_store.specs.Books.{AreAccepted, accepted_in};
+ghost use Rattle.snap_file.specs.Snapshots.{HasBase};
+ghost use Rattle.stored_log.specs.Kept.{WasSynced, is_failed};
+ghost use Rattle.socket_server.specs.Ends.{GoesOn};
+
+use crate::log_host::LogHost;
+use batch_store::{BookList, Setup};
+use log_folder::{FileLogFolder, FolderFault, LogFolder};
+use log_start::{StartFault, Started};
+use session_pool::FileLog;
+use std::alloc::Global;
+use std::fs::File;
+use std::rt::Files;
+use stored_log::StoredLog;
+
+// Why there is no folder of a log.
+fn folder_fault(fault: FolderFault) -> StartFault {
+    match fault {
+        FolderFault::Memory => StartFault::Memory,
+        FolderFault::OpenFailed => StartFault::Create,
+    }
+}
+
+// Starts the log of a folder that doesn't tell its files, whose files don't tell what they hold.
+fn start_untold<F: LogFolder>(
+    folder: &mut F,
+    alloc: Global,
+    setup: &Setup,
+    known: BookList,
+) -> Result<(StoredLog<F::Disk>, BookList), StartFault>
+    requires untold { F.tells folder.old → ⊥ }
+    requires untelling { F.Disk.telling → ⊥ }
+    requires failures { F.failure_count folder.old + 1 < 2 ^ 64 }
+    requires accepted { AreAccepted setup.now (accepted_in known) }
+    requires based { HasBase setup.now known }
+    ensures accepted { IfOk result (λ r. AreAccepted setup.now (accepted_in r.1)) }
+    ensures based { IfOk result (λ r. HasBase setup.now r.1) }
+    ensures later { IfOk result (λ r. GoesOn (accepted_in known) (accepted_in r.1)) }
+    ensures works { IfOk result (λ r. is_failed F.Disk.in_doubt r.0.in_use ≡ false) }
+    ensures entries { IfOk result (λ r. r.0.entries ≡ entries_in (accepted_in r.1)) }
+    ensures synced { IfOk result (λ r. WasSynced F.Disk.telling F.Disk.tells F.Disk.written F.Disk.may_leave
+        (entries_in (accepted_in r.1))) }
+{
+    let Started { log, list } = match log_start::start_log(folder, alloc, setup, known) {
+        Ok(started) => started,
+        Err(fault) => return Err(fault),
+    };
+    match StoredLog::new(alloc, log, &list) {
+        Ok(log) => Ok((log, list)),
+        Err(_) => Err(StartFault::Memory),
+    }
+}
+
+impl<R: Files<File = File>> LogHost<FileLog> for R {
+    ghost log_starts = { λ h path setup known answer. ⊤ };
+
+    fn start_log(
+        &self,
+        alloc: Global,
+        path: &str,
+        snapshot: Option<&str>,
+        setup: &Setup,
+        known: BookList,
+    ) -> Result<(FileLog, BookList), StartFault> {
+        let mut folder = match FileLogFolder::open(self, alloc, path, snapshot) {
+            Ok(folder) => folder,
+            Err(fault) => return Err(folder_fault(fault)),
+        };
+        match start_untold(&mut folder, alloc, setup, known) {
+            Ok((stored, list)) => Ok((FileLog::new(stored), list)),
+            Err(fault) => Err(fault),
+        }
+    }
+}

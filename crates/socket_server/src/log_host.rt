@@ -1,0 +1,47 @@
+//! What a server asks of the place of its log at the start.
+ghost use Rattle.std.specs.Prelude.{◌≡◌, ℕ, List, Result, IfOk, false, ⊤};
+ghost use Rattle.batch_store.specs.Accepted.{entries_in};
+ghost use Rattle.batch_store.specs.Books.{Listing, AreAccepted, accepted_in};
+ghost use Rattle.batch_store.specs.Setups.{Setting};
+ghost use Rattle.log_start.specs.declared.fault.StartFault.{StartFault};
+ghost use Rattle.snap_file.specs.Snapshots.{HasBase};
+ghost use Rattle.socket_server.specs.Ends.{GoesOn};
+ghost use Rattle.socket_server.specs.Starts.{started_list};
+
+use batch_store::{BookList, Setup};
+use log_desk::Log;
+use log_start::StartFault;
+use std::alloc::Global;
+
+/// A place where logs are found and begun. As with `Host`, a server knows this trait, and every runtime with files has
+/// it for logs in files.
+pub trait LogHost<L: Log> {
+    // What it has answered to a start of the log under this path, of this setup, over what is known: the list of both
+    // together, or why there is none. Of a real host's files no clause can speak, so there it is any.
+    ghost log_starts: { Self → List ℕ → Setting → Listing → Result Listing StartFault → Type 0 };
+
+    /// Starts the log under `path`, beside the snapshot under `snapshot`, if there is one: finds it and joins it with
+    /// what is known, or begins it behind that. The list is what is known and the log's batches behind it, all of them
+    /// durable. The caller holds the lock of the log's path.
+    ///
+    /// # Errors
+    ///
+    /// As `log_start::start_log` says.
+    fn start_log(
+        &self,
+        alloc: Global,
+        path: &str,
+        snapshot: Option<&str>,
+        setup: &Setup,
+        known: BookList,
+    ) -> Result<(L, BookList), StartFault>
+        requires accepted { AreAccepted setup.now (accepted_in known) }
+        requires based { HasBase setup.now known }
+        ensures answer { log_starts self.now path.now setup.now known (started_list result) }
+        ensures accepted { IfOk result (λ r. AreAccepted setup.now (accepted_in r.1)) }
+        ensures based { IfOk result (λ r. HasBase setup.now r.1) }
+        ensures later { IfOk result (λ r. GoesOn (accepted_in known) (accepted_in r.1)) }
+        ensures works { IfOk result (λ r. L.failed r.0 ≡ false) }
+        ensures durable { IfOk result (λ r. L.durable r.0 ≡ entries_in (accepted_in r.1)) }
+        ensures synced { IfOk result (λ r. L.was_synced (entries_in (accepted_in r.1))) };
+}

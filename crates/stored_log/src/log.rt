@@ -1,0 +1,87 @@
+//! What a desk asks of a log, by a log on a disk.
+ghost use Rattle.std.specs.Prelude.{◌≡◌, ◌≢◌, ◌≤◌, ◌<◌, ◌++◌, length, Err, OnOk, OnErr, true, false};
+ghost use Rattle.batch_store.specs.Batches.{entries_of, values};
+ghost use Rattle.log_desk.specs.declared.fault.RoomFault.{RoomFault};
+ghost use Rattle.stored_log.specs.Kept.{is_failed, number_of, room_of, HasFailed, WasFull, WasSynced};
+ghost use Rattle.stored_log.specs.Sizes.{pages_taken};
+
+use crate::block::pages_of;
+use crate::stored::StoredLog;
+use batch_store::Batch;
+use log_desk::{Log, LogFailed, RoomFault};
+use log_disk::LogDisk;
+use log_file::RoomFault as DiskFault;
+use std::sync::Arc;
+
+impl<D: LogDisk + Drop> Log for StoredLog<D> {
+    ghost durable = { λ s. s.entries };
+
+    ghost failed = { λ s. is_failed D.in_doubt s.in_use };
+
+    ghost ready = { λ s. room_of s.in_use };
+
+    ghost takes = { pages_taken };
+
+    ghost was_synced = { WasSynced D.telling D.tells D.written D.may_leave };
+
+    ghost has_failed = { HasFailed D.in_doubt D.lost_name };
+
+    ghost was_full = { WasFull D.failure_count };
+
+    fn is_failed(&self) -> bool {
+        match &self.in_use {
+            Some(log) => log.file.disk.is_in_doubt(),
+            None => true,
+        }
+    }
+
+    fn room(&self) -> u64 {
+        match &self.in_use {
+            Some(log) => log.writer.room(),
+            None => 0,
+        }
+    }
+
+    /// 2^64 - 1 where they are more than the largest block of a group takes.
+    fn pages_of(batches: &[Arc<Batch>]) -> u64 {
+        pages_of(batches)
+    }
+
+    fn append(&mut self, batches: &[Arc<Batch>]) -> Result<(), LogFailed>
+        requires working { is_failed D.in_doubt self.old.in_use ≡ false }
+        requires room { pages_taken (values batches.now) ≤ room_of self.old.in_use }
+        ensures working { OnOk result (is_failed D.in_doubt self.new.in_use ≡ false) }
+        ensures durable { OnOk result (self.new.entries ≡ self.old.entries ++ entries_of (values batches.now)) }
+        ensures synced { OnOk result (WasSynced D.telling D.tells D.written D.may_leave self.new.entries) }
+        ensures broken { OnErr result (is_failed D.in_doubt self.new.in_use ≡ true) }
+        ensures told { OnErr result (HasFailed D.in_doubt D.lost_name) }
+        ensures file { number_of self.new.in_use ≡ number_of self.old.in_use }
+    {
+        if batches.is_empty() {
+            self.is_synced();
+            return Ok(());
+        }
+        match self.write(batches) {
+            Ok(()) => Ok(()),
+            Err(_) => Err(LogFailed),
+        }
+    }
+
+    /// A file has at most 268,435,456 pages, and nothing more is to be had behind those.
+    fn make_room(&mut self, pages: u64) -> Result<(), RoomFault>
+        requires working { is_failed D.in_doubt self.old.in_use ≡ false }
+        ensures working { result ≢ Err RoomFault.Failed → is_failed D.in_doubt self.new.in_use ≡ false }
+        ensures room { OnOk result (pages ≤ room_of self.new.in_use) }
+        ensures durable { is_failed D.in_doubt self.new.in_use ≡ false → self.new.entries ≡ self.old.entries }
+        ensures broken { result ≡ Err RoomFault.Failed → is_failed D.in_doubt self.new.in_use ≡ true }
+        ensures told { result ≡ Err RoomFault.Failed → HasFailed D.in_doubt D.lost_name }
+        ensures full { result ≡ Err RoomFault.Full → WasFull D.failure_count }
+        ensures file { number_of self.new.in_use ≡ number_of self.old.in_use }
+    {
+        match self.stretch(pages) {
+            Ok(()) => Ok(()),
+            Err(DiskFault::Full) => Err(RoomFault::Full),
+            Err(DiskFault::Failed) => Err(RoomFault::Failed),
+        }
+    }
+}

@@ -1,0 +1,539 @@
+#!/usr/bin/env python3
+"""Starts the built program as a server with a log, and compares what it answers, what the log has, and how it starts.
+
+    python3 tests/server_log.py PATH-TO-HHM
+
+Servers are killed, stopped and started again on logs that are whole, torn, damaged and another's; logs that are full or
+whose calls fail are in server_log_faults.py. What is wanted was worked out by hand from docs/FORMATS.md, and the bytes
+of logs are those of log_bytes.py. It prints a line for each check that fails and at the end `N passed, M failed`; the
+status is 1 where one fails. Linux, and nothing but Python's own library.
+"""
+import os
+import shutil
+import signal
+import socket
+import stat
+import struct
+import subprocess
+import sys
+import traceback
+
+import log_bytes
+import program
+import server
+from log_bytes import Log, block, entry_of, field, fields, head, log, pages_of
+from server import SMALL, WAIT, Server, accepted, check, content, put_frame, refused, text
+from server_faults import OTHER, SAVE, STATUS, STOP, STOPPING, asked, counts, in_folder, write
+
+FIVE, THREE, TWO = (7, 1, [(0, 0, 5)]), (8, 1, [(0, 0, 3)]), (9, 1, [(0, 0, 2)])
+STORED = struct.pack(">IB", 0, 9)
+PAGE = log_bytes.PAGE
+BOTH = entry_of(FIVE), entry_of(THREE)
+
+
+def put_of(batch):
+    """The frame of a put of a batch with one cell at the first place, as a text."""
+    return put_frame(batch[0], batch[1], text(batch[2][0][2]))
+
+
+def saved(batches):
+    return struct.pack(">IBQ", 8, 0x86, batches)
+
+
+def hhm(*words, **how):
+    """What the program writes to both outputs, and its status."""
+    ended = subprocess.run([server.PROGRAM, *words], capture_output=True, text=True, timeout=WAIT, **how)
+    return ended.stdout, ended.stderr, ended.returncode
+
+
+def started(*words, setup=SMALL, **how):
+    """The same of a server that takes no connection, without the line of its address."""
+    output, error, status = hhm("serve", "--tcp", "127.0.0.1:0", *setup, "--sessions", "0", *words, **how)
+    return output[output.find("\n") + 1 :] if output.startswith("listening") else output, error, status
+
+
+def stopped(batches, total):
+    return f"stopped batches {batches} total {total}\n", "", 0
+
+
+def snapshot_of(batches):
+    """The bytes of a snapshot in which nothing is folded."""
+    return program.snapshot(batches, sum(entry_of(it)[3] for it in batches), past=program.NONE)
+
+
+def kill(at, number=signal.SIGKILL):
+    at.process.send_signal(number)
+    at.process.wait(WAIT)
+
+
+def in_log(path):
+    """The bytes of a log without the zeros that are written ahead: up to the page behind its last block."""
+    held = content(path)
+    return held[: PAGE * Log(held).whole()]
+
+
+def two_are_logged(at, log_path):
+    """Two puts, and what the server and its log have then."""
+    with at.link() as link:
+        check("stored before", asked(link, STORED, 21), counts(0, 0))
+        check("the first", asked(link, put_of(FIVE), 21), accepted(0, 5))
+        check("the log of the first", in_log(log_path), log([[FIVE]]))
+        check("the second", asked(link, put_of(THREE), 21), accepted(1, 8))
+        check("stored", asked(link, STORED, 21), counts(2, 8))
+    held = content(log_path)
+    check("the log of both", held[: 3 * PAGE], log([[FIVE], [THREE]]))
+    check("zeros behind it", any(held[3 * PAGE :]), False)
+
+
+def what_was_accepted_outlasts_a_kill():
+    """The files behind a kill, and of a copy that was made before it: the same list, replies and lines."""
+    path, snap = in_folder("log"), in_folder("snap")
+    with Server([*SMALL, "--snapshot", snap, "--log", path]) as at:
+        two_are_logged(at, path)
+        shutil.copy(path, path + " copied")
+        kill(at)
+    check("no snapshot was written", os.path.exists(snap), False)
+    for name in [path, path + " copied"]:
+        lines = "rows 3 cols 3 shards 2 batches 2 total 8 entries 1\nlog first 0 batches 2 pages 3 rest 0\n"
+        check("check", hhm("check", snap, "--log", name), (lines, "", 0))
+        goes_on_after_a_kill(name, snap)
+        os.remove(snap)
+
+
+def goes_on_after_a_kill(path, snap):
+    with Server([*SMALL, "--snapshot", snap, "--log", path]) as at:
+        with at.link(False) as link:
+            check("status after a kill", asked(link, STATUS, 21), counts(2, 8))
+            check("stored after a kill", asked(link, STORED, 21), counts(2, 8))
+            check("the first again", asked(link, put_of(FIVE), 21), accepted(0, 5))
+            check("the second again", asked(link, put_of(THREE), 21), accepted(1, 8))
+            check("another under its number", asked(link, put_frame(7, 1, text(6)), 15), refused(30))
+            check("the log is as before", in_log(path), log([[FIVE], [THREE]]))
+            check("save", asked(link, SAVE, 13), saved(2))
+        begun_anew(path, snap)
+        with at.link() as link:
+            check("behind the save", asked(link, put_of(TWO), 21), accepted(2, 10))
+            check("its log", in_log(path), head(BOTH) + block(2, [TWO]))
+        kill(at)
+    lines = "rows 3 cols 3 shards 2 batches 3 total 10 entries 1\nlog first 2 batches 1 pages 2 rest 0\n"
+    check("check behind a save", hhm("check", snap, "--log", path), (lines, "", 0))
+    check("a start behind a save", started("--snapshot", snap, "--log", path), stopped(3, 10))
+    after = snapshot_of([FIVE, THREE, TWO])
+    check("what that saved", content(snap), after)
+    check("the log behind the last save", in_log(path), head((*BOTH, entry_of(TWO))))
+
+
+def begun_anew(path, snap):
+    """What stands after a save of both."""
+    check("the snapshot", content(snap), snapshot_of([FIVE, THREE]))
+    check("the log is begun anew", in_log(path), head(BOTH))
+    check("no other file is left", os.path.exists(path + ".new") or os.path.exists(snap + ".new"), False)
+    lines = "rows 3 cols 3 shards 2 batches 2 total 8 entries 1\nlog first 2 batches 0 pages 1 rest 0\n"
+    check("check after a save", hhm("check", snap, "--log", path), (lines, "", 0))
+
+
+def replies_are_the_same():
+    """A server with a log answers as one without, byte for byte, also frames that are cut anywhere."""
+    for unix in [True, False]:
+        server.frames_are_answered(unix, ["--log", in_folder(f"frames {unix}.log")])
+
+
+def many_in_one_piece():
+    """Sixteen puts that come at once are one block, or two, and each is answered, in order."""
+    path = in_folder("many.log")
+    words = ["--rows", "3", "--cols", "3", "--log", path]
+    with Server(words, tcp=False) as at:
+        batches = [(1, n, [(n % 3, 2, n)]) for n in range(64)]
+        frames = [struct.pack(">IBQQQQQ", 40, 8, 1, n, n % 3, 2, n) for n in range(64)]
+        totals = [sum(range(n + 1)) for n in range(64)]
+        done, blocks = 0, 0
+        for count in [1, 16, 40, 7]:
+            part = range(done, done + count)
+            with at.link() as link:
+                replies = asked(link, b"".join(frames[n] for n in part), 21 * count)
+            check(f"{count} at once", replies, b"".join(accepted(n, totals[n]) for n in part))
+            done, found = done + count, Log(content(path))
+            check(f"{count} at once: in the log", found.all_batches(), batches[:done])
+            check(f"{count} at once: few blocks", blocks < len(found.blocks) <= blocks + 2, True)
+            blocks = len(found.blocks)
+        kill(at)
+    check("all are there", started("--log", path, setup=words[:4]), stopped(64, totals[-1]))
+
+
+def a_log_alone_grows():
+    """Without a snapshot: saves are off, and the log has all batches after kills, a Stop and signals."""
+    path, total, known = in_folder("alone.log"), 0, []
+    for n, end in enumerate([signal.SIGKILL, signal.SIGTERM, None, signal.SIGINT, signal.SIGHUP, None]):
+        with Server([*SMALL, "--log", path]) as at:
+            with at.link(n % 2 == 0) as link:
+                check(f"alone {n}: all is there", asked(link, STATUS, 21), counts(n, total))
+                for place, batch in enumerate(known):
+                    before = accepted(place, sum(range(1, place + 2)))
+                    check(f"alone {n}: again", asked(link, put_of(batch), 21), before)
+                known.append((7, n, [(0, 0, n + 1)]))
+                total += n + 1
+                check(f"alone {n}: put", asked(link, put_of(known[-1]), 21), accepted(n, total))
+                check(f"alone {n}: save", asked(link, SAVE, 15), refused(43))
+                if end is None:
+                    check(f"alone {n}: stop", asked(link, STOP, 5), STOPPING)
+            if end is None:
+                at.ends(f"alone {n}", n + 1, total)
+            else:
+                kill(at, end)
+        check(f"alone {n}: the log", in_log(path), log([[batch] for batch in known]))
+
+
+def a_stop_saves_and_begins_the_log_anew():
+    path, snap = in_folder("ended.log"), in_folder("ended.snap")
+    for n in range(3):
+        with Server([*SMALL, "--snapshot", snap, "--log", path], tcp=False) as at:
+            with at.link() as link:
+                total = (n + 1) * (n + 2) // 2
+                check("put", asked(link, put_frame(7, n, text(n + 1)), 21), accepted(n, total))
+                check("stop", asked(link, STOP, 5), STOPPING)
+            at.ends("with both", n + 1, total)
+        batches = [(7, k, [(0, 0, k + 1)]) for k in range(n + 1)]
+        check("the snapshot at the end", content(snap), snapshot_of(batches))
+        check("the log at the end", in_log(path), head([entry_of(batch) for batch in batches]))
+    left = [name for name in os.listdir(server.FOLDER) if name.startswith("ended") and "new" in name]
+    check("what is left", left, [])
+
+
+def long_batches_take_pages():
+    """A batch of more than a page, one of more than 64 KiB, which is settled by itself, and one without cells."""
+    path, size = in_folder("long.log"), ["--rows", "100000", "--cols", "3"]
+    batches = [(1, 0, []), (1, 1, [(n, 0, 1) for n in range(500)]), (1, 2, [(n, 1, 2) for n in range(3000)]),
+               (1, 3, [(0, 0, 1)])]  # fmt: skip
+    frames = [struct.pack(">IBQQ", 16 + 24 * len(cells), 8, client, number) + b"".join(fields(*cell) for cell in cells)
+              for client, number, cells in batches]  # fmt: skip
+    with Server([*size, "--log", path], tcp=False) as at:
+        with at.link() as link:
+            replies = accepted(0, 0) + accepted(1, 500) + accepted(2, 6500) + accepted(3, 6501)
+            check("long batches", asked(link, b"".join(frames), len(replies)), replies)
+        found = Log(content(path))
+        check("long batches in the log", found.all_batches(), batches)
+        kill(at)
+    check("long batches after a kill", started("--log", path, setup=size), stopped(4, 6501))
+
+
+# The first n bytes of a log of two blocks, and how many batches are whole in them.
+FRONTS = [(PAGE, 0), (PAGE + 1, 0), (4175, 0), (4176, 1), (4177, 1), (8191, 1), (8192, 1), (8193, 1), (8271, 1),
+          (8272, 2), (8273, 2), (12287, 2), (12288, 2)]  # fmt: skip
+
+
+def a_torn_end_is_cut_off():
+    path, none = in_folder("torn.log"), in_folder("no.snap")
+    whole, steps = log([[FIVE], [THREE]]), [(0, 0), (1, 5), (2, 8)]
+    for size in [0, 1, PAGE - 1]:
+        write(path, whole[:size])
+        check(f"{size} bytes", started("--log", path), ("", "hhm: log: Truncated at page 0\n", 3))
+        check(f"{size} bytes: check", hhm("check", none, "--log", path), ("", "hhm: log: Truncated at page 0\n", 3))
+        check(f"{size} bytes: as before", content(path), whole[:size])
+    for size, count in FRONTS:
+        write(path, whole[:size])
+        rest = int(size > PAGE * (count + 1))
+        lines = log_bytes.check_line([FIVE, THREE][:count])
+        lines += f"\nlog first 0 batches {count} pages {1 + count} rest {rest}\n"
+        check(f"{size} bytes: check", hhm("check", none, "--log", path), (lines, "", 0))
+        check(f"{size} bytes: check writes nothing", content(path), whole[:size])
+        check(f"{size} bytes", started("--log", path), stopped(*steps[count]))
+        check(f"{size} bytes: settled", in_log(path), whole[: PAGE * (count + 1)])
+        with Server([*SMALL, "--log", path], tcp=False) as at:
+            with at.link() as link:
+                both = accepted(0, 5) + accepted(1, 8)
+                check(f"{size} bytes: again", asked(link, put_of(FIVE) + put_of(THREE), 42), both)
+            kill(at)
+        check(f"{size} bytes: both at last", started("--log", path), stopped(2, 8))
+
+
+def changed(held, place, byte):
+    return held[:place] + bytes([byte]) + held[place + 1 :]
+
+
+def bad_block(held):
+    return log([[FIVE]]) + pages_of(1, held)
+
+
+# Bytes that are no log, and what is told of them.
+NO_LOGS = [
+    (b"HHMSNAP\n" + head()[8:], "BadMark at page 0"),
+    (changed(head(), 11, 2), "BadVersion at page 0"),
+    (changed(head(), 19, 0), "BadHead at page 0"),
+    (head(first=11), "BadHead at page 0"),
+    (head(total=101), "BadHead at page 0"),
+    (changed(head(), 4095, 0), "HeadCheck at page 0"),
+    (changed(log([[FIVE]]), 60, 0x20), "HeadCheck at page 0"),
+    (head() + block(0, [FIVE]) + block(0, [FIVE]), "Damaged at page 2"),
+    (head() + block(1, [FIVE]), "Damaged at page 1"),
+    (changed(log([[FIVE], [THREE]]), 2 * PAGE + 79, 2), "Damaged at page 2"),
+    (log([[FIVE], [THREE]]) + bytes(PAGE) + block(3, [TWO]), "Damaged at page 4"),
+    (bad_block(fields(0)), "BadBlock at page 2"),
+    (bad_block(fields(1, 8, 1, 1, 3, 0, 3)), "BadBlock at page 2"),
+    (bad_block(fields(1, 8, 1, 2, 1, 0, 3, 0, 0, 3)), "BadBlock at page 2"),
+    (bad_block(fields(1, 8, 1, 1, 0, 0, 101)), "BadBlock at page 2"),
+    (bad_block(fields(1, 8, 1, 0, 1)), "BadBlock at page 2"),
+    (bad_block(fields(1, 8, 1, 0).ljust(PAGE, b"\0")), "BadBlock at page 2"),
+]
+
+
+def damage_is_told_and_stays():
+    path, none = in_folder("damaged.log"), in_folder("no.snap")
+    for held, fault in NO_LOGS:
+        write(path, held)
+        check(f"{fault}, {len(held)} bytes", started("--log", path), ("", f"hhm: log: {fault}\n", 3))
+        check(f"{fault}: check", hhm("check", none, "--log", path), ("", f"hhm: log: {fault}\n", 3))
+        check(f"{fault}: as before", content(path), held)
+    # A flipped bit of a block that another stands behind, and a byte of the last one that is lost.
+    whole, told = log([[FIVE], [THREE]]), []
+    for place in [PAGE, PAGE + 5, PAGE + 12, PAGE + 31, PAGE + 79, PAGE + 80, 2 * PAGE - 1]:
+        write(path, changed(whole, place, whole[place] ^ 1))
+        output, error, status = started("--log", path)
+        told.append((output, error, status) in [("", f"hhm: log: Damaged at page {page}\n", 3) for page in (1, 2)])
+    check("flipped bits", told, [True] * 7)
+    write(path, changed(whole, 2 * PAGE + 79, 0))
+    lines = log_bytes.check_line([FIVE]) + "\nlog first 0 batches 1 pages 2 rest 1\n"
+    check("a byte that is lost: check", hhm("check", none, "--log", path), (lines, "", 0))
+    check("a byte that is lost", started("--log", path), stopped(1, 5))
+
+
+# A snapshot's batches, a log, what is told of both, and the status.
+APART = [
+    (None, head([entry_of(FIVE)]), "log: Gap at batch 1", 3),
+    ([FIVE], head(BOTH) + block(2, [TWO]), "log: Gap at batch 2", 3),
+    ([TWO], head([entry_of(FIVE)]), "log: LinkDiffers", 3),
+    ([FIVE], head([entry_of(FIVE)], link=1), "log: LinkDiffers", 3),
+    ([FIVE], head([entry_of(FIVE)], total=6), "log: LinkDiffers", 3),
+    ([TWO], log([[FIVE]]), "log: EntryDiffers at batch 0", 3),
+    ([FIVE, TWO], log([[FIVE], [THREE]]), "log: EntryDiffers at batch 1", 3),
+    (None, log([[FIVE], [THREE], [FIVE]]), "log: NotFresh at batch 2", 3),
+    ([FIVE], log([[THREE]], [entry_of(FIVE)]) + block(2, [FIVE]), "log: NotFresh at batch 2", 3),
+    (None, log([[(7, n, [(0, 0, 60)]) for n in range(2)]]), "log: NotFresh at batch 1", 3),
+    (None, log([[(7, n, []) for n in range(11)]]), "log: NotFresh at batch 10", 3),
+    (None, log([[FIVE]], setup=log_bytes.Setup(limit=101)), "settings: LogDiffers", 2),
+    (None, log([[FIVE]], setup=log_bytes.Setup(cuts=(2, 5))), "settings: LogDiffers", 2),
+    (None, log([[FIVE]], setup=log_bytes.Setup(rows=4)), "settings: LogDiffers", 2),
+    ([FIVE], log([[FIVE]], setup=log_bytes.Setup(limit=101)), "settings: LogDiffers", 2),
+]
+
+
+def snapshots_and_logs_that_differ_are_told():
+    for place, (batches, held, fault, status) in enumerate(APART):
+        path, snap = in_folder(f"apart {place}.log"), in_folder(f"apart {place}.snap")
+        write(path, held)
+        before = None
+        if batches is not None:
+            before = snapshot_of(batches)
+            write(snap, before)
+        wanted = ("", f"hhm: {fault}\n", status)
+        check(f"{fault}, {place}", started("--snapshot", snap, "--log", path), wanted)
+        if fault != "settings: LogDiffers" or before is not None:
+            check(f"{fault}, {place}: check", hhm("check", snap, "--log", path), wanted)
+        check(f"{fault}, {place}: the log", content(path), held)
+        check(f"{fault}, {place}: the snapshot", content(snap) if os.path.exists(snap) else None, before)
+
+
+def a_lost_snapshot_is_a_gap():
+    """A log that was begun behind a snapshot, which was removed then: no server starts on it."""
+    path, snap = in_folder("gap.log"), in_folder("gap.snap")
+    write(path, log([[FIVE], [THREE]]))
+    check("a first end", started("--snapshot", snap, "--log", path), stopped(2, 8))
+    os.rename(snap, snap + ".away")
+    for words in [["--snapshot", snap], []]:
+        check("a gap", started(*words, "--log", path), ("", "hhm: log: Gap at batch 2\n", 3))
+    check("the log stays", in_log(path), head(BOTH))
+    os.rename(snap + ".away", snap)
+    check("with its snapshot again", started("--snapshot", snap, "--log", path), stopped(2, 8))
+
+
+def logs_beside_longer_and_shorter_snapshots():
+    """A log that has less than the snapshot is begun anew; of what both have each counts once."""
+    path, snap = in_folder("beside.log"), in_folder("beside.snap")
+    two = snapshot_of([FIVE, THREE])
+    folded = program.snapshot([THREE], 8, past=program.FIVE)
+    for held, first in [(None, 2), (log([[FIVE]]), 2), (log([[FIVE, THREE]]), 0), (head(BOTH), 2),
+                        (log([[THREE]], [entry_of(FIVE)]), 1)]:  # fmt: skip
+        for before in [two, folded]:
+            write(snap, before)
+            if os.path.exists(path):
+                os.remove(path)
+            if held is not None:
+                write(path, held)
+            with Server([*SMALL, "--snapshot", snap, "--log", path], tcp=False) as at:
+                check(f"first {first}: the head", Log(content(path)).first, first)
+                with at.link() as link:
+                    check(f"first {first}: put", asked(link, put_of(TWO), 21), accepted(2, 10))
+                    check(f"first {first}: again", asked(link, put_of(FIVE), 21), accepted(0, 5))
+                kill(at)
+            check(f"first {first}: the last block", in_log(path).endswith(block(2, [TWO])), True)
+            check(f"first {first}: all", started("--snapshot", snap, "--log", path), stopped(3, 10))
+
+
+def a_fold_between_two_starts():
+    """A snapshot that is folded belongs to the log as before."""
+    path, snap = in_folder("folded.log"), in_folder("folded.snap")
+    with Server([*SMALL, "--snapshot", snap, "--log", path], tcp=False) as at:
+        with at.link() as link:
+            replies = accepted(0, 5) + accepted(1, 8) + saved(2)
+            check("two", asked(link, put_of(FIVE) + put_of(THREE) + SAVE, 55), replies)
+            check("a third", asked(link, put_of(TWO), 21), accepted(2, 10))
+        kill(at)
+    check("fold", hhm("fold", snap), ("folded 2 total 8\n", "", 0))
+    lines = "rows 3 cols 3 shards 2 batches 3 total 10 entries 1\nlog first 2 batches 1 pages 2 rest 0\n"
+    check("check of both", hhm("check", snap, "--log", path), (lines, "", 0))
+    check("a start on both", started("--snapshot", snap, "--log", path), stopped(3, 10))
+
+
+def a_second_server_is_told():
+    path, snap = in_folder("busy.log"), in_folder("busy.snap")
+    busy = ("", "hhm: log: Busy\n", 4)
+    with Server([*SMALL, "--log", path], tcp=False) as at:
+        with at.link() as link:
+            check("put", asked(link, put_of(FIVE), 21), accepted(0, 5))
+            for words in [[], ["--snapshot", snap]]:
+                check(f"a second server, {words}", started("--log", path, *words), busy)
+            check("nothing is saved", os.path.exists(snap), False)
+            lines = log_bytes.check_line([FIVE]) + "\nlog first 0 batches 1 pages 2 rest 0\n"
+            check("a check beside a server", hhm("check", snap, "--log", path), (lines, "", 0))
+            check("put more", asked(link, put_of(THREE), 21), accepted(1, 8))
+        kill(at)
+    check("a killed one gives it back", started("--log", path), stopped(2, 8))
+    check("one path for both", started("--log", snap, "--snapshot", snap), ("", "hhm: settings: SamePath\n", 2))
+
+
+def what_is_no_file_is_told():
+    """A folder, a FIFO, a socket, a device, a link to one, and folders that aren't there: nothing waits or is replaced.
+    """
+    folder, fifo, bound, link = (in_folder(name) for name in ["a folder", "a fifo", "a socket", "a link to a fifo"])
+    os.mkdir(folder)
+    os.mkfifo(fifo)
+    os.symlink(fifo, link)
+    with socket.socket(socket.AF_UNIX) as listener:
+        listener.bind(bound)
+    for path in [folder, fifo, bound, link, "/dev/null", "/dev/zero", in_folder("no/log"), os.path.join(fifo, "log")]:
+        before = os.stat(path).st_mode if os.path.exists(path) else None
+        check(f"{path} as a log", started("--log", path), ("", "hhm: log: Create\n", 4))
+        check(f"{path} stays", os.stat(path).st_mode if os.path.exists(path) else None, before)
+
+
+def links_are_followed_once():
+    """A link as a log leads to it. The log that is begun anew takes the link's place, and what it led to stays."""
+    held, path, snap = in_folder("led to.log"), in_folder("link.log"), in_folder("link.snap")
+    write(held, log([[FIVE]]))
+    os.symlink(held, path)
+    with Server([*SMALL, "--snapshot", snap, "--log", path], tcp=False) as at:
+        with at.link() as link:
+            check("a link: put", asked(link, put_of(THREE), 21), accepted(1, 8))
+            check("a link: it leads there", (os.path.islink(path), in_log(held)), (True, log([[FIVE], [THREE]])))
+            check("a link: save", asked(link, SAVE, 13), saved(2))
+            check("a link: put more", asked(link, put_of(TWO), 21), accepted(2, 10))
+        kill(at)
+    check("a link: a plain file now", stat.S_ISREG(os.lstat(path).st_mode), True)
+    check("a link: what it led to", in_log(held), log([[FIVE], [THREE]]))
+    check("a link: all", started("--snapshot", snap, "--log", path), stopped(3, 10))
+    nothing = in_folder("link to nothing")
+    os.symlink(in_folder("nothing"), nothing)
+    check("a link to nothing", started("--log", nothing), stopped(0, 0))
+    check("a link to nothing: a log now", in_log(nothing), head())
+
+
+def rights_that_lack_are_told():
+    """A user who may not read the log, not write it, or not make one. Tried where this program may become another."""
+    if os.getuid() != 0:
+        return
+    own, folder = in_folder("program of all"), in_folder("rights")
+    shutil.copy(server.PROGRAM, own)
+    os.chmod(own, 0o755)
+    os.chmod(server.FOLDER, 0o755)
+    os.mkdir(folder)
+
+    def as_other():
+        os.setgroups([])
+        os.setgid(OTHER)
+        os.setuid(OTHER)
+
+    for of_folder, of_file in [(0o777, 0o600), (0o777, 0o444), (0o777, 0o222), (0o555, None), (0o700, 0o666),
+                               (0o333, None)]:  # fmt: skip
+        path = os.path.join(folder, "log")
+        for name in os.listdir(folder):
+            os.remove(os.path.join(folder, name))
+        if of_file is not None:
+            write(path, log([[FIVE]]))
+            os.chmod(path, of_file)
+        os.chmod(folder, of_folder)
+        words = [own, "serve", "--tcp", "127.0.0.1:0", *SMALL, "--sessions", "0", "--log", path]
+        ended = subprocess.run(words, capture_output=True, text=True, timeout=WAIT, preexec_fn=as_other)
+        name = f"rights {of_folder:o} and {of_file or 0:o}"
+        check(name, (ended.stdout, ended.stderr, ended.returncode), ("", "hhm: log: Create\n", 4))
+        if of_file is None:
+            check(f"{name}: none was made", os.path.exists(path), False)
+        else:
+            check(f"{name}: as before", content(path), log([[FIVE]]))
+        os.chmod(folder, 0o777)
+
+
+def a_new_log_has_the_access_of_the_old():
+    """The log that is begun anew has the mode of the one whose place it takes; the first has what the umask leaves."""
+    path, snap = in_folder("mode.log"), in_folder("mode.snap")
+    for mode in [0o600, 0o640, 0o664]:
+        write(path, log([[FIVE]]))
+        os.chmod(path, mode)
+        check(f"mode {mode:o}", started("--snapshot", snap, "--log", path), stopped(1, 5))
+        check(f"mode {mode:o}: kept", (in_log(path), os.stat(path).st_mode & 0o777), (head([entry_of(FIVE)]), mode))
+        os.remove(snap)
+    os.remove(path)
+    check("no log before", started("--log", path, preexec_fn=lambda: os.umask(0o027)), stopped(0, 0))
+    check("no log before: the mode", os.stat(path).st_mode & 0o777, 0o640)
+
+
+def settings_come_first():
+    """Options are judged before the log is, the snapshot before the log, and the log before any address."""
+    path, snap = in_folder("order.log"), in_folder("order.snap")
+    write(path, b"no log")
+    write(snap, b"no snapshot")
+    words = ["--log", path, "--snapshot", snap]
+    check("bad workers", started(*words, "--workers", "0"), ("", "hhm: settings: BadWorkers\n", 2))
+    check("a bad snapshot", started(*words), ("", "hhm: snapshot: BadMark\n", 3))
+    check("a bad log", started("--log", path), ("", "hhm: log: Truncated at page 0\n", 3))
+    full = ["serve", "--unix", server.FOLDER, *SMALL, "--log", path]
+    check("an address that can't be had", hhm(*full), ("", "hhm: log: Truncated at page 0\n", 3))
+    write(path, log([[FIVE], [THREE]], setup=log_bytes.Setup(most=11)))
+    write(snap, program.snapshot([FIVE], 5, past=program.NONE, most=12))
+    check("both of other setups", started(*words), ("", "hhm: settings: SnapshotDiffers\n", 2))
+
+
+def run_each(*tests):
+    """Runs tests; one that can't go on is a failure, and the others are run all the same."""
+    for test in tests:
+        try:
+            test()
+        except Exception as fault:
+            places = traceback.extract_tb(fault.__traceback__)
+            at = ", ".join(f"{os.path.basename(place.filename)} {place.lineno}" for place in places)
+            check(f"{test.__name__}: {at}", repr(fault), "no exception")
+
+
+def all_are_tried():
+    run_each(
+        what_was_accepted_outlasts_a_kill,
+        replies_are_the_same,
+        many_in_one_piece,
+        a_log_alone_grows,
+        a_stop_saves_and_begins_the_log_anew,
+        long_batches_take_pages,
+        a_torn_end_is_cut_off,
+        damage_is_told_and_stays,
+        snapshots_and_logs_that_differ_are_told,
+        a_lost_snapshot_is_a_gap,
+        logs_beside_longer_and_shorter_snapshots,
+        a_fold_between_two_starts,
+        a_second_server_is_told,
+        what_is_no_file_is_told,
+        links_are_followed_once,
+        rights_that_lack_are_told,
+        a_new_log_has_the_access_of_the_old,
+        settings_come_first,
+    )
+
+
+if __name__ == "__main__":
+    sys.exit(server.run_all(all_are_tried))
