@@ -36,27 +36,27 @@ module _ {H Z : Type 0} (loads : H → List ℕ → ℕ → Result Saved FileFau
 
 module _ {H Y Z : Type 0} (loads : H → List ℕ → ℕ → Result Saved FileFault → Type 0)
     (starts : H → List ℕ → Setting → Listing → Result Listing StartFault → Type 0) (h : H) (path : Option (String Y))
-    where
-  pub starts_from : (log : Option (String Z)) (must_load : Bool) (v : Setting) (known list : Listing) (a : Accepted) →
-      HasBase v known → HasBase v list → IsLoaded loads h path must_load v (accepted_in known) →
-      IsJoined starts h log v known list → a ≡ accepted_in list → StartsFrom loads starts h path log must_load v a
-  starts_from None must_load v known list a kb lb loaded joined is =
-      subst (λ (x : Accepted). IsLoaded loads h path must_load v x) (sym (is ∙ ap accepted_in joined)) loaded
-  starts_from (Some log) must_load v known list a kb lb loaded joined is = (
-    accepted_in known,
-    loaded,
-    subst (λ (k : Listing). IsJoined starts h (Some log) v k (listed_in v a)) (sym (listed_again v known kb))
-    (subst (λ (l : Listing). IsJoined starts h (Some log) v known l)
-    (sym (ap (listed_in v) is ∙ listed_again v list lb)) joined),
-  )
+  where
+    pub starts_from : (log : Option (String Z)) (must_load : Bool) (v : Setting) (known list : Listing) (a : Accepted) →
+        HasBase v known → HasBase v list → IsLoaded loads h path must_load v (accepted_in known) →
+        IsJoined starts h log v known list → a ≡ accepted_in list → StartsFrom loads starts h path log must_load v a
+    starts_from None must_load v known list a kb lb loaded joined is =
+        subst (λ (x : Accepted). IsLoaded loads h path must_load v x) (sym (is ∙ ap accepted_in joined)) loaded
+    starts_from (Some log) must_load v known list a kb lb loaded joined is = (
+      accepted_in known,
+      loaded,
+      subst (λ (k : Listing). IsJoined starts h (Some log) v k (listed_in v a)) (sym (listed_again v known kb))
+          (subst (λ (l : Listing). IsJoined starts h (Some log) v known l)
+          (sym (ap (listed_in v) is ∙ listed_again v list lb)) joined),
+    )
 
-  -- a fault of a start over what was loaded is told as one
-  pub start_told : (locks : H → List ℕ → Result Bool FileFault → Type 0) (log : Option (String Z)) (must_load : Bool)
-      (v : Setting) (known : Listing) (f : ServerFault) → HasBase v known →
-      IsLoaded loads h path must_load v (accepted_in known) → IsStartTold starts h log v known f →
-      IsLogTold loads locks starts h path log must_load v f
-  start_told locks log must_load v known f kb loaded told = inr (
-    accepted_in known,
-    loaded,
-    subst (λ (k : Listing). IsStartTold starts h log v k f) (sym (listed_again v known kb)) told,
-  )
+    -- a fault of a start over what was loaded is told as one
+    pub start_told : (locks : H → List ℕ → Result Bool FileFault → Type 0) (log : Option (String Z)) (must_load : Bool)
+        (v : Setting) (known : Listing) (f : ServerFault) → HasBase v known →
+        IsLoaded loads h path must_load v (accepted_in known) → IsStartTold starts h log v known f →
+        IsLogTold loads locks starts h path log must_load v f
+    start_told locks log must_load v known f kb loaded told = inr (
+      accepted_in known,
+      loaded,
+      subst (λ (k : Listing). IsStartTold starts h log v k f) (sym (listed_again v known kb)) told,
+    )

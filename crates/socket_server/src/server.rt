@@ -270,8 +270,7 @@ fn plan_of(alloc: Global, settings: Settings) -> Result<Plan, ServerFault>
 }
 
 // Serves as the settings say, which were judged.
-#[tactic(auto, using(crate::proofs::FaultLaws::serving_met, crate::proofs::FaultLaws::serving_told,
-    crate::proofs::FaultLaws::serving_log_told, crate::proofs::FaultLaws::lock_log_told))]
+#[tactic(auto, using(crate::proofs::FaultLaws::serving_met, crate::proofs::FaultLaws::serving_told, crate::proofs::FaultLaws::serving_log_told, crate::proofs::FaultLaws::lock_log_told))]
 fn serve_settings<
     L: Log + Send,
     R: Threads

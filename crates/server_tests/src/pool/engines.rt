@@ -9,7 +9,9 @@ use crossbeam_channel::{Receiver, Sender, bounded};
 use locked_engine::{Engine, Named, Names, Seat};
 use log_desk::LogDesk;
 use plain_engine::PlainEngine;
-use session_pool::{Disk, Gate, LogPlace, PoolFault, PoolReport, Saver, SeatKeeper, Session, SessionLog, run_pool};
+use session_pool::{
+    Disk, Gate, LogPlace, PoolFault, PoolReport, Saver, SeatKeeper, Session, SessionLog, run_pool,
+};
 use socket_server::FileLog;
 use std::alloc::Global;
 use std::marker::Brand;
@@ -141,7 +143,10 @@ fn pooled<
 }
 
 /// Serves sessions over these links, numbered in order, by a pool with the first `workers` of an engine's seats.
-pub fn pool_over<G: Gate<R> + Sync, R: Threads + Wait + Disk + LogPlace<FileLog> + RandomSource + Abort + Sync>(
+pub fn pool_over<
+    G: Gate<R> + Sync,
+    R: Threads + Wait + Disk + LogPlace<FileLog> + RandomSource + Abort + Sync,
+>(
     rt: &R,
     alloc: Global,
     seats: usize,
@@ -168,14 +173,10 @@ pub fn found_of(outcome: &Outcome) -> Found {
 }
 
 /// Serves sessions over these links by a pool with the first `workers` of an engine's seats and without snapshots.
-pub fn found_over<G: Gate<R> + Sync, R: Threads + Wait + Disk + LogPlace<FileLog> + RandomSource + Abort + Sync>(
-    rt: &R,
-    alloc: Global,
-    seats: usize,
-    workers: usize,
-    gate: &G,
-    links: Vec<Script>,
-) -> Found {
+pub fn found_over<
+    G: Gate<R> + Sync,
+    R: Threads + Wait + Disk + LogPlace<FileLog> + RandomSource + Abort + Sync,
+>(rt: &R, alloc: Global, seats: usize, workers: usize, gate: &G, links: Vec<Script>) -> Found {
     let saver = Saver::new(None);
     let outcome = pool_over(rt, alloc, seats, workers, gate, &saver, links);
     let found = found_of(&outcome);

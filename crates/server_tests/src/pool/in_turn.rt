@@ -83,7 +83,11 @@ fn has_taken(link: &Script, case: &Case) -> bool {
 type Found = (InTurn, [bool; 2]);
 
 // A session of a case, and then one that doesn't fail.
-fn found_of<R: Wait + Disk + LogPlace<FileLog> + RandomSource + Abort>(rt: &R, alloc: Global, case: &Case) -> Found {
+fn found_of<R: Wait + Disk + LogPlace<FileLog> + RandomSource + Abort>(
+    rt: &R,
+    alloc: Global,
+    case: &Case,
+) -> Found {
     let mut first = link_of(rt, alloc, case);
     let mut second = link_of(rt, alloc, &WHOLE);
     let sessions = sessions_in_turn(rt, alloc, 1, &mut first, Some(&mut second), None);

@@ -23,7 +23,7 @@ returns-clause-ended g c =
     let old = c.args.opened.seats in
     let has : old.len ≡ length old.items = omega (arith, c.as_mut_slice.ensures.len, ap length c.as_mut_slice.ensures.value) in
     let long : length c.learn.new.seats ≡ length old.items
-        = omega (arith, c.learn.ensures.count, ap length c.as_mut_slice.ensures.value) in
+    = omega (arith, c.learn.ensures.count, ap length c.as_mut_slice.ensures.value) in
     let seats = written_back old.len c.learn.new.seats old.items has long in
     subst (λ (b : Bool). IfOk c.close_all-2.result (λ s. (a : Accepted) × GoesOn g.N.Named.opened a
     × EndsWith g.R.Disk.saves c.args.rt.now c.args.saver.now.path g.N.Named.setup a s

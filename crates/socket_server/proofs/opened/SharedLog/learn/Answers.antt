@@ -11,7 +11,7 @@ returns-clause-within g c =
     let known = c.stored-stored.new.known in
     let count = ap (λ (s : Status). s.batches) c.status-status.ensures.status in
     let fits : length known ≤ length c.version.result
-        = omega (arith, c.if-count-status.false, c.count.ensures, count, ap length c.version.ensures) in
+    = omega (arith, c.if-count-status.false, c.count.ensures, count, ap length c.version.ensures) in
     within_all c.args.seats.now c.status-status.new.seat known c.in-Some.ensures.item.3.0
     (subst (λ (v : List Entry). IsPrefix known v) c.version.ensures
     (begins_whole known c.version.result (c.begins-2.ensures fits)))
