@@ -1,13 +1,14 @@
 #!/usr/bin/env python3
 """Starts the built program as a server, and compares how it ends, how it starts after an end, and what it tells of both.
 
-    python3 tests/server_ends.py PATH-TO-HHM [--long]
+    python3 tests/server_ends.py PATH-TO-HHM
 
 The time that sessions have after a Stop, sockets that a killed server has left, and the lines of events. What is wanted
 was worked out by hand from docs/FORMATS.md. It prints a line for each check that fails and at the end `N passed, M
-failed`; the status is 1 where one fails. With `--long` a server is watched for a minute. Linux, and nothing but
+failed`; the status is 1 where one fails. One server is watched for a minute, beside the others. Linux, and nothing but
 Python's own library.
 """
+import contextlib
 import os
 import re
 import socket
@@ -333,15 +334,18 @@ def short_waits_are_not_told():
               ["started batches=0 total=0", "stopping", "stopped batches=0 total=0"])
 
 
+@contextlib.contextmanager
 def refusals_are_told_each_minute():
-    """Refusals by code, a minute after the start and at the end."""
-    with told_server([]) as at:
-        with at.link() as link:
-            for _ in range(5):
-                check("each minute: refused", asked(link, struct.pack(">IBQ", 8, 3, 3), 15), refused(41))
-            time.sleep(62)
-            check("each minute: refused again", asked(link, struct.pack(">IBQ", 8, 3, 3), 15), refused(41))
-            check("each minute: stop", asked(link, STOP, 5), STOPPING)
+    """Refusals by code, a minute after the start and at the end. Other servers are tried meanwhile."""
+    with Server([*SMALL, "--events"], unix=False) as at, at.link(unix=False) as link:
+        for _ in range(5):
+            check("each minute: refused", asked(link, struct.pack(">IBQ", 8, 3, 3), 15), refused(41))
+        over = time.monotonic() + 62
+        yield
+        time.sleep(max(0, over - time.monotonic()))
+        check("each minute: refused again", asked(link, struct.pack(">IBQ", 8, 3, 3), 15), refused(41))
+        check("each minute: stop", asked(link, STOP, 5), STOPPING)
+        link.close()
         _, error = at.process.communicate(timeout=WAIT)
         check("each minute: all", events_of("each minute", error)[0],
               ["started batches=0 total=0", "refused code=41 count=5", "stopping", "stopped batches=0 total=0",
@@ -385,21 +389,20 @@ def without_the_option_nothing_is_told():
 
 
 def all_are_tried():
-    for unix in [True, False]:
-        a_drain_ends_sessions(unix)
-    a_drain_ends_many_silent_ones()
-    a_drain_ends_a_slow_reader()
-    without_a_drain_sessions_go_on()
-    a_left_socket_is_taken()
-    what_is_no_left_socket_stays()
-    starts_saves_and_ends_are_told()
-    failed_saves_are_told()
-    a_want_of_workers_is_told()
-    short_waits_are_not_told()
-    nobody_reads_events()
-    without_the_option_nothing_is_told()
-    if "--long" in sys.argv[2:]:
-        refusals_are_told_each_minute()
+    with refusals_are_told_each_minute():
+        for unix in [True, False]:
+            a_drain_ends_sessions(unix)
+        a_drain_ends_many_silent_ones()
+        a_drain_ends_a_slow_reader()
+        without_a_drain_sessions_go_on()
+        a_left_socket_is_taken()
+        what_is_no_left_socket_stays()
+        starts_saves_and_ends_are_told()
+        failed_saves_are_told()
+        a_want_of_workers_is_told()
+        short_waits_are_not_told()
+        nobody_reads_events()
+        without_the_option_nothing_is_told()
 
 
 if __name__ == "__main__":

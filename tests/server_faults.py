@@ -11,6 +11,7 @@ descriptors until its acceptor ends, some two minutes more. Linux, and nothing b
 
 `records differ` has no test: no input brings a server to it.
 """
+import contextlib
 import ctypes
 import errno
 import os
@@ -63,9 +64,12 @@ def asked(link, frame, size):
 
 
 def received(link, size):
+    """What comes, up to this many bytes. A reset ends it as a close does, as where the server was killed: what is missing
+    fails the check, and those behind it tell how the server ended."""
     answer = b""
-    while len(answer) < size and (more := link.recv(size - len(answer))):
-        answer += more
+    with contextlib.suppress(ConnectionResetError):
+        while len(answer) < size and (more := link.recv(size - len(answer))):
+            answer += more
     return answer
 
 
