@@ -208,6 +208,17 @@ def the_session_of_the_readme(prefix):
     check("README.md: a session", (status, sorted(output.splitlines()), error), (0, sorted(wanted), ""))
 
 
+def server_of(wrapper):
+    """The process of `hhm serve`, a child of the wrapper; None where it has ended."""
+    try:
+        with open(f"/proc/{wrapper}/task/{wrapper}/children") as file:
+            pids = [int(it) for it in file.read().split()]
+    except FileNotFoundError:
+        return None
+    names = {it: content(f"/proc/{it}/comm") for it in pids if os.path.exists(f"/proc/{it}/comm")}
+    return next((it for it, name in names.items() if name == b"hhm\n"), None)
+
+
 class Served:
     """A server that the installed `hhm-run` has started, at a Unix socket."""
 
@@ -229,16 +240,6 @@ class Served:
         self.process.communicate()
         if os.path.lexists(self.path):
             os.remove(self.path)
-
-    def pid_of_server(self):
-        """The process of `hhm serve`, a child of the wrapper; None where it has ended."""
-        try:
-            with open(f"/proc/{self.process.pid}/task/{self.process.pid}/children") as file:
-                pids = [int(it) for it in file.read().split()]
-        except FileNotFoundError:
-            return None
-        names = {it: content(f"/proc/{it}/comm") for it in pids if os.path.exists(f"/proc/{it}/comm")}
-        return next((it for it, name in names.items() if name == b"hhm\n"), None)
 
     def listens(self):
         check("the line of the socket", self.process.stdout.readline(), f"listening unix {self.path}\n")
@@ -296,7 +297,7 @@ def each_signal_saves_and_stops(prefix):
 def the_server_heeds_no_signal_itself(prefix):
     """SIGTERM to the server's own process does nothing, so that nobody ends it by mistake before it has saved."""
     with Served(prefix, []).listens() as at:
-        os.kill(at.pid_of_server(), signal.SIGTERM)
+        os.kill(server_of(at.process.pid), signal.SIGTERM)
         with at.link() as link:
             at.puts(link, 7, 5, 0, 5)
         at.process.terminate()
@@ -389,7 +390,8 @@ def a_server_that_loads_is_ended_too(prefix):
     own = [it for it in SMALL if it not in ("--limit", "--max-batches", "100", "10")]
     words = [f"{prefix}/bin/hhm-run", "--unix", os.path.join(server.FOLDER, "socket"), *own, *words]
     loads = subprocess.Popen(words, stdout=subprocess.PIPE, stderr=subprocess.PIPE, text=True)
-    time.sleep(0.1)
+    # The wrapper heeds signals from before it starts the server.
+    waits_for(lambda: server_of(loads.pid))
     loads.terminate()
     output, error = loads.communicate(timeout=WAIT)
     check("a load", (output.splitlines()[-1:], loads.returncode), ([f"stopped batches {count} total {count}"], 0))
