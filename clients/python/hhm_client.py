@@ -468,19 +468,7 @@ class Client:
         call may be made until all replies were given, or what this gave was closed. The frames on the way, at most 128,
         are kept in memory, 24 bytes a cell.
         """
-        self._begin()
-        ahead = Ahead((number, put_cells_frame(self.client, number, cells)) for number, cells in batches)
-        self._is_ahead = True
-        try:
-            while self._fill(ahead, max(1, min(depth, MAX_DEPTH))):
-                reply = self._first_reply(ahead.frames, ACCEPTED, 16)
-                number, frame = ahead.numbers.pop(0), ahead.frames.pop(0)
-                yield number, self._noted(number, frame, reply)
-        finally:
-            # The replies that nobody will read must not be taken for those of later requests.
-            self._is_ahead = False
-            if ahead.frames:
-                self.close()
+        yield from self._put_frames(((n, put_cells_frame(self.client, n, cells)) for n, cells in batches), depth)
 
     def cell(self, row: int, col: int) -> Optional[int]:
         """The count of a cell, counted from 0; None where none is stored."""
@@ -538,6 +526,22 @@ class Client:
         if not self._has_room(frame):
             self.save()
         return self._noted(number, frame, self._ask(frame, ACCEPTED, 16))
+
+    def _put_frames(self, batches: Iterable[Tuple[int, bytes]], depth: int) -> Iterator[Tuple[int, Accepted]]:
+        """Puts batches (number, frame), as `put_all` does."""
+        self._begin()
+        ahead = Ahead(iter(batches))
+        self._is_ahead = True
+        try:
+            while self._fill(ahead, max(1, min(depth, MAX_DEPTH))):
+                reply = self._first_reply(ahead.frames, ACCEPTED, 16)
+                number, frame = ahead.numbers.pop(0), ahead.frames.pop(0)
+                yield number, self._noted(number, frame, reply)
+        finally:
+            # The replies that nobody will read must not be taken for those of later requests.
+            self._is_ahead = False
+            if ahead.frames:
+                self.close()
 
     def _fill(self, ahead: Ahead, depth: int) -> bool:
         """Sends batches until so many are on the way, or a save must come first. Tells whether any is on the way."""
