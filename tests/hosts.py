@@ -8,6 +8,7 @@ import itertools
 import os
 import random
 import signal
+import socket
 import subprocess
 import sys
 import threading
@@ -69,6 +70,11 @@ class Host:
     def restart(self):
         self.kill()
         self.start()
+
+    def link(self):
+        """A connection without the client."""
+        host, port = self.tcp.rsplit(":", 1)
+        return socket.create_connection((host, int(port)), WAIT)
 
     def hold(self):
         """Stops the process, all its threads, until a signal SIGCONT."""

@@ -168,9 +168,10 @@ def address_in(path: str) -> Callable[[], str]:
 
 
 class Part(Client):
-    """The client of one server of a map, which puts the map's marker over each new connection before anything else."""
+    """The client of one of several servers, which puts the map's marker, where there is a map, over each new connection
+    before anything else."""
 
-    def __init__(self, server: Place, place: int, marker: int, **how: Any):
+    def __init__(self, server: Place, place: int, marker: Optional[int] = None, **how: Any):
         super().__init__(unix="", **how)
         self.server, self.place, self.marker = server, place, marker
 
@@ -181,7 +182,12 @@ class Part(Client):
         return super()._linked()
 
     def _greet(self, link: Link) -> None:
-        link.send(request(PUT_CELLS, MARKER, self.marker))
+        if self.marker is not None:
+            self._put_marker(link, self.marker)
+        super()._greet(link)
+
+    def _put_marker(self, link: Link, marker: int) -> None:
+        link.send(request(PUT_CELLS, MARKER, marker))
         address = self.tcp or self.unix or ""
         try:
             index, _ = struct.unpack(">QQ", self._checked(link.reply(), ACCEPTED, 16))
@@ -191,7 +197,6 @@ class Part(Client):
             raise OtherMap(self.place, address, f"its marker is refused: {why}") from None
         if index != 0:
             raise OtherMap(self.place, address, f"its marker is batch {index} of that book, and not the first")
-        super()._greet(link)
 
 
 class Outcome:
@@ -210,7 +215,67 @@ class Outcome:
             raise fault
 
 
-class Cluster:
+class Several:
+    """Several servers that are asked at once."""
+
+    def __init__(self, parts: List[Part]):
+        self.parts = parts
+        self._threads: List[threading.Thread] = []
+
+    def __exit__(self, *_) -> None:
+        self.close()
+
+    def close(self) -> None:
+        """Lets all connections go. What was accepted stays accepted."""
+        self._wait()
+        for part in self.parts:
+            part.close()
+
+    def save(self) -> List[int]:
+        """Saves a snapshot at each server, and gives their numbers of batches."""
+        return self._ask(self.parts, Part.save)
+
+    def statuses(self) -> List[Status]:
+        """The status of each server as it tells it, a marker being a batch."""
+        return self._ask(self.parts, Part.status)
+
+    def _ask(self, parts: List[Part], call: Callable[[Part], Any]) -> List[Any]:
+        """What each of these answers to a call, in their order."""
+        outcome = self._at_once(parts, call)
+        outcome.judge()
+        return [outcome.answers[part.place] for part in parts]
+
+    def _at_once(self, parts: List[Part], call: Callable[[Part], Any], then: Callable[[], Any] = int) -> Outcome:
+        """Makes a call of several parts at once, that of the first in this thread; `then` is called behind that one,
+        however it ends."""
+        self._wait()
+        outcome = Outcome()
+
+        def run(part: Part) -> None:
+            try:
+                outcome.answers[part.place] = call(part)
+            except Exception as fault:
+                outcome.faults[part.place] = fault
+
+        try:
+            for part in parts[1:]:
+                thread = threading.Thread(target=run, args=(part,), daemon=True)
+                thread.start()
+                self._threads.append(thread)
+            run(parts[0])
+        finally:
+            then()
+            self._wait()
+        return outcome
+
+    def _wait(self) -> None:
+        """Waits for the parts that are still asked: those of a call that was interrupted, too."""
+        while self._threads:
+            self._threads[-1].join()
+            self._threads.pop()
+
+
+class Cluster(Several):
     """Several servers as one, by a map that stays as it is.
 
     `servers` are their addresses in order, "host:port" or the path of a Unix socket (with a slash), or functions that
@@ -244,27 +309,17 @@ class Cluster:
             raise ValueError("reserve is a number below max_batches")
         self.client, self.by, self.size, self.most = client, by, size, max_batches - reserve
         how = {"client": client, "keep": keep, "timeout": timeout, "attempts": attempts, "pause": pause}
-        self.parts = [
+        super().__init__([
             Part(server, place, marker_of(generation, by, len(servers), place), **how)
             for place, server in enumerate(servers)
-        ]
+        ])
         # Those that a batch of this client goes to, the one first that must accept it before the others are asked.
         self._putting = self.parts if by == "rows" else [self.parts[client % len(servers)]]
         self._has_met = False
         self._full: Optional[Full] = None
-        self._threads: List[threading.Thread] = []
 
     def __enter__(self) -> "Cluster":
         return self
-
-    def __exit__(self, *_) -> None:
-        self.close()
-
-    def close(self) -> None:
-        """Lets all connections go. What was accepted stays accepted."""
-        self._wait()
-        for part in self.parts:
-            part.close()
 
     # What a cluster asks.
 
@@ -304,10 +359,6 @@ class Cluster:
         that has fewest, since each batch is at all of them."""
         return self._counted(self.statuses())
 
-    def statuses(self) -> List[Status]:
-        """The status of each server as it tells it, its marker being a batch."""
-        return self._ask(self.parts, Part.status)
-
     def stored(self) -> Status:
         """How many of the accepted batches are durable, and their total: a crash takes none of them back."""
         return self._counted(self._ask(self.parts, Part.stored))
@@ -316,10 +367,6 @@ class Cluster:
         """The text of the sum of all accepted batches. Each server's part of it has at most 64 MiB; what is longer is
         written of snapshots (`hhm export`)."""
         return merged(self._ask(self.parts, Part.export))
-
-    def save(self) -> List[int]:
-        """Saves a snapshot at each server, and gives their numbers of batches."""
-        return self._ask(self.parts, Part.save)
 
     def stop(self) -> None:
         """Tells all servers to stop, as `Client.stop` does."""
@@ -351,41 +398,6 @@ class Cluster:
                 if part not in self._putting:
                     part.close()
             self._has_met = True
-
-    def _ask(self, parts: List[Part], call: Callable[[Part], Any]) -> List[Any]:
-        """What each of these answers to a call, in their order."""
-        outcome = self._at_once(parts, call)
-        outcome.judge()
-        return [outcome.answers[part.place] for part in parts]
-
-    def _at_once(self, parts: List[Part], call: Callable[[Part], Any], then: Callable[[], Any] = int) -> Outcome:
-        """Makes a call of several parts at once, that of the first in this thread; `then` is called behind that one,
-        however it ends."""
-        self._wait()
-        outcome = Outcome()
-
-        def run(part: Part) -> None:
-            try:
-                outcome.answers[part.place] = call(part)
-            except Exception as fault:
-                outcome.faults[part.place] = fault
-
-        try:
-            for part in parts[1:]:
-                thread = threading.Thread(target=run, args=(part,), daemon=True)
-                thread.start()
-                self._threads.append(thread)
-            run(parts[0])
-        finally:
-            then()
-            self._wait()
-        return outcome
-
-    def _wait(self) -> None:
-        """Waits for the parts that are still asked: those of a call that was interrupted, too."""
-        while self._threads:
-            self._threads[-1].join()
-            self._threads.pop()
 
     def _put_ahead(self, ahead: List[Batch]) -> Tuple[List[List[Accepted]], Outcome]:
         """Puts batches: the replies to the first of them, those that all parts have accepted, and the faults."""

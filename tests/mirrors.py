@@ -1,0 +1,241 @@
+"""Two servers that have the same batches, and edges whose sums go to a root, while each of them fails (cluster.py)."""
+import os
+import shutil
+import subprocess
+import sys
+import threading
+
+import server
+from server import check
+
+HERE = os.path.dirname(os.path.abspath(__file__))
+CLIENTS = os.path.join(HERE, "..", "clients", "python")
+from hhm_mirror import Mirror  # noqa: E402 (server.py has put the client's folder on the path)
+from hosts import Hosts, added, batch, sum_in, until  # noqa: E402
+from peers import Gate, fault_of  # noqa: E402
+
+WAIT = 60
+
+
+def script(name, *words):
+    """What a program of the client's folder writes to both outputs, and its status."""
+    given = [sys.executable, os.path.join(CLIENTS, name), *map(str, words), "--program", server.PROGRAM]
+    ended = subprocess.run(given, capture_output=True, text=True, timeout=WAIT)
+    return ended.stdout, ended.stderr, ended.returncode
+
+
+def hhm(*words):
+    return subprocess.run([server.PROGRAM, *words], capture_output=True, timeout=WAIT)
+
+
+def snap(host):
+    return host.base + ".snap"
+
+
+def brought_up(a, b):
+    """What hhm_mirror.py writes that puts to B what it lacks of A, once both have saved."""
+    for host in (a, b):
+        with host.client() as link:
+            link.save()
+    return script("hhm_mirror.py", snap(a), snap(b), b.tcp)
+
+
+def sums(hosts):
+    found = []
+    for host in hosts:
+        with host.client() as link:
+            found.append(sum_in(link.export()))
+    return found
+
+
+def mirror_of(hosts, client, **how):
+    one, other = (lambda host=host: host.tcp for host in hosts)
+    return Mirror(one, other, client=client, attempts=2, timeout=WAIT, **how)
+
+
+def mirrors_are_brought_up():
+    """Puts go to both; B is away and brought up from A, then A from B, while puts go on: the sums are the same."""
+    wanted = added(*(batch(client, number) for client in (1, 2) for number in range(20)))
+    with Hosts("mirror", 2) as hosts, mirror_of(hosts, 1, alone=True) as one, mirror_of(hosts, 2, alone=True) as two:
+        a, b = hosts
+
+        def put(begin, end, clients=(one, two)):
+            return [len(replies) for hhm in clients
+                    for _, replies in hhm.put_all((n, batch(hhm.client, n)) for n in range(begin, end))]
+
+        check("mirror: both", put(0, 5), [2] * 10)
+        check("mirror: saves", one.save(), [10, 10])
+        check("mirror: both again", put(5, 8), [2] * 6)
+        b.kill()
+        check("mirror: alone", put(8, 12), [1] * 8)
+        check("mirror: who is away", (one.away, two.away), ({1}, {1}))
+        b.start()
+        one.back()
+        two.back()
+        # What B lost since its save: its clients know, and are told so.
+        check("mirror: it went back", fault_of(lambda: put(12, 13, [one])), "WentBack")
+        check("mirror: it went back, two", fault_of(lambda: put(12, 13, [two])), "WentBack")
+        check("mirror: both, in another order", put(12, 14, [two, one]), [2] * 4)
+        # (5, 6 and 7, which B lost, and 8 to 11, of both clients)
+        check("mirror: B is brought up", brought_up(a, b), ("batches 28 lacked 14 put 14 not compared 0\n", "", 0))
+        check("mirror: nothing is lacked", brought_up(a, b), ("batches 28 lacked 0 put 0 not compared 0\n", "", 0))
+        a.kill()
+        check("mirror: alone at B", put(14, 17), [1] * 6)
+        a.start()
+        one.back()
+        two.back()
+        check("mirror: both then", put(17, 20), [2] * 6)
+        check("mirror: A is brought up", brought_up(b, a), ("batches 40 lacked 6 put 6 not compared 0\n", "", 0))
+        check("mirror: the sums", sums(hosts) == [wanted, wanted], True)
+        one.save()
+        exports = [hhm("export", snap(host)).stdout for host in hosts]
+        check("mirror: exports", exports[0] == exports[1], True)
+
+
+def mirrors_that_differ_are_told():
+    with Hosts("differ", 2) as hosts:
+        a, b = hosts
+        with a.client(1) as one, b.client(1) as other:
+            for number, here, there in [
+                (1, [(1, 1, 5)], [(1, 1, 6)]), (2, [(1, 1, 5)], [(2, 2, 5)]), (3, [(1, 1, 5)], None),
+                (4, [(1, 1, 5)], [(1, 1, 5)]), (5, [(1, 1, 2), (2, 2, 3)], [(1, 1, 5)]),
+            ]:
+                one.put(number, here)
+                if there is not None:
+                    other.put(number, there)
+        lines = ["CONFLICT (1, 1): cells 1, 1; total 5, 6", "SILENT (1, 2): 1 cells, total 5, and other cells",
+                 "CONFLICT (1, 5): cells 2, 1; total 5, 5", "batches 5 lacked 1 put 1 not compared 0", ""]
+        check("differ", brought_up(a, b), ("\n".join(lines), "", 1))
+        with a.client() as link:
+            link.stop()
+        a.process.communicate()
+        hhm("fold", snap(a))
+        a.start()
+        lines[1:2] = []
+        lines[-2] = "batches 5 lacked 0 put 0 not compared 3"
+        check("differ: folded", brought_up(a, b), ("\n".join(lines), "", 1))
+        with Hosts("differ new", 1) as new:
+            lines = [f"FOLDED (1, {number}): B lacks it, and A has its cells no more" for number in range(1, 6)]
+            lines += ["batches 5 lacked 5 put 0 not compared 0", ""]
+            check("differ: B lacks what is folded", brought_up(a, new[0]), ("\n".join(lines), "", 1))
+            check("differ: nothing is put", new.books(), [(0, 0)])
+        check("differ: no snapshot", script("hhm_mirror.py", "/nowhere", snap(b), b.tcp)[::2], ("", 4))
+
+
+def a_mirror_needs_both():
+    with Hosts("needs", 2, more=["--limit", "9"]) as hosts, mirror_of(hosts, 1) as mirror:
+        mirror.put(1, [(0, 0, 5)])
+        hosts[0].kill()
+        check("needs both", fault_of(lambda: mirror.put(2, [(0, 0, 1)])), "ConnectionRefusedError")
+        hosts[0].start()
+        check("needs both: it went back", fault_of(lambda: mirror.put(2, [(0, 0, 1)])), "WentBack")
+        check("needs both: a half", fault_of(lambda: mirror.put(3, [(0, 0, 5)])), "Half")
+        check("needs both: books", hosts.books(), [(1, 5), (2, 6)])
+
+
+def relay(edge, root, host, *more):
+    words = [edge.tcp, snap(edge), edge.base + ".spool", getattr(root, "path", None) or root.tcp, host, *more]
+    return script("hhm_relay.py", "--part", 100, *words)
+
+
+def put_from(edge, client, begin, end):
+    with edge.client(client) as link:
+        return len(list(link.put_all((number, batch(client, number)) for number in range(begin, end))))
+
+
+def relays_count_once():
+    """Two edges are fed, killed and shipped in steps; a relay is killed amid one, and the root goes back."""
+    with Hosts("edge", 2) as edges, Hosts("root", 1) as (root,):
+        for host, edge in enumerate(edges):
+            put_from(edge, 10 + host, 0, 4)
+            parts = relay_line(added(*(batch(10 + host, number) for number in range(4))), 0, 4)
+            check(f"relay {host}: the first step", relay(edge, root, host), (parts, "", 0))
+        with root.client() as link:
+            link.save()
+        put_from(edges[0], 10, 4, 8)
+        with edges[0].client() as link:
+            link.save()
+        put_from(edges[0], 10, 8, 12)
+        edges[0].restart()
+        put_from(edges[0], 10, 4, 12)
+        a_relay_is_killed(edges[0], root)
+        root.restart()
+        put_from(edges[0], 10, 12, 15)
+        put_from(edges[1], 11, 4, 9)
+        for host in (0, 1, 0):
+            check(f"relay {host}: it goes on", relay(edges[host], root, host)[1:], ("", 0))
+        wanted = added(*(batch(10, number) for number in range(15)), *(batch(11, number) for number in range(9)))
+        check("relay: the sum", sums([root]) == [wanted], True)
+        check("relay: drops", relay(edges[0], root, 0, "--drop")[1:], ("", 0))
+        files = sorted(os.listdir(edges[0].base + ".spool"))
+        check("relay: the newest file stays", files, ["0000015.snap", "dropped", "part"])
+        put_from(edges[0], 10, 15, 17)
+        line = relay_line(added(batch(10, 15), batch(10, 16)), 15, 17)
+        check("relay: a step behind it", relay(edges[0], root, 0), (line, "", 0))
+        wanted = added(*(batch(10, number) for number in range(17)), *(batch(11, number) for number in range(9)))
+        check("relay: the sum then", sums([root]) == [wanted], True)
+        relays_are_refused(edges[0], root)
+
+
+def relay_line(cells, first, end):
+    return f"batches {first} to {end}: cells {len(cells)} parts {-(-len(cells) // 100)}\n"
+
+
+class Choke(Gate):
+    """Forwards so many bytes of its first connection to a server, and all replies."""
+
+    name = "choke"
+
+    def meet(self, link):
+        theirs = self.at.link()
+        self.links += [link, theirs]
+        threading.Thread(target=self.forward, args=(link, theirs, self.most), daemon=True).start()
+        threading.Thread(target=self.forward, args=(theirs, link, None), daemon=True).start()
+
+
+def a_relay_is_killed(edge, root):
+    """Amid the parts of a step. Of so many bytes the first 20,000 are the parts of the step before, put again."""
+    with root.client() as link:
+        before = link.status().batches
+    with Choke(root, 35_000) as gate:
+        words = [edge.tcp, snap(edge), edge.base + ".spool", gate.path, "0", "--part", "100"]
+        given = [sys.executable, os.path.join(CLIENTS, "hhm_relay.py"), *words, "--program", server.PROGRAM]
+        with subprocess.Popen(given, stdout=subprocess.DEVNULL, stderr=subprocess.DEVNULL) as process:
+            check("relay: it is amid a step", gate.is_full.wait(WAIT), True)
+            process.kill()
+    with root.client() as link:
+        amid = until(lambda: link.status().batches - before)
+        check("relay: some parts are there", 0 < amid < -(-len(added(*(batch(10, n) for n in range(4, 12)))) // 100),
+              True)
+
+
+def relays_are_refused(edge, root):
+    """Another size of the parts, batches that were folded too early, and an edge without what was shipped."""
+    error = relay(edge, root, 0, "--part", 50)[1:]
+    check("relay: another size", ("the parts have 100 cells" in error[0], error[1]), (True, 4))
+    old = edge.base + ".old"
+    shutil.copy(snap(edge), old)
+    put_from(edge, 10, 17, 19)
+    check("relay: the last step", relay(edge, root, 0)[1:], ("", 0))
+    put_from(edge, 10, 19, 20)
+    with edge.client() as link:
+        link.stop()
+    edge.process.communicate()
+    whole = edge.base + ".whole"
+    shutil.copy(snap(edge), whole)
+    hhm("fold", snap(edge))
+    edge.start()
+    check("relay: folded", relay(edge, root, 0)[1:], ("FOLDED: batch (10, 19) was folded before it was shipped\n", 1))
+    edge.kill()
+    shutil.copy(old, snap(edge))
+    edge.start()
+    put_from(edge, 12, 0, 5)
+    told = "DIVERGED: the edge lacks batch 17, (10, 17), which was shipped\n"
+    check("relay: diverged", relay(edge, root, 0)[1:], (told, 1))
+
+
+def all_are_tried():
+    mirrors_are_brought_up()
+    mirrors_that_differ_are_told()
+    a_mirror_needs_both()
+    relays_count_once()
