@@ -14,6 +14,7 @@ import signal
 import struct
 import sys
 
+import cluster_clients
 import mirrors
 import server
 from server import check
@@ -325,6 +326,7 @@ def all_are_tried():
     a_used_number_is_told_by_an_empty_part()
     interrupted_calls_are_made_again()
     mirrors.all_are_tried()
+    cluster_clients.all_are_tried()
 
 
 if __name__ == "__main__":

@@ -54,8 +54,8 @@ class Host:
         self.words += ["--snapshot", self.base + ".snap", *(["--log", self.base + ".log"] if logged else [])]
         self.start()
 
-    def start(self):
-        words = [server.PROGRAM, "serve", "--tcp", "127.0.0.1:0", *self.words]
+    def start(self, at="127.0.0.1:0"):
+        words = [server.PROGRAM, "serve", "--tcp", at, *self.words]
         self.process = subprocess.Popen(words, stdout=subprocess.PIPE, stderr=subprocess.PIPE, text=True)
         self.tcp = self.process.stdout.readline().removeprefix("listening tcp ").strip()
         with open(self.file + ".new", "w") as file:

@@ -38,9 +38,9 @@ FILES = {
     "bin/hhm-run": (0o755, "tools/hhm-run"),
     **{f"lib/hhm/{it}": (0o755, f"clients/python/{it}") for it in PYTHON},
     "bin/hhmc": (0o755, "clients/python/hhm_client.py"),
-    "include/hhm_client.h": (0o644, "clients/c/hhm_client.h"),
-    "share/hhm/hhm_client.c": (0o644, "clients/c/hhm_client.c"),
-    "share/hhm/hhm_client.rs": (0o644, "clients/rust/hhm_client.rs"),
+    **{f"include/{it}.h": (0o644, f"clients/c/{it}.h") for it in ("hhm_client", "hhm_cluster")},
+    **{f"share/hhm/{it}.c": (0o644, f"clients/c/{it}.c") for it in ("hhm_client", "hhm_cluster")},
+    **{f"share/hhm/{it}.rs": (0o644, f"clients/rust/{it}.rs") for it in ("hhm_client", "hhm_cluster")},
     "lib/systemd/system/hhm.service": (0o644, None),
     "share/man/man1/hhm.1": (0o644, None),
 }

@@ -102,9 +102,11 @@ for file in "$top"/clients/python/*.py; do
 done
 ln -sfn ../lib/hhm/hhm_client.py "$root/bin/hhmc"
 echo "  $root/bin/hhmc"
-put 644 "$top/clients/c/hhm_client.h" include/hhm_client.h
-put 644 "$top/clients/c/hhm_client.c" share/hhm/hhm_client.c
-put 644 "$top/clients/rust/hhm_client.rs" share/hhm/hhm_client.rs
+for name in hhm_client hhm_cluster; do
+    put 644 "$top/clients/c/$name.h" "include/$name.h"
+    put 644 "$top/clients/c/$name.c" "share/hhm/$name.c"
+    put 644 "$top/clients/rust/$name.rs" "share/hhm/$name.rs"
+done
 put 644 "$made/hhm.service" lib/systemd/system/hhm.service
 put 644 "$made/hhm.1" share/man/man1/hhm.1
 

@@ -48,6 +48,9 @@ struct hhm_client {
     char *port;
     uint64_t number;
     unsigned timeout, attempts, pause;
+    /* The number of the marker that is put over each new connection, where there is one. */
+    int has_marker;
+    uint64_t marker;
     /* The connection's descriptor, or -1, which never blocks, and the process that made it. */
     int link;
     pid_t process;
@@ -260,6 +263,17 @@ void hhm_close(hhm_client *hhm)
 void hhm_set_timeout(hhm_client *hhm, unsigned milliseconds)
 {
     hhm->timeout = milliseconds;
+}
+
+void hhm_set_marker(hhm_client *hhm, uint64_t marker)
+{
+    hhm->has_marker = 1;
+    hhm->marker = marker;
+}
+
+void hhm_disconnect(hhm_client *hhm)
+{
+    let_go(hhm);
 }
 
 void hhm_set_attempts(hhm_client *hhm, unsigned attempts, unsigned pause)
@@ -545,6 +559,22 @@ static hhm_result put_last(hhm_client *hhm, hhm_status has)
     return result == HHM_OK || (result == HHM_REFUSED && hhm->link >= 0) ? went_back(hhm, has) : result;
 }
 
+/* Puts the marker, which must be the first batch of the book. */
+static hhm_result put_marker(hhm_client *hhm)
+{
+    request it = of_numbers(PUT_CELLS, 2, UINT64_MAX, hhm->marker);
+    reply got;
+    if (send_request(hhm, &it))
+        return failed(hhm);
+    hhm_result result = read_reply(hhm, ACCEPTED, &got);
+    if (result == HHM_OK && number_at(got.bytes, 8) == 0)
+        return HHM_OK;
+    /* (a connection that is open had a refusal that ends no session) */
+    if (result == HHM_OK || (result == HHM_REFUSED && hhm->link >= 0))
+        return told(hhm, HHM_OTHER_MAP, "the server is one of another map");
+    return result;
+}
+
 /* Makes a connection. One of a client that has put batches is first asked whether they are still there. */
 static hhm_result greet(hhm_client *hhm)
 {
@@ -554,11 +584,12 @@ static hhm_result greet(hhm_client *hhm)
     hhm->process = getpid();
     if (hhm->link < 0)
         return failed(hhm);
-    if (hhm->seen.batches == 0)
-        return HHM_OK;
+    hhm_result result = hhm->has_marker ? put_marker(hhm) : HHM_OK;
+    if (result || hhm->seen.batches == 0)
+        return result;
     if (send_request(hhm, &it))
         return failed(hhm);
-    hhm_result result = read_reply(hhm, COUNTS, &got);
+    result = read_reply(hhm, COUNTS, &got);
     if (result)
         return result;
     hhm_status has = status_of(&got);

@@ -97,7 +97,16 @@ typedef enum {
     /* The server lacks what it had accepted: it began again from an older snapshot, or without one; hhm_went_back tells
        more. What this client put since the last save may be missing: put it again, with its numbers, and what this call
        was given, of which nothing was sent to the server as it is now. The client goes on. */
-    HHM_BOOK_WENT_BACK
+    HHM_BOOK_WENT_BACK,
+    /* The first batch of the server's book isn't the marker that this client demands (hhm_set_marker). Nothing but the
+       marker was put over this connection. */
+    HHM_OTHER_MAP,
+    /* Of several servers (hhm_cluster.h): a batch is in the sum in part; no new batch is to be put; a cell is beyond
+       the rows or columns; the servers' sums don't add up. */
+    HHM_HALF,
+    HHM_FULL,
+    HHM_OUT_OF_RANGE,
+    HHM_BAD_SUM
 } hhm_result;
 
 /* What this client's replies said of the accepted batches, and what a server that went back says of them. */
@@ -124,6 +133,13 @@ void hhm_set_timeout(hhm_client *hhm, unsigned milliseconds);
    first fault in milliseconds; it doubles, up to ten seconds. The default, 14 and 50, tries for a minute: a server that
    starts from a large snapshot listens only after some seconds. */
 void hhm_set_attempts(hhm_client *hhm, unsigned attempts, unsigned pause);
+
+/* Over each new connection, before anything else, an empty batch of client 2^64 - 1 with this number is put, which must
+   be the first of the server's book (HHM_OTHER_MAP). */
+void hhm_set_marker(hhm_client *hhm, uint64_t marker);
+
+/* Lets the connection go; the next call makes a new one. What was accepted stays accepted. */
+void hhm_disconnect(hhm_client *hhm);
 
 /* Puts a batch of cells, of which one may stand in it repeatedly. Its number belongs to it for ever. */
 hhm_result hhm_put(hhm_client *hhm, uint64_t number, const hhm_cell *cells, size_t count, hhm_accepted *accepted);

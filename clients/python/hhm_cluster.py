@@ -35,7 +35,7 @@ import threading
 from typing import Any, Callable, Dict, Iterable, Iterator, List, NamedTuple, Optional, Sequence, Tuple, Union
 
 from hhm_client import (
-    ACCEPTED, BANNER, MAX_DEPTH, PUT_CELLS, Accepted, Arrays, BadReply, BookWentBack, Cells, Client, Link, Refused,
+    ACCEPTED, BANNER, MAX_DEPTH, PUT_CELLS, Accepted, Arrays, BookWentBack, Cells, Client, Link, Refused,
     RowSum, Status, Text, bytes_of, bytes_of_arrays, cells_of, host_and_port, request,
 )
 

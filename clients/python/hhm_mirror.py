@@ -23,7 +23,7 @@ import itertools
 import os
 import subprocess
 import sys
-from typing import Any, Dict, Iterable, Iterator, List, Optional, Set, Tuple
+from typing import Any, Dict, Iterable, Iterator, List, Set, Tuple
 
 sys.path.insert(0, os.path.dirname(os.path.abspath(__file__)))
 from hhm_client import (  # noqa: E402

@@ -7,9 +7,9 @@ Many sources put to a server beside them, the edge, and what it has since the la
 large batches. Run it by a timer on the edge's machine, one at a time:
 
 1. The edge saves, and its snapshot is copied into the folder SPOOL, as B.snap, B being its number of batches.
-2. Of each two files of SPOOL that follow each other, the batches that the second has more than the first are summed, and
-   put to the root in parts of 1,000,000 cells (`--part`), under the client HOST: part j behind batch B has the number
-   B * 2^20 + j. A file that is there is never made anew, so what is put again is the same.
+2. Of each two files of SPOOL that follow each other, the batches that the second has more than the first are summed,
+   and put to the root in parts of 1,000,000 cells (`--part`), under the client HOST: part j behind batch B has the
+   number B * 2^20 + j. A file that is there is never made anew, so what is put again is the same.
 3. With `--drop` the root saves, and all files of SPOOL but the newest go.
 
 HOST is a number of this edge alone, for as long as its book and SPOOL live: a new book is a new edge, with an empty

@@ -157,6 +157,9 @@ pub enum Error {
     /// since the last save may be missing: put it again, with its numbers, and what this call was given, of which
     /// nothing was sent to the server as it is now. The client goes on.
     BookWentBack { had: Status, has: Status },
+    /// The first batch of the server's book isn't the marker that this client demands (`Client::with_marker`). Nothing
+    /// but the marker was put over this connection.
+    OtherMap,
     /// A fault of the connection that outlasted all attempts. Whether a put was accepted isn't known: put it again with
     /// its number.
     Io(io::Error),
@@ -178,6 +181,7 @@ impl fmt::Display for Error {
                  has {} with total {}",
                 had.batches, had.total, has.batches, has.total
             ),
+            Error::OtherMap => out.write_str("the server is one of another map"),
             Error::Io(fault) => fault.fmt(out),
         }
     }
@@ -360,6 +364,7 @@ pub struct Client {
     timeout: Option<Duration>,
     attempts: u32,
     pause: Duration,
+    marker: Option<u64>,
     link: Option<Link>,
     last: Option<Last>,
 }
@@ -414,6 +419,7 @@ impl Client {
             timeout: Some(Duration::from_secs(60)),
             attempts: 14,
             pause: Duration::from_millis(50),
+            marker: None,
             link: None,
             last: None,
         }
@@ -432,6 +438,13 @@ impl Client {
     pub fn with_attempts(mut self, attempts: u32, pause: Duration) -> Client {
         self.attempts = attempts.max(1);
         self.pause = pause;
+        self
+    }
+
+    /// Over each new connection, before anything else, an empty batch of client 2^64 - 1 with this number is put, which
+    /// must be the first of the server's book (`Error::OtherMap`).
+    pub fn with_marker(mut self, marker: u64) -> Client {
+        self.marker = Some(marker);
         self
     }
 
@@ -628,6 +641,17 @@ impl Client {
     /// A new connection. One of a client that has put batches is first asked whether they are still there.
     fn greeted(&mut self) -> Result<Link, Error> {
         let mut link = self.connect()?;
+        if let Some(marker) = self.marker {
+            link.send(&put_cells_frame(u64::MAX, marker, &[])?)?;
+            match reply_of(&mut link, ACCEPTED) {
+                Ok(body) if number_at(&body, 0) == 0 => {}
+                Err(Error::Refused(refusal)) if refusal.ends_session() => {
+                    return Err(Error::Refused(refusal))
+                }
+                Ok(_) | Err(Error::Refused(_)) => return Err(Error::OtherMap),
+                Err(fault) => return Err(fault),
+            }
+        }
         if let Some(last) = &self.last {
             if let Some(has) = last.missed(&mut link)? {
                 let had = last.book();
