@@ -16,6 +16,7 @@ import sys
 
 import cluster_clients
 import mirrors
+import queues
 import server
 from server import check
 
@@ -327,6 +328,7 @@ def all_are_tried():
     interrupted_calls_are_made_again()
     mirrors.all_are_tried()
     cluster_clients.all_are_tried()
+    queues.all_are_tried()
 
 
 if __name__ == "__main__":
