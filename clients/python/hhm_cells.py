@@ -1,0 +1,83 @@
+"""The cells of a sum as arrays: of a server, a snapshot or a Matrix Market text. Python's standard library alone.
+
+    total = sum_of("packets.snap")                  # a snapshot, by `hhm export`, of whatever size
+    total = sum_of("packets.mtx")                   # a text, whose entries `hhm sum` adds up
+    total = sum_of(Client(unix="/run/hhm/hhm.sock"))# a server, by an export, whose text has at most 64 MiB
+    print(total.rows, total.cols, len(total.cells.counts))
+
+No count is rounded, and a stored zero is a cell like others. Memory: 24 bytes a cell, and some megabytes.
+"""
+import array
+import io
+import os
+import subprocess
+import sys
+from typing import BinaryIO, NamedTuple, Optional, Union
+
+from hhm_client import Arrays, Client
+
+# The bytes of a text that are parted into words at once.
+BLOCK = 1 << 20
+
+Source = Union[str, "os.PathLike[str]", Client]
+
+
+class Sum(NamedTuple):
+    """The dimensions of a sum, and its cells by row, then by column, each place once, counted from 0."""
+
+    rows: int
+    cols: int
+    cells: Arrays
+
+
+class NoSum(ValueError):
+    """A file that hhm doesn't read. `status` is what hhm ended with, as docs/FORMATS.md has it."""
+
+    def __init__(self, status: int, words: str):
+        self.status = status
+        super().__init__(words)
+
+
+def sum_of(source: Source, program: str = "hhm") -> Sum:
+    """The sum of a server, or of a file: a snapshot, or a Matrix Market text, which may be `-`, standard input.
+
+    `program` is the hhm that reads files, by its name on the path or by a path. A `NoSum` tells what it says of a file
+    that it refuses, an OSError that there is no such file or program; of a server it is what `export` raises.
+    """
+    if isinstance(source, Client):
+        total = read_sum(io.BytesIO(source.export()))
+        if total is None:
+            raise NoSum(4, "what the server exported is no whole text")
+        return total
+    return sum_of_file(os.fspath(source), program)
+
+
+def sum_of_file(path: str, program: str) -> Sum:
+    with open(sys.stdin.fileno() if path == "-" else path, "rb", buffering=0, closefd=path != "-") as file:
+        is_text = path == "-" or os.pread(file.fileno(), 14, 0).lower() == b"%%matrixmarket"
+        words = [program, "sum"] if is_text else [program, "export", path]
+        with subprocess.Popen(words, stdin=file if is_text else subprocess.DEVNULL, stdout=subprocess.PIPE,
+                              stderr=subprocess.PIPE) as run:
+            total = read_sum(run.stdout)
+            told = run.stderr.read().decode("utf-8", "replace").strip()
+    if run.returncode != 0 or total is None:
+        raise NoSum(run.returncode if run.returncode > 0 else 4, f"{path}: {told or 'hhm was ended'}")
+    return total
+
+
+def read_sum(text: BinaryIO) -> Optional[Sum]:
+    """Reads a text that hhm wrote; None where it isn't whole."""
+    text.readline()
+    size = text.readline().split()
+    if len(size) != 3:
+        return None
+    rows, cols, entries = map(int, size)
+    cells = Arrays(array.array("Q"), array.array("Q"), array.array("Q"))
+    rest = b""
+    while block := text.read(BLOCK):
+        lines, _, rest = (rest + block).rpartition(b"\n")
+        words = lines.split()
+        cells.rows.extend([int(word) - 1 for word in words[0::3]])
+        cells.cols.extend([int(word) - 1 for word in words[1::3]])
+        cells.counts.extend(map(int, words[2::3]))
+    return Sum(rows, cols, cells) if len(cells.counts) == entries else None
