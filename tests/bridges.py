@@ -167,11 +167,11 @@ def asked_of(python, *words):
 
 WRONG = [
     "whole numbers from 0 to 2^64 - 1 are wanted, and -1 is among these",
-    "floats (float64) are taken where they are whole and up to 9007199254740992, as not rounded",
+    "floats (float64) are taken where they are whole, up to 9007199254740992",
     "whole numbers from 0 to 2^64 - 1 are wanted, and nan is among these",
-    "floats (float64) are taken where they are whole and up to 9007199254740992, as not rounded",
-    "floats (float64) are taken where they are whole and up to 9007199254740992, as not rounded",
-    "floats (float32) are taken where they are whole and up to 16777216, as not rounded",
+    "floats (float64) are taken where they are whole, up to 9007199254740992",
+    "floats (float64) are taken where they are whole, up to 9007199254740992",
+    "floats (float32) are taken where they are whole, up to 16777216",
     "whole numbers from 0 to 2^64 - 1 are wanted, and these are of complex128",
     "3 numbers for 2 rows or columns",
     "whole numbers from 0 to 2^64 - 1 are wanted, and -1 is among these",

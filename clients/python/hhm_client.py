@@ -38,6 +38,7 @@ a connection of its own.
 import argparse
 import array
 import errno
+import importlib
 import itertools
 import os
 import selectors
@@ -61,6 +62,8 @@ EARLY = 65_536
 # Of the command line: the seconds that it waits for an answer, and what it adds to refusals.
 TIMEOUT, SAVE_TIMEOUT = 60, 600
 SPLIT = "put it as several batches, as the word load does with files of events"
+TOO_LONG = "the text has more than 64 MiB: save, and take the snapshot (`hhm export`, `hhmc --from`)"
+ADVICE = {"TooManyEntries": f": {SPLIT}", "ReplyTooLarge": f": {TOO_LONG}"}
 KEPT_RUNNING = ": nothing was stopped; `stop --discard` stops the server without what it can't save"
 BANNER = b"%%MatrixMarket matrix coordinate integer general\n"
 
@@ -710,13 +713,12 @@ def address(word: str) -> str:
     return word
 
 
-def loader() -> Any:
-    """The module that loads files of events, where it stands beside this one."""
+def module_of(name: str) -> Any:
+    """A module with further words, hhm_load or hhm_plot, where it stands beside this one."""
     try:
-        import hhm_load
+        return importlib.import_module(name)
     except ImportError:
         return None
-    return hhm_load
 
 
 def parser() -> argparse.ArgumentParser:
@@ -724,6 +726,8 @@ def parser() -> argparse.ArgumentParser:
     where = words.add_mutually_exclusive_group(required=True)
     where.add_argument("--tcp", type=address, metavar="HOST:PORT")
     where.add_argument("--unix", metavar="PATH")
+    source = "a snapshot or a Matrix Market text (- for standard input) in place of a server, for plot alone"
+    where.add_argument("--from", dest="source", metavar="FILE", help=source)
     timeout = f"for each answer ({TIMEOUT}; {SAVE_TIMEOUT} for a save, which takes longer the more was accepted)"
     words.add_argument("--timeout", type=float, metavar="SECONDS", help=timeout)
     attempts = "how often a request is sent (3, within a moment; of a load 14, for a minute, as a server takes to start)"
@@ -733,8 +737,10 @@ def parser() -> argparse.ArgumentParser:
     put.add_argument("client", type=number)
     put.add_argument("number", type=number)
     put.add_argument("file", nargs="?", help="standard input where none is given")
-    if module := loader():
+    if module := module_of("hhm_load"):
         module.add_words(asked.add_parser("load", help="puts the events of files, in batches that count once"))
+    if module := module_of("hhm_plot"):
+        module.add_words(asked.add_parser("plot", help="draws degrees, or where cells are"))
     cell = asked.add_parser("cell", help="the count of a cell, or the line `none`")
     cell.add_argument("row", type=number)
     cell.add_argument("col", type=number)
@@ -773,7 +779,7 @@ def stop(hhm: Client, discards: bool) -> None:
 def answer(hhm: Client, given: argparse.Namespace, text: bytes) -> bytes:
     """Does what the command line asks, and gives what is to be printed."""
     if given.word == "load":
-        return loader().load(hhm, given).encode()
+        return module_of("hhm_load").load(hhm, given).encode()
     if given.word == "put":
         return b"index %d total_after %d\n" % hhm.put_text(given.number, text)
     if given.word == "cell":
@@ -785,14 +791,18 @@ def answer(hhm: Client, given: argparse.Namespace, text: bytes) -> bytes:
         return b"batches %d total %d\n" % hhm.status()
     if given.word == "stored":
         return b"batches %d total %d\n" % hhm.stored()
-    if given.word in ("export", "save"):
-        return hhm.export() if given.word == "export" else b"saved %d\n" % hhm.save()
+    if given.word in ("export", "plot"):
+        return hhm.export()
+    if given.word == "save":
+        return b"saved %d\n" % hhm.save()
     stop(hhm, given.discard)
     return b"stopping\n"
 
 
 def asked(given: argparse.Namespace) -> bytes:
     """Asks, and tells after two seconds that it waits."""
+    if given.source is not None:
+        return module_of("hhm_plot").plot(None, given).encode()
     text = text_to_put(given.file) if given.word == "put" else b""
     place = given.unix if given.tcp is None else given.tcp
     waits = threading.Timer(2, lambda: print(f"waiting for the server at {place}", file=sys.stderr, flush=True))
@@ -804,15 +814,19 @@ def asked(given: argparse.Namespace) -> bytes:
     waits.start()
     try:
         with Client(tcp=given.tcp, unix=given.unix, client=client, **limits) as hhm:
-            return answer(hhm, given, text)
+            found = answer(hhm, given, text)
     finally:
         waits.cancel()
+    return module_of("hhm_plot").plot(found, given).encode() if given.word == "plot" else found
 
 
 def main() -> int:
     """The command line. 0; 1 where the server refused; 2 for bad words; 3 for lines that are no events; 4 where it can't
     be reached or a file read."""
-    given = parser().parse_args()
+    words = parser()
+    given = words.parse_args()
+    if given.source is not None and given.word != "plot":
+        words.error(f"--from is for plot: give --tcp or --unix for {given.word}")
     try:
         sys.stdout.buffer.write(asked(given))
         sys.stdout.buffer.flush()
@@ -820,7 +834,7 @@ def main() -> int:
         print(ended, file=sys.stderr)
         return ended.status
     except Refused as refused:
-        advice = {"TooManyEntries": f": {SPLIT}"}.get(refused.name, "") if given.word != "stop" else KEPT_RUNNING
+        advice = KEPT_RUNNING if given.word == "stop" else ADVICE.get(refused.name, "")
         print(f"refused: {refused}{advice}", file=sys.stderr)
         return 1
     except (OSError, ValueError) as error:

@@ -52,7 +52,7 @@ def whole(numbers: Any) -> np.ndarray:
     if numbers.dtype.kind == "f" and numbers.size:
         most = 1 << min(53, np.finfo(numbers.dtype).nmant + 1)
         if numbers.max() > most or not np.array_equal(numbers, np.floor(numbers)):
-            raise ValueError(f"floats ({numbers.dtype}) are taken where they are whole and up to {most}, as not rounded")
+            raise ValueError(f"floats ({numbers.dtype}) are taken where they are whole, up to {most}")
     return numbers.astype("u8")
 
 
