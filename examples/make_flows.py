@@ -35,7 +35,7 @@ def main():
 
     print("source,destination,packets")
     for _ in range(lines):
-        print(f"{drawn(5)},{drawn(3)},{int(dice.paretovariate(1.1))}")
+        print(f"{drawn(5)},{drawn(3)},{min(int(dice.paretovariate(1.2)), 100_000)}")
 
 
 if __name__ == "__main__":

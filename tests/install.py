@@ -81,6 +81,10 @@ def all_files_are_there(prefix):
             check(f"{name}: the file", content(path) == content(os.path.join(TOP, source)), True)
     check("the program", content(f"{prefix}/bin/hhm") == content(server.PROGRAM), True)
     check("the client", ran(f"{prefix}/bin/hhmc", "--help")[::2], (0, ""))
+    # The client finds the modules that draw, and the program on the path, which reads the file.
+    words = ["--from", f"{TOP}/examples/packets.mtx", "plot", "degrees", os.path.join(server.FOLDER, "drawn.svg")]
+    found = {**os.environ, "PATH": f"{prefix}/bin:{os.environ['PATH']}"}
+    check("a picture", ran(f"{prefix}/bin/hhmc", *words, env=found), (0, "cells 4 rows 4 cols 3 total 54\n", ""))
 
 
 def it_installs_again(prefix):

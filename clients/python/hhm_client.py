@@ -800,20 +800,26 @@ def answer(hhm: Client, given: argparse.Namespace, text: bytes) -> bytes:
 
 
 def asked(given: argparse.Namespace) -> bytes:
-    """Asks, and tells after two seconds that it waits."""
+    """Asks, and tells after two seconds that it waits; a load, which tells how far it is, only for a connection."""
     if given.source is not None:
         return module_of("hhm_plot").plot(None, given).encode()
     text = text_to_put(given.file) if given.word == "put" else b""
     place = given.unix if given.tcp is None else given.tcp
-    waits = threading.Timer(2, lambda: print(f"waiting for the server at {place}", file=sys.stderr, flush=True))
-    waits.daemon = True
     client = given.client if given.word in ("put", "load") else 0
     usual = SAVE_TIMEOUT if given.word in ("save", "stop") else TIMEOUT
     attempts = given.attempts or (14 if given.word == "load" else 3)
     limits = {"timeout": usual if given.timeout is None else given.timeout, "attempts": attempts}
+    hhm = Client(tcp=given.tcp, unix=given.unix, client=client, **limits)
+
+    def tell() -> None:
+        if given.word != "load" or hhm._link is None:
+            print(f"waiting for the server at {place}", file=sys.stderr, flush=True)
+
+    waits = threading.Timer(2, tell)
+    waits.daemon = True
     waits.start()
     try:
-        with Client(tcp=given.tcp, unix=given.unix, client=client, **limits) as hhm:
+        with hhm:
             found = answer(hhm, given, text)
     finally:
         waits.cancel()

@@ -163,10 +163,10 @@ class Series(NamedTuple):
     def most(self) -> int:
         return max(self.degrees)
 
-    def words_of(self, bin: Bin, by: str) -> str:
-        span = f"{bin.first:,}" if bin.first == bin.last else f"{bin.first:,} to {bin.last:,}"
+    def words_of(self, part: Bin, by: str) -> str:
+        span = f"{part.first:,}" if part.first == part.last else f"{part.first:,} to {part.last:,}"
         what = "total" if by == TOTAL else "degree"
-        return f"{what} {span}: {bin.rows:,} of {self.count():,} {self.name}"
+        return f"{what} {span}: {part.rows:,} of {self.count():,} {self.name}"
 
     def told(self, by: str) -> str:
         nothing = f", {self.degrees[0]:,} with total 0 (not drawn)" if self.degrees.get(0) else ""
@@ -178,8 +178,8 @@ class Series(NamedTuple):
         dots = {(round(across.at(degree), 1), round(up.at(rows / self.count()), 1))
                 for degree, rows in self.degrees.items() if degree}
         bins = bins_of(self.degrees)
-        marks = [(across.at(bin.last), up.at(bin.rows / self.count())) for bin in bins]
-        told = [self.words_of(bin, by) for bin in bins]
+        marks = [(across.at(part.last), up.at(part.rows / self.count())) for part in bins]
+        told = [self.words_of(part, by) for part in bins]
         return [Dots(sorted(dots), self.role), Line(marks, self.role, 1.5),
                 Marks(marks, self.role, self.name == "rows", told)]
 
@@ -207,7 +207,7 @@ def degrees_page(total: Sum, by: str) -> Page:
     title = f"{what} of rows and columns: {len(cells.counts):,} cells"
     if not any(degree for it in series for degree in it.degrees):
         return empty_page(title, "There is nothing to draw: no row has " + ("a total." if by == TOTAL else "a cell."))
-    highest = max(bin.last for it in series for bin in bins_of(it.degrees))
+    highest = max(part.last for it in series for part in bins_of(it.degrees))
     lowest = min(rows / it.count() for it in series for rows in it.degrees.values())
     across = Axis(0, max(1, math.ceil(math.log10(highest))), 84, 740)
     up = Axis(min(-1, math.floor(math.log10(lowest))), 0, 440, 52)
@@ -217,7 +217,7 @@ def degrees_page(total: Sum, by: str) -> Page:
               Words((24, (up.begin + up.end) / 2), "share of rows, of columns", "middle", is_turned=True)]
     for it in series:
         shapes += it.shapes(across, up, by)
-    told = [words for it in series for words in (it.told(by), *(it.words_of(bin, by) for bin in bins_of(it.degrees)))]
+    told = [words for it in series for words in (it.told(by), *(it.words_of(part, by) for part in bins_of(it.degrees)))]
     return Page(760, 600, title, "; ".join(told), [*shapes, *legend_of(series, across.begin, 518, by)])
 
 
