@@ -292,6 +292,11 @@ def a_terminal_sees_it_go_on():
         os.close(theirs)
         run.stdin.write(("source,destination,packets\n" + "".join(lines[:200])).encode())
         run.stdin.flush()
+        # From its first batches on it tells once a second.
+        ends = time.monotonic() + WAIT
+        with Client(unix=at.path) as hhm:
+            while hhm.status().batches < 2 and time.monotonic() < ends:
+                time.sleep(0.01)
         time.sleep(1.5)
         output, _ = run.communicate("".join(lines[200:]).encode(), timeout=WAIT)
         told = b""

@@ -827,8 +827,8 @@ def asked(given: argparse.Namespace) -> bytes:
 
 
 def main() -> int:
-    """The command line. 0; 1 where the server refused; 2 for bad words; 3 for lines that are no events; 4 where it can't
-    be reached or a file read."""
+    """The command line. 0; 1 where the server refused; 2 for bad words; 3 for lines that are no events and files that are
+    no sum; 4 where it can't be reached or a file read."""
     words = parser()
     given = words.parse_args()
     if given.source is not None and given.word != "plot":
