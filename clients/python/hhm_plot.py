@@ -285,7 +285,8 @@ def scale_bar(left: float, top: float, most: int) -> List[Shape]:
     for power in range(0, powers + 1, step):
         y = top + height * (1 - power / math.log10(most))
         shapes += [Line([(left + 14, y), (left + 18, y)], "ink"), Words((left + 22, y + 5), power_of(power))]
-    if math.log10(most) - (powers // step) * step > 0.4:
+    # The highest number too, where it has room above the last power.
+    if height * (1 - (powers // step) * step / math.log10(most)) > 17:
         shapes += [Line([(left + 14, top), (left + 18, top)], "ink"), Words((left + 22, top + 5), f"{most:,}")]
     return [*shapes, box_of(left, top, left + 14, top + height)]
 
@@ -297,6 +298,19 @@ def notes_of(rows: Span, cols: Span) -> List[str]:
         return []
     told = [f"{size:,} {word}{'s' * (size > 1)}" for size, word in zip(sizes, ("row", "column"))]
     return ["a field: at most", f"{told[0]} by", told[1]]
+
+
+def labels_of(down: Scale, across: Scale, left: float, top: float, label: Callable[[int], str]) -> List[Shape]:
+    """The numbers of rows at the left, those of columns below, and what both are."""
+    bottom, shapes = top + down.length, []
+    for tick in down.ticks:
+        y = top + down.at(tick)
+        shapes += [Line([(left - 5, y), (left, y)], "ink"), Words((left - 9, y + 5), label(tick), "end")]
+    for tick in across.ticks:
+        x = left + across.at(tick)
+        shapes += [Line([(x, bottom), (x, bottom + 5)], "ink"), Words((x, bottom + 21), label(tick), "middle")]
+    return [*shapes, Words((left + across.length / 2, bottom + 46), across.told("columns"), "middle"),
+            Words((24, top + down.length / 2), down.told("rows"), "middle", is_turned=True)]
 
 
 def spy_page(total: Sum, rows: Span, cols: Span, by: str, is_ip: bool) -> Page:
@@ -313,15 +327,7 @@ def spy_page(total: Sum, rows: Span, cols: Span, by: str, is_ip: bool) -> Page:
     title = f"Occupied cells: {len(cells.counts):,} in {len(fields):,} fields"
     shapes: List[Shape] = [Words((left, 30), title, is_strong=True), Grid((left, top), size, size, levels),
                            box_of(left - 1, top - 1, left + size + 1, top + size + 1)]
-    for tick in down.ticks:
-        y = top + down.at(tick)
-        shapes += [Line([(left - 5, y), (left, y)], "ink"), Words((left - 9, y + 5), label(tick), "end")]
-    for tick in across.ticks:
-        x = left + across.at(tick)
-        shapes += [Line([(x, top + size), (x, top + size + 5)], "ink"),
-                   Words((x, top + size + 21), label(tick), "middle")]
-    shapes += [Words((left + size / 2, top + size + 46), across.told("columns"), "middle"),
-               Words((24, top + size / 2), down.told("rows"), "middle", is_turned=True)]
+    shapes += labels_of(down, across, left, top, label)
     aside, what = left + size + 24, f"{'cells' if by == ENTRIES else 'total'} of a field"
     notes = notes_of(rows, cols)
     if fields:
