@@ -12,6 +12,7 @@ import os
 import random
 import signal
 import struct
+import subprocess
 import sys
 
 import cluster_clients
@@ -26,6 +27,7 @@ from hhm_cluster import MARKER, Full, Half, OtherMap, WentBack, cut, marker_of, 
 from hosts import SIZE, Feeder, Hosts, added, batch, sum_in, until  # noqa: E402
 
 WAYS = ("source", "rows")
+EXAMPLES = os.path.join(os.path.dirname(os.path.abspath(__file__)), "..", "examples")
 # The first few rows of each of two servers, by rows, worked out from the golden ratio, 0x9E3779B97F4A7C15.
 # Of so many times that, modulo 2^64, the highest bit is the place: 0 for the rows 0, 2, 4, 5, and 1 for 1, 3, 6, 8.
 AT_0, AT_1 = (0, 2, 4, 5), (1, 3, 6, 8)
@@ -280,6 +282,34 @@ def a_used_number_is_told_by_an_empty_part():
         check("a used pair: books", hosts.books(), [(2, 2), (2, 0)])
 
 
+def hours_are_summed():
+    """What examples/systemd and sum_texts.sh make of the snapshots of three hours of a day, when it is over."""
+    state, lists = os.path.join(server.FOLDER, "hours"), [batch(1, number) for number in range(3)]
+    for place, cells in enumerate(lists):
+        os.makedirs(os.path.join(state, f"202611270{place}"))
+        with Hosts("hour", 1) as (host,):
+            with host.client(1) as hhm:
+                hhm.put(1, cells)
+                hhm.save()
+            host.kill()
+            os.rename(host.base + ".snap", os.path.join(state, f"202611270{place}", "sum.snap"))
+    asked = os.path.join(state, "asked")
+    with open(os.path.join(state, "systemctl"), "w") as file:
+        file.write(f"#!/bin/sh\necho $* >> {asked}\n")
+    os.chmod(file.name, 0o755)
+    # 2026-11-28, at 01:55, 02:55 and 03:55: the day's last hour is ended at 02:55, and the next call sums it.
+    for now, is_summed in [(1795830900, False), (1795834500, False), (1795838100, True)]:
+        more = {"SYSTEMCTL": file.name, "STATE": state, "NOW": str(now), "HHM": server.PROGRAM}
+        ended = subprocess.run([os.path.join(EXAMPLES, "systemd", "hours.sh")], env={**os.environ, **more})
+        check("hours: status", ended.returncode, 0)
+        check("hours: a day is summed", os.path.exists(os.path.join(state, "20261127.mtx")), is_summed)
+    with open(os.path.join(state, "20261127.mtx"), "rb") as text:
+        check("hours: the sum", sum_in(text.read()), added(*lists))
+    with open(asked) as file:
+        wanted = ["start hhm@2026112803 hhm@2026112804", "stop hhm@2026112800"]
+        check("hours: servers", file.read().splitlines()[-2:], wanted)
+
+
 class Rang(Exception):
     """What a handler of a signal raises."""
 
@@ -326,6 +356,7 @@ def all_are_tried():
     a_half_batch_is_told()
     a_used_number_is_told_by_an_empty_part()
     interrupted_calls_are_made_again()
+    hours_are_summed()
     mirrors.all_are_tried()
     cluster_clients.all_are_tried()
     queues.all_are_tried()
