@@ -13,6 +13,7 @@ A driver (tests/drivers) asks a server, by one client, what a line says, and wri
 import contextlib
 import os
 import random
+import resource
 import shutil
 import signal
 import socket
@@ -235,6 +236,37 @@ def the_highest_place_decides(name, command):
                 killed(at)
             with Server(words) as at:
                 check(f"{name}: many cells again", driver.ask("many", 8, 1, 1, 3), "1 answered")
+                killed(at)
+
+
+def a_full_log_is_no_going_back(name, command):
+    """A log without room refuses the batch that is put again over a new connection, and the client goes on."""
+    words = [*WIDE, "--log", at_path(f"full {name}.log"), "--idle", "1"]
+    with Server(words, restore_signals=False) as at, Driver(command, at.path) as driver:
+        server.limit_files(at.process, 8192)
+        check(f"{name}: full: one is taken", driver.ask("put", 1, 5), "index 0 total 5")
+        check(f"{name}: full: the next isn't", driver.ask("put", 2, 3), "refused: LogFull")
+        time.sleep(2)
+        check(f"{name}: full: over a new connection", driver.ask("status"), "batches 1 total 5")
+        time.sleep(2)
+        check(f"{name}: full: still", driver.ask("put", 2, 3), "refused: LogFull")
+        server.limit_files(at.process, resource.RLIM_INFINITY)
+        check(f"{name}: full: no longer", driver.ask("put", 2, 3), "index 1 total 8")
+        killed(at)
+
+
+def what_is_kept_outlasts_a_full_log():
+    """Batches that a full log refuses, when they are put again, are kept on."""
+    path, words = at_path("kept.log"), [*WIDE, "--idle", "1"]
+    with Server([*words, "--log", path], restore_signals=False) as at:
+        server.limit_files(at.process, 3 * 4096)
+        with at.client(7, keep=10_000) as hhm:
+            check("kept, full: two", [hhm.put(n, [(0, 0, 5)]) for n in (1, 2)], [(0, 5), (1, 10)])
+            time.sleep(2)
+            check("kept, full: status", hhm.status(), (2, 10))
+            killed(at)
+            with Server(words) as at:
+                check("kept, full: put again", hhm.status(), (2, 10))
                 killed(at)
 
 
@@ -548,12 +580,14 @@ def all_are_tried(drivers):
         forks_have_connections_of_their_own(name, command)
         a_book_that_went_back_is_told(name, command)
         the_highest_place_decides(name, command)
+        a_full_log_is_no_going_back(name, command)
         repeats_are_no_going_back(name, command)
         drawn_kills_lose_nothing(name, command)
         many_small_frames_go(name, command)
         silence_ends(name, command)
         bad_values_are_told(name, command)
     what_is_kept_is_put_again()
+    what_is_kept_outlasts_a_full_log()
     a_saved_batch_that_is_gone_is_told()
     a_bound_of_what_is_kept_saves()
     a_log_is_sent_again()

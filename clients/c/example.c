@@ -2,7 +2,7 @@
  * Asks a server everything once, and stops it. It is for a new server of three rows and three columns:
  *
  *     cc -O2 clients/c/example.c clients/c/hhm_client.c -o example_c
- *     hhm serve --unix /tmp/hhm.sock --rows 3 --cols 3 --snapshot /tmp/hhm.snap &
+ *     hhm serve --unix /tmp/hhm.sock --rows 3 --cols 3 --snapshot /tmp/hhm.snap --log /tmp/hhm.log &
  *     ./example_c --unix /tmp/hhm.sock
  */
 #include "hhm_client.h"

@@ -2,7 +2,8 @@
  * Feeds a file of flows into a server of hhm: an example.
  *
  *     cc -O2 clients/c/feed_flows.c clients/c/hhm_client.c -o feed_flows_c
- *     hhm serve --unix /tmp/hhm.sock --rows 4294967296 --cols 4294967296 &
+ *     hhm serve --unix /tmp/hhm.sock --rows 4294967296 --cols 4294967296 \
+ *         --snapshot /tmp/flows.snap --log /tmp/flows.log &
  *     ./feed_flows_c --unix /tmp/hhm.sock 7 flows.csv
  *
  * The file is a CSV with the head `source,destination,packets`: two IPv4 addresses, the row and the column, and a

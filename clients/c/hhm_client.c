@@ -24,6 +24,8 @@
 
 enum { PUT = 0x01, CELL, ROW, STATUS, EXPORT, SAVE, STOP, PUT_CELLS, STORED };
 enum { ACCEPTED = 0x81, VALUE, ROW_SUM, COUNTS, TEXT, SAVED, STOPPING, REFUSED = 0xff };
+/* Codes of refusals. */
+enum { LOG_FULL = 34, LOG_FAILED = 35 };
 
 /* The bytes of the longest reply but a text, the cells that are spelled at once, and the bytes of replies that are kept
    while requests are sent, more than HHM_MOST_DEPTH replies to puts have. */
@@ -554,6 +556,9 @@ static hhm_result put_last(hhm_client *hhm, hhm_status has)
     hhm_result result = read_reply(hhm, ACCEPTED, &got);
     if (result == HHM_OK && number_at(got.bytes, 8) + 1 == hhm->seen.batches &&
         number_at(got.bytes + 8, 8) == hhm->seen.total)
+        return HHM_OK;
+    /* A log that has no room or has failed refuses a batch that is there too: then the status alone decides. */
+    if (result == HHM_REFUSED && (hhm->refusal.code == LOG_FULL || hhm->refusal.code == LOG_FAILED))
         return HHM_OK;
     /* (a connection that is open had a refusal that ends no session) */
     return result == HHM_OK || (result == HHM_REFUSED && hhm->link >= 0) ? went_back(hhm, has) : result;

@@ -35,7 +35,9 @@ extern "C" {
 #define HHM_MOST_DEPTH 128
 
 /* A connection to a server, made when it is first needed, and made again where it is lost. Over each new one a client
-   that has put batches asks for the status, and puts the last of them again, of which it keeps a copy for that. */
+   that has put batches asks for the status, and puts the last of them again, of which it keeps a copy for that. A server
+   with a log (hhm serve --log) lost nothing that it answered, so there a program needn't keep what was accepted; without
+   one it keeps that until a save. */
 typedef struct hhm_client hhm_client;
 
 /* A count at a place; both numbers of the place count from 0. */

@@ -1,7 +1,8 @@
 #!/usr/bin/env python3
 """Feeds a file of flows into a server of hhm: an example.
 
-    hhm serve --unix /tmp/hhm.sock --rows 4294967296 --cols 4294967296 &
+    hhm serve --unix /tmp/hhm.sock --rows 4294967296 --cols 4294967296 \
+        --snapshot /tmp/flows.snap --log /tmp/flows.log &
     python3 clients/python/feed_flows.py --unix /tmp/hhm.sock 7 flows.csv
 
 The file is a CSV with the head `source,destination,packets`: two IPv4 addresses, the row and the column, and a count.

@@ -25,9 +25,10 @@ have the same two numbers, in all runs of all programs, for as long as the serve
 
     hhm.put(int(begin.timestamp()) // 60, cells)   # right: one batch for each minute, numbered by that minute's begin
 
-A batch is sent again with the number that it had; so keep it with its number until a save came after its reply, or
-have the client keep it (`keep`). Two programs that put have different client numbers, also one after the other, unless
-the second goes on with the numbers of the first.
+A batch is sent again with the number that it had; so keep it with its number until its reply came. A server with a log
+(`hhm serve --log`) then never loses it, and nothing need be kept. Without one keep it until a save came after its
+reply, or have the client keep it (`keep`). Two programs that put have different client numbers, also one after the
+other, unless the second goes on with the numbers of the first.
 
 The frames are described in docs/FORMATS.md. A refusal of the server is a `Refused` with its name; a fault of the
 connection that outlasts all attempts is an `OSError`; a server that began again without what this client was told to
@@ -131,6 +132,8 @@ class Refused(Exception):
     def __init__(self, code: int, detail: int):
         self.code = code
         self.ends_session = code in (1, 50, 51, 52)
+        # Its log has no room or has failed: that says nothing of whether a batch is there.
+        self.is_of_log = code in (34, 35)
         self.name = CODES.get(code, f"code {code}")
         self.detail = detail
         where = {22: f" at cell {detail}", 31: f": {detail} accepted"}
@@ -411,10 +414,11 @@ class Client:
 
     Over each new connection a client that has put batches asks for the status, and puts the last of them again, which
     it keeps for that; where the server has less than was accepted, or answers another place, that is a `BookWentBack`.
-    With `keep`, a number of bytes, it keeps the frames of all accepted batches (24 bytes a cell) until a `save` of its
-    own that came after them was answered, and puts them again over each new connection; what a server lost is then
-    there again, and only what it lost of before that save is a BookWentBack. A put that would pass these bytes saves
-    first, so the server must have a snapshot.
+    A server with a log (`hhm serve --log`) has what it answered after a kill and a loss of power too: `keep` is for one
+    without. With it, a number of bytes, the client keeps the frames of all accepted batches (24 bytes a cell) until a
+    `save` of its own that came after them was answered, and puts them again over each new connection; what a server
+    lost is then there again, and only what it lost of before that save is a BookWentBack. A put that would pass these
+    bytes saves first, so the server must have a snapshot.
     """
 
     def __init__(
@@ -616,7 +620,7 @@ class Client:
         except Refused as why:
             if why.ends_session:
                 raise
-            return BookWentBack(had, has, [(last.number, why)])
+            return None if why.is_of_log else BookWentBack(had, has, [(last.number, why)])
 
     def _status_of(self, link: Link) -> Status:
         link.send(request(STATUS))
@@ -631,6 +635,9 @@ class Client:
             except Refused as why:
                 if why.ends_session:
                     raise
+                if why.is_of_log:
+                    self._last = self._last or had
+                    continue
                 refused.append((number, why))
                 self._kept_bytes -= len(self._kept.pop((client, number)))
         if refused:

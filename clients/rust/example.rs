@@ -1,7 +1,7 @@
 //! Asks a server everything once, and stops it. It is for a new server of three rows and three columns:
 //!
 //!     rustc -O --edition 2021 clients/rust/example.rs -o example_rust
-//!     hhm serve --unix /tmp/hhm.sock --rows 3 --cols 3 --snapshot /tmp/hhm.snap &
+//!     hhm serve --unix /tmp/hhm.sock --rows 3 --cols 3 --snapshot /tmp/hhm.snap --log /tmp/hhm.log &
 //!     ./example_rust --unix /tmp/hhm.sock
 
 mod hhm_client;

@@ -1,7 +1,8 @@
 //! Feeds a file of flows into a server of hhm: an example.
 //!
 //!     rustc -O --edition 2021 clients/rust/feed_flows.rs -o feed_flows_rust
-//!     hhm serve --unix /tmp/hhm.sock --rows 4294967296 --cols 4294967296 &
+//!     hhm serve --unix /tmp/hhm.sock --rows 4294967296 --cols 4294967296 \
+//!         --snapshot /tmp/flows.snap --log /tmp/flows.log &
 //!     ./feed_flows_rust --unix /tmp/hhm.sock 7 flows.csv
 //!
 //! The file is a CSV with the head `source,destination,packets`: two IPv4 addresses, the row and the column, and a

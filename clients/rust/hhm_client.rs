@@ -126,6 +126,11 @@ impl Refusal {
     fn ends_session(&self) -> bool {
         matches!(self.code, 1 | 50 | 51 | 52)
     }
+
+    /// Whether the server's log has no room or has failed, which says nothing of whether the batch is there.
+    fn is_of_log(&self) -> bool {
+        matches!(self.code, 34 | 35)
+    }
 }
 
 impl fmt::Display for Refusal {
@@ -357,7 +362,9 @@ const STOPPING: Wanted = wanted(0x87, Some(0));
 
 /// A connection to a server, made when it is first needed, and made again where it is lost; every request is then sent
 /// again. Over each new connection a client that has put batches asks for the status, and puts the last of them again,
-/// which it keeps for that (`Error::BookWentBack`). Dropping it closes the connection; what was accepted stays.
+/// which it keeps for that (`Error::BookWentBack`). A server with a log (`hhm serve --log`) lost nothing that it
+/// answered, so there a program needn't keep what was accepted; without one it keeps that until a save. Dropping it
+/// closes the connection; what was accepted stays.
 pub struct Client {
     address: Address,
     number: u64,
@@ -395,6 +402,7 @@ impl Last {
         link.send(&self.frame)?;
         match reply_of(link, ACCEPTED) {
             Ok(body) => Ok((accepted_of(&body) != self.accepted).then_some(has)),
+            Err(Error::Refused(refusal)) if refusal.is_of_log() => Ok(None),
             Err(Error::Refused(refusal)) if !refusal.ends_session() => Ok(Some(has)),
             Err(fault) => Err(fault),
         }
