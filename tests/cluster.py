@@ -238,6 +238,10 @@ def a_full_book_is_told(by):
             check(f"full, {by}: the last but the reserve", len(hhm.put(13, ones([13]))), 2 if by == "rows" else 1)
             check(f"full, {by}: no more", told(lambda: hhm.put(14, ones([14]))), ("Full", place))
             check(f"full, {by}: batches", hhm.status(), (14, 14))
+            hosts[place].restart()
+            check(f"full, {by}: it went back", told(lambda: hhm.put(14, ones([14]))), ("WentBack", [place]))
+            check(f"full, {by}: all again", len(list(hhm.put_all((n, ones([n])) for n in range(14)))), 14)
+            check(f"full, {by}: full again", told(lambda: hhm.put(14, ones([14]))), ("Full", place))
         with hosts.cluster(1, **how) as hhm:
             check(f"full, {by}: repeats", [n for n, _ in hhm.put_all((n, ones([n])) for n in range(14))], [*range(14)])
             check(f"full, {by}: one more", len(hhm.put(14, ones([14]))), 2 if by == "rows" else 1)

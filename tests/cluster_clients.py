@@ -119,6 +119,11 @@ def books_are_full(language, command, by):
         with Asked(command, hosts, by, most=20, reserve=5) as driver:
             check(f"{name}: up to the reserve", driver.ask("many", 0, 14, 1, 1, 1), "answered 14")
             check(f"{name}: no more", driver.put(14, [(1, 1, 1)]), f"Full {place}")
+            hosts[place].kill()
+            hosts[place].start(hosts[place].tcp)
+            check(f"{name}: it went back", driver.put(14, [(1, 1, 1)]), f"WentBack [{place}]")
+            check(f"{name}: all again", driver.ask("many", 0, 14, 1, 1, 1), "answered 14")
+            check(f"{name}: full again", driver.put(14, [(1, 1, 1)]), f"Full {place}")
         with Asked(command, hosts, by, most=20, reserve=5) as driver:
             check(f"{name}: repeats", driver.ask("many", 0, 14, 1, 1, 1), "answered 14")
         with Asked(command, hosts, by, most=1000, reserve=0) as driver:

@@ -284,6 +284,18 @@ static hhm_result put_cut(hhm_cluster *hhm, cut_batches *cut, size_t *answered)
     return first == HHM_FULL ? full(hhm, first_of(hhm)) : first;
 }
 
+/* That a book is full; but that a server went back, which then gets again what it lacks, comes before it. */
+static hhm_result refused(hhm_cluster *hhm)
+{
+    hhm_status status;
+    for (size_t at = 0; at < how_many(hhm); at++) {
+        hhm_result result = hhm_ask_status(hhm->servers[first_of(hhm) + at], &status);
+        if (result)
+            return of_server(hhm, first_of(hhm) + at, result);
+    }
+    return full(hhm, first_of(hhm));
+}
+
 hhm_result hhm_cluster_put_all(hhm_cluster *hhm, const hhm_batch *batches, size_t count, size_t depth,
                                size_t *answered)
 {
@@ -297,7 +309,7 @@ hhm_result hhm_cluster_put_all(hhm_cluster *hhm, const hhm_batch *batches, size_
         if (result == HHM_OK)
             result = meet(hhm);
         if (result == HHM_OK && hhm->is_full)
-            result = full(hhm, first_of(hhm));
+            result = refused(hhm);
         if (result == HHM_OK)
             result = put_cut(hhm, &cut, &done);
         if (result == HHM_BOOK_WENT_BACK)

@@ -338,11 +338,9 @@ class Cluster(Several):
         while ahead := [self._framed(*batch) for batch in itertools.islice(source, max(1, min(depth, MAX_DEPTH)))]:
             self._meet()
             if self._full is not None:
-                raise Full(self._full.place, self._full.batches)
+                self._refuse(self._full)
             done, outcome = self._put_ahead(ahead)
             yield from zip([batch.number for batch in ahead], done)
-            if any(isinstance(fault, BookWentBack) for fault in outcome.faults.values()):
-                self._full = None
             outcome.judge()
 
     def cell(self, row: int, col: int) -> Optional[int]:
@@ -367,6 +365,11 @@ class Cluster(Several):
         """The text of the sum of all accepted batches. Each server's part of it has at most 64 MiB; what is longer is
         written of snapshots (`hhm export`)."""
         return merged(self._ask(self.parts, Part.export))
+
+    def save(self, own: bool = False) -> List[int]:
+        """Saves a snapshot at each server, or with `own` at those alone that this client's batches go to, and gives
+        their numbers of batches."""
+        return self._ask(self._putting if own else self.parts, Part.save)
 
     def stop(self) -> None:
         """Tells all servers to stop, as `Client.stop` does."""
@@ -398,6 +401,15 @@ class Cluster(Several):
                 if part not in self._putting:
                     part.close()
             self._has_met = True
+
+    def _refuse(self, full: Full) -> None:
+        """Tells a full book; but that servers went back, which then get again what they lack, comes before it."""
+        try:
+            self._ask(self._putting, Part.status)
+        except WentBack:
+            self._full = None
+            raise
+        raise Full(full.place, full.batches)
 
     def _put_ahead(self, ahead: List[Batch]) -> Tuple[List[List[Accepted]], Outcome]:
         """Puts batches: the replies to the first of them, those that all parts have accepted, and the faults."""

@@ -240,7 +240,7 @@ impl Cluster {
             }
             self.meet()?;
             if let Some(place) = self.full {
-                return Err(Fault::Full { place });
+                return Err(self.refused(place));
             }
             let (replies, outcome) = self.put_ahead(&ahead);
             for ((number, _), accepted) in ahead.iter().zip(whole(&replies)) {
@@ -350,6 +350,19 @@ impl Cluster {
             self.has_met = true;
         }
         Ok(())
+    }
+
+    /// That a book is full; but that servers went back, which then get again what they lack, comes before it.
+    fn refused(&mut self, place: usize) -> Fault {
+        match self.ask(&self.putting.clone(), Client::status) {
+            Ok(_) => Fault::Full { place },
+            Err(fault) => {
+                if matches!(fault, Fault::WentBack(_)) {
+                    self.full = None;
+                }
+                fault
+            }
+        }
     }
 
     /// What servers answer to a call, all asked at once.

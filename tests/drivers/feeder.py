@@ -25,7 +25,7 @@ def main():
         for number, _ in hhm.put_all(((number, batch(int(client), number)) for number in numbers), depth=4):
             print(f"accepted {number}", flush=True)
             if how == "keep" and (number % 10 == 9 or number == int(end) - 1):
-                hhm.save()
+                hhm.save(own=True)
                 print(f"saved {number}", flush=True)
 
 
