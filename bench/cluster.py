@@ -1,7 +1,7 @@
 #!/usr/bin/env python3
 """Measures puts to one, two and four servers at once, by source and by rows, in one run.
 
-    python3 bench/cluster.py PATH-TO-HHM [--cells N] [--batch B] [--clients C] [--repeat R]
+    python3 bench/cluster.py PATH-TO-HHM [--cells N] [--batch B] [--clients C] [--shards S] [--repeat R]
 
 Random cells of a matrix of 2^60 by 2^60, C clients in a process each, 16 batches on the way. By rows a batch is cut into
 parts for all servers, with B cells in a batch and with B for each server. Frames are made before it is measured, so
@@ -26,11 +26,11 @@ from hhm_cluster import cut  # noqa: E402
 SIZE = 1 << 60
 
 
-def started(program, count):
+def started(program, count, shards):
     servers = []
     for _ in range(count):
         words = [program, "serve", "--tcp", "127.0.0.1:0", "--rows", str(SIZE), "--cols", str(SIZE), "--workers", "16"]
-        process = subprocess.Popen(words, stdout=subprocess.PIPE, text=True)
+        process = subprocess.Popen([*words, "--shards", str(shards)], stdout=subprocess.PIPE, text=True)
         process.address = process.stdout.readline().split()[-1]
         servers.append(process)
     return servers
@@ -68,7 +68,7 @@ def feed(address, client, frames, barrier):
 def measured(program, servers, by, size, given):
     """The seconds until all is answered, and the servers' processor time for a cell."""
     batches = given.cells // given.clients // size
-    processes = started(program, servers)
+    processes = started(program, servers, given.shards)
     lanes = [(processes[place].address, client, frames)
              for client in range(given.clients)
              for place, frames in enumerate(frames_of(client, batches, size, servers, by)) if frames]
@@ -98,6 +98,7 @@ def main():
     words.add_argument("--cells", type=int, default=1_600_000)
     words.add_argument("--batch", type=int, default=1000)
     words.add_argument("--clients", type=int, default=4)
+    words.add_argument("--shards", type=int, default=8)
     words.add_argument("--repeat", type=int, default=3)
     given = words.parse_args()
     program = os.path.abspath(given.hhm)

@@ -22,7 +22,7 @@ from attacks import RT, SOURCES, TOP, copy_parts, crates_below, lines_of_list
 HHM_TESTS = (
     "program.py", "log_check.py", "server.py", "generated.py", "server_faults.py", "server_log.py",
     "server_log_faults.py", "log_torture.py", "server_paths.py", "server_ends.py", "progress.py", "server_clients.py",
-    "refused.py", "clients.py", "loading.py", "packages.py", "install.py",
+    "refused.py", "clients.py", "loading.py", "packages.py", "cluster.py", "install.py",
 )  # fmt: skip
 # Of each program the words and the input of a run once it is built, and the scripts of tests/ that are run on it.
 PROGRAMS = {
@@ -134,7 +134,7 @@ def main(words):
     if to_attack:
         tally.run_counted("wrong bodies", [sys.executable, TOP / "tests/attacks.py", "--all", *to_attack])
     for program, run in PROGRAMS.items():
-        if program in proved or any(it.startswith(("tests/", "clients/", "tools/")) for it in others):
+        if program in proved or any(it.startswith(("tests/", "clients/", "tools/", "examples/")) for it in others):
             test_program(program, *run, tally)
     print(f"{time.time() - begin:.0f} s")
     print(f"{tally.passed} passed, {tally.failed} failed")

@@ -23,7 +23,7 @@ from server import check
 
 sys.path.insert(0, os.path.join(os.path.dirname(os.path.abspath(__file__)), "..", "clients", "python"))
 from hhm_client import Arrays, Refused, RowSum  # noqa: E402
-from hhm_cluster import MARKER, Full, Half, OtherMap, WentBack, cut, marker_of, place_of_row  # noqa: E402
+from hhm_cluster import MARKER, Full, Half, OtherMap, WentBack, cut, marker_of, merged, place_of_row  # noqa: E402
 from hosts import SIZE, Feeder, Hosts, added, batch, sum_in, until  # noqa: E402
 
 WAYS = ("source", "rows")
@@ -217,6 +217,16 @@ def another_map_is_told():
                 check(f"{by}: the map goes on", sum_in(hhm.export()), added(first, cells))
 
 
+def a_new_generation_goes_on():
+    """Other servers, another number and way: the sum of both generations is that of all."""
+    cells = [batch(3, number) for number in range(8)]
+    with Hosts("old", 2) as old, Hosts("new", 3) as new:
+        with old.cluster(3, by="rows") as before, new.cluster(3, generation=2, by="source") as after:
+            list(before.put_all(enumerate(cells[:5])))
+            list(after.put_all(enumerate(cells[5:], 5)))
+            check("two generations", sum_in(merged([before.export(), after.export()])), added(*cells))
+
+
 def a_server_that_was_used_is_told():
     """A book that a client without a map began."""
     with Hosts("used", 2) as hosts:
@@ -356,6 +366,7 @@ def all_are_tried():
         a_full_book_is_told(by)
     a_row_needs_its_server_alone()
     another_map_is_told()
+    a_new_generation_goes_on()
     a_server_that_was_used_is_told()
     a_half_batch_is_told()
     a_used_number_is_told_by_an_empty_part()
