@@ -3,11 +3,11 @@
 
     python3 bench/cluster.py PATH-TO-HHM [--cells N] [--batch B] [--clients C] [--shards S] [--repeat R]
 
-Random cells of a matrix of 2^60 by 2^60, C clients in a process each, 16 batches on the way. By rows a batch is cut into
-parts for all servers, with B cells in a batch and with B for each server. Frames are made before it is measured, so
-that it is the servers that are measured and not Python: a line has the cells a second until all are answered, and the
-servers' processor time for a cell, the least of R runs. The status is 1 where the servers' total isn't that of the
-cells. Linux, and Python's own library alone.
+Random cells of a matrix of 2^60 by 2^60, C clients in a process each, 16 batches on the way. By rows a batch is cut
+into parts for all servers, with B cells in a batch and with B for each server. Frames are made before it is measured,
+so that it is the servers that are measured and not Python: a line has the cells a second until all are answered, the
+most of R runs, and the servers' processor time for a cell, the least of them. The status is 1 where the servers' total
+isn't that of the cells. Linux, and Python's own library alone.
 """
 import argparse
 import array
