@@ -23,8 +23,11 @@ from server import check
 
 sys.path.insert(0, os.path.join(os.path.dirname(os.path.abspath(__file__)), "..", "clients", "python"))
 from hhm_client import Arrays, Refused, RowSum  # noqa: E402
-from hhm_cluster import MARKER, Full, Half, OtherMap, WentBack, cut, marker_of, merged, place_of_row  # noqa: E402
+from hhm_cluster import (  # noqa: E402
+    MARKER, Cluster, Full, Half, OtherMap, WentBack, cut, marker_of, merged, place_of_row,
+)
 from hosts import SIZE, Feeder, Hosts, added, batch, sum_in, until  # noqa: E402
+from peers import Liar  # noqa: E402
 
 WAYS = ("source", "rows")
 EXAMPLES = os.path.join(os.path.dirname(os.path.abspath(__file__)), "..", "examples")
@@ -237,6 +240,15 @@ def a_server_that_was_used_is_told():
         check("used: nothing is put", [total for _, total in hosts.books()], [0, 4])
 
 
+def a_refused_marker_is_told():
+    """That a log has no room says nothing of the map; that the marker's number is another batch's, or that a full book
+    lacks it, does."""
+    for code, wanted in [(34, ("Refused", "LogFull")), (35, ("Refused", "LogFailed")), (30, ("OtherMap", 0)),
+                         (32, ("OtherMap", 0))]:
+        with Liar(server.refused(code)) as liar, Cluster([liar.path], client=1, generation=1) as hhm:
+            check(f"a marker, refused by {code}", told(lambda: hhm.put(1, [])), wanted)
+
+
 def a_full_book_is_told(by):
     """Of 20 places one is the marker's and five the reserve's: 14 batches. A run that begins again puts them again, and
     goes into the reserve by one call, no more."""
@@ -368,6 +380,7 @@ def all_are_tried():
     another_map_is_told()
     a_new_generation_goes_on()
     a_server_that_was_used_is_told()
+    a_refused_marker_is_told()
     a_half_batch_is_told()
     a_used_number_is_told_by_an_empty_part()
     interrupted_calls_are_made_again()

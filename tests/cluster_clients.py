@@ -15,7 +15,7 @@ from server import check
 
 HERE = os.path.dirname(os.path.abspath(__file__))
 from hosts import SIZE, Hosts, added, batch, sum_in  # noqa: E402 (server.py has put the client's folder on the path)
-from peers import Driver  # noqa: E402
+from peers import Driver, Liar  # noqa: E402
 
 # The first rows of each of two servers, by rows, as cluster.py has worked them out.
 AT_0, AT_1 = (0, 2, 4, 5), (1, 3, 6, 8)
@@ -113,6 +113,14 @@ def other_maps_are_told(language, command, by):
         check(f"{name}: nothing is put", [total for _, total in hosts.books()], before)
 
 
+def refused_markers_are_told(language, command):
+    for code, wanted in [(34, "Refused 0 34"), (35, "Refused 0 35"), (30, "OtherMap 0"), (32, "OtherMap 0")]:
+        with Liar(server.refused(code)) as liar:
+            liar.tcp = liar.path
+            with Asked(command, [liar], "rows") as driver:
+                check(f"{language}: a marker, refused by {code}", driver.put(1, [(0, 0, 1)]), wanted)
+
+
 def books_are_full(language, command, by):
     name, place = f"{language} {by}", 0 if by == "rows" else 1
     with Hosts(f"full {name}", 2, more=["--max-batches", "20"]) as hosts:
@@ -150,6 +158,7 @@ def all_are_tried():
             other_maps_are_told(language, command, by)
             books_are_full(language, command, by)
         halves_are_told(language, command)
+        refused_markers_are_told(language, command)
 
 
 if __name__ == "__main__":

@@ -574,8 +574,8 @@ static hhm_result put_marker(hhm_client *hhm)
     hhm_result result = read_reply(hhm, ACCEPTED, &got);
     if (result == HHM_OK && number_at(got.bytes, 8) == 0)
         return HHM_OK;
-    /* (a connection that is open had a refusal that ends no session) */
-    if (result == HHM_OK || (result == HHM_REFUSED && hhm->link >= 0))
+    /* (any refusal but NumberReused and BookFull, as that of a log without room, says nothing of what the book has) */
+    if (result == HHM_OK || (result == HHM_REFUSED && (hhm->refusal.code == 30 || hhm->refusal.code == 32)))
         return told(hhm, HHM_OTHER_MAP, "the server is one of another map");
     return result;
 }

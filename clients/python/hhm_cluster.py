@@ -192,7 +192,8 @@ class Part(Client):
         try:
             index, _ = struct.unpack(">QQ", self._checked(link.reply(), ACCEPTED, 16))
         except Refused as why:
-            if why.ends_session:
+            # (any other refusal, as that of a log without room, says nothing of what the book has)
+            if why.name not in ("NumberReused", "BookFull"):
                 raise
             raise OtherMap(self.place, address, f"its marker is refused: {why}") from None
         if index != 0:

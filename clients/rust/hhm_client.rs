@@ -653,10 +653,9 @@ impl Client {
             link.send(&put_cells_frame(u64::MAX, marker, &[])?)?;
             match reply_of(&mut link, ACCEPTED) {
                 Ok(body) if number_at(&body, 0) == 0 => {}
-                Err(Error::Refused(refusal)) if refusal.ends_session() => {
-                    return Err(Error::Refused(refusal))
-                }
-                Ok(_) | Err(Error::Refused(_)) => return Err(Error::OtherMap),
+                Ok(_) => return Err(Error::OtherMap),
+                // (NumberReused, BookFull; any other, as that of a log without room, says nothing of what the book has)
+                Err(Error::Refused(Refusal { code: 30 | 32, .. })) => return Err(Error::OtherMap),
                 Err(fault) => return Err(fault),
             }
         }
