@@ -1,0 +1,6 @@
+pub mod RangeLaws
+pub mod TallyLaws
+pub mod TopLaws
+pub mod DegreeLaws
+pub mod RowLaws
+pub mod OneTop
