@@ -74,6 +74,19 @@ static void alarms(void)
     puts("alarms");
 }
 
+/* Reads a line, also where alarms interrupt that: a line comes in one piece. */
+static char *next_line(char *line, int size)
+{
+    for (;;) {
+        errno = 0;
+        if (fgets(line, size, stdin))
+            return line;
+        if (!ferror(stdin) || errno != EINTR)
+            return NULL;
+        clearerr(stdin);
+    }
+}
+
 static hhm_result put(hhm_client *hhm, uint64_t number, uint64_t count)
 {
     hhm_cell cell = {0, 0, count};
@@ -145,7 +158,7 @@ int main(int count, char **words)
         wide[row] = cell;
     }
     setvbuf(stdout, NULL, _IOLBF, BUFSIZ);
-    while (fgets(line, sizeof line, stdin)) {
+    while (next_line(line, sizeof line)) {
         uint64_t numbers[4] = {0, 0, 0, 0};
         sscanf(line, "%19s %" SCNu64 " %" SCNu64 " %" SCNu64 " %" SCNu64, word, &numbers[0], &numbers[1], &numbers[2],
                &numbers[3]);
