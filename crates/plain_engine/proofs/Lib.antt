@@ -7,5 +7,6 @@ pub mod SameLaws
 pub mod PutLaws
 pub mod FoldingLaws
 pub mod LookLaws
+pub mod KnownLaws
 pub mod LoadLaws
 mod WalkLaws

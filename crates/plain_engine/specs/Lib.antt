@@ -6,3 +6,4 @@ pub mod Views
 pub mod Puts
 pub mod Loads
 pub mod Folds
+pub mod Known
