@@ -1,8 +1,7 @@
 -- The batches that a book hands out from a place on.
 use Rattle.std.proofs.Common.{◌≡◌, ℕ, zero, suc, ◌+◌, ◌-◌, ◌≤◌, List, [], ◌∷◌, ◌++◌, length, take, drop, refl, ap, sym}
-use Rattle.std.proofs.Common.{◌∙◌, subst, append_assoc, arith, length-append}
+use Rattle.std.proofs.Common.{◌∙◌, subst, append_assoc, arith}
 use Rattle.std.proofs.lemmas.List.{take-append-drop}
-use mathlib.Core.List.{IsPrefix}
 use Rattle.batch_store.specs.declared.verdict.Entry.{Entry}
 use Rattle.batch_store.specs.Accepted.{Accepted, entries_in}
 use Rattle.batch_store.specs.Batches.{Submission, entry_of, entries_of}

@@ -8,8 +8,10 @@ use mathlib.Core.List.{IsPrefix}
 use prog.Atomic.{either}
 use Rattle.logbook.specs.Pages.{Cell, cell, keeps, gives, adds, Nib, nib, no_nib, may_write, step, Moves, Goes, View}
 use Rattle.batch_store.specs.declared.verdict.Entry.{Entry}
+use Rattle.batch_store.specs.Batches.{Submission}
 use Rattle.locked_engine.specs.declared.history.Line.{Line}
 use Rattle.locked_engine.specs.Histories.{place_from, AreTaken, IsKept, line, Begins, Places, Adds, Looks, added_in, entries_of_lines}
+use Rattle.locked_engine.specs.Histories.{given_in, batches_of_lines}
 
 abbrev pub shown : List Line → List Line
 shown log = []
@@ -160,10 +162,10 @@ begin_goes : (cs : List Cell) (e : Line) (b : Bool) → ((cell cs 0).0 == 0) ≡
 begin_goes cs e true is [] kept nil =
     let k = length cs in (
       adds,
-      line e.entry k ∷ [],
+      line e.entry e.batch k ∷ [],
       None,
       tt,
-      opened_kept cs (line e.entry k) kept,
+      opened_kept cs (line e.entry e.batch k) kept,
       inl (refl, refl),
       rw is (k, refl, refl),
     )
@@ -265,3 +267,16 @@ entries_append (x ∷ xs) ys = ap (λ (es : List Entry). x.entry ∷ es) (entrie
 pub added_prefix : (xs ys : List Line) → IsPrefix xs ys → IsPrefix (added_in xs) (added_in ys)
 added_prefix [] ys p = (added_in ys, refl)
 added_prefix (x ∷ xs) ys p = (entries_of_lines p.0, sym (entries_append xs p.0) ∙ ap added_in p.1)
+
+batches_append : (xs ys : List Line) → batches_of_lines (xs ++ ys) ≡ batches_of_lines xs ++ batches_of_lines ys
+batches_append [] ys = refl
+batches_append (x ∷ xs) ys = ap (λ (bs : List Submission). x.batch ∷ bs) (batches_append xs ys)
+
+-- one batch more, and the batches of a beginning
+pub given_push : (ls : List Line) (l : Line) → 0 < length ls → given_in (ls ++ l ∷ []) ≡ given_in ls ++ l.batch ∷ []
+given_push [] l some = absurd (omega arith)
+given_push (m ∷ ms) l some = batches_append ms (l ∷ [])
+
+pub given_prefix : (xs ys : List Line) → IsPrefix xs ys → IsPrefix (given_in xs) (given_in ys)
+given_prefix [] ys p = (given_in ys, refl)
+given_prefix (x ∷ xs) ys p = (batches_of_lines p.0, sym (batches_append xs p.0) ∙ ap given_in p.1)

@@ -17,7 +17,7 @@ use Rattle.batch_store.specs.Batches.{Submission}
 use Rattle.batch_store.specs.Shards.{Holding, holding, Sight, AreHeld, layering_of, layering_with, part_in}
 use Rattle.plain_engine.specs.Standing.{Stand}
 use Rattle.locked_engine.specs.Moments.{IsShardOf, row_sum_in, no_sum}
-use Rattle.locked_engine.specs.Opened.{IsBased}
+use Rattle.plain_engine.specs.Known.{IsBased}
 use Rattle.locked_engine.specs.Shown.{Shown, shown, IsSightOf}
 
 -- what shows a shard with a batch more is of a shard

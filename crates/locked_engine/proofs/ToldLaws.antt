@@ -64,20 +64,20 @@ added_told v es e = (
       ∙ last_total es e),
 )
 
-pub admitted_told : (v : Setting) (a now : Accepted) (seen : List Entry) (b : Submission)
-    (res : Result Kept NotAdmitted) → OnOk res (seen ≡ entries_in now) → OnOk res (now ≡ with_batch a b)
-    → IfOk res (λ (k : Kept). k ≡ kept (count_in a) (total_in a + batch_total b))
-    → IfOk res (λ (k : Kept). IsTold v (entry_of b) seen (Ok k))
-admitted_told v a now seen b (Err u) same more is = tt
-admitted_told v a now seen b (Ok k) same more is =
+pub admitted_told : {R : Type 0} (reply : R → Kept) (v : Setting) (a now : Accepted) (seen : List Entry)
+    (b : Submission) (res : Result R NotAdmitted) → OnOk res (seen ≡ entries_in now) → OnOk res (now ≡ with_batch a b)
+    → IfOk res (λ (r : R). reply r ≡ kept (count_in a) (total_in a + batch_total b))
+    → IfOk res (λ (r : R). IsTold v (entry_of b) seen (Ok (reply r)))
+admitted_told reply v a now seen b (Err u) same more is = tt
+admitted_told reply v a now seen b (Ok r) same more is =
     let es = entries_in a in
     let e = entry_of b in
     let shown : seen ≡ es ++ e ∷ [] = same ∙ ap entries_in more ∙ entries-with a b in
-    subst (λ (l : List Entry). IsTold v e l (Ok k)) (sym shown)
+    subst (λ (l : List Entry). IsTold v e l (Ok (reply r))) (sym shown)
     (subst (λ (n : Kept). IsTold v e (es ++ e ∷ []) (Ok n)) (sym is) (added_told v es e))
 
 -- what was shown before an admission begins what is shown after it
-pub admitted_later : (res : Result Kept NotAdmitted) (before seen after : List Entry) (a now : Accepted)
+pub admitted_later : {R : Type 0} (res : Result R NotAdmitted) (before seen after : List Entry) (a now : Accepted)
     (b : Submission) → IsPrefix before seen → seen ≡ entries_in a → OnOk res (after ≡ entries_in now)
     → OnOk res (now ≡ with_batch a b) → OnErr res (after ≡ seen) → IsPrefix before after
 admitted_later (Err u) before seen after a now b begins shown same more kept =

@@ -5,15 +5,11 @@
 --                     was accepted before, the others have nothing; each was shown this version
 --     firsts          the seats' shares of the first ledger, added up
 --     SharePast a b   the same batches are folded in both, into the same base
---     IsBased a k x   this shard's base, of k shards, is its part of what is folded in a; AreBased: each one's is
 use Rattle.std.specs.Prelude.{◌≡◌, ℕ, ◌+◌, ◌==◌, if◌then◌else◌, zero, suc, List, [], ◌∷◌, ◌++◌, sum_by}
 use Rattle.logbook.specs.Pages.{Book}
-use Rattle.std.specs.Coded.{Coded-set}
-use Rattle.hyper_matrix.specs.Counts.{part, coded_counts}
 use Rattle.batch_store.specs.Setups.{Setting}
 use Rattle.batch_store.specs.declared.verdict.Entry.{Entry}
 use Rattle.batch_store.specs.Accepted.{Accepted}
-use Rattle.batch_store.specs.Shards.{Holding}
 use Rattle.locked_engine.specs.Views.{NamesView, SeatView, seat_view}
 
 pub record NamesEngine (names : NamesView) (setup : Setting) (seats : ℕ) (history : Book)
@@ -39,13 +35,3 @@ firsts seats = sum_by (λ (s : SeatView). s.first) seats
 pub record SharePast (a b : Accepted) : Type 0 where
   pub base : a.base ≡ b.base
   pub folded : a.folded ≡ b.folded
-
-abbrev pub IsBased : Accepted → ℕ → Holding → Type 0
-IsBased a k x = x.base ≡ part a.base x.number k
-
-pub based_prop : (a : Accepted) (k : ℕ) (x : Holding) → IsProp (IsBased a k x)
-based_prop a k x = Coded-set coded_counts x.base (part a.base x.number k)
-
-abbrev pub AreBased : Accepted → ℕ → List Holding → Type 0
-AreBased a k [] = Unit {0}
-AreBased a k (x ∷ xs) = IsBased a k x × AreBased a k xs

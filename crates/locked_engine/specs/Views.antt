@@ -1,12 +1,14 @@
 -- What contracts see of names and of seats.
 --     NamesView       a setup, a number of seats, and the names of both ledgers and of the history
 --     SeatView        a seat's number, its share of the first ledger, and the version that it was shown
+--     Course          the entries and the batches of a history, those that it was opened with too
 use Rattle.std.specs.Prelude.{ℕ, List, refl}
 use Rattle.std.specs.Coded.{Coded, code_by, coded×, coded_ℕ, coded_list}
 use Rattle.logbook.specs.Pages.{Book}
 use Rattle.batch_store.specs.Setups.{Setting, coded_setting}
 use Rattle.batch_store.specs.declared.verdict.Entry.{Entry}
 use Rattle.batch_store.specs.Verdicts.{coded_entry}
+use Rattle.batch_store.specs.Batches.{Submission, coded_submission}
 
 pub record NamesView : Type 0 where
   pub setup : Setting
@@ -40,3 +42,15 @@ abbrev pub coded_seat : Coded SeatView
 coded_seat =
     code_by (ℕ × (ℕ × List Entry)) (coded× coded_ℕ (coded× coded_ℕ (coded_list coded_entry)))
     (λ s. (s.number, (s.first, s.seen))) (λ p. seat_view p.0 p.1.0 p.1.1) (λ _. refl)
+
+pub record Course : Type 0 where
+  pub entries : List Entry
+  pub batches : List Submission
+
+abbrev pub course : List Entry → List Submission → Course
+course entries batches = record { entries = entries; batches = batches }
+
+abbrev pub coded_course : Coded Course
+coded_course =
+    code_by (List Entry × List Submission) (coded× (coded_list coded_entry) (coded_list coded_submission))
+    (λ s. (s.entries, s.batches)) (λ p. course p.0 p.1) (λ _. refl)

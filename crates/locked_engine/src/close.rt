@@ -4,16 +4,18 @@ ghost use mathlib.Core.List.{IsPrefix};
 ghost use Rattle.batch_store.specs.declared.verdict.Entry.{Entry};
 ghost use Rattle.batch_store.specs.Accepted.{entries_in, total_in};
 ghost use Rattle.plain_engine.specs.Standing.{AreTogether, HaveSetup, IsWhole, shards_total};
+ghost use Rattle.plain_engine.specs.Known.{AllFrom, AreBased};
 ghost use Rattle.locked_engine.specs.Opened.{firsts, SharePast};
 ghost use Rattle.locked_engine.specs.Told.{AreShown};
 
 use crate::engine::Engine;
+use crate::known::Known;
 use crate::locked_shard::LockedShard;
 use crate::names::Named;
 use crate::seat::Seat;
 use crate::version::Version;
 use batch_store::{Book, Shard};
-use plain_engine::{PlainEngine, join_parts};
+use plain_engine::{PlainEngine, join_known};
 use std::alloc::Global;
 use std::sync::ledger::{Ledger, Share};
 use std::sync::{Mutex, Wait};
@@ -43,7 +45,7 @@ impl<N: Named, H: Ledger> Engine<N, H> {
     /// The engine of one thread that has accepted what this one has, where all seats are given back. It takes out what
     /// shows readers the status, which waits for those that read; whoever owns the engine and all its seats has no
     /// thread that does. One growth, of a place for each shard; then the
-    /// records are compared with the book, each batch with itself, cell by cell, in each shard that it concerns.
+    /// records are compared with the book, by client and number, since it is known that their batches are the book's.
     ///
     /// # Errors
     ///
@@ -103,11 +105,13 @@ impl<N: Named, H: Ledger> Engine<N, H> {
             shown: _,
         } = self;
         let (mut first, mut second, seen) = gather(seats);
-        unlock_all(locked, &mut shards, &mut second);
-        let (book, mut first_number, mut second_number) = book.into_inner().end(rt, &seen);
+        let book = book.into_inner();
+        let mut known = book.known();
+        unlock_all(locked, &mut shards, &mut second, &mut known);
+        let (book, mut first_number, mut second_number) = book.end(rt, &seen, &known);
         first_number.audit(&mut first);
         second_number.audit(&mut second);
-        match join_parts(setup, book, shards) {
+        match join_known(setup, book, shards) {
             Ok(plain) => {
                 // Any call on it tells what it keeps.
                 let _setup = plain.setup();
@@ -157,21 +161,25 @@ fn gather<N: Named, H: Ledger>(seats: Vec<Seat<N, H>>) -> (Share<N>, Share<H>, V
     (first, second, seen)
 }
 
-// Takes each shard from behind its lock, with its part of the share.
+// Takes each shard from behind its lock, with its part of the share and what is known of its batches.
 fn unlock_all<N: Named, H: Ledger>(
     locked: Vec<Mutex<LockedShard<N, H>>>,
     shards: &mut Vec<Shard>,
     second: &mut Share<H>,
+    known: &mut Known<N>,
 )
     requires empty { shards.old.items ≡ [] }
     requires room { vec_len locked ≤ vec_capacity shards.old }
     ensures made { HaveSetup N.setup shards.new.items }
     ensures parts { second.new.parts ≡ second.old.parts + vec_len locked }
     ensures amount { second.new.amount ≡ second.old.amount + shards_total shards.new.items }
+    ensures based { AreBased N.opened N.setup.shards shards.new.items }
+    ensures from { AllFrom known.new shards.new.items }
 {
     'shards: for behind in locked {
-        let (shard, held) = behind.into_inner().into_parts();
+        let (shard, held, from) = behind.into_inner().into_parts();
         second.merge(held);
+        known.learn(&from);
         shards.push_reserved(shard);
     }
 }

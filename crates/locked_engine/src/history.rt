@@ -1,26 +1,31 @@
-//! The history of an engine: the entries of the batches that it has accepted since it was opened, in order. It exists
+//! The history of an engine: the batches that it has accepted since it was opened, and their entries, in order. It exists
 //! in proofs alone; what is there at run time is one word, which nobody reads.
 //!
 //! Each entry takes the place that the one before it names, and the right to take the next place is there once, with
 //! `History`. So nobody else can add to it, and whoever has it knows that it is all.
 ghost use Rattle.std.specs.Prelude.{◌≡◌, ◌<◌, ◌∷◌, ◌++◌, [], length};
 ghost use mathlib.Core.List.{IsPrefix};
+ghost use Rattle.std.specs.Arc.{arc_value};
 ghost use Rattle.logbook.specs.Pages.{nib, may_make, may_write};
 ghost use Rattle.batch_store.specs.declared.verdict.Verdict.TheVariants.{Fresh};
 ghost use Rattle.batch_store.specs.Accepted.{entries_in};
-ghost use Rattle.locked_engine.specs.Histories.{head_of, place_from, added_in};
+ghost use Rattle.locked_engine.specs.Histories.{head_of, place_from, added_in, given_in, none_prop};
+ghost use Rattle.locked_engine.specs.Views.{course};
 ghost use Rattle.locked_engine.specs.Versions.{IsVersion, version_status, entry_verdict};
 
+use crate::known::Known;
 use crate::names::Named;
 use crate::version::Version;
-use batch_store::Entry;
+use batch_store::{Batch, Entry};
 use logbook::{Gain, Offer, Pen, Plain, Play, Rule, Seen, Start, Word};
 use plain_engine::Status;
 use std::marker::{Model, PhantomData};
+use std::sync::Arc;
 
-/// A line of the history: an entry, and the place that the next line takes. No value of it is made.
+/// A line of the history: a batch with its entry, and the place that the next line takes. No value of it is made.
 pub struct Line {
     pub entry: Entry,
+    pub batch: Batch,
     pub next: u64,
 }
 
@@ -72,7 +77,7 @@ impl Play<Line, u64> for MakePlace {
     ghost then = { Places };
 }
 
-/// A step that adds an entry.
+/// A step that adds a batch.
 pub struct AddEntry;
 
 impl Play<Line, u64> for AddEntry {
@@ -90,18 +95,20 @@ impl Play<Line, u64> for LookAtAll {
     ghost then = { Looks };
 }
 
-// What is added: an entry, and the place that the next one takes.
+// What is added: a batch with its entry, and the place that the next one takes.
 #[derive(Drop)]
 struct Addition {
     entry: Entry,
+    batch: Arc<Batch>,
     place: Pen,
 }
 
 impl Plain<Addition, Line, u64> for AddEntry {
     ghost use Rattle.std.specs.Prelude.{None};
+    ghost use Rattle.std.specs.Arc.{arc_value};
     ghost use Rattle.locked_engine.specs.Histories.{line};
 
-    ghost ask = { λ a. line a.entry a.place.nib.key };
+    ghost ask = { λ a. line a.entry (arc_value a.batch) a.place.nib.key };
 
     ghost state = { λ a. None };
 }
@@ -109,9 +116,9 @@ impl Plain<Addition, Line, u64> for AddEntry {
 // The other steps ask for no entry.
 impl Plain<Entry, Line, u64> for BeginHistory {
     ghost use Rattle.std.specs.Prelude.{None};
-    ghost use Rattle.locked_engine.specs.Histories.{line};
+    ghost use Rattle.locked_engine.specs.Histories.{line, no_batch};
 
-    ghost ask = { λ e. line e 0 };
+    ghost ask = { λ e. line e no_batch 0 };
 
     ghost state = { λ e. None };
 }
@@ -144,6 +151,7 @@ pub struct NewHistory {
     place: Pen,
     pub ghost some: { 0 < length seen.log },
     pub ghost empty: { added_in seen.log ≡ [] },
+    pub ghost none: { given_in seen.log ≡ [] } by { none_prop (given_in seen.log) },
     pub ghost head_is: { head ≡ head_of seen.book },
     pub ghost place_book: { place.book ≡ seen.book },
     pub ghost place_is: { place.nib ≡ nib may_write (place_from 0 seen.log) 0 },
@@ -173,7 +181,8 @@ impl NewHistory {
 /// The whole history of the engine that N names, behind what the engine was opened with. There is one of it, and what
 /// it doesn't have can't be seen by anybody.
 ///
-/// Contracts see the entries, first those of what was opened. No client and number stands twice, and both limits hold.
+/// Contracts see the entries and the batches that aren't folded, first those of what was opened. No client and number
+/// stands twice, and both limits hold.
 #[derive(Drop)]
 pub struct History<N: Named> {
     status: Status,
@@ -186,20 +195,18 @@ pub struct History<N: Named> {
 }
 
 impl<N: Named> Model for History<N> {
-    ghost use Rattle.std.specs.Prelude.{◌≡◌, ◌<◌, ◌++◌, List, length};
-    ghost use Rattle.std.specs.Coded.{coded_list};
+    ghost use Rattle.std.specs.Prelude.{◌≡◌, ◌<◌, ◌++◌, length};
     ghost use Rattle.logbook.specs.Pages.{nib, may_write};
-    ghost use Rattle.batch_store.specs.declared.verdict.Entry.{Entry};
     ghost use Rattle.batch_store.specs.Accepted.{entries_in};
-    ghost use Rattle.batch_store.specs.Verdicts.{coded_entry};
-    ghost use Rattle.locked_engine.specs.Histories.{head_of, place_from, added_in};
+    ghost use Rattle.locked_engine.specs.Histories.{head_of, place_from, added_in, given_in};
     ghost use Rattle.locked_engine.specs.Versions.{IsVersion, version_status};
+    ghost use Rattle.locked_engine.specs.Views.{Course, course, coded_course};
 
-    ghost Value = { List Entry };
+    ghost Value = { Course };
 
-    ghost coded = { coded_list coded_entry };
+    ghost coded = { coded_course };
 
-    ghost view = { λ a. entries_in N.opened ++ added_in a.seen.log };
+    ghost view = { λ a. course (entries_in N.opened ++ added_in a.seen.log) (N.opened.list ++ given_in a.seen.log) };
 
     ghost invariant = { λ a. (a.status ≡ version_status (entries_in N.opened ++ added_in a.seen.log))
         × (a.added ≡ length (added_in a.seen.log)) × IsVersion N.setup (entries_in N.opened ++ added_in a.seen.log)
@@ -213,7 +220,7 @@ impl<N: Named> History<N> {
         requires history { opened.seen.book ≡ N.history }
         requires status { status ≡ version_status (entries_in N.opened) }
         requires legal { IsVersion N.setup (entries_in N.opened) }
-        ensures { result ≡ entries_in N.opened }
+        ensures { result ≡ course (entries_in N.opened) N.opened.list }
     {
         let NewHistory { head, seen, place } = opened;
         History {
@@ -228,27 +235,40 @@ impl<N: Named> History<N> {
 
     /// Its status.
     pub fn status(&self) -> Status
-        ensures status { result ≡ version_status self.now }
-        ensures legal { IsVersion N.setup self.now }
-        ensures opened { IsPrefix (entries_in N.opened) self.now }
+        ensures status { result ≡ version_status self.now.entries }
+        ensures legal { IsVersion N.setup self.now.entries }
+        ensures opened { IsPrefix (entries_in N.opened) self.now.entries }
     {
         self.status
     }
 
     /// The version that shows all of it.
     pub fn version(&self) -> Version<N>
-        ensures { result ≡ self.now }
+        ensures { result ≡ self.now.entries }
     {
         Version::make(self.status, self.added, self.seen.again())
     }
 
-    /// Adds an entry.
-    pub fn add(&mut self, entry: Entry)
-        requires fresh { entry_verdict N.setup self.old entry ≡ Fresh }
-        ensures { self.new ≡ self.old ++ entry ∷ [] }
+    /// What is known of its batches: all of them.
+    pub fn known(&self) -> Known<N>
+        ensures { result ≡ self.now.batches }
+    {
+        Known::make(self.seen.again())
+    }
+
+    /// Adds a batch with its entry, and gives the batch back.
+    pub fn add(&mut self, entry: Entry, batch: Arc<Batch>) -> Arc<Batch>
+        requires fresh { entry_verdict N.setup self.old.entries entry ≡ Fresh }
+        ensures entries { self.new.entries ≡ self.old.entries ++ entry ∷ [] }
+        ensures batches { self.new.batches ≡ self.old.batches ++ arc_value batch ∷ [] }
+        ensures batch { arc_value result ≡ arc_value batch }
     {
         let place = self.make_place();
-        let addition = Addition { entry, place };
+        let addition = Addition {
+            entry,
+            batch,
+            place,
+        };
         let mut offer: Offered = self.seen.plain::<NoGain, Addition, AddEntry>(&addition);
         self.head
             .compare_exchange::<AddEntry, NoGain>(
@@ -258,13 +278,18 @@ impl<N: Named> History<N> {
                 &mut offer,
                 &mut self.place,
             );
-        let Addition { entry: _, place } = addition;
+        let Addition {
+            entry: _,
+            batch,
+            place,
+        } = addition;
         self.place = place;
         self.added += 1;
         self.status = Status {
             batches: self.status.batches + 1,
             total: self.status.total + entry.total,
         };
+        batch
     }
 
     // The right to take a new place.
@@ -283,9 +308,21 @@ impl<N: Named> History<N> {
     /// Compares a version with the whole: it begins it.
     pub fn covers(&mut self, version: &Version<N>)
         ensures same { self.new ≡ self.old }
-        ensures begins { IsPrefix version.now self.new }
+        ensures begins { IsPrefix version.now self.new.entries }
     {
         let other = version.seen();
+        let mut both = self.seen.again();
+        both.learn(other);
+        let mut offer: Offered = both.plain::<NoGain, Entry, BeginHistory>(&NO_ENTRY);
+        self.head
+            .compare_exchange::<LookAtAll, NoGain>(0, 1, &mut both, &mut offer, &mut self.place);
+    }
+    /// Compares what is known with the whole: these batches begin its batches.
+    pub fn contains(&mut self, known: &Known<N>)
+        ensures same { self.new ≡ self.old }
+        ensures begins { IsPrefix known.now self.new.batches }
+    {
+        let other = known.seen();
         let mut both = self.seen.again();
         both.learn(other);
         let mut offer: Offered = both.plain::<NoGain, Entry, BeginHistory>(&NO_ENTRY);

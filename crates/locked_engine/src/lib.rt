@@ -30,6 +30,7 @@ mod engine;
 mod export;
 mod fault;
 mod history;
+mod known;
 mod locked_book;
 mod locked_shard;
 mod look;

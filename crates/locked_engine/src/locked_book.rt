@@ -10,6 +10,7 @@ ghost use Rattle.batch_store.specs.Batches.{batch_total, entry_of as summary_of,
 ghost use Rattle.batch_store.specs.Books.{AreAccepted, accepted_in, listed_in, verdict_on};
 ghost use Rattle.batch_store.specs.Verdicts.{kept};
 ghost use Rattle.batch_store.specs.declared.verdict.Verdict.TheVariants.{Fresh};
+ghost use Rattle.plain_engine.specs.Known.{AreFrom};
 ghost use Rattle.locked_engine.specs.Told.{Answers, IsTold, answer_of};
 ghost use Rattle.locked_engine.specs.Opened.{SharePast};
 ghost use Rattle.locked_engine.specs.Queues.{Follows};
@@ -17,6 +18,7 @@ ghost use Rattle.locked_engine.specs.Versions.{IsVersion};
 
 use crate::fault::NotAdmitted;
 use crate::history::History;
+use crate::known::Known;
 use crate::names::Named;
 use crate::version::{NextPlace, NextVersion, Version, VersionWriter, entry_of};
 use batch_store::{Batch, Book, BookList, Kept, Verdict};
@@ -63,8 +65,15 @@ where
 
     ghost invariant = { λ d. (d.book.setup ≡ N.setup) × SharePast d.book.state N.opened
         × (d.first.total ≡ total_in d.book.state) × (d.second.total ≡ total_in d.book.state)
-        × (d.history ≡ entries_in d.book.state)
+        × (d.history.entries ≡ entries_in d.book.state) × (d.history.batches ≡ d.book.state.list)
         × IsSomeAnd d.writer (λ w. (w.desk.shown.value ≡ entries_in d.book.state) × (drop w.behind w.log.items ≡ [])) };
+}
+
+/// The reply to a first acceptance, and what is known then: that the batch is the book's.
+#[derive(Drop)]
+pub struct Admitted<N: Named> {
+    pub kept: Kept,
+    pub known: Known<N>,
 }
 
 /// Err where the verdict isn't a fresh one.
@@ -188,7 +197,8 @@ where
         requires past { SharePast book.state N.opened }
         requires first { first.total ≡ total_in book.state }
         requires second { second.total ≡ total_in book.state }
-        requires history { history ≡ entries_in book.state }
+        requires history { history.entries ≡ entries_in book.state }
+        requires batches { history.batches ≡ book.state.list }
         requires published { writer.desk.shown.value ≡ entries_in book.state }
         requires pending { drop writer.behind writer.log.items ≡ [] }
         ensures { result ≡ book }
@@ -203,14 +213,20 @@ where
     }
 
     /// Takes the writer out, once no reader has a place any more, and gives what else there is. What another has seen
-    /// begins the book's entries.
-    pub fn end<R: Wait>(self, rt: &R, seen: &Version<N>) -> (Book, ledger::Book<N>, ledger::Book<H>)
+    /// begins the book's entries, and what is known its batches.
+    pub fn end<R: Wait>(
+        self,
+        rt: &R,
+        seen: &Version<N>,
+        known: &Known<N>,
+    ) -> (Book, ledger::Book<N>, ledger::Book<H>)
         ensures book { result.0 ≡ self }
         ensures setup { result.0.setup ≡ N.setup }
         ensures past { SharePast result.0.state N.opened }
         ensures first { result.1.total ≡ total_in result.0.state }
         ensures second { result.2.total ≡ total_in result.0.state }
         ensures shown { IsPrefix seen.now (entries_in result.0.state) }
+        ensures known { IsPrefix known.now result.0.state.list }
         ensures opened { IsPrefix (entries_in N.opened) (entries_in result.0.state) }
     {
         let LockedBook {
@@ -227,13 +243,20 @@ where
         let _status = history.status();
         let mut history = history;
         history.covers(seen);
+        history.contains(known);
         (book, first, second)
+    }
+
+    /// What is known of its batches.
+    pub fn known(&self) -> Known<N> {
+        self.history.known()
     }
 
     /// Takes the writer out, and drops the rest.
     pub fn drop_all<R: Wait>(self, rt: &R) {
         let seen = self.history.version();
-        let _ = self.end(rt, &seen);
+        let known = self.history.known();
+        let _ = self.end(rt, &seen, &known);
     }
 
     /// Shows a seat the book's entries. False where the seat was shown more.
@@ -329,14 +352,15 @@ where
         seen: &mut Version<N>,
         place: NextPlace<N>,
         b: Arc<Batch>,
-    ) -> Result<Kept, NotAdmitted>
+    ) -> Result<Admitted<N>, NotAdmitted>
         requires rows { (arc_value b).matrix.rows ≡ N.setup.rows }
         requires cols { (arc_value b).matrix.cols ≡ N.setup.cols }
         requires parts { (first.old.parts ≡ 1) × (second.old.parts ≡ 1) }
         ensures fresh { OnOk result (verdict_on self.old (arc_value b) ≡ Fresh) }
         ensures state { OnOk result (self.new.state ≡ with_batch self.old.state (arc_value b)) }
-        ensures kept { IfOk result (λ r. r ≡
+        ensures kept { IfOk result (λ r. r.kept ≡
             kept (count_in self.old.state) (total_in self.old.state + batch_total (arc_value b))) }
+        ensures known { IfOk result (λ r. AreFrom r.known (arc_value b ∷ [])) }
         ensures refused { OnErr result (self.new.state ≡ self.old.state) }
         ensures parts { (first.new.parts ≡ 1) × (second.new.parts ≡ 1) }
         ensures first { OnOk result (first.new.amount ≡ first.old.amount + batch_total (arc_value b)) }
@@ -344,7 +368,7 @@ where
         ensures first_kept { OnErr result (first.new.amount ≡ first.old.amount) }
         ensures second_kept { OnErr result (second.new.amount ≡ second.old.amount) }
         ensures later { IsPrefix seen.old seen.new }
-        ensures ok { IfOk result (λ k. IsTold N.setup (summary_of (arc_value b)) seen.new (Ok k)) }
+        ensures ok { IfOk result (λ r. IsTold N.setup (summary_of (arc_value b)) seen.new (Ok r.kept)) }
         ensures err { IfErr result (λ u. IsTold N.setup (summary_of (arc_value b)) seen.new (answer_of u)) }
     {
         self.judge(seen, &b)?;
@@ -360,15 +384,16 @@ where
         seen: &mut Version<N>,
         place: NextPlace<N>,
         b: Arc<Batch>,
-    ) -> Result<Kept, NotAdmitted>
+    ) -> Result<Admitted<N>, NotAdmitted>
         requires rows { (arc_value b).matrix.rows ≡ N.setup.rows }
         requires cols { (arc_value b).matrix.cols ≡ N.setup.cols }
         requires parts { (first.old.parts ≡ 1) × (second.old.parts ≡ 1) }
         requires shown { seen.old ≡ entries_in self.old.state }
         requires fresh { verdict_on self.old (arc_value b) ≡ Fresh }
         ensures state { OnOk result (self.new.state ≡ with_batch self.old.state (arc_value b)) }
-        ensures kept { IfOk result (λ r. r ≡
+        ensures kept { IfOk result (λ r. r.kept ≡
             kept (count_in self.old.state) (total_in self.old.state + batch_total (arc_value b))) }
+        ensures known { IfOk result (λ r. AreFrom r.known (arc_value b ∷ [])) }
         ensures refused { OnErr result (self.new.state ≡ self.old.state) }
         ensures parts { (first.new.parts ≡ 1) × (second.new.parts ≡ 1) }
         ensures first { OnOk result (first.new.amount ≡ first.old.amount + batch_total (arc_value b)) }
@@ -393,12 +418,15 @@ where
         }
         one.add(first, b.total);
         two.add(second, b.total);
-        history.add(entry_of(&b));
+        let b = history.add(entry_of(&b), b);
         let version = history.version();
+        let known = history.known();
         let _ = own.try_set(version.again());
         let kept = book.admit(b);
+        // Any call on the book tells what it keeps.
+        let _accepted = book.len();
         show_all(rt, writer, &version);
         *seen = version;
-        Ok(kept)
+        Ok(Admitted { kept, known })
     }
 }

@@ -2,10 +2,12 @@
 ghost use Rattle.std.specs.Prelude.{◌≡◌, ◌+◌, ◌≤◌, ◌<◌, IfOk, IfErr, [], vec_len, vec_capacity};
 ghost use Rattle.batch_store.specs.Accepted.{entries_in, total_in};
 ghost use Rattle.plain_engine.specs.Standing.{HaveSetup, shards_total};
-ghost use Rattle.locked_engine.specs.Opened.{opened_seats, AreBased, NamesEngine};
+ghost use Rattle.plain_engine.specs.Known.{AllFrom, AreBased};
+ghost use Rattle.locked_engine.specs.Opened.{opened_seats, NamesEngine};
 
 use crate::engine::Engine;
 use crate::history::History;
+use crate::known::Known;
 use crate::locked_book::LockedBook;
 use crate::locked_shard::LockedShard;
 use crate::names::{Named, Names};
@@ -53,12 +55,13 @@ impl<N: Named, H: Ledger> Engine<N, H> {
         let (setup, book, list) = plain.parts();
         let (first, second, history) = names.into_parts();
         let history: History<N> = History::named(history, status);
+        let known = history.known();
         let (mut first_number, mut first) = first.open::<N>();
         let (mut second_number, mut second) = second.open::<H>();
         let total = book.total();
         first_number.add(&mut first, total);
         second_number.add(&mut second, total);
-        lock_all::<N, H>(list, &mut shards, &mut second);
+        lock_all::<N, H>(list, &mut shards, &mut second, &known);
         make_seats::<N, H>(
             count,
             total,
@@ -106,15 +109,17 @@ fn rooms<N: Named, H: Ledger>(
     Ok((seats, shards, shown))
 }
 
-// Puts each shard behind a lock, with a part of the share and its total.
+// Puts each shard behind a lock, with a part of the share and its total, and what is known of the batches.
 fn lock_all<N: Named, H: Ledger>(
     list: Vec<Shard>,
     shards: &mut Vec<Mutex<LockedShard<N, H>>>,
     second: &mut Share<H>,
+    known: &Known<N>,
 )
     requires room { vec_len shards.old + vec_len list ≤ vec_capacity shards.old }
     requires made { HaveSetup N.setup list.items }
     requires based { AreBased N.opened N.setup.shards list.items }
+    requires from { AllFrom known.now list.items }
     requires parts { vec_len list < second.old.parts }
     requires amount { second.old.amount ≡ shards_total list.items }
     ensures count { vec_len shards.new ≡ vec_len shards.old + vec_len list }
@@ -123,7 +128,7 @@ fn lock_all<N: Named, H: Ledger>(
 {
     'shards: for shard in list {
         let held = second.split_off(1, shard.total());
-        shards.push_reserved(Mutex::new(LockedShard::new(shard, held)));
+        shards.push_reserved(Mutex::new(LockedShard::new(shard, held, known.again())));
     }
 }
 

@@ -1,14 +1,16 @@
 //! Putting a batch.
-ghost use Rattle.std.specs.Prelude.{◌≡◌, ◌⊎◌, ◌+◌, ◌≤◌, ◌<◌, OnOk, OnErr, IfOk, IfErr, Ok, vec_len, vec_capacity};
+ghost use Rattle.std.specs.Prelude.{◌≡◌, ◌⊎◌, ◌+◌, ◌≤◌, ◌<◌, [], ◌∷◌, OnOk, OnErr, IfOk, IfErr, Ok, vec_len, vec_capacity};
 ghost use mathlib.Core.List.{IsPrefix};
 ghost use Rattle.std.specs.Arc.{arc_value};
 ghost use Rattle.batch_store.specs.Batches.{batch_total, entry_of};
 ghost use Rattle.batch_store.specs.BatchParts.{parts_if_any};
 ghost use Rattle.batch_store.specs.Parts.{below};
+ghost use Rattle.plain_engine.specs.Known.{AreFrom};
 ghost use Rattle.locked_engine.specs.Told.{IsTold, answer_of};
 
 use crate::engine::Engine;
 use crate::fault::NotAdmitted;
+use crate::locked_book::Admitted;
 use crate::locked_shard::ShardRefusal;
 use crate::names::Named;
 use crate::seat::Seat;
@@ -149,7 +151,7 @@ impl<N: Named, H: Ledger> Engine<N, H> {
         seen: &mut Version<N>,
         place: NextPlace<N>,
         b: Arc<Batch>,
-    ) -> Result<Kept, NotAdmitted>
+    ) -> Result<Admitted<N>, NotAdmitted>
         requires rows { (arc_value b).matrix.rows ≡ N.setup.rows }
         requires cols { (arc_value b).matrix.cols ≡ N.setup.cols }
         requires parts { (first.old.parts ≡ 1) × (second.old.parts ≡ 1) }
@@ -159,7 +161,8 @@ impl<N: Named, H: Ledger> Engine<N, H> {
         ensures first_kept { OnErr result (first.new.amount ≡ first.old.amount) }
         ensures second_kept { OnErr result (second.new.amount ≡ second.old.amount) }
         ensures later { IsPrefix seen.old seen.new }
-        ensures ok { IfOk result (λ k. IsTold N.setup (entry_of (arc_value b)) seen.new (Ok k)) }
+        ensures ok { IfOk result (λ r. IsTold N.setup (entry_of (arc_value b)) seen.new (Ok r.kept)) }
+        ensures known { IfOk result (λ r. AreFrom r.known (arc_value b ∷ [])) }
         ensures err { IfErr result (λ u. IsTold N.setup (entry_of (arc_value b)) seen.new (answer_of u)) }
     {
         let mut locked = self.book.lock(rt);
@@ -197,7 +200,7 @@ impl<N: Named, H: Ledger> Engine<N, H> {
             place,
             parts,
         } = make(alloc, self.setup.shards(), b)?;
-        let kept = self.put_from(
+        let Admitted { kept, known: _ } = self.put_from(
             rt, alloc, first, second, seen, place, own, &parts, &mut past, 0,
         )?;
         Ok(kept)
@@ -218,7 +221,7 @@ impl<N: Named, H: Ledger> Engine<N, H> {
         parts: &[Option<Hyper>],
         past: &mut Vec<Arc<ShardVersion<N>>>,
         s: u64,
-    ) -> Result<Kept, NotAdmitted>
+    ) -> Result<Admitted<N>, NotAdmitted>
         requires rows { (arc_value b).matrix.rows ≡ N.setup.rows }
         requires cols { (arc_value b).matrix.cols ≡ N.setup.cols }
         requires batch_parts { parts.now ≡ parts_if_any N.setup.shards N.setup.shards (arc_value b) }
@@ -234,7 +237,8 @@ impl<N: Named, H: Ledger> Engine<N, H> {
         ensures pushed { vec_len past.new + s ≤ vec_len past.old + N.setup.shards }
         ensures capacity { vec_capacity past.new ≡ vec_capacity past.old }
         ensures later { IsPrefix seen.old seen.new }
-        ensures ok { IfOk result (λ k. IsTold N.setup (entry_of (arc_value b)) seen.new (Ok k)) }
+        ensures ok { IfOk result (λ r. IsTold N.setup (entry_of (arc_value b)) seen.new (Ok r.kept)) }
+        ensures known { IfOk result (λ r. AreFrom r.known (arc_value b ∷ [])) }
         ensures err { IfErr result (λ u. IsTold N.setup (entry_of (arc_value b)) seen.new (answer_of u)) }
     {
         if s == self.setup.shards() {
@@ -249,9 +253,9 @@ impl<N: Named, H: Ledger> Engine<N, H> {
             Ok(ready) => ready,
             Err(refusal) => return Err(self.answer_for(rt, seen, &b, refusal)),
         };
-        let kept = self.put_from(rt, alloc, first, second, seen, next, b, parts, past, s + 1)?;
-        let version = locked.deliver(ready, second);
+        let admitted = self.put_from(rt, alloc, first, second, seen, next, b, parts, past, s + 1)?;
+        let version = locked.deliver(ready, second, &admitted.known);
         past.push_reserved(self.show(rt, s, version));
-        Ok(kept)
+        Ok(admitted)
     }
 }

@@ -5,7 +5,7 @@ ghost use Rattle.std.specs.FinMap.{get};
 ghost use Rattle.layer_compaction.specs.Shared.{content};
 ghost use Rattle.batch_store.specs.Shards.{Holding, IsReady};
 ghost use Rattle.locked_engine.specs.Moments.{IsShardOf, row_sum_in};
-ghost use Rattle.locked_engine.specs.Opened.{IsBased};
+ghost use Rattle.plain_engine.specs.Known.{IsBased};
 ghost use Rattle.locked_engine.specs.Shown.{IsSightOf, IsOf, IsNext, shown};
 
 use crate::names::Named;

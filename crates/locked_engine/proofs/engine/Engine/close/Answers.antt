@@ -3,7 +3,9 @@ use mathlib.Core.List.{IsPrefix}
 use Rattle.batch_store.specs.Accepted.{entries_in, total_in}
 use Rattle.batch_store.specs.Books.{Register}
 use Rattle.locked_engine.specs.Told.{AreShown}
+use Rattle.plain_engine.proofs.KnownLaws.{all_later}
 use Rattle.locked_engine.proofs.ToldLaws.{shown_later}
+use Rattle.locked_engine.proofs.MomentLaws.{based_on}
 use Rattle.batch_store.specs.Setups.{Setting}
 use Rattle.plain_engine.specs.Standing.{Standing}
 use Rattle.locked_engine.proofs.engine.Engine.close.Goals as goal
@@ -85,3 +87,14 @@ returns-clause-apart g c = λ shards book e both.
     let moved = rw (← same_shards, ← same_book, back.0, back.1, ← named.0) at both in
     let told = c.in-Err.ensures.exactly.1 moved in
     cc told
+
+-- the book has the base with which the engine was opened, and of its batches what is known
+pub join_known-requires-clause-based : goal.join_known-requires-clause-based
+join_known-requires-clause-based g c =
+    based_on g.N.Named.opened c.end-book.result.0.state g.N.Named.setup.shards _ c.unlock_all.new.shards.items
+    c.end-book.ensures.past.base (ap (λ (v : Setting). v.shards) c.self.invariant.0) c.unlock_all.ensures.based
+
+pub join_known-requires-clause-known : goal.join_known-requires-clause-known
+join_known-requires-clause-known g c =
+    all_later c.unlock_all.new.known c.end-book.result.0.state.list c.unlock_all.new.shards.items c.end-book.ensures.known
+    c.unlock_all.ensures.from

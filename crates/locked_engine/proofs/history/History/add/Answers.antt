@@ -1,13 +1,15 @@
-use Rattle.std.proofs.Common.{◌≡◌, ◌∙◌, sym, ap, subst, arith, ◌++◌, ◌∷◌, [], length, length-append, List}
+use Rattle.std.proofs.Common.{◌≡◌, ◌∙◌, sym, ap, subst, arith, ◌++◌, ◌∷◌, [], length, length-append, append_assoc, List}
+use Rattle.std.specs.Arc.{arc_value}
 use Rattle.logbook.specs.Pages.{nib, may_write}
-use Rattle.batch_store.specs.declared.verdict.Entry.{Entry}
 use Rattle.batch_store.specs.declared.verdict.Verdict.TheVariants.{Fresh}
 use Rattle.batch_store.specs.Accepted.{entries_in}
+use Rattle.batch_store.specs.Batches.{Submission}
 use Rattle.locked_engine.specs.declared.history.Line.{Line}
-use Rattle.locked_engine.specs.Histories.{line, place_from, added_in}
+use Rattle.locked_engine.specs.Histories.{line, place_from, added_in, given_in}
+use Rattle.locked_engine.specs.Views.{Course}
 use Rattle.locked_engine.specs.Versions.{entry_verdict}
 use Rattle.locked_engine.proofs.AddLaws.{all_more, more_is_version, more_status}
-use Rattle.locked_engine.proofs.HistoryLaws.{add_moves, place_push, added_push}
+use Rattle.locked_engine.proofs.HistoryLaws.{add_moves, place_push, added_push, given_push}
 use Rattle.locked_engine.proofs.history.History.add.Goals as goal
 
 pub compare_exchange-requires : goal.compare_exchange-requires
@@ -30,7 +32,7 @@ invariant_of-self g c =
     let told = c.compare_exchange.ensures in
     let old = c.self.inside.seen.log in
     let e = c.args.entry in
-    let l : Line = line e c.make_place-place.result.nib.key in
+    let l : Line = line e (arc_value c.args.batch) c.make_place-place.result.nib.key in
     let log : c.compare_exchange.new.seen.log ≡ old ++ l ∷ [] = told.7
     ∙ ap (λ (x : Line). old ++ x ∷ []) c.plain-offer.ensures.1 in
     let more : added_in c.compare_exchange.new.seen.log ≡ added_in old ++ e ∷ [] = ap added_in log
@@ -38,7 +40,7 @@ invariant_of-self g c =
     let next : c.make_place-place.result.nib.key ≡ place_from 0 c.compare_exchange.new.seen.log =
     sym (ap (place_from 0) log ∙ place_push 0 old l) in
     let fresh : entry_verdict v (opened ++ added_in old) e ≡ Fresh =
-    subst (λ (es : List Entry). entry_verdict v es e ≡ Fresh) (sym c.self.view_is) c.requires.fresh in (
+    subst (λ (s : Course). entry_verdict v s.entries e ≡ Fresh) (sym c.self.view_is) c.requires.fresh in (
       more_status v opened (added_in old) (added_in c.compare_exchange.new.seen.log) e more c.self.inside.status
           c.self.invariant.0,
       omega (arith, c.self.invariant.1, ap length more, length-append (added_in old) (e ∷ [])),
@@ -51,15 +53,26 @@ invariant_of-self g c =
       c.make_place-place.ensures.nib ∙ ap (λ k. nib may_write k 0) next,
     )
 
-pub returns : goal.returns
-returns g c =
+pub returns-clause-entries : goal.returns-clause-entries
+returns-clause-entries g c =
     let opened = entries_in g.N.Named.opened in
     let old = c.self.inside.seen.log in
     let e = c.args.entry in
-    let l : Line = line e c.make_place-place.result.nib.key in
+    let l : Line = line e (arc_value c.args.batch) c.make_place-place.result.nib.key in
     let log : c.compare_exchange.new.seen.log ≡ old ++ l ∷ [] = c.compare_exchange.ensures.7
     ∙ ap (λ (x : Line). old ++ x ∷ []) c.plain-offer.ensures.1 in
     let more : added_in c.compare_exchange.new.seen.log ≡ added_in old ++ e ∷ [] = ap added_in log
     ∙ added_push old l c.self.invariant.3 in
     all_more g.N.Named.setup opened (added_in old) (added_in c.compare_exchange.new.seen.log) e more
-    ∙ ap (λ (es : List Entry). es ++ e ∷ []) c.self.view_is
+    ∙ ap (λ (s : Course). s.entries ++ e ∷ []) c.self.view_is
+
+pub returns-clause-batches : goal.returns-clause-batches
+returns-clause-batches g c =
+    let opened = g.N.Named.opened.list in
+    let old = c.self.inside.seen.log in
+    let b = arc_value c.args.batch in
+    let l : Line = line c.args.entry b c.make_place-place.result.nib.key in
+    let log : c.compare_exchange.new.seen.log ≡ old ++ l ∷ [] = c.compare_exchange.ensures.7
+    ∙ ap (λ (x : Line). old ++ x ∷ []) c.plain-offer.ensures.1 in
+    ap (λ (bs : List Submission). opened ++ bs) (ap given_in log ∙ given_push old l c.self.invariant.3)
+    ∙ sym (append_assoc opened (given_in old) (b ∷ [])) ∙ ap (λ (s : Course). s.batches ++ b ∷ []) c.self.view_is

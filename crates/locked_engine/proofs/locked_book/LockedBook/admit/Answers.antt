@@ -6,7 +6,7 @@ use Rattle.locked_engine.proofs.locked_book.LockedBook.admit.Goals as goal
 pub returns-clause-ok : goal.returns-clause-ok
 returns-clause-ok g c =
     let told = c.admit_fresh.ensures in
-    admitted_told g.N.Named.setup c.args.self.now.state c.admit_fresh.new.self.state c.admit_fresh.new.seen
+    admitted_told (λ r. r.kept) g.N.Named.setup c.args.self.now.state c.admit_fresh.new.self.state c.admit_fresh.new.seen
     (arc_value c.args.b) c.admit_fresh.result told.seen told.state told.kept
 
 -- the book's entries were shown, and the new one behind them
