@@ -85,6 +85,12 @@ def owner_of(line):
     return found[2] if not found[1] else rf"{found[2]}{found[1]}\w*"
 
 
+def header_at(lines, number):
+    """Returns the header of the impl that begins in a line, of several lines made one."""
+    end = next((it for it in range(number, len(lines)) if "{" in lines[it]), number)
+    return " ".join(" ".join(lines[number : end + 1]).split())
+
+
 def function_at(crate, file, text, offset):
     """Returns the function around a place of a source file, or None outside any.
 
@@ -94,9 +100,10 @@ def function_at(crate, file, text, offset):
     if not file.startswith("src/"):
         return None
     owner = name = indent = None
-    for line in text[: text.find("\n", offset)].split("\n"):
+    lines = text[: text.find("\n", offset)].split("\n")
+    for number, line in enumerate(lines):
         if line.startswith("impl"):
-            owner = owner_of(line)
+            owner = owner_of(header_at(lines, number))
         elif line == "}":
             owner = name = None
         elif name and line == f"{indent}}}":
