@@ -3,6 +3,7 @@
 //! The replies were worked out by hand from the frames' layout, not taken from a run.
 mod clients;
 pub mod frames;
+mod logs;
 mod refusals;
 mod said;
 mod servers;

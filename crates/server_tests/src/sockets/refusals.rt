@@ -18,8 +18,8 @@ use std::thread::Threads;
 use std::time::Clock;
 use std::{fs, io};
 
-// Whether a server of which all output or `room` bytes are taken, and that takes no session, has this fault, or none.
-fn is_fault<
+/// Whether a server of which all output or `room` bytes are taken, and that takes no session, has this fault, or none.
+pub fn is_fault<
     R: Threads
         + Wait
         + Clock

@@ -9,7 +9,7 @@ use std::process::Abort;
 pub const ANY_PORT: &str = "127.0.0.1:0";
 
 /// What differs between the servers of the tests: how many workers they have and how many sessions they take, their
-/// addresses, the path of their snapshot, and whether it must be there and be saved to.
+/// addresses, the paths of their snapshot and of their log, and whether the snapshot must be there and be saved to.
 #[derive(Clone, Copy)]
 pub struct Plan<'a> {
     pub workers: u64,
@@ -17,17 +17,19 @@ pub struct Plan<'a> {
     pub tcp: Option<&'a str>,
     pub unix: Option<&'a str>,
     pub snapshot: Option<&'a str>,
+    pub log: Option<&'a str>,
     pub must_load: bool,
     pub must_save: bool,
 }
 
-/// Two workers, no address and no snapshot.
+/// Two workers, no address, no snapshot and no log.
 pub const PLAIN: Plan<'static> = Plan {
     workers: 2,
     sessions: 1 << 40,
     tcp: None,
     unix: None,
     snapshot: None,
+    log: None,
     must_load: false,
     must_save: false,
 };
@@ -49,7 +51,7 @@ pub fn settings(rt: &impl Abort, alloc: Global, plan: &Plan) -> Settings {
         setup: Setup::new(3, 3, &[2, 4], 2, 100, 10).expect(rt, "setup"),
         workers: plan.workers,
         snapshot: owned(rt, alloc, plan.snapshot),
-        log: None,
+        log: owned(rt, alloc, plan.log),
         must_load: plan.must_load,
         must_save: plan.must_save,
         sessions: plan.sessions,
