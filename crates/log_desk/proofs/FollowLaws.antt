@@ -4,9 +4,11 @@ use Rattle.std.proofs.Common.{length-append}
 use Rattle.std.proofs.lemmas.List.{take_at, length-take-le}
 use mathlib.Core.List.{IsPrefix}
 use Rattle.batch_store.specs.declared.verdict.Entry.{Entry}
+use Rattle.batch_store.specs.Batches.{Submission, entries_of}
 use Rattle.plain_engine.specs.declared.status.Status.{Status}
 use Rattle.locked_engine.specs.Queues.{Follows}
 use Rattle.locked_engine.specs.Versions.{version_status}
+use Rattle.log_desk.specs.Standings.{IsGroup}
 
 module _ (from : ℕ) (es seen : List Entry) (h : Follows from es seen) where
   front_length : length (take from seen ++ es) ≡ from + length es
@@ -51,3 +53,12 @@ module _ (old es seen : List Entry) (from : ℕ) (len : from ≡ length old) (h 
 
   pub group_extends : (now : List Entry) → Begins old seen → now ≡ take s.batches seen → IsPrefix old now
   group_extends now begins same = (es, sym (group_front begins) ∙ sym same)
+
+  pub group_is : (takes : List Submission → ℕ) (list : List Submission) (now : List Entry) (before after : ℕ) →
+      es ≡ entries_of list → Begins old seen → now ≡ take s.batches seen → before ≤ after + takes list →
+      IsGroup takes old now before after
+  group_is takes list now before after entries begins same room = record {
+    list = list;
+    entries = same ∙ (group_front begins ∙ ap (λ l. old ++ l) entries);
+    room = room;
+  }

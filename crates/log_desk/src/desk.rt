@@ -8,8 +8,7 @@ use crate::durable::Durable;
 use crate::fault::DeskFault;
 use crate::group::Group;
 use crate::log::Log;
-use crate::state::DeskState;
-use crate::ticket::Ticket;
+use crate::state::{DeskState, Ticket};
 use crate::turn::Turn;
 use crate::work::TurnWork;
 use locked_engine::{Engine, Named, Status, Version};
@@ -79,8 +78,8 @@ impl<N: Named, L: Log> LogDesk<N, L> {
             if state.is_failed() {
                 return Err(DeskFault::LogFailed);
             }
-            if state.promise(pages) {
-                return Ok(Ticket::new(pages));
+            if let Some(ticket) = state.promise(pages) {
+                return Ok(ticket);
             }
             let wanted = state.wanted(pages);
             let Some(mut turn) = state.take_turn() else {
@@ -97,7 +96,7 @@ impl<N: Named, L: Log> LogDesk<N, L> {
     /// Takes back a promise, once the batch is durable or was refused. After a wait that failed too.
     pub fn leave<R: Wait>(&self, rt: &R, ticket: Ticket) {
         let mut state = self.state.lock(rt);
-        state.give_back(ticket.into_pages());
+        state.give_back(ticket);
         let _ = MutexGuard::unlock(state);
     }
 

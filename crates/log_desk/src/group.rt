@@ -1,6 +1,7 @@
 //! What a leader writes at once.
-ghost use Rattle.std.specs.Prelude.{◌≡◌, ◌≢◌, ◌<◌, false, true, Err, length, OnOk};
+ghost use Rattle.std.specs.Prelude.{◌≡◌, ◌≢◌, ◌<◌, ◌≤◌, false, true, Err, length, IfOk, OnOk};
 ghost use mathlib.Core.List.{IsPrefix};
+ghost use Rattle.log_desk.specs.Standings.{IsGroup};
 
 use crate::durable::Durable;
 use crate::fault::DeskFault;
@@ -46,7 +47,9 @@ impl<N: Named> Group<N> {
     /// # Errors
     ///
     /// The growth was refused.
-    pub fn new(alloc: Global, seen: Version<N>) -> Result<Group<N>, AllocError> {
+    pub fn new(alloc: Global, seen: Version<N>) -> Result<Group<N>, AllocError>
+        ensures { IfOk result (λ group. group ≡ seen) }
+    {
         let batches = Vec::with_capacity(alloc, MOST_BATCHES)?;
         Ok(Group { seen, batches })
     }
@@ -71,6 +74,8 @@ impl<N: Named> Group<N> {
         ensures extends { IsPrefix durable.old durable.new }
         ensures grows { OnOk result (length durable.old < length durable.new) }
         ensures durable { L.failed log.new ≡ false → L.durable log.new ≡ durable.new }
+        ensures group { OnOk result (IsGroup L.takes durable.old durable.new (L.ready log.old) (L.ready log.new)) }
+        ensures room_kept { result ≡ Err DeskFault.HistoriesDiffer → L.ready log.old ≤ L.ready log.new }
         ensures works { L.failed log.new ≡ true → result ≡ Err DeskFault.LogFailed }
         ensures broken { result ≡ Err DeskFault.LogFailed → L.failed log.new ≡ true }
         ensures told { result ≡ Err DeskFault.LogFailed → L.has_failed }

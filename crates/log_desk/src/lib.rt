@@ -18,7 +18,6 @@ mod log;
 mod memory;
 mod room;
 mod state;
-mod ticket;
 mod turn;
 mod work;
 
@@ -28,6 +27,6 @@ pub use fault::{DeskFault, LogFailed, RoomFault};
 pub use group::Group;
 pub use log::Log;
 pub use memory::{FailAt, MemoryLog, NoPause, Pause};
-pub use ticket::Ticket;
+pub use state::Ticket;
 pub use turn::Turn;
 pub use work::TurnWork;

@@ -1,5 +1,5 @@
 //! What the desk asks of a log.
-ghost use Rattle.std.specs.Prelude.{◌≡◌, ◌≢◌, ℕ, ◌≤◌, ◌++◌, List, Bool, true, false, Err, OnOk, OnErr};
+ghost use Rattle.std.specs.Prelude.{◌≡◌, ◌≢◌, ℕ, ◌+◌, ◌≤◌, ◌++◌, List, Bool, true, false, Err, OnOk, OnErr};
 ghost use Rattle.batch_store.specs.declared.verdict.Entry.{Entry};
 ghost use Rattle.batch_store.specs.Batches.{Submission, entries_of, values};
 
@@ -58,6 +58,7 @@ pub trait Log: Drop {
         ensures working { OnOk result (failed self.new ≡ false) }
         ensures durable { OnOk result (durable self.new ≡ durable self.old ++ entries_of (values batches.now)) }
         ensures synced { OnOk result (was_synced (durable self.new)) }
+        ensures room { OnOk result (ready self.old ≤ ready self.new + takes (values batches.now)) }
         ensures broken { OnErr result (failed self.new ≡ true) }
         ensures told { OnErr result has_failed };
 
@@ -70,6 +71,7 @@ pub trait Log: Drop {
         requires working { failed self.old ≡ false }
         ensures working { result ≢ Err RoomFault.Failed → failed self.new ≡ false }
         ensures room { OnOk result (pages ≤ ready self.new) }
+        ensures kept { failed self.new ≡ false → ready self.old ≤ ready self.new }
         ensures durable { failed self.new ≡ false → durable self.new ≡ durable self.old }
         ensures broken { result ≡ Err RoomFault.Failed → failed self.new ≡ true }
         ensures told { result ≡ Err RoomFault.Failed → has_failed }

@@ -129,6 +129,7 @@ impl<P: Pause> MemoryLog<P> {
     fn syncs_well(&mut self) -> bool
         ensures entries { self.new.entries ≡ self.old.entries }
         ensures failed { self.new.failed ≡ self.old.failed }
+        ensures ready { self.new.ready ≡ self.old.ready }
     {
         let sync = self.syncs;
         self.syncs = sync.saturating_add(1);

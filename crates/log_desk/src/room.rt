@@ -1,5 +1,5 @@
 //! How room is made in a log.
-ghost use Rattle.std.specs.Prelude.{◌≡◌, ◌≢◌, ◌≤◌, ◌++◌, true, false, Err, OnOk};
+ghost use Rattle.std.specs.Prelude.{◌≡◌, ◌≢◌, ◌+◌, ◌≤◌, ◌++◌, true, false, Err, OnOk};
 ghost use Rattle.batch_store.specs.Batches.{entries_of, values};
 
 use crate::fault::{DeskFault, RoomFault};
@@ -14,6 +14,8 @@ const STRETCH: u64 = 4096;
 pub fn make_stretch<L: Log>(log: &mut L, wanted: u64) -> Result<(), RoomFault>
     requires working { L.failed log.old ≡ false }
     ensures working { result ≢ Err RoomFault.Failed → L.failed log.new ≡ false }
+    ensures room { OnOk result (wanted ≤ L.ready log.new) }
+    ensures kept { L.failed log.new ≡ false → L.ready log.old ≤ L.ready log.new }
     ensures durable { L.failed log.new ≡ false → L.durable log.new ≡ L.durable log.old }
     ensures broken { result ≡ Err RoomFault.Failed → L.failed log.new ≡ true }
     ensures told { result ≡ Err RoomFault.Failed → L.has_failed }
@@ -30,6 +32,7 @@ fn make_ready<L: Log>(log: &mut L, pages: u64) -> Result<(), RoomFault>
     requires working { L.failed log.old ≡ false }
     ensures working { result ≢ Err RoomFault.Failed → L.failed log.new ≡ false }
     ensures room { OnOk result (pages ≤ L.ready log.new) }
+    ensures kept { L.failed log.new ≡ false → L.ready log.old ≤ L.ready log.new }
     ensures durable { L.failed log.new ≡ false → L.durable log.new ≡ L.durable log.old }
     ensures broken { result ≡ Err RoomFault.Failed → L.failed log.new ≡ true }
     ensures told { result ≡ Err RoomFault.Failed → L.has_failed }
@@ -50,7 +53,9 @@ pub fn write_block<L: Log>(log: &mut L, batches: &[Arc<Batch>]) -> Result<(), De
     ensures working { result ≢ Err DeskFault.LogFailed → L.failed log.new ≡ false }
     ensures durable { OnOk result (L.durable log.new ≡ L.durable log.old ++ entries_of (values batches.now)) }
     ensures synced { OnOk result (L.was_synced (L.durable log.new)) }
+    ensures room { OnOk result (L.ready log.old ≤ L.ready log.new + L.takes (values batches.now)) }
     ensures kept { result ≡ Err DeskFault.HistoriesDiffer → L.durable log.new ≡ L.durable log.old }
+    ensures room_kept { result ≡ Err DeskFault.HistoriesDiffer → L.ready log.old ≤ L.ready log.new }
     ensures broken { result ≡ Err DeskFault.LogFailed → L.failed log.new ≡ true }
     ensures told { result ≡ Err DeskFault.LogFailed → L.has_failed }
     ensures promised { result ≢ Err DeskFault.LogFull }

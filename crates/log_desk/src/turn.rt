@@ -1,7 +1,8 @@
 //! The leader's turn: the log, taken out of the lock, with what is needed to write a group.
-ghost use Rattle.std.specs.Prelude.{◌≡◌, ◌≢◌, ◌<◌, false, true, Err, length, OnOk};
+ghost use Rattle.std.specs.Prelude.{◌≡◌, ◌≢◌, ◌⊎◌, ◌<◌, ◌≤◌, false, true, Err, length, OnOk};
 ghost use Rattle.std.specs.Bool.{OnTrue};
 ghost use mathlib.Core.List.{IsPrefix};
+ghost use Rattle.log_desk.specs.Standings.{IsGroup, standing};
 
 use crate::durable::Durable;
 use crate::fault::{DeskFault, RoomFault};
@@ -19,7 +20,7 @@ const LOW: u64 = 1024;
 
 /// The log, what is durable in it, and what is needed to write a group.
 ///
-/// Contracts see what is durable, and whether a call on the log has failed.
+/// Contracts see what is durable, whether a call on the log has failed, and how many pages are ready.
 #[derive(Drop)]
 pub struct Turn<N: Named, L: Log> {
     log: L,
@@ -35,7 +36,7 @@ impl<N: Named, L: Log> Model for Turn<N, L> {
 
     ghost Value = { Standing };
 
-    ghost view = { λ t. standing t.durable (L.failed t.log) };
+    ghost view = { λ t. standing t.durable (L.failed t.log) (L.ready t.log) };
 
     ghost invariant = { λ t. (L.failed t.log ≡ false → L.durable t.log ≡ t.durable)
         × (L.failed t.log ≡ true → L.has_failed) };
@@ -46,8 +47,7 @@ impl<N: Named, L: Log> Turn<N, L> {
     pub fn new(log: L, durable: Durable<N, L>, group: Group<N>) -> Turn<N, L>
         requires works { L.failed log ≡ false }
         requires durable { L.durable log ≡ durable }
-        ensures durable { result.durable ≡ durable }
-        ensures works { result.failed ≡ false }
+        ensures { result ≡ standing durable false (L.ready log) }
     {
         Turn {
             log,
@@ -73,7 +73,9 @@ impl<N: Named, L: Log> Turn<N, L> {
     }
 
     /// How many pages are ready in the log.
-    pub fn room(&self) -> u64 {
+    pub fn room(&self) -> u64
+        ensures { result ≡ self.now.room }
+    {
         self.log.room()
     }
 
@@ -81,6 +83,7 @@ impl<N: Named, L: Log> Turn<N, L> {
     pub fn into_log(self) -> (L, Durable<N, L>)
         ensures known { result.1 ≡ self.durable }
         ensures failed { L.failed result.0 ≡ self.failed }
+        ensures room { L.ready result.0 ≡ self.room }
         ensures durable { self.failed ≡ false → L.durable result.0 ≡ result.1 }
     {
         let Turn {
@@ -105,6 +108,8 @@ impl<N: Named, L: Log> Turn<N, L> {
         requires works { self.old.failed ≡ false }
         ensures extends { IsPrefix self.old.durable self.new.durable }
         ensures grows { OnOk result (length self.old.durable < length self.new.durable) }
+        ensures group { OnOk result (IsGroup L.takes self.old.durable self.new.durable self.old.room self.new.room) }
+        ensures room_kept { result ≡ Err DeskFault.HistoriesDiffer → self.old.room ≤ self.new.room }
         ensures works { self.new.failed ≡ true → result ≡ Err DeskFault.LogFailed }
         ensures broken { result ≡ Err DeskFault.LogFailed → self.new.failed ≡ true }
         ensures told { result ≡ Err DeskFault.LogFailed → L.has_failed }
@@ -123,6 +128,8 @@ impl<N: Named, L: Log> Turn<N, L> {
     pub fn make_room(&mut self, wanted: u64) -> Result<(), DeskFault>
         requires works { self.old.failed ≡ false }
         ensures durable { self.new.durable ≡ self.old.durable }
+        ensures room { OnOk result (wanted ≤ self.new.room) }
+        ensures kept { self.new.failed ≡ false → self.old.room ≤ self.new.room }
         ensures works { result ≢ Err DeskFault.LogFailed → self.new.failed ≡ false }
         ensures broken { result ≡ Err DeskFault.LogFailed → self.new.failed ≡ true }
         ensures told { result ≡ Err DeskFault.LogFailed → L.has_failed }
@@ -145,10 +152,11 @@ impl<N: Named, L: Log> Turn<N, L> {
         !self.is_full && !self.log.is_failed() && self.log.room() < LOW
     }
 
-    /// Lends the log for some work, and then makes as many pages ready as are promised, where that can be done.
+    /// Lends the log for some work, and then makes as many pages ready as are promised, unless it is full or failed.
     pub fn lend<T, W: TurnWork<N, L, T>>(&mut self, work: W, promised: u64) -> T
         ensures gives { W.gives work result }
         ensures later { IsPrefix self.old.durable self.new.durable }
+        ensures room { self.new.failed ≡ false → (promised ≤ self.new.room) ⊎ L.was_full }
     {
         let answer = work.run(&mut self.log, &mut self.durable, promised);
         self.keep_promises(promised);
@@ -157,7 +165,8 @@ impl<N: Named, L: Log> Turn<N, L> {
 
     // Makes so many pages ready where fewer are, and they can be had.
     fn keep_promises(&mut self, promised: u64)
-        ensures { self.new.durable ≡ self.old.durable }
+        ensures durable { self.new.durable ≡ self.old.durable }
+        ensures room { self.new.failed ≡ false → (promised ≤ self.new.room) ⊎ L.was_full }
     {
         self.is_full = false;
         if !self.log.is_failed() && self.log.room() < promised {

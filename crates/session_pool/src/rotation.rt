@@ -1,9 +1,10 @@
 //! How a new log takes the place of the one in use, behind a list that was saved.
-ghost use Rattle.std.specs.Prelude.{◌≡◌, ◌≤◌, List, false, length, IfOk, OnOk};
+ghost use Rattle.std.specs.Prelude.{◌≡◌, ◌≤◌, List, false, length, IfOk, OnOk, IsSomeAnd};
 ghost use Rattle.batch_store.specs.declared.verdict.Entry.{Entry};
 ghost use Rattle.batch_store.specs.Accepted.{entries_in};
 ghost use Rattle.batch_store.specs.Books.{AreAccepted, accepted_in};
 
+use crate::disk::Disk;
 use crate::log_place::LogPlace;
 use batch_store::{BookList, Setup};
 use byte_io::WriteFault;
@@ -100,6 +101,7 @@ fn complete<N: Named, H: Ledger, L: Log, R: Wait>(
     requires works { new.old.failed ≡ false }
     ensures works { OnOk result (new.new.failed ≡ false) }
     ensures whole { OnOk result (count ≤ length new.new.durable) }
+    ensures room { OnOk result (promised ≤ new.new.room) }
 {
     if let Err(fault) = catch_up(rt, engine, new, count) {
         return Err(fault);
@@ -148,14 +150,14 @@ impl<'a, N: Named, H: Ledger, L: Log, R: Wait + LogPlace<L>> TurnWork<N, L, Resu
     }
 }
 
-/// Begins a new log behind a list that was saved, whose entries these are, and puts it in the place of the one in use,
-/// which may have failed. Puts go on but for the last step, for which no other thread has the turn: then the new one
-/// is brought to hold all that is durable, and to have as many pages ready as are promised.
+/// Begins a new log behind a list that was saved beside it, whose entries these are, and puts it in the place of the
+/// one in use, which may have failed. Puts go on but for the last step, for which no other thread has the turn: then the
+/// new one is brought to hold all that is durable, and to have as many pages ready as are promised.
 ///
 /// # Errors
 ///
 /// The log in use stands as it was, but after `Rename`: then it is failed.
-pub(crate) fn rotate<N: Named, H: Ledger, L: Log, R: Wait + LogPlace<L>>(
+pub(crate) fn rotate<N: Named, H: Ledger, L: Log, R: Wait + Disk + LogPlace<L>>(
     rt: &R,
     alloc: Global,
     engine: &Engine<N, H>,
@@ -165,6 +167,8 @@ pub(crate) fn rotate<N: Named, H: Ledger, L: Log, R: Wait + LogPlace<L>>(
     shown: Version<N>,
 ) -> Result<(), SaveFault>
     requires accepted { AreAccepted N.setup (accepted_in list.now) }
+    // The new log has none of the list's batches, so the list must stand in the snapshot.
+    requires saved { IsSomeAnd names.snapshot (λ path. R.saves rt.now path.now N.setup (accepted_in list.now)) }
     requires shown { shown ≡ entries_in (accepted_in list.now) }
     ensures { OnOk result ((entries : List Entry) × R.names rt.now names.entry.log.now entries) }
 {
@@ -191,13 +195,13 @@ pub(crate) fn rotate<N: Named, H: Ledger, L: Log, R: Wait + LogPlace<L>>(
     )
 }
 
-/// Begins a new log behind a list that was saved last, and puts it in the place of the one in use, which nobody uses any
-/// more. Both are closed.
+/// Begins a new log behind a list that was saved beside it last, and puts it in the place of the one in use, which
+/// nobody uses any more. Both are closed.
 ///
 /// # Errors
 ///
 /// As `LogPlace` says.
-pub(crate) fn rotate_last<L: Log, R: LogPlace<L>>(
+pub(crate) fn rotate_last<L: Log, R: Disk + LogPlace<L>>(
     rt: &R,
     alloc: Global,
     names: LogNames<'_>,
@@ -205,7 +209,8 @@ pub(crate) fn rotate_last<L: Log, R: LogPlace<L>>(
     list: &BookList,
     in_use: L,
 ) -> Result<(), SaveFault>
-    requires { AreAccepted setup.now (accepted_in list.now) }
+    requires accepted { AreAccepted setup.now (accepted_in list.now) }
+    requires saved { IsSomeAnd names.snapshot (λ path. R.saves rt.now path.now setup.now (accepted_in list.now)) }
     ensures { OnOk result (R.names rt.now names.entry.log.now (entries_in (accepted_in list.now))) }
 {
     match rt.begin_log(alloc, names.log, names.snapshot, setup, list) {

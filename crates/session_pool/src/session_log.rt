@@ -1,5 +1,5 @@
 //! A log that threads share, as one session uses it.
-ghost use Rattle.std.specs.Prelude.{◌≡◌, ◌<◌, length, Some, Err, IfNone, OnOk};
+ghost use Rattle.std.specs.Prelude.{◌≡◌, ◌⊎◌, ◌<◌, [], ◌∷◌, length, Some, Err, IfSome, IfNone, OnOk};
 ghost use Rattle.std.specs.Arc.{arc_value};
 ghost use mathlib.Core.List.{IsPrefix};
 ghost use Rattle.session_pool.specs.Seats.{sight, SeatBegins, SeatSettles, IsStored};
@@ -55,7 +55,8 @@ impl<'a, N: Named, L: Log> SessionLog<'a, N, L> {
     // Room for a batch, None where the log is full. Where it has failed there is none to be promised, and the batch is
     // put all the same: a repeat is accepted if its first is durable.
     fn enter<R: Wait>(&self, rt: &R, batch: &Arc<Batch>) -> Option<Ticket>
-        ensures { IfNone result L.was_full }
+        ensures room { IfSome result (λ t. (t ≡ L.takes (arc_value batch.now ∷ [])) ⊎ L.has_failed) }
+        ensures full { IfNone result L.was_full }
     {
         let pages = L::pages_of(slice::from_ref(batch));
         match self.desk.enter(rt, pages) {

@@ -1,5 +1,5 @@
 //! The calls of a log on a disk.
-ghost use Rattle.std.specs.Prelude.{◌≡◌, ◌≢◌, ◌≤◌, ◌<◌, ◌++◌, length, Err, OnOk, OnErr, true, false};
+ghost use Rattle.std.specs.Prelude.{◌≡◌, ◌≢◌, ◌+◌, ◌≤◌, ◌<◌, ◌++◌, length, Err, OnOk, OnErr, true, false};
 ghost use Rattle.batch_store.specs.Batches.{entries_of, values};
 ghost use Rattle.log_file.specs.declared.room.RoomFault.{RoomFault};
 ghost use Rattle.stored_log.specs.Kept.{is_failed, number_of, room_of, HasFailed, WasFull, WasSynced};
@@ -27,6 +27,8 @@ impl<D: LogDisk> StoredLog<D> {
         ensures working { OnOk result (is_failed D.in_doubt self.new.in_use ≡ false) }
         ensures entries { OnOk result (self.new.entries ≡ self.old.entries ++ entries_of (values batches.now)) }
         ensures synced { OnOk result (WasSynced D.telling D.tells D.written D.may_leave self.new.entries) }
+        ensures room { OnOk result (room_of self.old.in_use ≤
+            room_of self.new.in_use + pages_taken (values batches.now)) }
         ensures broken { OnErr result (is_failed D.in_doubt self.new.in_use ≡ true) }
         ensures told { OnErr result (HasFailed D.in_doubt D.lost_name) }
         ensures file { number_of self.new.in_use ≡ number_of self.old.in_use }
@@ -54,6 +56,7 @@ impl<D: LogDisk> StoredLog<D> {
         requires working { is_failed D.in_doubt self.old.in_use ≡ false }
         ensures working { result ≢ Err RoomFault.Failed → is_failed D.in_doubt self.new.in_use ≡ false }
         ensures room { OnOk result (pages ≤ room_of self.new.in_use) }
+        ensures kept { room_of self.old.in_use ≤ room_of self.new.in_use }
         ensures entries { self.new.entries ≡ self.old.entries }
         ensures broken { result ≡ Err RoomFault.Failed → is_failed D.in_doubt self.new.in_use ≡ true }
         ensures told { result ≡ Err RoomFault.Failed → HasFailed D.in_doubt D.lost_name }

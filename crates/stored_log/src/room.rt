@@ -40,6 +40,7 @@ pub(crate) fn make_ready<D: LogDisk>(log: &mut OpenLog<D>, pages: u64) -> Result
     ensures settled { D.telling → D.tells log.new.file.disk ×
         IsSettled D.written D.may_leave log.new.file.disk log.new.writer known }
     ensures room { OnOk result (pages ≤ log.new.writer.room) }
+    ensures kept { log.old.writer.room ≤ log.new.writer.room }
     ensures working { result ≢ Err RoomFault.Failed → D.in_doubt log.new.file.disk ≡ false }
     ensures doubt { result ≡ Err RoomFault.Failed → D.in_doubt log.new.file.disk ≡ true }
     ensures full { result ≡ Err RoomFault.Full →

@@ -3,7 +3,8 @@ use Rattle.batch_store.specs.Batches.{values}
 use Rattle.log_blocks.specs.Blocks.{Block, IsBlock, batches_in}
 use Rattle.log_batches.specs.Payloads.{block_of}
 use Rattle.stored_log.specs.Sizes.{pages_in}
-use Rattle.stored_log.proofs.LogLemmas.{batches_fit, block_is, length_values, bytes_next, places_after, taken_small}
+use Rattle.stored_log.proofs.LogLemmas.{batches_fit, block_is, length_values, bytes_next, places_after, room_behind}
+use Rattle.stored_log.proofs.LogLemmas.{taken_small}
 use Rattle.stored_log.proofs.block.write_block.Goals as goal
 
 pub append-requires : goal.append-requires
@@ -59,3 +60,11 @@ returns-clause-places g c =
     places_after c.append.result c.args.log.now.writer c.append.new.self c.spell_block-pages.result
     (length c.args.batches.now) c.append.ensures.mark c.append.ensures.same places
     (omega (arith, fit, count, length_values c.args.batches.now))
+
+pub returns-clause-room : goal.returns-clause-room
+returns-clause-room g c =
+    let pages = pages_in (values c.args.batches.now) in
+    let most : c.args.log.now.writer.room ≤ 268435456 = omega (arith, c.requires.1.1.1.1.1.1.1.1.0) in
+    let small = taken_small pages c.args.log.now.writer.room c.requires.1.1.1.1.0 most in
+    room_behind c.append.result c.args.log.now.writer c.append.new.self c.spell_block-pages.result pages
+    c.append.ensures.room c.spell_block-pages.ensures.pages small.0 small.1

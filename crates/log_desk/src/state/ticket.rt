@@ -5,7 +5,8 @@ use std::marker::Model;
 
 /// Pages of a log that are promised to puts. Contracts see how many.
 ///
-/// It isn't Drop: `LogDesk::leave` takes it back, once the batches are durable or were refused.
+/// None but the state behind a desk's lock makes it of pages, and counts them as promised. It isn't Drop:
+/// `LogDesk::leave` takes it back, once the batches are durable or were refused.
 pub struct Ticket {
     pages: u64,
 }
@@ -23,7 +24,7 @@ impl Model for Ticket {
 
 impl Ticket {
     // So many pages, which the desk has set aside.
-    pub(crate) fn new(pages: u64) -> Ticket
+    pub(super) fn new(pages: u64) -> Ticket
         ensures { result ≡ pages }
     {
         Ticket { pages }
@@ -44,7 +45,7 @@ impl Ticket {
     }
 
     // How many pages go back.
-    pub(crate) fn into_pages(self) -> u64
+    pub(super) fn into_pages(self) -> u64
         ensures { result ≡ self }
     {
         let Ticket { pages } = self;
