@@ -231,6 +231,19 @@ def files_are_limited(most, taken, name):
     check(f"full {name}: a start", started("--log", room.log), stopped(taken + 1, totals[taken]))
 
 
+def a_stretch_is_tried_once():
+    """Where no long stretch of zeros is to be had, each put asks for one once, and what was written of it is cut off."""
+    room = room_of("no stretch")
+    with serving(room, snapshot=False, restore_signals=False) as at:
+        server.limit_files(at.process, 6 * PAGE)
+        with at.link() as link:
+            for n in range(4):
+                before = room.page.count(CUTS)
+                check(f"no stretch: put {n}", answer(link, put_frame(7, n, text(1))), accepted(n, n + 1))
+                check(f"no stretch: cuts {n}", room.page.count(CUTS) - before, 1)
+        kill(at)
+
+
 def others_have_room():
     """A batch for which there is no room is refused, and a smaller one behind it isn't."""
     room, size = room_of("small room"), ["--rows", "1000", "--cols", "3"]
@@ -491,6 +504,7 @@ def all_are_tried():
         a_repeat_waits_for_its_first,
         one_sync_serves_many,
         a_log_is_full,
+        a_stretch_is_tried_once,
         others_have_room,
         a_full_disk,
         a_small_move_is_completed,

@@ -26,7 +26,7 @@ pub struct Turn<N: Named, L: Log> {
     log: L,
     durable: Durable<N, L>,
     group: Group<N>,
-    // Whether the log was full when it was asked for room last.
+    // Whether no long stretch was to be had when the log was asked for room last.
     is_full: bool,
 }
 
@@ -137,7 +137,8 @@ impl<N: Named, L: Log> Turn<N, L> {
         ensures belong { result ≢ Err DeskFault.HistoriesDiffer }
     {
         let answer = make_stretch(&mut self.log, wanted);
-        self.is_full = answer == Err(RoomFault::Full);
+        // A stretch would be more.
+        self.is_full = self.log.room() < LOW;
         match answer {
             Ok(()) => Ok(()),
             Err(RoomFault::Full) => Err(DeskFault::LogFull),
