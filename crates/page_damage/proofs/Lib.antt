@@ -1,0 +1,4 @@
+mod Distances
+mod Moved
+mod TwoBits
+mod Pages
