@@ -1,5 +1,6 @@
 //! The command line: the words of the program, as `clap` reads them.
 
+use crate::query_cli::{degrees_command, list_command, top_command};
 use crate::serve_cli::serve_command;
 use clap::builder::ValueParser;
 use clap::{Arg, Command};
@@ -179,5 +180,8 @@ pub fn command<'a>(alloc: Global) -> Result<Command<'a>, AllocError> {
     for (name, about, help) in SNAPSHOT_WORDS {
         hhm = with(hhm, snapshot_command(alloc, name, about, help))?;
     }
+    hhm = with(hhm, top_command(alloc))?;
+    hhm = with(hhm, list_command(alloc))?;
+    hhm = with(hhm, degrees_command(alloc))?;
     with(hhm, serve_command(alloc))
 }

@@ -1,7 +1,8 @@
 //! `hhm`: sums counted cells (row, column, count) into hypersparse matrices, exactly.
 //!
 //! The program reads the words of its command line, runs what they ask for over standard input and output, and says a
-//! fault in one line on standard error: `mm_sum` writes sums, `snap_report` tells of snapshots, `socket_server` serves.
+//! fault in one line on standard error: `mm_sum` writes sums, `snap_report` tells of snapshots, `snap_query` asks them,
+//! `socket_server` serves.
 #![tactic(auto)]
 
 mod cli;
@@ -9,6 +10,8 @@ mod limits;
 mod log_report;
 mod memory;
 mod numbers;
+mod query;
+mod query_cli;
 mod report;
 mod serve;
 mod serve_cli;
@@ -16,6 +19,7 @@ mod told;
 
 use crate::memory::keep_freed_memory;
 use crate::numbers::read_list;
+use crate::query::{range_of, side_of, top_query_of};
 use crate::report::Fault;
 use crate::serve::{settings_of, status_of};
 use crate::told::run_told;
@@ -25,6 +29,7 @@ use clap::{ArgMatches, Error};
 use mm_sum::run_sum;
 use progress::{Entries, ProgressLine, Watched};
 use snap_file::{LockedFile, NamedFile};
+use snap_query::{run_degrees, run_list, run_top};
 use snap_report::{NamedLog, run_check, run_check_with_log, run_export, run_fold};
 use socket_server::{ServerFault, Settings};
 use std::alloc::AllocError;
@@ -116,7 +121,7 @@ fn run_word(rt: &HostRuntime, word: &str, given: &ArgMatches) -> Result<(), Faul
         let mut line = progress_line(rt, is_shown, Entries::Cells);
         let outcome = match given.get_str("log") {
             Some(log) => run_check_word(rt, path, log, &mut line),
-            None => run_snapshot_word(rt, word, path, &mut line),
+            None => run_snapshot_word(rt, word, path, given, &mut line),
         };
         clear(&mut line);
         outcome
@@ -154,6 +159,7 @@ fn run_snapshot_word(
     rt: &HostRuntime,
     word: &str,
     path: &str,
+    given: &ArgMatches,
     line: &mut Shown<'_>,
 ) -> Result<(), Fault> {
     let mut out = Counted::new(rt.stdout());
@@ -161,6 +167,25 @@ fn run_snapshot_word(
         "check" => run_check(rt.alloc(), &mut NamedFile::new(rt, path, line), &mut out)?,
         "export" => run_export(rt.alloc(), &mut NamedFile::new(rt, path, line), &mut out)?,
         "fold" => run_fold(rt.alloc(), &mut LockedFile::new(rt, path, line), &mut out)?,
+        _ => run_query_word(rt, word, path, given, line)?,
+    }
+    Ok(())
+}
+
+/// Does what a word asks for that asks the snapshot under a path.
+fn run_query_word(
+    rt: &HostRuntime,
+    word: &str,
+    path: &str,
+    given: &ArgMatches,
+    line: &mut Shown<'_>,
+) -> Result<(), Fault> {
+    let mut out = Counted::new(rt.stdout());
+    let mut file = NamedFile::new(rt, path, line);
+    match word {
+        "top" => run_top(rt.alloc(), &mut file, &mut out, &top_query_of(given)?)?,
+        "list" => run_list(rt.alloc(), &mut file, &mut out, &range_of(given)?)?,
+        "degrees" => run_degrees(rt.alloc(), &mut file, &mut out, side_of(given))?,
         _ => {}
     }
     Ok(())

@@ -1,4 +1,4 @@
 pub mod CheckLemmas
 pub mod FoldLemmas
-mod KeptLemmas
+pub mod KeptLemmas
 mod LoggedLemmas

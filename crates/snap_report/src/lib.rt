@@ -14,7 +14,7 @@ mod fold;
 mod kept_log;
 mod limits;
 
-pub use check::run_check;
+pub use check::{run_check, sum_of};
 pub use check_log::run_check_with_log;
 pub use export::run_export;
 pub use fault::{CheckFault, FoldFault};

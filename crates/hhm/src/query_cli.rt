@@ -1,0 +1,130 @@
+//! The words that ask a snapshot, `top`, `list` and `degrees`, as `clap` reads them.
+
+use clap::builder::ValueParser;
+use clap::{Arg, ArgAction, Command};
+use std::alloc::{AllocError, Global};
+
+/// How many rows `top` tells where no `-n` is given.
+pub const DEFAULT_MOST: &str = "10";
+
+const TOP_ABOUT: &str = "Write the rows or columns of a snapshot's sum that lead";
+
+const TOP_HELP: &str = "\
+Reads the snapshot in the file PATH to its end, and writes a line to standard
+output for each of the rows that lead in the sum of all batches, the highest
+first, and equal ones by row:
+
+  row entries total
+
+The row counts from 0, as in queries. With --cols the lines are of columns.
+
+A fault is one line on standard error:
+
+  hhm: settings: BadNumber         status 2
+  hhm: file: NotFound, OpenFailed  status 4
+  hhm: snapshot: KIND              status 3 (KIND Read: 4)
+  hhm: output failed after N bytes status 4
+  hhm: memory                      status 5";
+
+const LIST_ABOUT: &str = "Write the cells in a range of a snapshot's sum";
+
+const LIST_HELP: &str = "\
+Reads the snapshot in the file PATH to its end, and writes the cells of the sum
+of all batches that lie in these rows and columns to standard output: a Matrix
+Market text (matrix coordinate integer general) with the dimensions of the whole
+and the cells by row and then by column. The bounds A and B count from 0, as in
+queries, and are both in; the text counts from 1.
+
+A fault is one line on standard error:
+
+  hhm: settings: BadNumber         status 2
+  hhm: file: NotFound, OpenFailed  status 4
+  hhm: snapshot: KIND              status 3 (KIND Read: 4)
+  hhm: output failed after N bytes status 4
+  hhm: memory                      status 5";
+
+const DEGREES_ABOUT: &str =
+    "Write how many rows or columns of a snapshot's sum have how many entries";
+
+const DEGREES_HELP: &str = "\
+Reads the snapshot in the file PATH to its end, and writes a line to standard
+output for 1 entry, 2 to 3, 4 to 7 and so on: how many rows of the sum of all
+batches have so many. Where no row has, there is no line:
+
+  from to rows
+
+With --cols the lines are of columns.
+
+A fault is one line on standard error:
+
+  hhm: file: NotFound, OpenFailed  status 4
+  hhm: snapshot: KIND              status 3 (KIND Read: 4)
+  hhm: output failed after N bytes status 4
+  hhm: memory                      status 5";
+
+// A word that reads the snapshot in a file.
+fn word<'a>(
+    alloc: Global,
+    name: &'a str,
+    about: &'a str,
+    help: &'a str,
+) -> Result<Command<'a>, AllocError> {
+    let path = Arg::new(alloc, "path")
+        .value_name("PATH")
+        .required(true)
+        .value_parser(ValueParser::NonEmptyString)
+        .help("The snapshot's file");
+    Command::new(alloc, name)
+        .about(about)
+        .after_help(help)
+        .arg(path)
+}
+
+// Whether rows or columns are told.
+fn with_side<'a>(alloc: Global, command: Command<'a>) -> Result<Command<'a>, AllocError> {
+    let rows = Arg::new(alloc, "rows")
+        .long("rows")
+        .action(ArgAction::SetTrue)
+        .help("Tell of rows, as without it")
+        .conflicts_with("cols")?;
+    let cols = Arg::new(alloc, "cols")
+        .long("cols")
+        .action(ArgAction::SetTrue)
+        .help("Tell of columns");
+    command.arg(rows)?.arg(cols)
+}
+
+/// The word `top`.
+pub fn top_command<'a>(alloc: Global) -> Result<Command<'a>, AllocError> {
+    let by = Arg::new(alloc, "by")
+        .long("by")
+        .value_name("NUMBER")
+        .value_parser(ValueParser::Names(&["total", "entries"]))
+        .default_value("total")
+        .help("What they are compared by");
+    let most = Arg::new(alloc, "most")
+        .short('n')
+        .value_name("N")
+        .default_value(DEFAULT_MOST)
+        .help("How many are told");
+    let top = word(alloc, "top", TOP_ABOUT, TOP_HELP)?;
+    with_side(alloc, top)?.arg(by)?.arg(most)
+}
+
+/// The word `list`.
+pub fn list_command<'a>(alloc: Global) -> Result<Command<'a>, AllocError> {
+    let rows = Arg::new(alloc, "rows").long("rows").value_name("A-B").help(
+        "The rows from A to B, counted from 0; all where it is left out",
+    );
+    let cols = Arg::new(alloc, "cols").long("cols").value_name("A-B").help(
+        "The columns from A to B, counted from 0; all where it is left out",
+    );
+    let list = word(alloc, "list", LIST_ABOUT, LIST_HELP)?;
+    list.arg(rows)?.arg(cols)
+}
+
+/// The word `degrees`.
+pub fn degrees_command<'a>(alloc: Global) -> Result<Command<'a>, AllocError> {
+    let degrees = word(alloc, "degrees", DEGREES_ABOUT, DEGREES_HELP)?;
+    with_side(alloc, degrees)
+}

@@ -1,0 +1,3 @@
+pub mod TurnLaws
+pub mod LineLaws
+pub mod RangeLaws
