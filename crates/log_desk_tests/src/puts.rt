@@ -15,7 +15,7 @@ use std::sync::{Arc, Mutex, Wait};
 use std::thread::Threads;
 use std::time::{Clock, Duration};
 use std::{slice, thread};
-use test_support::same;
+use test_support::{same, same_at};
 
 /// Why a put is refused.
 #[derive(Clone, Copy, Debug, PartialEq, Eq)]
@@ -135,6 +135,24 @@ pub fn put_one<N: Named, H: Ledger, L: Log, R: Wait + Abort>(
     };
     desk.leave(rt, ticket);
     answer
+}
+
+/// Puts number 1 of one client after another, and compares what each is answered.
+pub fn expect_puts<N: Named, H: Ledger, L: Log, R: Wait + Abort + Eprint>(
+    rt: &R,
+    alloc: Global,
+    engine: &Engine<N, H>,
+    desk: &LogDesk<N, L>,
+    seat: &mut Seat<N, H>,
+    known: &mut Durable<N, L>,
+    puts: &[(u64, Answer)],
+) {
+    let admitted = AtomicU64::new(0);
+    for (client, expected) in puts {
+        let pair = (*client, 1);
+        let answer = put_one(rt, alloc, engine, desk, seat, known, &admitted, pair);
+        assert!(rt; same_at(rt, client, &answer, expected));
+    }
 }
 
 /// Puts so many batches from each of the seats, each in a thread of its own, and counts the answers.

@@ -3,7 +3,7 @@ ghost use Rattle.std.specs.Prelude.{⊤};
 
 use crate::cases::{Case, play, small_setup};
 use crate::puts::Refusal::Desk;
-use crate::puts::{expect_log, nothing, put_one, sizes};
+use crate::puts::{expect_log, expect_puts, nothing, sizes};
 use locked_engine::{Engine, Named, Seat, Version};
 use log_desk::DeskFault::LogFailed;
 use log_desk::{Durable, FailAt, Group, LogDesk, MemoryLog, NoPause, TurnWork};
@@ -12,7 +12,6 @@ use std::alloc::Global;
 use std::io::Eprint;
 use std::process::Abort;
 use std::sync::Wait;
-use std::sync::atomic::AtomicU64;
 use std::sync::ledger::Ledger;
 use std::test::Fail;
 use test_support::same;
@@ -82,20 +81,8 @@ pub fn renew<N: Named, H: Ledger, R: Wait + Abort + Eprint>(
     let log = MemoryLog::new(alloc, 16, 16, FailAt::Append(1), NoPause).expect(rt, "memory");
     let mut known = nothing(seat);
     let desk = LogDesk::open(alloc, log, known.again(), seat.version()).expect(rt, "memory");
-    let admitted = AtomicU64::new(0);
-    for (client, expected) in [(7, Ok(0)), (8, Err(Desk(LogFailed)))] {
-        let answer = put_one(
-            rt,
-            alloc,
-            engine,
-            &desk,
-            seat,
-            &mut known,
-            &admitted,
-            (client, 1),
-        );
-        assert!(rt; same(rt, &answer, &expected));
-    }
+    let failed = [(7, Ok(0)), (8, Err(Desk(LogFailed)))];
+    expect_puts(rt, alloc, engine, &desk, seat, &mut known, &failed);
     let work = Renewal {
         rt,
         alloc,
@@ -105,19 +92,8 @@ pub fn renew<N: Named, H: Ledger, R: Wait + Abort + Eprint>(
     assert!(rt; desk.with_turn(rt, work));
     // The fresh log has the second batch too.
     assert!(rt; same(rt, &sizes(rt, engine, &desk, seat), &(2, 2)));
-    for (client, expected) in [(8, Ok(1)), (9, Ok(2))] {
-        let answer = put_one(
-            rt,
-            alloc,
-            engine,
-            &desk,
-            seat,
-            &mut known,
-            &admitted,
-            (client, 1),
-        );
-        assert!(rt; same(rt, &answer, &expected));
-    }
+    let kept = [(8, Ok(1)), (9, Ok(2))];
+    expect_puts(rt, alloc, engine, &desk, seat, &mut known, &kept);
     let (log, durable) = desk.close().expect(rt, "the turn");
     assert!(rt; same(rt, &(log.syncs(), durable.count()), &(2, 3)));
     expect_log(rt, alloc, engine, seat, &log, 3);

@@ -2,7 +2,7 @@
 
 use crate::cases::{Case, play, small_setup};
 use crate::puts::Refusal::Desk;
-use crate::puts::{nothing, put_one, sizes};
+use crate::puts::{expect_puts, nothing, put_one, sizes};
 use locked_engine::{Engine, Named, Seat};
 use log_desk::DeskFault::{LogFailed, LogFull};
 use log_desk::{FailAt, Log, LogDesk, MemoryLog, NoPause};
@@ -104,45 +104,13 @@ pub fn fill_up<N: Named, H: Ledger, R: Wait + Abort + Eprint>(
     let desk = LogDesk::open(alloc, log, known.again(), seat.version()).expect(rt, "memory");
     let two = desk.enter(rt, 2).expect(rt, "room");
     assert!(rt; is_full(rt, &desk, 2));
-    let admitted = AtomicU64::new(0);
     // The third page is free; once the batch is durable it is used up.
-    let answer = put_one(
-        rt,
-        alloc,
-        engine,
-        &desk,
-        seat,
-        &mut known,
-        &admitted,
-        (7, 1),
-    );
-    assert!(rt; same(rt, &answer, &Ok(0)));
+    let one = [(7, Ok(0))];
+    expect_puts(rt, alloc, engine, &desk, seat, &mut known, &one);
     assert!(rt; is_full(rt, &desk, 1));
     desk.leave(rt, two);
-    for client in 8..10 {
-        let answer = put_one(
-            rt,
-            alloc,
-            engine,
-            &desk,
-            seat,
-            &mut known,
-            &admitted,
-            (client, 1),
-        );
-        assert!(rt; answer.is_ok());
-    }
-    let answer = put_one(
-        rt,
-        alloc,
-        engine,
-        &desk,
-        seat,
-        &mut known,
-        &admitted,
-        (10, 1),
-    );
-    assert!(rt; same(rt, &answer, &Err(Desk(LogFull))));
+    let more = [(8, Ok(1)), (9, Ok(2)), (10, Err(Desk(LogFull)))];
+    expect_puts(rt, alloc, engine, &desk, seat, &mut known, &more);
     assert!(rt; same(rt, &sizes(rt, engine, &desk, seat), &(3, 3)));
     drop(desk);
 }

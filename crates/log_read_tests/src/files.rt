@@ -140,51 +140,37 @@ fn changed_logs(rt: HostRuntime) -> Result<(), AllocError> {
     Ok(())
 }
 
+/// The head, the first block, and the second with another byte in the place of its count.
+fn with_last_count(alloc: Global, count: u8) -> Result<Vec<u8>, AllocError> {
+    let mut last = b2();
+    last[79] = count;
+    joined(alloc, &[head(), b1(), last])
+}
+
+// A byte that became 00 looks like a block in the making, which is cut off; one that became another is damage.
 #[test]
-fn damaged_ends(rt: HostRuntime) -> Result<(), AllocError> {
+fn changes_of_the_last_block(rt: HostRuntime) -> Result<(), AllocError> {
     let alloc = rt.alloc();
-    let mut lost = b2();
-    lost[79] = 0;
-    let bytes = joined(alloc, &[head(), b1(), lost])?;
-    assert!(rt;
-        same(
-            &rt,
-            &read_of(&rt, alloc, &bytes, MOST),
-            &log(&rt, alloc, &[(7, 1)], 1, 1)
-        )
-    );
-    lost[79] = 2;
-    let bytes = joined(alloc, &[head(), b1(), lost])?;
-    assert!(rt;
-        same(
-            &rt,
-            &read_of(&rt, alloc, &bytes, MOST),
-            &Err((LogKind::Damaged, 2))
-        )
-    );
-    let bytes = joined(alloc, &[head(), b1(), b1()])?;
-    assert!(rt;
-        same(
-            &rt,
-            &read_of(&rt, alloc, &bytes, MOST),
-            &Err((LogKind::Damaged, 2))
-        )
-    );
-    // More bytes than may come are told before a damaged page.
-    assert!(rt;
-        same(
-            &rt,
-            &read_of(&rt, alloc, &bytes, 12_287),
-            &Err((LogKind::TooLong, 2))
-        )
-    );
-    let bytes = joined(alloc, &[b1(), head()])?;
-    assert!(rt;
-        same(
-            &rt,
-            &read_of(&rt, alloc, &bytes, MOST),
-            &Err((LogKind::BadMark, 0))
-        )
-    );
+    let lost = read_of(&rt, alloc, &with_last_count(alloc, 0)?, MOST);
+    assert!(rt; same(&rt, &lost, &log(&rt, alloc, &[(7, 1)], 1, 1)));
+    let changed = read_of(&rt, alloc, &with_last_count(alloc, 2)?, MOST);
+    assert!(rt; same(&rt, &changed, &Err((LogKind::Damaged, 2))));
+    Ok(())
+}
+
+// The last is told before the damaged page: more bytes than may come.
+#[test]
+fn pages_in_other_places(rt: HostRuntime) -> Result<(), AllocError> {
+    let alloc = rt.alloc();
+    let twice = joined(alloc, &[head(), b1(), b1()])?;
+    let swapped = joined(alloc, &[b1(), head()])?;
+    for (bytes, most, why) in [
+        (&twice, MOST, (LogKind::Damaged, 2)),
+        (&swapped, MOST, (LogKind::BadMark, 0)),
+        (&twice, 12_287, (LogKind::TooLong, 2)),
+    ] {
+        let got = read_of(&rt, alloc, bytes, most);
+        assert!(rt; same_at(&rt, &most, &got, &Err(why)));
+    }
     Ok(())
 }

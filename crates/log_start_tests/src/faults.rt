@@ -5,11 +5,14 @@ use crate::examples::{b1, b2, head, head_behind, small_setup, twice};
 use crate::folder::{Call, TestFolder};
 use crate::starts::{Made, file_of, front, joined, start_in};
 use batch_store::Setup;
+use log_blocks::LogKind::{BadMark, Damaged, HeadCheck, Truncated};
 use log_blocks::{LogFault, LogKind};
 use log_disk::MemoryDisk;
 use log_page::PAGE;
 use log_start::StartFault;
+use log_start::StartFault::{EntryDiffers, Gap, LinkDiffers, NotFresh};
 use std::alloc::{AllocError, Global};
+use std::io::Eprint;
 use std::process::Abort;
 use std::random::RandomSource;
 use test_support::{same, same_at};
@@ -36,7 +39,7 @@ fn started<R: Abort + RandomSource>(
     Ok(rows)
 }
 
-/// A file, and a snapshot, that don't belong together, and why.
+/// A file of so many bytes of two pages, a snapshot beside it, and why a start is refused.
 #[derive(Drop)]
 struct Refused {
     pages: [[u8; PAGE]; 2],
@@ -45,22 +48,27 @@ struct Refused {
     why: StartFault,
 }
 
-fn row(
-    pages: [[u8; PAGE]; 2],
-    length: usize,
-    known: &'static [(u64, u64)],
-    why: StartFault,
-) -> Refused {
+/// The bytes of two pages.
+const BOTH: usize = 2 * PAGE;
+
+/// A log of two pages that doesn't belong to a snapshot.
+fn row(pages: [[u8; PAGE]; 2], known: &'static [(u64, u64)], why: StartFault) -> Refused {
     Refused {
         pages,
-        length,
+        length: BOTH,
         known,
         why,
     }
 }
 
-fn log_fault(kind: LogKind, page: u64) -> StartFault {
-    StartFault::Log(LogFault { kind, page })
+/// So many bytes of two pages that are no log.
+fn no_log(pages: [[u8; PAGE]; 2], length: usize, kind: LogKind, page: u64) -> Refused {
+    Refused {
+        pages,
+        length,
+        known: &[],
+        why: StartFault::Log(LogFault { kind, page }),
+    }
 }
 
 /// A page with a bit of its last byte changed.
@@ -70,80 +78,52 @@ fn spoilt(page: [u8; PAGE]) -> [u8; PAGE] {
     changed
 }
 
-#[test]
-fn logs_that_do_not_belong_are_refused(rt: HostRuntime) -> Result<(), AllocError> {
-    let alloc = rt.alloc();
-    let whole = 2 * PAGE;
-    let rows = [
-        row(
-            [head_behind(), b2()],
-            whole,
-            &[],
-            StartFault::Gap { first: 1 },
-        ),
-        row(
-            [head_behind(), b2()],
-            whole,
-            &[(8, 3)],
-            StartFault::LinkDiffers,
-        ),
-        row(
-            [head_behind(), b2()],
-            whole,
-            &[(7, 4)],
-            StartFault::LinkDiffers,
-        ),
-        row(
-            [head(), b1()],
-            whole,
-            &[(7, 4)],
-            StartFault::EntryDiffers { at: 0 },
-        ),
-        row(
-            [head_behind(), b2()],
-            whole,
-            &[(7, 5), (9, 3)],
-            StartFault::EntryDiffers { at: 1 },
-        ),
-        row(
-            [head(), twice()],
-            whole,
-            &[],
-            StartFault::NotFresh { at: 1 },
-        ),
-        row(
-            [head(), twice()],
-            whole,
-            &[(7, 5)],
-            StartFault::NotFresh { at: 1 },
-        ),
-        row([head(), b1()], 4095, &[], log_fault(LogKind::Truncated, 0)),
-        row([b1(), head()], whole, &[], log_fault(LogKind::BadMark, 0)),
-        row(
-            [spoilt(head()), b1()],
-            whole,
-            &[],
-            log_fault(LogKind::HeadCheck, 0),
-        ),
-        row(
-            [head(), spoilt(b1())],
-            whole,
-            &[],
-            log_fault(LogKind::Damaged, 1),
-        ),
-        row([head(), b2()], whole, &[], log_fault(LogKind::Damaged, 1)),
-        row([head(), head()], whole, &[], log_fault(LogKind::Damaged, 1)),
-    ];
-    for row in &rows {
+/// Starts on each of these files, whose folder is called twice and no more.
+fn expect_refused<R: Abort + Eprint + RandomSource>(
+    rt: &R,
+    alloc: Global,
+    rows: &[Refused],
+) -> Result<(), AllocError> {
+    for row in rows {
         let bytes = joined(alloc, &row.pages)?;
-        let file = file_of(&rt, alloc, front(&rt, &bytes, row.length));
+        let file = file_of(rt, alloc, front(rt, &bytes, row.length));
         let mut folder = TestFolder::new(alloc, Some(file), None, None);
-        let got = started(&rt, alloc, &small_setup(&rt), row.known, &mut folder);
-        assert!(rt; same_at(&rt, &row.why, &got.is_err(), &true));
-        assert!(rt; same(&rt, &got, &Err(row.why)));
-        assert!(rt; same(&rt, &&folder.calls[..], &&[Call::SyncNames, Call::Find][..]));
+        let got = started(rt, alloc, &small_setup(rt), row.known, &mut folder);
+        assert!(rt; same_at(rt, &row.why, &got.is_err(), &true));
+        assert!(rt; same(rt, &got, &Err(row.why)));
+        assert!(rt; same(rt, &&folder.calls[..], &&[Call::SyncNames, Call::Find][..]));
     }
     Ok(())
+}
+
+#[test]
+fn logs_of_other_snapshots_are_refused(rt: HostRuntime) -> Result<(), AllocError> {
+    let behind = [head_behind(), b2()];
+    let fresh = [head(), b1()];
+    let doubled = [head(), twice()];
+    let rows = [
+        row(behind, &[], Gap { first: 1 }),
+        row(behind, &[(8, 3)], LinkDiffers),
+        row(behind, &[(7, 4)], LinkDiffers),
+        row(fresh, &[(7, 4)], EntryDiffers { at: 0 }),
+        row(behind, &[(7, 5), (9, 3)], EntryDiffers { at: 1 }),
+        row(doubled, &[], NotFresh { at: 1 }),
+        row(doubled, &[(7, 5)], NotFresh { at: 1 }),
+    ];
+    expect_refused(&rt, rt.alloc(), &rows)
+}
+
+#[test]
+fn damaged_logs_are_refused(rt: HostRuntime) -> Result<(), AllocError> {
+    let rows = [
+        no_log([head(), b1()], 4095, Truncated, 0),
+        no_log([b1(), head()], BOTH, BadMark, 0),
+        no_log([spoilt(head()), b1()], BOTH, HeadCheck, 0),
+        no_log([head(), spoilt(b1())], BOTH, Damaged, 1),
+        no_log([head(), b2()], BOTH, Damaged, 1),
+        no_log([head(), head()], BOTH, Damaged, 1),
+    ];
+    expect_refused(&rt, rt.alloc(), &rows)
 }
 
 // Each number of the setup that may differ.

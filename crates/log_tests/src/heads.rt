@@ -138,61 +138,66 @@ fn read_again(rt: HostRuntime) -> Result<(), SetupFault> {
     Ok(())
 }
 
-// Each byte of the mark and of the version, each number out of its range at both ends, and each byte of the checksum.
+// Each byte of the mark and of the version.
 #[test]
-fn faults(rt: HostRuntime) {
-    for at in 0..8usize {
-        assert!(rt; same_at(&rt, &at, &read(&changed(at, &[0])), &Err(LogKind::BadMark)));
+fn wrong_marks_and_versions(rt: HostRuntime) {
+    for at in 0..12usize {
+        let (byte, why) = if at < 8 {
+            (0, LogKind::BadMark)
+        } else {
+            (2, LogKind::BadVersion)
+        };
+        assert!(rt; same_at(&rt, &at, &read(&changed(at, &[byte])), &Err(why)));
     }
-    for at in 8..12usize {
-        assert!(rt;
-            same_at(
-                &rt,
-                &at,
-                &read(&changed(at, &[2])),
-                &Err(LogKind::BadVersion)
-            )
-        );
-    }
-    let numbers: [(usize, u64); 15] = [
-        (12, 0),
-        (12, (1 << 60) + 1),
-        (20, 0),
-        (20, (1 << 60) + 1),
-        (29, 0),
-        (29, 4),
-        (37, 2),
-        (37, (1 << 40) + 1),
-        (46, 0),
-        (54, 0),
-        (54, 1_000_001),
-        (62, 11),
-        (62, u64::MAX),
-        (70, 101),
-        (70, u64::MAX),
-    ];
-    for (at, number) in numbers {
+}
+
+/// The place of a field of eight bytes, and a number that is out of its range, at both ends of that.
+const NUMBERS_OUT_OF_RANGE: [(usize, u64); 15] = [
+    (12, 0),
+    (12, (1 << 60) + 1),
+    (20, 0),
+    (20, (1 << 60) + 1),
+    (29, 0),
+    (29, 4),
+    (37, 2),
+    (37, (1 << 40) + 1),
+    (46, 0),
+    (54, 0),
+    (54, 1_000_001),
+    (62, 11),
+    (62, u64::MAX),
+    (70, 101),
+    (70, u64::MAX),
+];
+
+// Also where the checksum is that of the changed page.
+#[test]
+fn numbers_out_of_range(rt: HostRuntime) {
+    for (at, number) in NUMBERS_OUT_OF_RANGE {
         if at < 80 {
             let page = changed(at, &number.to_be_bytes());
             assert!(rt; same_at(&rt, &at, &read(&page), &Err(LogKind::BadHead)));
             assert!(rt; same_at(&rt, &at, &read(&mended(page)), &Err(LogKind::BadHead)));
         }
     }
+}
+
+#[test]
+fn bytes_out_of_range(rt: HostRuntime) {
     for (at, byte) in [(28usize, 8u8), (28, 255), (45, 0), (45, 65)] {
         if at < 80 {
             let page = changed(at, &[byte]);
             assert!(rt; same_at(&rt, &at, &read(&page), &Err(LogKind::BadHead)));
         }
     }
+}
+
+// Each byte of the checksum.
+#[test]
+fn changed_checks(rt: HostRuntime) {
     for at in 4092..PAGE {
-        assert!(rt;
-            same_at(
-                &rt,
-                &at,
-                &read(&changed(at, &[1])),
-                &Err(LogKind::HeadCheck)
-            )
-        );
+        let got = read(&changed(at, &[1]));
+        assert!(rt; same_at(&rt, &at, &got, &Err(LogKind::HeadCheck)));
     }
 }
 
