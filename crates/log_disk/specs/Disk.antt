@@ -21,6 +21,7 @@ pub record IsCut (len : ℕ) (old new : List ℕ) : Type 0 where
   pub before : (i : ℕ) → i < len → slice_index new i ≡ slice_index old i
   pub behind : (i : ℕ) → len ≤ i → slice_index new i ≡ 0
   pub longer : (length old ≤ length new) ⊎ (len ≤ length new)
+  pub ends : length new ≤ len
 
 -- new is old, where bytes from this length on may be gone
 pub record MayBeCut (len : ℕ) (old new : List ℕ) : Type 0 where

@@ -1,6 +1,8 @@
 -- Zeros behind a log, call by call.
 use Rattle.std.proofs.Common.{◌≡◌, ℕ, ◌<◌, ◌≤◌, ◌+◌, ◌*◌, List, length, get_or, ap, subst, sym, refl, ◌∙◌, arith}
-use Rattle.std.proofs.Common.{true≢false}
+use Rattle.std.proofs.Common.{true≢false, ⊎_elim}
+use Rattle.std.proofs.lemmas.Bool.{cases_lt}
+use Rattle.std.proofs.Common.{inl, inr}
 use Rattle.std.specs.Prelude.{Result, Ok, Err, OnOk, OnErr, false, is_err}
 use Rattle.log_blocks.specs.Blocks.{Block}
 use Rattle.log_disk.specs.Disk.{Holds, HoldsSome, IsCut, MayBeCut, Elapses, Follows, LeavesOnly}
@@ -117,3 +119,46 @@ room_is_long written may_leave mid new bytes long same left = record {
 pub on_ok : {T E : Type 0} (r : Result T E) (P : Type 0) → is_err r ≡ false → OnOk r P → P
 on_ok (Ok x) P is p = p
 on_ok (Err e) P is p = absurd (true≢false is)
+
+-- ---- how long a file is
+
+module _ {D : Type 0} (written : D → List ℕ) (may_leave : D → List ℕ → Type 0) (old new : D) (n : ℕ)
+    (long : IsLong written may_leave old n) where
+  -- bytes were written, or some of them
+  pub long_written : (at : ℕ) (bytes : List ℕ) → HoldsSome at bytes (written old) (written new)
+      → Follows (HoldsSome at bytes) (may_leave old) (may_leave new) → IsLong written may_leave new n
+  long_written at bytes some follows = record {
+    file = omega (arith, some.longer, long.file);
+    left = λ l now. let b = follows l now in omega (arith, b.2.longer, long.left b.0 b.1);
+  }
+
+  -- it was synced, or that failed
+  pub long_synced : written new ≡ written old → ((left : List ℕ) → may_leave new left → may_leave old left)
+      → IsLong written may_leave new n
+  long_synced same fewer = record {
+    file = omega (arith, ap length same, long.file);
+    left = λ l now. long.left l (fewer l now);
+  }
+
+  -- it was cut behind the first n bytes, or that failed
+  pub long_cut : MayBeCut n (written old) (written new) → Follows (MayBeCut n) (may_leave old) (may_leave new)
+      → IsLong written may_leave new n
+  long_cut cut follows = record {
+    file = enough (written old) (written new) cut long.file;
+    left = λ l now. let b = follows l now in enough b.0 l b.2 (long.left b.0 b.1);
+  }
+    where
+      enough : (x y : List ℕ) → MayBeCut n x y → n ≤ length x → n ≤ length y
+      enough x y cut le = ⊎_elim (λ (longer : length x ≤ length y). omega (arith, longer, le))
+          (λ (is : n ≤ length y). is) cut.longer
+
+-- what room there is behind so many pages more, where those were written, or none were asked for
+pub room_more : {D : Type 0} (written : D → List ℕ) (may_leave : D → List ℕ → Type 0) (new : D) (page room pages : ℕ)
+    → (0 < pages → IsLong written may_leave new (4096 * (page + (room + pages))))
+    → IsLong written may_leave new (4096 * (page + room)) → IsLong written may_leave new (4096 * (page + (room + pages)))
+room_more written may_leave new page room pages more still = elim (cases_lt 0 pages) [
+  | inl some ↦ more some
+  | inr none ↦
+      let same : 4096 * (page + room) ≡ 4096 * (page + (room + pages)) = omega arith in
+      subst (λ (n : ℕ). IsLong written may_leave new n) same still
+]

@@ -57,6 +57,8 @@ fn fill_pages<D: LogDisk>(disk: &mut D, from: u64, pages: u64) -> Result<(), Dev
         Stays D.written D.may_leave D.moment D.left_since (HoldsLog log) disk.old disk.new }
     ensures long { D.tells disk.old →
         OnOk result (0 < pages → 4096 * (from + pages) ≤ length (D.written disk.new)) }
+    ensures no_shorter { D.tells disk.old → (n : ℕ) → IsLong D.written D.may_leave disk.old n →
+        IsLong D.written D.may_leave disk.new n }
     ensures tells { D.tells disk.old → D.tells disk.new }
     ensures sound { D.in_doubt disk.new ≡ false }
     ensures ok { OnOk result (D.failure_count disk.new ≡ D.failure_count disk.old) }
@@ -93,6 +95,10 @@ impl LogWriter {
         // The room is in the file, and a loss of power leaves it there.
         ensures written { D.tells disk.old → OnOk result (0 < pages →
             IsLong D.written D.may_leave disk.new (4096 * (self.new.page + self.new.room))) }
+        // Whatever it answers, no room is lost.
+        ensures room_stays { D.telling →
+            IsLong D.written D.may_leave disk.old (4096 * (self.old.page + self.old.room)) →
+            IsLong D.written D.may_leave disk.new (4096 * (self.new.page + self.new.room)) }
         ensures same { OnErr result (self.new ≡ self.old) }
         ensures working { OnOk result ((D.in_doubt disk.new ≡ false)
             × (D.failure_count disk.new ≡ D.failure_count disk.old)) }
@@ -127,6 +133,12 @@ impl LogWriter {
         ensures settled { D.telling → IsSettled D.written D.may_leave disk.new self.now log }
         ensures any_moment { D.telling →
             LeavesOnly D.moment D.left_since disk.old disk.new (IsReadAs log) }
+        // The file ends with the room, and has all of it.
+        ensures cut { D.tells disk.old →
+            OnOk result (length (D.written disk.new) ≤ 4096 * (self.now.page + self.now.room)) }
+        ensures room_stays { D.tells disk.old →
+            IsLong D.written D.may_leave disk.old (4096 * (self.now.page + self.now.room)) →
+            IsLong D.written D.may_leave disk.new (4096 * (self.now.page + self.now.room)) }
         ensures working { OnOk result ((D.in_doubt disk.new ≡ false)
             × (D.failure_count disk.new ≡ D.failure_count disk.old)) }
         ensures doubt { OnErr result (D.in_doubt disk.new ≡ true) }

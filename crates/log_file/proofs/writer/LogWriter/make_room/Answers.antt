@@ -1,5 +1,5 @@
 use Rattle.std.proofs.Common.{◌∙◌, sym, refl, arith, rules}
-use Rattle.log_file.proofs.Filling.{fill_synced, room_behind, still_settled, still_read, on_ok, room_is_long}
+use Rattle.log_file.proofs.Filling.{fill_synced, room_behind, still_settled, still_read, on_ok, room_is_long, long_synced, room_more}
 use Rattle.log_file.proofs.writer.LogWriter.make_room.Goals as goal
 
 pub fill_pages-requires : goal.fill_pages-requires
@@ -65,3 +65,23 @@ returns-clause-written g c = λ t some.
     room_is_long g.D.LogDisk.written g.D.LogDisk.may_leave c.fill_pages.new.disk c.sync.new.self _
     (omega (arith, filled)) (c.sync.ensures.same told)
     (on_ok c.sync.result _ (sym c.is_err-2.ensures.value ∙ c.if-is_err-2.false) (c.sync.ensures.long told))
+
+pub returns-then-is_err-clause-room_stays : goal.returns-then-is_err-clause-room_stays
+returns-then-is_err-clause-room_stays g c = λ premise long.
+    c.fill_pages.ensures.no_shorter (c.requires.1.0 premise).0 _ long
+
+pub returns-then-is_err-2-clause-room_stays : goal.returns-then-is_err-2-clause-room_stays
+returns-then-is_err-2-clause-room_stays g c = λ premise long.
+    let t = (c.requires.1.0 premise).0 in
+    let told = c.fill_pages.ensures.tells t in
+    long_synced g.D.LogDisk.written g.D.LogDisk.may_leave c.fill_pages.new.disk c.sync.new.self _
+    (c.fill_pages.ensures.no_shorter t _ long) (c.sync.ensures.same told) (c.sync.ensures.crash told)
+
+pub returns-clause-room_stays : goal.returns-clause-room_stays
+returns-clause-room_stays g c = λ premise long.
+    let t = (c.requires.1.0 premise).0 in
+    let told = c.fill_pages.ensures.tells t in
+    let still = long_synced g.D.LogDisk.written g.D.LogDisk.may_leave c.fill_pages.new.disk c.sync.new.self _
+    (c.fill_pages.ensures.no_shorter t _ long) (c.sync.ensures.same told) (c.sync.ensures.crash told) in
+    room_more g.D.LogDisk.written g.D.LogDisk.may_leave c.sync.new.self c.args.self.now.page c.args.self.now.room
+    c.args.pages (returns-clause-written g c t) still
