@@ -10,7 +10,9 @@
 --                         one of the two calls failed, and none followed
 --     failed_calls fault  how many calls of the folder failed where a log wasn't begun: a write and a sync are calls of
 --                         its file
-use Rattle.std.specs.Prelude.{◌≡◌, ◌⊎◌, ℕ, ◌≤◌, List, [], length, Option, Some, Result, Ok, Err}
+--     HasFailedFile .. fault
+--                         where it is one of these, a file has failed it
+use Rattle.std.specs.Prelude.{◌≡◌, ◌⊎◌, ℕ, ◌≤◌, Bool, true, List, [], length, Option, Some, Result, Ok, Err, ⊤}
 use Rattle.byte_io.specs.declared.fault.DeviceFault.{DeviceFault}
 use Rattle.log_blocks.specs.Files.{IsSame}
 use Rattle.log_folder.specs.declared.fault.RotateFault.{RotateFault}
@@ -74,3 +76,9 @@ failed_calls RotateFault.Create = 1
 failed_calls RotateFault.Write = 0
 failed_calls RotateFault.Sync = 0
 failed_calls RotateFault.Rename = 1
+
+abbrev pub HasFailedFile : {D : Type 0} → (D → Bool) → RotateFault → Type 0
+HasFailedFile in_doubt RotateFault.Create = ⊤
+HasFailedFile {D} in_doubt RotateFault.Write = (disk : D) × (in_doubt disk ≡ true)
+HasFailedFile {D} in_doubt RotateFault.Sync = (disk : D) × (in_doubt disk ≡ true)
+HasFailedFile in_doubt RotateFault.Rename = ⊤

@@ -2,7 +2,7 @@
 ghost use Rattle.std.specs.Prelude.{◌≡◌, ◌≢◌, ◌↔◌, ◌⊎◌, ℕ, ◌+◌, ◌<◌, ◌^◌, Option, Some, IfOk, IfErr, OnErr, OnOk, false};
 ghost use Rattle.log_folder.specs.declared.fault.RotateFault.{RotateFault};
 ghost use Rattle.log_folder.specs.Names.{KeepsName, IsFreshFile, IsDurable, HasHead, HasTakenName, HasFailedToName};
-ghost use Rattle.log_folder.specs.Names.{failed_calls};
+ghost use Rattle.log_folder.specs.Names.{HasFailedFile, failed_calls};
 
 use crate::calls::{LogFolder, NumberedFile};
 use crate::fault::RotateFault;
@@ -19,6 +19,7 @@ fn write_head<D: LogDisk>(disk: &mut D, head: &[u8]) -> Result<(), RotateFault>
     ensures sound { OnOk result (D.in_doubt disk.new ≡ false) }
     ensures failures { OnOk result (D.failure_count disk.new ≡ D.failure_count disk.old) }
     ensures cause { IfErr result (λ fault. failed_calls fault ≡ 0) }
+    ensures file { IfErr result (HasFailedFile D.in_doubt) }
 {
     let Ok(()) = disk.write_at(0, head) else {
         return Err(RotateFault::Write);
@@ -54,6 +55,7 @@ pub fn make_with_head<F: LogFolder>(
     ensures failures { OnOk result (F.failure_count folder.new ≡ F.failure_count folder.old) }
     ensures cause { IfErr result (λ fault.
         F.failure_count folder.new ≡ F.failure_count folder.old + failed_calls fault) }
+    ensures file { IfErr result (HasFailedFile F.Disk.in_doubt) }
 {
     let Ok(mut file) = folder.make_new() else {
         return Err(RotateFault::Create);
@@ -117,6 +119,7 @@ pub fn begin_named<F: LogFolder>(
     ensures failures { OnOk result (F.failure_count folder.new ≡ F.failure_count folder.old) }
     ensures cause { IfErr result (λ fault.
         F.failure_count folder.new ≡ F.failure_count folder.old + failed_calls fault) }
+    ensures file { IfErr result (HasFailedFile F.Disk.in_doubt) }
 {
     let file = make_with_head(folder, head)?;
     match give_name(folder, &file) {

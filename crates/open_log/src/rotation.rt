@@ -1,6 +1,6 @@
 //! The steps by which a new log takes the place of the one in use.
 ghost use Rattle.std.specs.Prelude.{◌≡◌, ◌≢◌, ◌↔◌, ◌+◌, ◌<◌, ◌^◌, Some, None, IfOk, OnOk, OnErr, IfErr, false};
-ghost use Rattle.log_folder.specs.Names.{KeepsName, HasTakenName, HasFailedToName};
+ghost use Rattle.log_folder.specs.Names.{HasFailedFile, KeepsName, HasTakenName, HasFailedToName, failed_calls};
 ghost use Rattle.log_folder.specs.declared.fault.RotateFault.{RotateFault};
 ghost use Rattle.log_file.specs.Logs.{Log};
 ghost use Rattle.log_file.specs.Writer.{IsSettled};
@@ -51,6 +51,9 @@ pub fn begin_rotation<F: LogFolder>(
     // The log in use stays the one that a loss of power leaves under the name.
     ensures same { F.tells folder.old → KeepsName F.named F.may_name folder.old folder.new }
     ensures failures { OnOk result (F.failure_count folder.new ≡ F.failure_count folder.old) }
+    ensures cause { IfErr result (λ fault.
+        F.failure_count folder.new ≡ F.failure_count folder.old + failed_calls fault) }
+    ensures file { IfErr result (HasFailedFile F.Disk.in_doubt) }
 {
     let file = make_with_head(folder, head)?;
     Ok(OpenLog {

@@ -1,10 +1,10 @@
 //! How a log is found at a start, and begun where there is none.
 ghost use Rattle.std.specs.Prelude.{◌≡◌, ◌↔◌, ◌≢◌, ℕ, ◌+◌, ◌<◌, ◌^◌, length, Option, Some, None, IfOk, IfErr, IfSome};
 ghost use Rattle.std.specs.Prelude.{IfNone, OnOk, OnErr, false};
-ghost use Rattle.log_folder.specs.Names.{KeepsName, failed_calls};
+ghost use Rattle.log_folder.specs.Names.{HasFailedFile, KeepsName, failed_calls};
 ghost use Rattle.log_folder.specs.declared.fault.RotateFault.{RotateFault};
 ghost use Rattle.log_file.specs.Writer.{IsSettled};
-ghost use Rattle.open_log.specs.Rotations.{begun, HasFound};
+ghost use Rattle.open_log.specs.Rotations.{begun, HasFound, HasNotFound};
 
 use crate::fault::FindFault;
 use crate::log::OpenLog;
@@ -30,6 +30,7 @@ pub fn find_log<F: LogFolder>(folder: &mut F) -> Result<Option<FoundFile<F::Disk
     ensures teller { OnOk result ((disk : F.Disk) → F.Disk.tells disk → F.tells folder.old) }
     ensures none { F.tells folder.old → IfOk result (λ found. IfNone found (F.named folder.new ≡ None)) }
     ensures order { OnOk result (HasFound F.call_gives folder.old folder.new) }
+    ensures why { IfErr result (HasNotFound F.call_gives folder.old folder.new) }
     ensures same { F.tells folder.old → KeepsName F.named F.may_name folder.old folder.new }
     ensures sound { IfOk result (λ found. IfSome found (λ f.
         (F.Disk.in_doubt f.file.disk ≡ false) × (F.Disk.failure_count f.file.disk ≡ 0))) }
@@ -74,6 +75,7 @@ pub fn begin_log<F: LogFolder>(
     ensures failures { OnOk result (F.failure_count folder.new ≡ F.failure_count folder.old) }
     ensures cause { IfErr result (λ fault.
         F.failure_count folder.new ≡ F.failure_count folder.old + failed_calls fault) }
+    ensures file { IfErr result (HasFailedFile F.Disk.in_doubt) }
 {
     let file = begin_named(folder, head)?;
     Ok(OpenLog {
