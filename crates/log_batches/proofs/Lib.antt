@@ -1,6 +1,7 @@
 mod Filled
-mod Sizes
+pub mod Sizes
 pub mod Chunks
+pub mod Groups
 mod TableLemmas
 mod Taking
 pub mod BlockLemmas

@@ -1,5 +1,5 @@
 -- The batches of a block as bytes, and those as the chunks of the block's pages.
-use Rattle.std.specs.Prelude.{ℕ, zero, suc, ◌+◌, ◌*◌, ◌/◌, List, [], ◌∷◌, ◌++◌, length, flat_map}
+use Rattle.std.specs.Prelude.{ℕ, zero, suc, ◌+◌, ◌*◌, ◌/◌, List, [], ◌∷◌, ◌++◌, length, flat_map, sum_by}
 use Rattle.std.specs.Int.{w64}
 use Rattle.batch_store.specs.Batches.{Submission}
 use Rattle.snap_file.specs.Spelling.{number_bytes, batch_bytes}
@@ -22,3 +22,7 @@ chunk_count list = (length (payload_bytes list) + 4071) / 4072
 -- the block of these batches, no page longer than needed
 unfoldable pub block_of : List Submission → Block
 block_of list = chunks_from 0 (chunk_count list) (payload_bytes list)
+
+-- how many pages batches take of which each is a block of its own
+abbrev pub pages_alone : List Submission → ℕ
+pages_alone list = sum_by (λ b. length (block_of (b ∷ []))) list

@@ -14,6 +14,8 @@ mod payload;
 mod size;
 
 pub use block::BlockReader;
-pub use laws::{blocks_have_one_list, blocks_of_batches_are_blocks};
+pub use laws::{
+    blocks_have_one_list, blocks_of_batches_are_blocks, blocks_of_groups_are_no_longer,
+};
 pub use pages::encode_block;
 pub use size::block_pages;
