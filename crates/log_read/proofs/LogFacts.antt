@@ -20,11 +20,11 @@ use Rattle.log_read.specs.Logs.{AreBlocks, HoldsLog, batches_in, pages_in, pages
 use Rattle.log_read.specs.declared.file.Block.{Block}
 use Rattle.log_read.specs.declared.file.LogFile.{LogFile}
 
-dims_and : (r c : ℕ) (xs ys : List Submission) → HaveDims r c xs → HaveDims r c ys → HaveDims r c (xs ++ ys)
+pub dims_and : (r c : ℕ) (xs ys : List Submission) → HaveDims r c xs → HaveDims r c ys → HaveDims r c (xs ++ ys)
 dims_and r c [] ys one more = more
 dims_and r c (x ∷ xs) ys one more = (one.0, one.1, dims_and r c xs ys one.2 more)
 
-logged_dims : (s : Setting) (list : List Submission) → AllByRecursion (IsLogged s) list →
+pub logged_dims : (s : Setting) (list : List Submission) → AllByRecursion (IsLogged s) list →
     HaveDims s.rows s.cols list
 logged_dims s [] each = tt
 logged_dims s (b ∷ list) each = (each.0.batch.rows_are, each.0.batch.cols_are, logged_dims s list each.1)

@@ -25,7 +25,9 @@ use Rattle.log_batches.specs.Held.{HoldsBatches, IsLogged}
 use Rattle.snap_file.specs.Spelling.{number_bytes, batch_bytes, matrix_bytes}
 use Rattle.log_batches.specs.Payloads.{block_of}
 use Rattle.log_batches.proofs.Chunks.{is_block, length-block}
+use Rattle.log_batches.proofs.Sizes.{batches_take}
 use Rattle.log_read.specs.Logs.{AreBlocks, HoldsLog, pages_behind}
+use Rattle.log_read.proofs.LogFacts.{behind_are, dims_and, length-pages, logged_dims}
 use Rattle.log_read.specs.declared.file.Block.{Block}
 use Rattle.log_read.specs.declared.file.LogFile.{LogFile}
 use Rattle.log_file.specs.Writer.{IsEnd}
@@ -34,15 +36,6 @@ use Rattle.log_start.specs.Found.{IsFound, lists_of}
 use Rattle.log_start.specs.Records.{joined}
 
 -- ---- the batches
-
-dims_and : (r c : ℕ) (xs ys : List Submission) → HaveDims r c xs → HaveDims r c ys → HaveDims r c (xs ++ ys)
-dims_and r c [] ys one more = more
-dims_and r c (x ∷ xs) ys one more = (one.0, one.1, dims_and r c xs ys one.2 more)
-
-logged_dims : (s : Setting) (list : List Submission) → AllByRecursion (IsLogged s) list →
-    HaveDims s.rows s.cols list
-logged_dims s [] each = tt
-logged_dims s (b ∷ list) each = (each.0.batch.rows_are, each.0.batch.cols_are, logged_dims s list each.1)
 
 pub blocks_dims : (s : Setting) (page : ℕ) (found : List Chunks) (blocks : List Block) →
     AreBlocks s page found blocks → HaveDims s.rows s.cols (joined (lists_of blocks))
@@ -61,38 +54,6 @@ blocks_are s page [] (block ∷ blocks) are = absurd are
 blocks_are s page (chunks ∷ found) [] are = absurd are
 blocks_are s page (chunks ∷ found) (block ∷ blocks) are = λ i.
     are.1.block_is i ∷ blocks_are s (page + length chunks) found blocks are.2 i
-
--- ---- the pages
-
-length-bytes : (at n : ℕ) (file : List ℕ) → length (bytes_from at n file) ≡ n
-unfolding bytes_from
-length-bytes at zero file = refl
-length-bytes at (suc n) file = ap (λ (k : ℕ). suc k) (length-bytes (at + 1) n file)
-
-few_bytes : (at n : ℕ) (file : List ℕ) → IsBytes file → (i : ℕ) → get_or (bytes_from at n file) i 0 < 256
-unfolding bytes_from
-few_bytes at zero file are i = omega arith
-few_bytes at (suc n) file are zero = are at
-few_bytes at (suc n) file are (suc i) = few_bytes (at + 1) n file are i
-
-pages_are : (page n : ℕ) (file : List ℕ) → IsBytes file → ArePages (pages_of page n file)
-unfolding pages_of
-pages_are page zero file are = tt
-pages_are page (suc n) file are = (
-  (length-bytes (4096 * page) 4096 file, few_bytes (4096 * page) 4096 file are),
-  pages_are (page + 1) n file are,
-)
-
-pub length-pages : (page n : ℕ) (file : List ℕ) → length (pages_of page n file) ≡ n
-unfolding pages_of
-length-pages page zero file = refl
-length-pages page (suc n) file = ap (λ (k : ℕ). suc k) (length-pages (page + 1) n file)
-
-bytes_behind : (n : ℕ) (bytes : List ℕ) → IsBytes bytes → IsBytes (drop n bytes)
-bytes_behind n bytes are i = subst (λ (k : ℕ). k < 256) (sym (get_or-drop n bytes i 0)) (are (n + i))
-
-pub behind_are : (bytes : List ℕ) → IsBytes bytes → ArePages (pages_behind bytes)
-behind_are bytes are = pages_are 0 (page_count (drop 4096 bytes)) (drop 4096 bytes) (bytes_behind 4096 bytes are)
 
 -- ---- their end
 
@@ -139,18 +100,6 @@ no_block s page last place (chunks ∷ found) [] are none = absurd are
 no_block s page last place (chunks ∷ found) (block ∷ blocks) are none = absurd (omega (arith, none))
 
 -- ---- the place behind them
-
-length-number : (n : ℕ) → length (number_bytes w64 n) ≡ 8
-unfolding number_bytes
-length-number n = refl
-
--- each batch takes some bytes
-batches_take : (list : List Submission) → length list ≤ length (flat_map batch_bytes list)
-batches_take [] = omega arith
-batches_take (b ∷ list) =
-    let all = length-append (batch_bytes b) (flat_map batch_bytes list) in
-    let one = length-append (number_bytes w64 b.client) (number_bytes w64 b.number ++ matrix_bytes b.matrix.counts) in
-    omega (arith, all, one, length-number b.client, batches_take list)
 
 -- a block says how many batches it has
 told_batches : (s : Setting) (chunks : Chunks) (list : List Submission) → HoldsBatches s chunks list → IsBlock chunks →

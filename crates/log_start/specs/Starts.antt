@@ -4,8 +4,9 @@
 --     GoesOn .. old new l block   what a loss of power leaves of the file at any moment of a start
 --     IsJoined s v bytes list     the bytes are a log, and a start makes this list of it and the known one
 --     IsList .. list              the list that a start gives: the known one where no log was found, or one so joined
---     RefusesStart .. fault       why there is no start
-use Rattle.std.specs.Prelude.{◌≡◌, ◌≢◌, ◌⊎◌, ℕ, ◌+◌, ◌^◌, ◌<◌, List, length, drop, Option, None, Ok}
+--     FailsToFind .. fault        why nobody knows what stands under the log's name
+--     RefusesStart .. fault       why else there is no start
+use Rattle.std.specs.Prelude.{◌≡◌, ◌≢◌, ◌⊎◌, ℕ, ◌+◌, ◌^◌, ◌<◌, Bool, List, length, drop, Option, None, Ok}
 use Rattle.batch_store.specs.Setups.{Setting}
 use Rattle.batch_store.specs.Batches.{Submission}
 use Rattle.batch_store.specs.Books.{Listing}
@@ -20,8 +21,11 @@ use Rattle.log_join.specs.Joins.{Joins, RefusesJoin}
 use Rattle.log_join.specs.declared.fault.JoinFault.{JoinFault}
 use Rattle.log_file.specs.Logs.{Log, IsLog, IsReadAs, IsBeforeOrAfter, with_blocks}
 use Rattle.log_file.specs.Writer.{IsUnsettled}
-use Rattle.log_folder.specs.Names.{failed_calls}
+use Rattle.file_folder.specs.Calls.{Done}
+use Rattle.log_folder.specs.Names.{HasFailedFile, LogCall, failed_calls}
 use Rattle.log_folder.specs.declared.fault.RotateFault.{RotateFault}
+use Rattle.open_log.specs.Rotations.{HasNotFound}
+use Rattle.open_log.specs.declared.fault.FindFault.{FindFault}
 use Rattle.log_start.specs.Found.{AreBytesOf, IsRefused, ReadsAs}
 use Rattle.log_start.specs.Records.{joined}
 use Rattle.log_start.specs.declared.fault.StartFault.{StartFault}
@@ -118,30 +122,42 @@ pub record FailsFile {D : Type 0} (tells : D → Type 0) (written : D → List �
   pub unsettled : tells old → IsUnsettled written may_leave new l block
   pub any_moment : tells old → LeavesOnly moment left_since old new (IsBeforeOrAfter l block)
 
--- no log was begun
-pub record FailsNew (old new : ℕ) (fault : StartFault) : Type 0 where
+-- no log was begun: a call of the folder failed, or one of the new file
+pub record FailsNew {D : Type 0} (in_doubt : D → Bool) (old new : ℕ) (fault : StartFault) : Type 0 where
   pub why : RotateFault
   pub fault_is : fault ≡ of_rotate why
   pub failed : new ≡ old + failed_calls why
+  pub file : HasFailedFile in_doubt why
 
 -- the names weren't synced, or the file not opened
-abbrev pub FailsToFind : ℕ → ℕ → StartFault → Type 0
-FailsToFind old new fault = ((fault ≡ StartFault.Sync) ⊎ (fault ≡ StartFault.Create)) × (new ≡ old + 1)
+abbrev pub of_find : FindFault → StartFault
+of_find FindFault.Sync = StartFault.Sync
+of_find FindFault.Open = StartFault.Create
+
+pub record FailsToFind {S : Type 0} (calls : S → LogCall → Done → S → Type 0) (s t : S) (old new : ℕ)
+    (fault : StartFault) : Type 0 where
+  pub why : FindFault
+  pub fault_is : fault ≡ of_find why
+  pub not_found : HasNotFound calls s t why
+  pub failed : new ≡ old + 1
 
 -- where a file was found
 abbrev pub RefusesFound : {D : Type 0} → (D → Type 0) → (D → List ℕ) → (D → List ℕ → Type 0) → (D → ℕ)
-    → (D → ℕ → List ℕ → Type 0) → (D → ℕ) → D → ℕ → Log → Block → Setting → Listing → ℕ → ℕ → StartFault → Type 0
-RefusesFound tells written may_leave moment left_since failures file len l block s v old new fault =
+    → (D → ℕ → List ℕ → Type 0) → (D → ℕ) → (D → Bool) → D → ℕ → Log → Block → Setting → Listing → ℕ → ℕ → StartFault
+    → Type 0
+RefusesFound tells written may_leave moment left_since failures in_doubt file len l block s v old new fault =
     (fault ≡ StartFault.Memory)
     ⊎ (RefusesFile tells written failures file len fault
     ⊎ (RefusesBoth tells written file len s v fault
     ⊎ (FailsFile tells written may_leave moment left_since failures file l block fault
-    ⊎ FailsNew old new fault)))
+    ⊎ FailsNew in_doubt old new fault)))
 
+-- where the names were synced
 abbrev pub RefusesStart : {D : Type 0} → Type 0 → (D → Type 0) → (D → Type 0) → (D → List ℕ) → (D → List ℕ → Type 0)
-    → (D → ℕ) → (D → ℕ → List ℕ → Type 0) → (D → ℕ) → Log → Block → Setting → Listing → ℕ → ℕ → StartFault → Type 0
-RefusesStart {D} folder_tells stored tells written may_leave moment left_since failures l block s v old new fault =
-    FailsToFind old new fault
-    ⊎ (FailsNew old new fault
+    → (D → ℕ) → (D → ℕ → List ℕ → Type 0) → (D → ℕ) → (D → Bool) → Log → Block → Setting → Listing → ℕ → ℕ
+    → StartFault → Type 0
+RefusesStart {D} folder_tells stored tells written may_leave moment left_since failures in_doubt l block s v old new
+    fault =
+    FailsNew in_doubt old new fault
     ⊎ ((file : D) × (len : ℕ) × (folder_tells → stored file × (len ≡ length (written file)))
-    × RefusesFound tells written may_leave moment left_since failures file len l block s v old new fault))
+    × RefusesFound tells written may_leave moment left_since failures in_doubt file len l block s v old new fault)

@@ -11,7 +11,8 @@ ghost use Rattle.log_file.specs.Writer.{IsSettled};
 ghost use Rattle.log_folder.specs.Names.{KeepsName};
 ghost use Rattle.log_start.specs.Found.{AreBytesOf};
 ghost use Rattle.log_start.specs.Records.{IsLogOf};
-ghost use Rattle.log_start.specs.Starts.{FailsNew, GoesOn, IsJoined, IsList, MayGoOn, RefusesFound, RefusesStart};
+ghost use Rattle.log_start.specs.Starts.{FailsNew, FailsToFind, GoesOn, IsJoined, IsList, MayGoOn, RefusesFound};
+ghost use Rattle.log_start.specs.Starts.{RefusesStart};
 ghost use Rattle.log_start.specs.declared.fault.StartFault.{StartFault};
 ghost use Rattle.open_log.specs.Rotations.{HasFound};
 
@@ -58,7 +59,8 @@ fn begin_behind<F: LogFolder>(
         KeepsName F.named F.may_name folder.old folder.new) }
     ensures tells { F.tells folder.old ↔ F.tells folder.new }
     ensures failures { OnOk result (F.failure_count folder.new ≡ F.failure_count folder.old) }
-    ensures why { IfErr result (FailsNew (F.failure_count folder.old) (F.failure_count folder.new)) }
+    ensures why { IfErr result (FailsNew F.Disk.in_doubt (F.failure_count folder.old)
+        (F.failure_count folder.new)) }
 {
     let head = head_of(setup, &list);
     let mut page = [0; PAGE];
@@ -108,7 +110,7 @@ fn start_from<F: LogFolder>(
     ensures tells { F.tells folder.old ↔ F.tells folder.new }
     ensures failures { OnOk result (F.failure_count folder.new ≡ F.failure_count folder.old) }
     ensures why { IfErr result (λ fault. RefusesFound F.Disk.tells F.Disk.written F.Disk.may_leave F.Disk.moment
-        F.Disk.left_since F.Disk.failure_count found.file.disk found.length kept.0 kept.1 setup.now known
+        F.Disk.left_since F.Disk.failure_count F.Disk.in_doubt found.file.disk found.length kept.0 kept.1 setup.now known
         (F.failure_count folder.old) (F.failure_count folder.new) fault) }
 {
     let mut file = found.file;
@@ -193,9 +195,11 @@ pub fn start_log<F: LogFolder>(
         KeepsName F.named F.may_name folder.old folder.new) }
     ensures tells { F.tells folder.old ↔ F.tells folder.new }
     ensures failures { OnOk result (F.failure_count folder.new ≡ F.failure_count folder.old) }
-    ensures why { IfErr result (λ fault. RefusesStart (F.tells folder.old) (F.stored folder.old) F.Disk.tells
-        F.Disk.written F.Disk.may_leave F.Disk.moment F.Disk.left_since F.Disk.failure_count kept.0 kept.1 setup.now
-        known (F.failure_count folder.old) (F.failure_count folder.new) fault) }
+    ensures why { IfErr result (λ fault.
+        FailsToFind F.call_gives folder.old folder.new (F.failure_count folder.old) (F.failure_count folder.new) fault
+        ⊎ RefusesStart (F.tells folder.old) (F.stored folder.old) F.Disk.tells F.Disk.written F.Disk.may_leave
+        F.Disk.moment F.Disk.left_since F.Disk.failure_count F.Disk.in_doubt kept.0 kept.1 setup.now known
+        (F.failure_count folder.old) (F.failure_count folder.new) fault) }
 {
     match find_log(folder) {
         Err(FindFault::Sync) => Err(StartFault::Sync),

@@ -12,7 +12,7 @@ use Rattle.log_start.proofs.start.start_from.Goals as goal
 pub returns-in-Err-clause-why : goal.returns-in-Err-clause-why
 returns-in-Err-clause-why g c =
     file_refused g.F.Disk.LogDisk.tells g.F.Disk.LogDisk.written g.F.Disk.LogDisk.may_leave g.F.Disk.LogDisk.moment
-    g.F.Disk.LogDisk.left_since g.F.Disk.LogDisk.failure_count c.args.found.file.disk
+    g.F.Disk.LogDisk.left_since g.F.Disk.LogDisk.failure_count g.F.Disk.LogDisk.in_doubt c.args.found.file.disk
     c.args.found.length g.kept.0 g.kept.1 c.args.setup.now c.args.known _ _ c.in-Err.fault c.fault_of_log.result
     c.fault_of_log.ensures.memory c.fault_of_log.ensures.other c.in-Err.ensures.err
 
