@@ -1,2 +1,3 @@
 mod Walks
 mod LogLemmas
+mod Promises

@@ -163,17 +163,17 @@ taken_small pages room le most = elim (cases_Bool (nat_le pages 6187)) [
       absurd (omega (arith, much, most))
 ]
 
--- a block takes of the room no more than is told of it
+-- a block takes of the room just what is told of it
 pub room_behind : {T E : Type 0} (result : Result T E) (old new : LogWriter) (made pages : ℕ) →
     OnOk result (new.room ≡ old.room - made) → made ≡ pages → pages ≤ 6187 → pages ≤ old.room →
-    OnOk result (old.room ≤ new.room + (if nat_le pages 6187 then pages else 2 ^ 64 - 1))
+    OnOk result (old.room ≡ new.room + (if nat_le pages 6187 then pages else 2 ^ 64 - 1))
 room_behind (Ok x) old new made pages left is few within = elim (cases_Bool (nat_le pages 6187)) [
   | inl low ↦
-      let enough : old.room ≤ new.room + pages = omega (arith, left, is, within) in
-      subst (λ (b : Bool). old.room ≤ new.room + (if b then pages else 2 ^ 64 - 1)) (sym low) enough
+      let just : old.room ≡ new.room + pages = omega (arith, left, is, within) in
+      subst (λ (b : Bool). old.room ≡ new.room + (if b then pages else 2 ^ 64 - 1)) (sym low) just
   | inr high ↦
-      let enough : old.room ≤ new.room + (2 ^ 64 - 1) = omega (arith, left, is, few) in
-      subst (λ (b : Bool). old.room ≤ new.room + (if b then pages else 2 ^ 64 - 1)) (sym high) enough
+      let much : 6187 < pages = grind (arith, nat_tests) in
+      absurd (omega (arith, much, few))
 ]
 room_behind (Err e) old new made pages left is few within = tt
 

@@ -11,7 +11,11 @@
 --     WasSynced .. es        a disk had these entries, all durable
 --     HasFailed .. lost      a disk was in doubt, or a file has lost its name
 --     WasFull ..             a call on a disk has failed, or the log on it would have got longer than logs may be
-use Rattle.std.specs.Prelude.{◌≡◌, ◌⊎◌, ℕ, ◌+◌, ◌*◌, ◌^◌, ◌<◌, ◌≤◌, Bool, true, false, List, [], take, drop}
+--     IsFull .. o n asked    so many pages more weren't to be had: the log would get longer than logs may be, no more
+--                            failures could be counted, or a call has failed from o to n, and what was written for them
+--                            is cut off again
+--     HasFilled ..           the same of the log in use, if there is one
+use Rattle.std.specs.Prelude.{◌≡◌, ◌⊎◌, ℕ, ◌+◌, ◌-◌, ◌*◌, ◌^◌, ◌<◌, ◌≤◌, Bool, true, false, List, [], length, take, drop}
 use Rattle.std.specs.Prelude.{Option, Some, None, Result, Ok, Err}
 use Rattle.batch_store.specs.declared.verdict.Entry.{Entry}
 use Rattle.log_blocks.specs.Blocks.{Block}
@@ -86,3 +90,19 @@ pub record WasFull {D : Type 0} (failure_count : D → ℕ) : Type 0 where
   pub writer : LogWriter
   pub asked : ℕ
   pub why : (0 < failure_count disk) ⊎ (most_pages < writer.page + asked)
+
+pub record IsCutBack {D : Type 0} (tells : D → Type 0) (written : D → List ℕ) (failure_count : D → ℕ)
+    (o n : OpenLog D) : Type 0 where
+  pub failed : failure_count n.file.disk ≡ failure_count o.file.disk + 1
+  pub ends : tells o.file.disk → length (written n.file.disk) ≤ 4096 * (n.writer.page + n.writer.room)
+
+abbrev pub IsFull : {D : Type 0} → (D → Type 0) → (D → List ℕ) → (D → ℕ) → OpenLog D → OpenLog D → ℕ → Type 0
+IsFull tells written failure_count o n asked =
+    (most_pages < o.writer.page + asked)
+    ⊎ ((2 ^ 64 - 2 ≤ failure_count o.file.disk) ⊎ IsCutBack tells written failure_count o n)
+
+abbrev pub HasFilled : {D : Type 0} → (D → Type 0) → (D → List ℕ) → (D → ℕ) → Option (OpenLog D) → Option (OpenLog D)
+    → ℕ → Type 0
+HasFilled tells written failure_count (Some o) (Some n) asked = IsFull tells written failure_count o n asked
+HasFilled tells written failure_count (Some o) None asked = ⊥
+HasFilled tells written failure_count None n asked = ⊥

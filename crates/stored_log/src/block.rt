@@ -84,7 +84,7 @@ pub(crate) fn write_block<D: LogDisk>(
     ensures settled { D.telling → OnOk result (D.tells log.new.file.disk ×
         IsSettled D.written D.may_leave log.new.file.disk log.new.writer (with_next known.0 known.1)) }
     ensures working { OnOk result (D.in_doubt log.new.file.disk ≡ false) }
-    ensures room { OnOk result (log.old.writer.room ≤ log.new.writer.room + pages_taken (values batches.now)) }
+    ensures room { OnOk result (log.old.writer.room ≡ log.new.writer.room + pages_taken (values batches.now)) }
     ensures doubt { OnErr result (D.in_doubt log.new.file.disk ≡ true) }
     ensures failures { OnOk result (D.failure_count log.new.file.disk + 1 < 2 ^ 64) }
     ensures pages { log.new.writer.page + log.new.writer.room ≤ most_pages }

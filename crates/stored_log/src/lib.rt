@@ -9,6 +9,7 @@ mod block;
 mod calls;
 mod entries;
 mod fault;
+mod laws;
 mod log;
 mod room;
 mod rotation;
@@ -16,5 +17,6 @@ mod stored;
 
 pub use entries::Told;
 pub use fault::StoredFault;
+pub use laws::promised_pages_hold_groups;
 pub use rotation::{abandon_stored, begin_stored, name_stored};
 pub use stored::StoredLog;

@@ -2,7 +2,7 @@
 ghost use Rattle.std.specs.Prelude.{◌≡◌, ◌≢◌, ◌+◌, ◌≤◌, ◌<◌, ◌++◌, length, Err, OnOk, OnErr, true, false};
 ghost use Rattle.batch_store.specs.Batches.{entries_of, values};
 ghost use Rattle.log_desk.specs.declared.fault.RoomFault.{RoomFault};
-ghost use Rattle.stored_log.specs.Kept.{is_failed, number_of, room_of, HasFailed, WasFull, WasSynced};
+ghost use Rattle.stored_log.specs.Kept.{is_failed, number_of, room_of, HasFailed, HasFilled, WasFull, WasSynced};
 ghost use Rattle.stored_log.specs.Sizes.{pages_taken};
 
 use crate::block::pages_of;
@@ -55,6 +55,10 @@ impl<D: LogDisk + Drop> Log for StoredLog<D> {
         ensures synced { OnOk result (WasSynced D.telling D.tells D.written D.may_leave self.new.entries) }
         ensures room { OnOk result (room_of self.old.in_use ≤
             room_of self.new.in_use + pages_taken (values batches.now)) }
+        // It takes just the pages of the block, and of no batches none.
+        ensures used { OnOk result (0 < length batches.now → room_of self.old.in_use ≡
+            room_of self.new.in_use + pages_taken (values batches.now)) }
+        ensures unused { length batches.now ≡ 0 → self.new ≡ self.old }
         ensures broken { OnErr result (is_failed D.in_doubt self.new.in_use ≡ true) }
         ensures told { OnErr result (HasFailed D.in_doubt D.lost_name) }
         ensures file { number_of self.new.in_use ≡ number_of self.old.in_use }
@@ -80,6 +84,8 @@ impl<D: LogDisk + Drop> Log for StoredLog<D> {
         ensures broken { result ≡ Err RoomFault.Failed → is_failed D.in_doubt self.new.in_use ≡ true }
         ensures told { result ≡ Err RoomFault.Failed → HasFailed D.in_doubt D.lost_name }
         ensures full { result ≡ Err RoomFault.Full → WasFull D.failure_count }
+        ensures cause { result ≡ Err RoomFault.Full →
+            HasFilled D.tells D.written D.failure_count self.old.in_use self.new.in_use pages }
         ensures file { number_of self.new.in_use ≡ number_of self.old.in_use }
     {
         match self.stretch(pages) {

@@ -1,8 +1,9 @@
 //! Makes room behind a log.
-ghost use Rattle.std.specs.Prelude.{◌≡◌, ◌≢◌, ◌⊎◌, ◌+◌, ◌*◌, ◌^◌, ◌<◌, ◌≤◌, OnOk, Err, true, false};
+ghost use Rattle.std.specs.Prelude.{◌≡◌, ◌≢◌, ◌⊎◌, ◌+◌, ◌-◌, ◌*◌, ◌^◌, ◌<◌, ◌≤◌, OnOk, Err, true, false};
 ghost use Rattle.log_file.specs.declared.room.RoomFault.{RoomFault};
 ghost use Rattle.log_file.specs.Logs.{Log};
 ghost use Rattle.log_file.specs.Writer.{IsSettled};
+ghost use Rattle.stored_log.specs.Kept.{IsFull};
 ghost use Rattle.stored_log.specs.Sizes.{most_pages};
 
 use log_disk::LogDisk;
@@ -16,7 +17,8 @@ const MOST_PAGES: u64 = 268_435_456;
 /// failed that they can't be counted on.
 fn is_at_limit<D: LogDisk>(log: &OpenLog<D>, pages: u64) -> bool
     requires { log.now.writer.page + log.now.writer.room ≤ most_pages }
-    ensures yes { result ≡ true → (0 < D.failure_count log.now.file.disk) ⊎ (most_pages < log.now.writer.page + pages) }
+    ensures yes { result ≡ true →
+        (most_pages < log.now.writer.page + pages) ⊎ (2 ^ 64 - 2 ≤ D.failure_count log.now.file.disk) }
     ensures pages { result ≡ false → log.now.writer.page + pages ≤ most_pages }
     ensures failures { result ≡ false → D.failure_count log.now.file.disk + 2 < 2 ^ 64 }
 {
@@ -45,6 +47,7 @@ pub(crate) fn make_ready<D: LogDisk>(log: &mut OpenLog<D>, pages: u64) -> Result
     ensures doubt { result ≡ Err RoomFault.Failed → D.in_doubt log.new.file.disk ≡ true }
     ensures full { result ≡ Err RoomFault.Full →
         (0 < D.failure_count log.new.file.disk) ⊎ (most_pages < log.new.writer.page + pages) }
+    ensures cause { result ≡ Err RoomFault.Full → IsFull D.tells D.written D.failure_count log.old log.new pages }
     ensures failures { D.in_doubt log.new.file.disk ≡ false → D.failure_count log.new.file.disk + 1 < 2 ^ 64 }
     ensures pages { log.new.writer.page + log.new.writer.room ≤ most_pages }
     ensures places { log.new.writer.next ≤ 2 ^ 62 + 170 * log.new.writer.page }

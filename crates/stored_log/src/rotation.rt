@@ -5,6 +5,7 @@ ghost use Rattle.batch_store.specs.Books.{AreAccepted, accepted_in};
 ghost use Rattle.log_folder.specs.Names.{KeepsName, HasTakenName, HasFailedToName};
 ghost use Rattle.log_folder.specs.declared.fault.RotateFault.{RotateFault};
 ghost use Rattle.stored_log.specs.Kept.{HasFailed, WasSynced, is_failed, number_of};
+ghost use Rattle.stored_log.specs.Begun.{HasNotBegun};
 
 use crate::fault::StoredFault;
 use crate::stored::StoredLog;
@@ -40,6 +41,8 @@ pub fn begin_stored<F: LogFolder>(
     // The log in use stays the one that a loss of power leaves under the name.
     ensures same { F.tells folder.old → KeepsName F.named F.may_name folder.old folder.new }
     ensures failures { OnOk result (F.failure_count folder.new ≡ F.failure_count folder.old) }
+    ensures why { IfErr result (HasNotBegun F.Disk.in_doubt (F.failure_count folder.old)
+        (F.failure_count folder.new)) }
 {
     let head = head_of(setup, list);
     let mut page = [0; PAGE];
