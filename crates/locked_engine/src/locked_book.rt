@@ -419,12 +419,12 @@ where
         one.add(first, b.total);
         two.add(second, b.total);
         let b = history.add(entry_of(&b), b);
+        // It tells that no client and number stands twice.
+        let _status = history.status();
         let version = history.version();
         let known = history.known();
         let _ = own.try_set(version.again());
         let kept = book.admit(b);
-        // Any call on the book tells what it keeps.
-        let _accepted = book.len();
         show_all(rt, writer, &version);
         *seen = version;
         Ok(Admitted { kept, known })

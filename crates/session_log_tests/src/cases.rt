@@ -102,6 +102,22 @@ static CASES: &[Case] = &[
         },
         ..PLAIN
     },
+    // A put that isn't settled keeps its page, so there is none for a third one of the piece.
+    Case {
+        name: "promises are kept until puts are settled",
+        pieces: &[&[Put(7, 1, 5), Put(7, 2, 5), Put(7, 3, 5), Stored]],
+        pages: 2,
+        replies: "00000010 81 0000000000000000 0000000000000005
+                  00000010 81 0000000000000001 000000000000000a
+                  0000000a ff 0022 0000000000000000
+                  00000010 84 0000000000000002 000000000000000a",
+        found: Found {
+            syncs: 1,
+            durable: 2,
+            ..NOTHING
+        },
+        ..PLAIN
+    },
     // The second append fails: what was durable is repeated all the same.
     Case {
         name: "a failed append",
