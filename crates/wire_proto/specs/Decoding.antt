@@ -21,6 +21,8 @@ pub data Said : Type 0 where
   saved : ℕ → Said
   stopping : Said
   refused : ℕ → ℕ → Said
+  cells : Bool → List ℕ → Said
+  rows : List ℕ → Said
 
 abbrev pub said : Reply → Said
 said (reply.Accepted kept) = accepted kept
@@ -31,6 +33,12 @@ said (reply.Text bytes) = text bytes.now
 said (reply.Saved batches) = saved batches
 said reply.Stopping = stopping
 said (reply.Refused code detail) = refused code detail
+said (reply.Cells more cell_bytes) = cells more cell_bytes.now
+said (reply.Rows row_bytes) = rows row_bytes.now
+
+-- 24 bytes for each cell, or row, of which there are at most 1,000,000
+abbrev pub AreWhole : List ℕ → Type 0
+AreWhole bytes = (length bytes % 24 ≡ 0) × (length bytes ≤ 24000000)
 
 -- the numbers fit their places, and a text its body
 abbrev pub FitsReply : Said → Type 0
@@ -43,6 +51,8 @@ FitsReply (text bytes) = length bytes ≤ 67108864
 FitsReply (saved batches) = batches < 2 ^ 64
 FitsReply stopping = Unit {0}
 FitsReply (refused code detail) = (code < 2 ^ 16) × (detail < 2 ^ 64)
+FitsReply (cells more bytes) = AreWhole bytes
+FitsReply (rows bytes) = AreWhole bytes
 
 abbrev pub reply_frame : Said → List ℕ
 reply_frame (accepted kept) = frames.accepted kept
