@@ -1,9 +1,10 @@
 //! The replies that tell cells or rows, as frames: as long as what was asked for, and made before the first byte is
 //! sent.
-ghost use Rattle.std.specs.Prelude.{◌≡◌, ℕ, ◌+◌, ◌*◌, ◌≤◌, ◌++◌, ◌∷◌, List, map, flat_map, length, IfOk, OnOk};
+ghost use Rattle.std.specs.Prelude.{◌≡◌, ℕ, ◌+◌, ◌*◌, ◌≤◌, ◌++◌, ◌∷◌, [], List, map, flat_map, length, IfOk, OnOk};
 ghost use Rattle.hyper_rows.specs.Cells.{entry_of};
 ghost use Rattle.wire_frames.specs.Frames.{number, head_bytes};
 ghost use Rattle.wire_proto.specs.Questions.{cells_reply as cells_frame, rows_reply as rows_frame, entry_bytes, row_bytes};
+ghost use Rattle.wire_proto.specs.Questions.{more_byte};
 
 use cell_queries::{RangePage, RowTally};
 use cells::Cell;
@@ -36,6 +37,14 @@ fn start(alloc: Global, kind: u8, len: u32) -> Result<Vec<u8>, AllocError>
     Ok(out)
 }
 
+/// Appends whether there are more cells.
+fn push_more(out: &mut Vec<u8>, more: bool) -> Result<(), AllocError>
+    ensures { OnOk result (out.new.items ≡ out.old.items ++ more_byte more ∷ []) }
+{
+    let byte: u8 = if more { 1 } else { 0 };
+    out.extend_from_slice(&[byte])
+}
+
 /// Appends cells.
 fn push_cells(out: &mut Vec<u8>, cells: &[Cell]) -> Result<(), AllocError>
     ensures { OnOk result (out.new.items ≡ out.old.items ++ flat_map entry_bytes (map entry_of cells.now)) }
@@ -63,8 +72,7 @@ pub fn cells_reply(alloc: Global, page: &RangePage) -> Result<Vec<u8>, AllocErro
 {
     let len = 1 + CELL * page.cells.len();
     let mut out = start(alloc, 0x88, len as u32)?;
-    let more: u8 = if page.more { 1 } else { 0 };
-    out.extend_from_slice(&[more])?;
+    push_more(&mut out, page.more)?;
     push_cells(&mut out, &page.cells)?;
     Ok(out)
 }

@@ -3,6 +3,7 @@ ghost use Rattle.std.specs.Prelude.{◌≡◌, ℕ, ◌≤◌, ◌↔◌, ◌^�
 ghost use Rattle.wire_proto.specs.Answering.{Answers, RunsOut};
 ghost use Rattle.wire_proto.specs.Questions.{AreBounds, IsCount, by_number, range_reply, TellsTop};
 ghost use Rattle.wire_proto.specs.LongReplies.{bytes_of};
+ghost use Rattle.wire_proto.specs.Replies.{refused as refused_reply};
 
 use crate::keeper::Keeper;
 use crate::limits::MOST;
@@ -33,7 +34,11 @@ impl Answer {
     }
 }
 
-fn refuses(code: u16) -> Answer {
+/// A refusal with this code, and the detail 0.
+fn refuses(code: u16) -> Answer
+    ensures bytes { bytes_of result ≡ refused_reply code 0 }
+    ensures few { length (bytes_of result) ≤ 2 ^ 27 }
+{
     Answer::Short(refused(code, 0))
 }
 
