@@ -1,13 +1,14 @@
 -- What the bytes of a reply say.
 --     Said            a reply, as a client sees it
 --     IsReplyFrame    these bytes are one whole frame, that of this reply
-use Rattle.std.specs.Prelude.{◌≡◌, ℕ, ◌<◌, ◌≤◌, ◌^◌, ◌==◌, ◌&&◌, Bool, if◌then◌else◌, List, length, take, slice_index}
+use Rattle.std.specs.Prelude.{◌≡◌, ℕ, ◌<◌, ◌≤◌, ◌^◌, ◌%◌, ◌==◌, ◌&&◌, Bool, if◌then◌else◌, List, ◌∷◌, length, take, slice_index}
 use Rattle.std.specs.Prelude.{Option, Some, None}
 use Rattle.std.specs.Int.{w16, from_be_bytes}
 use Rattle.hyper_rows.specs.declared.search.RowSum.{RowSum}
 use Rattle.batch_store.specs.declared.verdict.Kept.{Kept}
 use Rattle.plain_engine.specs.declared.status.Status.{Status}
-use Rattle.wire_frames.specs.Frames.{number_at}
+use Rattle.wire_frames.specs.Frames.{frame, number_at}
+use Rattle.wire_proto.specs.Questions.{more_byte}
 use Rattle.wire_proto.specs.Replies as frames
 use Rattle.wire_proto.specs.declared.decoding.Reply.{Reply}
 use Rattle.wire_proto.specs.declared.decoding.Reply.TheVariants as reply
@@ -63,12 +64,14 @@ reply_frame (text bytes) = frames.text bytes
 reply_frame (saved batches) = frames.saved batches
 reply_frame stopping = frames.stopping
 reply_frame (refused code detail) = frames.refused code detail
+reply_frame (cells more bytes) = frame 136 (more_byte more ∷ bytes)
+reply_frame (rows bytes) = frame 137 bytes
 
 pub record IsReplyFrame (bytes : List ℕ) (r : Said) : Type 0 where
   pub fits : FitsReply r
   pub spelled : bytes ≡ reply_frame r
 
--- whether a body of this length fits the kind of a reply but a text
+-- whether a body of this length fits the kind of a reply but a text, cells and rows
 unfoldable pub short_fits : ℕ → ℕ → Bool
 short_fits kind len =
     if (kind == 129) then (len == 16)
