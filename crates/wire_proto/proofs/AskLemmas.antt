@@ -6,7 +6,7 @@ use Rattle.wire_frames.specs.Frames.{frame, head_bytes, number}
 use Rattle.wire_proto.specs.Keeping.{Event, cell, row, status, export, save, stored}
 use Rattle.wire_proto.specs.Replies.{value, row_sum, counts, save_reply, text, text_reply, refused}
 use Rattle.mm_laws.specs.MatrixText.{matrix_text}
-use Rattle.std.proofs.Common.{Bool, true, false, not, IsTrue, ◌↔◌, OnErr, Err, subst}
+use Rattle.std.proofs.Common.{OnErr, Err, subst}
 use Rattle.std.specs.declared.alloc.AllocError.{AllocError}
 use Rattle.wire_frames.specs.declared.request.Request.TheVariants.{Range, Top}
 use Rattle.wire_proto.specs.Questions.{AreBounds, IsCount}
@@ -70,14 +70,9 @@ pub on_err : {A E : Type 0} (r : Result A E) (P : Type 0) → P → OnErr r P
 on_err (Ok a) P h = tt
 on_err (Err e) P h = h
 
-pub bounds_from : (b : Bool) (judged setup : Setting) (rows cols : ℕ × ℕ) → not b ≡ false →
-    (IsTrue b ↔ AreBounds judged rows cols) → judged ≡ setup → AreBounds setup rows cols
-bounds_from true judged setup rows cols f h e = subst (λ v. AreBounds v rows cols) e (h.0 refl)
-bounds_from false judged setup rows cols f h e = absurd (cc)
-
-pub count_from : (b : Bool) (most : ℕ) → not b ≡ false → (IsTrue b ↔ IsCount most) → IsCount most
-count_from true most f h = h.0 refl
-count_from false most f h = absurd (cc)
+pub bounds_from : (judged setup : Setting) (rows cols : ℕ × ℕ) → AreBounds judged rows cols → judged ≡ setup →
+    AreBounds setup rows cols
+bounds_from judged setup rows cols h e = subst (λ v. AreBounds v rows cols) e h
 
 pub range_lacks : {S : Type 0} (gives : S → Event → S → Type 0) (setup : Setting) (s t : S) (rows cols start : ℕ × ℕ)
     (most : ℕ) (lack : AllocError) → AreBounds setup rows cols → IsCount most → gives s (export (Err lack)) t →

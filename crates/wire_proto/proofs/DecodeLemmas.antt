@@ -1,6 +1,6 @@
 -- Replies: what their frames say again.
 use Rattle.std.proofs.Common.{◌≡◌, ℕ, ◌<◌, ◌≤◌, ◌^◌, Bool, true, List, [], ◌∷◌, ◌++◌, length, take, drop, refl, sym, ◌∙◌, ap}
-use Rattle.std.proofs.Common.{subst, arith, Some, None}
+use Rattle.std.proofs.Common.{subst, arith, Some, None, false, nat_eq, get_or, zero, suc}
 use Rattle.std.specs.Int.{w16, to_be_bytes}
 use Rattle.std.proofs.lemmas.Nat.{from_be_bytes-to_be_bytes_2, from_be_bytes-to_be_bytes_8}
 use Rattle.std.proofs.lemmas.List.{append-nil, take-append-drop}
@@ -237,3 +237,23 @@ decoded_rows bytes r h k = rows_alone bytes r (sym (frame_kind bytes r h.spelled
 pub rows_framed : (bytes : List ℕ) → AreWhole (drop 5 bytes) → take 5 bytes ≡ head_bytes 137 (length (drop 5 bytes)) →
     IsReplyFrame bytes (rows (drop 5 bytes))
 rows_framed bytes whole e = record { fits = whole; spelled = framed bytes 137 e }
+
+-- the byte that says whether there are more cells
+pub byte_low : (more : Bool) → more_byte more ≤ 1
+byte_low true = omega arith
+byte_low false = omega arith
+
+pub byte_again : (more : Bool) → nat_eq (more_byte more) 1 ≡ more
+byte_again true = refl
+byte_again false = refl
+
+pub byte_is : (mark : ℕ) → mark ≤ 1 → mark ≡ more_byte (nat_eq mark 1)
+byte_is zero h = refl
+byte_is (suc zero) h = refl
+byte_is (suc (suc n)) h = absurd (omega (arith, h))
+
+pub same_first : (m n : ℕ) (xs ys : List ℕ) → m ∷ xs ≡ n ∷ ys → m ≡ n
+same_first m n xs ys e = ap (λ l. get_or l 0 0) e
+
+pub same_rest : (m n : ℕ) (xs ys : List ℕ) → m ∷ xs ≡ n ∷ ys → xs ≡ ys
+same_rest m n xs ys e = ap (drop 1) e

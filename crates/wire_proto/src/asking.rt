@@ -60,19 +60,20 @@ pub fn ask_stored<K: Keeper>(keeper: &mut K) -> Short
     counts(keeper.stored())
 }
 
-pub fn ask_save<K: Keeper>(alloc: Global, keeper: &mut K) -> Result<Short, AllocError>
+pub fn ask_save<K: Keeper>(alloc: Global, keeper: &mut K) -> Result<Answer, AllocError>
     requires { K.fact keeper.old }
-    ensures reply { IfOk result (λ short. Answers K.gives
-        (K.setup_of keeper.old) Request.Save short.items keeper.old keeper.new) }
+    ensures reply { IfOk result (λ reply. Answers K.gives
+        (K.setup_of keeper.old) Request.Save (bytes_of reply) keeper.old keeper.new) }
+    ensures few { IfOk result (λ reply. length (bytes_of reply) ≤ 2 ^ 27) }
     ensures none { OnErr result (RunsOut K.gives (K.setup_of keeper.old) Request.Save keeper.old keeper.new) }
     ensures fact { K.fact keeper.new }
     ensures setup { K.setup_of keeper.new ≡ K.setup_of keeper.old }
 {
     match keeper.save(alloc) {
-        Ok(batches) => Ok(saved(batches)),
+        Ok(batches) => Ok(Answer::Short(saved(batches))),
         Err(SaveRefusal::Memory) => Err(AllocError),
-        Err(SaveRefusal::SaveOff) => Ok(refused(43, 0)),
-        Err(SaveRefusal::SaveFailed) => Ok(refused(42, 0)),
+        Err(SaveRefusal::SaveOff) => Ok(Answer::Short(refused(43, 0))),
+        Err(SaveRefusal::SaveFailed) => Ok(Answer::Short(refused(42, 0))),
     }
 }
 
@@ -197,7 +198,7 @@ pub fn ask<K: Keeper>(alloc: Global, keeper: &mut K, request: Request) -> Result
         Request::Cell { row, col } => Ok(Answer::Short(ask_cell(keeper, row, col))),
         Request::Row { row } => Ok(Answer::Short(ask_row(keeper, row))),
         Request::Status => Ok(Answer::Short(ask_status(keeper))),
-        Request::Save => Ok(Answer::Short(ask_save(alloc, keeper)?)),
+        Request::Save => ask_save(alloc, keeper),
         Request::Stored => Ok(Answer::Short(ask_stored(keeper))),
         Request::Range {
             rows,

@@ -37,3 +37,11 @@ returns-else-eq-clause-only c = λ r h.
     let same = c.as_slice.ensures.value ∙ c.open-encoded.ensures.encoded ∙ ap reply_frame says ∙ sym h.spelled in
     let yes = c.eq.ensures ∙ (bytes_eq-Decides _ _).1 same in
     let no = c.if-eq.false in absurd (cc)
+
+pub cells_in-requires-clause-kind : goal.cells_in-requires-clause-kind
+unfolding head_kind
+cells_in-requires-clause-kind c = c.if-kind-2.true
+
+pub rows_in-requires-clause-kind : goal.rows_in-requires-clause-kind
+unfolding head_kind
+rows_in-requires-clause-kind c = c.if-kind-3.true

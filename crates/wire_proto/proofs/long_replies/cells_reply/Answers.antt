@@ -9,7 +9,7 @@ use Rattle.wire_proto.proofs.long_replies.cells_reply.Goals as goal
 
 pub returns : goal.returns
 returns c = cells_made c.args.page.now.more (map entry_of c.args.page.now.cells.items) _ _ _ _
-    (omega (arith, length-map entry_of c.args.page.now.cells.items, c.len.ensures)) c.in_ok-out.ensures
+    (omega (arith, length-map c.args.page.now.cells.items entry_of, c.len.ensures)) c.in_ok-out.ensures
     c.in_ok-push_more.ensures
     (c.in_ok-push_cells.ensures ∙
     ap (λ (l : List Cell). c.push_more.new.out.items ++ flat_map entry_bytes (map entry_of l)) c.deref.ensures.value)
