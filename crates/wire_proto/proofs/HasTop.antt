@@ -37,22 +37,23 @@ ahead_through by t u w (inr a) (inr b) = inr (a.0 ∙ b.0, omega (arith, a.1, b.
 -- a row is put in its place
 placed : (by : TopBy) (t : RowTally) (ss : List RowTally) → Ranks by ss →
     (all : List RowTally) × IsPermutation (t ∷ ss) all × Ranks by all
-placed by t [] h = (t ∷ [], IsPermutation-refl (t ∷ []), All-nil (IsAhead by t), tt)
+placed by t [] h = (t ∷ [], IsPermutation-refl (t ∷ []), (All-nil (IsAhead by t), tt))
 placed by t (u ∷ us) h = elim (ahead_or_behind by t u) [
   | inl first ↦ (
     t ∷ (u ∷ us),
     IsPermutation-refl (t ∷ (u ∷ us)),
-    All-cons (IsAhead by t) u us first
-        (All-weaker (IsAhead by u) (IsAhead by t) (λ w b. ahead_through by t u w first b) us h.0),
-    h,
+    (
+      All-cons (IsAhead by t) u us first
+          (All-weaker (IsAhead by u) (IsAhead by t) (λ w b. ahead_through by t u w first b) us h.0),
+      h,
+    ),
   )
   | inr later ↦
       let p = placed by t us h.1 in (
         u ∷ p.0,
         IsPermutation-trans (t ∷ (u ∷ us)) (u ∷ (t ∷ us)) (u ∷ p.0) (IsPermutation-insert (u ∷ us) 1 t)
             (IsPermutation-cons u (t ∷ us) p.0 p.1),
-        All-permutation (IsAhead by u) (t ∷ us) p.0 p.1 (All-cons (IsAhead by u) t us later h.0),
-        p.2,
+        (All-permutation (IsAhead by u) (t ∷ us) p.0 p.1 (All-cons (IsAhead by u) t us later h.0), p.2),
       )
 ]
 
@@ -91,15 +92,19 @@ cut by (suc n) (s ∷ ss) h =
       omega (arith, c.5),
     )
 
-ranked : (by : TopBy) (ts : List RowTally) → Ranks by ts → AreRanked by ts
-ranked by [] h = λ k d less. absurd (omega (arith, less))
-ranked by (t ∷ []) h = λ k d less. absurd (omega (arith, less))
-ranked by (t ∷ (u ∷ us)) h = λ k d less. at k d less
+ranked_at : (by : TopBy) (t u : RowTally) (us : List RowTally) → IsAhead by t u → AreRanked by (u ∷ us) →
+    AreRanked by (t ∷ (u ∷ us))
+ranked_at by t u us first more = λ k d less. at k d less
   where
     at : (k : ℕ) (d : RowTally) → k + 1 < length (t ∷ (u ∷ us)) →
         IsAhead by (get_or (t ∷ (u ∷ us)) k d) (get_or (t ∷ (u ∷ us)) (k + 1) d)
-    at zero d less = All-head (IsAhead by t) u us h.0
-    at (suc k) d less = ranked by (u ∷ us) h.1 k d (omega (arith, less))
+    at zero d less = first
+    at (suc k) d less = more k d (omega (arith, less))
+
+ranked : (by : TopBy) (ts : List RowTally) → Ranks by ts → AreRanked by ts
+ranked by [] h = λ k d less. absurd (omega (arith, less))
+ranked by (t ∷ []) h = λ k d less. absurd (omega (arith, less))
+ranked by (t ∷ (u ∷ us)) h = ranked_at by t u us (All-head (IsAhead by t) u us h.0) (ranked by (u ∷ us) h.1)
 
 pub has_top : (by : TopBy) (most : ℕ) (rows : List RowTally) → (top : List RowTally) × IsTop by most rows top
 has_top by most rows =

@@ -496,9 +496,9 @@ count_or_not most = elim (cases_lt 0 most) [
 has_range : (v : Setting) (state : Accepted) (rows cols start : ℕ × ℕ) (most : ℕ) →
     HasAnswer v state (Range rows cols start most)
 has_range v state rows cols start most = elim (bounds_or_not v rows cols) [
-  | inr no ↦ (refused 41 0, state, unasked (inl (no, refl)) refl)
+  | inr bad ↦ (refused 41 0, state, unasked (inl (bad, refl)) refl)
   | inl b ↦ elim (count_or_not most) [
-    | inr no ↦ (refused 44 0, state, unasked (inr (b, no, refl)) refl)
+    | inr bad ↦ (refused 44 0, state, unasked (inr (b, bad, refl)) refl)
     | inl c ↦ (
       range_reply (range_between rows cols start) most (export_of v state),
       state,
@@ -511,7 +511,7 @@ has_rows : (v : Setting) (state : Accepted) (by most : ℕ) → HasAnswer v stat
 has_rows v state by most = elim (cases_lt 1 by) [
   | inl a ↦ (refused 44 0, state, unasked ((λ h. let k = h.0 in omega (arith, a, k)), refl) refl)
   | inr a ↦ elim (count_or_not most) [
-    | inr no ↦ (refused 44 0, state, unasked ((λ h. no h.1), refl) refl)
+    | inr bad ↦ (refused 44 0, state, unasked ((λ h. bad h.1), refl) refl)
     | inl c ↦
         let top = has_top (by_number by) most (tallies (entries (export_of v state).counts)) in
         (rows_reply top.0, state, of_sum (export_of v state) (a, c, (top.0, top.1, refl)) (refl, refl))

@@ -1,4 +1,4 @@
-use Rattle.std.proofs.Common.{length, sym, ◌∙◌, ap, subst, Some}
+use Rattle.std.proofs.Common.{drop, length, sym, ◌∙◌, ap, subst, Some}
 use Rattle.std.proofs.lemmas.Slice.Eq.{bytes_eq-Decides}
 use Rattle.wire_frames.specs.Frames.{head_bytes}
 use Rattle.wire_proto.specs.Decoding.{AreWhole, IsReplyFrame, rows}
@@ -29,7 +29,7 @@ pub returns-else-eq-clause-only : goal.returns-else-eq-clause-only
 returns-else-eq-clause-only c = λ r h.
     let size = ap length c.split_at.ensures.back in
     let head = c.split_at.ensures.front ∙ head_told c.args.bytes.now r h ∙
-    ap (λ k. head_bytes k _) c.requires.kind ∙ sym (ap (head_bytes 137) size) ∙ sym c.rows_head.ensures ∙
+    ap (λ k. head_bytes k (length (drop 5 c.args.bytes.now))) c.requires.kind ∙ sym (ap (head_bytes 137) size) ∙ sym c.rows_head.ensures ∙
     sym c.as_slice.ensures.value in
     let yes = c.eq.ensures ∙ (bytes_eq-Decides _ _).1 head in
     let no = c.if-eq.false in absurd (cc)
