@@ -1,5 +1,5 @@
 -- Rows have a top, however many are asked for: they can be put in order one by one, and the first of them are one.
-use Rattle.std.proofs.Common.{◌≡◌, ◌⊎◌, inl, inr, ℕ, zero, suc, ◌+◌, ◌<◌, ◌≤◌, List, [], ◌∷◌, ◌++◌, length, refl, sym, ◌∙◌, ap}
+use Rattle.std.proofs.Common.{◌≡◌, ◌⊎◌, inl, inr, ℕ, zero, suc, ◌+◌, ◌<◌, List, [], ◌∷◌, ◌++◌, length, refl, sym, ◌∙◌, ap}
 use Rattle.std.proofs.Common.{subst, arith, get_or}
 use Rattle.std.specs.Prelude.{All, min}
 use Rattle.std.specs.List.Sorted.{IsPermutation}
@@ -99,7 +99,9 @@ ranked_at by t u us first more = λ k d less. at k d less
     at : (k : ℕ) (d : RowTally) → k + 1 < length (t ∷ (u ∷ us)) →
         IsAhead by (get_or (t ∷ (u ∷ us)) k d) (get_or (t ∷ (u ∷ us)) (k + 1) d)
     at zero d less = first
-    at (suc k) d less = more k d (omega (arith, less))
+    at (suc k) d less =
+        subst (λ (n : ℕ). IsAhead by (get_or (t ∷ (u ∷ us)) (suc k) d) (get_or (t ∷ (u ∷ us)) n d)) {x = suc (k + 1)}
+        {y = suc k + 1} (omega arith) (more k d (omega (arith, less)))
 
 ranked : (by : TopBy) (ts : List RowTally) → Ranks by ts → AreRanked by ts
 ranked by [] h = λ k d less. absurd (omega (arith, less))

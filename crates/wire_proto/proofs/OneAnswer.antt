@@ -43,7 +43,6 @@ use Rattle.wire_frames.specs.declared.request.Request.TheVariants.{PutCells, Sto
 use Rattle.std.specs.FinMap.{entries, entries_sorted}
 use Rattle.cell_queries.specs.Tallies.{tallies}
 use Rattle.cell_queries.specs.Tops.{IsTop}
-use Rattle.cell_queries.specs.declared.tally.RowTally.{RowTally}
 use Rattle.cell_queries.specs.declared.top.TopBy.{TopBy}
 use Rattle.cell_queries.proofs.OneTop.{one_top}
 use Rattle.cell_queries.proofs.RowLaws.{rows_rise}

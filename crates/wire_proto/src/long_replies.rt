@@ -13,12 +13,7 @@ use wire_frames::{CELL, HEAD};
 
 /// Appends three numbers of eight bytes.
 #[tactic(auto, unfolding(wire_frames::specs::Frames::number))]
-fn push_numbers(
-    out: &mut Vec<u8>,
-    first: u64,
-    second: u64,
-    third: u64,
-) -> Result<(), AllocError>
+fn push_numbers(out: &mut Vec<u8>, first: u64, second: u64, third: u64) -> Result<(), AllocError>
     ensures items { OnOk result (out.new.items ≡ out.old.items ++ (number first ++ number second ++ number third)) }
 {
     out.extend_from_slice(&first.to_be_bytes())?;

@@ -73,12 +73,7 @@ fn page_of_sum(
 }
 
 /// The reply to a Top. It takes memory for the rows, for their bytes, and some 100 bytes for each matrix of the sum.
-fn top_of_sum(
-    alloc: Global,
-    sum: &ViewedSum,
-    by: TopBy,
-    most: u64,
-) -> Result<Vec<u8>, AllocError>
+fn top_of_sum(alloc: Global, sum: &ViewedSum, by: TopBy, most: u64) -> Result<Vec<u8>, AllocError>
     requires { most ≤ 1000000 }
     ensures bytes { IfOk result (λ reply. TellsTop by most sum.now reply.items) }
     ensures few { IfOk result (λ reply. length reply.items ≤ 2 ^ 27) }
@@ -132,7 +127,11 @@ pub fn ask_range<K: Keeper>(
 fn by_of(by: u8) -> TopBy
     ensures { result ≡ by_number by }
 {
-    if by == 0 { TopBy::Total } else { TopBy::Entries }
+    if by == 0 {
+        TopBy::Total
+    } else {
+        TopBy::Entries
+    }
 }
 
 /// Asks what a Top asks. The sum is let go before the reply is sent.

@@ -194,7 +194,14 @@ fn each_write_of_an_answer_fails_in_turn(rt: HostRuntime) {
         };
         let cut = Cut::Pieces(1_000);
         let found = served_cut(&rt, rt.alloc(), &PAGES, cut, failing, room as usize);
-        assert!(rt; same_at(&rt, &room, &found, &((ended, true, (1, 16)), wanted(&PAGES))));
+        assert!(rt;
+            same_at(
+                &rt,
+                &room,
+                &found,
+                &((ended, true, (1, 16)), wanted(&PAGES))
+            )
+        );
     }
 }
 

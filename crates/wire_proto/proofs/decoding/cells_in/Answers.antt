@@ -1,4 +1,4 @@
-use Rattle.std.proofs.Common.{◌≡◌, ◌∷◌, drop, length, sym, ◌∙◌, ap, subst, arith, nat_eq, Some}
+use Rattle.std.proofs.Common.{◌∷◌, drop, length, sym, ◌∙◌, ap, subst, arith, nat_eq, Some}
 use Rattle.std.proofs.lemmas.Slice.Eq.{bytes_eq-Decides}
 use Rattle.wire_frames.specs.Frames.{head_bytes}
 use Rattle.wire_proto.specs.Decoding.{AreWhole, cells}
