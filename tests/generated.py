@@ -27,7 +27,7 @@ from server import Server, accepted, check, program, refused
 
 ROWS, COLS = 5, 4
 STATUS, EXPORT, SAVE, STOP, STORED = (struct.pack(">IB", 0, kind) for kind in (4, 5, 6, 7, 9))
-LARGE, KIND, LENGTH = bytes.fromhex("0400000104"), bytes.fromhex("000000000a"), bytes.fromhex("0000000104")
+LARGE, KIND, LENGTH = bytes.fromhex("0400000104"), bytes.fromhex("000000000d"), bytes.fromhex("0000000104")
 
 
 def added(cells):
@@ -42,6 +42,32 @@ def spelled(rows, cols, counts):
     """The canonical text of some counts."""
     lines = [f"{row + 1} {col + 1} {count}\n" for (row, col), count in sorted(counts.items())]
     return BANNER + f"{rows} {cols} {len(lines)}\n{''.join(lines)}".encode()
+
+
+def range_frame(rows, cols, start, most):
+    return struct.pack(">IB7Q", 56, 10, *rows, *cols, *start, most)
+
+
+def page(counts, rows, cols, start, most):
+    """The reply that tells the first cells of a range."""
+    found = [(*place, counts[place]) for place in sorted(counts)
+             if rows[0] <= place[0] <= rows[1] and cols[0] <= place[1] <= cols[1] and place >= start]  # fmt: skip
+    cells = b"".join(struct.pack(">3Q", *cell) for cell in found[:most])
+    return struct.pack(">IBB", 1 + len(cells), 0x88, len(found) > most) + cells
+
+
+def top_frame(by, most):
+    return struct.pack(">IBBQ", 9, 11, by, most)
+
+
+def leading(counts, by, most):
+    """The reply that tells the rows that lead."""
+    rows = {}
+    for (row, _), count in counts.items():
+        entries, total = rows.get(row, (0, 0))
+        rows[row] = entries + 1, total + count
+    order = sorted(rows, key=lambda row: (-rows[row][1 - by], row))[:most]
+    return struct.pack(">IB", 24 * len(order), 0x89) + b"".join(struct.pack(">3Q", row, *rows[row]) for row in order)
 
 
 class Model:
@@ -86,6 +112,14 @@ class Model:
     def export(self):
         text = spelled(ROWS, COLS, self.cells)
         return struct.pack(">IB", len(text), 0x85) + text
+
+    def range(self, rows, cols, start, most):
+        if not (rows[0] <= rows[1] < ROWS and cols[0] <= cols[1] < COLS):
+            return refused(41)
+        return page(self.cells, rows, cols, start, most) if 1 <= most <= 1_000_000 else refused(44)
+
+    def top(self, by, most):
+        return leading(self.cells, by, most) if by < 2 and 1 <= most <= 1_000_000 else refused(44)
 
     def save(self):
         return struct.pack(">IBQ", 8, 0x86, len(self.list)) if self.saves else refused(43)
@@ -133,9 +167,22 @@ def drawn_put(draw, model):
     return put_cells_frame(*pair, cells), model.put(pair, cells)
 
 
+def drawn_question(draw, model):
+    """A question about a range of cells or about the rows that lead, and its reply."""
+    most = draw.choice([1, 2, 3, 7, 1_000_000, 0, 1_000_001])
+    if draw.randrange(3) == 0:
+        by = draw.randrange(3)
+        return top_frame(by, most), model.top(by, most)
+    bounds = [sorted(draw.randrange(size + draw.randrange(2)) for _ in range(2)) for size in (ROWS, COLS)]
+    if draw.randrange(9) == 0:
+        bounds[0].reverse()
+    start = draw.randrange(ROWS + 1), draw.randrange(COLS + 1)
+    return range_frame(*bounds, start, most), model.range(*bounds, start, most)
+
+
 def drawn_frame(draw, model):
     """A frame, its reply, and whether the session goes on behind it."""
-    kind = draw.randrange(30)
+    kind = draw.randrange(36)
     if kind == 0:
         frame, code = draw.choice([(LARGE, 50), (KIND, 51), (LENGTH, 52)])
         return frame, refused(code), False
@@ -152,6 +199,8 @@ def drawn_frame(draw, model):
     if kind < 12:
         row, col = draw.randrange(ROWS + 1), draw.randrange(COLS + 1)
         return struct.pack(">IBQQ", 16, 2, row, col), model.cell(row, col), True
+    if kind < 18:
+        return *drawn_question(draw, model), True
     return *drawn_put(draw, model), True
 
 
@@ -401,6 +450,21 @@ def ask_cell(link, stream, row, col):
     return struct.unpack(">Q", body[1:])[0] if kind == 0x82 else None
 
 
+def is_read_back(draw, link, stream, columns, sums):
+    """Whether a range of a client's own columns has just the cells that it put, page by page."""
+    rows, most = sorted(draw.randrange(OWN["rows"]) for _ in range(2)), draw.choice([1, 50, 1_000_000])
+    cols, start = (columns[0], columns[-1]), (draw.randrange(OWN["rows"]), draw.randrange(OWN["columns"]))
+    for _ in range(3):
+        kind, body = ask(link, stream, range_frame(rows, cols, start, most))
+        if struct.pack(">IB", len(body), kind) + body != page(sums, rows, cols, start, most):
+            return False
+        if body[0] == 0:
+            return True
+        row, col, _ = struct.unpack(">3Q", body[-24:])
+        start = row, col + 1
+    return True
+
+
 def put_and_read_back(link, number, puts, sums, faults):
     """Puts into columns of its own, and asks for a cell of each batch once that was answered, and for one of before."""
     draw, stream, places = random.Random(f"own {number}"), link.makefile("rb"), []
@@ -415,6 +479,8 @@ def put_and_read_back(link, number, puts, sums, faults):
         found = [ask_cell(link, stream, *place) for place in asked]
         if kind != 0x81 or found != [sums[place] for place in asked]:
             faults.append((number, batch, kind, found))
+        if batch % 10 == 9 and not is_read_back(draw, link, stream, columns, sums):
+            faults.append((number, batch, "range"))
 
 
 def exported_entries(link, stream):
@@ -458,6 +524,14 @@ def own_puts_are_read_back(factor):
         exported = ask(links[0], links[0].makefile("rb"), EXPORT)
         all_sums = added_up(sums)
         check("the sum of all", exported, (0x85, spelled(OWN["rows"], OWN["columns"] * OWN["clients"], all_sums)))
+        stream = links[0].makefile("rb")
+        for by in range(2):
+            kind, body = ask(links[0], stream, top_frame(by, 100))
+            check(f"the rows that lead by {by}", struct.pack(">IB", len(body), kind) + body, leading(all_sums, by, 100))
+        whole = (0, OWN["rows"] - 1), (0, OWN["columns"] * OWN["clients"] - 1), (0, 0), 1_000_000
+        kind, body = ask(links[0], stream, range_frame(*whole))
+        check("the range of all", struct.pack(">IB", len(body), kind) + body, page(all_sums, *whole))
+        stream.close()
         for link in links:
             link.close()
         server.stop("own puts", OWN["clients"] * puts, sum(all_sums.values()))

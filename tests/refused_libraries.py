@@ -69,8 +69,11 @@ def folded_engine(batches, behind, *totals):
     return [first.replace(f"batches {behind}", f"batches {batches}"), *shards]
 
 
-# A session of the puts of two batches, of total 5 and 3 at one place, and of a query of that place.
-REPLIES = [accepted(0, 5), accepted(1, 8), bytes.fromhex("000000098201") + (8).to_bytes(8, "big")]
+# A session of the puts of two batches, of total 5 and 3 at one place, of a query of that place, of a range, which has
+# that cell alone, and of the row that leads.
+REPLIES = [accepted(0, 5), accepted(1, 8), bytes.fromhex("000000098201") + (8).to_bytes(8, "big"),
+           bytes.fromhex("000000198800") + bytes(16) + (8).to_bytes(8, "big"),
+           bytes.fromhex("0000001889") + bytes(8) + (1).to_bytes(8, "big") + (8).to_bytes(8, "big")]  # fmt: skip
 
 
 def session(end, written, batches):
@@ -85,9 +88,9 @@ def served(before):
     memory for the next reply, nothing more: what that reply tells stands.
     """
     ways = []
-    for count in range(3):
+    for count in range(len(REPLIES)):
         front = b"".join(REPLIES[:count])
-        ways.append(session("session refused", front + refused(1), max(before, count)))
+        ways.append(session("session refused", front + refused(1), max(before, min(count, 2))))
         lost = f"write refused behind bytes {len(front)}"
         ways.append(session(lost, front, max(before, min(count + 1, 2))))
     return ways

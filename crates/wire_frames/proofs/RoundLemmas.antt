@@ -1,14 +1,14 @@
 -- What is spelled as a frame is read again, whatever follows.
-use Rattle.std.proofs.Common.{◌≡◌, ℕ, ◌+◌, ◌<◌, ◌≤◌, ◌^◌, true, List, [], ◌++◌, length, take, drop, refl, sym, ◌∙◌, ap}
+use Rattle.std.proofs.Common.{◌≡◌, ℕ, ◌+◌, ◌<◌, ◌≤◌, ◌^◌, true, List, [], ◌∷◌, ◌++◌, length, take, drop, refl, sym, ◌∙◌, ap}
 use Rattle.std.proofs.Common.{arith, length-append, Some, None, Ok, eq-eqb, ◌-◌, ◌%◌}
 use Rattle.std.proofs.lemmas.List.{take_at, drop_at, drop-drop}
 use Rattle.std.proofs.lemmas.Bool.{le-ltb, le-leb}
 use Rattle.std.proofs.lemmas.Nat.{from_be_bytes-to_be_bytes_4, from_be_bytes-to_be_bytes_8}
 use Rattle.wire_frames.specs.Frames.{front, frame, head_bytes, number, head_len, head_kind, head_fault, fault_of_kind}
-use Rattle.wire_frames.specs.Frames.{length_fits, request_of, number_at, request_frame, HasFrame}
+use Rattle.wire_frames.specs.Frames.{length_fits, request_of, number_at, request_frame, HasFrame, AreNumbers, pair, range_at}
 use Rattle.wire_frames.specs.declared.request.Request.{Request}
 use Rattle.wire_frames.specs.declared.request.Request.TheVariants.{Put, Cell, Row, Status, Export, Save, Stop}
-use Rattle.wire_frames.specs.declared.request.Request.TheVariants.{PutCells, Stored}
+use Rattle.wire_frames.specs.declared.request.Request.TheVariants.{PutCells, Stored, Range, Top}
 use Rattle.wire_frames.proofs.FrontLemmas.{front_whole}
 
 pub kind_read : (k : ℕ) (body more : List ℕ) → head_kind (frame k body ++ more) ≡ k
@@ -112,6 +112,39 @@ row_read : (row : ℕ) → row < 2 ^ 64 → request_of 3 (number row) ≡ Row ro
 unfolding request_of
 row_read row h = rw (lone row h) refl
 
+range_fits : (rows cols start : ℕ × ℕ) (most : ℕ) →
+    length_fits 10 (length (pair rows ++ pair cols ++ pair start ++ number most)) ≡ Some true
+unfolding length_fits number
+range_fits rows cols start most = refl
+
+top_fits : (by most : ℕ) → length_fits 11 (length (by ∷ number most)) ≡ Some true
+unfolding length_fits number
+top_fits by most = refl
+
+-- the k-th of the numbers of a range
+range_number : (a b c d e f g : ℕ) → a < 2 ^ 64 → b < 2 ^ 64 → c < 2 ^ 64 → d < 2 ^ 64 → e < 2 ^ 64 → f < 2 ^ 64 →
+    g < 2 ^ 64 → range_at (pair (a, b) ++ pair (c, d) ++ pair (e, f) ++ number g) ≡ Range (a, b) (c, d) (e, f) g
+unfolding number_at number
+range_number a b c d e f g ha hb hc hd he hf hg = rw (
+  from_be_bytes-to_be_bytes_8 a ha,
+  from_be_bytes-to_be_bytes_8 b hb,
+  from_be_bytes-to_be_bytes_8 c hc,
+  from_be_bytes-to_be_bytes_8 d hd,
+  from_be_bytes-to_be_bytes_8 e he,
+  from_be_bytes-to_be_bytes_8 f hf,
+  from_be_bytes-to_be_bytes_8 g hg,
+) refl
+
+range_read : (rows cols start : ℕ × ℕ) (most : ℕ) → AreNumbers (Range rows cols start most) →
+    request_of 10 (pair rows ++ pair cols ++ pair start ++ number most) ≡ Range rows cols start most
+unfolding request_of
+range_read rows cols start most h =
+    range_number rows.0 rows.1 cols.0 cols.1 start.0 start.1 most h.0 h.1 h.2 h.3 h.4 h.5 h.6
+
+top_read : (by most : ℕ) → most < 2 ^ 64 → request_of 11 (by ∷ number most) ≡ Top by most
+unfolding request_of number_at number
+top_read by most h = ap (Top by) (from_be_bytes-to_be_bytes_8 most h)
+
 -- the front of a request's frame
 pub front_again : (r : Request) (more : List ℕ) → HasFrame r → front (request_frame r ++ more) ≡ Some (Ok r, more)
 unfolding request_of length_fits
@@ -144,3 +177,8 @@ front_again (PutCells client n cells) more h =
     front_of_frame 8 (number client ++ number n ++ cells) more h.short (cells_fit _ _ size h.whole)
     ∙ ap (λ x. Some (Ok x, more)) (cells_read client n cells h.numbers.0 h.numbers.1)
 front_again Stored more h = front_of_frame 9 [] more h.short refl
+front_again (Range rows cols start most) more h =
+    front_of_frame 10 (pair rows ++ pair cols ++ pair start ++ number most) more h.short (range_fits rows cols start most)
+    ∙ ap (λ x. Some (Ok x, more)) (range_read rows cols start most h.numbers)
+front_again (Top by most) more h = front_of_frame 11 (by ∷ number most) more h.short (top_fits by most) ∙
+    ap (λ x. Some (Ok x, more)) (top_read by most h.numbers.1)

@@ -5,7 +5,7 @@ use Rattle.std.specs.Prelude.{Result, Ok, Err}
 use Rattle.std.specs.Int.{w32, w64, to_be_bytes, from_be_bytes}
 use Rattle.wire_frames.specs.declared.request.Request.{Request}
 use Rattle.wire_frames.specs.declared.request.Request.TheVariants.{Put, Cell, Row, Status, Export, Save, Stop}
-use Rattle.wire_frames.specs.declared.request.Request.TheVariants.{PutCells, Stored}
+use Rattle.wire_frames.specs.declared.request.Request.TheVariants.{PutCells, Stored, Range, Top}
 use Rattle.wire_frames.specs.declared.request.FrameFault.{FrameFault}
 use Rattle.wire_frames.specs.declared.request.FrameFault.TheVariants.{Memory, TooLarge, UnknownKind, BadLength}
 
@@ -31,6 +31,11 @@ kind_of Save = 6
 kind_of Stop = 7
 kind_of (PutCells client n cells) = 8
 kind_of Stored = 9
+kind_of (Range rows cols start most) = 10
+kind_of (Top by most) = 11
+
+abbrev pub pair : ℕ × ℕ → List ℕ
+pair p = number p.0 ++ number p.1
 
 abbrev pub body_of : Request → List ℕ
 body_of (Put client n text) = number client ++ number n ++ text
@@ -42,6 +47,8 @@ body_of Save = []
 body_of Stop = []
 body_of (PutCells client n cells) = number client ++ number n ++ cells
 body_of Stored = []
+body_of (Range rows cols start most) = pair rows ++ pair cols ++ pair start ++ number most
+body_of (Top by most) = by ∷ number most
 
 abbrev pub request_frame : Request → List ℕ
 request_frame r = frame (kind_of r) (body_of r)
@@ -57,6 +64,10 @@ AreNumbers Save = Unit {0}
 AreNumbers Stop = Unit {0}
 AreNumbers (PutCells client n cells) = (client < 2 ^ 64) × (n < 2 ^ 64)
 AreNumbers Stored = Unit {0}
+AreNumbers (Range rows cols start most) =
+    (rows.0 < 2 ^ 64) × (rows.1 < 2 ^ 64) × (cols.0 < 2 ^ 64) × (cols.1 < 2 ^ 64) × (start.0 < 2 ^ 64) ×
+    (start.1 < 2 ^ 64) × (most < 2 ^ 64)
+AreNumbers (Top by most) = (by < 2 ^ 8) × (most < 2 ^ 64)
 
 -- a whole number of cells, of 24 bytes each
 abbrev pub IsWhole : List ℕ → Type 0
@@ -80,6 +91,8 @@ length_fits kind len =
     else if nat_le 4 kind && nat_le kind 7 then Some (len == 0)
     else if kind == 8 then Some (nat_le 16 len && ((len - 16) % 24 == 0))
     else if kind == 9 then Some (len == 0)
+    else if kind == 10 then Some (len == 56)
+    else if kind == 11 then Some (len == 9)
     else None
 
 abbrev pub fault_of_kind : Option Bool → Option FrameFault
@@ -95,6 +108,12 @@ head_fault kind len = if nat_lt 67108864 len then Some TooLarge else fault_of_ki
 unfoldable pub number_at : ℕ → List ℕ → ℕ
 number_at place body = from_be_bytes w64 (take 8 (drop place body))
 
+abbrev pub pair_at : ℕ → List ℕ → ℕ × ℕ
+pair_at place body = (number_at place body, number_at (place + 8) body)
+
+abbrev pub range_at : List ℕ → Request
+range_at body = Range (pair_at 0 body) (pair_at 16 body) (pair_at 32 body) (number_at 48 body)
+
 -- the request that a body of this kind spells
 unfoldable pub request_of : ℕ → List ℕ → Request
 request_of kind body =
@@ -106,7 +125,9 @@ request_of kind body =
     else if kind == 6 then Save
     else if kind == 7 then Stop
     else if kind == 8 then PutCells (number_at 0 body) (number_at 8 body) (drop 16 body)
-    else Stored
+    else if kind == 9 then Stored
+    else if kind == 10 then range_at body
+    else Top (slice_index body 0) (number_at 1 body)
 
 unfoldable pub head_len : List ℕ → ℕ
 head_len bytes = from_be_bytes w32 (take 4 bytes)

@@ -1,6 +1,6 @@
 //! Cuts the bytes of a link into requests.
 ghost use Rattle.std.specs.Prelude.{◌≡◌, ◌++◌, [], ◌+◌, ◌≤◌, length, take, drop, true, Some, IfOk, OnOk, OnErr};
-ghost use Rattle.wire_frames.specs.Frames.{NextGives, request_of, length_fits};
+ghost use Rattle.wire_frames.specs.Frames.{NextGives, request_of, range_at, pair_at, length_fits};
 
 use crate::heads::{Look, look_at};
 use crate::limits::{HEAD, ROOMY};
@@ -28,6 +28,37 @@ impl Model for Frames {
     ghost Value = { List ℕ };
 
     ghost view = { λ f. f.bytes.items };
+}
+
+/// Takes two numbers off the front.
+#[tactic(auto, unfolding(crate::specs::Frames::number_at))]
+fn get_pair(body: &mut Bytes) -> (u64, u64)
+    requires { 16 ≤ length body.old }
+    ensures pair { result ≡ pair_at 0 body.old }
+    ensures rest { body.new ≡ drop 16 body.old }
+    ensures less { length body.new + 16 ≡ length body.old }
+{
+    let first = body.get_u64();
+    let second = body.get_u64();
+    (first, second)
+}
+
+/// The Range that a body spells.
+#[tactic(auto, unfolding(crate::specs::Frames::number_at))]
+fn open_range(mut body: Bytes) -> Request
+    requires { length body ≡ 56 }
+    ensures { result ≡ range_at body }
+{
+    let rows = get_pair(&mut body);
+    let cols = get_pair(&mut body);
+    let start = get_pair(&mut body);
+    let most = body.get_u64();
+    Request::Range {
+        rows,
+        cols,
+        start,
+        most,
+    }
 }
 
 /// The request that a whole frame spells, of a kind and a length that fit.
@@ -67,7 +98,13 @@ fn open(kind: u8, mut body: Bytes) -> Request
                 cells: body,
             }
         }
-        _ => Request::Stored,
+        9 => Request::Stored,
+        10 => open_range(body),
+        _ => {
+            let by = body.get_u8();
+            let most = body.get_u64();
+            Request::Top { by, most }
+        }
     }
 }
 

@@ -53,6 +53,8 @@ fn fits(head: Head) -> Option<bool>
         4..=7 => Some(head.len == 0),
         8 => Some(head.len >= 16 && (head.len - 16) % CELL as u32 == 0),
         9 => Some(head.len == 0),
+        10 => Some(head.len == 56),
+        11 => Some(head.len == 9),
         _ => None,
     }
 }

@@ -9,7 +9,9 @@ use thiserror::Error;
 
 /// What a client asks. Rows and columns count from 0.
 ///
-/// The cells of a `PutCells` are 24 bytes each: row, column and count, of eight bytes, the high one first.
+/// The cells of a `PutCells` are 24 bytes each: row, column and count, of eight bytes, the high one first. A `Range` has
+/// the first and the last of its rows and of its columns, and the place, a row and a column, from which on cells are
+/// asked for. A `Top` is by total where `by` is 0, and by entries where it is 1.
 #[derive(Drop)]
 pub enum Request {
     Put {
@@ -34,6 +36,16 @@ pub enum Request {
         cells: Bytes,
     },
     Stored,
+    Range {
+        rows: (u64, u64),
+        cols: (u64, u64),
+        start: (u64, u64),
+        most: u64,
+    },
+    Top {
+        by: u8,
+        most: u64,
+    },
 }
 
 /// What is wrong with the bytes of a link, or that memory ran out.
@@ -99,6 +111,8 @@ fn kind(request: &Request) -> u8
         Request::Stop => 7,
         Request::PutCells { .. } => 8,
         Request::Stored => 9,
+        Request::Range { .. } => 10,
+        Request::Top { .. } => 11,
     }
 }
 
@@ -112,8 +126,18 @@ fn body_len(request: &Request) -> usize
         Request::PutCells { cells, .. } => 16 + cells.len(),
         Request::Cell { .. } => 16,
         Request::Row { .. } => 8,
+        Request::Range { .. } => 56,
+        Request::Top { .. } => 9,
         Request::Status | Request::Export | Request::Save | Request::Stop | Request::Stored => 0,
     }
+}
+
+/// Appends two numbers.
+fn push_pair(out: &mut Vec<u8>, pair: (u64, u64)) -> Result<(), AllocError>
+    ensures { OnOk result (out.new.items ≡ out.old.items ++ number pair.0 ++ number pair.1) }
+{
+    push_number(out, pair.0)?;
+    push_number(out, pair.1)
 }
 
 /// Appends the body.
@@ -147,6 +171,21 @@ fn push_body(out: &mut Vec<u8>, request: &Request) -> Result<(), AllocError>
             Ok(())
         }
         Request::Row { row } => push_number(out, *row),
+        Request::Range {
+            rows,
+            cols,
+            start,
+            most,
+        } => {
+            push_pair(out, *rows)?;
+            push_pair(out, *cols)?;
+            push_pair(out, *start)?;
+            push_number(out, *most)
+        }
+        Request::Top { by, most } => {
+            out.extend_from_slice(&[*by])?;
+            push_number(out, *most)
+        }
         Request::Status | Request::Export | Request::Save | Request::Stop | Request::Stored => Ok(
             (),
         ),

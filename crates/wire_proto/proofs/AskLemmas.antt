@@ -6,7 +6,11 @@ use Rattle.wire_frames.specs.Frames.{frame, head_bytes, number}
 use Rattle.wire_proto.specs.Keeping.{Event, cell, row, status, export, save, stored}
 use Rattle.wire_proto.specs.Replies.{value, row_sum, counts, save_reply, text, text_reply, refused}
 use Rattle.mm_laws.specs.MatrixText.{matrix_text}
-use Rattle.wire_proto.specs.Answering.{Answers, asked}
+use Rattle.std.proofs.Common.{OnErr, Err, subst}
+use Rattle.std.specs.declared.alloc.AllocError.{AllocError}
+use Rattle.wire_frames.specs.declared.request.Request.TheVariants.{Range, Top}
+use Rattle.wire_proto.specs.Questions.{AreBounds, IsCount}
+use Rattle.wire_proto.specs.Answering.{Answers, asked, RunsOut, in_call}
 use Rattle.hyper_matrix.specs.Matrix.{Matrix}
 use Rattle.wire_frames.specs.declared.request.Request.TheVariants.{Cell as CellAt, Row, Status, Export, Save, Stored}
 use Rattle.batch_store.specs.Setups.{Setting}
@@ -60,3 +64,22 @@ text_reply_short bytes = elim (cases_lt 67108864 (length bytes)) [
   | inl long ↦ rw (lt-ltb 67108864 (length bytes) long) (lit≤ tt)
   | inr short ↦ rw (le-ltb 67108864 (length bytes) short) (omega (arith, length_text bytes))
 ]
+
+-- ---- questions about the cells of the sum
+pub on_err : {A E : Type 0} (r : Result A E) (P : Type 0) → P → OnErr r P
+on_err (Ok a) P h = tt
+on_err (Err e) P h = h
+
+pub bounds_from : (judged setup : Setting) (rows cols : ℕ × ℕ) → AreBounds judged rows cols → judged ≡ setup →
+    AreBounds setup rows cols
+bounds_from judged setup rows cols h e = subst (λ v. AreBounds v rows cols) e h
+
+pub range_lacks : {S : Type 0} (gives : S → Event → S → Type 0) (setup : Setting) (s t : S) (rows cols start : ℕ × ℕ)
+    (most : ℕ) (lack : AllocError) → AreBounds setup rows cols → IsCount most → gives s (export (Err lack)) t →
+    RunsOut gives setup (Range rows cols start most) s t
+range_lacks gives setup s t rows cols start most lack b n h = in_call (export (Err lack)) (b, n, lack, refl) h refl
+
+pub top_lacks : {S : Type 0} (gives : S → Event → S → Type 0) (setup : Setting) (s t : S) (by most : ℕ)
+    (lack : AllocError) → by ≤ 1 → IsCount most → gives s (export (Err lack)) t →
+    RunsOut gives setup (Top by most) s t
+top_lacks gives setup s t by most lack b n h = in_call (export (Err lack)) (b, n, lack, refl) h refl

@@ -15,7 +15,6 @@ use Rattle.batch_store.specs.declared.fault.CellsFault.TheVariants.{IndexOutOfRa
 use Rattle.wire_proto.specs.CellBytes.{cell_at, cells_of, cell_bytes, spelled_cells, FitsBytes}
 use Rattle.wire_frames.specs.Frames.{number, number_at}
 use Rattle.wire_proto.specs.Answering.{RefusesCells, too_many, outside}
-use Rattle.wire_frames.specs.declared.request.Request.TheVariants.{PutCells}
 use Rattle.std.proofs.lemmas.Nat.{from_be_bytes-to_be_bytes_8}
 
 -- the cells of the first 24 * n bytes

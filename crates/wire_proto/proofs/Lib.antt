@@ -1,4 +1,6 @@
 pub mod AskLemmas
+pub mod LongLemmas
+pub mod HasTop
 pub mod TextLemmas
 pub mod SendLemmas
 pub mod LinkLemmas

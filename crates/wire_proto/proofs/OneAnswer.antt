@@ -33,13 +33,21 @@ use Rattle.wire_frames.specs.Frames.{Message}
 use Rattle.wire_proto.specs.Keeping.{Event, put, cell, row, status, export, save, stored}
 use Rattle.wire_proto.specs.Replies.{put_reply, reply_of, refused}
 use Rattle.wire_proto.specs.Answering.{put_limits, kind_number, PutsBatch, RefusesText, faulty, differs, too_large}
-use Rattle.wire_proto.specs.Answering.{Answers, asked, unasked, PutsCells, RefusesCells, too_many, outside, sum_passes}
+use Rattle.wire_proto.specs.Answering.{Answers, asked, unasked, of_sum, PutsCells, RefusesCells, too_many, outside, sum_passes}
 use Rattle.wire_proto.specs.CellBytes.{cells_of}
 use Rattle.wire_proto.specs.Plain.{PlainGives, IsAnswered}
 use Rattle.wire_proto.specs.declared.keeper.SaveRefusal.TheVariants.{SaveOff}
 use Rattle.wire_frames.specs.declared.request.Request.{Request}
 use Rattle.wire_frames.specs.declared.request.Request.TheVariants.{Put, Cell as CellAt, Row, Status, Export, Save, Stop}
-use Rattle.wire_frames.specs.declared.request.Request.TheVariants.{PutCells, Stored}
+use Rattle.wire_frames.specs.declared.request.Request.TheVariants.{PutCells, Stored, Range, Top}
+use Rattle.std.specs.FinMap.{entries, entries_sorted}
+use Rattle.cell_queries.specs.Tallies.{tallies}
+use Rattle.cell_queries.specs.Tops.{IsTop}
+use Rattle.cell_queries.specs.declared.top.TopBy.{TopBy}
+use Rattle.cell_queries.proofs.OneTop.{one_top}
+use Rattle.cell_queries.proofs.RowLaws.{rows_rise}
+use Rattle.wire_proto.specs.Questions.{AreBounds, IsCount, range_between, by_number, range_reply, rows_reply, TellsTop}
+use Rattle.wire_proto.proofs.HasTop.{has_top}
 
 -- a text spells one file at most: its cells
 same_cells : (setup : Setting) (bytes : List ℕ) (cells cells' : List Cell) →
@@ -184,6 +192,18 @@ one_put v state e e' b b' a a' w w' t t' same ev ev' h h' i i' =
     event_once v state e e' w w' t t' (ev ∙ ap (λ x. put x a) same ∙ ap (λ x. put b' x) answers ∙ sym ev')
     (one.1 ∙ ap (state_after v state) same ∙ sym two.1) i i'
 
+-- where the sum wasn't had there is no reply
+lacks : (e : Event) (lack : AllocError) (w : List ℕ) → e ≡ export (Err lack) → reply_of e ≡ Some w → ⊥
+lacks e lack w is h = let none = subst (λ x. reply_of x ≡ Some w) is h in cc
+
+-- of one sum, one top
+one_telling : (by : TopBy) (most : ℕ) (m m' : Matrix) (w w' : List ℕ) → m ≡ m' → TellsTop by most m w →
+    TellsTop by most m' w' → w ≡ w'
+one_telling by most m m' w w' e a b =
+    let first = subst (λ (x : Matrix). IsTop by most (tallies (entries x.counts)) a.0) e a.1 in
+    a.2 ∙ ap rows_reply (one_top by most (tallies (entries m'.counts)) a.0 b.0
+    (rows_rise (entries m'.counts) (entries_sorted m'.counts)) first b.1) ∙ sym b.2
+
 pub one_answer : (v : Setting) (state : Accepted) (r : Request) (w w' : List ℕ) (t t' : Accepted) →
     Answers (PlainGives v) v r w state t → Answers (PlainGives v) v r w' state t' → Same w w' t t'
 one_answer v state (Put c n bytes) w w' t t' (asked e a h i) (asked e' a' h' i') =
@@ -241,6 +261,52 @@ one_answer v state (PutCells c n bytes) w w' t t' (unasked a i) (asked e' a' h' 
 one_answer v state (PutCells c n bytes) w w' t t' (unasked a i) (unasked a' i') =
     let one = one_cells_refusal v bytes a.0 a.1 a'.0 a'.1 a.2 a'.2 in
     (a.3 ∙ ap (λ x. refused x a.1) one.0 ∙ ap (λ x. refused a'.0 x) one.1 ∙ sym a'.3, i ∙ sym i')
+one_answer v state (Put c n bytes) w w' t t' (of_sum m b g) other = absurd b
+one_answer v state (Put c n bytes) w w' t t' (asked e a h i) (of_sum m b g) = absurd b
+one_answer v state (Put c n bytes) w w' t t' (unasked a i) (of_sum m b g) = absurd b
+one_answer v state (PutCells c n bytes) w w' t t' (of_sum m b g) other = absurd b
+one_answer v state (PutCells c n bytes) w w' t t' (asked e a h i) (of_sum m b g) = absurd b
+one_answer v state (PutCells c n bytes) w w' t t' (unasked a i) (of_sum m b g) = absurd b
+one_answer v state (CellAt r c) w w' t t' (of_sum m b g) other = absurd b
+one_answer v state (CellAt r c) w w' t t' (asked e a h i) (of_sum m b g) = absurd b
+one_answer v state (CellAt r c) w w' t t' (unasked a i) (of_sum m b g) = absurd b
+one_answer v state (Row r) w w' t t' (of_sum m b g) other = absurd b
+one_answer v state (Row r) w w' t t' (asked e a h i) (of_sum m b g) = absurd b
+one_answer v state (Row r) w w' t t' (unasked a i) (of_sum m b g) = absurd b
+one_answer v state Status w w' t t' (of_sum m b g) other = absurd b
+one_answer v state Status w w' t t' (asked e a h i) (of_sum m b g) = absurd b
+one_answer v state Export w w' t t' (of_sum m b g) other = absurd b
+one_answer v state Export w w' t t' (asked e a h i) (of_sum m b g) = absurd b
+one_answer v state Save w w' t t' (of_sum m b g) other = absurd b
+one_answer v state Save w w' t t' (asked e a h i) (of_sum m b g) = absurd b
+one_answer v state Stored w w' t t' (of_sum m b g) other = absurd b
+one_answer v state Stored w w' t t' (asked e a h i) (of_sum m b g) = absurd b
+one_answer v state Stop w w' t t' (of_sum m b g) other = absurd b
+one_answer v state (Range x y z n) w w' t t' (asked e a h i) other = absurd (lacks e a.2 w a.3 i)
+one_answer v state (Range x y z n) w w' t t' (unasked a i) (asked e' a' h' i') = absurd (lacks e' a'.2 w' a'.3 i')
+one_answer v state (Range x y z n) w w' t t' (of_sum m b g) (asked e' a' h' i') = absurd (lacks e' a'.2 w' a'.3 i')
+one_answer v state (Range x y z n) w w' t t' (unasked (inl a) i) (unasked (inl a') i') = (a.1 ∙ sym a'.1, i ∙ sym i')
+one_answer v state (Range x y z n) w w' t t' (unasked (inl a) i) (unasked (inr a') i') = absurd (a.0 a'.0)
+one_answer v state (Range x y z n) w w' t t' (unasked (inr a) i) (unasked (inl a') i') = absurd (a'.0 a.0)
+one_answer v state (Range x y z n) w w' t t' (unasked (inr a) i) (unasked (inr a') i') = (a.2 ∙ sym a'.2, i ∙ sym i')
+one_answer v state (Range x y z n) w w' t t' (unasked (inl a) i) (of_sum m b g) = absurd (a.0 b.0)
+one_answer v state (Range x y z n) w w' t t' (unasked (inr a) i) (of_sum m b g) = absurd (a.1 b.1)
+one_answer v state (Range x y z n) w w' t t' (of_sum m b g) (unasked (inl a) i) = absurd (a.0 b.0)
+one_answer v state (Range x y z n) w w' t t' (of_sum m b g) (unasked (inr a) i) = absurd (a.1 b.1)
+one_answer v state (Range x y z n) w w' t t' (of_sum m b g) (of_sum m' b' g') = (
+  b.2 ∙ ap (range_reply (range_between x y z) n) (g.0 ∙ sym g'.0) ∙ sym b'.2,
+  g.1 ∙ sym g'.1,
+)
+one_answer v state (Top x n) w w' t t' (asked e a h i) other = absurd (lacks e a.2 w a.3 i)
+one_answer v state (Top x n) w w' t t' (unasked a i) (asked e' a' h' i') = absurd (lacks e' a'.2 w' a'.3 i')
+one_answer v state (Top x n) w w' t t' (of_sum m b g) (asked e' a' h' i') = absurd (lacks e' a'.2 w' a'.3 i')
+one_answer v state (Top x n) w w' t t' (unasked a i) (unasked a' i') = (a.1 ∙ sym a'.1, i ∙ sym i')
+one_answer v state (Top x n) w w' t t' (unasked a i) (of_sum m b g) = absurd (a.0 (b.0, b.1))
+one_answer v state (Top x n) w w' t t' (of_sum m b g) (unasked a i) = absurd (a.0 (b.0, b.1))
+one_answer v state (Top x n) w w' t t' (of_sum m b g) (of_sum m' b' g') = (
+  one_telling (by_number x) n m m' w w' (g.0 ∙ sym g'.0) b.2 b'.2,
+  g.1 ∙ sym g'.1,
+)
 
 -- messages one after another
 then_one : (v : Setting) (state : Accepted) (r : Request) (ms : List Message) (w w' : List ℕ)
@@ -277,6 +343,10 @@ answered_once v state (Ok Save ∷ ms) w w' t t' a b = then_one v state Save ms 
 answered_once v state (Ok Stored ∷ ms) w w' t t' a b = then_one v state Stored ms w w' t t'
     (λ m p q c d. answered_once v m ms p q t t' c d) a b
 answered_once v state (Ok (PutCells x y z) ∷ ms) w w' t t' a b = then_one v state (PutCells x y z) ms w w' t t'
+    (λ m p q c d. answered_once v m ms p q t t' c d) a b
+answered_once v state (Ok (Range x y z n) ∷ ms) w w' t t' a b = then_one v state (Range x y z n) ms w w' t t'
+    (λ m p q c d. answered_once v m ms p q t t' c d) a b
+answered_once v state (Ok (Top x n) ∷ ms) w w' t t' a b = then_one v state (Top x n) ms w w' t t'
     (λ m p q c d. answered_once v m ms p q t t' c d) a b
 
 -- ---- and there is one
@@ -398,6 +468,55 @@ has_row v state r = elim (cases_lt r v.rows) [
   | inr a ↦ (_, state, unasked ((λ h. omega (arith, a, h)), refl) refl)
 ]
 
+bounds_or_not : (v : Setting) (rows cols : ℕ × ℕ) → AreBounds v rows cols ⊎ (AreBounds v rows cols → ⊥)
+bounds_or_not v rows cols = elim (cases_lt rows.1 rows.0) [
+  | inl a ↦ inr (λ h. let k = h.rows_rise in omega (arith, a, k))
+  | inr a ↦ elim (cases_lt rows.1 v.rows) [
+    | inr b ↦ inr (λ h. let k = h.rows_within in omega (arith, b, k))
+    | inl b ↦ elim (cases_lt cols.1 cols.0) [
+      | inl c ↦ inr (λ h. let k = h.cols_rise in omega (arith, c, k))
+      | inr c ↦ elim (cases_lt cols.1 v.cols) [
+        | inr d ↦ inr (λ h. let k = h.cols_within in omega (arith, d, k))
+        | inl d ↦ inl (record { rows_rise = a; rows_within = b; cols_rise = c; cols_within = d })
+      ]
+    ]
+  ]
+]
+
+count_or_not : (most : ℕ) → IsCount most ⊎ (IsCount most → ⊥)
+count_or_not most = elim (cases_lt 0 most) [
+  | inr a ↦ inr (λ h. let k = h.0 in omega (arith, a, k))
+  | inl a ↦ elim (cases_lt 1000000 most) [
+    | inl b ↦ inr (λ h. let k = h.1 in omega (arith, b, k))
+    | inr b ↦ inl (omega (arith, a), b)
+  ]
+]
+
+has_range : (v : Setting) (state : Accepted) (rows cols start : ℕ × ℕ) (most : ℕ) →
+    HasAnswer v state (Range rows cols start most)
+has_range v state rows cols start most = elim (bounds_or_not v rows cols) [
+  | inr bad ↦ (refused 41 0, state, unasked (inl (bad, refl)) refl)
+  | inl b ↦ elim (count_or_not most) [
+    | inr bad ↦ (refused 44 0, state, unasked (inr (b, bad, refl)) refl)
+    | inl c ↦ (
+      range_reply (range_between rows cols start) most (export_of v state),
+      state,
+      of_sum (export_of v state) (b, c, refl) (refl, refl),
+    )
+  ]
+]
+
+has_rows : (v : Setting) (state : Accepted) (by most : ℕ) → HasAnswer v state (Top by most)
+has_rows v state by most = elim (cases_lt 1 by) [
+  | inl a ↦ (refused 44 0, state, unasked ((λ h. let k = h.0 in omega (arith, a, k)), refl) refl)
+  | inr a ↦ elim (count_or_not most) [
+    | inr bad ↦ (refused 44 0, state, unasked ((λ h. bad h.1), refl) refl)
+    | inl c ↦
+        let top = has_top (by_number by) most (tallies (entries (export_of v state).counts)) in
+        (rows_reply top.0, state, of_sum (export_of v state) (a, c, (top.0, top.1, refl)) (refl, refl))
+  ]
+]
+
 then_some : (v : Setting) (state : Accepted) (r : Request) (ms : List Message) → HasAnswer v state r →
     ((m : Accepted) → (w : List ℕ) × (t : Accepted) × IsAnswered v m ms w t) →
     (w : List ℕ) × (t : Accepted) × (m : Accepted) × (reply : List ℕ) × (more : List ℕ) ×
@@ -428,4 +547,8 @@ has_answers v state (Ok Save ∷ ms) = let h = then_some v state Save ms
     (_, state, asked (save (Err SaveOff)) (_, refl) (refl, refl) refl) (λ m. has_answers v m ms) in
     (h.0, h.1, (h.2, h.3, h.4, h.5, h.6, h.7))
 has_answers v state (Ok (PutCells x y z) ∷ ms) = let h = then_some v state (PutCells x y z) ms (has_cells v state x y z)
+    (λ m. has_answers v m ms) in (h.0, h.1, (h.2, h.3, h.4, h.5, h.6, h.7))
+has_answers v state (Ok (Range x y z n) ∷ ms) = let h = then_some v state (Range x y z n) ms (has_range v state x y z n)
+    (λ m. has_answers v m ms) in (h.0, h.1, (h.2, h.3, h.4, h.5, h.6, h.7))
+has_answers v state (Ok (Top x n) ∷ ms) = let h = then_some v state (Top x n) ms (has_rows v state x n)
     (λ m. has_answers v m ms) in (h.0, h.1, (h.2, h.3, h.4, h.5, h.6, h.7))

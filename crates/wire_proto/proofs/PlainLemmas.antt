@@ -1,6 +1,6 @@
 -- Sessions over a keeper whose state is what was accepted, and nothing else.
 use Rattle.std.proofs.Common.{◌≡◌, ◌⊎◌, inl, inr, ℕ, ◌+◌, ◌≤◌, List, [], ◌∷◌, ◌++◌, length, take, map, refl, sym, ◌∙◌}
-use Rattle.std.proofs.Common.{ap, subst, append_assoc, None, Ok, Err, ◌<◌, arith}
+use Rattle.std.proofs.Common.{ap, subst, append_assoc, None, Ok, Err, arith}
 use Rattle.std.proofs.lemmas.List.{append-nil}
 use Rattle.byte_io.specs.Streams.{Answer}
 use Rattle.batch_store.specs.Setups.{Setting}
@@ -10,7 +10,7 @@ use Rattle.wire_proto.specs.Keeping.{Event, put, cell, row, status, export, save
 use Rattle.plain_engine.specs.declared.fault.PutFault.TheVariants as fault
 use Rattle.wire_proto.specs.declared.keeper.PutRefusal.TheVariants.{Put as Refuses, LogFull, LogFailed}
 use Rattle.wire_proto.specs.Replies.{refused, reply_of}
-use Rattle.wire_proto.specs.Answering.{Answers, asked, unasked, RunsOut, before_call, in_call}
+use Rattle.wire_proto.specs.Answering.{Answers, asked, unasked, of_sum, RunsOut, before_call, in_call}
 use Rattle.wire_proto.specs.Sessions.{Talks, AnswersAll, LacksMemory, NextReply, Then, Breaks, Rests, Ends}
 use Rattle.wire_proto.specs.Sessions.{unasked as no_call, asked as a_call, answer as answered, stop, bad, out}
 use Rattle.wire_proto.specs.Sessions.{AsksToPut, Unsent, CutOff, alone, among_puts}
@@ -19,7 +19,7 @@ use Rattle.wire_proto.specs.Plain.{PutsUnsent}
 use Rattle.wire_proto.specs.Plain.{EndsPlain}
 use Rattle.wire_frames.specs.declared.request.Request.{Request}
 use Rattle.wire_frames.specs.declared.request.Request.TheVariants.{Put, Cell, Row, Status, Export, Save, Stop}
-use Rattle.wire_frames.specs.declared.request.Request.TheVariants.{PutCells, Stored}
+use Rattle.wire_frames.specs.declared.request.Request.TheVariants.{PutCells, Stored, Range, Top}
 use Rattle.wire_proto.specs.declared.ended.Ended.{Ended}
 use Rattle.wire_proto.specs.declared.ended.Ended.TheVariants.{Closed, ReadFault, WriteFault, BadFrame, Memory, Stopped}
 use Rattle.wire_proto.specs.declared.ended.Ended.TheVariants.{TooManyTurns}
@@ -40,6 +40,8 @@ module _ {S : Type 0} (gives : S → Event → S → Type 0) (setup : Setting) w
   one_more s m t Save reply more ms bytes n a e b = (m, reply, more, a, e, b)
   one_more s m t (PutCells x y z) reply more ms bytes n a e b = (m, reply, more, a, e, b)
   one_more s m t Stored reply more ms bytes n a e b = (m, reply, more, a, e, b)
+  one_more s m t (Range x y z w) reply more ms bytes n a e b = (m, reply, more, a, e, b)
+  one_more s m t (Top x w) reply more ms bytes n a e b = (m, reply, more, a, e, b)
   one_more s m t Stop reply more ms bytes n a e b = absurd (n refl)
 
   -- requests, and then other messages
@@ -80,6 +82,10 @@ module _ {S N : Type 0} (name : S → N) (setup_of : S → Setting) (state : S �
   one_seen v r reply s t e (unasked h i) = (
     unasked h (ap state i),
     record { same = ap name i; setup = ap setup_of i ∙ e },
+  )
+  one_seen v r reply s t e (of_sum m b h) = (
+    of_sum m b (subst (λ u. PlainGives u (state s) (export (Ok m)) (state t)) e h.2),
+    record { same = h.0; setup = h.1 ∙ e },
   )
 
   pub all_seen : (v : Setting) (s t : S) (rs : List Request) (bytes : List ℕ) → setup_of s ≡ v →
@@ -248,6 +254,8 @@ module _ {L S N : Type 0} (reads : L → Answer → L → Type 0) (writes : L �
   put_goes_on Save h is = h
   put_goes_on Stop h is = h
   put_goes_on Stored h is = h
+  put_goes_on (Range x y z n) h is = h
+  put_goes_on (Top x n) h is = h
 
   ended_seen : (m t : S) → setup_of m ≡ v →
       ((t ≡ m) ⊎ ((r : Request) × RunsOut (Steps name setup_of state) v r m t)) →

@@ -23,7 +23,7 @@ use Rattle.wire_proto.specs.declared.keeper.PutRefusal.{PutRefusal}
 use Rattle.wire_proto.specs.declared.keeper.PutRefusal.TheVariants.{Put as Refuses, LogFull, LogFailed}
 use Rattle.wire_proto.specs.Keeping.{Event, put, export}
 use Rattle.wire_proto.specs.Replies.{accepted, refused, put_reply, reply_of}
-use Rattle.wire_proto.specs.Answering.{PutsBatch, PutsCells, Answers, asked, unasked}
+use Rattle.wire_proto.specs.Answering.{PutsBatch, PutsCells, Answers, asked, unasked, of_sum}
 use Rattle.wire_frames.specs.Frames.{Message}
 use Rattle.wire_proto.specs.Plain.{PlainGives, IsAnswered, AreAnswered, FreshPuts, PutsFresh, GoOn, IsPut, with_batches}
 use Rattle.wire_proto.proofs.DecodeLemmas.{frame_kind}
@@ -32,7 +32,7 @@ use Rattle.wire_proto.proofs.OneAnswer.{one_batch, never_both, put_is, one_cells
 use Rattle.wire_proto.proofs.PlainLemmas.{one_more}
 use Rattle.wire_frames.specs.declared.request.Request.{Request}
 use Rattle.wire_frames.specs.declared.request.Request.TheVariants.{Put, PutCells, Cell, Row, Status, Export, Save, Stop}
-use Rattle.wire_frames.specs.declared.request.Request.TheVariants.{Stored}
+use Rattle.wire_frames.specs.declared.request.Request.TheVariants.{Stored, Range, Top}
 
 -- ---- batches behind what was accepted
 none_behind : (state : Accepted) → with_batches state [] ≡ state
@@ -256,6 +256,10 @@ put_stored v state t c n (PutCells x y cells) w k p (asked ev a h i) e =
     batch_stored v state t c n ev a.0 a.1 w k a.3 (ap (λ (b : Submission). b.client) a.2.batch_is ∙ p.0)
     (ap (λ (b : Submission). b.number) a.2.batch_is ∙ p.1) h i e
 put_stored v state t c n (PutCells x y cells) w k p (unasked a i) e = absurd (never_refused w k a.0 a.1 e a.3)
+put_stored v state t c n (Put x y text) w k p (of_sum m b g) e = absurd b
+put_stored v state t c n (PutCells x y cells) w k p (of_sum m b g) e = absurd b
+put_stored v state t c n (Range x y z i) w k p a e = absurd p
+put_stored v state t c n (Top x i) w k p a e = absurd p
 put_stored v state t c n (Cell x y) w k p a e = absurd p
 put_stored v state t c n (Row x) w k p a e = absurd p
 put_stored v state t c n Status w k p a e = absurd p
@@ -317,6 +321,21 @@ adds v state t Stored w (asked ev a h i) = inl ((λ x f. f), (subst (λ x. Plain
 adds v state t Stored w (unasked a i) = inl ((λ x f. f), i)
 adds v state t Stop w (asked ev a h i) = absurd a
 adds v state t Stop w (unasked a i) = absurd a
+adds v state t Stop w (of_sum m b g) = absurd b
+adds v state t (Put c n text) w (of_sum m b g) = absurd b
+adds v state t (PutCells c n cells) w (of_sum m b g) = absurd b
+adds v state t (Cell r c) w (of_sum m b g) = absurd b
+adds v state t (Row r) w (of_sum m b g) = absurd b
+adds v state t Status w (of_sum m b g) = absurd b
+adds v state t Export w (of_sum m b g) = absurd b
+adds v state t Save w (of_sum m b g) = absurd b
+adds v state t Stored w (of_sum m b g) = absurd b
+adds v state t (Range x y z n) w (asked ev a h i) = inl ((λ x f. f), export_keeps v state t ev (Err a.2) a.3 h)
+adds v state t (Range x y z n) w (unasked a i) = inl ((λ x f. f), i)
+adds v state t (Range x y z n) w (of_sum m b g) = inl ((λ x f. f), g.1)
+adds v state t (Top x n) w (asked ev a h i) = inl ((λ x f. f), export_keeps v state t ev (Err a.2) a.3 h)
+adds v state t (Top x n) w (unasked a i) = inl ((λ x f. f), i)
+adds v state t (Top x n) w (of_sum m b g) = inl ((λ x f. f), g.1)
 
 -- a request that is answered, and then other messages
 abbrev OneFirst : Setting → Accepted → Request → List Message → List Submission → Type 0
@@ -360,6 +379,9 @@ all_adds v state t (Ok Status ∷ ms) w a = then_adds v state a.0 t Status ms a.
 all_adds v state t (Ok Export ∷ ms) w a = then_adds v state a.0 t Export ms a.1 a.3 (all_adds v a.0 t ms a.2 a.5)
 all_adds v state t (Ok Save ∷ ms) w a = then_adds v state a.0 t Save ms a.1 a.3 (all_adds v a.0 t ms a.2 a.5)
 all_adds v state t (Ok Stored ∷ ms) w a = then_adds v state a.0 t Stored ms a.1 a.3 (all_adds v a.0 t ms a.2 a.5)
+all_adds v state t (Ok (Range x y z n) ∷ ms) w a =
+    then_adds v state a.0 t (Range x y z n) ms a.1 a.3 (all_adds v a.0 t ms a.2 a.5)
+all_adds v state t (Ok (Top x n) ∷ ms) w a = then_adds v state a.0 t (Top x n) ms a.1 a.3 (all_adds v a.0 t ms a.2 a.5)
 all_adds v state t (Ok Stop ∷ ms) w a = ends_here state t a.1
 all_adds v state t (Err f ∷ ms) w a = ends_here state t a.1
 
@@ -386,6 +408,8 @@ first_answered v state t Status ms w n a = a
 first_answered v state t Export ms w n a = a
 first_answered v state t Save ms w n a = a
 first_answered v state t Stored ms w n a = a
+first_answered v state t (Range x y z i) ms w n a = a
+first_answered v state t (Top x i) ms w n a = a
 first_answered v state t Stop ms w n a = absurd (n refl)
 
 -- requests, none of them a Stop, and then other messages
@@ -428,6 +452,8 @@ alone_stored v state t c n Export w k p a e = absurd p
 alone_stored v state t c n Save w k p a e = absurd p
 alone_stored v state t c n Stop w k p a e = absurd p
 alone_stored v state t c n Stored w k p a e = absurd p
+alone_stored v state t c n (Range x y z i) w k p a e = absurd p
+alone_stored v state t c n (Top x i) w k p a e = absurd p
 
 pub repeat_replied : (v : Setting) (state a b t : Accepted) (c n : ℕ) (r r' : Request) (w w' : List ℕ)
     (between : List (List Message)) (k k' : Kept) → IsPut c n r → IsPut c n r' →

@@ -3,10 +3,10 @@ use Rattle.std.proofs.Common.{◌≡◌, ℕ, List, [], ◌∷◌, ◌++◌, map
 use Rattle.wire_frames.specs.Frames.{Gives, Message, frames, messages, up_to_stop}
 use Rattle.wire_frames.specs.declared.request.Request.{Request}
 use Rattle.wire_frames.specs.declared.request.Request.TheVariants.{Put, Cell, Row, Status, Export, Save, Stop}
-use Rattle.wire_frames.specs.declared.request.Request.TheVariants.{PutCells, Stored}
+use Rattle.wire_frames.specs.declared.request.Request.TheVariants.{PutCells, Stored, Range, Top}
 use Rattle.wire_frames.proofs.StreamLemmas.{gives_frames, up_more}
 use Rattle.wire_proto.specs.Keeping.{Event}
-use Rattle.wire_proto.specs.Answering.{Answers, asked, unasked}
+use Rattle.wire_proto.specs.Answering.{Answers, asked, unasked, of_sum}
 use Rattle.wire_proto.specs.Sessions.{AnswersAll}
 use Rattle.wire_proto.specs.Plain.{GoOn}
 use Rattle.batch_store.specs.Setups.{Setting}
@@ -16,6 +16,7 @@ pub goes_on : {S : Type 0} (gives : S → Event → S → Type 0) (setup : Setti
     Answers gives setup r reply s t → r ≡ Stop → ⊥
 goes_on gives setup Stop reply s t (asked e a h i) is = a
 goes_on gives setup Stop reply s t (unasked a h) is = a
+goes_on gives setup Stop reply s t (of_sum m a h) is = a
 goes_on gives setup (Put x y z) reply s t h is = cc
 goes_on gives setup (Cell x y) reply s t h is = cc
 goes_on gives setup (Row x) reply s t h is = cc
@@ -24,6 +25,8 @@ goes_on gives setup Export reply s t h is = cc
 goes_on gives setup Save reply s t h is = cc
 goes_on gives setup (PutCells x y z) reply s t h is = cc
 goes_on gives setup Stored reply s t h is = cc
+goes_on gives setup (Range x y z n) reply s t h is = cc
+goes_on gives setup (Top x n) reply s t h is = cc
 
 pub none_stops : {S : Type 0} (gives : S → Event → S → Type 0) (setup : Setting) (s t : S) (rs : List Request)
     (bytes : List ℕ) → AnswersAll gives setup s rs bytes t → GoOn rs

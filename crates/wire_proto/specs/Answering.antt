@@ -3,11 +3,12 @@
 --     RefusesText     the text is refused, with this code and detail, before the keeper is asked
 --     PutsCells       the cells of a PutCells make a matrix of the setup's dimensions, and this is their batch
 --     RefusesCells    the cells are refused, with this code and detail, before the keeper is asked
---     Asks            the calls of a keeper that a request leads to
+--     Asks            the calls of a keeper that a request leads to. A Range and a Top ask for the sum; what they are
+--                     answered of it, once it is there, Tells says (specs/Questions.antt)
 --     Refuses         the replies that a request gets without a call
 --     Answers         a request gets this reply, and leads the keeper from one state to another
 --     RunsOut         memory ran out for this request, before the call that it leads to or in it
-use Rattle.std.specs.Prelude.{◌≡◌, ℕ, ◌+◌, ◌<◌, ◌≤◌, ◌^◌, List, length, Option, Some, None, Result}
+use Rattle.std.specs.Prelude.{◌≡◌, ◌⊎◌, ℕ, ◌+◌, ◌<◌, ◌≤◌, ◌^◌, List, length, Option, Some, None, Result, Ok, Err}
 use Rattle.std.specs.declared.alloc.AllocError.{AllocError}
 use Rattle.cells.specs.declared.cell.Cell.{Cell}
 use Rattle.mm_text.specs.Texts.{Spells, FirstFault}
@@ -25,9 +26,10 @@ use Rattle.plain_engine.specs.declared.status.Status.{Status as Counted}
 use Rattle.wire_proto.specs.CellBytes.{cells_of}
 use Rattle.wire_proto.specs.Keeping.{Event, put, cell, row, status, export, save, stored}
 use Rattle.wire_proto.specs.Replies.{reply_of, refused}
+use Rattle.wire_proto.specs.Questions.{AreBounds, IsCount, Tells}
 use Rattle.wire_frames.specs.declared.request.Request.{Request}
 use Rattle.wire_frames.specs.declared.request.Request.TheVariants.{Put, Cell as CellAt, Row, Status, Export, Save, Stop}
-use Rattle.wire_frames.specs.declared.request.Request.TheVariants.{PutCells, Stored}
+use Rattle.wire_frames.specs.declared.request.Request.TheVariants.{PutCells, Stored, Range, Top}
 use Rattle.wire_proto.specs.declared.keeper.PutRefusal.{PutRefusal}
 use Rattle.wire_proto.specs.declared.keeper.SaveRefusal.{SaveRefusal}
 
@@ -94,6 +96,9 @@ Asks setup (PutCells client n bytes) e =
     (batch : Submission) × (answer : Result Kept PutRefusal) × PutsCells setup client n bytes batch ×
     (e ≡ put batch answer)
 Asks setup Stored e = (s : Counted) × (e ≡ stored s)
+Asks setup (Range rows cols start most) e =
+    AreBounds setup rows cols × IsCount most × (lack : AllocError) × (e ≡ export (Err lack))
+Asks setup (Top by most) e = (by ≤ 1) × IsCount most × (lack : AllocError) × (e ≡ export (Err lack))
 
 abbrev pub Refuses : Setting → Request → List ℕ → Type 0
 Refuses setup (Put client n bytes) reply =
@@ -107,12 +112,17 @@ Refuses setup Stop reply = ⊥
 Refuses setup (PutCells client n bytes) reply =
     (code : ℕ) × (detail : ℕ) × RefusesCells setup bytes code detail × (reply ≡ refused code detail)
 Refuses setup Stored reply = ⊥
+Refuses setup (Range rows cols start most) reply =
+    ((AreBounds setup rows cols → ⊥) × (reply ≡ refused 41 0))
+    ⊎ (AreBounds setup rows cols × (IsCount most → ⊥) × (reply ≡ refused 44 0))
+Refuses setup (Top by most) reply = ((by ≤ 1) × IsCount most → ⊥) × (reply ≡ refused 44 0)
 
 -- `gives s e t`: the keeper may answer this call in state s, and then stands in state t.
 pub data Answers {S : Type 0} (gives : S → Event → S → Type 0) (setup : Setting) (r : Request) (reply : List ℕ)
     (s t : S) : Type 0 where
   asked : (e : Event) → Asks setup r e → gives s e t → reply_of e ≡ Some reply → Answers gives setup r reply s t
   unasked : Refuses setup r reply → t ≡ s → Answers gives setup r reply s t
+  of_sum : (m : Matrix) → Tells setup r m reply → gives s (export (Ok m)) t → Answers gives setup r reply s t
 
 pub data RunsOut {S : Type 0} (gives : S → Event → S → Type 0) (setup : Setting) (r : Request) (s t : S) : Type 0 where
   before_call : t ≡ s → RunsOut gives setup r s t

@@ -1,7 +1,7 @@
 -- Cells as the body of a PutCells has them: for each its row, its column and its count, and nothing between.
 --     cells_of        the cells that bytes spell
 --     spelled_cells   the bytes of a list of cells
-use Rattle.std.specs.Prelude.{◌≡◌, ℕ, ◌+◌, ◌*◌, ◌/◌, ◌<◌, ◌^◌, List, ◌++◌, length, map, flat_map}
+use Rattle.std.specs.Prelude.{ℕ, ◌+◌, ◌*◌, ◌/◌, ◌<◌, ◌^◌, List, ◌++◌, length, map, flat_map}
 use Rattle.std.specs.List.{range_with_len}
 use Rattle.cells.specs.declared.cell.Cell.{Cell}
 use Rattle.wire_frames.specs.Frames.{number, number_at}

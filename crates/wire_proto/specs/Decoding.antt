@@ -1,13 +1,14 @@
 -- What the bytes of a reply say.
 --     Said            a reply, as a client sees it
 --     IsReplyFrame    these bytes are one whole frame, that of this reply
-use Rattle.std.specs.Prelude.{◌≡◌, ℕ, ◌<◌, ◌≤◌, ◌^◌, ◌==◌, ◌&&◌, Bool, if◌then◌else◌, List, length, take, slice_index}
+use Rattle.std.specs.Prelude.{◌≡◌, ℕ, ◌<◌, ◌≤◌, ◌^◌, ◌%◌, ◌==◌, ◌&&◌, Bool, if◌then◌else◌, List, ◌∷◌, length, take, slice_index}
 use Rattle.std.specs.Prelude.{Option, Some, None}
 use Rattle.std.specs.Int.{w16, from_be_bytes}
 use Rattle.hyper_rows.specs.declared.search.RowSum.{RowSum}
 use Rattle.batch_store.specs.declared.verdict.Kept.{Kept}
 use Rattle.plain_engine.specs.declared.status.Status.{Status}
-use Rattle.wire_frames.specs.Frames.{number_at}
+use Rattle.wire_frames.specs.Frames.{frame, number_at}
+use Rattle.wire_proto.specs.Questions.{more_byte}
 use Rattle.wire_proto.specs.Replies as frames
 use Rattle.wire_proto.specs.declared.decoding.Reply.{Reply}
 use Rattle.wire_proto.specs.declared.decoding.Reply.TheVariants as reply
@@ -21,6 +22,8 @@ pub data Said : Type 0 where
   saved : ℕ → Said
   stopping : Said
   refused : ℕ → ℕ → Said
+  cells : Bool → List ℕ → Said
+  rows : List ℕ → Said
 
 abbrev pub said : Reply → Said
 said (reply.Accepted kept) = accepted kept
@@ -31,6 +34,12 @@ said (reply.Text bytes) = text bytes.now
 said (reply.Saved batches) = saved batches
 said reply.Stopping = stopping
 said (reply.Refused code detail) = refused code detail
+said (reply.Cells more cell_bytes) = cells more cell_bytes.now
+said (reply.Rows row_bytes) = rows row_bytes.now
+
+-- 24 bytes for each cell, or row, of which there are at most 1,000,000
+abbrev pub AreWhole : List ℕ → Type 0
+AreWhole bytes = (length bytes % 24 ≡ 0) × (length bytes ≤ 24000000)
 
 -- the numbers fit their places, and a text its body
 abbrev pub FitsReply : Said → Type 0
@@ -43,6 +52,8 @@ FitsReply (text bytes) = length bytes ≤ 67108864
 FitsReply (saved batches) = batches < 2 ^ 64
 FitsReply stopping = Unit {0}
 FitsReply (refused code detail) = (code < 2 ^ 16) × (detail < 2 ^ 64)
+FitsReply (cells more bytes) = AreWhole bytes
+FitsReply (rows bytes) = AreWhole bytes
 
 abbrev pub reply_frame : Said → List ℕ
 reply_frame (accepted kept) = frames.accepted kept
@@ -53,12 +64,14 @@ reply_frame (text bytes) = frames.text bytes
 reply_frame (saved batches) = frames.saved batches
 reply_frame stopping = frames.stopping
 reply_frame (refused code detail) = frames.refused code detail
+reply_frame (cells more bytes) = frame 136 (more_byte more ∷ bytes)
+reply_frame (rows bytes) = frame 137 bytes
 
 pub record IsReplyFrame (bytes : List ℕ) (r : Said) : Type 0 where
   pub fits : FitsReply r
   pub spelled : bytes ≡ reply_frame r
 
--- whether a body of this length fits the kind of a reply but a text
+-- whether a body of this length fits the kind of a reply but a text, cells and rows
 unfoldable pub short_fits : ℕ → ℕ → Bool
 short_fits kind len =
     if (kind == 129) then (len == 16)

@@ -2,6 +2,8 @@ pub mod CellBytes
 pub mod Keeping
 pub mod TextSizes
 pub mod Replies
+pub mod Questions
+pub mod LongReplies
 pub mod Answering
 pub mod PutTexts
 pub mod Closing

@@ -24,7 +24,7 @@ use Rattle.plain_engine.specs.declared.fault.PutFault.TheVariants.{RecordsDiffer
 use Rattle.wire_frames.specs.declared.request.Request.{Request}
 use Rattle.wire_frames.specs.declared.request.Request.TheVariants as asked_for
 use Rattle.wire_proto.specs.Keeping.{Event, put, settled}
-use Rattle.wire_proto.specs.Replies.{accepted, refused, put_reply}
+use Rattle.wire_proto.specs.Replies.{accepted, refused}
 use Rattle.wire_proto.specs.Answering.{PutsBatch, PutsCells, Refuses}
 use Rattle.wire_proto.specs.Closing.{Sends, ClosesBehind}
 use Rattle.wire_proto.specs.declared.ended.Ended.{Ended}

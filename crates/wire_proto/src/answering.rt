@@ -13,7 +13,7 @@ use crate::ended::Ended;
 use crate::held::{Held, send_held};
 use crate::keeper::Keeper;
 use crate::replies::{refused, stopping};
-use crate::sending::{close, send_reply, send_sum};
+use crate::sending::{close, send_answer, send_sum};
 use byte_io::{Link, Sink};
 use std::alloc::Global;
 use wire_frames::{FrameFault, Frames, Request};
@@ -72,7 +72,7 @@ pub fn answer<L: Sink, K: Keeper>(
         return answer_export(alloc, link, keeper, written);
     }
     match ask(alloc, keeper, request) {
-        Ok(reply) => send_reply(link, &reply, written),
+        Ok(reply) => send_answer(link, &reply, written),
         Err(_) => Err(close(link, &refused(1, 0), written, Ended::Memory)),
     }
 }

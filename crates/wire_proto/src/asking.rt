@@ -1,5 +1,6 @@
 //! Asks the keeper what a request asks, and spells the reply.
-ghost use Rattle.std.specs.Prelude.{◌≡◌, ◌≢◌, ℕ, ◌+◌, ◌<◌, ◌≤◌, Some, None, IfOk, OnErr};
+ghost use Rattle.std.specs.Prelude.{◌≡◌, ◌≢◌, ℕ, ◌+◌, ◌<◌, ◌≤◌, ◌^◌, length, Some, None, IfOk, OnErr};
+ghost use Rattle.wire_proto.specs.LongReplies.{bytes_of};
 ghost use Rattle.wire_proto.specs.Answering.{Answers, RunsOut};
 ghost use Rattle.wire_proto.specs.Sessions.{AsksToPut};
 ghost use Rattle.wire_proto.specs.Settling.{Begins, BeginsOut, begun_as};
@@ -7,6 +8,7 @@ ghost use Rattle.wire_proto.specs.Settling.{Begins, BeginsOut, begun_as};
 use crate::cell_bodies::batch_of_cells;
 use crate::held::Begun;
 use crate::keeper::{Keeper, PutRefusal, SaveRefusal};
+use crate::questions::{Answer, ask_range, ask_top};
 use crate::replies::{Short, counts, refused, row_sum, saved, value};
 use crate::texts::{BodyRefusal, batch_of};
 use batch_store::Kept;
@@ -58,19 +60,20 @@ pub fn ask_stored<K: Keeper>(keeper: &mut K) -> Short
     counts(keeper.stored())
 }
 
-pub fn ask_save<K: Keeper>(alloc: Global, keeper: &mut K) -> Result<Short, AllocError>
+pub fn ask_save<K: Keeper>(alloc: Global, keeper: &mut K) -> Result<Answer, AllocError>
     requires { K.fact keeper.old }
-    ensures reply { IfOk result (λ short. Answers K.gives
-        (K.setup_of keeper.old) Request.Save short.items keeper.old keeper.new) }
+    ensures reply { IfOk result (λ reply. Answers K.gives
+        (K.setup_of keeper.old) Request.Save (bytes_of reply) keeper.old keeper.new) }
+    ensures few { IfOk result (λ reply. length (bytes_of reply) ≤ 2 ^ 27) }
     ensures none { OnErr result (RunsOut K.gives (K.setup_of keeper.old) Request.Save keeper.old keeper.new) }
     ensures fact { K.fact keeper.new }
     ensures setup { K.setup_of keeper.new ≡ K.setup_of keeper.old }
 {
     match keeper.save(alloc) {
-        Ok(batches) => Ok(saved(batches)),
+        Ok(batches) => Ok(Answer::Short(saved(batches))),
         Err(SaveRefusal::Memory) => Err(AllocError),
-        Err(SaveRefusal::SaveOff) => Ok(refused(43, 0)),
-        Err(SaveRefusal::SaveFailed) => Ok(refused(42, 0)),
+        Err(SaveRefusal::SaveOff) => Ok(Answer::Short(refused(43, 0))),
+        Err(SaveRefusal::SaveFailed) => Ok(Answer::Short(refused(42, 0))),
     }
 }
 
@@ -178,24 +181,32 @@ pub fn begin<K: Keeper>(
     }
 }
 
-/// Asks what a request asks that is answered in a few bytes: all but a put, an Export and a Stop.
-pub fn ask<K: Keeper>(alloc: Global, keeper: &mut K, request: Request) -> Result<Short, AllocError>
+/// Asks what a request asks whose reply is made before it is sent: all but a put, an Export and a Stop.
+pub fn ask<K: Keeper>(alloc: Global, keeper: &mut K, request: Request) -> Result<Answer, AllocError>
     requires fact { K.fact keeper.old }
     requires query { AsksToPut request → ⊥ }
     requires short { request ≢ Request.Export }
     requires goes_on { request ≢ Request.Stop }
-    ensures reply { IfOk result (λ short. Answers K.gives (K.setup_of keeper.old) request
-        short.items keeper.old keeper.new) }
+    ensures reply { IfOk result (λ reply. Answers K.gives (K.setup_of keeper.old) request
+        (bytes_of reply) keeper.old keeper.new) }
+    ensures few { IfOk result (λ reply. length (bytes_of reply) ≤ 2 ^ 27) }
     ensures none { OnErr result (RunsOut K.gives (K.setup_of keeper.old) request keeper.old keeper.new) }
     ensures fact { K.fact keeper.new }
     ensures setup { K.setup_of keeper.new ≡ K.setup_of keeper.old }
 {
     match request {
-        Request::Cell { row, col } => Ok(ask_cell(keeper, row, col)),
-        Request::Row { row } => Ok(ask_row(keeper, row)),
-        Request::Status => Ok(ask_status(keeper)),
+        Request::Cell { row, col } => Ok(Answer::Short(ask_cell(keeper, row, col))),
+        Request::Row { row } => Ok(Answer::Short(ask_row(keeper, row))),
+        Request::Status => Ok(Answer::Short(ask_status(keeper))),
         Request::Save => ask_save(alloc, keeper),
-        Request::Stored => Ok(ask_stored(keeper)),
+        Request::Stored => Ok(Answer::Short(ask_stored(keeper))),
+        Request::Range {
+            rows,
+            cols,
+            start,
+            most,
+        } => ask_range(alloc, keeper, rows, cols, start, most),
+        Request::Top { by, most } => ask_top(alloc, keeper, by, most),
         Request::Put { .. } | Request::PutCells { .. } | Request::Export | Request::Stop => {
             unreachable!()
         }

@@ -2,20 +2,22 @@
 //!
 //! A reply has one encoding. So a frame is read by its kind, what it would say is encoded again, and only where that
 //! gives the same bytes is it a reply.
-ghost use Rattle.std.specs.Prelude.{◌≡◌, ◌≤◌, length, true, Some, IfSome};
+ghost use Rattle.std.specs.Prelude.{◌≡◌, ◌≤◌, ◌↔◌, length, true, Some, IfSome, IsTrue};
 ghost use Rattle.std.specs.Option.{option_map};
 ghost use Rattle.wire_frames.specs.Frames.{number_at, head_kind};
 ghost use Rattle.wire_proto.specs.Decoding.{Said, said, reply_frame, FitsReply, IsReplyFrame, short_fits, body_says};
-ghost use Rattle.wire_proto.specs.Decoding.{value_at, code_at};
+ghost use Rattle.wire_proto.specs.Decoding.{value_at, code_at, AreWhole};
 
+use crate::limits::MOST_BYTES;
 use crate::replies::{
-    Short, accepted, counts, refused, row_sum, saved, stopping, text_head, value,
+    Short, accepted, cells_head, counts, refused, row_sum, rows_head, saved, stopping, text_head,
+    value,
 };
 use batch_store::Kept;
 use bytes::Buf;
 use hyper_matrix::RowSum;
 use plain_engine::Status;
-use wire_frames::{HEAD, MAX_BODY};
+use wire_frames::{CELL, HEAD, MAX_BODY};
 
 /// What a server answers.
 #[derive(Clone, Copy, Debug, PartialEq, Eq)]
@@ -36,9 +38,13 @@ pub enum Reply<'a> {
     Stopping,
     /// The request was refused.
     Refused { code: u16, detail: u64 },
+    /// Cells, 24 bytes each: row, column and count. Whether there are more.
+    Cells { more: bool, cells: &'a [u8] },
+    /// Rows, 24 bytes each: row, entries and total.
+    Rows(&'a [u8]),
 }
 
-/// Whether a body of this length fits the kind of a reply but a text.
+/// Whether a body of this length fits the kind of a reply but a text, cells and rows.
 #[tactic(auto, unfolding(crate::specs::Decoding::short_fits))]
 fn fits(kind: u8, len: usize) -> bool
     ensures { result ≡ short_fits kind len }
@@ -161,6 +167,55 @@ fn text_in(bytes: &[u8]) -> Option<Reply<'_>>
     }
 }
 
+/// Whether bytes are as many as those of cells or rows that a reply may tell.
+fn are_whole(bytes: &[u8]) -> bool
+    ensures { IsTrue result ↔ AreWhole bytes.now }
+{
+    bytes.len() % CELL == 0 && bytes.len() <= MOST_BYTES
+}
+
+/// The reply that tells cells.
+fn cells_in(bytes: &[u8]) -> Option<Reply<'_>>
+    requires long { 5 ≤ length bytes.now }
+    requires kind { head_kind bytes.now ≡ 136 }
+    ensures some { IfSome result (λ r. IsReplyFrame bytes.now (said r)) }
+    ensures only { (r : Said) → IsReplyFrame bytes.now r → option_map said result ≡ Some r }
+{
+    let (head, body) = bytes.split_at(HEAD);
+    let Some((mark, cells)) = body.split_first() else {
+        return None;
+    };
+    if *mark > 1 || !are_whole(cells) {
+        return None;
+    }
+    if head == cells_head(body.len() as u32).as_slice() {
+        Some(Reply::Cells {
+            more: *mark == 1,
+            cells,
+        })
+    } else {
+        None
+    }
+}
+
+/// The reply that tells rows.
+fn rows_in(bytes: &[u8]) -> Option<Reply<'_>>
+    requires long { 5 ≤ length bytes.now }
+    requires kind { head_kind bytes.now ≡ 137 }
+    ensures some { IfSome result (λ r. IsReplyFrame bytes.now (said r)) }
+    ensures only { (r : Said) → IsReplyFrame bytes.now r → option_map said result ≡ Some r }
+{
+    let (head, body) = bytes.split_at(HEAD);
+    if !are_whole(body) {
+        return None;
+    }
+    if head == rows_head(body.len() as u32).as_slice() {
+        Some(Reply::Rows(body))
+    } else {
+        None
+    }
+}
+
 /// The reply of one whole frame; None where the bytes are anything else, a byte less or more too. Reads a text no
 /// further than its head, and takes no memory.
 pub fn decode_reply(bytes: &[u8]) -> Option<Reply<'_>>
@@ -173,6 +228,12 @@ pub fn decode_reply(bytes: &[u8]) -> Option<Reply<'_>>
     let kind = bytes[4];
     if kind == 0x85 {
         return text_in(bytes);
+    }
+    if kind == 0x88 {
+        return cells_in(bytes);
+    }
+    if kind == 0x89 {
+        return rows_in(bytes);
     }
     let (_, body) = bytes.split_at(HEAD);
     if !fits(kind, body.len()) {

@@ -128,3 +128,17 @@ pub fn text_head(len: u32) -> Short
 {
     start(0x85, len)
 }
+
+/// The head of a reply that tells cells.
+pub fn cells_head(len: u32) -> Short
+    ensures { result.items ≡ head_bytes 136 len }
+{
+    start(0x88, len)
+}
+
+/// The head of a reply that tells rows.
+pub fn rows_head(len: u32) -> Short
+    ensures { result.items ≡ head_bytes 137 len }
+{
+    start(0x89, len)
+}

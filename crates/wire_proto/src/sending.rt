@@ -2,12 +2,14 @@
 ghost use Rattle.std.specs.Prelude.{◌≡◌, ◌+◌, ◌<◌, ◌≤◌, ◌^◌, length, IfOk, OnErr};
 ghost use Rattle.merged_cells.specs.Within.{LieWithin};
 ghost use Rattle.wire_proto.specs.Closing.{Closes, Sends};
+ghost use Rattle.wire_proto.specs.LongReplies.{bytes_of};
 ghost use Rattle.mm_laws.specs.MatrixText.{matrix_text};
 ghost use Rattle.wire_proto.specs.TextSizes.{IsSizeOf};
 ghost use Rattle.wire_proto.specs.Replies.{text as text_of, text_reply};
 
 use crate::ended::Ended;
 use crate::exporting::{TextSize, text_size, write_text};
+use crate::questions::Answer;
 use crate::replies::{Short, refused, text_head};
 use byte_io::{Sink, write_all};
 use merged_cells::MergedCells;
@@ -34,6 +36,16 @@ pub fn send_reply<L: Sink>(link: &mut L, reply: &Short, written: u128) -> Result
     requires room { written + 2 ^ 27 < 2 ^ 128 }
     ensures sends { Sends L.write_takes L.failure_count link.old link.new reply.now.items written result }
     ensures short { length reply.now.items ≤ 2 ^ 27 }
+{
+    send(link, reply.as_slice(), written)
+}
+
+/// Sends a reply that was made before.
+pub fn send_answer<L: Sink>(link: &mut L, reply: &Answer, written: u128) -> Result<u128, Ended>
+    requires ready { L.failure_count link.old + 1 < 2 ^ 64 }
+    requires few { length (bytes_of reply.now) ≤ 2 ^ 27 }
+    requires room { written + 2 ^ 27 < 2 ^ 128 }
+    ensures { Sends L.write_takes L.failure_count link.old link.new (bytes_of reply.now) written result }
 {
     send(link, reply.as_slice(), written)
 }

@@ -34,6 +34,10 @@ pub enum Ask {
     Save,
     Stop,
     Stored,
+    /// The first and the last row, the same of columns, the start place, and how many cells.
+    Range([(u64, u64); 3], u64),
+    /// By what, and how many rows.
+    Top(u8, u64),
     /// These bytes, in hexadecimal digits.
     Raw(&'static str),
 }
@@ -120,6 +124,13 @@ fn short_request(ask: Ask) -> Option<Request>
         Ask::Save => Some(Request::Save),
         Ask::Stop => Some(Request::Stop),
         Ask::Stored => Some(Request::Stored),
+        Ask::Range([rows, cols, start], most) => Some(Request::Range {
+            rows,
+            cols,
+            start,
+            most,
+        }),
+        Ask::Top(by, most) => Some(Request::Top { by, most }),
         Ask::Put(..) | Ask::Text(..) | Ask::Cells(..) | Ask::Raw(_) => None,
     }
 }

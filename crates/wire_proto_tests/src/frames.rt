@@ -50,7 +50,15 @@ static HEADERS: &[(&str, Result<Option<u8>, FrameFault>)] = &[
     ("00000000 09", Ok(Some(9))),
     ("00000001 09", Err(FrameFault::BadLength)),
     ("04000001 09", Err(FrameFault::TooLarge)),
-    ("00000000 0a", Err(FrameFault::UnknownKind)),
+    ("00000038 0a", Ok(None)),
+    ("00000037 0a", Err(FrameFault::BadLength)),
+    ("00000039 0a", Err(FrameFault::BadLength)),
+    ("00000000 0a", Err(FrameFault::BadLength)),
+    ("04000001 0a", Err(FrameFault::TooLarge)),
+    ("00000009 0b", Ok(None)),
+    ("00000008 0b", Err(FrameFault::BadLength)),
+    ("0000000a 0b", Err(FrameFault::BadLength)),
+    ("00000000 0d", Err(FrameFault::UnknownKind)),
     ("01000000 81", Err(FrameFault::UnknownKind)),
     ("00000010 81", Err(FrameFault::UnknownKind)),
     ("00000000 ff", Err(FrameFault::UnknownKind)),
@@ -67,6 +75,8 @@ fn kind(request: &Request) -> u8 {
         Request::Stop => 7,
         Request::PutCells { .. } => 8,
         Request::Stored => 9,
+        Request::Range { .. } => 10,
+        Request::Top { .. } => 11,
     }
 }
 
@@ -207,6 +217,12 @@ static SPELLED: &[(Ask, &str)] = &[
     (Ask::Save, "00000000 06"),
     (Ask::Stop, "00000000 07"),
     (Ask::Stored, "00000000 09"),
+    (
+        Ask::Range([(1, 2), (3, 4), (5, 6)], 7),
+        "00000038 0a 0000000000000001 0000000000000002 0000000000000003 0000000000000004
+         0000000000000005 0000000000000006 0000000000000007",
+    ),
+    (Ask::Top(1, 258), "00000009 0b 01 0000000000000102"),
     (
         Ask::Cells(9, 1, &[(0, 1, 5), (2, 0, u64::MAX)]),
         "00000040 08 0000000000000009 0000000000000001

@@ -20,6 +20,8 @@ mod hex;
 #[cfg(test)]
 mod large;
 #[cfg(test)]
+mod questions;
+#[cfg(test)]
 mod replies;
 #[cfg(test)]
 mod sessions;

@@ -153,6 +153,20 @@ static CASES: &[Case] = &[
         Ended::Memory,
     ),
     (
+        PutRefusal::Put(PutFault::Memory),
+        Ok(0),
+        Ask::Range([(0, 2), (0, 2), (0, 0)], 1),
+        "0000000a ff 0001 0000000000000000",
+        Ended::Memory,
+    ),
+    (
+        PutRefusal::Put(PutFault::Memory),
+        Ok(0),
+        Ask::Top(0, 1),
+        "0000000a ff 0001 0000000000000000",
+        Ended::Memory,
+    ),
+    (
         PutRefusal::Put(PutFault::RecordsDiffer),
         Ok(0),
         PUT,

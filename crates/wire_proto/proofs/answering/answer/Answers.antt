@@ -11,9 +11,9 @@ returns-in-Stop-clause-err g c = λ kept rest h.
 
 pub returns-in-Ok : goal.returns-in-Ok
 returns-in-Ok g c = record {
-  ok = sends_answered _ _ _ _ _ _ _ _ _ _ _ _ c.in-Ok.ensures.reply c.send_reply.ensures.short
-      c.send_reply.ensures.sends;
-  err = sends_ended _ _ _ _ _ _ _ _ _ _ _ _ c.in-Ok.ensures.reply c.send_reply.ensures.sends;
+  ok = sends_answered _ _ _ _ _ _ _ _ _ _ _ _ c.in-Ok.ensures.reply c.in-Ok.ensures.few
+      c.send_answer.ensures;
+  err = sends_ended _ _ _ _ _ _ _ _ _ _ _ _ c.in-Ok.ensures.reply c.send_answer.ensures;
   fact = c.ask.ensures.fact;
   setup = c.ask.ensures.setup;
 }

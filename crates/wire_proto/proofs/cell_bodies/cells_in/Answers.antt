@@ -1,4 +1,4 @@
-use Rattle.std.proofs.Common.{◌∙◌, ◌/◌, length, arith}
+use Rattle.std.proofs.Common.{◌∙◌, arith}
 use Rattle.wire_proto.proofs.CellLemmas.{cells_are, next_cell}
 use Rattle.wire_proto.proofs.cell_bodies.cells_in.Goals as goal
 

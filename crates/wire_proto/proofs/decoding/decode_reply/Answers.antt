@@ -17,20 +17,31 @@ pub returns-then-not-fits-clause-only : goal.returns-then-not-fits-clause-only
 unfolding head_kind
 returns-then-not-fits-clause-only c = λ r h.
     let yes = c.fits.ensures ∙ ap (short_fits _) (ap length c.split_at.ensures.back) ∙
-    decoded_fits c.args.bytes.now r h c.if-kind.false in
+    decoded_fits c.args.bytes.now r h
+    (record { no_text = c.if-kind.false; no_cells = c.if-kind-2.false; no_rows = c.if-kind-3.false }) in
     let no = c.if-not-fits.true in absurd (cc)
 
 pub returns-then-eq-clause-only : goal.returns-then-eq-clause-only
 unfolding head_kind
 returns-then-eq-clause-only c = λ r h.
     ap (λ v. Some v) (c.open-encoded.ensures.says ∙ ap (body_says _) c.split_at.ensures.back ∙
-    decoded_says c.args.bytes.now r h c.if-kind.false)
+    decoded_says c.args.bytes.now r h
+    (record { no_text = c.if-kind.false; no_cells = c.if-kind-2.false; no_rows = c.if-kind-3.false }))
 
 pub returns-else-eq-clause-only : goal.returns-else-eq-clause-only
 unfolding head_kind
 returns-else-eq-clause-only c = λ r h.
     let says = c.open-encoded.ensures.says ∙ ap (body_says _) c.split_at.ensures.back ∙
-    decoded_says c.args.bytes.now r h c.if-kind.false in
+    decoded_says c.args.bytes.now r h
+    (record { no_text = c.if-kind.false; no_cells = c.if-kind-2.false; no_rows = c.if-kind-3.false }) in
     let same = c.as_slice.ensures.value ∙ c.open-encoded.ensures.encoded ∙ ap reply_frame says ∙ sym h.spelled in
     let yes = c.eq.ensures ∙ (bytes_eq-Decides _ _).1 same in
     let no = c.if-eq.false in absurd (cc)
+
+pub cells_in-requires-clause-kind : goal.cells_in-requires-clause-kind
+unfolding head_kind
+cells_in-requires-clause-kind c = c.if-kind-2.true
+
+pub rows_in-requires-clause-kind : goal.rows_in-requires-clause-kind
+unfolding head_kind
+rows_in-requires-clause-kind c = c.if-kind-3.true

@@ -1,4 +1,4 @@
-use Rattle.std.proofs.Common.{◌≡◌, ◌+◌, refl, sym, ◌∙◌, ap, subst, length, map, arith}
+use Rattle.std.proofs.Common.{◌+◌, refl, sym, ◌∙◌, ap, subst, length, map, arith}
 use Rattle.std.specs.FinMap.{entries, len, len-entries}
 use Rattle.hyper_matrix.specs.Counts.{Counts}
 use Rattle.std.specs.List.{AllByRecursion}

@@ -1,4 +1,4 @@
-use Rattle.std.proofs.Common.{ℕ, ◌+◌, ◌∙◌, List, [], ◌∷◌, ◌++◌, take, get_or, sym, subst, arith}
+use Rattle.std.proofs.Common.{ℕ, ◌∙◌, List, [], ◌∷◌, ◌++◌, take, get_or, sym, subst, arith}
 use Rattle.std.proofs.lemmas.List.{take_more}
 use Rattle.wire_proto.specs.declared.held.Begun.{Begun}
 use Rattle.wire_proto.specs.declared.held.Begun.TheVariants.{Accepted}

@@ -1,4 +1,4 @@
-use Rattle.std.proofs.Common.{List, ℕ, subst, sym, ◌∙◌, arith}
+use Rattle.std.proofs.Common.{List, ℕ, subst, arith}
 use Rattle.wire_proto.specs.Closing.{Sends}
 use Rattle.mm_laws.specs.MatrixText.{matrix_text}
 use Rattle.wire_proto.proofs.AskLemmas.{text_carried, text_refused}

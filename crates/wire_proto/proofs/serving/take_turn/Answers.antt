@@ -1,5 +1,4 @@
-use Rattle.std.proofs.Common.{◌<◌, ◌++◌, length, [], sym, ◌∙◌, ap, arith, IfOk, IfErr, subst}
-use Rattle.std.proofs.lemmas.List.{drop_all}
+use Rattle.std.proofs.Common.{◌<◌, ◌++◌, length, sym, ◌∙◌, arith, IfOk, IfErr, subst}
 use Rattle.wire_proto.specs.Sessions.{Carries, CarriesToEnd}
 use Rattle.wire_proto.proofs.LinkLemmas.{none_given}
 use Rattle.wire_proto.proofs.SessionLemmas.{fails_to_read, rests_read, carries_turn, ends_turn}
