@@ -5,7 +5,7 @@ import argparse
 import importlib
 import sys
 import threading
-from typing import Any, Optional
+from typing import Any, Iterable, Optional
 
 from hhm_client import MAX_BODY, Client, Ended, Refused, address, number
 
@@ -13,12 +13,15 @@ from hhm_client import MAX_BODY, Client, Ended, Refused, address, number
 TIMEOUT, SAVE_TIMEOUT = 60, 600
 SPLIT = "put it as several batches, as the word load does with files of events"
 TOO_LONG = "the text has more than 64 MiB: save, and take the snapshot (`hhm export`, `hhmc --from`)"
-ADVICE = {"TooManyEntries": f": {SPLIT}", "ReplyTooLarge": f": {TOO_LONG}"}
+UNKNOWN = "the server is of an earlier version, which doesn't know this question"
+ADVICE = {"TooManyEntries": f": {SPLIT}", "ReplyTooLarge": f": {TOO_LONG}", "UnknownKind": f": {UNKNOWN}"}
+# The words that ask for long, and so tell only that they wait for a connection.
+LONG = ("load", "top", "list", "plot")
 KEPT_RUNNING = ": nothing was stopped; `stop --discard` stops the server without what it can't save"
 
 
 def module_of(name: str) -> Any:
-    """A module with further words, hhm_load or hhm_plot, where it stands beside this one."""
+    """A module with further words, as hhm_load, where it stands beside this one."""
     try:
         return importlib.import_module(name)
     except ImportError:
@@ -45,6 +48,12 @@ def parser() -> argparse.ArgumentParser:
         module.add_words(asked.add_parser("load", help="puts the events of files, in batches that count once"))
     if module := module_of("hhm_plot"):
         module.add_words(asked.add_parser("plot", help="draws degrees, or where cells are"))
+    if module := module_of("hhm_ask"):
+        module.add_words(asked)
+    if module := module_of("hhm_watch"):
+        module.add_words(asked.add_parser("watch", help="shows on a terminal what the server does"))
+    if module := module_of("hhm_metrics"):
+        module.add_words(asked.add_parser("metrics", help="tells it to Prometheus, and on a page for a browser"))
     cell = asked.add_parser("cell", help="the count of a cell, or the line `none`")
     cell.add_argument("row", type=number)
     cell.add_argument("col", type=number)
@@ -81,9 +90,11 @@ def stop(hhm: Client, discards: bool) -> None:
 
 
 def answer(hhm: Client, given: argparse.Namespace, text: bytes) -> bytes:
-    """Does what the command line asks, and gives what is to be printed."""
+    """Does what a word asks that has one answer, and gives what is to be printed."""
     if given.word == "load":
         return module_of("hhm_load").load(hhm, given).encode()
+    if given.word == "plot":
+        return module_of("hhm_plot").plot(hhm, given).encode()
     if given.word == "put":
         return b"index %d total_after %d\n" % hhm.put_text(given.number, text)
     if given.word == "cell":
@@ -95,7 +106,7 @@ def answer(hhm: Client, given: argparse.Namespace, text: bytes) -> bytes:
         return b"batches %d total %d\n" % hhm.status()
     if given.word == "stored":
         return b"batches %d total %d\n" % hhm.stored()
-    if given.word in ("export", "plot"):
+    if given.word == "export":
         return hhm.export()
     if given.word == "save":
         return b"saved %d\n" % hhm.save()
@@ -103,10 +114,14 @@ def answer(hhm: Client, given: argparse.Namespace, text: bytes) -> bytes:
     return b"stopping\n"
 
 
-def asked(given: argparse.Namespace) -> bytes:
-    """Asks, and tells after two seconds that it waits; a load, which tells how far it is, only for a connection."""
+def asked(given: argparse.Namespace) -> Iterable[bytes]:
+    """Asks, gives what is to be printed, piece by piece, and tells after two seconds that it waits for an answer."""
     if given.source is not None:
-        return module_of("hhm_plot").plot(None, given).encode()
+        yield module_of("hhm_plot").plot(None, given).encode()
+        return
+    if given.word in ("watch", "metrics"):
+        yield from module_of(f"hhm_{given.word}").run(given)
+        return
     text = text_to_put(given.file) if given.word == "put" else b""
     place = given.unix if given.tcp is None else given.tcp
     client = given.client if given.word in ("put", "load") else 0
@@ -116,7 +131,7 @@ def asked(given: argparse.Namespace) -> bytes:
     hhm = Client(tcp=given.tcp, unix=given.unix, client=client, **limits)
 
     def tell() -> None:
-        if given.word != "load" or hhm._link is None:
+        if given.word not in LONG or hhm._link is None:
             print(f"waiting for the server at {place}", file=sys.stderr, flush=True)
 
     waits = threading.Timer(2, tell)
@@ -124,10 +139,12 @@ def asked(given: argparse.Namespace) -> bytes:
     waits.start()
     try:
         with hhm:
-            found = answer(hhm, given, text)
+            if answers := getattr(module_of("hhm_ask"), "ANSWERS", {}).get(given.word):
+                yield from answers(hhm, given)
+            else:
+                yield answer(hhm, given, text)
     finally:
         waits.cancel()
-    return module_of("hhm_plot").plot(found, given).encode() if given.word == "plot" else found
 
 
 def main() -> int:
@@ -138,8 +155,9 @@ def main() -> int:
     if given.source is not None and given.word != "plot":
         words.error(f"--from is for plot: give --tcp or --unix for {given.word}")
     try:
-        sys.stdout.buffer.write(asked(given))
-        sys.stdout.buffer.flush()
+        for piece in asked(given):
+            sys.stdout.buffer.write(piece)
+            sys.stdout.buffer.flush()
     except Ended as ended:
         print(ended, file=sys.stderr)
         return ended.status

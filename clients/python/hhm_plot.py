@@ -19,7 +19,7 @@ from collections import Counter
 from typing import Callable, Dict, Iterable, List, NamedTuple, Optional, Sequence, Tuple
 
 from hhm_cells import NoSum, Sum, read_sum, sum_of
-from hhm_client import Arrays, Ended
+from hhm_client import Arrays, Client, Ended
 from hhm_sheet import Dots, Grid, Line, Marks, Page, Place, Shape, Words, width_of, write
 
 ENTRIES, TOTAL = "entries", "total"
@@ -405,10 +405,10 @@ def page_of(total: Sum, given: argparse.Namespace) -> Page:
     return spy_page(part, rows, cols, given.by, given.ip)
 
 
-def total_of(text: Optional[bytes], given: argparse.Namespace) -> Sum:
-    """The sum of a server's text, or of the file that is given. An Ended where it can't be read."""
+def total_of(hhm: Optional[Client], given: argparse.Namespace) -> Sum:
+    """The sum of a server, or of the file that is given. An Ended where it can't be read."""
     try:
-        total = read_sum(io.BytesIO(text)) if text is not None else sum_of(given.source, given.program)
+        total = read_sum(io.BytesIO(hhm.export())) if hhm is not None else sum_of(given.source, given.program)
     except NoSum as fault:
         raise Ended(fault.status, str(fault)) from None
     except FileNotFoundError as fault:
@@ -420,12 +420,12 @@ def total_of(text: Optional[bytes], given: argparse.Namespace) -> Sum:
     return total
 
 
-def plot(text: Optional[bytes], given: argparse.Namespace) -> str:
-    """Does what the word `plot` asks, with a server's export or the file that is given, and gives the line that is to
-    be printed."""
+def plot(hhm: Optional[Client], given: argparse.Namespace) -> str:
+    """Does what the word `plot` asks, of a server or of the file that is given, and gives the line that is to be
+    printed."""
     if given.what == "degrees" and (given.rows or given.cols or given.whole or given.ip):
         raise Ended(2, "--rows, --cols, --whole and --ip are for the picture spy")
-    total = total_of(text, given)
+    total = total_of(hhm, given)
     write(page_of(total, given), given.out, given.dark)
     cells = total.cells
     return (f"cells {len(cells.counts)} rows {len(set(cells.rows))} cols {len(set(cells.cols))} "
