@@ -14,6 +14,7 @@ import struct
 import sys
 
 import server
+from hhm_client import Client
 from clients import build
 from peers import Driver, Liar, Proxy, run
 from server import Server, check
@@ -172,9 +173,11 @@ def the_command_line_asks():
         why = "refused: UnknownKind: the server is of an earlier version, which doesn't know this question\n"
         for words in ["stats", "top rows", "list 1"]:
             check(f"hhmc {words}, of an earlier server", hhmc(at, *words.split()), ("", why, 1))
-    with StandIn(stats={"batches": 0}) as at:
-        why = "failed: the server doesn't tell its numbers of rows and columns: give the bounds of both\n"
-        check("hhmc list, without dimensions", hhmc(at, "list", "1"), ("", why, 4))
+    for stats, size in [({"batches": 0}, (5, 1 << 60)), (None, (1, 1)), (None, (1 << 60, 1000)), ({"rows": 7}, (7, 7))]:
+        with StandIn(stats=stats, size=size) as at, Client(unix=at.path) as hhm:
+            check(f"dimensions that aren't told: {size}", hhm.size(), size)
+            at.put([(0, col, 1) for col in range(min(size[1], 3))])
+            check("all cells of them", len(list(hhm.range(page=1))), min(size[1], 3))
 
 
 def all_are_tried():

@@ -75,6 +75,8 @@ class StandIn(Peer):
             return server.refused(51)
         if kind == 8:
             return self.take(tuple(numbers[:2]), list(zip(*[iter(numbers[2:])] * 3)))
+        if kind in (2, 3) and any(number >= most for number, most in zip(numbers, self.size)):
+            return server.refused(41)
         if kind == 2:
             count = self.cells.get(tuple(numbers))
             return frame(0x82, bytes(9) if count is None else struct.pack(">BQ", 1, count))

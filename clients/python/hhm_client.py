@@ -38,6 +38,7 @@ a connection of its own.
 """
 import argparse
 import array
+import contextlib
 import errno
 import itertools
 import os
@@ -54,8 +55,8 @@ Selector = getattr(selectors, "PollSelector", selectors.SelectSelector)
 
 MAX_BODY = 67_108_864
 MAX_CELLS = 1_048_576
-# The cells of a page of a range, where nothing else is said; a page, and a top, has at most a million.
-PAGE = 10_000
+# The cells of a page of a range, where nothing else is said, and the most of it, and of the rows of a top.
+PAGE, MAX_PAGE = 10_000, 1_000_000
 # The most batches that `put_all` has on the way: the replies to so many fit into any socket's buffer.
 MAX_DEPTH = 128
 # The bytes of replies that are read at once while a request is sent.
@@ -237,7 +238,12 @@ def top_of(body: bytes, most: int, by: str) -> List[TopRow]:
 
 def order_of(row: TopRow, by: str) -> Place:
     """What the rows of a top stand in order of: the highest first, and of equal ones the lowest row."""
-    return -(row.total if by == "total" else row.entries), row.row
+    return -number_by(row, by), row.row
+
+
+def number_by(row: TopRow, by: str) -> int:
+    """The number that a row leads by."""
+    return row.total if by == "total" else row.entries
 
 
 def stats_of(body: bytes) -> Dict[str, Union[int, float, str]]:
@@ -260,6 +266,21 @@ def value_of(word: str) -> Union[int, float, str]:
     if not (whole.isdigit() and (part.isdigit() or not point)):
         return word
     return float(word) if point else int(word)
+
+
+def least_refused(ask: Callable[[int], Any]) -> int:
+    """The least number, from 1 to 2^60, that is answered by OutOfRange, where each higher one is too."""
+    answered, refused = 0, 1 << 60
+    while refused - answered > 1:
+        middle = (answered + refused) // 2
+        try:
+            ask(middle)
+            answered = middle
+        except Refused as why:
+            if why.name != "OutOfRange":
+                raise
+            refused = middle
+    return refused
 
 
 def host_and_port(word: str) -> Tuple[str, int]:
@@ -602,12 +623,15 @@ class Client:
         return self._ask_for(request(STATS), TOLD, stats_of)
 
     def size(self) -> Tuple[int, int]:
-        """The server's numbers of rows and columns, as its stats tell them."""
-        stats = self.stats()
-        found = stats.get("rows"), stats.get("cols", stats.get("columns"))
-        if not all(isinstance(number, int) for number in found):
-            raise ValueError("the server doesn't tell its numbers of rows and columns: give the bounds of both")
-        return found
+        """The server's numbers of rows and columns, as its stats tell them; of one that doesn't tell them, found by
+        asking for cells: the first that is out of range."""
+        stats: Dict[str, Any] = {}
+        with contextlib.suppress(Refused):
+            stats = self.stats()
+        rows, cols = stats.get("rows"), stats.get("cols", stats.get("columns"))
+        if isinstance(rows, int) and isinstance(cols, int):
+            return rows, cols
+        return least_refused(lambda row: self.cell(row, 0)), least_refused(lambda col: self.cell(0, col))
 
     def export(self) -> bytes:
         """The text of the sum of all accepted batches; `cells_of` reads it."""
