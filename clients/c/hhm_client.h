@@ -127,7 +127,10 @@ typedef enum {
     HHM_HALF,
     HHM_FULL,
     HHM_OUT_OF_RANGE,
-    HHM_BAD_SUM
+    HHM_BAD_SUM,
+    /* Of several servers by source: which rows lead isn't told by the first HHM_MOST_PAGE of each, since rows that none
+       has among these may have as much in all. */
+    HHM_UNDECIDED
 } hhm_result;
 
 /* What this client's replies said of the accepted batches, and what a server that went back says of them. */

@@ -24,6 +24,7 @@
 // A program uses some of it.
 #![allow(dead_code)]
 
+use std::cmp::Ordering;
 use std::collections::VecDeque;
 use std::fmt;
 use std::io::{self, Read, Write};
@@ -937,15 +938,17 @@ fn top_of(body: &[u8], most: u64, by: By) -> Option<Vec<TopRow>> {
             total,
         })
         .collect();
-    let is_in_order = rows.windows(2).all(|it| leads(&it[0], &it[1], by));
+    let is_in_order = rows
+        .windows(2)
+        .all(|it| order_of(&it[0], &it[1], by).is_lt());
     let has_entries = rows.iter().all(|it| it.entries > 0);
     (rows.len() as u64 <= most && is_in_order && has_entries).then_some(rows)
 }
 
-/// Whether a row stands before another one in a top.
-pub(super) fn leads(one: &TopRow, other: &TopRow, by: By) -> bool {
-    let (high, low) = (one.number(by), other.number(by));
-    high > low || (high == low && one.row < other.row)
+/// The order of the rows of a top: the highest number first, and of equal ones the lowest row.
+pub(super) fn order_of(one: &TopRow, other: &TopRow, by: By) -> Ordering {
+    let numbers = other.number(by).cmp(&one.number(by));
+    numbers.then(one.row.cmp(&other.row))
 }
 
 /// The names of a reply to a Stats with their values; nothing where it can't be one.
