@@ -24,7 +24,7 @@ from hhm_figures import Degrees, LABELLED, Moment, Watched
 from hhm_page import PAGE
 from hhm_watch import (
     BACK, CELLS, DURABLE, FAILED, GROUP, MEMORY, OPEN, PAGES, PROCESSOR, REPEATS, SAVED, SAVES, SERVED, SINCE, SYNCS,
-    UPTIME, WAITING, WORKERS, lacking, refusals_of, refused_of, seconds,
+    UPTIME, WAITING, WORKERS, words_of, lacking, refusals_of, refused_of, seconds,
 )
 
 # The looks for whose time nothing is said of the time between two of them, where so much lies between, and the seconds
@@ -74,7 +74,7 @@ class Looker:
                     self.degrees = time.time(), degrees
             fault = None
         except (OSError, Refused) as why:
-            fault = str(why)
+            fault = words_of(why)
         with self.lock:
             self.fault = fault
 
@@ -114,7 +114,7 @@ def page_stats(looker: Looker, since: float, is_ip: bool) -> Dict[str, Any]:
     moments, seen = looker.moments(), looker.seen
     last = moments[-1] if moments else None
     told: Dict[str, Any] = {
-        "place": seen.place, "is_ip": is_ip, "fault": looker.fault, "answered": last.at if last else None,
+        "place": seen.place, "now": time.time(), "is_ip": is_ip, "fault": looker.fault, "answered": last.at if last else None,
         "series": series_of(moments, since, GAP * looker.every), "lacking": [it.partition(":")[0] for it in lacking(seen)],
     }
     if last is None:

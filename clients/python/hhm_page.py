@@ -95,7 +95,7 @@ const at = (id) => document.getElementById(id);
 function big(number) {
   if (number === null || number === undefined) return "?";
   if (typeof number === "string") return number.replace(/\B(?=(\d{3})+(?!\d))/g, ",");
-  return number.toLocaleString("en", {maximumFractionDigits: Math.abs(number) < 10 ? 1 : 0});
+  return number.toLocaleString("en", {maximumFractionDigits: Math.abs(number) < 10 ? 2 : 0});
 }
 function bytes(number) {
   let unit = 0;
@@ -154,7 +154,7 @@ function highest(numbers) {
 function summary(numbers, told) {
   const known = numbers.filter((it) => it !== null);
   if (!known.length) return "nothing yet";
-  return "now " + told(known[known.length - 1]) + ", least " + told(Math.min(...known)) + ", most " +
+  return "last " + told(known[known.length - 1]) + ", least " + told(Math.min(...known)) + ", most " +
     told(Math.max(...known));
 }
 function minutes(series, told) {
@@ -179,11 +179,11 @@ function drawLines(id, title, series, told) {
     return;
   }
   const width = Math.max(260, at(id).clientWidth - 26), height = 190, left = 62, right = 10, top = 8, bottom = 22;
-  const end = kept.at[kept.at.length - 1], most = highest(series.flatMap((it) => it.values));
+  const end = Math.max(last.now, kept.at[kept.at.length - 1]), most = highest(series.flatMap((it) => it.values));
   const span = Math.min(KEPT, Math.max(60, end - kept.at[0]));
   const x = (time) => left + (width - left - right) * (1 - (end - time) / span);
   const y = (value) => height - bottom - (height - top - bottom) * value / most;
-  const label = title + " over the last ten minutes: " +
+  const label = title + ", over ten minutes at most: " +
     series.map((it) => (series.length > 1 ? it.name + " " : "") + summary(it.values, told)).join("; ");
   const picture = shape("svg", {viewBox: `0 0 ${width} ${height}`, role: "img", "aria-label": label});
   for (let part = 0; part <= 4; part += 1) {
@@ -248,7 +248,8 @@ function drawDegrees(degrees) {
   for (let power = 0; power <= wide; power += 1) {
     picture.append(shape("line", {class: power ? "grid" : "axis", y1: top, y2: height - bottom, x1: x(10 ** power),
       x2: x(10 ** power)}));
-    picture.append(shape("text", {x: x(10 ** power), y: height - bottom + 15, "text-anchor": "middle"}, short(power)));
+    picture.append(shape("text", {x: x(10 ** power), y: height - bottom + 15, "text-anchor": power === wide ? "end" :
+      "middle"}, short(power)));
   }
   picture.append(shape("text", {x: (left + width - right) / 2, y: height - 5, "text-anchor": "middle"},
     "entries of a row (up to twice as many)"));
@@ -290,8 +291,8 @@ function drawLayers(layers) {
   })]);
   lines.unshift([cell("All"), ...sums.map((sum) => cell(big(sum)))]);
   const runs = layers.some((it) => it[3] !== null) ? ", in so many runs" : "";
-  fill("layers", "Layers of each shard", table("Entries at most" + runs + "; a bar compares the shards of a layer",
-    ["", ...levels.map((level) => "Layer " + level)], lines));
+  fill("layers", "Layers of each shard", el("p", {class: "quiet"}, "Entries at most" + runs +
+    "; a bar compares the shards of a layer."), table("", ["", ...levels.map((level) => "Layer " + level)], lines));
 }
 function drawTold(stats) {
   if (!stats.length) { at("told").hidden = true; return; }

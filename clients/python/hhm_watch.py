@@ -184,6 +184,11 @@ def own_screen() -> Iterator[None]:
         sys.stdout.flush()
 
 
+def words_of(fault: Exception) -> str:
+    """Why there is no answer."""
+    return (isinstance(fault, OSError) and fault.strerror) or str(fault)
+
+
 def look(seen: Watched, given: argparse.Namespace, is_screen: bool) -> List[str]:
     """The lines of a look at the server, or that it is gone."""
     try:
@@ -192,7 +197,7 @@ def look(seen: Watched, given: argparse.Namespace, is_screen: bool) -> List[str]
     except (OSError, Refused) as fault:
         if given.once:
             raise
-        return [f"server {seen.place}", f"no answer: {fault}", time.strftime("%H:%M:%S")]
+        return [f"server {seen.place}", f"no answer: {words_of(fault)}", time.strftime("%H:%M:%S")]
     if is_screen:
         return screen_of(seen, moment, top, given.ip, shutil.get_terminal_size().columns)
     return lines_of(seen, moment, top, given.ip)
