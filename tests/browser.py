@@ -84,6 +84,7 @@ class Browser:
 
     def open(self, url):
         self.ask("Page.navigate", url=url)
+        self.until(f"location.href.startsWith({json.dumps(url)}) && document.readyState === 'complete'")
 
     def value(self, script):
         """The value of an expression of the page."""

@@ -151,7 +151,7 @@ def metrics_of(looker: Looker) -> str:
                 families.setdefault(found.group("name"), []).append(f"hhm_{name} {value}")
     lines = []
     for name, samples in families.items():
-        kind = "counter" if name.endswith("_total") else "gauge"
+        kind = "counter" if f"hhm_{name}".endswith("_total") else "gauge"
         lines += [f"# HELP hhm_{name} {HELP.get(name, help_of(name))}", f"# TYPE hhm_{name} {kind}", *samples]
     return "\n".join(lines) + "\n"
 

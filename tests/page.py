@@ -1,0 +1,146 @@
+"""Opens the page of `hhmc metrics` in Chromium, and compares its numbers with the server's (watching.py runs it)."""
+import contextlib
+import os
+import re
+import time
+
+import browser
+import server
+from server import Server, check
+
+LARGE = ["--rows", str(1 << 32), "--cols", str(1 << 32)]
+ADDRESS = 10 << 24
+STATE = "document.getElementById('state')"
+TILES = ("Object.fromEntries([...document.querySelectorAll('#tiles div')].map((it) => [it.querySelector('dt')"
+         ".textContent, it.querySelector('dd').firstChild.textContent]))")
+
+
+def contrast(one, other):
+    """How much two colours `rgb(r, g, b)` differ, as the accessibility guidelines of the web have it."""
+
+    def light(colour):
+        parts = [int(it) / 255 for it in re.findall(r"\d+", colour)[:3]]
+        linear = [it / 12.92 if it <= 0.04045 else ((it + 0.055) / 1.055) ** 2.4 for it in parts]
+        return 0.2126 * linear[0] + 0.7152 * linear[1] + 0.0722 * linear[2]
+
+    low, high = sorted((light(one), light(other)))
+    return (high + 0.05) / (low + 0.05)
+
+
+def table_of(page, part, rows):
+    """The rows of the table of a part of the page, once there are so many."""
+    lines = f"[...document.querySelectorAll('#{part} tbody tr')]"
+    page.until(f"{lines}.length === {rows}")
+    return page.value(f"{lines}.map((it) => [...it.children].map((it) => it.textContent))")
+
+
+def numbers_are_the_servers(page, at, metrics):
+    """Each number of the page is the server's, empty and with batches."""
+    page.open(metrics.url)
+    check("page: answers", page.until(f"{STATE}.textContent.startsWith('The server answers.')"), True)
+    check("page: an empty server", page.value(TILES)["Batches"], "0")
+    check("page: no row", page.until("document.querySelector('#top').textContent.includes('No row has an entry.')"), True)
+    cells = [(ADDRESS + row, col, row) for row in range(1, 9) for col in range(1 << row - 1)]
+    with at.client(8) as hhm:
+        for number in range(40):
+            hhm.put(number, cells)
+        check("page: batches", page.until(f"{TILES}['Batches'] === '40'"), True)
+        check("page: events", page.value(TILES)["Events"], f"{40 * sum(cell[2] for cell in cells):,}")
+        rows = [[f"10.0.0.{row}", f"{1 << row - 1}", f"{40 * row << row - 1:,}"] for row in range(8, 0, -1)]
+        page.until(f"document.querySelector('#top tbody tr')?.textContent === '{''.join(rows[0])}'")
+        check("page: top", table_of(page, "top", 8), rows)
+        page.value("document.getElementById('ip').click()")
+        check("page: numbers", [it[0] for it in table_of(page, "top", 8)], [str(ADDRESS + row) for row in range(8, 0, -1)])
+        wanted = ["1", "2 to 3", "4 to 7", "8 to 15", "16 to 31", "32 to 63", "64 to 127", "128 to 255"]
+        check("page: degrees", table_of(page, "degrees", 8), [[words, "1"] for words in wanted])
+        check("page: a rate", page.until("Math.max(...kept.batches.filter((it) => it !== null)) > 0"), True)
+        stats_are_told(page, hhm)
+    pictures_have_tables(page)
+
+
+def stats_are_told(page, hhm):
+    """The table of all that the server tells has its names, and the numbers that don't change by being asked."""
+    stats = hhm.stats()
+    found = dict(table_of(page, "told", len(stats)))
+    check("page: names", sorted(found), sorted(stats))
+    for name in ("version", "batches", "total", "rows", "cols"):
+        check(f"page: {name}", found.get(name), str(stats.get(name)))
+    entries = {name: value for name, value in stats.items() if name.startswith("shard_layer_entries{")}
+    shards = {re.search('shard="([0-9]+)"', name).group(1) for name in entries}
+    first = table_of(page, "layers", len(shards) + 1)[0]
+    check("page: layers", sum(int(it.replace(",", "")) for it in first[1:]), sum(entries.values()))
+
+
+def pictures_have_tables(page):
+    """Each picture says what it shows, and a table with the same numbers stands behind it."""
+    pictures = page.value("[...document.querySelectorAll('section:not([hidden]) svg')].map((it) => ["
+                          "it.getAttribute('role'), it.getAttribute('aria-label').length > 20, "
+                          "it.closest('section').querySelectorAll('details table tbody tr').length > 0])")
+    check("page: pictures", (len(pictures) >= 4, {tuple(it) for it in pictures}), (True, {("img", True, True)}))
+    check("page: headings", page.value("document.querySelectorAll('h1').length"), 1)
+    check("page: each part has a name", page.value("[...document.querySelectorAll('section:not([hidden])')]"
+                                                   ".every((it) => it.querySelector('h2').textContent.length > 3)"), True)
+
+
+def it_is_readable(page):
+    """On a light and a dark ground, and on a phone, where nothing is wider than the screen."""
+    for is_dark in (False, True):
+        page.look(1200, 1400, is_dark)
+        time.sleep(0.3)
+        for part in ("body", "#state", "#tiles dt", "#tiles dd", "h2", "#top td", "#batches svg text"):
+            colours = page.value(f"""(() => {{
+                const it = document.querySelector('{part}'), style = getComputedStyle(it);
+                let at = it, ground = 'rgba(0, 0, 0, 0)';
+                while (at && ground === 'rgba(0, 0, 0, 0)') {{
+                    ground = getComputedStyle(at).backgroundColor;
+                    at = at.parentElement;
+                }}
+                return [it.namespaceURI.endsWith('svg') ? style.fill : style.color, ground];
+            }})()""")
+            check(f"page: {part} can be read, dark {is_dark}: {colours}", contrast(*colours) >= 4.5, True)
+    for width in (390, 320):
+        page.look(width, 800)
+        time.sleep(0.3)
+        wide = page.value("document.documentElement.scrollWidth")
+        check(f"page: as wide as a phone of {width}: {wide}", wide <= width, True)
+    page.look(1200, 1400)
+
+
+def a_save_is_told(page, at):
+    with at.client(8) as hhm:
+        check("page: a save", hhm.save(), 40)
+    check("page: the save", page.until(f"({TILES}['Last save'] || '').endsWith(' ago')"), True)
+
+
+def it_says_that_a_server_is_gone(page, at, metrics, words):
+    at.process.kill()
+    at.process.wait()
+    check("page: gone", page.until(f"{STATE}.className === 'bad'"), True)
+    told = re.sub(r"\d\d:\d\d:\d\d", "TIME", page.value(f"{STATE}.textContent"))
+    check("page: it says so", told, "No answer from the server since TIME: Connection refused. What is shown is from then.")
+    check("page: metrics say so", metrics.samples(), {"hhm_up": "0"})
+    with Server(words, tcp=False) as other:
+        check("page: back", page.until(f"{STATE}.className === ''"), True)
+        check("page: what was saved", page.until(f"{TILES}['Batches'] === '40'"), True)
+        with other.client(9) as hhm:
+            hhm.put(1, [(0, 0, 1)])
+        check("page: one more", page.until(f"{TILES}['Batches'] === '41'"), True)
+
+
+def is_tried(metrics_of):
+    program = browser.found()
+    if program is None:
+        print("not tried: the page of hhmc metrics in a browser: no Chromium is installed")
+        return
+    words = [*LARGE, "--snapshot", os.path.join(server.FOLDER, "page.snap")]
+    with contextlib.ExitStack() as stack:
+        at = stack.enter_context(Server(words, tcp=False))
+        metrics = stack.enter_context(metrics_of(at.path, "--ip"))
+        page = stack.enter_context(browser.Browser(program))
+        numbers_are_the_servers(page, at, metrics)
+        it_is_readable(page)
+        a_save_is_told(page, at)
+        it_says_that_a_server_is_gone(page, at, metrics, words)
+        check("page: no error in its console", page.faults, [])
+        asked = {it.partition("?")[0] for it in page.asked} - {"data:,"}
+        check("page: asks nobody else", asked, {metrics.url, metrics.url + "stats.json"})
