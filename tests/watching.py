@@ -17,9 +17,13 @@ import sys
 import time
 import urllib.error
 import urllib.request
+import xml.etree.ElementTree
 
 import page
 import server
+from hhm_client import Status
+from hhm_figures import Moment, rate_of
+from hhm_rates import rates_of
 from peers import WAIT, run, until
 from server import Server, check
 from stand_in import StandIn
@@ -213,11 +217,40 @@ def a_server_is_watched():
     check("watch: gone", (output, status), ("", 4))
 
 
+def rates_are_drawn():
+    """Rates of looks that are worked out by hand; and a picture of the built program, whose line says what was put."""
+    looks = [Moment(at, Status(batches, 10 * batches), {}, 0.0, 0.0) for at, batches in [(5, 0), (6, 8), (8, 10), (9, 3)]]
+    rates = rates_of(looks, [it.batches() for it in looks])
+    check("rates: by hand", (rates.at, rates.values), ([1, 3, 4], [8, 1, 0]))
+    check("rates: over the last seconds", rate_of(looks[:3], Moment.batches, 2.0), 1)
+    check("rates: over more", rate_of(looks[:3], Moment.total, 5.0), 100 / 3)
+    with Server(LARGE, tcp=False) as at, at.client(8) as hhm:
+        path = os.path.join(server.FOLDER, "rates.svg")
+        words = [*HHMC, "--unix", at.path, "plot", "rates", "--seconds", "3", path]
+        with subprocess.Popen(words, stdout=subprocess.PIPE, stderr=subprocess.PIPE, text=True) as drawing:
+            for number in range(12):
+                hhm.put(number, [(number, 0, 5)])
+                time.sleep(0.2)
+            output, error = drawing.communicate(timeout=WAIT)
+        told = re.fullmatch(r"seconds 3 batches (\d+) total (\d+)\n", output)
+        check("rates: the line", (told is not None, error, drawing.returncode), (True, "", 0))
+        batches, total = map(int, told.groups())
+        check("rates: what was put", (0 < batches <= 12, total), (True, 5 * batches))
+        drawn = xml.etree.ElementTree.parse(path).getroot()
+        check("rates: the title", drawn[0].text, f"Accepted in 3 seconds: {batches} batches, {total} events")
+    for words, wanted in [(["--from", path, "plot", "rates", path], "rates are those of a server that runs: "),
+                          (["--unix", "x", "plot", "spy", "--seconds", "3", path], "--seconds is for the picture rates"),
+                          (["--unix", "x", "plot", "rates", "--ip", path], "--rows, --cols, --whole and --ip are for ")]:
+        output, error, status = run([*HHMC, *words])
+        check(f"rates: {words[2:]}", (output, error.startswith(wanted), status), ("", True, 2))
+
+
 def all_are_tried():
     what_a_server_tells_is_told()
     an_earlier_server_is_told()
     a_browser_is_answered()
     a_server_is_watched()
+    rates_are_drawn()
     page.is_tried(Metrics)
 
 

@@ -47,7 +47,7 @@ def parser() -> argparse.ArgumentParser:
     if module := module_of("hhm_load"):
         module.add_words(asked.add_parser("load", help="puts the events of files, in batches that count once"))
     if module := module_of("hhm_plot"):
-        module.add_words(asked.add_parser("plot", help="draws degrees, or where cells are"))
+        module.add_words(asked.add_parser("plot", help="draws degrees, where cells are, or rates"))
     if module := module_of("hhm_ask"):
         module.add_words(asked)
     if module := module_of("hhm_watch"):

@@ -128,19 +128,21 @@ class Seldom:
         return self.answer
 
 
-class Watched:
-    """A server that is looked at. `look` may be called from one thread at a time."""
+def asking(tcp: Optional[str], unix: Optional[str], timeout: Optional[float]) -> Client:
+    """A client that doesn't wait for a server that is gone."""
+    return Client(tcp=tcp, unix=unix, timeout=TIMEOUT if timeout is None else timeout, attempts=1)
 
-    def __init__(self, tcp: Optional[str], unix: Optional[str], timeout: Optional[float] = None, most: int = 10):
-        self.place = f"unix:{unix}" if tcp is None else tcp
-        self.hhm = Client(tcp=tcp, unix=unix, timeout=timeout or TIMEOUT, attempts=1)
+
+class Watched:
+    """A server that is looked at by a client. `look` may be called from one thread at a time."""
+
+    def __init__(self, hhm: Client, most: int = 10):
+        self.place = f"unix:{hhm.unix}" if hhm.tcp is None else hhm.tcp
+        self.hhm = hhm
         self.moments: Deque[Moment] = deque(maxlen=KEPT)
         self.unknown: Dict[str, bool] = {}
         self._top = Seldom(lambda: self.hhm.top(most), PAUSE, SHARE)
         self._degrees = Seldom(self._ask_degrees, LONG_PAUSE, LONG_SHARE)
-
-    def close(self) -> None:
-        self.hhm.close()
 
     def look(self) -> Moment:
         """Asks the server, and keeps what it tells. An OSError where it doesn't answer; the next look asks anew."""

@@ -20,7 +20,7 @@ from typing import Any, Dict, Iterable, List, Optional, Tuple
 from urllib.parse import parse_qs, urlsplit
 
 from hhm_client import Refused, TopRow
-from hhm_figures import Degrees, LABELLED, Moment, Watched
+from hhm_figures import LABELLED, Degrees, Moment, Watched, asking
 from hhm_page import PAGE
 from hhm_watch import (
     BACK, CELLS, DURABLE, FAILED, GROUP, MEMORY, OPEN, PAGES, PROCESSOR, REPEATS, SAVED, SAVES, SERVED, SINCE, SYNCS,
@@ -220,7 +220,7 @@ class Web(ThreadingHTTPServer):
 
 def run(given: argparse.Namespace) -> Iterable[bytes]:
     """Listens, says where, and serves until it is ended."""
-    looker = Looker(Watched(given.tcp, given.unix, given.timeout), given.every)
+    looker = Looker(Watched(asking(given.tcp, given.unix, given.timeout)), given.every)
     handler = type("Own", (Handler,), {"looker": looker, "is_ip": given.ip})
     host, port = given.listen
     try:

@@ -1,4 +1,5 @@
-"""Pictures of a sum: how its degrees are distributed, and where its cells are. Python's standard library alone.
+"""Pictures of a sum: how its degrees are distributed, and where its cells are; and of what a server accepts over time
+(hhm_rates.py). Python's standard library alone.
 
 This is the word `plot` of `hhm_client.py`:
 
@@ -20,6 +21,8 @@ from typing import Callable, Dict, Iterable, List, NamedTuple, Optional, Sequenc
 
 from hhm_cells import NoSum, Sum, read_sum, sum_of
 from hhm_client import Arrays, Client, Ended
+from hhm_figures import Moment
+from hhm_rates import looked_at, rates_page
 from hhm_sheet import Dots, Grid, Line, Marks, Page, Place, Shape, Words, width_of, write
 
 ENTRIES, TOTAL = "entries", "total"
@@ -362,6 +365,14 @@ def span_of(word: str) -> Span:
     return span
 
 
+def seconds(word: str) -> float:
+    """A time of the command line, from a second to a day."""
+    value = float(word)
+    if not 1 <= value <= 86_400:
+        raise argparse.ArgumentTypeError(f"{word} isn't from 1 to 86400")
+    return value
+
+
 def picture(word: str) -> str:
     """The path of a picture, which tells its form."""
     if not word.endswith((".svg", ".png")):
@@ -371,7 +382,8 @@ def picture(word: str) -> str:
 
 def add_words(plot: argparse.ArgumentParser) -> None:
     """Adds the words of `plot` to those of the command line."""
-    plot.add_argument("what", choices=("degrees", "spy"), help="the distribution of degrees, or where cells are")
+    what = "the distribution of degrees, where cells are, or what a server accepts in a second"
+    plot.add_argument("what", choices=("degrees", "spy", "rates"), help=what)
     plot.add_argument("out", type=picture, metavar="OUT.svg|OUT.png", help="the picture, which is written anew")
     by = "by numbers of cells, or by totals of counts (entries)"
     plot.add_argument("--by", choices=(ENTRIES, TOTAL), default=ENTRIES, help=by)
@@ -380,6 +392,7 @@ def add_words(plot: argparse.ArgumentParser) -> None:
     plot.add_argument("--cols", type=span_of, metavar="A-B", help="spy: these columns")
     plot.add_argument("--whole", action="store_true", help="spy: all rows and columns, where none are given")
     plot.add_argument("--ip", action="store_true", help="spy: tells rows and columns as IPv4 addresses")
+    plot.add_argument("--seconds", type=seconds, metavar="N", help="rates: for how long the server is looked at (60)")
     plot.add_argument("--dark", action="store_true", help="on a dark ground (an SVG else follows its viewer)")
     plot.add_argument("--program", metavar="FILE", default="hhm", help="the hhm that reads the file of --from (hhm)")
 
@@ -420,11 +433,30 @@ def total_of(hhm: Optional[Client], given: argparse.Namespace) -> Sum:
     return total
 
 
+def plot_rates(hhm: Optional[Client], given: argparse.Namespace) -> str:
+    """Looks at a server for a while, and draws what it accepted."""
+    if hhm is None:
+        raise Ended(2, "rates are those of a server that runs: give --tcp or --unix")
+    given.seconds = given.seconds or 60.0
+    moments, place = looked_at(hhm, given)
+    write(rates_page(moments, place), given.out, given.dark)
+    first, last = moments[0].status, moments[-1].status
+    return f"seconds {last_at(moments)} batches {last.batches - first.batches} total {last.total - first.total}\n"
+
+
+def last_at(moments: Sequence[Moment]) -> int:
+    return round(moments[-1].at - moments[0].at)
+
+
 def plot(hhm: Optional[Client], given: argparse.Namespace) -> str:
     """Does what the word `plot` asks, of a server or of the file that is given, and gives the line that is to be
     printed."""
-    if given.what == "degrees" and (given.rows or given.cols or given.whole or given.ip):
+    if given.what != "spy" and (given.rows or given.cols or given.whole or given.ip):
         raise Ended(2, "--rows, --cols, --whole and --ip are for the picture spy")
+    if given.seconds is not None and given.what != "rates":
+        raise Ended(2, "--seconds is for the picture rates")
+    if given.what == "rates":
+        return plot_rates(hhm, given)
     total = total_of(hhm, given)
     write(page_of(total, given), given.out, given.dark)
     cells = total.cells

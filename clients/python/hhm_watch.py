@@ -18,7 +18,7 @@ from typing import Iterable, Iterator, List, Optional
 
 from hhm_ask import address_of
 from hhm_client import CODES, Refused, TopRow
-from hhm_figures import Layer, Moment, Watched
+from hhm_figures import Layer, Moment, Watched, asking
 
 # The names of stats that are shown, each with what it may be called.
 CELLS = ("cells_total",)
@@ -205,7 +205,7 @@ def look(seen: Watched, given: argparse.Namespace, is_screen: bool) -> List[str]
 
 def run(given: argparse.Namespace) -> Iterable[bytes]:
     """Looks once a second, and gives what is to be written."""
-    seen = Watched(given.tcp, given.unix, given.timeout)
+    seen = Watched(asking(given.tcp, given.unix, given.timeout))
     if given.once:
         # (a rate needs two looks)
         seen.look()
