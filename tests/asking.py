@@ -120,7 +120,8 @@ LIES = [
 ]
 # What is a reply though it is odd.
 ODD = [
-    (PAGE, reply(0x88, front=b"\0"), "more 0: "), (PAGE, reply(0x88, 3, 3, 0, 4, 2, 1, front=b"\0"), "more 0: 3,3,0 4,2,1"),
+    (PAGE, reply(0x88, front=b"\0"), "more 0: "),
+    (PAGE, reply(0x88, 3, 3, 0, 4, 2, 1, front=b"\0"), "more 0: 3,3,0 4,2,1"),
     (PAGE, reply(0x88, 3, 3, 0, 4, 2, 1, 6, 6, 1, front=b"\1"), "more 1: 3,3,0 4,2,1 6,6,1"),
     (TOP, frame(0x89), ""), (TOP, reply(0x89, 9, 1, 5, 2, 1, 4), "9,1,5 2,1,4"),
     ("stats", frame(0x8A), ""), ("stats", frame(0x8A, b'a_b{c="d e",f=""} 7\nversion 0.1.0\n'),

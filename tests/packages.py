@@ -59,7 +59,7 @@ def by_pip():
     events = os.path.join(server.FOLDER, "events.pairs")
     with open(events, "w") as file:
         file.write("0 1\n2 2\n0 1\n")
-    modules = "import hhm_cells, hhm_client, hhm_load, hhm_plot, hhm_sheet"
+    modules = "import hhm_ask, hhm_cells, hhm_client, hhm_load, hhm_metrics, hhm_plot, hhm_sheet, hhm_watch"
     check("the modules", run([os.path.join(own, "bin", "python"), "-c", modules], cwd=server.FOLDER), ("", "", 0))
     with Server(SMALL, tcp=False) as at:
         load = run([hhmc, "--unix", at.path, "load", "--state", events + ".state", "7", events])

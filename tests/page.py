@@ -39,7 +39,8 @@ def numbers_are_the_servers(page, at, metrics):
     page.open(metrics.url)
     check("page: answers", page.until(f"{STATE}.textContent.startsWith('The server answers.')"), True)
     check("page: an empty server", page.value(TILES)["Batches"], "0")
-    check("page: no row", page.until("document.querySelector('#top').textContent.includes('No row has an entry.')"), True)
+    nothing = "document.querySelector('#top').textContent.includes('No row has an entry.')"
+    check("page: no row", page.until(nothing), True)
     cells = [(ADDRESS + row, col, row) for row in range(1, 9) for col in range(1 << row - 1)]
     with at.client(8) as hhm:
         for number in range(40):
@@ -50,7 +51,8 @@ def numbers_are_the_servers(page, at, metrics):
         page.until(f"document.querySelector('#top tbody tr')?.textContent === '{''.join(rows[0])}'")
         check("page: top", table_of(page, "top", 8), rows)
         page.value("document.getElementById('ip').click()")
-        check("page: numbers", [it[0] for it in table_of(page, "top", 8)], [str(ADDRESS + row) for row in range(8, 0, -1)])
+        numbers = [str(ADDRESS + row) for row in range(8, 0, -1)]
+        check("page: numbers", [it[0] for it in table_of(page, "top", 8)], numbers)
         wanted = ["1", "2 to 3", "4 to 7", "8 to 15", "16 to 31", "32 to 63", "64 to 127", "128 to 255"]
         check("page: degrees", table_of(page, "degrees", 8), [[words, "1"] for words in wanted])
         check("page: a rate", page.until("Math.max(...kept.batches.filter((it) => it !== null)) > 0"), True)
@@ -78,8 +80,8 @@ def pictures_have_tables(page):
                           "it.closest('section').querySelectorAll('details table tbody tr').length > 0])")
     check("page: pictures", (len(pictures) >= 4, {tuple(it) for it in pictures}), (True, {("img", True, True)}))
     check("page: headings", page.value("document.querySelectorAll('h1').length"), 1)
-    check("page: each part has a name", page.value("[...document.querySelectorAll('section:not([hidden])')]"
-                                                   ".every((it) => it.querySelector('h2').textContent.length > 3)"), True)
+    names = "[...document.querySelectorAll('section:not([hidden])')].map((it) => it.querySelector('h2').textContent)"
+    check("page: each part has a name", all(len(name) > 3 for name in page.value(names)), True)
 
 
 def it_is_readable(page):
@@ -117,7 +119,8 @@ def it_says_that_a_server_is_gone(page, at, metrics, words):
     at.process.wait()
     check("page: gone", page.until(f"{STATE}.className === 'bad'"), True)
     told = re.sub(r"\d\d:\d\d:\d\d", "TIME", page.value(f"{STATE}.textContent"))
-    check("page: it says so", told, "No answer from the server since TIME: Connection refused. What is shown is from then.")
+    wanted = "No answer from the server since TIME: Connection refused. What is shown is from then."
+    check("page: it says so", told, wanted)
     check("page: metrics say so", metrics.samples(), {"hhm_up": "0"})
     with Server(words, tcp=False) as other:
         check("page: back", page.until(f"{STATE}.className === ''"), True)

@@ -91,7 +91,7 @@ def answers(metrics):
 
 
 def what_a_server_tells_is_told():
-    """Names that nobody knows, labels, fractions and numbers of 64 bits, as they are; and pieces of the page's answer."""
+    """Names that nobody knows, labels, fractions and numbers of 64 bits, as they are; and what the page asks for."""
     with StandIn(stats=TOLD) as at, Metrics(at.path) as metrics:
         check("told: answers", answers(metrics), None)
         samples = metrics.samples()
@@ -148,7 +148,7 @@ def a_browser_is_answered():
         port = metrics.url.rstrip("/").rpartition(":")[2]
         ran = run([*HHMC, "--unix", at.path, "metrics", "--listen", f"127.0.0.1:{port}"])
         check("http: the same port", ran, ("", f"failed: 127.0.0.1:{port}: Address already in use\n", 4))
-    for words in [["--listen", "nowhere"], ["--listen", "127.0.0.1:x"], ["--listen", "127.0.0.1:65536"], ["--every", "0"]]:
+    for words in [["--listen", "nowhere"], ["--listen", "h:x"], ["--listen", "h:65536"], ["--every", "0"]]:
         output, error, status = run([*HHMC, "--unix", "x", "metrics", *words])
         check(f"metrics {words}", (output, error.startswith("usage"), status), ("", True, 2))
 
@@ -219,10 +219,11 @@ def a_server_is_watched():
 
 def rates_are_drawn():
     """Rates of looks that are worked out by hand; and a picture of the built program, whose line says what was put."""
-    looks = [Moment(at, Status(batches, 10 * batches), {}, 0.0, 0.0) for at, batches in [(5, 0), (6, 8), (8, 10), (9, 3)]]
+    told = [(5, 0), (6, 8), (8, 10), (9, 3)]
+    looks = [Moment(at, Status(batches, 10 * batches), {}, 0.0, 0.0) for at, batches in told]
     rates = rates_of(looks, [it.batches() for it in looks])
     check("rates: by hand", (rates.at, rates.values), ([1, 3, 4], [8, 1, 0]))
-    check("rates: over the last seconds", rate_of(looks[:3], Moment.batches, 2.0), 1)
+    check("rates: over the last second", rate_of(looks[:3], Moment.batches, 1.0), 1)
     check("rates: over more", rate_of(looks[:3], Moment.total, 5.0), 100 / 3)
     with Server(LARGE, tcp=False) as at, at.client(8) as hhm:
         path = os.path.join(server.FOLDER, "rates.svg")

@@ -51,7 +51,8 @@ def top_columns(cells: Iterable[Cell], most: int, by: str) -> List[TopRow]:
 def top(hhm: Client, given: argparse.Namespace) -> Iterable[bytes]:
     spelled: Callable[[int], str] = address_of if given.ip else str
     if given.axis == "cols":
-        print("columns lead by a scan of all cells, which takes a while where there are many", file=sys.stderr, flush=True)
+        told = "columns lead by a scan of all cells, which takes a while where there are many"
+        print(told, file=sys.stderr, flush=True)
         rows = top_columns(hhm.range(page=SCAN), given.most, given.by)
     else:
         rows = hhm.top(given.most, given.by)

@@ -72,8 +72,8 @@ BY = ("total", "entries")
 CODES = {
     1: "Memory", 20: "DimensionsDiffer", 21: "SumTooLarge", 22: "IndexOutOfRange", 23: "TooManyCells",
     30: "NumberReused", 31: "OverTotal", 32: "BookFull", 33: "RecordsDiffer", 34: "LogFull", 35: "LogFailed",
-    40: "ReplyTooLarge", 41: "OutOfRange", 42: "SaveFailed", 43: "SaveOff", 44: "BadCount", 50: "TooLarge", 51: "UnknownKind",
-    52: "BadLength",
+    40: "ReplyTooLarge", 41: "OutOfRange", 42: "SaveFailed", 43: "SaveOff", 44: "BadCount", 50: "TooLarge",
+    51: "UnknownKind", 52: "BadLength",
     103: "BadBanner", 104: "Unsupported", 105: "LineTooLong", 106: "BadSize", 107: "BadDimension",
     108: "NotSquare", 109: "TooManyEntries", 110: "BadEntry", 111: "Negative", 112: "NumberTooLarge",
     113: "IndexOutOfRange", 114: "TooFewEntries", 115: "ExtraText", 116: "TooLong",

@@ -32,6 +32,9 @@ from hhm_watch import (
 GAP, VIEWED = 3.5, 30.0
 # Numbers from here on are no longer whole in a browser.
 EXACT = 1 << 53
+# What the page may load: nothing but its own script, styles and numbers.
+POLICY = ("default-src 'none'; script-src 'unsafe-inline'; style-src 'unsafe-inline'; img-src data:; "
+          "connect-src 'self'; base-uri 'none'; form-action 'none'; frame-ancestors 'none'")
 HELP = {
     "up": "Whether the server answered the last time it was asked.",
     "status_seconds": "How long the last status took, as hhmc metrics measured it.",
@@ -114,17 +117,19 @@ def page_stats(looker: Looker, since: float, is_ip: bool) -> Dict[str, Any]:
     moments, seen = looker.moments(), looker.seen
     last = moments[-1] if moments else None
     told: Dict[str, Any] = {
-        "place": seen.place, "now": time.time(), "is_ip": is_ip, "fault": looker.fault, "answered": last.at if last else None,
-        "series": series_of(moments, since, GAP * looker.every), "lacking": [it.partition(":")[0] for it in lacking(seen)],
+        "place": seen.place, "now": time.time(), "is_ip": is_ip, "fault": looker.fault,
+        "answered": last.at if last else None, "series": series_of(moments, since, GAP * looker.every),
+        "lacking": [it.partition(":")[0] for it in lacking(seen)],
     }
     if last is None:
         return told
     rates = {"batches": Moment.batches, "events": Moment.total, "cells": lambda it: it.number(*CELLS),
              "processor": lambda it: it.number(*PROCESSOR)}
     degrees = looker.degrees
+    numbers = {name: whole(last.number(*names)) for name, names in NUMBERS.items()}
     told.update({
         "version": last.stats.get("version"), "batches": whole(last.batches()), "total": whole(last.total()),
-        "numbers": {**{name: whole(last.number(*names)) for name, names in NUMBERS.items()}, "refused": refused_of(last)},
+        "numbers": {**numbers, "refused": refused_of(last)},
         "refused": [it.rsplit(" ", 1) for it in refusals_of(last)],
         "rates": {name: seen.rate(read, BACK) for name, read in rates.items()},
         "layers": [list(it) for it in last.layers()],
@@ -191,8 +196,7 @@ class Handler(BaseHTTPRequestHandler):
         self.send_header("Content-Length", str(len(body)))
         self.send_header("Cache-Control", "no-store")
         self.send_header("X-Content-Type-Options", "nosniff")
-        own = "default-src 'none'; script-src 'unsafe-inline'; style-src 'unsafe-inline'; img-src data:; connect-src 'self'"
-        self.send_header("Content-Security-Policy", f"{own}; base-uri 'none'; form-action 'none'; frame-ancestors 'none'")
+        self.send_header("Content-Security-Policy", POLICY)
         self.end_headers()
         if self.command != "HEAD":
             self.wfile.write(body)
@@ -247,4 +251,4 @@ def add_words(metrics: argparse.ArgumentParser) -> None:
     listen = "where a browser, or Prometheus, asks (127.0.0.1:9100)"
     metrics.add_argument("--listen", type=listened, default=("127.0.0.1", 9100), metavar="HOST:PORT", help=listen)
     metrics.add_argument("--every", type=seconds, default=1.0, metavar="SECONDS", help="between two looks (1)")
-    metrics.add_argument("--ip", action="store_true", help="the page tells rows as IPv4 addresses, until it is told not to")
+    metrics.add_argument("--ip", action="store_true", help="the page tells rows as IPv4 addresses")

@@ -160,7 +160,8 @@ function summary(numbers, told) {
 function minutes(series, told) {
   const lines = [], end = kept.at[kept.at.length - 1];
   for (let minute = 0; minute < 10; minute += 1) {
-    const those = kept.at.map((time, index) => index).filter((index) => Math.floor((end - kept.at[index]) / 60) === minute);
+    const those = kept.at.map((time, index) => index)
+      .filter((index) => Math.floor((end - kept.at[index]) / 60) === minute);
     if (!those.length) continue;
     const line = [cell(clock(kept.at[those[0]]) + " on")];
     for (const it of series) {
@@ -188,7 +189,8 @@ function drawLines(id, title, series, told) {
   const picture = shape("svg", {viewBox: `0 0 ${width} ${height}`, role: "img", "aria-label": label});
   for (let part = 0; part <= 4; part += 1) {
     const value = most * part / 4;
-    picture.append(shape("line", {class: part ? "grid" : "axis", x1: left, x2: width - right, y1: y(value), y2: y(value)}));
+    const kind = part ? "grid" : "axis";
+    picture.append(shape("line", {class: kind, x1: left, x2: width - right, y1: y(value), y2: y(value)}));
     picture.append(shape("text", {x: left - 6, y: y(value) + 4, "text-anchor": "end"}, told(value)));
   }
   const step = [15, 30, 60, 120, 300].find((it) => span / it <= (width < 420 ? 3 : 5)) || 300;
@@ -231,7 +233,8 @@ function drawLines(id, title, series, told) {
 
 function drawDegrees(degrees) {
   if (!degrees || !degrees.bins.length) { at("degrees").hidden = true; return; }
-  const width = Math.max(260, at("degrees").clientWidth - 26), height = 250, left = 62, right = 14, top = 10, bottom = 38;
+  const width = Math.max(260, at("degrees").clientWidth - 26), height = 250;
+  const left = 62, right = 14, top = 10, bottom = 38;
   const powers = (number) => Math.max(1, Math.ceil(Math.log10(number)));
   const wide = powers(Math.max(...degrees.bins.map((it) => it[1])));
   const high = powers(Math.max(...degrees.bins.map((it) => it[2])));
@@ -257,11 +260,12 @@ function drawDegrees(degrees) {
   picture.append(shape("path", {class: "line first",
     d: "M" + places.map((it) => it[0].toFixed(1) + " " + it[1].toFixed(1)).join("L")}));
   places.forEach((place, index) => picture.append(shape("circle", {class: "mark", cx: place[0].toFixed(1),
-    cy: place[1].toFixed(1), r: 4.5}, shape("title", {}, words(degrees.bins[index]) + ": " + big(degrees.bins[index][2])))));
+    cy: place[1].toFixed(1), r: 4.5}, shape("title", {}, told(degrees.bins[index])))));
+  function told(bin) { return words(bin) + ": " + big(bin[2]); }
   function words(bin) { return bin[0] === bin[1] ? big(bin[0]) : big(bin[0]) + " to " + big(bin[1]); }
   const lines = degrees.bins.map((it) => [cell(words(it)), cell(big(it[2]))]);
-  fill("degrees", "Degrees of rows", picture, el("p", {class: "quiet"}, "Of " + part + ", as of " + clock(degrees.at) + "."),
-    behind("degrees", "As a table", table("Rows by their numbers of entries", ["Entries", "Rows"], lines)));
+  const note = "Of " + part + ", as of " + clock(degrees.at) + ".";
+  fill("degrees", "Degrees of rows", picture, el("p", {class: "quiet"}, note), behind("degrees", "As a table", table("Rows by their numbers of entries", ["Entries", "Rows"], lines)));
 }
 
 // The rest.
@@ -274,8 +278,8 @@ function drawTop(top) {
   box.checked = isIp;
   box.addEventListener("change", () => { isIp = box.checked; drawTop(last.top); at("ip").focus(); });
   const isHere = document.activeElement && document.activeElement.id === "ip";
-  fill("top", "Rows that lead by total", top.length ? table("The highest total first", ["Row", "Entries", "Total"], lines) :
-    el("p", {}, "No row has an entry."), el("label", {}, box, " Rows as IPv4 addresses"));
+  const rows = table("The highest total first", ["Row", "Entries", "Total"], lines);
+  fill("top", "Rows that lead by total", top.length ? rows : el("p", {}, "No row has an entry."), el("label", {}, box, " Rows as IPv4 addresses"));
   if (isHere) at("ip").focus();
 }
 function drawLayers(layers) {
@@ -343,10 +347,11 @@ function draw(now) {
   document.title = (now.fault ? "(no answer) " : "") + "hhm " + now.place;
   if (isIp === null) isIp = now.is_ip;
   keep(now.series);
-  if (now.fault) say("No answer from the server" + (now.answered ? " since " + clock(now.answered) : "") + ": " + now.fault +
-    (now.answered ? ". What is shown is from then." : ""), true);
-  else if (now.answered) say("The server answers." + (now.lacking.length ? " It is of an earlier version, which doesn't tell " +
-    now.lacking.join(" and ") + "." : ""), false);
+  const since = now.answered ? " since " + clock(now.answered) : "";
+  const then = now.answered ? ". What is shown is from then." : "";
+  const lacks = " It is of an earlier version, which doesn't tell " + now.lacking.join(" and ") + ".";
+  if (now.fault) say("No answer from the server" + since + ": " + now.fault + then, true);
+  else if (now.answered) say("The server answers." + (now.lacking.length ? lacks : ""), false);
   if (!now.answered) return;
   at("version").textContent = [now.version && "version " + now.version,
     now.numbers.uptime !== null && "up " + lasting(now.numbers.uptime),
