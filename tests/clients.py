@@ -55,7 +55,6 @@ range: row 2 column 1 count 7
 page: cells 1 more true
 top: row 1 entries 1 total 25
 top: row 0 entries 1 total 8
-stats: batches 7
 status: batches 7 total 40
 stored: batches 7 total 40
 %%MatrixMarket matrix coordinate integer general

@@ -8,6 +8,7 @@ import struct
 import threading
 
 import server
+from hhm_client import Refused
 from peers import Peer, end, frame_of
 
 MOST = 1_000_000
@@ -29,6 +30,18 @@ def rows_of_top(cells, by, most):
         sums[row][1] += count
     rows = sorted(((row, *sum) for row, sum in sums.items()), key=lambda it: (-it[2 - by], it[0]))
     return b"".join(struct.pack(">QQQ", *row) for row in rows[:most])
+
+
+def knows_stats(hhm, what):
+    """Whether a server answers a Stats; a line says what isn't tried where it doesn't."""
+    try:
+        hhm.stats()
+        return True
+    except Refused as why:
+        if why.name != "UnknownKind":
+            raise
+        print(f"not tried: {what}: this program doesn't know Stats")
+        return False
 
 
 def frame(kind, body=b""):

@@ -1,9 +1,9 @@
 #!/usr/bin/env python3
 """Looks at servers by `hhmc watch` and `hhmc metrics`, and compares what is shown with what the servers tell.
 
-    python3 tests/watching.py PATH-TO-HHM
+    python3 tests/watching.py PATH-TO-HHM [--picture OUT.png]
 
-The page of `metrics` is opened in a browser (page.py). It prints a line for each check that fails and at the end
+The page of `metrics` is opened in a browser (page.py); with `--picture` only the picture of it is made that docs/ has. It prints a line for each check that fails and at the end
 `N passed, M failed`; the status is 1 where one fails. Linux, and nothing but Python's own library.
 """
 import json
@@ -256,4 +256,5 @@ def all_are_tried():
 
 
 if __name__ == "__main__":
-    sys.exit(server.run_all(all_are_tried))
+    is_drawn = sys.argv[2:3] == ["--picture"]
+    sys.exit(server.run_all((lambda: page.draw(Metrics, sys.argv[3])) if is_drawn else all_are_tried))

@@ -80,13 +80,6 @@ static hhm_result ask_more(hhm_client *hhm)
     for (size_t i = 0; i < count; i++)
         printf("top: row %" PRIu64 " entries %" PRIu64 " total %" PRIu64 "\n", rows[i].row, rows[i].entries,
                rows[i].total);
-    char *stats;
-    uint64_t batches;
-    if ((result = hhm_ask_stats(hhm, &stats, &count)))
-        return result;
-    if (hhm_stat_of(stats, "batches", &batches))
-        printf("stats: batches %" PRIu64 "\n", batches);
-    free(stats);
     return HHM_OK;
 }
 

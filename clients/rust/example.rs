@@ -107,9 +107,6 @@ fn ask_all(hhm: &mut Client) -> Result<(), Error> {
             it.row, it.entries, it.total
         );
     }
-    let stats = hhm.stats()?;
-    let batches = stats.iter().find(|(name, _)| name == "batches");
-    println!("stats: batches {}", batches.map_or("?", |(_, value)| value));
     let status = hhm.status()?;
     println!("status: batches {} total {}", status.batches, status.total);
     let stored = hhm.stored()?;
