@@ -138,24 +138,26 @@ def it_says_that_a_server_is_gone(page, at, metrics, words):
 
 
 def draw(metrics_of, path):
-    """Writes the picture of the page that docs/ shows: a server while a log is loaded, half a minute behind its begin."""
+    """Writes the picture of the page that docs/ shows: a server while a log is loaded."""
     log = os.path.join(server.FOLDER, "flows.csv")
     with open(log, "w") as file:
         subprocess.run([sys.executable, os.path.join(server.HERE, "..", "examples", "make_flows.py"), "3000000"],
                        stdout=file, check=True)
     words = [*LARGE, "--snapshot", os.path.join(server.FOLDER, "page.snap"), "--log", os.path.join(server.FOLDER, "log")]
     hhmc = [sys.executable, os.path.join(server.HERE, "..", "clients", "python", "hhm_client.py")]
-    with Server(words, tcp=False) as at, metrics_of(at.path, "--ip") as metrics:
-        with browser.Browser(browser.found()) as page:
+    os.chdir(server.FOLDER)
+    with Server(words, tcp=False) as at:
+        os.symlink(at.path, "hhm.sock")
+        with metrics_of("hhm.sock", "--ip") as metrics, browser.Browser(browser.found()) as page:
             page.look(1200, 800)
             page.open(metrics.url)
             how = {"stdout": subprocess.DEVNULL, "stderr": subprocess.DEVNULL}
             load = [*hhmc, "--unix", at.path, "load", "--state", log + ".state", "7", log]
             with subprocess.Popen(load, **how) as loading:
-                time.sleep(20)
+                time.sleep(7)
                 with at.client() as hhm:
                     hhm.save()
-                time.sleep(15)
+                time.sleep(6)
                 page.picture(path)
                 loading.kill()
         at.process.kill()

@@ -257,4 +257,5 @@ def all_are_tried():
 
 if __name__ == "__main__":
     is_drawn = sys.argv[2:3] == ["--picture"]
-    sys.exit(server.run_all((lambda: page.draw(Metrics, sys.argv[3])) if is_drawn else all_are_tried))
+    picture = os.path.abspath(sys.argv[-1])
+    sys.exit(server.run_all((lambda: page.draw(Metrics, picture)) if is_drawn else all_are_tried))

@@ -21,7 +21,7 @@ LABEL = re.compile(r'([A-Za-z0-9_]+)="((?:[^"\\]|\\.)*)"')
 # answers to such questions may take.
 TIMEOUT, PAUSE, SHARE = 5.0, 2.0, 0.05
 # The same for the degrees of all rows, which are many.
-LONG_PAUSE, LONG_SHARE = 30.0, 0.02
+LONG_PAUSE, LONG_SHARE = 5.0, 0.02
 # The seconds that are kept.
 KEPT = 600
 

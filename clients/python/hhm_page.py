@@ -103,6 +103,12 @@ function bytes(number) {
   return number.toLocaleString("en", {maximumFractionDigits: unit && number < 100 ? 1 : 0}) + " " +
     ["B", "kB", "MB", "GB", "TB"][unit];
 }
+// A number beside an axis, by thousands or millions where it is long.
+function tick(number) {
+  const by = number >= 1e12 ? [1e12, " T"] : number >= 1e9 ? [1e9, " G"] : number >= 1e6 ? [1e6, " M"] :
+    number >= 1e4 ? [1e3, " k"] : [1, ""];
+  return (number / by[0]).toLocaleString("en", {maximumFractionDigits: 2}) + by[1];
+}
 const short = (power) => ["1", "10", "100"][power % 3] + ["", " k", " M", " G", " T", " P"][Math.floor(power / 3)];
 const millis = (number) => number === null ? "?" : number.toLocaleString("en", {maximumSignificantDigits: 3}) + " ms";
 function lasting(seconds) {
@@ -191,7 +197,8 @@ function drawLines(id, title, series, told) {
     const value = most * part / 4;
     const kind = part ? "grid" : "axis";
     picture.append(shape("line", {class: kind, x1: left, x2: width - right, y1: y(value), y2: y(value)}));
-    picture.append(shape("text", {x: left - 6, y: y(value) + 4, "text-anchor": "end"}, told(value)));
+    picture.append(shape("text", {x: left - 6, y: y(value) + 4, "text-anchor": "end"},
+      told === big ? tick(value) : told(value)));
   }
   const step = [15, 30, 60, 120, 300].find((it) => span / it <= (width < 420 ? 3 : 5)) || 300;
   for (let back = 0; back <= span; back += step) {
