@@ -140,6 +140,15 @@ def what_is_no_reply_is_told(name, command):
             check(f"{name}: {question}: {lie[:60].hex()}, once", liar.count, 1)
 
 
+def numbers_are_found_among_stats(command):
+    """C: whole numbers by their names, where a name is the front of another, has labels, or isn't there."""
+    told = {"batches_total": 9, "batches": 7, "odd_seconds": "0.5", "version": "1.2", 'odd{a="b c"}': (1 << 64) - 1,
+            "total": 1 << 64}
+    with StandIn(stats=told) as at, Driver(command, at.path) as driver:
+        wanted = f"7,none,none,none,none,{(1 << 64) - 1},none,"
+        check("C: numbers among stats", driver.ask("numbers"), wanted)
+
+
 def hhmc(at, *words):
     return run([sys.executable, os.path.join(PYTHON, "hhm_client.py"), "--unix", at.path, *words])
 
@@ -190,7 +199,10 @@ def the_command_line_asks():
 
 
 def all_are_tried():
-    for name, command in drivers().items():
+    commands = drivers()
+    if "C" in commands:
+        numbers_are_found_among_stats(commands["C"])
+    for name, command in commands.items():
         worked_answers(name, command)
         drawn_answers(name, command)
         what_is_no_reply_is_told(name, command)

@@ -3,7 +3,7 @@
 
 This is the word `plot` of `hhm_client.py`:
 
-    hhmc --unix /run/hhm/hhm.sock plot degrees degrees.svg     # a server, whose sum has at most 64 MiB of text
+    hhmc --unix /run/hhm/hhm.sock plot degrees degrees.svg     # a server
     hhmc --from packets.snap plot spy packets.png              # a snapshot of whatever size, or a Matrix Market text
 
 `degrees` draws on logarithmic axes which share of the rows, and of the columns, has how many cells (`--by total`: which
@@ -12,14 +12,13 @@ more than d / 2 and at most d. `spy` draws the occupied cells as at most 256 by 
 (or which total) each has, on a logarithmic scale.
 """
 import argparse
-import io
 import math
 import socket
 import struct
 from collections import Counter
 from typing import Callable, Dict, Iterable, List, NamedTuple, Optional, Sequence, Tuple
 
-from hhm_cells import NoSum, Sum, read_sum, sum_of
+from hhm_cells import NoSum, Sum, sum_of
 from hhm_client import Arrays, Client, Ended
 from hhm_figures import Moment
 from hhm_rates import looked_at, rates_page
@@ -421,16 +420,13 @@ def page_of(total: Sum, given: argparse.Namespace) -> Page:
 def total_of(hhm: Optional[Client], given: argparse.Namespace) -> Sum:
     """The sum of a server, or of the file that is given. An Ended where it can't be read."""
     try:
-        total = read_sum(io.BytesIO(hhm.export())) if hhm is not None else sum_of(given.source, given.program)
+        return sum_of(given.source if hhm is None else hhm, given.program)
     except NoSum as fault:
         raise Ended(fault.status, str(fault)) from None
     except FileNotFoundError as fault:
         if fault.filename != given.program:
             raise
         raise Ended(4, f"there is no program {given.program}, which reads files: give --program FILE") from None
-    if total is None:
-        raise Ended(4, "what the server exported is no whole text")
-    return total
 
 
 def plot_rates(hhm: Optional[Client], given: argparse.Namespace) -> str:

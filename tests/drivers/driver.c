@@ -192,6 +192,27 @@ static hhm_result stats(hhm_client *hhm)
     return result;
 }
 
+/* The numbers behind some names of stats. */
+static hhm_result stat_numbers(hhm_client *hhm)
+{
+    static const char *const names[] = {"batches", "total", "odd_seconds", "version", "batch", "odd{a=\"b c\"}", "none"};
+    char *text;
+    size_t length;
+    uint64_t value;
+    hhm_result result = hhm_ask_stats(hhm, &text, &length);
+    for (size_t i = 0; result == HHM_OK && i < sizeof names / sizeof *names; i++) {
+        if (hhm_stat_of(text, names[i], &value))
+            printf("%" PRIu64 ",", value);
+        else
+            printf("none,");
+    }
+    if (result == HHM_OK) {
+        puts("");
+        free(text);
+    }
+    return result;
+}
+
 static hhm_result answer(hhm_client *hhm, const char *word, const uint64_t *numbers)
 {
     if (!strcmp(word, "put"))
@@ -212,6 +233,8 @@ static hhm_result answer(hhm_client *hhm, const char *word, const uint64_t *numb
         return top(hhm, numbers);
     if (!strcmp(word, "stats"))
         return stats(hhm);
+    if (!strcmp(word, "numbers"))
+        return stat_numbers(hhm);
     if (!strcmp(word, "fork"))
         forked(hhm, numbers[0], numbers[1], (size_t)numbers[2]);
     else
