@@ -146,6 +146,14 @@ def a_browser_is_answered():
             except urllib.error.HTTPError as fault:
                 check(f"http: {path}", fault.code, 404)
         port = metrics.url.rstrip("/").rpartition(":")[2]
+        for host, wanted in [("elsewhere.example", 403), (f"elsewhere.example:{port}", 403), ("", 403), ("10.0.0.1", 403),
+                             ("localhost", 200), (f"localhost:{port}", 200), ("127.0.0.1", 200)]:
+            asked = urllib.request.Request(metrics.url + "metrics", headers={"Host": host})
+            try:
+                with urllib.request.urlopen(asked, timeout=WAIT) as answer:
+                    check(f"http: asked by {host!r}", answer.status, wanted)
+            except urllib.error.HTTPError as fault:
+                check(f"http: asked by {host!r}", fault.code, wanted)
         ran = run([*HHMC, "--unix", at.path, "metrics", "--listen", f"127.0.0.1:{port}"])
         check("http: the same port", ran, ("", f"failed: 127.0.0.1:{port}: Address already in use\n", 4))
     for words in [["--listen", "nowhere"], ["--listen", "h:x"], ["--listen", "h:65536"], ["--every", "0"]]:

@@ -172,15 +172,13 @@ class Watched:
         return rate_of(list(self.moments), read, seconds)
 
     def known(self, name: str, ask: Callable[[], Answer]) -> Optional[Answer]:
-        """An answer; None of a server that doesn't know the question, which isn't asked it again."""
+        """An answer; None of a server that refuses the question, which isn't asked it again where it doesn't know it."""
         if self.unknown.get(name):
             return None
         try:
             return ask()
         except Refused as refused:
-            if refused.name != "UnknownKind":
-                raise
-            self.unknown[name] = True
+            self.unknown[name] = refused.name == "UnknownKind"
             return None
 
     @staticmethod

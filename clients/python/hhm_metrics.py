@@ -177,7 +177,9 @@ class Handler(BaseHTTPRequestHandler):
 
     def do_GET(self) -> None:
         asked = urlsplit(self.path)
-        if asked.path == "/":
+        if not self.is_asked_here():
+            self.answer(403, "text/plain; charset=utf-8", "This is served to this machine alone.\n")
+        elif asked.path == "/":
             self.answer(200, "text/html; charset=utf-8", PAGE)
         elif asked.path == "/stats.json":
             told = page_stats(self.looker, since_of(asked.query), self.is_ip)
@@ -188,6 +190,13 @@ class Handler(BaseHTTPRequestHandler):
             self.answer(404, "text/plain; charset=utf-8", "There are /, /stats.json and /metrics.\n")
 
     do_HEAD = do_GET
+
+    def is_asked_here(self) -> bool:
+        """Whether who asks named this machine, where it listens to this machine alone: a page from elsewhere, whose
+        name was made to stand for this address, else could read along."""
+        own, _ = self.server.server_address[:2]
+        name = urlsplit("//" + self.headers.get("Host", "localhost")).hostname or ""
+        return not own.startswith("127.") or name == "localhost" or name.startswith("127.")
 
     def answer(self, status: int, kind: str, text: str) -> None:
         body = text.encode()

@@ -195,7 +195,8 @@ static hhm_result stats(hhm_client *hhm)
 /* The numbers behind some names of stats. */
 static hhm_result stat_numbers(hhm_client *hhm)
 {
-    static const char *const names[] = {"batches", "total", "odd_seconds", "version", "batch", "odd{a=\"b c\"}", "none"};
+    static const char *const names[] = {"batches", "total",           "odd_seconds", "version",
+                                        "batch",   "odd{a=\"b c\"}", "none"};
     char *text;
     size_t length;
     uint64_t value;
