@@ -9,11 +9,26 @@ import time
 import browser
 import server
 from server import Server, check
-from stand_in import knows_stats
+from stand_in import StandIn, knows_stats
 
 LARGE = ["--rows", str(1 << 32), "--cols", str(1 << 32)]
 ADDRESS = 10 << 24
 STATE = "document.getElementById('state')"
+# What a server in its place tells, and what the page makes of it.
+TOLD = {
+    "version": "1.2.3", "rows": 1 << 60, "cols": 5, "batches": 0, "total": 0, "cells_total": 1_234_567,
+    "repeats_total": 12, 'refused_total{code="30"}': 2, 'refused_total{code="22"}': 3000, "sessions_open": 2,
+    "sessions_waiting": 1, "sessions_total": 99, "workers": 4, "resident_bytes": 231_400_000, "uptime_seconds": "3725.5",
+    "saves_total": 2, "failed_saves_total": 1, "saved_batches": 0, "save_age_seconds": "61.2", "log_durable_batches": 7,
+    "log_pages": 12, "log_syncs_total": 8, "log_group_batches": 3, "<b>odd</b>": 1,
+    **{f'shard_layer_entries{{shard="{shard}",layer="{layer}"}}': 1000 * shard + layer
+       for shard in range(12) for layer in range(3)},
+    **{f'shard_layer_runs{{shard="{shard}",layer="{layer}"}}': shard for shard in range(12) for layer in range(3)},
+}
+SHOWN = {
+    "Batches": "0", "Events": "0", "Cells put": "1,234,567", "Repeats": "12", "Refused": "3,002", "Sessions": "2 open",
+    "Memory": "231 MB", "Last save": "1 min 1 s ago", "Durable": "7 batches",
+}
 TILES = ("Object.fromEntries([...document.querySelectorAll('#tiles div')].map((it) => [it.querySelector('dt')"
          ".textContent, it.querySelector('dd').firstChild.textContent]))")
 
@@ -62,6 +77,32 @@ def numbers_are_the_servers(page, at, metrics):
         if knows_stats(hhm, "the page's table of stats"):
             stats_are_told(page, hhm)
     pictures_have_tables(page)
+
+
+def what_is_told_is_shown(page, metrics_of):
+    """Each part of the page, of a server in Python that tells all that the page knows, and a name that is no name."""
+    with StandIn(stats=TOLD) as at, metrics_of(at.path) as metrics:
+        page.open(metrics.url)
+        # (rates need two looks)
+        check("shown: answers", page.until(f"{TILES}['Cells put']"), "1,234,567")
+        check("shown: tiles", page.value(TILES), SHOWN)
+        small = page.value("[...document.querySelectorAll('#tiles small')].map((it) => it.textContent)")
+        for words in ["NumberReused 2, IndexOutOfRange 3,000", "1 waiting, 99 served, 4 workers",
+                      "0 batches since, 2 saves, 1 failed", "12 pages, 8 syncs, 3 batches in the last group"]:
+            check(f"shown: {words}", words in small, True)
+        version = "version 1.2.3, up 1 h 2 min, 1,152,921,504,606,846,976 rows by 5 columns"
+        check("shown: version", page.value("document.getElementById('version').textContent"), version)
+        layers = [["All", "66,000", "66,012", "66,024"]]
+        layers += [[f"Shard {shard}", *(f"{1000 * shard + layer:,} in {shard}" for layer in range(3))] for shard in range(12)]
+        check("shown: layers", table_of(page, "layers", 13), layers)
+        check("shown: all", dict(table_of(page, "told", len(TOLD))), {name: str(it) for name, it in raw(TOLD).items()})
+        check("shown: pictures", page.until("document.querySelectorAll('section:not([hidden]) svg').length >= 4"), True)
+        pictures_have_tables(page)
+
+
+def raw(told):
+    """What the stats become where decimals are read."""
+    return {name: float(it) if isinstance(it, str) and name.endswith("_seconds") else it for name, it in told.items()}
 
 
 def stats_are_told(page, hhm):
@@ -180,3 +221,5 @@ def is_tried(metrics_of):
         check("page: no error in its console", page.faults, [])
         asked = {it.partition("?")[0] for it in page.asked} - {"data:,"}
         check("page: asks nobody else", asked, {metrics.url, metrics.url + "stats.json"})
+        what_is_told_is_shown(page, metrics_of)
+        check("shown: no error in its console", page.faults, [])
