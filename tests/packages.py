@@ -8,6 +8,7 @@ Each is built in a folder of its own and serves the example of its language, who
 each check that fails and at the end `N passed, M failed`; the status is 1 where one fails.
 """
 import os
+import re
 import shutil
 import subprocess
 import sys
@@ -43,6 +44,14 @@ def writes_the_example(name, program):
     """A program that makes every call once, on a new server of three rows and columns."""
     with Server([*SMALL, "--snapshot", os.path.join(server.FOLDER, f"{name}.snap")], tcp=False) as at:
         check(f"{name}: the example", run([program, "--unix", at.path]), (EXAMPLE, "", 0))
+
+
+def all_modules_are_named():
+    """The package of Python has each module that stands beside the client."""
+    with open(os.path.join(CLIENTS, "python", "pyproject.toml")) as file:
+        named = set(re.findall(r'"(hhm_\w+)"', file.read().partition("py-modules")[2]))
+    files = {name[:-3] for name in os.listdir(os.path.join(CLIENTS, "python")) if name.startswith("hhm_")}
+    check("modules of the package", named, files)
 
 
 def by_pip():
@@ -107,6 +116,7 @@ def by_make():
 
 
 def all_are_tried():
+    all_modules_are_named()
     by_pip()
     by_cargo()
     by_make()

@@ -40,6 +40,17 @@ HELP = {
     "status_seconds": "How long the last status took, as hhmc metrics measured it.",
     "cell_seconds": "How long the last cell took, as hhmc metrics measured it.",
     "batches": "Accepted batches.", "total": "The sum of all counts.", "info": "The version of the server.",
+    "rows": "Rows of the matrix.", "cols": "Columns of the matrix.", "workers": "Connections that are served at once.",
+    "folded": "Accepted batches that are folded.", "cells_total": "Cells of accepted batches.",
+    "repeats_total": "Puts of batches that had been accepted.", "refused_total": "Refused requests, by their code.",
+    "sessions_total": "Connections that were accepted.", "sessions_open": "Connections that are served now.",
+    "sessions_waiting": "Connections that wait for a worker.", "resident_bytes": "Resident memory of the server.",
+    "processor_seconds_total": "Processor time of the server.", "uptime_seconds": "Seconds since the server began.",
+    "saves_total": "Saves that were made.", "failed_saves_total": "Saves that failed.",
+    "saved_batches": "Batches of the last save.", "save_age_seconds": "Seconds since the last save.",
+    "log_durable_batches": "Batches that the log has on its disk.", "log_pages": "Pages of the log.",
+    "log_syncs_total": "Syncs of the log.", "log_group_batches": "Batches of the log's last group.",
+    "shard_layer_entries": "Entries of a layer of a shard, at most.", "shard_layer_runs": "Runs of a layer of a shard.",
 }
 NUMBERS = {
     "rows": ("rows",), "cols": ("cols", "columns"), "uptime": UPTIME, "cells": CELLS, "repeats": REPEATS, "open": OPEN,
