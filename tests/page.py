@@ -129,6 +129,16 @@ def pictures_have_tables(page):
     check("page: each part has a name", all(len(name) > 3 for name in page.value(names)), True)
 
 
+def what_is_read_stays(page):
+    """A part whose table is open isn't drawn anew each second, and is once it is closed."""
+    part = "document.querySelector('#batches details')"
+    page.value(f"{part}.open = true, {part}.dataset.mark = 'here'")
+    time.sleep(3)
+    check("page: what is read stays", page.value(f"{part}.dataset.mark"), "here")
+    page.value(f"{part}.open = false")
+    check("page: and is drawn anew", page.until(f"{part}.dataset.mark === undefined"), True)
+
+
 def it_is_readable(page):
     """On a light and a dark ground, and on a phone, where nothing is wider than the screen."""
     for is_dark in (False, True):
@@ -215,6 +225,7 @@ def is_tried(metrics_of):
         metrics = stack.enter_context(metrics_of(at.path, "--ip"))
         page = stack.enter_context(browser.Browser(program))
         numbers_are_the_servers(page, at, metrics)
+        what_is_read_stays(page)
         it_is_readable(page)
         a_save_is_told(page, at)
         it_says_that_a_server_is_gone(page, at, metrics, words)

@@ -76,6 +76,7 @@ label { font-size: .9rem; }
 "use strict";
 const KEPT = 600, SVG = "http://www.w3.org/2000/svg";
 const kept = {at: []};
+const drawn = {};
 let last = null, isIp = null;
 
 // Elements.
@@ -141,7 +142,17 @@ function behind(id, words, content) {
   it.append(content);
   return it;
 }
+// Whether somebody reads a part: its table is open, words in it are chosen, or a picture is pointed at. For ten seconds
+// at most it is then left as it is.
+function isRead(id) {
+  const chosen = getSelection(), part = at(id);
+  const isChosen = chosen && !chosen.isCollapsed && part.contains(chosen.anchorNode);
+  const isOpen = part.querySelector("details[open]") || part.querySelector("svg:hover");
+  return !part.hidden && (isChosen || isOpen) && performance.now() - (drawn[id] || 0) < 10000;
+}
 function fill(id, title, ...children) {
+  if (isRead(id)) return;
+  drawn[id] = performance.now();
   const open = document.activeElement && at(id).contains(document.activeElement) &&
     document.activeElement.tagName === "SUMMARY";
   at(id).replaceChildren(el("h2", {}, title), ...children);
