@@ -106,6 +106,8 @@ def the_walk_is_right(folder, document):
             wanted = ["listening unix hhm.sock"]
         elif " load " in command:
             wanted = [f"new {LINES // 10_000} repeats 0 events {LINES}"]
+        elif " top rows " in command:
+            wanted = talkers_of(counts, int(command.split()[-2]))
         elif command.endswith(" stop"):
             wanted = ["stopping", f"stopped batches {LINES // 10_000} total {total}"]
         elif " plot " in command:
@@ -117,18 +119,44 @@ def the_walk_is_right(folder, document):
         check(f"as the document shows it: {command}", forms[0], forms[1])
 
 
+def talkers_of(counts, most):
+    """The rows with the highest totals, as addresses, with their numbers of cells."""
+    sums = collections.defaultdict(lambda: [0, 0])
+    for (row, _), count in counts.items():
+        sums[row][0] += 1
+        sums[row][1] += count
+    rows = sorted(sums.items(), key=lambda it: (-it[1][1], it[0]))[:most]
+    return [f"{ipaddress.ip_address(row)} {entries} {total}" for row, (entries, total) in rows]
+
+
+def readme_names_top_talkers(folder):
+    """The three commands of README, with a log of fewer lines: the ten sources that sent most."""
+    readme = content(os.path.join(TOP, "README.md"))
+    [block] = [it for it in re.findall(r"^```\n(.*?)^```$", readme, re.M | re.S) if "top rows" in it]
+    commands = block.splitlines()
+    os.remove(os.path.join(folder, "served"))
+    check("README: three commands", [it.split()[0] for it in commands], ["hhm", "hhmc", "hhmc"])
+    written, error, status = walked(folder, [*commands, "hhmc --unix flows.sock stop"])
+    check("README: their end", (error, status), ("", 0))
+    counts = sum_of_log(os.path.join(folder, "flows.csv"))
+    wanted = [["listening unix flows.sock"], [f"new {LINES // 10_000} repeats 0 events {LINES}"], talkers_of(counts, 10)]
+    check("README: top talkers", written[:3], wanted)
+
+
 def pictures_are_there(folder, document):
     """The document shows pictures that are in docs/, and the walk has drawn the same ones of fewer lines."""
     shown = re.findall(r"!\[[^]]+\]\(([^)]+)\)", document)
-    check("the pictures", tuple(shown), PICTURES)
+    check("the pictures", tuple(shown), ("page.png", *PICTURES))
+    shown.remove("page.png")
     cells = re.search(r"^cells (\d+) ", document, re.M).group(1)
     for name in shown:
         titles = [xml.etree.ElementTree.parse(os.path.join(at, name)).getroot()[0].text
                   for at in (os.path.join(TOP, "docs"), folder)]
         check(f"{name}: its title", f" {int(cells):,} " in titles[0] + " ", True)
         check(f"{name}: of the walk", re.sub(r"[\d,]+", "N", titles[1]), re.sub(r"[\d,]+", "N", titles[0]))
-    with open(os.path.join(folder, "zoom.png"), "rb") as file:
-        check("zoom.png", file.read(8), b"\x89PNG\r\n\x1a\n")
+    for path in [os.path.join(folder, "zoom.png"), os.path.join(TOP, "docs", "page.png")]:
+        with open(path, "rb") as file:
+            check(os.path.basename(path), file.read(8), b"\x89PNG\r\n\x1a\n")
 
 
 def all_are_tried():
@@ -137,6 +165,7 @@ def all_are_tried():
     os.symlink(os.path.join(TOP, "examples"), os.path.join(folder, "examples"))
     document = content(DOCUMENT)
     the_walk_is_right(folder, document)
+    readme_names_top_talkers(folder)
     pictures_are_there(folder, document)
 
 

@@ -49,6 +49,12 @@ too many: a batch has at most 1048576 cells or 67108848 bytes of text
 cell: 8
 cell: none
 row: entries 1 total 25
+range: row 0 column 0 count 8
+range: row 1 column 2 count 25
+range: row 2 column 1 count 7
+page: cells 1 more true
+top: row 1 entries 1 total 25
+top: row 0 entries 1 total 8
 status: batches 7 total 40
 stored: batches 7 total 40
 %%MatrixMarket matrix coordinate integer general

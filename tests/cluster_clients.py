@@ -3,19 +3,27 @@
 A driver (tests/drivers/cluster.rs, cluster.c) has the servers' addresses, the way, the client's number, the generation,
 the size, the most batches and the reserve as its words, and answers each line that it reads by one:
 - `put NUMBER ROW COL COUNT ..` puts a batch, and `many BEGIN END ROW COL COUNT ..` one for each number;
-- `cell ROW COL`, `row ROW`, `status`, `export` (its lines ended by commas) and `save` ask.
+- `cell ROW COL`, `row ROW`, `status`, `export` (its lines ended by commas) and `save` ask, and so do `range FIRST LAST
+  FIRST LAST PAGE` and `top BY MOST`, by total (0) or by entries (1).
 """
+import collections
+import contextlib
 import os
+import random
 import shutil
 import subprocess
 import sys
+from unittest import mock
 
 import server
 from server import check
 
 HERE = os.path.dirname(os.path.abspath(__file__))
-from hosts import SIZE, Hosts, added, batch, sum_in  # noqa: E402 (server.py has put the client's folder on the path)
+import hhm_cluster  # noqa: E402 (server.py has put the client's folder on the path)
+from hhm_cluster import Cluster, Undecided  # noqa: E402
+from hosts import SIZE, Hosts, added, batch, sum_in  # noqa: E402
 from peers import Driver, Liar  # noqa: E402
+from stand_in import StandIn  # noqa: E402
 
 # The first rows of each of two servers, by rows, as cluster.py has worked them out.
 AT_0, AT_1 = (0, 2, 4, 5), (1, 3, 6, 8)
@@ -75,6 +83,87 @@ def both_cut_alike(language, command, by):
             check(f"{name}: many", driver.ask("many", 100, 140, row, col, 2), "answered 40")
             check(f"{name}: a cell then", driver.ask("cell", row, col), str(count + 80))
             check(f"{name}: beyond", driver.put(200, [(SIZE[0], 0, 1)]), "OutOfRange")
+
+
+def ranges_and_tops_are_merged(commands, by):
+    """Ranges and tops of four servers, to each of which a client has put by source, in each language and in Python."""
+    lists = {client: batch(client, 1, 600) + [(7, col, client % 4) for col in range(40)] for client in range(1, 5)}
+    cells = sorted((*place, count) for place, count in added(*lists.values()).items())
+    ranges = [(0, SIZE[0] - 1, 0, SIZE[1] - 1, 1000), (7, 7, 0, SIZE[1] - 1, 3), (5, SIZE[0] // 3, 10, 2000, 50)]
+    with Hosts(f"merged {by}", 4) as hosts:
+        for client, put in lists.items():
+            with hosts.cluster(client, by=by) as hhm:
+                hhm.put(1, put)
+        with hosts.cluster(7, by=by) as hhm:
+            for first, last, first_col, last_col, page in ranges:
+                wanted = [cell for cell in cells if first <= cell[0] <= last and first_col <= cell[1] <= last_col]
+                found = list(hhm.range((first, last), (first_col, last_col), page))
+                check(f"merged {by}: range {first, last, page}", found == wanted, True)
+            check(f"merged {by}: all", list(hhm.range()) == cells, True)
+            parts = [cells] if by == "rows" else lists.values()
+            tops = [(number, most, top_of([added(part) for part in parts], number, most))
+                    for number in (0, 1) for most in (1, 10, 500)]
+            for number, most, wanted in tops:
+                check(f"merged {by}: top {number} {most}", hhm.top(most, ("total", "entries")[number]), wanted)
+        for language, command in commands.items():
+            with Asked(command, hosts, by) as driver:
+                for first, last, first_col, last_col, page in ranges:
+                    wanted = [cell for cell in cells if first <= cell[0] <= last and first_col <= cell[1] <= last_col]
+                    found = driver.ask("range", first, last, first_col, last_col, page)
+                    check(f"{language} {by}: range {first, last, page}", found == threes(wanted), True)
+                check(f"{language} {by}: out of range", driver.ask("range", 0, SIZE[0], 0, 0, 1), "Refused 0 41")
+                for number, most, wanted in tops:
+                    check(f"{language} {by}: top {number} {most}", driver.ask("top", number, most), threes(wanted))
+                check(f"{language} {by}: no top", driver.ask("top", 0, 0), "Refused 0 44")
+
+
+def tops_are_certain(commands):
+    """Sums of servers that are drawn so that few rows lead, or many have as much, of which a row that leads may be far
+    down in each server; and what isn't told by the first rows of each, with fewer of them than there may be."""
+    for seed in range(9):
+        dice, shape = random.Random(seed), ("few", "many", "equal")[seed % 3]
+        peers = [StandIn(size=(1000, 1000), name=f"peer {place}") for place in range(dice.choice([2, 3, 4]))]
+        with contextlib.ExitStack() as stack:
+            for peer in map(stack.enter_context, peers):
+                peer.tcp = peer.path
+                for _ in range(dice.choice([5, 300])):
+                    row = int(1000 * dice.random() ** (4 if shape == "few" else 1))
+                    peer.put([(row, dice.randrange(50), 1 if shape == "equal" else dice.randrange(4))])
+            hhm = stack.enter_context(Cluster([peer.path for peer in peers], client=1, generation=1, attempts=1))
+            drivers = {language: stack.enter_context(Asked(command, peers, "source", client=1))
+                       for language, command in commands.items()}
+            for number, most in [(0, 1), (1, 1), (0, 10), (1, 10), (0, 200), (1, 200)]:
+                wanted = top_of([peer.cells for peer in peers], number, most)
+                check(f"certain, {seed}: top {number} {most}", hhm.top(most, ("total", "entries")[number]), wanted)
+                for language, driver in drivers.items():
+                    found = driver.ask("top", number, most)
+                    check(f"certain, {seed}, {language}: top {number} {most}", found, threes(wanted))
+    with contextlib.ExitStack() as stack:
+        peers = [stack.enter_context(StandIn(size=(1000, 1000), name=f"peer {place}")) for place in range(2)]
+        for place, peer in enumerate(peers):
+            peer.put([(2 * row + place, 0, 1 + row % 2) for row in range(300)])
+        with Cluster([peer.path for peer in peers], client=1, generation=1, attempts=1) as hhm:
+            with mock.patch.object(hhm_cluster, "MAX_PAGE", 100):
+                try:
+                    check("undecided", hhm.top(1), None)
+                except Undecided as fault:
+                    told = "which 1 rows lead by total isn't told by the first 100 of each server"
+                    check("undecided", str(fault), told)
+            check("decided by more", hhm.top(1), [(2, 1, 2)])
+
+
+def threes(cells):
+    return " ".join("%d,%d,%d" % tuple(cell) for cell in cells)
+
+
+def top_of(parts, number, most):
+    """The rows that lead in sums, by total (0) or by entries (1), with the numbers of all of them added up."""
+    sums = collections.defaultdict(lambda: [0, 0])
+    for part in parts:
+        for (row, _), count in part.items():
+            sums[row][0] += 1
+            sums[row][1] += count
+    return sorted(((row, *sum) for row, sum in sums.items()), key=lambda it: (-it[2 - number], it[0]))[:most]
 
 
 def servers_begin_again(language, command, by):
@@ -151,7 +240,11 @@ def halves_are_told(language, command):
 
 
 def all_are_tried():
-    for language, command in built().items():
+    commands = built()
+    for by in ("source", "rows"):
+        ranges_and_tops_are_merged(commands, by)
+    tops_are_certain(commands)
+    for language, command in commands.items():
         for by in ("source", "rows"):
             both_cut_alike(language, command, by)
             servers_begin_again(language, command, by)

@@ -8,6 +8,7 @@ Each is built in a folder of its own and serves the example of its language, who
 each check that fails and at the end `N passed, M failed`; the status is 1 where one fails.
 """
 import os
+import re
 import shutil
 import subprocess
 import sys
@@ -45,6 +46,14 @@ def writes_the_example(name, program):
         check(f"{name}: the example", run([program, "--unix", at.path]), (EXAMPLE, "", 0))
 
 
+def all_modules_are_named():
+    """The package of Python has each module that stands beside the client."""
+    with open(os.path.join(CLIENTS, "python", "pyproject.toml")) as file:
+        named = set(re.findall(r'"(hhm_\w+)"', file.read().partition("py-modules")[2]))
+    files = {name[:-3] for name in os.listdir(os.path.join(CLIENTS, "python")) if name.startswith("hhm_")}
+    check("modules of the package", named, files)
+
+
 def by_pip():
     """`pip install ./clients/python` gives the module and the command `hhmc`."""
     if run([sys.executable, "-c", "import setuptools, wheel, venv"])[2] != 0:
@@ -59,7 +68,7 @@ def by_pip():
     events = os.path.join(server.FOLDER, "events.pairs")
     with open(events, "w") as file:
         file.write("0 1\n2 2\n0 1\n")
-    modules = "import hhm_cells, hhm_client, hhm_load, hhm_plot, hhm_sheet"
+    modules = "import hhm_ask, hhm_cells, hhm_client, hhm_load, hhm_metrics, hhm_plot, hhm_sheet, hhm_watch"
     check("the modules", run([os.path.join(own, "bin", "python"), "-c", modules], cwd=server.FOLDER), ("", "", 0))
     with Server(SMALL, tcp=False) as at:
         load = run([hhmc, "--unix", at.path, "load", "--state", events + ".state", "7", events])
@@ -107,6 +116,7 @@ def by_make():
 
 
 def all_are_tried():
+    all_modules_are_named()
     by_pip()
     by_cargo()
     by_make()

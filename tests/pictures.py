@@ -433,8 +433,8 @@ def servers_and_snapshots_are_drawn(many):
             check(f"the picture of {name}", got.read() == file.read(), True)
 
 
-def a_long_sum_is_refused():
-    """A sum whose text no reply carries is told with the way out."""
+def a_long_sum_is_read_by_ranges():
+    """A sum whose text no reply carries is refused as such, with the way out, and drawn by ranges of its cells."""
     with Server(["--rows", str(FULL), "--cols", str(FULL)], tcp=False) as at:
         with at.client(1) as hhm:
             for number in range(2):
@@ -443,8 +443,10 @@ def a_long_sum_is_refused():
         out = path_of("long.svg")
         told = "refused: ReplyTooLarge: the text has more than 64 MiB: save, and take the snapshot (`hhm export`, " \
             "`hhmc --from`)\n"
-        check("a long sum", hhmc("--unix", at.path, "plot", "spy", out), ("", told, 1))
-        check("no picture", os.path.exists(out), False)
+        check("a long sum", hhmc("--unix", at.path, "export"), ("", told, 1))
+        line = "cells 1800000 rows 1800000 cols 1800000 total 0\n"
+        check("a long sum is drawn", hhmc("--unix", at.path, "plot", "spy", out), (line, "", 0))
+        check("its picture", Drawn(out).title, "Occupied cells: 1,800,000 in 256 fields")
 
 
 def faults_are_told(packets):
@@ -484,7 +486,7 @@ def all_are_tried():
     colours_can_be_told(Drawn(path_of("flows.svg")), spy)
     nothing_can_be_drawn()
     servers_and_snapshots_are_drawn(many)
-    a_long_sum_is_refused()
+    a_long_sum_is_read_by_ranges()
     faults_are_told(packets)
 
 

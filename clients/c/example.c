@@ -60,6 +60,29 @@ static hhm_result put_some(hhm_client *hhm)
     return HHM_OK;
 }
 
+static hhm_result ask_more(hhm_client *hhm)
+{
+    hhm_block all = {0, 2, 0, 2}, part = {0, 2, 1, 2};
+    hhm_range *range = hhm_range_open(hhm, all, 2);
+    hhm_cell cell;
+    hhm_top_row rows[2];
+    size_t count;
+    int has_more = 0;
+    hhm_result result = range ? HHM_OK : HHM_MEMORY;
+    while (result == HHM_OK && (result = hhm_range_next(range, &cell, &has_more)) == HHM_OK && has_more)
+        printf("range: row %" PRIu64 " column %" PRIu64 " count %" PRIu64 "\n", cell.row, cell.col, cell.count);
+    hhm_range_close(range);
+    if (result || (result = hhm_ask_page(hhm, part, 0, 0, &cell, 1, &count, &has_more)))
+        return result;
+    printf("page: cells %zu more %s\n", count, has_more ? "true" : "false");
+    if ((result = hhm_ask_top(hhm, HHM_BY_TOTAL, rows, 2, &count)))
+        return result;
+    for (size_t i = 0; i < count; i++)
+        printf("top: row %" PRIu64 " entries %" PRIu64 " total %" PRIu64 "\n", rows[i].row, rows[i].entries,
+               rows[i].total);
+    return HHM_OK;
+}
+
 static hhm_result ask_some(hhm_client *hhm)
 {
     hhm_value value;
@@ -77,7 +100,7 @@ static hhm_result ask_some(hhm_client *hhm)
     if ((result = hhm_ask_row(hhm, 1, &row)))
         return result;
     printf("row: entries %" PRIu64 " total %" PRIu64 "\n", row.entries, row.total);
-    if ((result = hhm_ask_status(hhm, &status)))
+    if ((result = ask_more(hhm)) || (result = hhm_ask_status(hhm, &status)))
         return result;
     printf("status: batches %" PRIu64 " total %" PRIu64 "\n", status.batches, status.total);
     if ((result = hhm_ask_stored(hhm, &stored)))

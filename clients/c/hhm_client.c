@@ -22,8 +22,8 @@
 #include <time.h>
 #include <unistd.h>
 
-enum { PUT = 0x01, CELL, ROW, STATUS, EXPORT, SAVE, STOP, PUT_CELLS, STORED };
-enum { ACCEPTED = 0x81, VALUE, ROW_SUM, COUNTS, TEXT, SAVED, STOPPING, REFUSED = 0xff };
+enum { PUT = 0x01, CELL, ROW, STATUS, EXPORT, SAVE, STOP, PUT_CELLS, STORED, RANGE, TOP, STATS };
+enum { ACCEPTED = 0x81, VALUE, ROW_SUM, COUNTS, TEXT, SAVED, STOPPING, CELLS, ROWS, TOLD, REFUSED = 0xff };
 /* Codes of refusals. */
 enum { LOG_FULL = 34, LOG_FAILED = 35 };
 
@@ -72,7 +72,7 @@ struct hhm_client {
     char message[224];
 };
 
-/* The body of a reply. A text has memory of its own; a short one stands in `bytes`. */
+/* The body of a reply. One that may be of any length has memory of its own; a short one stands in `bytes`. */
 typedef struct {
     unsigned char bytes[MAX_SHORT];
     char *text;
@@ -119,7 +119,7 @@ const char *hhm_code_name(uint16_t code)
         {1, "Memory"}, {20, "DimensionsDiffer"}, {21, "SumTooLarge"}, {22, "IndexOutOfRange"},
         {23, "TooManyCells"}, {30, "NumberReused"}, {31, "OverTotal"}, {32, "BookFull"}, {33, "RecordsDiffer"},
         {34, "LogFull"}, {35, "LogFailed"}, {40, "ReplyTooLarge"}, {41, "OutOfRange"}, {42, "SaveFailed"},
-        {43, "SaveOff"}, {50, "TooLarge"}, {51, "UnknownKind"}, {52, "BadLength"}, {103, "BadBanner"},
+        {43, "SaveOff"}, {44, "BadCount"}, {50, "TooLarge"}, {51, "UnknownKind"}, {52, "BadLength"}, {103, "BadBanner"},
         {104, "Unsupported"}, {105, "LineTooLong"}, {106, "BadSize"}, {107, "BadDimension"}, {108, "NotSquare"},
         {109, "TooManyEntries"}, {110, "BadEntry"}, {111, "Negative"}, {112, "NumberTooLarge"},
         {113, "IndexOutOfRange"}, {114, "TooFewEntries"}, {115, "ExtraText"}, {116, "TooLong"},
@@ -479,11 +479,23 @@ static int send_request(hhm_client *hhm, const request *it)
 
 /* Requests and replies. */
 
-/* The length that the body of a reply has; the longest for a text. */
+/* Whether the body of a reply may be of any length, and else its length. */
+static int is_long(uint8_t kind)
+{
+    return kind == TEXT || kind == CELLS || kind == ROWS || kind == TOLD;
+}
+
 static size_t length_of(uint8_t kind)
 {
-    static const size_t lengths[] = {16, 9, 16, 16, HHM_MOST_BODY, 8, 0};
+    static const size_t lengths[] = {16, 9, 16, 16, 0, 8, 0};
     return lengths[kind - ACCEPTED];
+}
+
+/* A reply that is none: the connection is closed. */
+static hhm_result bad_reply(hhm_client *hhm)
+{
+    let_go(hhm);
+    return told(hhm, HHM_BAD_REPLY, "what came is no reply to what was asked");
 }
 
 static hhm_result read_text(hhm_client *hhm, reply *out, size_t length)
@@ -491,7 +503,7 @@ static hhm_result read_text(hhm_client *hhm, reply *out, size_t length)
     char *text = (char *)malloc(length + 1);
     if (!text) {
         let_go(hhm);
-        return told(hhm, HHM_MEMORY, "no memory for the text of an export");
+        return told(hhm, HHM_MEMORY, "no memory for a reply");
     }
     if (receive(hhm, text, length)) {
         free(text);
@@ -513,11 +525,9 @@ static hhm_result read_reply(hhm_client *hhm, uint8_t wanted, reply *out)
     size_t length = (size_t)number_at(head, 4);
     uint8_t kind = head[4];
     int is_refusal = kind == REFUSED && length == 10;
-    if (!is_refusal && (kind != wanted || (kind == TEXT ? length > HHM_MOST_BODY : length != length_of(kind)))) {
-        let_go(hhm);
-        return told(hhm, HHM_BAD_REPLY, "what came is no reply to what was asked");
-    }
-    if (kind == TEXT)
+    if (!is_refusal && (kind != wanted || (is_long(kind) ? length > HHM_MOST_BODY : length != length_of(kind))))
+        return bad_reply(hhm);
+    if (is_long(kind))
         return read_text(hhm, out, length);
     if (receive(hhm, out->bytes, length))
         return failed(hhm);
@@ -528,10 +538,8 @@ static hhm_result read_reply(hhm_client *hhm, uint8_t wanted, reply *out)
             let_go(hhm);
         return refused(hhm, code, number_at(out->bytes + 2, 8));
     }
-    if (kind == VALUE && (out->bytes[0] > 1 || (out->bytes[0] == 0 && number_at(out->bytes + 1, 8) != 0))) {
-        let_go(hhm);
-        return told(hhm, HHM_BAD_REPLY, "what came is no reply to what was asked");
-    }
+    if (kind == VALUE && (out->bytes[0] > 1 || (out->bytes[0] == 0 && number_at(out->bytes + 1, 8) != 0)))
+        return bad_reply(hhm);
     return HHM_OK;
 }
 
@@ -810,6 +818,215 @@ hhm_result hhm_ask_status(hhm_client *hhm, hhm_status *status)
 hhm_result hhm_ask_stored(hhm_client *hhm, hhm_status *stored)
 {
     return ask_counts(hhm, STORED, stored);
+}
+
+/* Ranges, tops and stats. */
+
+/* A request whose body is these bytes. */
+static request of_bytes(uint8_t kind, const unsigned char *bytes, size_t length)
+{
+    request it = of_numbers(kind, 0, 0, 0);
+    it.text = (const char *)bytes;
+    it.length = length;
+    return it;
+}
+
+/* The three numbers of a cell or a row at a place of a reply. */
+static void three_at(const reply *it, size_t place, uint64_t three[3])
+{
+    for (size_t i = 0; i < 3; i++)
+        three[i] = number_at((const unsigned char *)it->text + place + 8 * i, 8);
+}
+
+/* Reads the cells of a page, and tells whether they are those of a block, in order, from a place on. */
+static int read_page(const reply *got, hhm_block block, uint64_t row, uint64_t col, hhm_cell *cells, size_t most,
+                     size_t *count, int *has_more)
+{
+    size_t found = got->length / 24;
+    if (got->length % 24 != 1 || found > most || (unsigned char)got->text[0] > 1 || (got->text[0] && found < most))
+        return 0;
+    for (size_t i = 0; i < found; i++) {
+        uint64_t three[3];
+        three_at(got, 1 + 24 * i, three);
+        int is_behind = three[0] > row || (three[0] == row && (i ? three[1] > col : three[1] >= col));
+        if (!is_behind || three[0] < block.first_row || three[0] > block.last_row || three[1] < block.first_col ||
+            three[1] > block.last_col)
+            return 0;
+        row = cells[i].row = three[0];
+        col = cells[i].col = three[1];
+        cells[i].count = three[2];
+    }
+    *count = found;
+    *has_more = got->text[0];
+    return 1;
+}
+
+hhm_result hhm_ask_page(hhm_client *hhm, hhm_block block, uint64_t row, uint64_t col, hhm_cell *cells, size_t most,
+                        size_t *count, int *has_more)
+{
+    const uint64_t numbers[] = {block.first_row, block.last_row, block.first_col, block.last_col, row, col, most};
+    unsigned char bytes[56];
+    reply got;
+    for (size_t i = 0; i < 7; i++)
+        push(bytes + 8 * i, numbers[i], 8);
+    request it = of_bytes(RANGE, bytes, sizeof bytes);
+    hhm_result result = ask(hhm, &it, CELLS, &got);
+    if (result)
+        return result;
+    int is_read = read_page(&got, block, row, col, cells, most, count, has_more);
+    free(got.text);
+    return is_read ? HHM_OK : bad_reply(hhm);
+}
+
+struct hhm_range {
+    hhm_client *hhm;
+    hhm_block block;
+    /* Where the next page begins, and whether there is one. */
+    uint64_t row, col;
+    int has_more;
+    size_t most, count, next;
+    hhm_cell *cells;
+};
+
+hhm_range *hhm_range_open(hhm_client *hhm, hhm_block block, size_t page)
+{
+    if (page == 0 || page > HHM_MOST_PAGE) {
+        errno = EINVAL;
+        return NULL;
+    }
+    hhm_range *range = (hhm_range *)calloc(1, sizeof *range);
+    hhm_cell *cells = (hhm_cell *)malloc(page * sizeof *cells);
+    if (!range || !cells) {
+        free(range);
+        free(cells);
+        errno = ENOMEM;
+        return NULL;
+    }
+    range->hhm = hhm;
+    range->block = block;
+    range->has_more = 1;
+    range->most = page;
+    range->cells = cells;
+    return range;
+}
+
+hhm_result hhm_range_next(hhm_range *range, hhm_cell *cell, int *has_cell)
+{
+    if (range->next == range->count && range->has_more) {
+        hhm_result result = hhm_ask_page(range->hhm, range->block, range->row, range->col, range->cells, range->most,
+                                         &range->count, &range->has_more);
+        if (result) {
+            range->next = range->count = 0;
+            return result;
+        }
+        range->next = 0;
+        if (range->has_more) {
+            range->row = range->cells[range->count - 1].row;
+            range->col = range->cells[range->count - 1].col + 1;
+            /* (a column is below 2^60, so this is none) */
+            range->has_more = range->col != 0;
+        }
+    }
+    *has_cell = range->next < range->count;
+    if (*has_cell)
+        *cell = range->cells[range->next++];
+    return HHM_OK;
+}
+
+void hhm_range_close(hhm_range *range)
+{
+    if (range)
+        free(range->cells);
+    free(range);
+}
+
+/* Reads the rows of a top, and tells whether they stand in order. */
+static int read_top(const reply *got, hhm_by by, hhm_top_row *rows, size_t most, size_t *count)
+{
+    uint64_t high = UINT64_MAX, low_row = 0;
+    size_t found = got->length / 24;
+    if (got->length % 24 != 0 || found > most)
+        return 0;
+    for (size_t i = 0; i < found; i++) {
+        uint64_t three[3];
+        three_at(got, 24 * i, three);
+        uint64_t number = by == HHM_BY_TOTAL ? three[2] : three[1];
+        if (three[1] == 0 || (i > 0 && (number > high || (number == high && three[0] <= low_row))))
+            return 0;
+        high = number;
+        low_row = rows[i].row = three[0];
+        rows[i].entries = three[1];
+        rows[i].total = three[2];
+    }
+    *count = found;
+    return 1;
+}
+
+hhm_result hhm_ask_top(hhm_client *hhm, hhm_by by, hhm_top_row *rows, size_t most, size_t *count)
+{
+    unsigned char bytes[9] = {(unsigned char)by};
+    reply got;
+    push(bytes + 1, most, 8);
+    request it = of_bytes(TOP, bytes, sizeof bytes);
+    hhm_result result = ask(hhm, &it, ROWS, &got);
+    if (result)
+        return result;
+    int is_read = read_top(&got, by, rows, most, count);
+    free(got.text);
+    return is_read ? HHM_OK : bad_reply(hhm);
+}
+
+/* Whether a text is lines `name value` of ASCII, each with its LF. */
+static int are_stats(const reply *got)
+{
+    const char *line = got->text, *end = got->text + got->length;
+    for (size_t i = 0; i < got->length; i++)
+        if (got->text[i] == 0 || (unsigned char)got->text[i] > 127)
+            return 0;
+    while (line < end) {
+        const char *stop = (const char *)memchr(line, '\n', (size_t)(end - line));
+        const char *space = stop;
+        while (space && space > line && *space != ' ')
+            space--;
+        if (!space || space == line || space + 1 == stop)
+            return 0;
+        line = stop + 1;
+    }
+    return 1;
+}
+
+hhm_result hhm_ask_stats(hhm_client *hhm, char **text, size_t *length)
+{
+    request it = of_numbers(STATS, 0, 0, 0);
+    reply got;
+    hhm_result result = ask(hhm, &it, TOLD, &got);
+    if (result)
+        return result;
+    if (!are_stats(&got)) {
+        free(got.text);
+        return bad_reply(hhm);
+    }
+    *text = got.text;
+    *length = got.length;
+    return HHM_OK;
+}
+
+int hhm_stat_of(const char *text, const char *name, uint64_t *value)
+{
+    size_t length = strlen(name);
+    for (const char *line = text; line && *line; line = strchr(line, '\n') ? strchr(line, '\n') + 1 : NULL) {
+        const char *digits = line + length + 1;
+        char *end;
+        if (strncmp(line, name, length) || line[length] != ' ' || *digits < '0' || *digits > '9')
+            continue;
+        errno = 0;
+        unsigned long long found = strtoull(digits, &end, 10);
+        if (*end != '\n' || errno)
+            return 0;
+        *value = found;
+        return 1;
+    }
+    return 0;
 }
 
 hhm_result hhm_export(hhm_client *hhm, char **text, size_t *length)

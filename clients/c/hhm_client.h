@@ -31,6 +31,9 @@ extern "C" {
 #define HHM_MOST_BODY 67108864
 #define HHM_MOST_CELLS 1048576
 
+/* The most cells of a page of a range, and the most rows of a top. */
+#define HHM_MOST_PAGE 1000000
+
 /* The most batches that hhm_put_all has on the way: the replies to so many fit into any socket's buffer. */
 #define HHM_MOST_DEPTH 128
 
@@ -73,6 +76,22 @@ typedef struct {
     uint64_t batches, total;
 } hhm_status;
 
+/* The cells whose row and column are from the first to the last of these, both ends in. */
+typedef struct {
+    uint64_t first_row, last_row, first_col, last_col;
+} hhm_block;
+
+/* What the rows of a top lead by: the sum of their counts, or the number of their cells, stored zeros included. */
+typedef enum { HHM_BY_TOTAL = 0, HHM_BY_ENTRIES = 1 } hhm_by;
+
+/* A row, how many cells it has, and the sum of their counts. */
+typedef struct {
+    uint64_t row, entries, total;
+} hhm_top_row;
+
+/* A range that is read cell by cell, and asked for page by page. */
+typedef struct hhm_range hhm_range;
+
 /*
  * Why the server refused a request: the code of docs/FORMATS.md, and its detail: the line of a text's fault (codes
  * above 100), the place from 0 of the first cell of a batch that is out of range (22), the accepted total (31), else 0.
@@ -94,7 +113,7 @@ typedef enum {
     HHM_BAD_REPLY,
     /* A batch has more cells, or a text more bytes, than a server takes. Nothing was sent. */
     HHM_TOO_LARGE,
-    /* There is no memory for the text of an export. The connection is closed. */
+    /* There is no memory for a reply, or for what is made of it. The connection is closed. */
     HHM_MEMORY,
     /* The server lacks what it had accepted: it began again from an older snapshot, or without one; hhm_went_back tells
        more. What this client put since the last save may be missing: put it again, with its numbers, and what this call
@@ -108,7 +127,10 @@ typedef enum {
     HHM_HALF,
     HHM_FULL,
     HHM_OUT_OF_RANGE,
-    HHM_BAD_SUM
+    HHM_BAD_SUM,
+    /* Of several servers by source: which rows lead isn't told by the first HHM_MOST_PAGE of each, since rows that none
+       has among these may have as much in all. */
+    HHM_UNDECIDED
 } hhm_result;
 
 /* What this client's replies said of the accepted batches, and what a server that went back says of them. */
@@ -170,6 +192,39 @@ hhm_result hhm_ask_status(hhm_client *hhm, hhm_status *status);
 /* How many of the accepted batches are durable, the first so many, and their total: a crash of the server's machine
    takes none of them back. A server without a log gives all that it accepted. */
 hhm_result hhm_ask_stored(hhm_client *hhm, hhm_status *stored);
+
+/*
+ * The first `most` cells of a block of the sum, by row and then by column, that stand at the place `row`, `col` or
+ * behind it: at most HHM_MOST_PAGE, into memory for so many. `count` gets how many there are, and `has_more` whether
+ * further ones follow; the next page begins at the place behind the last cell. The memory for the cells may be written
+ * where the result isn't HHM_OK, too.
+ */
+hhm_result hhm_ask_page(hhm_client *hhm, hhm_block block, uint64_t row, uint64_t col, hhm_cell *cells, size_t most,
+                        size_t *count, int *has_more);
+
+/*
+ * Begins to read the cells of a block, by row and then by column, with a page of at most `page` cells in memory, 24 bytes
+ * each (10,000 are good). Nothing is asked yet. A page has what stands there when it is asked for. NULL with errno
+ * ENOMEM, or EINVAL where the page is 0 or larger than HHM_MOST_PAGE. Give it to hhm_range_close, before the client.
+ */
+hhm_range *hhm_range_open(hhm_client *hhm, hhm_block block, size_t page);
+
+/* The next cell; `has_cell` is 0 where there is none. After a fault the same call asks for the same page again. */
+hhm_result hhm_range_next(hhm_range *range, hhm_cell *cell, int *has_cell);
+
+/* Frees what reads a range; NULL is nothing. The client stays as it is. */
+void hhm_range_close(hhm_range *range);
+
+/* The first `most` rows, at most HHM_MOST_PAGE, of those that have a cell, into memory for so many: the highest number
+   first, and of equal ones the lowest row. `count` gets how many there are. */
+hhm_result hhm_ask_top(hhm_client *hhm, hhm_by by, hhm_top_row *rows, size_t most, size_t *count);
+
+/* What the server tells of itself: a text of lines `name value`, by the names of docs/FORMATS.md, which ends with a byte
+   0 that `length` doesn't count; free it with free(). A program takes the names that it knows. */
+hhm_result hhm_ask_stats(hhm_client *hhm, char **text, size_t *length);
+
+/* The number behind a name in such a text; 0 where there is none, or where what stands there is no whole number. */
+int hhm_stat_of(const char *text, const char *name, uint64_t *value);
 
 /* The sum of all accepted batches as a Matrix Market text, whose rows and columns count from 1. It ends with a byte 0
    that `length` doesn't count; free it with free(). */

@@ -430,6 +430,321 @@ hhm_result hhm_cluster_stop(hhm_cluster *hhm)
     return HHM_OK;
 }
 
+/* Ranges. */
+
+struct hhm_cluster_range {
+    hhm_cluster *hhm;
+    /* What each server that may have such cells has, its next cell, and whether that was read. */
+    hhm_range **parts;
+    hhm_cell *next;
+    int *has_next;
+    size_t first, count;
+};
+
+hhm_cluster_range *hhm_cluster_range_open(hhm_cluster *hhm, hhm_block block, size_t page)
+{
+    size_t end = hhm->count, first = 0;
+    if (block.first_row == block.last_row)
+        first = begin_of(hhm, block.first_row, &end);
+    hhm_cluster_range *range = (hhm_cluster_range *)calloc(1, sizeof *range);
+    if (!range)
+        return NULL;
+    range->hhm = hhm;
+    range->first = first;
+    range->parts = (hhm_range **)calloc(end - first, sizeof *range->parts);
+    range->next = (hhm_cell *)calloc(end - first, sizeof *range->next);
+    range->has_next = (int *)calloc(end - first, sizeof *range->has_next);
+    int is_made = range->parts && range->next && range->has_next;
+    for (size_t i = first; is_made && i < end; i++) {
+        range->parts[range->count] = hhm_range_open(hhm->servers[i], block, page);
+        is_made = range->parts[range->count++] != NULL;
+    }
+    if (is_made)
+        return range;
+    int kept = errno;
+    hhm_cluster_range_close(range);
+    errno = kept;
+    return NULL;
+}
+
+void hhm_cluster_range_close(hhm_cluster_range *range)
+{
+    if (!range)
+        return;
+    for (size_t i = 0; range->parts && i < range->count; i++)
+        hhm_range_close(range->parts[i]);
+    free(range->parts);
+    free(range->next);
+    free(range->has_next);
+    free(range);
+}
+
+static int is_before(const hhm_cell *one, const hhm_cell *other)
+{
+    return one->row < other->row || (one->row == other->row && one->col < other->col);
+}
+
+hhm_result hhm_cluster_range_next(hhm_cluster_range *range, hhm_cell *cell, int *has_cell)
+{
+    const hhm_cell *first = NULL;
+    for (size_t i = 0; i < range->count; i++) {
+        if (!range->has_next[i]) {
+            hhm_result result = hhm_range_next(range->parts[i], &range->next[i], &range->has_next[i]);
+            if (result)
+                return of_server(range->hhm, range->first + i, result);
+        }
+        if (range->has_next[i] && (!first || is_before(&range->next[i], first)))
+            first = &range->next[i];
+    }
+    hhm_cell sum = {0, 0, 0};
+    if (first) {
+        sum.row = first->row;
+        sum.col = first->col;
+    }
+    for (size_t i = 0; first && i < range->count; i++)
+        if (range->has_next[i] && range->next[i].row == sum.row && range->next[i].col == sum.col) {
+            range->has_next[i] = 0;
+            if (add(&sum.count, range->next[i].count))
+                return bad_sum(range->hhm);
+        }
+    *has_cell = first != NULL;
+    if (first)
+        *cell = sum;
+    return HHM_OK;
+}
+
+/* Tops. */
+
+/* What servers have told of the rows that lead: of each `depth` rows at most, and whether it may have others. */
+typedef struct {
+    size_t count, depth;
+    hhm_by by;
+    hhm_top_row **lists;
+    size_t *lengths;
+    int *are_cut;
+    /* The most that a row may have in a server that doesn't tell it, and the row that was told last. */
+    uint64_t *ends, *last_rows;
+} lead;
+
+static uint64_t number_by(const hhm_top_row *row, hhm_by by)
+{
+    return by == HHM_BY_TOTAL ? row->total : row->entries;
+}
+
+/* Compares by the highest number first, and by the row. */
+static int by_total(const void *one, const void *other)
+{
+    const hhm_top_row *a = (const hhm_top_row *)one, *b = (const hhm_top_row *)other;
+    return a->total != b->total ? (a->total < b->total) - (a->total > b->total) : (a->row > b->row) - (a->row < b->row);
+}
+
+static int by_entries(const void *one, const void *other)
+{
+    const hhm_top_row *a = (const hhm_top_row *)one, *b = (const hhm_top_row *)other;
+    return a->entries != b->entries ? (a->entries < b->entries) - (a->entries > b->entries)
+                                    : (a->row > b->row) - (a->row < b->row);
+}
+
+static int by_row(const void *one, const void *other)
+{
+    const hhm_top_row *a = (const hhm_top_row *)one, *b = (const hhm_top_row *)other;
+    return (a->row > b->row) - (a->row < b->row);
+}
+
+static int by_number(const void *one, const void *other)
+{
+    uint64_t a = *(const uint64_t *)one, b = *(const uint64_t *)other;
+    return (a < b) - (a > b);
+}
+
+static void free_lead(lead *it)
+{
+    for (size_t i = 0; it->lists && i < it->count; i++)
+        free(it->lists[i]);
+    free(it->lists);
+    free(it->lengths);
+    free(it->are_cut);
+    free(it->ends);
+    free(it->last_rows);
+}
+
+static hhm_result no_memory(hhm_cluster *hhm)
+{
+    return told(hhm, HHM_MEMORY, "there is no memory for the rows");
+}
+
+/* Asks each server for its first rows, which then stand by row. */
+static hhm_result ask_leads(hhm_cluster *hhm, lead *it)
+{
+    it->count = hhm->count;
+    it->lists = (hhm_top_row **)calloc(it->count, sizeof *it->lists);
+    it->lengths = (size_t *)calloc(it->count, sizeof *it->lengths);
+    it->are_cut = (int *)calloc(it->count, sizeof *it->are_cut);
+    it->ends = (uint64_t *)calloc(it->count, sizeof *it->ends);
+    it->last_rows = (uint64_t *)calloc(it->count, sizeof *it->last_rows);
+    if (!it->lists || !it->lengths || !it->are_cut || !it->ends || !it->last_rows)
+        return no_memory(hhm);
+    for (size_t i = 0; i < it->count; i++) {
+        it->lists[i] = (hhm_top_row *)malloc((it->depth ? it->depth : 1) * sizeof **it->lists);
+        if (!it->lists[i])
+            return no_memory(hhm);
+        hhm_result result = hhm_ask_top(hhm->servers[i], it->by, it->lists[i], it->depth, &it->lengths[i]);
+        if (result)
+            return of_server(hhm, i, result);
+        it->are_cut[i] = it->depth > 0 && it->lengths[i] == it->depth;
+        if (it->are_cut[i]) {
+            it->ends[i] = number_by(&it->lists[i][it->depth - 1], it->by);
+            it->last_rows[i] = it->lists[i][it->depth - 1].row;
+        }
+        qsort(it->lists[i], it->lengths[i], sizeof **it->lists, by_row);
+    }
+    return HHM_OK;
+}
+
+static int has_row(const lead *it, size_t place, const hhm_top_row *row)
+{
+    return bsearch(row, it->lists[place], it->lengths[place], sizeof *row, by_row) != NULL;
+}
+
+/* Adds the numbers of a row up, and tells whether a sum passes 64 bits. */
+static int add_row(hhm_top_row *sum, uint64_t entries, uint64_t total)
+{
+    return add(&sum->entries, entries) || add(&sum->total, total);
+}
+
+/* All rows that are told, by row, each once, with the sums of what is told; -1 where one passes 64 bits. */
+static int sums_of(const lead *it, hhm_top_row *sums, size_t *count)
+{
+    size_t all = 0, found = 0;
+    for (size_t i = 0; i < it->count; i++) {
+        memcpy(sums + all, it->lists[i], it->lengths[i] * sizeof *sums);
+        all += it->lengths[i];
+    }
+    qsort(sums, all, sizeof *sums, by_row);
+    for (size_t i = 0; i < all; i++) {
+        if (found > 0 && sums[found - 1].row == sums[i].row) {
+            if (add_row(&sums[found - 1], sums[i].entries, sums[i].total))
+                return -1;
+        } else {
+            sums[found++] = sums[i];
+        }
+    }
+    *count = found;
+    return 0;
+}
+
+/* A sum of numbers that may pass 64 bits: then the highest number. */
+static uint64_t most_of(uint64_t one, uint64_t other)
+{
+    return one + other < one ? UINT64_MAX : one + other;
+}
+
+/* Leaves the rows that may be among the first `most`, by what they have at least, and at most. */
+static hhm_result keep_likely(hhm_cluster *hhm, const lead *it, hhm_top_row *sums, size_t *count, size_t most)
+{
+    uint64_t *least = (uint64_t *)malloc((*count ? *count : 1) * sizeof *least), bound = 0;
+    size_t kept = 0;
+    if (!least)
+        return no_memory(hhm);
+    for (size_t i = 0; i < *count; i++)
+        least[i] = number_by(&sums[i], it->by);
+    qsort(least, *count, sizeof *least, by_number);
+    if (*count >= most)
+        bound = least[most - 1];
+    for (size_t i = 0; i < *count; i++) {
+        uint64_t highest = number_by(&sums[i], it->by);
+        for (size_t place = 0; place < it->count; place++)
+            if (!has_row(it, place, &sums[i]))
+                highest = most_of(highest, it->ends[place]);
+        if (highest >= bound)
+            sums[kept++] = sums[i];
+    }
+    free(least);
+    *count = kept;
+    return HHM_OK;
+}
+
+/* Asks for what isn't told of rows. */
+static hhm_result ask_rest(hhm_cluster *hhm, const lead *it, hhm_top_row *sums, size_t count)
+{
+    for (size_t place = 0; place < it->count; place++)
+        for (size_t i = 0; it->are_cut[place] && i < count; i++) {
+            hhm_row_sum sum;
+            if (has_row(it, place, &sums[i]))
+                continue;
+            hhm_result result = hhm_ask_row(hhm->servers[place], sums[i].row, &sum);
+            if (result)
+                return of_server(hhm, place, result);
+            if (add_row(&sums[i], sum.entries, sum.total))
+                return bad_sum(hhm);
+        }
+    return HHM_OK;
+}
+
+/* Whether no row that no server tells stands before the last of these. One with as much as all ends together stands
+   behind the end of each list. */
+static int is_decided(const lead *it, const hhm_top_row *rows, size_t count)
+{
+    uint64_t bound = 0, behind = 0;
+    int is_cut = 0;
+    for (size_t i = 0; i < it->count; i++)
+        if (it->are_cut[i]) {
+            is_cut = 1;
+            bound = most_of(bound, it->ends[i]);
+            behind = it->last_rows[i] > behind ? it->last_rows[i] : behind;
+        }
+    if (!is_cut || count == 0)
+        return !is_cut;
+    uint64_t number = number_by(&rows[count - 1], it->by);
+    return number > bound || (number == bound && rows[count - 1].row <= behind);
+}
+
+/* The rows that lead as far as is told by the first `depth` of each server, and whether that is certain. */
+static hhm_result ask_top(hhm_cluster *hhm, lead *it, hhm_top_row *rows, size_t most, size_t *count, int *is_certain)
+{
+    size_t all = 0, found = 0;
+    hhm_result result = ask_leads(hhm, it);
+    if (result)
+        return result;
+    for (size_t i = 0; i < it->count; i++)
+        all += it->lengths[i];
+    hhm_top_row *sums = (hhm_top_row *)malloc((all ? all : 1) * sizeof *sums);
+    if (!sums)
+        return no_memory(hhm);
+    if (sums_of(it, sums, &found))
+        result = bad_sum(hhm);
+    if (result == HHM_OK && hhm->way == HHM_BY_SOURCE) {
+        result = keep_likely(hhm, it, sums, &found, most);
+        if (result == HHM_OK)
+            result = ask_rest(hhm, it, sums, found);
+    }
+    qsort(sums, found, sizeof *sums, it->by == HHM_BY_TOTAL ? by_total : by_entries);
+    found = found < most ? found : most;
+    *is_certain = hhm->way == HHM_BY_ROWS || is_decided(it, sums, found);
+    if (result == HHM_OK && *is_certain) {
+        memcpy(rows, sums, found * sizeof *rows);
+        *count = found;
+    }
+    free(sums);
+    return result;
+}
+
+hhm_result hhm_cluster_ask_top(hhm_cluster *hhm, hhm_by by, hhm_top_row *rows, size_t most, size_t *count)
+{
+    size_t depth = most;
+    for (;;) {
+        lead it = {0, depth, by, NULL, NULL, NULL, NULL, NULL};
+        int is_certain = 0;
+        hhm_result result = ask_top(hhm, &it, rows, most, count, &is_certain);
+        free_lead(&it);
+        if (result || is_certain)
+            return result;
+        if (depth >= HHM_MOST_PAGE)
+            return told(hhm, HHM_UNDECIDED, "which rows lead isn't told by the first of each server");
+        depth = 4 * depth < HHM_MOST_PAGE ? 4 * depth : HHM_MOST_PAGE;
+    }
+}
+
 /* Exports. */
 
 /* A text that a server wrote, and the cell that is next in it. */

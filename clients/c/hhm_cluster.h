@@ -26,6 +26,9 @@ extern "C" {
 
 typedef struct hhm_cluster hhm_cluster;
 
+/* A range of all servers, which is read cell by cell. */
+typedef struct hhm_cluster_range hhm_cluster_range;
+
 /* Where the batches of a client go: each whole to one server, the one at place (client mod number of servers); or each
    cut by a hash of its rows, to all servers. */
 typedef enum { HHM_BY_SOURCE = 0, HHM_BY_ROWS = 1 } hhm_way;
@@ -65,6 +68,22 @@ hhm_result hhm_cluster_put_all(hhm_cluster *hhm, const hhm_batch *batches, size_
    HHM_BAD_SUM where a sum of several servers passes 64 bits. */
 hhm_result hhm_cluster_ask_cell(hhm_cluster *hhm, uint64_t row, uint64_t col, hhm_value *value);
 hhm_result hhm_cluster_ask_row(hhm_cluster *hhm, uint64_t row, hhm_row_sum *sum);
+
+/*
+ * The cells of a block, as hhm_range_open: those of all servers, merged, and where several have a cell its counts added
+ * up (HHM_BAD_SUM where they pass 64 bits). Each server has a page of its own in memory, of at most `page` cells. Give it
+ * to hhm_cluster_range_close, before the cluster.
+ */
+hhm_cluster_range *hhm_cluster_range_open(hhm_cluster *hhm, hhm_block block, size_t page);
+hhm_result hhm_cluster_range_next(hhm_cluster_range *range, hhm_cell *cell, int *has_cell);
+void hhm_cluster_range_close(hhm_cluster_range *range);
+
+/*
+ * The first `most` rows, as hhm_ask_top. By source a row's numbers are those of hhm_cluster_ask_row: all servers' added
+ * up. Each is then asked for more rows, and for single ones, until it is certain which lead, or a million of each don't
+ * tell it (HHM_UNDECIDED).
+ */
+hhm_result hhm_cluster_ask_top(hhm_cluster *hhm, hhm_by by, hhm_top_row *rows, size_t most, size_t *count);
 
 /* How many batches were accepted, markers aside, or are durable, and their total. By rows the number is that of the
    server that has fewest, since each batch is at all of them. */

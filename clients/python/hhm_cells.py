@@ -2,7 +2,7 @@
 
     total = sum_of("packets.snap")                  # a snapshot, by `hhm export`, of whatever size
     total = sum_of("packets.mtx")                   # a text, whose entries `hhm sum` adds up
-    total = sum_of(Client(unix="/run/hhm/hhm.sock"))# a server, by an export, whose text has at most 64 MiB
+    total = sum_of(Client(unix="/run/hhm/hhm.sock"))# a server, by an export, or where that is too long by ranges
     print(total.rows, total.cols, len(total.cells.counts))
 
 No count is rounded, and a stored zero is a cell like others. Memory: 24 bytes a cell, and some megabytes.
@@ -14,10 +14,10 @@ import subprocess
 import sys
 from typing import BinaryIO, NamedTuple, Optional, Union
 
-from hhm_client import Arrays, Client
+from hhm_client import Arrays, Client, Refused
 
-# The bytes of a text that are parted into words at once.
-BLOCK = 1 << 20
+# The bytes of a text that are parted into words at once, and the cells of a page.
+BLOCK, PAGE = 1 << 20, 100_000
 
 Source = Union[str, "os.PathLike[str]", Client]
 
@@ -42,14 +42,42 @@ def sum_of(source: Source, program: str = "hhm") -> Sum:
     """The sum of a server, or of a file: a snapshot, or a Matrix Market text, which may be `-`, standard input.
 
     `program` is the hhm that reads files, by its name on the path or by a path. A `NoSum` tells what it says of a file
-    that it refuses, an OSError that there is no such file or program; of a server it is what `export` raises.
+    that it refuses, an OSError that there is no such file or program; of a server it is what a client raises.
     """
     if isinstance(source, Client):
-        total = read_sum(io.BytesIO(source.export()))
-        if total is None:
-            raise NoSum(4, "what the server exported is no whole text")
-        return total
+        return sum_of_server(source)
     return sum_of_file(os.fspath(source), program)
+
+
+def sum_of_server(hhm: Client) -> Sum:
+    """By an export, whose text has at most 64 MiB. What is longer is read page by page, each as it stands when it is
+    asked for, where the server knows ranges."""
+    try:
+        total = read_sum(io.BytesIO(hhm.export()))
+    except Refused as refused:
+        if refused.name != "ReplyTooLarge":
+            raise
+        return sum_of_pages(hhm, refused)
+    if total is None:
+        raise NoSum(4, "what the server exported is no whole text")
+    return total
+
+
+def sum_of_pages(hhm: Client, refused: Refused) -> Sum:
+    """By ranges; what was refused where the server doesn't know them."""
+    rows, cols = hhm.size()
+    cells = Arrays(array.array("Q"), array.array("Q"), array.array("Q"))
+    start, has_more = (0, 0), True
+    while has_more:
+        try:
+            page, has_more = hhm.page((0, rows - 1), (0, cols - 1), start, PAGE)
+        except Refused as why:
+            raise refused if why.name == "UnknownKind" else why
+        for numbers, column in zip(cells, zip(*page)):
+            numbers.extend(column)
+        if page:
+            start = page[-1][0], page[-1][1] + 1
+    return Sum(rows, cols, cells)
 
 
 def sum_of_file(path: str, program: str) -> Sum:

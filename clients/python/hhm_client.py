@@ -38,51 +38,51 @@ a connection of its own.
 """
 import argparse
 import array
+import contextlib
 import errno
-import importlib
 import itertools
 import os
 import selectors
 import socket
 import struct
 import sys
-import threading
 import time
 from time import monotonic
-from typing import Any, Dict, Iterable, Iterator, List, NamedTuple, Optional, Sequence, Tuple, Union
+from typing import Any, Callable, Dict, Iterable, Iterator, List, NamedTuple, Optional, Sequence, Tuple, TypeVar, Union
 
 # What waits for a connection that blocks: it keeps nothing in the system, which a fork would share.
 Selector = getattr(selectors, "PollSelector", selectors.SelectSelector)
 
 MAX_BODY = 67_108_864
 MAX_CELLS = 1_048_576
+# The cells of a page of a range, where nothing else is said, and the most of it, and of the rows of a top.
+PAGE, MAX_PAGE = 10_000, 1_000_000
 # The most batches that `put_all` has on the way: the replies to so many fit into any socket's buffer.
 MAX_DEPTH = 128
 # The bytes of replies that are read at once while a request is sent.
 EARLY = 65_536
-# Of the command line: the seconds that it waits for an answer, and what it adds to refusals.
-TIMEOUT, SAVE_TIMEOUT = 60, 600
-SPLIT = "put it as several batches, as the word load does with files of events"
-TOO_LONG = "the text has more than 64 MiB: save, and take the snapshot (`hhm export`, `hhmc --from`)"
-ADVICE = {"TooManyEntries": f": {SPLIT}", "ReplyTooLarge": f": {TOO_LONG}"}
-KEPT_RUNNING = ": nothing was stopped; `stop --discard` stops the server without what it can't save"
 BANNER = b"%%MatrixMarket matrix coordinate integer general\n"
 
-PUT, CELL, ROW, STATUS, EXPORT, SAVE, STOP, PUT_CELLS, STORED = range(1, 10)
-ACCEPTED, VALUE, ROW_SUM, COUNTS, TEXT, SAVED, STOPPING = range(0x81, 0x88)
+PUT, CELL, ROW, STATUS, EXPORT, SAVE, STOP, PUT_CELLS, STORED, RANGE, TOP, STATS = range(1, 13)
+ACCEPTED, VALUE, ROW_SUM, COUNTS, TEXT, SAVED, STOPPING, CELLS, ROWS, TOLD = range(0x81, 0x8B)
 REFUSED = 0xFF
+# What the rows of a top may lead by, each at its number in the request.
+BY = ("total", "entries")
 
 CODES = {
     1: "Memory", 20: "DimensionsDiffer", 21: "SumTooLarge", 22: "IndexOutOfRange", 23: "TooManyCells",
     30: "NumberReused", 31: "OverTotal", 32: "BookFull", 33: "RecordsDiffer", 34: "LogFull", 35: "LogFailed",
-    40: "ReplyTooLarge", 41: "OutOfRange", 42: "SaveFailed", 43: "SaveOff", 50: "TooLarge", 51: "UnknownKind",
-    52: "BadLength",
+    40: "ReplyTooLarge", 41: "OutOfRange", 42: "SaveFailed", 43: "SaveOff", 44: "BadCount", 50: "TooLarge",
+    51: "UnknownKind", 52: "BadLength",
     103: "BadBanner", 104: "Unsupported", 105: "LineTooLong", 106: "BadSize", 107: "BadDimension",
     108: "NotSquare", 109: "TooManyEntries", 110: "BadEntry", 111: "Negative", 112: "NumberTooLarge",
     113: "IndexOutOfRange", 114: "TooFewEntries", 115: "ExtraText", 116: "TooLong",
 }
 
 Text = Union[bytes, bytearray, memoryview]
+Place = Tuple[int, int]
+Cell = Tuple[int, int, int]
+Answer = TypeVar("Answer")
 
 
 class Arrays(NamedTuple):
@@ -119,6 +119,21 @@ class Status(NamedTuple):
     """How many batches were accepted, and their total."""
 
     batches: int
+    total: int
+
+
+class Page(NamedTuple):
+    """Cells of a range, by row and then by column, and whether further ones follow."""
+
+    cells: List[Cell]
+    has_more: bool
+
+
+class TopRow(NamedTuple):
+    """A row, how many cells it has, stored zeros included, and the sum of their counts."""
+
+    row: int
+    entries: int
     total: int
 
 
@@ -181,6 +196,91 @@ def cells_of(text: bytes) -> Iterator[Tuple[int, int, int]]:
     for line in text.split(b"\n")[2:-1]:
         row, col, count = line.split()
         yield int(row) - 1, int(col) - 1, int(count)
+
+
+def page_of(body: bytes, rows: Place, cols: Place, start: Place, most: int) -> Page:
+    """The page that a reply to a Range has. A BadReply where it is none of what was asked for."""
+    if len(body) % 24 != 1 or body[0] > 1:
+        raise BadReply(f"{len(body)} bytes are no page")
+    cells = list(struct.iter_unpack(">QQQ", memoryview(body)[1:]))
+    if len(cells) > most or (body[0] == 1 and len(cells) < most):
+        raise BadReply(f"a page of {len(cells)} cells, and {most} were asked for")
+    before = start[0], start[1] - 1
+    for row, col, _ in cells:
+        if (row, col) <= before or not (rows[0] <= row <= rows[1] and cols[0] <= col <= cols[1]):
+            raise BadReply(f"row {row}, column {col} isn't in its place")
+        before = row, col
+    return Page(cells, body[0] == 1)
+
+
+def paged(ask: Callable[[Place], Page]) -> Iterator[Cell]:
+    """The cells of a range, whose pages are asked for by the places where they begin."""
+    start = 0, 0
+    while True:
+        page = ask(start)
+        yield from page.cells
+        if not page.has_more:
+            return
+        row, col, _ = page.cells[-1]
+        start = row, col + 1
+
+
+def top_of(body: bytes, most: int, by: str) -> List[TopRow]:
+    """The rows that a reply to a Top has. A BadReply where it can't be one."""
+    if len(body) % 24 != 0 or len(body) > 24 * most:
+        raise BadReply(f"{len(body)} bytes are no {most} rows")
+    rows = [TopRow(*row) for row in struct.iter_unpack(">QQQ", body)]
+    keys = [order_of(row, by) for row in rows]
+    if any(one >= other for one, other in zip(keys, keys[1:])) or not all(row.entries for row in rows):
+        raise BadReply("the rows don't stand in order")
+    return rows
+
+
+def order_of(row: TopRow, by: str) -> Place:
+    """What the rows of a top stand in order of: the highest first, and of equal ones the lowest row."""
+    return -number_by(row, by), row.row
+
+
+def number_by(row: TopRow, by: str) -> int:
+    """The number that a row leads by."""
+    return row.total if by == "total" else row.entries
+
+
+def stats_of(body: bytes) -> Dict[str, Union[int, float, str]]:
+    """The names of a reply to a Stats with their values. A BadReply where it can't be one."""
+    found: Dict[str, Union[int, float, str]] = {}
+    *lines, rest = body.decode("ascii", "replace").split("\n")
+    for line in lines:
+        name, _, value = line.rpartition(" ")
+        if not name or not value or not line.isascii():
+            raise BadReply(f"{line!r} is no name with a value")
+        found[name] = value_of(value)
+    if rest:
+        raise BadReply(f"{rest!r} is no whole line")
+    return found
+
+
+def value_of(word: str) -> Union[int, float, str]:
+    """A number where the word is one, and else the word."""
+    whole, point, part = word.partition(".")
+    if not (whole.isdigit() and (part.isdigit() or not point)):
+        return word
+    return float(word) if point else int(word)
+
+
+def least_refused(ask: Callable[[int], Any]) -> int:
+    """The least number, from 1 to 2^60, that is answered by OutOfRange, where each higher one is too."""
+    answered, refused = 0, 1 << 60
+    while refused - answered > 1:
+        middle = (answered + refused) // 2
+        try:
+            ask(middle)
+            answered = middle
+        except Refused as why:
+            if why.name != "OutOfRange":
+                raise
+            refused = middle
+    return refused
 
 
 def host_and_port(word: str) -> Tuple[str, int]:
@@ -495,6 +595,44 @@ class Client:
         machine takes none of them back. A server without a log gives all that it accepted."""
         return Status(*struct.unpack(">QQ", self._ask(request(STORED), COUNTS, 16)))
 
+    def range(self, rows: Optional[Place] = None, cols: Optional[Place] = None, page: int = PAGE) -> Iterator[Cell]:
+        """The cells of the sum whose row and column are from the first to the last of these, both ends in, by row and
+        then by column; without bounds those of all rows, or columns. They are asked for page by page, of so many cells
+        each, at most 1,000,000: a page has what stands there when it is asked for."""
+        if rows is None or cols is None:
+            size = self.size()
+            rows, cols = rows or (0, size[0] - 1), cols or (0, size[1] - 1)
+        within = rows, cols
+        return paged(lambda start: self.page(*within, start, page))
+
+    def page(self, rows: Place, cols: Place, start: Place = (0, 0), most: int = PAGE) -> Page:
+        """The first `most` cells of such a range, at most 1,000,000, that stand at the place `start` or behind it."""
+        frame = request(RANGE, *rows, *cols, *start, most)
+        return self._ask_for(frame, CELLS, lambda body: page_of(body, rows, cols, start, most))
+
+    def top(self, most: int = 10, by: str = "total") -> List[TopRow]:
+        """The first `most` rows, at most 1,000,000, of those that have a cell: by total, or by the number of their
+        cells (`by="entries"`), the highest first, and of equal ones the lowest row."""
+        if by not in BY or not 0 <= most < 2**64:
+            raise ValueError(f"by is one of {BY}, and most a number from 1 to 1,000,000")
+        frame = request(TOP, body=struct.pack(">BQ", BY.index(by), most))
+        return self._ask_for(frame, ROWS, lambda body: top_of(body, most, by))
+
+    def stats(self) -> Dict[str, Union[int, float, str]]:
+        """What the server tells of itself, by the names of docs/FORMATS.md. A program takes those that it knows."""
+        return self._ask_for(request(STATS), TOLD, stats_of)
+
+    def size(self) -> Tuple[int, int]:
+        """The server's numbers of rows and columns, as its stats tell them; of one that doesn't tell them, found by
+        asking for cells: the first that is out of range."""
+        stats: Dict[str, Any] = {}
+        with contextlib.suppress(Refused):
+            stats = self.stats()
+        rows, cols = stats.get("rows"), stats.get("cols", stats.get("columns"))
+        if isinstance(rows, int) and isinstance(cols, int):
+            return rows, cols
+        return least_refused(lambda row: self.cell(row, 0)), least_refused(lambda col: self.cell(0, col))
+
     def export(self) -> bytes:
         """The text of the sum of all accepted batches; `cells_of` reads it."""
         return self._ask(request(EXPORT), TEXT, None)
@@ -528,6 +666,15 @@ class Client:
         self._begin()
         self._send_ahead([frame])
         return self._first_reply([frame], wanted, length)
+
+    def _ask_for(self, frame: bytes, wanted: int, read: Callable[[bytes], Answer]) -> Answer:
+        """Asks for what is read of a reply of any length; one that can't be read leaves no connection."""
+        body = self._ask(frame, wanted, None)
+        try:
+            return read(body)
+        except BadReply:
+            self.close()
+            raise
 
     def _put(self, number: int, frame: bytes) -> Accepted:
         if not self._has_room(frame):
@@ -720,146 +867,14 @@ def address(word: str) -> str:
     return word
 
 
-def module_of(name: str) -> Any:
-    """A module with further words, hhm_load or hhm_plot, where it stands beside this one."""
-    try:
-        return importlib.import_module(name)
-    except ImportError:
-        return None
-
-
-def parser() -> argparse.ArgumentParser:
-    words = argparse.ArgumentParser(description="Asks a server of hhm. Rows and columns count from 0.")
-    where = words.add_mutually_exclusive_group(required=True)
-    where.add_argument("--tcp", type=address, metavar="HOST:PORT")
-    where.add_argument("--unix", metavar="PATH")
-    source = "a snapshot or a Matrix Market text (- for standard input) in place of a server, for plot alone"
-    where.add_argument("--from", dest="source", metavar="FILE", help=source)
-    timeout = f"for each answer ({TIMEOUT}; {SAVE_TIMEOUT} for a save, which takes longer the more was accepted)"
-    words.add_argument("--timeout", type=float, metavar="SECONDS", help=timeout)
-    attempts = "how often a request is sent (3, within a moment; of a load 14, for a minute, as a server takes to start)"
-    words.add_argument("--attempts", type=int, metavar="N", help=attempts)
-    asked = words.add_subparsers(dest="word", required=True)
-    put = asked.add_parser("put", help="puts a Matrix Market text as a batch")
-    put.add_argument("client", type=number)
-    put.add_argument("number", type=number)
-    put.add_argument("file", nargs="?", help="standard input where none is given")
-    if module := module_of("hhm_load"):
-        module.add_words(asked.add_parser("load", help="puts the events of files, in batches that count once"))
-    if module := module_of("hhm_plot"):
-        module.add_words(asked.add_parser("plot", help="draws degrees, or where cells are"))
-    cell = asked.add_parser("cell", help="the count of a cell, or the line `none`")
-    cell.add_argument("row", type=number)
-    cell.add_argument("col", type=number)
-    row = asked.add_parser("row", help="a row's number of cells, and their sum")
-    row.add_argument("row", type=number)
-    asked.add_parser("status", help="the number of accepted batches, and their total")
-    asked.add_parser("stored", help="the number of durable batches, which no crash takes back, and their total")
-    asked.add_parser("export", help="writes the sum as a Matrix Market text")
-    asked.add_parser("save", help="saves a snapshot")
-    stop = asked.add_parser("stop", help="saves, where the server has a place for snapshots, and stops the server")
-    stop.add_argument("--discard", action="store_true", help="stops it also where saving fails, without trying first")
-    return words
-
-
-def text_to_put(path: Optional[str]) -> bytes:
-    """The text of a file, or of standard input. A ValueError where no batch can be so long."""
-    most = MAX_BODY - 16
-    with sys.stdin.buffer if path is None else open(path, "rb") as file:
-        text = file.read(most + 1)
-    if len(text) > most:
-        raise ValueError(f"{path or 'the text'} has more than the {most} bytes of a batch: {SPLIT}")
-    return text
-
-
-def stop(hhm: Client, discards: bool) -> None:
-    """Stops the server, which saves first where it has a place for snapshots, unless what isn't saved may be lost."""
-    try:
-        if not discards:
-            hhm.save()
-    except Refused as refused:
-        if refused.name != "SaveOff":
-            raise
-    hhm.stop()
-
-
-def answer(hhm: Client, given: argparse.Namespace, text: bytes) -> bytes:
-    """Does what the command line asks, and gives what is to be printed."""
-    if given.word == "load":
-        return module_of("hhm_load").load(hhm, given).encode()
-    if given.word == "put":
-        return b"index %d total_after %d\n" % hhm.put_text(given.number, text)
-    if given.word == "cell":
-        count = hhm.cell(given.row, given.col)
-        return b"none\n" if count is None else b"%d\n" % count
-    if given.word == "row":
-        return b"entries %d total %d\n" % hhm.row(given.row)
-    if given.word == "status":
-        return b"batches %d total %d\n" % hhm.status()
-    if given.word == "stored":
-        return b"batches %d total %d\n" % hhm.stored()
-    if given.word in ("export", "plot"):
-        return hhm.export()
-    if given.word == "save":
-        return b"saved %d\n" % hhm.save()
-    stop(hhm, given.discard)
-    return b"stopping\n"
-
-
-def asked(given: argparse.Namespace) -> bytes:
-    """Asks, and tells after two seconds that it waits; a load, which tells how far it is, only for a connection."""
-    if given.source is not None:
-        return module_of("hhm_plot").plot(None, given).encode()
-    text = text_to_put(given.file) if given.word == "put" else b""
-    place = given.unix if given.tcp is None else given.tcp
-    client = given.client if given.word in ("put", "load") else 0
-    usual = SAVE_TIMEOUT if given.word in ("save", "stop") else TIMEOUT
-    attempts = given.attempts or (14 if given.word == "load" else 3)
-    limits = {"timeout": usual if given.timeout is None else given.timeout, "attempts": attempts}
-    hhm = Client(tcp=given.tcp, unix=given.unix, client=client, **limits)
-
-    def tell() -> None:
-        if given.word != "load" or hhm._link is None:
-            print(f"waiting for the server at {place}", file=sys.stderr, flush=True)
-
-    waits = threading.Timer(2, tell)
-    waits.daemon = True
-    waits.start()
-    try:
-        with hhm:
-            found = answer(hhm, given, text)
-    finally:
-        waits.cancel()
-    return module_of("hhm_plot").plot(found, given).encode() if given.word == "plot" else found
-
-
 def main() -> int:
-    """The command line. 0; 1 where the server refused; 2 for bad words; 3 for lines that are no events and files that are
-    no sum; 4 where it can't be reached or a file read."""
-    words = parser()
-    given = words.parse_args()
-    if given.source is not None and given.word != "plot":
-        words.error(f"--from is for plot: give --tcp or --unix for {given.word}")
-    try:
-        sys.stdout.buffer.write(asked(given))
-        sys.stdout.buffer.flush()
-    except Ended as ended:
-        print(ended, file=sys.stderr)
-        return ended.status
-    except Refused as refused:
-        advice = KEPT_RUNNING if given.word == "stop" else ADVICE.get(refused.name, "")
-        print(f"refused: {refused}{advice}", file=sys.stderr)
-        return 1
-    except (OSError, ValueError) as error:
-        is_named = isinstance(error, OSError) and error.filename is not None and error.strerror
-        print("failed:", f"{error.filename}: {error.strerror}" if is_named else error, file=sys.stderr)
-        return 4
-    except KeyboardInterrupt:
-        return 130
-    return 0
+    """The command line, which is hhm_command.py beside this file."""
+    import hhm_command
+
+    return hhm_command.main()
 
 
 if __name__ == "__main__":
-    # (the loader's classes are those of this program, and not of a second copy)
+    # (the classes of the command line are those of this program, and not of a second copy)
     sys.modules["hhm_client"] = sys.modules[__name__]
     sys.exit(main())

@@ -35,8 +35,9 @@ import threading
 from typing import Any, Callable, Dict, Iterable, Iterator, List, NamedTuple, Optional, Sequence, Tuple, Union
 
 from hhm_client import (
-    ACCEPTED, BANNER, MAX_DEPTH, PUT_CELLS, Accepted, Arrays, BookWentBack, Cells, Client, Link, Refused,
-    RowSum, Status, Text, bytes_of, bytes_of_arrays, cells_of, host_and_port, request,
+    ACCEPTED, BANNER, MAX_DEPTH, MAX_PAGE, PAGE, PUT_CELLS, Accepted, Arrays, BookWentBack, Cell, Cells, Client, Link,
+    Page, Refused, RowSum, Status, Text, TopRow, bytes_of, bytes_of_arrays, cells_of, host_and_port, number_by, order_of,
+    paged, request,
 )
 
 WAYS = ("source", "rows")
@@ -85,6 +86,11 @@ class WentBack(Exception):
     def __init__(self, servers: Dict[int, BookWentBack]):
         self.servers = servers
         super().__init__("; ".join(f"server {place}: {why}" for place, why in sorted(servers.items())))
+
+
+class Undecided(Exception):
+    """Which rows lead isn't known: of several servers by source, each was asked for its first 1,000,000, and rows that
+    none of them has among these may have as much in all. Where many rows have nearly the same number that is so."""
 
 
 class Batch(NamedTuple):
@@ -151,6 +157,54 @@ def merged(texts: Sequence[bytes]) -> bytes:
     for (row, col), same in itertools.groupby(cells, key=operator.itemgetter(0, 1)):
         lines.append(b"%d %d %d\n" % (row + 1, col + 1, sum(cell[2] for cell in same)))
     return b"%b%b %b %d\n%b" % (BANNER, rows, cols, len(lines), b"".join(lines))
+
+
+class Lead(NamedTuple):
+    """What servers have told of the rows that lead: of each its first `depth` rows, or all that it has."""
+
+    lists: List[List[TopRow]]
+    depth: int
+    by: str
+
+    def are_cut(self) -> List[bool]:
+        """Whether each of the servers may have rows that it doesn't tell."""
+        return [len(rows) == self.depth for rows in self.lists]
+
+    def ends(self) -> List[int]:
+        """The most that a row may have in each of the servers which don't tell it."""
+        return [number_by(rows[-1], self.by) if is_cut else 0 for rows, is_cut in zip(self.lists, self.are_cut())]
+
+    def unknown(self, most: int) -> List[List[int]]:
+        """The rows that each of the servers must be asked for, since they may be among the first `most`."""
+        tables, ends = [{it.row: number_by(it, self.by) for it in rows} for rows in self.lists], self.ends()
+        least: Dict[int, int] = {}
+        for row, number in itertools.chain(*(table.items() for table in tables)):
+            least[row] = least.get(row, 0) + number
+        bound = heapq.nlargest(most, least.values())[-1] if len(least) >= most else 0
+        rest = {row: sum(end for table, end in zip(tables, ends) if row not in table) for row in least}
+        rows = [row for row in least if least[row] + rest[row] >= bound]
+        are_cut = self.are_cut()
+        return [[row for row in rows if row not in table] if is_cut else [] for table, is_cut in zip(tables, are_cut)]
+
+    def added(self, asked: List[Dict[int, RowSum]]) -> List[TopRow]:
+        """The rows that are told, in order, with what servers were asked for; some of them too low, but none of those
+        that lead."""
+        sums: Dict[int, List[int]] = {}
+        told = ((it.row, it.entries, it.total) for rows in self.lists for it in rows)
+        for row, entries, total in [*told, *((row, *it) for answers in asked for row, it in answers.items())]:
+            sum_ = sums.setdefault(row, [0, 0])
+            sum_[0] += entries
+            sum_[1] += total
+        return sorted((TopRow(row, *sum_) for row, sum_ in sums.items()), key=lambda it: order_of(it, self.by))
+
+    def is_decided(self, leading: List[TopRow]) -> bool:
+        """Whether no row that no server tells stands before the last of these."""
+        lasts = [rows[-1].row for rows, is_cut in zip(self.lists, self.are_cut()) if is_cut]
+        if not lasts:
+            return True
+        # (a row with as much as all ends together stands behind the end of each list)
+        number, bound = number_by(leading[-1], self.by), sum(self.ends())
+        return number > bound or (number == bound and leading[-1].row <= max(lasts))
 
 
 def address_in(path: str) -> Callable[[], str]:
@@ -352,6 +406,48 @@ class Cluster(Several):
     def row(self, row: int) -> RowSum:
         """The sum of a row, counted from 0. By source a cell is counted in `entries` by each server that has it."""
         return RowSum(*map(sum, zip(*self._ask(self._having(row), lambda part: part.row(row)))))
+
+    def range(
+        self, rows: Optional[Tuple[int, int]] = None, cols: Optional[Tuple[int, int]] = None, page: int = PAGE
+    ) -> Iterator[Cell]:
+        """The cells of the sum whose row and column are from the first to the last of these, both ends in, by row and
+        then by column: those of all servers, merged, and where several have a cell its counts added up. Each server is
+        asked page by page; without bounds `size` is asked for where it isn't given."""
+        if rows is None or cols is None:
+            [size] = [self.size] if self.size else self._ask(self.parts[:1], Part.size)
+            rows, cols = rows or (0, size[0] - 1), cols or (0, size[1] - 1)
+        parts = self._having(rows[0]) if rows[0] == rows[1] else self.parts
+        cells = heapq.merge(*(self._range_of(part, rows, cols, page) for part in parts))
+        for place, same in itertools.groupby(cells, key=operator.itemgetter(0, 1)):
+            yield (*place, sum(cell[2] for cell in same))
+
+    def _range_of(self, part: Part, rows: Tuple[int, int], cols: Tuple[int, int], most: int) -> Iterator[Cell]:
+        """The cells of a range that one server has."""
+
+        def ask(start: Tuple[int, int]) -> Page:
+            [page] = self._ask([part], lambda part: part.page(rows, cols, start, most))
+            return page
+
+        return paged(ask)
+
+    def top(self, most: int = 10, by: str = "total") -> List[TopRow]:
+        """The first `most` rows, of those that have a cell, by total or by entries, the highest first, and of equal ones
+        the lowest row. By source a row's numbers are those of `row`: all servers' added up, so that `entries` counts a
+        cell for each that has it. Each is then asked for more rows, and for single ones, until it is certain which
+        lead; an `Undecided` where a million rows of each don't tell."""
+        depth = most
+        while True:
+            lead = Lead(self._ask(self.parts, lambda part: part.top(depth, by)), depth, by)
+            if self.by == "rows":
+                return lead.added([])[:most]
+            missing = dict(enumerate(lead.unknown(most)))
+            asked = self._ask(self.parts, lambda part: {row: part.row(row) for row in missing[part.place]})
+            leading = lead.added(asked)[:most]
+            if lead.is_decided(leading):
+                return leading
+            if depth == MAX_PAGE:
+                raise Undecided(f"which {most} rows lead by {by} isn't told by the first {depth} of each server")
+            depth = min(4 * depth, MAX_PAGE)
 
     def status(self) -> Status:
         """How many batches were accepted, markers aside, and their total. By rows the number is that of the server

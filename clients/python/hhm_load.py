@@ -276,7 +276,8 @@ class Shape(NamedTuple):
             return text.split() if set(map(len, map(str.split, lines))) == {width} else None
         if set(map(methodcaller("count", self.separator), lines)) != {width - 1} or "\n" in lines or "\r\n" in lines:
             return None
-        return text.removesuffix("\n").replace("\n", self.separator).split(self.separator)
+        lines = text[:-1] if text.endswith("\n") else text
+        return lines.replace("\n", self.separator).split(self.separator)
 
 
 SHAPES = {"csv": Shape(",", '"'), "tsv": Shape("\t", ""), "mtx": Shape(None, "%"), "pairs": Shape(None, "#%")}

@@ -1,8 +1,9 @@
-"""Pictures of a sum: how its degrees are distributed, and where its cells are. Python's standard library alone.
+"""Pictures of a sum: how its degrees are distributed, and where its cells are; and of what a server accepts over time
+(hhm_rates.py). Python's standard library alone.
 
 This is the word `plot` of `hhm_client.py`:
 
-    hhmc --unix /run/hhm/hhm.sock plot degrees degrees.svg     # a server, whose sum has at most 64 MiB of text
+    hhmc --unix /run/hhm/hhm.sock plot degrees degrees.svg     # a server
     hhmc --from packets.snap plot spy packets.png              # a snapshot of whatever size, or a Matrix Market text
 
 `degrees` draws on logarithmic axes which share of the rows, and of the columns, has how many cells (`--by total`: which
@@ -11,15 +12,16 @@ more than d / 2 and at most d. `spy` draws the occupied cells as at most 256 by 
 (or which total) each has, on a logarithmic scale.
 """
 import argparse
-import io
 import math
 import socket
 import struct
 from collections import Counter
 from typing import Callable, Dict, Iterable, List, NamedTuple, Optional, Sequence, Tuple
 
-from hhm_cells import NoSum, Sum, read_sum, sum_of
-from hhm_client import Arrays, Ended
+from hhm_cells import NoSum, Sum, sum_of
+from hhm_client import Arrays, Client, Ended
+from hhm_figures import Moment
+from hhm_rates import looked_at, rates_page
 from hhm_sheet import Dots, Grid, Line, Marks, Page, Place, Shape, Words, width_of, write
 
 ENTRIES, TOTAL = "entries", "total"
@@ -362,6 +364,14 @@ def span_of(word: str) -> Span:
     return span
 
 
+def seconds(word: str) -> float:
+    """A time of the command line, from a second to a day."""
+    value = float(word)
+    if not 1 <= value <= 86_400:
+        raise argparse.ArgumentTypeError(f"{word} isn't from 1 to 86400")
+    return value
+
+
 def picture(word: str) -> str:
     """The path of a picture, which tells its form."""
     if not word.endswith((".svg", ".png")):
@@ -371,7 +381,8 @@ def picture(word: str) -> str:
 
 def add_words(plot: argparse.ArgumentParser) -> None:
     """Adds the words of `plot` to those of the command line."""
-    plot.add_argument("what", choices=("degrees", "spy"), help="the distribution of degrees, or where cells are")
+    what = "the distribution of degrees, where cells are, or what a server accepts in a second"
+    plot.add_argument("what", choices=("degrees", "spy", "rates"), help=what)
     plot.add_argument("out", type=picture, metavar="OUT.svg|OUT.png", help="the picture, which is written anew")
     by = "by numbers of cells, or by totals of counts (entries)"
     plot.add_argument("--by", choices=(ENTRIES, TOTAL), default=ENTRIES, help=by)
@@ -380,6 +391,7 @@ def add_words(plot: argparse.ArgumentParser) -> None:
     plot.add_argument("--cols", type=span_of, metavar="A-B", help="spy: these columns")
     plot.add_argument("--whole", action="store_true", help="spy: all rows and columns, where none are given")
     plot.add_argument("--ip", action="store_true", help="spy: tells rows and columns as IPv4 addresses")
+    plot.add_argument("--seconds", type=seconds, metavar="N", help="rates: for how long the server is looked at (60)")
     plot.add_argument("--dark", action="store_true", help="on a dark ground (an SVG else follows its viewer)")
     plot.add_argument("--program", metavar="FILE", default="hhm", help="the hhm that reads the file of --from (hhm)")
 
@@ -405,27 +417,43 @@ def page_of(total: Sum, given: argparse.Namespace) -> Page:
     return spy_page(part, rows, cols, given.by, given.ip)
 
 
-def total_of(text: Optional[bytes], given: argparse.Namespace) -> Sum:
-    """The sum of a server's text, or of the file that is given. An Ended where it can't be read."""
+def total_of(hhm: Optional[Client], given: argparse.Namespace) -> Sum:
+    """The sum of a server, or of the file that is given. An Ended where it can't be read."""
     try:
-        total = read_sum(io.BytesIO(text)) if text is not None else sum_of(given.source, given.program)
+        return sum_of(given.source if hhm is None else hhm, given.program)
     except NoSum as fault:
         raise Ended(fault.status, str(fault)) from None
     except FileNotFoundError as fault:
         if fault.filename != given.program:
             raise
         raise Ended(4, f"there is no program {given.program}, which reads files: give --program FILE") from None
-    if total is None:
-        raise Ended(4, "what the server exported is no whole text")
-    return total
 
 
-def plot(text: Optional[bytes], given: argparse.Namespace) -> str:
-    """Does what the word `plot` asks, with a server's export or the file that is given, and gives the line that is to
-    be printed."""
-    if given.what == "degrees" and (given.rows or given.cols or given.whole or given.ip):
+def plot_rates(hhm: Optional[Client], given: argparse.Namespace) -> str:
+    """Looks at a server for a while, and draws what it accepted."""
+    if hhm is None:
+        raise Ended(2, "rates are those of a server that runs: give --tcp or --unix")
+    given.seconds = given.seconds or 60.0
+    moments, place = looked_at(hhm, given)
+    write(rates_page(moments, place), given.out, given.dark)
+    first, last = moments[0].status, moments[-1].status
+    return f"seconds {last_at(moments)} batches {last.batches - first.batches} total {last.total - first.total}\n"
+
+
+def last_at(moments: Sequence[Moment]) -> int:
+    return round(moments[-1].at - moments[0].at)
+
+
+def plot(hhm: Optional[Client], given: argparse.Namespace) -> str:
+    """Does what the word `plot` asks, of a server or of the file that is given, and gives the line that is to be
+    printed."""
+    if given.what != "spy" and (given.rows or given.cols or given.whole or given.ip):
         raise Ended(2, "--rows, --cols, --whole and --ip are for the picture spy")
-    total = total_of(text, given)
+    if given.seconds is not None and given.what != "rates":
+        raise Ended(2, "--seconds is for the picture rates")
+    if given.what == "rates":
+        return plot_rates(hhm, given)
+    total = total_of(hhm, given)
     write(page_of(total, given), given.out, given.dark)
     cells = total.cells
     return (f"cells {len(cells.counts)} rows {len(set(cells.rows))} cols {len(set(cells.cols))} "

@@ -6,7 +6,7 @@
 
 mod hhm_client;
 
-use hhm_client::{Accepted, Cell, Client, Error, MAX_CELLS};
+use hhm_client::{Accepted, By, Cell, Client, Error, MAX_CELLS};
 
 const TEXT: &[u8] = b"%%MatrixMarket matrix coordinate integer general\n3 3 1\n1 1 3\n";
 
@@ -95,6 +95,18 @@ fn ask_all(hhm: &mut Client) -> Result<(), Error> {
     }
     let row = hhm.row(1)?;
     println!("row: entries {} total {}", row.entries, row.total);
+    for cell in hhm.range(0..=2, 0..=2, 2) {
+        let Cell { row, col, count } = cell?;
+        println!("range: row {row} column {col} count {count}");
+    }
+    let page = hhm.page(0..=2, 1..=2, (0, 0), 1)?;
+    println!("page: cells {} more {}", page.cells.len(), page.has_more);
+    for it in hhm.top(2, By::Total)? {
+        println!(
+            "top: row {} entries {} total {}",
+            it.row, it.entries, it.total
+        );
+    }
     let status = hhm.status()?;
     println!("status: batches {} total {}", status.batches, status.total);
     let stored = hhm.stored()?;

@@ -24,10 +24,13 @@
 // A program uses some of it.
 #![allow(dead_code)]
 
+use std::cmp::Ordering;
 use std::collections::VecDeque;
 use std::fmt;
 use std::io::{self, Read, Write};
+use std::iter;
 use std::net::{TcpStream, ToSocketAddrs};
+use std::ops::RangeInclusive;
 use std::os::fd::OwnedFd;
 use std::os::unix::net::UnixStream;
 use std::path::{Path, PathBuf};
@@ -42,6 +45,8 @@ pub const MAX_BODY: usize = 67_108_864;
 pub const MAX_CELLS: usize = 1_048_576;
 /// The most batches that `put_all` has on the way: the replies to so many fit into any socket's buffer.
 pub const MAX_DEPTH: usize = 128;
+/// The most cells of a page of a range, and the most rows of a top.
+pub const MAX_PAGE: u64 = 1_000_000;
 
 /// A count at a place; both numbers of the place count from 0.
 #[derive(Clone, Copy, Debug, PartialEq, Eq)]
@@ -70,6 +75,40 @@ pub struct RowSum {
 pub struct Status {
     pub batches: u64,
     pub total: u64,
+}
+
+/// Cells of a range, by row and then by column, and whether further ones follow.
+#[derive(Clone, Debug, PartialEq, Eq)]
+pub struct Page {
+    pub cells: Vec<Cell>,
+    pub has_more: bool,
+}
+
+/// What the rows of a top lead by.
+#[derive(Clone, Copy, Debug, PartialEq, Eq)]
+pub enum By {
+    /// The sum of the counts.
+    Total,
+    /// The number of the cells, stored zeros included.
+    Entries,
+}
+
+/// A row, how many cells it has, stored zeros included, and the sum of their counts.
+#[derive(Clone, Copy, Debug, PartialEq, Eq)]
+pub struct TopRow {
+    pub row: u64,
+    pub entries: u64,
+    pub total: u64,
+}
+
+impl TopRow {
+    /// The number that rows lead by.
+    pub fn number(&self, by: By) -> u64 {
+        match by {
+            By::Total => self.total,
+            By::Entries => self.entries,
+        }
+    }
 }
 
 /// Why the server refused a request; nothing was changed.
@@ -101,6 +140,7 @@ impl Refusal {
             41 => "OutOfRange",
             42 => "SaveFailed",
             43 => "SaveOff",
+            44 => "BadCount",
             50 => "TooLarge",
             51 => "UnknownKind",
             52 => "BadLength",
@@ -359,6 +399,9 @@ const COUNTS: Wanted = wanted(0x84, Some(16));
 const TEXT: Wanted = wanted(0x85, None);
 const SAVED: Wanted = wanted(0x86, Some(8));
 const STOPPING: Wanted = wanted(0x87, Some(0));
+const CELLS: Wanted = wanted(0x88, None);
+const ROWS: Wanted = wanted(0x89, None);
+const TOLD: Wanted = wanted(0x8a, None);
 
 /// A connection to a server, made when it is first needed, and made again where it is lost; every request is then sent
 /// again. Over each new connection a client that has put batches asks for the status, and puts the last of them again,
@@ -542,6 +585,59 @@ impl Client {
     pub fn stored(&mut self) -> Result<Status, Error> {
         let body = self.ask(&request(9, &[]), COUNTS)?;
         Ok(status_of(&body))
+    }
+
+    /// The cells of the sum whose row and column are from the first to the last of these, by row and then by column.
+    /// They are asked for page by page, of so many cells each, at most `MAX_PAGE` (10,000 are good): a page has what
+    /// stands there when it is asked for. Behind a fault nothing more is given.
+    pub fn range(
+        &mut self,
+        rows: RangeInclusive<u64>,
+        cols: RangeInclusive<u64>,
+        page: u64,
+    ) -> impl Iterator<Item = Result<Cell, Error>> + '_ {
+        paged(move |start| self.page(rows.clone(), cols.clone(), start, page))
+    }
+
+    /// The first `most` cells of such a range, at most `MAX_PAGE`, that stand at the place `start`, a row and a column,
+    /// or behind it.
+    pub fn page(
+        &mut self,
+        rows: RangeInclusive<u64>,
+        cols: RangeInclusive<u64>,
+        start: (u64, u64),
+        most: u64,
+    ) -> Result<Page, Error> {
+        let bounds = [*rows.start(), *rows.end(), *cols.start(), *cols.end()];
+        let [first_row, last_row, first_col, last_col] = bounds;
+        let numbers = [
+            first_row, last_row, first_col, last_col, start.0, start.1, most,
+        ];
+        let body = self.ask(&request(10, &numbers), CELLS)?;
+        self.read(page_of(&body, &rows, &cols, start, most))
+    }
+
+    /// The first `most` rows, at most `MAX_PAGE`, of those that have a cell: the highest number first, and of equal
+    /// ones the lowest row.
+    pub fn top(&mut self, most: u64, by: By) -> Result<Vec<TopRow>, Error> {
+        let mut frame = vec![0, 0, 0, 9, 11, u8::from(by == By::Entries)];
+        frame.extend_from_slice(&most.to_be_bytes());
+        let body = self.ask(&frame, ROWS)?;
+        self.read(top_of(&body, most, by))
+    }
+
+    /// What the server tells of itself: names of `docs/FORMATS.md`, and values. A program takes those that it knows.
+    pub fn stats(&mut self) -> Result<Vec<(String, String)>, Error> {
+        let body = self.ask(&request(12, &[]), TOLD)?;
+        self.read(stats_of(body))
+    }
+
+    /// What was read of a reply; one that can't be what was asked for leaves no connection.
+    fn read<T>(&mut self, found: Option<T>) -> Result<T, Error> {
+        found.ok_or_else(|| {
+            self.close();
+            Error::BadReply
+        })
     }
 
     /// The sum of all accepted batches as a Matrix Market text, whose rows and columns count from 1.
@@ -772,6 +868,102 @@ fn number_at(body: &[u8], place: usize) -> u64 {
     body[place..place + 8]
         .iter()
         .fold(0, |n, byte| n << 8 | u64::from(*byte))
+}
+
+/// The threes of numbers that a reply has; nothing where it isn't whole.
+fn threes_of(bytes: &[u8]) -> Option<impl Iterator<Item = [u64; 3]> + '_> {
+    let threes = bytes.chunks_exact(24);
+    let is_whole = threes.remainder().is_empty();
+    is_whole.then(|| threes.map(|it| [number_at(it, 0), number_at(it, 8), number_at(it, 16)]))
+}
+
+/// The page that a reply to a Range has; nothing where it is none of what was asked for.
+fn page_of(
+    body: &[u8],
+    rows: &RangeInclusive<u64>,
+    cols: &RangeInclusive<u64>,
+    start: (u64, u64),
+    most: u64,
+) -> Option<Page> {
+    let (&more, rest) = body.split_first()?;
+    let threes = threes_of(rest)?;
+    let cells: Vec<Cell> = threes
+        .map(|[row, col, count]| Cell { row, col, count })
+        .collect();
+    let count = cells.len() as u64;
+    let is_long = count > most || (more == 1 && count < most) || (more == 1 && count == 0);
+    let mut least = Some(start);
+    let is_in_order = cells.iter().all(|it| {
+        let is_behind = least.map_or(false, |least| (it.row, it.col) >= least);
+        least = it.col.checked_add(1).map(|next| (it.row, next));
+        is_behind && rows.contains(&it.row) && cols.contains(&it.col)
+    });
+    let has_more = more == 1;
+    (more <= 1 && !is_long && is_in_order).then_some(Page { cells, has_more })
+}
+
+/// The cells of a range, whose pages are asked for by the places where they begin.
+pub(super) fn paged<E>(
+    mut ask: impl FnMut((u64, u64)) -> Result<Page, E>,
+) -> impl Iterator<Item = Result<Cell, E>> {
+    let mut start = Some((0, 0));
+    let mut cells = Vec::new().into_iter();
+    iter::from_fn(move || loop {
+        if let Some(cell) = cells.next() {
+            return Some(Ok(cell));
+        }
+        match ask(start.take()?) {
+            Ok(page) => {
+                if page.has_more {
+                    start = page.cells.last().and_then(behind);
+                }
+                cells = page.cells.into_iter();
+            }
+            Err(fault) => return Some(Err(fault)),
+        }
+    })
+}
+
+/// The place behind a cell.
+fn behind(cell: &Cell) -> Option<(u64, u64)> {
+    Some((cell.row, cell.col.checked_add(1)?))
+}
+
+/// The rows that a reply to a Top has; nothing where it can't be one.
+fn top_of(body: &[u8], most: u64, by: By) -> Option<Vec<TopRow>> {
+    let rows: Vec<TopRow> = threes_of(body)?
+        .map(|[row, entries, total]| TopRow {
+            row,
+            entries,
+            total,
+        })
+        .collect();
+    let is_in_order = rows
+        .windows(2)
+        .all(|it| order_of(&it[0], &it[1], by).is_lt());
+    let has_entries = rows.iter().all(|it| it.entries > 0);
+    (rows.len() as u64 <= most && is_in_order && has_entries).then_some(rows)
+}
+
+/// The order of the rows of a top: the highest number first, and of equal ones the lowest row.
+pub(super) fn order_of(one: &TopRow, other: &TopRow, by: By) -> Ordering {
+    let numbers = other.number(by).cmp(&one.number(by));
+    numbers.then(one.row.cmp(&other.row))
+}
+
+/// The names of a reply to a Stats with their values; nothing where it can't be one.
+fn stats_of(body: Vec<u8>) -> Option<Vec<(String, String)>> {
+    let text = String::from_utf8(body).ok().filter(|it| it.is_ascii())?;
+    let is_whole = text.is_empty() || text.ends_with('\n');
+    let lines = text.split_terminator('\n');
+    let pairs: Option<Vec<(String, String)>> = lines
+        .map(|line| {
+            let (name, value) = line.rsplit_once(' ')?;
+            let is_pair = !name.is_empty() && !value.is_empty();
+            is_pair.then(|| (name.to_string(), value.to_string()))
+        })
+        .collect();
+    pairs.filter(|_| is_whole)
 }
 
 fn accepted_of(body: &[u8]) -> Accepted {

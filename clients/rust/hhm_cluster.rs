@@ -20,9 +20,14 @@
 
 #![allow(dead_code)]
 
-use super::hhm_client::{Accepted, Cell, Client, Error, Refusal, RowSum, Status, MAX_DEPTH};
-use std::collections::BTreeMap;
+use super::hhm_client::{
+    order_of, paged, Accepted, By, Cell, Client, Error, Refusal, RowSum, Status, TopRow, MAX_DEPTH,
+    MAX_PAGE,
+};
+use std::collections::{BTreeMap, HashMap, HashSet};
 use std::fmt;
+use std::iter;
+use std::ops::RangeInclusive;
 use std::sync::mpsc;
 use std::thread;
 use std::time::Duration;
@@ -54,6 +59,9 @@ pub enum Fault {
     OutOfRange,
     /// A total of all servers passes 64 bits, or their texts don't belong together.
     BadSum,
+    /// Which rows lead isn't told by the first `MAX_PAGE` of each server, by source: rows that none has among these may
+    /// have as much in all.
+    Undecided,
     /// What a server's client met. Refused: the first server refused the batch, and no other was asked.
     Server { place: usize, error: Error },
 }
@@ -69,6 +77,9 @@ impl fmt::Display for Fault {
             Fault::Full { place } => write!(out, "server {place} is full: begin a new generation"),
             Fault::OutOfRange => out.write_str("a cell is beyond the rows or columns"),
             Fault::BadSum => out.write_str("the servers' sums don't add up"),
+            Fault::Undecided => {
+                out.write_str("which rows lead isn't told by the first of each server")
+            }
             Fault::Server { place, error } => write!(out, "server {place}: {error}"),
         }
     }
@@ -266,6 +277,67 @@ impl Cluster {
             entries: added(sums.iter().map(|sum| sum.entries))?,
             total: added(sums.iter().map(|sum| sum.total))?,
         })
+    }
+
+    /// The cells of the sum whose row and column are from the first to the last of these, by row and then by column:
+    /// those of all servers, merged, and where several have a cell its counts added up. Each server is asked page by
+    /// page, of so many cells each. Behind a fault nothing more is given.
+    pub fn range(
+        &mut self,
+        rows: RangeInclusive<u64>,
+        cols: RangeInclusive<u64>,
+        page: u64,
+    ) -> impl Iterator<Item = Result<Cell, Fault>> + '_ {
+        let places = match rows.start() == rows.end() {
+            true => self.having(*rows.start()),
+            false => self.all(),
+        };
+        let servers = self.servers.iter_mut().enumerate();
+        let chosen = servers.filter(move |(place, _)| places.contains(place));
+        let parts = chosen.map(move |(place, server)| {
+            let (rows, cols) = (rows.clone(), cols.clone());
+            let cells = paged(move |start| server.page(rows.clone(), cols.clone(), start, page));
+            Part {
+                place,
+                cells: Box::new(cells),
+                next: None,
+            }
+        });
+        let mut parts: Vec<Part<'_>> = parts.collect();
+        iter::from_fn(move || {
+            let next = next_of(&mut parts);
+            if matches!(next, Some(Err(_))) {
+                parts.clear();
+            }
+            next
+        })
+    }
+
+    /// The first `most` rows, of those that have a cell: the highest number first, and of equal ones the lowest row. By
+    /// source a row's numbers are those of `row`: all servers' added up, so that `entries` counts a cell for each that
+    /// has it. Each is then asked for more rows, and for single ones, until it is certain which lead.
+    pub fn top(&mut self, most: u64, by: By) -> Result<Vec<TopRow>, Fault> {
+        let mut depth = most;
+        loop {
+            let lists = self.ask(&self.all(), |server| server.top(depth, by))?;
+            let lead = Lead { lists, depth, by };
+            if self.way == Way::Rows {
+                return lead.added(&[], most);
+            }
+            let missing = lead.unknown(most);
+            let mut asked = Vec::new();
+            for (place, rows) in missing.iter().enumerate() {
+                asked.extend(self.ask(&[place], |server| sums_of(server, rows))?);
+            }
+            let leading = lead.added(&asked, most)?;
+            if lead.is_decided(&leading) {
+                return Ok(leading);
+            }
+            if depth == MAX_PAGE {
+                return Err(Fault::Undecided);
+            }
+            depth = (4 * depth).min(MAX_PAGE);
+        }
     }
 
     /// How many batches were accepted, markers aside, and their total. By rows the number is that of the server that
@@ -490,6 +562,129 @@ impl Cluster {
             }
             _ => outcome.judged().map(|_| ()),
         }
+    }
+}
+
+/// The cells of a range that one server has, and the one that is next.
+struct Part<'a> {
+    place: usize,
+    cells: Box<dyn Iterator<Item = Result<Cell, Error>> + 'a>,
+    next: Option<Cell>,
+}
+
+/// The next cell of all servers, its counts added up; nothing at the end.
+fn next_of(parts: &mut Vec<Part<'_>>) -> Option<Result<Cell, Fault>> {
+    for part in parts.iter_mut().filter(|part| part.next.is_none()) {
+        match part.cells.next() {
+            Some(Err(error)) => return Some(Err(fault_of(part.place, error))),
+            next => part.next = next.and_then(Result::ok),
+        }
+    }
+    parts.retain(|part| part.next.is_some());
+    let next = |part: &Part<'_>| part.next.map(|cell| (cell.row, cell.col));
+    let (row, col) = parts.iter().filter_map(next).min()?;
+    let here = parts
+        .iter_mut()
+        .filter(|part| next(part) == Some((row, col)));
+    let counts = here.filter_map(|part| part.next.take());
+    let count = added(counts.map(|cell| cell.count));
+    Some(count.map(|count| Cell { row, col, count }))
+}
+
+/// What a server's client met, as a fault of the cluster.
+fn fault_of(place: usize, error: Error) -> Fault {
+    match error {
+        Error::BookWentBack { .. } => Fault::WentBack(BTreeMap::from([(place, error)])),
+        error => Fault::Server { place, error },
+    }
+}
+
+/// What a server says of some rows.
+fn sums_of(server: &mut Client, rows: &[u64]) -> Result<Vec<TopRow>, Error> {
+    let sum = |row: &u64| {
+        server.row(*row).map(|it| TopRow {
+            row: *row,
+            entries: it.entries,
+            total: it.total,
+        })
+    };
+    rows.iter().map(sum).collect()
+}
+
+/// What servers have told of the rows that lead: of each its first `depth` rows, or all that it has.
+struct Lead {
+    lists: Vec<Vec<TopRow>>,
+    depth: u64,
+    by: By,
+}
+
+impl Lead {
+    /// The last row that each of the servers tells which may have others; nothing of one that tells all rows.
+    fn lasts(&self) -> Vec<Option<TopRow>> {
+        let is_cut = |rows: &&Vec<TopRow>| rows.len() as u64 == self.depth;
+        let last = |rows| Some(rows).filter(is_cut).and_then(|rows| rows.last());
+        self.lists.iter().map(|rows| last(rows).copied()).collect()
+    }
+
+    /// The most that a row may have in each of the servers which don't tell it.
+    fn ends(&self) -> Vec<u128> {
+        let end = |last: &Option<TopRow>| last.map_or(0, |it| it.number(self.by).into());
+        self.lasts().iter().map(end).collect()
+    }
+
+    /// The rows that each of the servers must be asked for, since they may be among the first `most`.
+    fn unknown(&self, most: u64) -> Vec<Vec<u64>> {
+        let (lasts, ends) = (self.lasts(), self.ends());
+        // (what a row has at least, and what it has at most behind that)
+        let mut rows: HashMap<u64, (u128, u128)> = HashMap::new();
+        let bound: u128 = ends.iter().sum();
+        for (list, end) in self.lists.iter().zip(&ends) {
+            for it in list {
+                let known = rows.entry(it.row).or_insert((0, bound));
+                known.0 += u128::from(it.number(self.by));
+                known.1 -= end;
+            }
+        }
+        let mut least: Vec<u128> = rows.values().map(|it| it.0).collect();
+        least.sort_unstable_by(|one, other| other.cmp(one));
+        let least = least.get(most as usize - 1).copied().unwrap_or(0);
+        rows.retain(|_, known| known.0 + known.1 >= least);
+        let missing = |(list, last): (&Vec<TopRow>, &Option<TopRow>)| {
+            let told: HashSet<u64> = list.iter().map(|it| it.row).collect();
+            let rows = rows.keys().filter(|row| !told.contains(row));
+            last.map_or(Vec::new(), |_| rows.copied().collect())
+        };
+        self.lists.iter().zip(&lasts).map(missing).collect()
+    }
+
+    /// The first rows of those that are told, with what servers were asked for.
+    fn added(&self, asked: &[Vec<TopRow>], most: u64) -> Result<Vec<TopRow>, Fault> {
+        let mut sums: HashMap<u64, TopRow> = HashMap::new();
+        for it in self.lists.iter().chain(asked).flatten() {
+            let sum = sums.entry(it.row).or_insert(TopRow {
+                row: it.row,
+                entries: 0,
+                total: 0,
+            });
+            sum.entries = added([sum.entries, it.entries].into_iter())?;
+            sum.total = added([sum.total, it.total].into_iter())?;
+        }
+        let mut rows: Vec<TopRow> = sums.into_values().collect();
+        rows.sort_unstable_by(|one, other| order_of(one, other, self.by));
+        rows.truncate(most as usize);
+        Ok(rows)
+    }
+
+    /// Whether no row that no server tells stands before the last of these. One with as much as all ends together
+    /// stands behind the end of each list.
+    fn is_decided(&self, leading: &[TopRow]) -> bool {
+        let behind = self.lasts().iter().flatten().map(|it| it.row).max();
+        let (Some(behind), Some(last)) = (behind, leading.last()) else {
+            return behind.is_none();
+        };
+        let number = u128::from(last.number(self.by));
+        let bound: u128 = self.ends().iter().sum();
+        number > bound || (number == bound && last.row <= behind)
     }
 }
 

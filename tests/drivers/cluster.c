@@ -47,6 +47,36 @@ static hhm_result export_all(hhm_cluster *hhm)
     return result;
 }
 
+static hhm_result range(hhm_cluster *hhm)
+{
+    static hhm_cell found[1 << 16];
+    hhm_block block = {numbers[0], numbers[1], numbers[2], numbers[3]};
+    hhm_cluster_range *range = hhm_cluster_range_open(hhm, block, (size_t)numbers[4]);
+    hhm_result result;
+    int has_cell = 1;
+    size_t count = 0;
+    while ((result = hhm_cluster_range_next(range, &found[count], &has_cell)) == HHM_OK && has_cell)
+        count++;
+    for (size_t i = 0; result == HHM_OK && i < count; i++)
+        printf("%s%" PRIu64 ",%" PRIu64 ",%" PRIu64, i ? " " : "", found[i].row, found[i].col, found[i].count);
+    if (result == HHM_OK)
+        puts("");
+    hhm_cluster_range_close(range);
+    return result;
+}
+
+static hhm_result top(hhm_cluster *hhm)
+{
+    static hhm_top_row rows[MOST];
+    size_t count;
+    hhm_result result = hhm_cluster_ask_top(hhm, (hhm_by)numbers[0], rows, (size_t)numbers[1], &count);
+    for (size_t i = 0; result == HHM_OK && i < count; i++)
+        printf("%s%" PRIu64 ",%" PRIu64 ",%" PRIu64, i ? " " : "", rows[i].row, rows[i].entries, rows[i].total);
+    if (result == HHM_OK)
+        puts("");
+    return result;
+}
+
 static hhm_result ask(hhm_cluster *hhm, const char *word, size_t count)
 {
     hhm_result result = HHM_OK;
@@ -73,6 +103,10 @@ static hhm_result ask(hhm_cluster *hhm, const char *word, size_t count)
         result = hhm_cluster_ask_status(hhm, &status);
         if (result == HHM_OK)
             printf("batches %" PRIu64 " total %" PRIu64 "\n", status.batches, status.total);
+    } else if (!strcmp(word, "range")) {
+        result = range(hhm);
+    } else if (!strcmp(word, "top")) {
+        result = top(hhm);
     } else if (!strcmp(word, "export")) {
         result = export_all(hhm);
     } else {
@@ -99,6 +133,8 @@ static void tell(hhm_cluster *hhm, hhm_result result)
         printf("OutOfRange\n");
     else if (result == HHM_BAD_SUM)
         printf("BadSum\n");
+    else if (result == HHM_UNDECIDED)
+        printf("Undecided\n");
     else
         printf("%s %zu\n", result == HHM_OTHER_MAP ? "OtherMap" : result == HHM_FAILED ? "Failed" : "BadReply", place);
 }

@@ -6,7 +6,7 @@ mod hhm_client;
 #[path = "../../clients/rust/hhm_cluster.rs"]
 mod hhm_cluster;
 
-use hhm_client::{Cell, Error};
+use hhm_client::{By, Cell, Error, TopRow};
 use hhm_cluster::{Cluster, Fault, Way};
 use std::io::{self, BufRead};
 use std::time::Duration;
@@ -48,6 +48,20 @@ fn answer(hhm: &mut Cluster, word: &str, numbers: &[u64]) -> Result<String, Faul
             format!("batches {} total {}", status.batches, status.total)
         }
         "export" => String::from_utf8(hhm.export()?).unwrap().replace('\n', ","),
+        "range" => {
+            let [a, b, c, d, page] = numbers[..] else {
+                return Ok("what?".into());
+            };
+            let cells: Result<Vec<Cell>, Fault> = hhm.range(a..=b, c..=d, page).collect();
+            let three = |it: &Cell| format!("{},{},{}", it.row, it.col, it.count);
+            cells?.iter().map(three).collect::<Vec<_>>().join(" ")
+        }
+        "top" => {
+            let by = [By::Total, By::Entries][numbers[0] as usize];
+            let rows = hhm.top(numbers[1], by)?;
+            let three = |it: &TopRow| format!("{},{},{}", it.row, it.entries, it.total);
+            rows.iter().map(three).collect::<Vec<_>>().join(" ")
+        }
         "save" => format!("saved {:?}", hhm.save()?),
         _ => "what?".into(),
     })
@@ -66,6 +80,7 @@ fn told(fault: Fault) -> String {
         Fault::Full { place } => format!("Full {place}"),
         Fault::OutOfRange => "OutOfRange".into(),
         Fault::BadSum => "BadSum".into(),
+        Fault::Undecided => "Undecided".into(),
         Fault::Server {
             place,
             error: Error::OtherMap,

@@ -126,6 +126,94 @@ static hhm_result save(hhm_client *hhm)
     return result;
 }
 
+/* Cells, or rows, which have the same three numbers. */
+static void print_threes(const hhm_cell *cells, size_t count)
+{
+    for (size_t i = 0; i < count; i++)
+        printf("%s%" PRIu64 ",%" PRIu64 ",%" PRIu64, i ? " " : "", cells[i].row, cells[i].col, cells[i].count);
+    puts("");
+}
+
+static hhm_result page(hhm_client *hhm, const uint64_t *numbers)
+{
+    hhm_block block = {numbers[0], numbers[1], numbers[2], numbers[3]};
+    size_t most = (size_t)numbers[6], count;
+    int has_more;
+    hhm_cell *cells = (hhm_cell *)calloc(most ? most : 1, sizeof *cells);
+    hhm_result result = hhm_ask_page(hhm, block, numbers[4], numbers[5], cells, most, &count, &has_more);
+    if (result == HHM_OK) {
+        printf("more %d: ", has_more);
+        print_threes(cells, count);
+    }
+    free(cells);
+    return result;
+}
+
+static hhm_result range(hhm_client *hhm, const uint64_t *numbers)
+{
+    static hhm_cell cells[MOST_CELLS];
+    hhm_block block = {numbers[0], numbers[1], numbers[2], numbers[3]};
+    hhm_range *range = hhm_range_open(hhm, block, (size_t)numbers[4]);
+    hhm_result result;
+    int has_cell = 1;
+    size_t count = 0;
+    while ((result = hhm_range_next(range, &cells[count], &has_cell)) == HHM_OK && has_cell)
+        count++;
+    if (result == HHM_OK)
+        print_threes(cells, count);
+    hhm_range_close(range);
+    return result;
+}
+
+static hhm_result top(hhm_client *hhm, const uint64_t *numbers)
+{
+    static hhm_top_row rows[MOST_CELLS];
+    static hhm_cell cells[MOST_CELLS];
+    size_t count;
+    hhm_result result = hhm_ask_top(hhm, (hhm_by)numbers[0], rows, (size_t)numbers[1], &count);
+    for (size_t i = 0; result == HHM_OK && i < count; i++)
+        cells[i] = (hhm_cell){rows[i].row, rows[i].entries, rows[i].total};
+    if (result == HHM_OK)
+        print_threes(cells, count);
+    return result;
+}
+
+static hhm_result stats(hhm_client *hhm)
+{
+    char *text;
+    size_t length;
+    hhm_result result = hhm_ask_stats(hhm, &text, &length);
+    if (result == HHM_OK) {
+        for (size_t i = 0; i + 1 < length; i++)
+            putchar(text[i] == '\n' ? ',' : text[i]);
+        puts("");
+        free(text);
+    }
+    return result;
+}
+
+/* The numbers behind some names of stats. */
+static hhm_result stat_numbers(hhm_client *hhm)
+{
+    static const char *const names[] = {"batches", "total",           "odd_seconds", "version",
+                                        "batch",   "odd{a=\"b c\"}", "none"};
+    char *text;
+    size_t length;
+    uint64_t value;
+    hhm_result result = hhm_ask_stats(hhm, &text, &length);
+    for (size_t i = 0; result == HHM_OK && i < sizeof names / sizeof *names; i++) {
+        if (hhm_stat_of(text, names[i], &value))
+            printf("%" PRIu64 ",", value);
+        else
+            printf("none,");
+    }
+    if (result == HHM_OK) {
+        puts("");
+        free(text);
+    }
+    return result;
+}
+
 static hhm_result answer(hhm_client *hhm, const char *word, const uint64_t *numbers)
 {
     if (!strcmp(word, "put"))
@@ -138,6 +226,16 @@ static hhm_result answer(hhm_client *hhm, const char *word, const uint64_t *numb
         return ask_status(hhm);
     if (!strcmp(word, "save"))
         return save(hhm);
+    if (!strcmp(word, "page"))
+        return page(hhm, numbers);
+    if (!strcmp(word, "range"))
+        return range(hhm, numbers);
+    if (!strcmp(word, "top"))
+        return top(hhm, numbers);
+    if (!strcmp(word, "stats"))
+        return stats(hhm);
+    if (!strcmp(word, "numbers"))
+        return stat_numbers(hhm);
     if (!strcmp(word, "fork"))
         forked(hhm, numbers[0], numbers[1], (size_t)numbers[2]);
     else
@@ -159,9 +257,9 @@ int main(int count, char **words)
     }
     setvbuf(stdout, NULL, _IOLBF, BUFSIZ);
     while (next_line(line, sizeof line)) {
-        uint64_t numbers[4] = {0, 0, 0, 0};
-        sscanf(line, "%19s %" SCNu64 " %" SCNu64 " %" SCNu64 " %" SCNu64, word, &numbers[0], &numbers[1], &numbers[2],
-               &numbers[3]);
+        uint64_t numbers[7] = {0};
+        sscanf(line, "%19s %" SCNu64 " %" SCNu64 " %" SCNu64 " %" SCNu64 " %" SCNu64 " %" SCNu64 " %" SCNu64, word,
+               &numbers[0], &numbers[1], &numbers[2], &numbers[3], &numbers[4], &numbers[5], &numbers[6]);
         hhm_result result = answer(hhm, word, numbers);
         if (result == HHM_FAILED)
             puts(errno == ETIMEDOUT ? "timed out" : "lost");

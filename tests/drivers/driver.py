@@ -48,6 +48,10 @@ def many(hhm, first, count, depth, cells):
     return f"{len(shifts)} answered" if len(set(shifts)) == 1 else "out of order"
 
 
+def threes(cells):
+    return " ".join("%d,%d,%d" % cell for cell in cells)
+
+
 def alarms():
     signal.signal(signal.SIGALRM, lambda *_: None)
     signal.setitimer(signal.ITIMER_REAL, 0.02, 0.02)
@@ -66,6 +70,15 @@ def answer(hhm, word, *numbers):
         return "batches %d total %d" % hhm.status()
     if word == "save":
         return f"saved {hhm.save()}"
+    if word == "page":
+        page = hhm.page(numbers[0:2], numbers[2:4], tuple(numbers[4:6]), numbers[6])
+        return f"more {int(page.has_more)}: {threes(page.cells)}"
+    if word == "range":
+        return threes(hhm.range(numbers[0:2], numbers[2:4], numbers[4]))
+    if word == "top":
+        return threes(hhm.top(numbers[1], ("total", "entries")[numbers[0]]))
+    if word == "stats":
+        return ",".join(f"{name} {value}" for name, value in hhm.stats().items())
     if word in ("fork", "split"):
         return fork(hhm, *numbers) if word == "fork" else split(hhm, *numbers)
     return alarms()

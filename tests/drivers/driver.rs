@@ -3,7 +3,7 @@
 #[path = "../../clients/rust/hhm_client.rs"]
 mod hhm_client;
 
-use hhm_client::{Cell, Client, Error};
+use hhm_client::{By, Cell, Client, Error};
 use std::io::{self, BufRead, ErrorKind};
 use std::panic::{catch_unwind, AssertUnwindSafe};
 use std::time::Duration;
@@ -89,6 +89,15 @@ fn panicked(hhm: &mut Client, first: u64) -> String {
     }
 }
 
+fn threes(cells: impl Iterator<Item = [u64; 3]>) -> String {
+    let words: Vec<String> = cells.map(|[a, b, c]| format!("{a},{b},{c}")).collect();
+    words.join(" ")
+}
+
+fn three(cell: &Cell) -> [u64; 3] {
+    [cell.row, cell.col, cell.count]
+}
+
 fn alarms() -> String {
     unsafe {
         signal(14, nothing);
@@ -120,6 +129,25 @@ fn answer(hhm: &mut Client, word: &str, numbers: &[u64]) -> Result<String, Error
         ("save", []) => format!("saved {}", hhm.save()?),
         ("fork", &[first, count, cells]) => forked(hhm, first, count, cells),
         ("split", &[first, count]) => split(hhm, first, count)?,
+        ("page", &[a, b, c, d, row, col, most]) => {
+            let page = hhm.page(a..=b, c..=d, (row, col), most)?;
+            let more = u8::from(page.has_more);
+            format!("more {more}: {}", threes(page.cells.iter().map(three)))
+        }
+        ("range", &[a, b, c, d, page]) => {
+            let cells: Result<Vec<Cell>, Error> = hhm.range(a..=b, c..=d, page).collect();
+            threes(cells?.iter().map(three))
+        }
+        ("top", &[by, most]) => {
+            let by = if by == 0 { By::Total } else { By::Entries };
+            let rows = hhm.top(most, by)?;
+            threes(rows.iter().map(|it| [it.row, it.entries, it.total]))
+        }
+        ("stats", []) => {
+            let stats = hhm.stats()?;
+            let lines: Vec<String> = stats.iter().map(|(n, v)| format!("{n} {v}")).collect();
+            lines.join(",")
+        }
         ("panic", &[first]) => panicked(hhm, first),
         _ => alarms(),
     })

@@ -1,0 +1,174 @@
+"""The command line of `hhm_client.py`, which is installed as `hhmc`: one word for each question, and more of modules
+beside it: `load` (hhm_load.py), `plot` (hhm_plot.py), `top`, `list` and `stats` (hhm_ask.py), `watch` (hhm_watch.py) and
+`metrics` (hhm_metrics.py)."""
+import argparse
+import importlib
+import sys
+import threading
+from typing import Any, Iterable, Optional
+
+from hhm_client import MAX_BODY, Client, Ended, Refused, address, number
+
+# Of the command line: the seconds that it waits for an answer, and what it adds to refusals.
+TIMEOUT, SAVE_TIMEOUT = 60, 600
+SPLIT = "put it as several batches, as the word load does with files of events"
+TOO_LONG = "the text has more than 64 MiB: save, and take the snapshot (`hhm export`, `hhmc --from`)"
+UNKNOWN = "the server is of an earlier version, which doesn't know this question"
+ADVICE = {"TooManyEntries": f": {SPLIT}", "ReplyTooLarge": f": {TOO_LONG}", "UnknownKind": f": {UNKNOWN}"}
+# The words that ask for long, and so tell only that they wait for a connection.
+LONG = ("load", "top", "list", "plot")
+KEPT_RUNNING = ": nothing was stopped; `stop --discard` stops the server without what it can't save"
+
+
+def module_of(name: str) -> Any:
+    """A module with further words, as hhm_load, where it stands beside this one."""
+    try:
+        return importlib.import_module(name)
+    except ImportError:
+        return None
+
+
+def parser() -> argparse.ArgumentParser:
+    words = argparse.ArgumentParser(description="Asks a server of hhm. Rows and columns count from 0.")
+    where = words.add_mutually_exclusive_group(required=True)
+    where.add_argument("--tcp", type=address, metavar="HOST:PORT")
+    where.add_argument("--unix", metavar="PATH")
+    source = "a snapshot or a Matrix Market text (- for standard input) in place of a server, for plot alone"
+    where.add_argument("--from", dest="source", metavar="FILE", help=source)
+    timeout = f"for each answer ({TIMEOUT}; {SAVE_TIMEOUT} for a save, which takes longer the more was accepted)"
+    words.add_argument("--timeout", type=float, metavar="SECONDS", help=timeout)
+    attempts = "how often a request is sent (3, within a moment; of a load 14, for a minute, as a server takes to start)"
+    words.add_argument("--attempts", type=int, metavar="N", help=attempts)
+    asked = words.add_subparsers(dest="word", required=True)
+    put = asked.add_parser("put", help="puts a Matrix Market text as a batch")
+    put.add_argument("client", type=number)
+    put.add_argument("number", type=number)
+    put.add_argument("file", nargs="?", help="standard input where none is given")
+    if module := module_of("hhm_load"):
+        module.add_words(asked.add_parser("load", help="puts the events of files, in batches that count once"))
+    if module := module_of("hhm_plot"):
+        module.add_words(asked.add_parser("plot", help="draws degrees, where cells are, or rates"))
+    if module := module_of("hhm_ask"):
+        module.add_words(asked)
+    if module := module_of("hhm_watch"):
+        module.add_words(asked.add_parser("watch", help="shows on a terminal what the server does"))
+    if module := module_of("hhm_metrics"):
+        module.add_words(asked.add_parser("metrics", help="tells it to Prometheus, and on a page for a browser"))
+    cell = asked.add_parser("cell", help="the count of a cell, or the line `none`")
+    cell.add_argument("row", type=number)
+    cell.add_argument("col", type=number)
+    row = asked.add_parser("row", help="a row's number of cells, and their sum")
+    row.add_argument("row", type=number)
+    asked.add_parser("status", help="the number of accepted batches, and their total")
+    asked.add_parser("stored", help="the number of durable batches, which no crash takes back, and their total")
+    asked.add_parser("export", help="writes the sum as a Matrix Market text")
+    asked.add_parser("save", help="saves a snapshot")
+    stop = asked.add_parser("stop", help="saves, where the server has a place for snapshots, and stops the server")
+    stop.add_argument("--discard", action="store_true", help="stops it also where saving fails, without trying first")
+    return words
+
+
+def text_to_put(path: Optional[str]) -> bytes:
+    """The text of a file, or of standard input. A ValueError where no batch can be so long."""
+    most = MAX_BODY - 16
+    with sys.stdin.buffer if path is None else open(path, "rb") as file:
+        text = file.read(most + 1)
+    if len(text) > most:
+        raise ValueError(f"{path or 'the text'} has more than the {most} bytes of a batch: {SPLIT}")
+    return text
+
+
+def stop(hhm: Client, discards: bool) -> None:
+    """Stops the server, which saves first where it has a place for snapshots, unless what isn't saved may be lost."""
+    try:
+        if not discards:
+            hhm.save()
+    except Refused as refused:
+        if refused.name != "SaveOff":
+            raise
+    hhm.stop()
+
+
+def answer(hhm: Client, given: argparse.Namespace, text: bytes) -> bytes:
+    """Does what a word asks that has one answer, and gives what is to be printed."""
+    if given.word == "load":
+        return module_of("hhm_load").load(hhm, given).encode()
+    if given.word == "plot":
+        return module_of("hhm_plot").plot(hhm, given).encode()
+    if given.word == "put":
+        return b"index %d total_after %d\n" % hhm.put_text(given.number, text)
+    if given.word == "cell":
+        count = hhm.cell(given.row, given.col)
+        return b"none\n" if count is None else b"%d\n" % count
+    if given.word == "row":
+        return b"entries %d total %d\n" % hhm.row(given.row)
+    if given.word == "status":
+        return b"batches %d total %d\n" % hhm.status()
+    if given.word == "stored":
+        return b"batches %d total %d\n" % hhm.stored()
+    if given.word == "export":
+        return hhm.export()
+    if given.word == "save":
+        return b"saved %d\n" % hhm.save()
+    stop(hhm, given.discard)
+    return b"stopping\n"
+
+
+def asked(given: argparse.Namespace) -> Iterable[bytes]:
+    """Asks, gives what is to be printed, piece by piece, and tells after two seconds that it waits for an answer."""
+    if given.source is not None:
+        yield module_of("hhm_plot").plot(None, given).encode()
+        return
+    if given.word in ("watch", "metrics"):
+        yield from module_of(f"hhm_{given.word}").run(given)
+        return
+    text = text_to_put(given.file) if given.word == "put" else b""
+    place = given.unix if given.tcp is None else given.tcp
+    client = given.client if given.word in ("put", "load") else 0
+    usual = SAVE_TIMEOUT if given.word in ("save", "stop") else TIMEOUT
+    attempts = given.attempts or (14 if given.word == "load" else 3)
+    limits = {"timeout": usual if given.timeout is None else given.timeout, "attempts": attempts}
+    hhm = Client(tcp=given.tcp, unix=given.unix, client=client, **limits)
+
+    def tell() -> None:
+        if given.word not in LONG or hhm._link is None:
+            print(f"waiting for the server at {place}", file=sys.stderr, flush=True)
+
+    waits = threading.Timer(2, tell)
+    waits.daemon = True
+    waits.start()
+    try:
+        with hhm:
+            if answers := getattr(module_of("hhm_ask"), "ANSWERS", {}).get(given.word):
+                yield from answers(hhm, given)
+            else:
+                yield answer(hhm, given, text)
+    finally:
+        waits.cancel()
+
+
+def main() -> int:
+    """The command line. 0; 1 where the server refused; 2 for bad words; 3 for lines that are no events and files that are
+    no sum; 4 where it can't be reached or a file read."""
+    words = parser()
+    given = words.parse_args()
+    if given.source is not None and given.word != "plot":
+        words.error(f"--from is for plot: give --tcp or --unix for {given.word}")
+    try:
+        for piece in asked(given):
+            sys.stdout.buffer.write(piece)
+            sys.stdout.buffer.flush()
+    except Ended as ended:
+        print(ended, file=sys.stderr)
+        return ended.status
+    except Refused as refused:
+        advice = KEPT_RUNNING if given.word == "stop" else ADVICE.get(refused.name, "")
+        print(f"refused: {refused}{advice}", file=sys.stderr)
+        return 1
+    except (OSError, ValueError) as error:
+        is_named = isinstance(error, OSError) and error.filename is not None and error.strerror
+        print("failed:", f"{error.filename}: {error.strerror}" if is_named else error, file=sys.stderr)
+        return 4
+    except KeyboardInterrupt:
+        return 130
+    return 0

@@ -1,0 +1,206 @@
+"""What a running server does, looked at once a second: for `hhmc watch`, `hhmc metrics` and `hhmc plot rates`.
+
+A `Watched` asks a server for its status, for a cell, whose times it takes, for its stats, and now and then for the rows
+that lead. A server of an earlier version refuses some of these as an unknown kind: what it doesn't tell is left out,
+and everything else goes on. Names of stats that aren't known here are passed on as they are.
+"""
+import array
+import re
+import sys
+import time
+from collections import Counter, deque
+from typing import Any, Callable, Deque, Dict, List, NamedTuple, Optional, Tuple, TypeVar, Union
+
+from hhm_client import MAX_PAGE, ROWS, TOP, BadReply, Client, Refused, Status, TopRow, request
+
+Value = Union[int, float, str]
+Answer = TypeVar("Answer")
+LABELLED = re.compile(r"(?P<name>[A-Za-z0-9_]+)(?:\{(?P<labels>.*)\})?")
+LABEL = re.compile(r'([A-Za-z0-9_]+)="((?:[^"\\]|\\.)*)"')
+# The seconds that an answer may take, those between two questions for rows that lead, and of that the share which the
+# answers to such questions may take.
+TIMEOUT, PAUSE, SHARE = 5.0, 2.0, 0.05
+# The same for the degrees of all rows, which are many.
+LONG_PAUSE, LONG_SHARE = 5.0, 0.02
+# The seconds that are kept.
+KEPT = 600
+
+
+class Moment(NamedTuple):
+    """What a server has told at a time, in seconds since 1970, and how many seconds a status and a cell took."""
+
+    at: float
+    status: Status
+    stats: Dict[str, Value]
+    status_seconds: float
+    cell_seconds: float
+
+    def number(self, *names: str) -> Optional[Union[int, float]]:
+        """The number of the first of these names that the server tells; None where it tells none of them."""
+        found = (self.stats[name] for name in names if isinstance(self.stats.get(name), (int, float)))
+        return next(found, None)
+
+    def batches(self) -> int:
+        return self.status.batches
+
+    def total(self) -> int:
+        return self.status.total
+
+    def family(self, *names: str) -> List[Tuple[Dict[str, str], Union[int, float]]]:
+        """The labels and numbers of all that have the first of these names which the server tells with labels."""
+        for wanted in names:
+            found = [(labels_of(name), value) for name, value in self.stats.items()
+                     if name.startswith(wanted + "{") and isinstance(value, (int, float))]
+            if found:
+                return found
+        return []
+
+    def layers(self) -> List["Layer"]:
+        """The layers of each shard, in order."""
+        runs = {tuple(sorted(labels.items())): value for labels, value in self.family("shard_layer_runs")}
+        found = [Layer(int(labels.get("shard", 0)), int(labels.get("layer", 0)), int(value),
+                       runs.get(tuple(sorted(labels.items())))) for labels, value in self.family("shard_layer_entries")]
+        return sorted(found, key=lambda it: (it.shard, it.layer))
+
+
+class Layer(NamedTuple):
+    """A layer of a shard, how many entries it has at most, and in how many runs, where that is told."""
+
+    shard: int
+    layer: int
+    entries: int
+    runs: Optional[Union[int, float]]
+
+
+class Bin(NamedTuple):
+    """How many rows have so many entries, from the first to the last number."""
+
+    first: int
+    last: int
+    rows: int
+
+
+class Degrees(NamedTuple):
+    """How many entries rows have, of the first `rows` rows by entries; all of them where they are whole."""
+
+    rows: int
+    is_whole: bool
+    bins: List[Bin]
+
+
+def name_of(name: str) -> str:
+    """A name of stats without its labels."""
+    found = LABELLED.fullmatch(name)
+    return found.group("name") if found else name
+
+
+def labels_of(name: str) -> Dict[str, str]:
+    return dict(LABEL.findall(name.partition("{")[2]))
+
+
+def degrees_of(body: bytes) -> Degrees:
+    """The degrees that a reply to a Top by entries tells. A BadReply where it is none."""
+    if len(body) % 24:
+        raise BadReply(f"{len(body)} bytes are no rows")
+    numbers = array.array("Q", body)
+    if sys.byteorder == "little":
+        numbers.byteswap()
+    entries = numbers[1::3]
+    powers = Counter(map(int.bit_length, entries))
+    bins = [Bin(1 << power >> 1, (1 << power) - 1, powers[power]) for power in sorted(powers)]
+    return Degrees(len(entries), len(entries) < MAX_PAGE, bins)
+
+
+class Seldom:
+    """A question that is asked again once its answer is old, and that takes no more than a share of the time."""
+
+    def __init__(self, ask: Callable[[], Any], pause: float, share: float):
+        self.ask, self.pause, self.share = ask, pause, share
+        self.answer: Any = None
+        self.next = 0.0
+
+    def answered(self) -> Any:
+        begin = time.monotonic()
+        if begin >= self.next:
+            self.answer = self.ask()
+            end = time.monotonic()
+            self.next = end + max(self.pause, (end - begin) / self.share)
+        return self.answer
+
+
+def asking(tcp: Optional[str], unix: Optional[str], timeout: Optional[float]) -> Client:
+    """A client that doesn't wait for a server that is gone."""
+    return Client(tcp=tcp, unix=unix, timeout=TIMEOUT if timeout is None else timeout, attempts=1)
+
+
+class Watched:
+    """A server that is looked at by a client. `look` may be called from one thread at a time."""
+
+    def __init__(self, hhm: Client, most: int = 10):
+        self.place = f"unix:{hhm.unix}" if hhm.tcp is None else hhm.tcp
+        self.hhm = hhm
+        self.moments: Deque[Moment] = deque(maxlen=KEPT)
+        self.unknown: Dict[str, bool] = {}
+        self._top = Seldom(lambda: self.hhm.top(most), PAUSE, SHARE)
+        self._degrees = Seldom(self._ask_degrees, LONG_PAUSE, LONG_SHARE)
+
+    def look(self) -> Moment:
+        """Asks the server, and keeps what it tells. An OSError where it doesn't answer; the next look asks anew."""
+        try:
+            status, _ = self._timed(self.hhm.status) if self.hhm._link is None else (None, 0)
+            status, status_seconds = self._timed(self.hhm.status)
+            _, cell_seconds = self._timed(lambda: self.hhm.cell(0, 0))
+            stats = self.known("stats", self.hhm.stats) or {}
+        except OSError:
+            # (another server may be there next time)
+            self.unknown.clear()
+            raise
+        moment = Moment(time.time(), status, stats, status_seconds, cell_seconds)
+        self.moments.append(moment)
+        return moment
+
+    def top(self) -> Optional[List[TopRow]]:
+        """The rows that lead by total, as they were lately; None where the server doesn't know the question."""
+        return self.known("top", self._top.answered)
+
+    def degrees(self) -> Optional[Degrees]:
+        """How many entries rows have, as it was lately; None where the server doesn't know the question."""
+        return self.known("top", self._degrees.answered)
+
+    def rate(self, read: Callable[[Moment], Optional[float]], seconds: float = 1.0) -> Optional[float]:
+        """How much a number rises in a second, over the last so many; None where it isn't told."""
+        return rate_of(list(self.moments), read, seconds)
+
+    def known(self, name: str, ask: Callable[[], Answer]) -> Optional[Answer]:
+        """An answer; None of a server that refuses the question, which isn't asked it again where it doesn't know it."""
+        if self.unknown.get(name):
+            return None
+        try:
+            return ask()
+        except Refused as refused:
+            self.unknown[name] = refused.name == "UnknownKind"
+            return None
+
+    @staticmethod
+    def _timed(ask: Callable[[], Answer]) -> Tuple[Answer, float]:
+        begin = time.perf_counter()
+        answer = ask()
+        return answer, time.perf_counter() - begin
+
+    def _ask_degrees(self) -> Degrees:
+        frame = request(TOP, body=b"\1" + MAX_PAGE.to_bytes(8, "big"))
+        return self.hhm._ask_for(frame, ROWS, degrees_of)
+
+
+def rate_of(moments: List[Moment], read: Callable[[Moment], Optional[float]], seconds: float) -> Optional[float]:
+    """How much a number has risen in a second up to the last moment, over the last so many; None where it isn't told,
+    or where there is one moment alone. A number that fell began anew with the server."""
+    if len(moments) < 2:
+        return None
+    last = moments[-1]
+    first = next((it for it in moments if last.at - it.at <= seconds * 1.5), moments[-2])
+    first = moments[-2] if first is last else first
+    values = read(first), read(last)
+    if values[0] is None or values[1] is None or last.at <= first.at:
+        return None
+    return max(0.0, values[1] - values[0]) / (last.at - first.at)

@@ -1,0 +1,274 @@
+"""Tells what a server does to Prometheus, and on a page for a browser.
+
+This is the word `metrics` of `hhm_client.py`:
+
+    hhmc --unix /run/hhm/hhm.sock metrics --listen 127.0.0.1:9100
+
+`/metrics` has everything that the server tells of itself in the text format of Prometheus, each name with `hhm_` in
+front, and `hhm_up`, which is 0 where the server doesn't answer. `/` is a page that draws itself of `/stats.json` once a
+second: rates over the last ten minutes, latencies as this program measures them, layers, the rows that lead and how many
+entries rows have. It loads nothing from anywhere else. Whoever can connect may look: keep to an address of this machine,
+or put something in front that knows who comes. The server needs a worker for this program.
+"""
+import argparse
+import json
+import sys
+import threading
+import time
+from http.server import BaseHTTPRequestHandler, ThreadingHTTPServer
+from typing import Any, Dict, Iterable, List, Optional, Tuple
+from urllib.parse import parse_qs, urlsplit
+
+from hhm_client import Refused, TopRow
+from hhm_figures import LABELLED, Degrees, Moment, Watched, asking
+from hhm_page import PAGE
+from hhm_watch import (
+    BACK, CELLS, DURABLE, FAILED, GROUP, MEMORY, OPEN, PAGES, PROCESSOR, REPEATS, SAVED, SAVES, SERVED, SINCE, SYNCS,
+    UPTIME, WAITING, WORKERS, words_of, lacking, refusals_of, refused_of, seconds,
+)
+
+# The looks for whose time nothing is said of the time between two of them, where so much lies between, and the seconds
+# for which the rows that lead are asked for behind the last page that asked.
+GAP, VIEWED = 3.5, 30.0
+# Numbers from here on are no longer whole in a browser.
+EXACT = 1 << 53
+# What the page may load: nothing but its own script, styles and numbers.
+POLICY = ("default-src 'none'; script-src 'unsafe-inline'; style-src 'unsafe-inline'; img-src data:; "
+          "connect-src 'self'; base-uri 'none'; form-action 'none'; frame-ancestors 'none'")
+HELP = {
+    "up": "Whether the server answered the last time it was asked.",
+    "status_seconds": "How long the last status took, as hhmc metrics measured it.",
+    "cell_seconds": "How long the last cell took, as hhmc metrics measured it.",
+    "batches": "Accepted batches.", "total": "The sum of all counts.", "info": "The version of the server.",
+    "rows": "Rows of the matrix.", "cols": "Columns of the matrix.", "workers": "Connections that are served at once.",
+    "folded": "Accepted batches that are folded.", "cells_total": "Cells of accepted batches.",
+    "repeats_total": "Puts of batches that had been accepted.", "refused_total": "Refused requests, by their code.",
+    "sessions_total": "Connections that were accepted.", "sessions_open": "Connections that are served now.",
+    "sessions_waiting": "Connections that wait for a worker.", "resident_bytes": "Resident memory of the server.",
+    "processor_seconds_total": "Processor time of the server.", "uptime_seconds": "Seconds since the server began.",
+    "saves_total": "Saves that were made.", "failed_saves_total": "Saves that failed.",
+    "saved_batches": "Batches of the last save.", "save_age_seconds": "Seconds since the last save.",
+    "log_durable_batches": "Batches that the log has on its disk.", "log_pages": "Pages of the log.",
+    "log_syncs_total": "Syncs of the log.", "log_group_batches": "Batches of the log's last group.",
+    "shard_layer_entries": "Entries of a layer of a shard, at most.", "shard_layer_runs": "Runs of a layer of a shard.",
+}
+NUMBERS = {
+    "rows": ("rows",), "cols": ("cols", "columns"), "uptime": UPTIME, "cells": CELLS, "repeats": REPEATS, "open": OPEN,
+    "waiting": WAITING, "served": SERVED, "workers": WORKERS, "memory": MEMORY, "saves": SAVES, "failed": FAILED,
+    "saved": SAVED, "save_age": SINCE, "log_durable": DURABLE, "log_pages": PAGES, "log_syncs": SYNCS,
+    "log_group": GROUP,
+}
+
+
+class Looker:
+    """Looks at a server once a second, in a thread of its own, and keeps what was seen."""
+
+    def __init__(self, seen: Watched, every: float):
+        self.seen, self.every = seen, every
+        self.lock = threading.Lock()
+        self.fault: Optional[str] = "it wasn't asked yet"
+        self.top: Optional[List[TopRow]] = None
+        self.degrees: Optional[Tuple[float, Degrees]] = None
+        self.viewed = 0.0
+
+    def run(self) -> None:
+        while True:
+            begin = time.monotonic()
+            self.look()
+            time.sleep(max(0.05, self.every - (time.monotonic() - begin)))
+
+    def look(self) -> None:
+        try:
+            # (what readers copy meanwhile changes by whole moments alone)
+            self.seen.look()
+            if time.monotonic() - self.viewed < VIEWED:
+                self.top = self.seen.top()
+                degrees = self.seen.degrees()
+                if degrees is not None and (self.degrees is None or self.degrees[1] is not degrees):
+                    self.degrees = time.time(), degrees
+            fault = None
+        except (OSError, Refused) as why:
+            fault = words_of(why)
+        with self.lock:
+            self.fault = fault
+
+    def moments(self) -> List[Moment]:
+        return list(self.seen.moments)
+
+
+def whole(number: Any) -> Any:
+    """A number as a browser can read it: a word where it is too large to be whole there."""
+    return str(number) if isinstance(number, int) and number >= EXACT else number
+
+
+def series_of(moments: List[Moment], since: float, gap: float) -> Dict[str, List[Optional[float]]]:
+    """What is drawn over time, of the moments behind a time; nothing said of the time in which the server was gone."""
+    found: Dict[str, List[Any]] = {name: [] for name in ("at", "batches", "events", "memory", "status_ms", "cell_ms")}
+    for before, now in zip([None, *moments], moments):
+        if now.at <= since:
+            continue
+        is_near = before is not None and 0 < now.at - before.at <= gap
+        if before is not None and not is_near:
+            for values in found.values():
+                values.append(None)
+            found["at"][-1] = now.at - 0.001
+        found["at"].append(now.at)
+        for name, read in (("batches", Moment.batches), ("events", Moment.total)):
+            rise = max(0, read(now) - read(before)) / (now.at - before.at) if is_near else None
+            found[name].append(rise)
+        found["memory"].append(now.number(*MEMORY))
+        found["status_ms"].append(1000 * now.status_seconds)
+        found["cell_ms"].append(1000 * now.cell_seconds)
+    return found
+
+
+def page_stats(looker: Looker, since: float, is_ip: bool) -> Dict[str, Any]:
+    """What the page draws."""
+    looker.viewed = time.monotonic()
+    moments, seen = looker.moments(), looker.seen
+    last = moments[-1] if moments else None
+    told: Dict[str, Any] = {
+        "place": seen.place, "now": time.time(), "is_ip": is_ip, "fault": looker.fault,
+        "answered": last.at if last else None, "series": series_of(moments, since, GAP * looker.every),
+        "lacking": [it.partition(":")[0] for it in lacking(seen)],
+    }
+    if last is None:
+        return told
+    rates = {"batches": Moment.batches, "events": Moment.total, "cells": lambda it: it.number(*CELLS),
+             "processor": lambda it: it.number(*PROCESSOR)}
+    degrees = looker.degrees
+    numbers = {name: whole(last.number(*names)) for name, names in NUMBERS.items()}
+    told.update({
+        "version": last.stats.get("version"), "batches": whole(last.batches()), "total": whole(last.total()),
+        "numbers": {**numbers, "refused": refused_of(last)},
+        "refused": [it.rsplit(" ", 1) for it in refusals_of(last)],
+        "rates": {name: seen.rate(read, BACK) for name, read in rates.items()},
+        "layers": [list(it) for it in last.layers()],
+        "top": None if looker.top is None else [[whole(number) for number in it] for it in looker.top],
+        "degrees": None if degrees is None else {"at": degrees[0], **degrees[1]._asdict()},
+        "stats": [[name, str(value)] for name, value in last.stats.items()],
+    })
+    return told
+
+
+def metrics_of(looker: Looker) -> str:
+    """All that is told, in the text format of Prometheus. Of a server that is gone only that it is."""
+    moments = looker.moments()
+    families: Dict[str, List[str]] = {"up": ["hhm_up " + ("1" if looker.fault is None else "0")]}
+    if looker.fault is None and moments:
+        last = moments[-1]
+        told: Dict[str, Any] = {"batches": last.batches(), "total": last.total(), **last.stats}
+        told.update({"status_seconds": round(last.status_seconds, 6), "cell_seconds": round(last.cell_seconds, 6)})
+        for name, value in told.items():
+            found = LABELLED.fullmatch(name)
+            if name == "version":
+                families["info"] = [f'hhm_info{{version="{value}"}} 1']
+            elif found and isinstance(value, (int, float)):
+                families.setdefault(found.group("name"), []).append(f"hhm_{name} {value}")
+    lines = []
+    for name, samples in families.items():
+        kind = "counter" if f"hhm_{name}".endswith("_total") else "gauge"
+        lines += [f"# HELP hhm_{name} {HELP.get(name, help_of(name))}", f"# TYPE hhm_{name} {kind}", *samples]
+    return "\n".join(lines) + "\n"
+
+
+def help_of(name: str) -> str:
+    """What is said of a name that only the server explains."""
+    return f"{name} of the server's stats, as docs/FORMATS.md has it."
+
+
+class Handler(BaseHTTPRequestHandler):
+    """Answers a browser, or Prometheus."""
+
+    looker: Looker
+    is_ip = False
+    protocol_version = "HTTP/1.1"
+    server_version, sys_version = "hhmc", ""
+    timeout = 30
+
+    def do_GET(self) -> None:
+        asked = urlsplit(self.path)
+        if not self.is_asked_here():
+            self.answer(403, "text/plain; charset=utf-8", "This is served to this machine alone.\n")
+        elif asked.path == "/":
+            self.answer(200, "text/html; charset=utf-8", PAGE)
+        elif asked.path == "/stats.json":
+            told = page_stats(self.looker, since_of(asked.query), self.is_ip)
+            self.answer(200, "application/json", json.dumps(told, separators=(",", ":")))
+        elif asked.path == "/metrics":
+            self.answer(200, "text/plain; version=0.0.4; charset=utf-8", metrics_of(self.looker))
+        else:
+            self.answer(404, "text/plain; charset=utf-8", "There are /, /stats.json and /metrics.\n")
+
+    do_HEAD = do_GET
+
+    def is_asked_here(self) -> bool:
+        """Whether who asks named this machine, where it listens to this machine alone: a page from elsewhere, whose
+        name was made to stand for this address, else could read along."""
+        own, _ = self.server.server_address[:2]
+        name = urlsplit("//" + self.headers.get("Host", "localhost")).hostname or ""
+        return not own.startswith("127.") or name == "localhost" or name.startswith("127.")
+
+    def answer(self, status: int, kind: str, text: str) -> None:
+        body = text.encode()
+        self.send_response(status)
+        self.send_header("Content-Type", kind)
+        self.send_header("Content-Length", str(len(body)))
+        self.send_header("Cache-Control", "no-store")
+        self.send_header("X-Content-Type-Options", "nosniff")
+        self.send_header("Content-Security-Policy", POLICY)
+        self.end_headers()
+        if self.command != "HEAD":
+            self.wfile.write(body)
+
+    def log_message(self, *_: Any) -> None:
+        """(a line for each second would say nothing)"""
+
+
+def since_of(query: str) -> float:
+    """The time behind which a page wants to be told; 0 where it is none."""
+    try:
+        return float(parse_qs(query).get("since", ["0"])[0])
+    except ValueError:
+        return 0.0
+
+
+class Web(ThreadingHTTPServer):
+    daemon_threads = True
+
+    def handle_error(self, request: Any, client_address: Any) -> None:
+        """A browser that goes amid an answer is no fault."""
+        if not isinstance(sys.exc_info()[1], OSError):
+            super().handle_error(request, client_address)
+
+
+def run(given: argparse.Namespace) -> Iterable[bytes]:
+    """Listens, says where, and serves until it is ended."""
+    looker = Looker(Watched(asking(given.tcp, given.unix, given.timeout)), given.every)
+    handler = type("Own", (Handler,), {"looker": looker, "is_ip": given.ip})
+    host, port = given.listen
+    try:
+        web = Web((host, port), handler)
+    except OSError as fault:
+        fault.filename = f"{host}:{port}"
+        raise
+    threading.Thread(target=looker.run, daemon=True).start()
+    with web:
+        yield b"listening http://%b:%d/\n" % (host.encode(), web.server_address[1])
+        web.serve_forever()
+
+
+def listened(word: str) -> Tuple[str, int]:
+    """The address to listen at; the port 0 is one that is free."""
+    host, _, port = word.rpartition(":")
+    if not host or not (port.isascii() and port.isdigit()) or int(port) > 65535:
+        raise argparse.ArgumentTypeError(f"{word!r} isn't HOST:PORT")
+    return host, int(port)
+
+
+def add_words(metrics: argparse.ArgumentParser) -> None:
+    """Adds the words of `metrics` to those of the command line."""
+    listen = "where a browser, or Prometheus, asks (127.0.0.1:9100)"
+    metrics.add_argument("--listen", type=listened, default=("127.0.0.1", 9100), metavar="HOST:PORT", help=listen)
+    metrics.add_argument("--every", type=seconds, default=1.0, metavar="SECONDS", help="between two looks (1)")
+    metrics.add_argument("--ip", action="store_true", help="the page tells rows as IPv4 addresses")

@@ -1,0 +1,235 @@
+"""What a server does, on a screen of the terminal once a second, or as plain lines.
+
+This is the word `watch` of `hhm_client.py`:
+
+    hhmc --unix /run/hhm/hhm.sock watch             # a screen, until ^C
+    hhmc --unix /run/hhm/hhm.sock watch --once      # lines `name value ..`, once
+
+Where standard output is no terminal, the lines come once a second. A server that is gone is waited for. What it doesn't
+tell, as one of an earlier version does, is left out. Rates are those of the last second; batches, events and cells are
+those that were accepted, an event being a count of 1.
+"""
+import argparse
+import contextlib
+import shutil
+import sys
+import time
+from typing import Iterable, Iterator, List, Optional
+
+from hhm_ask import address_of
+from hhm_client import CODES, Refused, TopRow
+from hhm_figures import Layer, Moment, Watched, asking
+
+# The names of stats that are shown, each with what it may be called.
+CELLS = ("cells_total",)
+REPEATS = ("repeats_total",)
+REFUSED = ("refused_total",)
+MEMORY = ("resident_bytes",)
+PROCESSOR = ("processor_seconds_total",)
+UPTIME = ("uptime_seconds",)
+SAVES, FAILED, SAVED, SINCE = ("saves_total",), ("failed_saves_total",), ("saved_batches",), ("save_age_seconds",)
+OPEN, WAITING, SERVED, WORKERS = ("sessions_open",), ("sessions_waiting",), ("sessions_total",), ("workers",)
+DURABLE, PAGES, SYNCS, GROUP = ("log_durable_batches",), ("log_pages",), ("log_syncs_total",), ("log_group_batches",)
+# The widest bar of a layer, and how long a look back a rate takes.
+BAR = 40
+BACK = 5.0
+
+
+def big(number: Optional[float]) -> str:
+    """A number for reading: whole, with commas; a small one with a digit behind the point."""
+    if number is None:
+        return "?"
+    return f"{number:,.1f}" if isinstance(number, float) and number < 10 and number != int(number) else f"{number:,.0f}"
+
+
+def bytes_told(number: float) -> str:
+    """Bytes by a unit of thousands."""
+    for unit in ("B", "kB", "MB", "GB"):
+        if number < 1000:
+            break
+        number /= 1000
+    else:
+        unit = "TB"
+    return f"{number:.0f} {unit}" if unit == "B" or number >= 100 else f"{number:.1f} {unit}"
+
+
+def time_told(seconds: float) -> str:
+    """A time by hours, minutes and seconds."""
+    whole = int(seconds)
+    if whole < 60:
+        return f"{whole} s"
+    if whole < 3600:
+        return f"{whole // 60} min {whole % 60} s"
+    return f"{whole // 3600} h {whole % 3600 // 60} min"
+
+
+def refusals_of(moment: Moment) -> List[str]:
+    """Each code of a refusal that was answered, by its name, with how often."""
+    found = [(CODES.get(int(labels.get("code", "0") or 0), labels.get("code", "?")), value)
+             for labels, value in moment.family(*REFUSED) if value]
+    return [f"{name} {big(value)}" for name, value in found]
+
+
+def refused_of(moment: Moment) -> Optional[float]:
+    """How many requests were refused in all."""
+    family = moment.family(*REFUSED)
+    return sum(value for _, value in family) if family else moment.number(*REFUSED)
+
+
+def by_layer(layers: List[Layer]) -> List[Layer]:
+    """The layers of all shards together."""
+    found = []
+    for level in sorted({it.layer for it in layers}):
+        these = [it for it in layers if it.layer == level]
+        runs = None if any(it.runs is None for it in these) else sum(it.runs or 0 for it in these)
+        found.append(Layer(-1, level, sum(it.entries for it in these), runs))
+    return found
+
+
+def facts_of(seen: Watched, moment: Moment) -> Iterator[List[str]]:
+    """The figures that are told, as lines of pairs: a name and a value behind each other."""
+    number = moment.number
+    yield ["server", seen.place]
+    begun = [("version", moment.stats.get("version")), ("uptime", time_told(up) if (up := number(*UPTIME)) else None)]
+    yield [word for name, value in begun if value is not None for word in (name, str(value))]
+    yield ["batches", big(moment.batches()), "total", big(moment.total())]
+    rates = [("batches", Moment.batches), ("events", Moment.total), ("cells", lambda it: it.number(*CELLS))]
+    told = [(name, seen.rate(read, BACK)) for name, read in rates]
+    yield [word for name, rate in told if rate is not None for word in (f"{name}/s", big(rate))]
+    yield pairs(("repeats", number(*REPEATS)), ("refused", refused_of(moment))) + refusals_of(moment)
+    yield pairs(("sessions", number(*OPEN)), ("waiting", number(*WAITING)), ("served", number(*SERVED)),
+                ("workers", number(*WORKERS)))
+    memory, processor = number(*MEMORY), seen.rate(lambda it: it.number(*PROCESSOR), BACK)
+    yield ([] if memory is None else ["memory", bytes_told(memory)]) + (
+        [] if processor is None else ["processor", f"{100 * processor:.0f} %"])
+    yield from saves_of(moment)
+    yield pairs(("log: durable", number(*DURABLE)), ("pages", number(*PAGES)), ("syncs", number(*SYNCS)),
+                ("last group", number(*GROUP)))
+    yield ["status", f"{1000 * moment.status_seconds:.2f} ms", "cell", f"{1000 * moment.cell_seconds:.2f} ms"]
+
+
+def saves_of(moment: Moment) -> Iterator[List[str]]:
+    """The last save, where one was told, and how much came since."""
+    number = moment.number
+    since, saved = number(*SINCE), number(*SAVED)
+    if since is not None and number(*SAVES):
+        last = ["last save", f"{time_told(since)} ago"]
+        behind = [] if saved is None else ["batches", big(saved), "since", big(max(0, moment.batches() - saved))]
+        yield last + behind + pairs(("saves", number(*SAVES)), ("failed", number(*FAILED)))
+    else:
+        yield pairs(("saves", number(*SAVES)), ("failed", number(*FAILED)))
+
+
+def pairs(*found) -> List[str]:
+    """The names and numbers of those that are told."""
+    return [word for name, value in found if value is not None for word in (name, big(value))]
+
+
+def lines_of(seen: Watched, moment: Moment, top: Optional[List[TopRow]], is_ip: bool) -> List[str]:
+    """All figures as plain lines."""
+    lines = [" ".join(fact).replace(",", "") for fact in facts_of(seen, moment) if fact]
+    for it in by_layer(moment.layers()):
+        lines.append(f"layer {it.layer} entries {it.entries}" + ("" if it.runs is None else f" runs {it.runs}"))
+    for place, it in enumerate(top or [], 1):
+        lines.append(f"top {place} {address_of(it.row) if is_ip else it.row} entries {it.entries} total {it.total}")
+    return lines + lacking(seen)
+
+
+def lacking(seen: Watched) -> List[str]:
+    """What the server doesn't know."""
+    words = {"stats": "stats: its version doesn't tell them", "top": "top rows: its version doesn't tell them"}
+    return [words[name] for name in words if seen.unknown.get(name)]
+
+
+def screen_of(seen: Watched, moment: Moment, top: Optional[List[TopRow]], is_ip: bool, width: int) -> List[str]:
+    """The lines of a screen."""
+    is_utf8 = "utf" in (sys.stdout.encoding or "").lower()
+    full = "\u2588" if is_utf8 else "#"
+    lines = ["   ".join(f"{name} {value}" for name, value in zip(fact[::2], fact[1::2])) if len(fact) % 2 == 0
+             else "   ".join(fact) for fact in facts_of(seen, moment) if fact]
+    lines[0] += "   " + time.strftime("%H:%M:%S", time.localtime(moment.at))
+    layers = by_layer(moment.layers())
+    if layers:
+        most = max(max(it.entries for it in layers), 1)
+        room = max(1, min(BAR, width - 40))
+        lines += ["", "layers of all shards, by entries"]
+        for it in layers:
+            length = -(-it.entries * room // most)
+            runs = "" if it.runs is None else f"   {big(it.runs)} runs"
+            lines.append(f" {it.layer} {full * length:<{room}} {big(it.entries):>14}{runs}")
+    if top:
+        lines += ["", f"    {'row':>20} {'entries':>14} {'total':>20}"]
+        for place, it in enumerate(top, 1):
+            row = address_of(it.row) if is_ip else str(it.row)
+            lines.append(f" {place:2} {row:>20} {big(it.entries):>14} {big(it.total):>20}")
+    return lines + lacking(seen)
+
+
+def shown(lines: List[str]) -> bytes:
+    """A screen in place of the one before it, cut to the terminal."""
+    size = shutil.get_terminal_size()
+    kept = [line[: size.columns] + "\x1b[K" for line in lines[: size.lines - 1]]
+    return ("\x1b[H" + "\r\n".join(kept) + "\x1b[J").encode(errors="replace")
+
+
+@contextlib.contextmanager
+def own_screen() -> Iterator[None]:
+    """Another screen of the terminal, without a cursor, and at the end the one that was there."""
+    sys.stdout.write("\x1b[?1049h\x1b[?25l")
+    sys.stdout.flush()
+    try:
+        yield
+    finally:
+        sys.stdout.write("\x1b[?25h\x1b[?1049l")
+        sys.stdout.flush()
+
+
+def words_of(fault: Exception) -> str:
+    """Why there is no answer."""
+    return (isinstance(fault, OSError) and fault.strerror) or str(fault)
+
+
+def look(seen: Watched, given: argparse.Namespace, is_screen: bool) -> List[str]:
+    """The lines of a look at the server, or that it is gone."""
+    try:
+        moment = seen.look()
+        top = seen.top()
+    except (OSError, Refused) as fault:
+        if given.once:
+            raise
+        return [f"server {seen.place}", f"no answer: {words_of(fault)}", time.strftime("%H:%M:%S")]
+    if is_screen:
+        return screen_of(seen, moment, top, given.ip, shutil.get_terminal_size().columns)
+    return lines_of(seen, moment, top, given.ip)
+
+
+def run(given: argparse.Namespace) -> Iterable[bytes]:
+    """Looks once a second, and gives what is to be written."""
+    seen = Watched(asking(given.tcp, given.unix, given.timeout))
+    if given.once:
+        # (a rate needs two looks)
+        seen.look()
+        time.sleep(given.every)
+        yield ("\n".join(look(seen, given, False)) + "\n").encode()
+        return
+    is_screen = sys.stdout.isatty()
+    with own_screen() if is_screen else contextlib.nullcontext():
+        while True:
+            lines = look(seen, given, is_screen)
+            yield shown(lines) if is_screen else ("\n".join(lines) + "\n\n").encode()
+            time.sleep(given.every)
+
+
+def seconds(word: str) -> float:
+    """A time of the command line, from a tenth of a second to an hour."""
+    value = float(word)
+    if not 0.1 <= value <= 3600:
+        raise argparse.ArgumentTypeError(f"{word} isn't from 0.1 to 3600")
+    return value
+
+
+def add_words(watch: argparse.ArgumentParser) -> None:
+    """Adds the words of `watch` to those of the command line."""
+    watch.add_argument("--once", action="store_true", help="writes plain lines once, and ends")
+    watch.add_argument("--every", type=seconds, default=1.0, metavar="SECONDS", help="between two looks (1)")
+    watch.add_argument("--ip", action="store_true", help="tells rows as IPv4 addresses")

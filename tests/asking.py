@@ -1,0 +1,213 @@
+#!/usr/bin/env python3
+"""Asks for ranges, tops and stats by the clients of all three languages, and by the words of the command line.
+
+    python3 tests/asking.py PATH-TO-HHM
+
+What is wanted is worked out by hand, or by a loop over the cells that were put (stand_in.py). What the built program is
+never brought to say, a reply that is none above all, is said by a peer. It prints a line for each check that fails and
+at the end `N passed, M failed`; the status is 1 where one fails. Linux, and nothing but Python's own library.
+"""
+import os
+import random
+import shutil
+import struct
+import sys
+
+import server
+from hhm_client import Client
+from clients import build
+from peers import Driver, Liar, Proxy, run
+from server import Server, check
+from stand_in import StandIn, cells_of_range, frame, knows_stats, rows_of_top
+
+HERE = os.path.dirname(os.path.abspath(__file__))
+PYTHON = os.path.join(HERE, "..", "clients", "python")
+# Cells of three rows and columns, and what docs/FORMATS.md says of them.
+CELLS = [(0, 0, 5), (0, 2, 3), (1, 1, 8), (2, 1, 0)]
+NONE = "what came is no reply to what was asked"
+LARGE = ["--rows", str(1 << 32), "--cols", str(1 << 32)]
+
+
+def drivers():
+    """A command for each language."""
+    found = {"Python": [sys.executable, os.path.join(HERE, "drivers", "driver.py")]}
+    for language, compiler in [("Rust", "rustc"), ("C", "cc")]:
+        if shutil.which(compiler) is None:
+            print(f"not tried: the client for {language}: there is no {compiler}")
+        elif path := build(language, os.path.join(HERE, "drivers", "driver")):
+            found[language] = [path]
+    return found
+
+
+def threes(body):
+    return " ".join("%d,%d,%d" % three for three in struct.iter_unpack(">QQQ", body))
+
+
+def worked_answers(name, command):
+    """Each answer, by hand, of a small server."""
+    small = ["--rows", "3", "--cols", "3"]
+    with Server(small, tcp=False) as at, Driver(command, at.path) as driver:
+        with at.client(8) as hhm:
+            hhm.put(1, CELLS)
+        for question, wanted in [
+            ("page 0 2 1 2 0 0 2", "more 1: 0,2,3 1,1,8"),
+            ("page 0 2 1 2 1 2 2", "more 0: 2,1,0"),
+            ("page 0 2 0 2 3 0 1", "more 0: "),
+            ("page 0 2 0 2 0 1 4", "more 0: 0,2,3 1,1,8 2,1,0"),
+            ("page 1 1 0 0 0 0 4", "more 0: "),
+            ("page 0 3 0 2 0 0 4", "refused: OutOfRange"),
+            ("page 2 1 0 2 0 0 4", "refused: OutOfRange"),
+            ("page 0 2 0 2 0 0 0", "refused: BadCount"),
+            ("range 0 2 0 2 1", "0,0,5 0,2,3 1,1,8 2,1,0"),
+            ("range 0 2 0 2 3", "0,0,5 0,2,3 1,1,8 2,1,0"),
+            ("range 0 2 0 2 4", "0,0,5 0,2,3 1,1,8 2,1,0"),
+            ("range 1 2 1 1 1", "1,1,8 2,1,0"),
+            ("range 0 0 3 3 1", "refused: OutOfRange"),
+            ("top 0 2", "0,2,8 1,1,8"),
+            ("top 1 3", "0,2,8 1,1,8 2,1,0"),
+            ("top 0 100", "0,2,8 1,1,8 2,1,0"),
+            ("top 0 0", "refused: BadCount"),
+            ("status", "batches 1 total 16"),
+        ]:
+            check(f"{name}: {question}", driver.ask(*question.split()), wanted)
+        with at.client() as hhm:
+            is_known = knows_stats(hhm, f"stats by the client for {name}")
+        if is_known:
+            told = dict(it.rsplit(" ", 1) for it in driver.ask("stats").split(","))
+            check(f"{name}: stats", (told.get("batches"), told.get("total"), told.get("rows")), ("1", "16", "3"))
+
+
+def drawn_answers(name, command):
+    """Ranges and tops of drawn cells, beside a plain model, with pages whose replies are lost."""
+    dice = random.Random(5)
+    cells = {(dice.randrange(1 << 20), dice.randrange(1 << 20)): dice.randrange(5) for _ in range(2000)}
+    cells.update({(77, col): 1 for col in range(0, 4000, 2)})
+    with Server(LARGE, tcp=False) as at:
+        with at.client(8) as hhm:
+            hhm.put(1, [(*place, count) for place, count in cells.items()])
+        with Proxy(at, True, [2, 0, 1, 5]) as proxy, Driver(command, proxy.path) as driver:
+            for first_row, last_row, first_col, last_col, page in [
+                (0, (1 << 32) - 1, 0, (1 << 32) - 1, 500), (77, 77, 0, 4000, 7), (77, 77, 100, 3000, 2000),
+                (0, 1 << 19, 1 << 18, 1 << 19, 100), (78, (1 << 32) - 1, 0, 0, 3),
+            ]:
+                bounds = first_row, last_row, first_col, last_col
+                body = cells_of_range(cells, (*bounds, 0, 0, len(cells)))
+                check(f"{name}: range {bounds}", driver.ask("range", *bounds, page), threes(body[1:]))
+            for by, most in [(0, 1), (0, 100), (1, 50), (1, 5000)]:
+                check(f"{name}: top {by} {most}", driver.ask("top", by, most), threes(rows_of_top(cells, by, most)))
+            check(f"{name}: lost", proxy.how_often, 4)
+
+
+def reply(kind, *numbers, front=b""):
+    return frame(kind, front + struct.pack(f">{len(numbers)}Q", *numbers))
+
+
+PAGE, TOP = "page 2 6 2 6 3 3 3", "top 0 2"
+# Of a page of at most three cells of the rows and columns 2 to 6 from (3, 3) on, and of a top of two: what is none.
+LIES = [
+    (PAGE, reply(0x88, 3, 3, 1)), (PAGE, frame(0x88)), (PAGE, reply(0x88, 3, 3, 1, front=b"\2")),
+    (PAGE, reply(0x88, 3, 3, front=b"\0")), (PAGE, reply(0x85, 3, 3, 1, front=b"\0")),
+    (PAGE, reply(0x88, 3, 2, 1, front=b"\0")), (PAGE, reply(0x88, 2, 5, 1, front=b"\0")),
+    (PAGE, reply(0x88, 3, 7, 1, front=b"\0")), (PAGE, reply(0x88, 7, 3, 1, front=b"\0")),
+    (PAGE, reply(0x88, 4, 1, 1, front=b"\0")), (PAGE, reply(0x88, 3, 3, 1, 3, 3, 1, front=b"\0")),
+    (PAGE, reply(0x88, 4, 3, 1, 3, 4, 1, front=b"\0")), (PAGE, reply(0x88, front=b"\1")),
+    (PAGE, reply(0x88, 3, 3, 1, 3, 4, 1, front=b"\1")),
+    (PAGE, reply(0x88, 3, 3, 1, 3, 4, 1, 3, 5, 1, 3, 6, 1, front=b"\0")),
+    (PAGE, struct.pack(">IB", (64 << 20) + 1, 0x88)),
+    (TOP, reply(0x89, 1, 1)), (TOP, reply(0x89, 1, 1, 5, 2, 1, 6)), (TOP, reply(0x89, 2, 1, 5, 1, 1, 5)),
+    (TOP, reply(0x89, 1, 1, 5, 1, 1, 5)), (TOP, reply(0x89, 1, 0, 5)), (TOP, reply(0x89, 1, 1, 3, 2, 1, 2, 3, 1, 1)),
+    ("top 1 2", reply(0x89, 1, 1, 6, 2, 2, 5)), (TOP, reply(0x88, 1, 1, 5)),
+    ("stats", frame(0x8A, b"batches 1")), ("stats", frame(0x8A, b"batches\n")), ("stats", frame(0x8A, b" 1\n")),
+    ("stats", frame(0x8A, b"batches \n")), ("stats", frame(0x8A, b"b\xc3\xa4 1\n")), ("stats", frame(0x8A, b"\n")),
+    ("stats", frame(0x89, b"batches 1\n")),
+]
+# What is a reply though it is odd.
+ODD = [
+    (PAGE, reply(0x88, front=b"\0"), "more 0: "),
+    (PAGE, reply(0x88, 3, 3, 0, 4, 2, 1, front=b"\0"), "more 0: 3,3,0 4,2,1"),
+    (PAGE, reply(0x88, 3, 3, 0, 4, 2, 1, 6, 6, 1, front=b"\1"), "more 1: 3,3,0 4,2,1 6,6,1"),
+    (TOP, frame(0x89), ""), (TOP, reply(0x89, 9, 1, 5, 2, 1, 4), "9,1,5 2,1,4"),
+    ("stats", frame(0x8A), ""), ("stats", frame(0x8A, b'a_b{c="d e",f=""} 7\nversion 0.1.0\n'),
+                                 'a_b{c="d e",f=""} 7,version 0.1.0'),
+    ("stats", server.refused(51), "refused: UnknownKind"), ("top 0 2", server.refused(1), "refused: Memory"),
+]
+
+
+def what_is_no_reply_is_told(name, command):
+    for question, lie, wanted in [*((*it, NONE) for it in LIES), *ODD]:
+        with Liar(lie) as liar, Driver(command, liar.path, attempts=3) as driver:
+            check(f"{name}: {question}: {lie[:60].hex()}", driver.ask(*question.split()), wanted)
+            check(f"{name}: {question}: {lie[:60].hex()}, once", liar.count, 1)
+
+
+def numbers_are_found_among_stats(command):
+    """C: whole numbers by their names, where a name is the front of another, has labels, or isn't there."""
+    told = {"batches_total": 9, "batches": 7, "odd_seconds": "0.5", "version": "1.2", 'odd{a="b c"}': (1 << 64) - 1,
+            "total": 1 << 64}
+    with StandIn(stats=told) as at, Driver(command, at.path) as driver:
+        wanted = f"7,none,none,none,none,{(1 << 64) - 1},none,"
+        check("C: numbers among stats", driver.ask("numbers"), wanted)
+
+
+def hhmc(at, *words):
+    return run([sys.executable, os.path.join(PYTHON, "hhm_client.py"), "--unix", at.path, *words])
+
+
+def the_command_line_asks():
+    host = (10 << 24) + 1
+    cells = [(host, (10 << 24) + k, k + 1) for k in range(4)] + [(7, (10 << 24) + 1, 50), (9, 1 << 31, 1)]
+    told = "columns lead by a scan of all cells, which takes a while where there are many\n"
+    with Server(LARGE, tcp=False) as at:
+        with at.client(8) as hhm:
+            hhm.put(1, cells)
+        for words, wanted in [
+            ("top rows", ("7 1 50\n167772161 4 10\n9 1 1\n", "", 0)),
+            ("top rows 1 --by entries", ("167772161 4 10\n", "", 0)),
+            ("top rows 2 --ip", ("0.0.0.7 1 50\n10.0.0.1 4 10\n", "", 0)),
+            ("top cols 2", ("167772161 2 52\n167772163 1 4\n", told, 0)),
+            ("top cols 2 --by entries --ip", ("10.0.0.1 2 52\n10.0.0.0 1 1\n", told, 0)),
+            ("list 7", ("7 167772161 50\n", "", 0)), ("list 8", ("", "", 0)),
+            ("list --ip 10.0.0.1 --limit 4", ("".join(f"10.0.0.1 10.0.0.{k} {k + 1}\n" for k in range(4)), "", 0)),
+            ("list --ip 10.0.0.1 --limit 1",
+             ("10.0.0.1 10.0.0.0 1\n", "row 10.0.0.1 has more cells: give a higher --limit\n", 0)),
+            ("list --ip 9", ("0.0.0.9 128.0.0.0 1\n", "", 0)),
+            ("list 10.0.0.1", ("", "10.0.0.1 is an address: give --ip\n", 2)),
+            (f"list {1 << 32}", ("", "refused: OutOfRange\n", 1)),
+            ("top rows 1000001", ("", "refused: BadCount\n", 1)),
+        ]:
+            check(f"hhmc {words}", hhmc(at, *words.split()), wanted)
+        for words in ["top", "top both", "top rows 0", "top rows x", "list", "list 1.2.3", "list x", "list 7 --limit 0",
+                      "stats 1"]:
+            output, error, status = hhmc(at, *words.split())
+            check(f"hhmc {words}", (output, error.startswith("usage: "), status), ("", True, 2))
+        with at.client() as hhm:
+            is_known = knows_stats(hhm, "hhmc stats")
+        if is_known:
+            output, error, status = hhmc(at, "stats")
+            check("hhmc stats", ("batches 1\n" in output, "total 61\n" in output, error, status), (True, True, "", 0))
+    with StandIn(stats={"batches": 1, "odd": "1.50"}) as at:
+        check("hhmc stats, as they come", hhmc(at, "stats"), ("batches 1\nodd 1.50\n", "", 0))
+    with StandIn(stats=None, unknown=[10, 11]) as at:
+        why = "refused: UnknownKind: the server is of an earlier version, which doesn't know this question\n"
+        for words in ["stats", "top rows", "list 1"]:
+            check(f"hhmc {words}, of an earlier server", hhmc(at, *words.split()), ("", why, 1))
+    for stats, size in [({"batches": 0}, (5, 1 << 60)), (None, (1, 1)), (None, (1 << 60, 1000)), ({"rows": 7}, (7, 7))]:
+        with StandIn(stats=stats, size=size) as at, Client(unix=at.path) as hhm:
+            check(f"dimensions that aren't told: {size}", hhm.size(), size)
+            at.put([(0, col, 1) for col in range(min(size[1], 3))])
+            check("all cells of them", len(list(hhm.range(page=1))), min(size[1], 3))
+
+
+def all_are_tried():
+    commands = drivers()
+    if "C" in commands:
+        numbers_are_found_among_stats(commands["C"])
+    for name, command in commands.items():
+        worked_answers(name, command)
+        drawn_answers(name, command)
+        what_is_no_reply_is_told(name, command)
+    the_command_line_asks()
+
+
+if __name__ == "__main__":
+    sys.exit(server.run_all(all_are_tried))

@@ -1,0 +1,236 @@
+"""Opens the page of `hhmc metrics` in Chromium, and compares its numbers with the server's (watching.py runs it)."""
+import contextlib
+import os
+import re
+import subprocess
+import sys
+import time
+
+import browser
+import server
+from server import Server, check
+from stand_in import StandIn, knows_stats
+
+LARGE = ["--rows", str(1 << 32), "--cols", str(1 << 32)]
+ADDRESS = 10 << 24
+STATE = "document.getElementById('state')"
+# What a server in its place tells, and what the page makes of it.
+TOLD = {
+    "version": "1.2.3", "rows": 1 << 60, "cols": 5, "batches": 0, "total": 0, "cells_total": 1_234_567,
+    "repeats_total": 12, 'refused_total{code="30"}': 2, 'refused_total{code="22"}': 3000, "sessions_open": 2,
+    "sessions_waiting": 1, "sessions_total": 99, "workers": 4, "resident_bytes": 231_400_000, "uptime_seconds": "3725.5",
+    "saves_total": 2, "failed_saves_total": 1, "saved_batches": 0, "save_age_seconds": "61.2", "log_durable_batches": 7,
+    "log_pages": 12, "log_syncs_total": 8, "log_group_batches": 3, "<b>odd</b>": 1,
+    **{f'shard_layer_entries{{shard="{shard}",layer="{layer}"}}': 1000 * shard + layer
+       for shard in range(12) for layer in range(3)},
+    **{f'shard_layer_runs{{shard="{shard}",layer="{layer}"}}': shard for shard in range(12) for layer in range(3)},
+}
+SHOWN = {
+    "Batches": "0", "Events": "0", "Cells put": "1,234,567", "Repeats": "12", "Refused": "3,002", "Sessions": "2 open",
+    "Memory": "231 MB", "Last save": "1 min 1 s ago", "Durable": "7 batches",
+}
+TILES = ("Object.fromEntries([...document.querySelectorAll('#tiles div')].map((it) => [it.querySelector('dt')"
+         ".textContent, it.querySelector('dd').firstChild.textContent]))")
+
+
+def contrast(one, other):
+    """How much two colours `rgb(r, g, b)` differ, as the accessibility guidelines of the web have it."""
+
+    def light(colour):
+        parts = [int(it) / 255 for it in re.findall(r"\d+", colour)[:3]]
+        linear = [it / 12.92 if it <= 0.04045 else ((it + 0.055) / 1.055) ** 2.4 for it in parts]
+        return 0.2126 * linear[0] + 0.7152 * linear[1] + 0.0722 * linear[2]
+
+    low, high = sorted((light(one), light(other)))
+    return (high + 0.05) / (low + 0.05)
+
+
+def table_of(page, part, rows):
+    """The rows of the table of a part of the page, once there are so many."""
+    lines = f"[...document.querySelectorAll('#{part} tbody tr')]"
+    page.until(f"{lines}.length === {rows}")
+    return page.value(f"{lines}.map((it) => [...it.children].map((it) => it.textContent))")
+
+
+def numbers_are_the_servers(page, at, metrics):
+    """Each number of the page is the server's, empty and with batches."""
+    page.open(metrics.url)
+    check("page: answers", page.until(f"{STATE}.textContent.startsWith('The server answers.')"), True)
+    check("page: an empty server", page.value(TILES)["Batches"], "0")
+    nothing = "document.querySelector('#top').textContent.includes('No row has an entry.')"
+    check("page: no row", page.until(nothing), True)
+    cells = [(ADDRESS + row, col, row) for row in range(1, 9) for col in range(1 << row - 1)]
+    with at.client(8) as hhm:
+        for number in range(40):
+            hhm.put(number, cells)
+        check("page: batches", page.until(f"{TILES}['Batches'] === '40'"), True)
+        check("page: events", page.value(TILES)["Events"], f"{40 * sum(cell[2] for cell in cells):,}")
+        rows = [[f"10.0.0.{row}", f"{1 << row - 1}", f"{40 * row << row - 1:,}"] for row in range(8, 0, -1)]
+        page.until(f"document.querySelector('#top tbody tr')?.textContent === '{''.join(rows[0])}'")
+        check("page: top", table_of(page, "top", 8), rows)
+        page.value("document.getElementById('ip').click()")
+        numbers = [str(ADDRESS + row) for row in range(8, 0, -1)]
+        check("page: numbers", [it[0] for it in table_of(page, "top", 8)], numbers)
+        wanted = ["1", "2 to 3", "4 to 7", "8 to 15", "16 to 31", "32 to 63", "64 to 127", "128 to 255"]
+        check("page: degrees", table_of(page, "degrees", 8), [[words, "1"] for words in wanted])
+        check("page: a rate", page.until("Math.max(...kept.batches.filter((it) => it !== null)) > 0"), True)
+        if knows_stats(hhm, "the page's table of stats"):
+            stats_are_told(page, hhm)
+    pictures_have_tables(page)
+
+
+def what_is_told_is_shown(page, metrics_of):
+    """Each part of the page, of a server in Python that tells all that the page knows, and a name that is no name."""
+    with StandIn(stats=TOLD) as at, metrics_of(at.path) as metrics:
+        page.open(metrics.url)
+        # (rates need two looks)
+        check("shown: answers", page.until(f"{TILES}['Cells put']"), "1,234,567")
+        check("shown: tiles", page.value(TILES), SHOWN)
+        small = page.value("[...document.querySelectorAll('#tiles small')].map((it) => it.textContent)")
+        for words in ["NumberReused 2, IndexOutOfRange 3,000", "1 waiting, 99 served, 4 workers",
+                      "0 batches since, 2 saves, 1 failed", "12 pages, 8 syncs, 3 batches in the last group"]:
+            check(f"shown: {words}", words in small, True)
+        version = "version 1.2.3, up 1 h 2 min, 1,152,921,504,606,846,976 rows by 5 columns"
+        check("shown: version", page.value("document.getElementById('version').textContent"), version)
+        layers = [["All", "66,000", "66,012", "66,024"]]
+        layers += [[f"Shard {shard}", *(f"{1000 * shard + layer:,} in {shard}" for layer in range(3))] for shard in range(12)]
+        check("shown: layers", table_of(page, "layers", 13), layers)
+        check("shown: all", dict(table_of(page, "told", len(TOLD))), {name: str(it) for name, it in raw(TOLD).items()})
+        check("shown: pictures", page.until("document.querySelectorAll('section:not([hidden]) svg').length >= 4"), True)
+        pictures_have_tables(page)
+
+
+def raw(told):
+    """What the stats become where decimals are read."""
+    return {name: float(it) if isinstance(it, str) and name.endswith("_seconds") else it for name, it in told.items()}
+
+
+def stats_are_told(page, hhm):
+    """The table of all that the server tells has its names, and the numbers that don't change by being asked."""
+    stats = hhm.stats()
+    found = dict(table_of(page, "told", len(stats)))
+    check("page: names", sorted(found), sorted(stats))
+    for name in ("version", "batches", "total", "rows", "cols"):
+        check(f"page: {name}", found.get(name), str(stats.get(name)))
+    entries = {name: value for name, value in stats.items() if name.startswith("shard_layer_entries{")}
+    shards = {re.search('shard="([0-9]+)"', name).group(1) for name in entries}
+    first = table_of(page, "layers", len(shards) + 1)[0]
+    check("page: layers", sum(int(it.replace(",", "")) for it in first[1:]), sum(entries.values()))
+
+
+def pictures_have_tables(page):
+    """Each picture says what it shows, and a table with the same numbers stands behind it."""
+    pictures = page.value("[...document.querySelectorAll('section:not([hidden]) svg')].map((it) => ["
+                          "it.getAttribute('role'), it.getAttribute('aria-label').length > 20, "
+                          "it.closest('section').querySelectorAll('details table tbody tr').length > 0])")
+    check("page: pictures", (len(pictures) >= 4, {tuple(it) for it in pictures}), (True, {("img", True, True)}))
+    check("page: headings", page.value("document.querySelectorAll('h1').length"), 1)
+    names = "[...document.querySelectorAll('section:not([hidden])')].map((it) => it.querySelector('h2').textContent)"
+    check("page: each part has a name", all(len(name) > 3 for name in page.value(names)), True)
+
+
+def what_is_read_stays(page):
+    """A part whose table is open isn't drawn anew each second, and is once it is closed."""
+    part = "document.querySelector('#batches details')"
+    page.value(f"{part}.open = true, {part}.dataset.mark = 'here'")
+    time.sleep(3)
+    check("page: what is read stays", page.value(f"{part}.dataset.mark"), "here")
+    page.value(f"{part}.open = false")
+    check("page: and is drawn anew", page.until(f"{part}.dataset.mark === undefined"), True)
+
+
+def it_is_readable(page):
+    """On a light and a dark ground, and on a phone, where nothing is wider than the screen."""
+    for is_dark in (False, True):
+        page.look(1200, 1400, is_dark)
+        time.sleep(0.3)
+        for part in ("body", "#state", "#tiles dt", "#tiles dd", "h2", "#top td", "#batches svg text"):
+            colours = page.value(f"""(() => {{
+                const it = document.querySelector('{part}'), style = getComputedStyle(it);
+                let at = it, ground = 'rgba(0, 0, 0, 0)';
+                while (at && ground === 'rgba(0, 0, 0, 0)') {{
+                    ground = getComputedStyle(at).backgroundColor;
+                    at = at.parentElement;
+                }}
+                return [it.namespaceURI.endsWith('svg') ? style.fill : style.color, ground];
+            }})()""")
+            check(f"page: {part} can be read, dark {is_dark}: {colours}", contrast(*colours) >= 4.5, True)
+    for width in (390, 320):
+        page.look(width, 800)
+        time.sleep(0.3)
+        wide = page.value("document.documentElement.scrollWidth")
+        check(f"page: as wide as a phone of {width}: {wide}", wide <= width, True)
+    page.look(1200, 1400)
+
+
+def a_save_is_told(page, at):
+    with at.client(8) as hhm:
+        check("page: a save", hhm.save(), 40)
+        is_known = knows_stats(hhm, "the page's last save")
+    if is_known:
+        check("page: the save", page.until(f"({TILES}['Last save'] || '').endsWith(' ago')"), True)
+
+
+def it_says_that_a_server_is_gone(page, at, metrics, words):
+    at.process.kill()
+    at.process.wait()
+    is_gone = f"{STATE}.className === 'bad' && {STATE}.textContent.includes('refused')"
+    check("page: gone", page.until(is_gone), True)
+    told = re.sub(r"\d\d:\d\d:\d\d", "TIME", page.value(f"{STATE}.textContent"))
+    wanted = "No answer from the server since TIME: Connection refused. What is shown is from then."
+    check("page: it says so", told, wanted)
+    check("page: metrics say so", metrics.samples(), {"hhm_up": "0"})
+    with Server(words, tcp=False) as other:
+        check("page: back", page.until(f"{STATE}.className === ''"), True)
+        check("page: what was saved", page.until(f"{TILES}['Batches'] === '40'"), True)
+        with other.client(9) as hhm:
+            hhm.put(1, [(0, 0, 1)])
+        check("page: one more", page.until(f"{TILES}['Batches'] === '41'"), True)
+
+
+def draw(metrics_of, path):
+    """Writes the picture of the page that docs/ shows: a server while a log is loaded."""
+    log = os.path.join(server.FOLDER, "flows.csv")
+    with open(log, "w") as file:
+        subprocess.run([sys.executable, os.path.join(server.HERE, "..", "examples", "make_flows.py"), "3000000"],
+                       stdout=file, check=True)
+    words = [*LARGE, "--snapshot", os.path.join(server.FOLDER, "page.snap"), "--log", os.path.join(server.FOLDER, "log")]
+    hhmc = [sys.executable, os.path.join(server.HERE, "..", "clients", "python", "hhm_client.py")]
+    os.chdir(server.FOLDER)
+    with Server(words, tcp=False) as at:
+        os.symlink(at.path, "hhm.sock")
+        with metrics_of("hhm.sock", "--ip") as metrics, browser.Browser(browser.found()) as page:
+            page.look(1200, 800)
+            page.open(metrics.url)
+            how = {"stdout": subprocess.DEVNULL, "stderr": subprocess.DEVNULL}
+            load = [*hhmc, "--unix", at.path, "load", "--state", log + ".state", "7", log]
+            with subprocess.Popen(load, **how) as loading:
+                time.sleep(7)
+                with at.client() as hhm:
+                    hhm.save()
+                time.sleep(6)
+                page.picture(path)
+                loading.kill()
+        at.process.kill()
+
+
+def is_tried(metrics_of):
+    program = browser.found()
+    if program is None:
+        print("not tried: the page of hhmc metrics in a browser: no Chromium is installed")
+        return
+    words = [*LARGE, "--snapshot", os.path.join(server.FOLDER, "page.snap")]
+    with contextlib.ExitStack() as stack:
+        at = stack.enter_context(Server(words, tcp=False))
+        metrics = stack.enter_context(metrics_of(at.path, "--ip"))
+        page = stack.enter_context(browser.Browser(program))
+        numbers_are_the_servers(page, at, metrics)
+        what_is_read_stays(page)
+        it_is_readable(page)
+        a_save_is_told(page, at)
+        it_says_that_a_server_is_gone(page, at, metrics, words)
+        check("page: no error in its console", page.faults, [])
+        asked = {it.partition("?")[0] for it in page.asked} - {"data:,"}
+        check("page: asks nobody else", asked, {metrics.url, metrics.url + "stats.json"})
+        what_is_told_is_shown(page, metrics_of)
+        check("shown: no error in its console", page.faults, [])

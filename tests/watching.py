@@ -1,0 +1,269 @@
+#!/usr/bin/env python3
+"""Looks at servers by `hhmc watch` and `hhmc metrics`, and compares what is shown with what the servers tell.
+
+    python3 tests/watching.py PATH-TO-HHM [--picture OUT.png]
+
+The page of `metrics` is opened in a browser (page.py); with `--picture` only the picture of it is made that docs/ has. It prints a line for each check that fails and at the end
+`N passed, M failed`; the status is 1 where one fails. Linux, and nothing but Python's own library.
+"""
+import json
+import os
+import pty
+import re
+import select
+import signal
+import subprocess
+import sys
+import time
+import urllib.error
+import urllib.request
+import xml.etree.ElementTree
+
+import page
+import server
+from hhm_client import Status
+from hhm_figures import Moment, rate_of
+from hhm_rates import rates_of
+from peers import WAIT, run, until
+from server import Server, check
+from stand_in import StandIn
+
+HERE = os.path.dirname(os.path.abspath(__file__))
+HHMC = [sys.executable, os.path.join(HERE, "..", "clients", "python", "hhm_client.py")]
+LARGE = ["--rows", str(1 << 32), "--cols", str(1 << 32)]
+ADDRESS = 10 << 24
+# What a server tells that has every kind of name, one that nobody knows, and numbers that no browser has whole.
+TOLD = {
+    "version": "1.2.3", "rows": 1 << 60, "cols": 1 << 60, "batches": 5, "total": (1 << 64) - 1, "unheard_of": 7,
+    "odd_seconds": "0.250", 'odd_family{a="b c",d="e\\"f"}': 9, 'odd_family{a="x"}': 8, "odd_total": (1 << 63) + 1,
+}
+LABEL = r'[a-z_]+="(?:[^"\\]|\\.)*"'
+SAMPLE = re.compile(r"([a-z_0-9]+)(\{" + LABEL + "(?:," + LABEL + r")*\})? ([0-9.e+-]+)")
+
+
+class Metrics:
+    """`hhmc metrics` of a server, at a port of its own."""
+
+    def __init__(self, path, *words):
+        self.process = subprocess.Popen([*HHMC, "--unix", path, "metrics", "--listen", "127.0.0.1:0", *words],
+                                        stdout=subprocess.PIPE, stderr=subprocess.PIPE, text=True)
+        self.url = self.process.stdout.readline().removeprefix("listening ").strip()
+
+    def __enter__(self):
+        return self
+
+    def __exit__(self, *_):
+        self.process.send_signal(signal.SIGINT)
+        try:
+            _, error = self.process.communicate(timeout=WAIT)
+            check("metrics: its end", (self.process.returncode, error), (130, ""))
+        except subprocess.TimeoutExpired:
+            self.process.kill()
+            check("metrics: its end", "none", "one")
+
+    def text(self, path="", **how):
+        with urllib.request.urlopen(urllib.request.Request(self.url + path, **how), timeout=WAIT) as answer:
+            return answer.read().decode()
+
+    def json(self, since=0):
+        return json.loads(self.text(f"stats.json?since={since}"))
+
+    def samples(self):
+        """The samples of /metrics by names with labels; each family's lines stand together behind its help and type."""
+        found, seen, family = {}, set(), None
+        for line in self.text("metrics").splitlines():
+            if line.startswith("# HELP "):
+                family = line.split()[2]
+                check(f"metrics: {family} is told once", family in seen, False)
+                seen.add(family)
+            elif line.startswith("# TYPE "):
+                kind = "counter" if family.endswith("_total") else "gauge"
+                check(f"metrics: type of {family}", line, f"# TYPE {family} {kind}")
+            else:
+                sample = SAMPLE.fullmatch(line)
+                check(f"metrics: {line}", sample and sample.group(1), family)
+                found[line.rpartition(" ")[0]] = line.rpartition(" ")[2]
+        return found
+
+
+def answers(metrics):
+    return until(lambda: metrics.json()["fault"], None)
+
+
+def what_a_server_tells_is_told():
+    """Names that nobody knows, labels, fractions and numbers of 64 bits, as they are; and what the page asks for."""
+    with StandIn(stats=TOLD) as at, Metrics(at.path) as metrics:
+        check("told: answers", answers(metrics), None)
+        samples = metrics.samples()
+        times = [float(samples.pop(name)) for name in ("hhm_status_seconds", "hhm_cell_seconds")]
+        check("told: times", all(0 < value < 5 for value in times), True)
+        wanted = {f"hhm_{name}": str(value) for name, value in TOLD.items() if name != "version"}
+        wanted.update({"hhm_up": "1", 'hhm_info{version="1.2.3"}': "1", "hhm_odd_seconds": "0.25"})
+        check("told: samples", samples, wanted)
+        told = metrics.json()
+        raw = {**{name: str(value) for name, value in TOLD.items()}, "odd_seconds": "0.25"}
+        check("told: raw", dict(told["stats"]), raw)
+        check("told: large", (told["numbers"]["rows"], told["total"]), (str(1 << 60), 0))
+        check("told: moments", until(lambda: len(metrics.json()["series"]["at"]) > 3, True), True)
+        series = metrics.json()["series"]
+        check("told: as long each", len({len(values) for values in series.values()}), 1)
+        behind = metrics.json(series["at"][1])["series"]["at"]
+        check("told: behind a time", (behind[0], len(behind) >= len(series["at"]) - 2), (series["at"][2], True))
+        check("told: no number", metrics.json("x")["place"], f"unix:{at.path}")
+        asked = at.asked[12]
+        check("told: again and again", until(lambda: at.asked[12] >= asked + 3, True), True)
+
+
+def an_earlier_server_is_told():
+    """One that doesn't know Stats, or Top either: what it tells is shown, and it isn't asked again and again."""
+    for unknown, lacks in [((), ["stats"]), ((11,), ["stats", "top rows"])]:
+        with StandIn(stats=None, unknown=unknown) as at, Metrics(at.path) as metrics:
+            at.put([(5, 5, 9)])
+            check("earlier: answers", answers(metrics), None)
+            check("earlier: moments", until(lambda: len(metrics.json()["series"]["at"]) > 4, True), True)
+            told = metrics.json()
+            check("earlier: lacks", (told["lacking"], told["stats"], told["layers"]), (lacks, [], []))
+            check("earlier: total", (told["total"], told["top"]), (9, None if unknown else [[5, 1, 9]]))
+            check("earlier: asked once", (at.asked[12], not unknown or at.asked[11] == 1), (1, True))
+            samples = metrics.samples()
+            check("earlier: samples", [samples[f"hhm_{name}"] for name in ("up", "batches", "total")], ["1", "0", "9"])
+            output, error, status = run([*HHMC, "--unix", at.path, "watch", "--once"])
+            words = [f"{lack}: its version doesn't tell them" for lack in lacks]
+            check("earlier: watch", (output.splitlines()[-len(lacks):], error, status), (words, "", 0))
+
+
+def a_browser_is_answered():
+    with StandIn(stats={}) as at, Metrics(at.path) as metrics:
+        with urllib.request.urlopen(metrics.url, timeout=WAIT) as answer:
+            kind, policy = answer.headers["Content-Type"], answer.headers["Content-Security-Policy"]
+        check("http: the page", (kind, "default-src 'none'" in policy), ("text/html; charset=utf-8", True))
+        others = set(re.findall(r"https?://[\w.]+|src=|@import|url\(", metrics.text()))
+        check("http: nothing from elsewhere", others, {"http://www.w3.org"})
+        check("http: only a head", metrics.text(method="HEAD"), "")
+        for path in ["favicon.ico", "metrics/", "stats.jso"]:
+            try:
+                check(f"http: {path}", metrics.text(path), None)
+            except urllib.error.HTTPError as fault:
+                check(f"http: {path}", fault.code, 404)
+        port = metrics.url.rstrip("/").rpartition(":")[2]
+        for host, wanted in [("elsewhere.example", 403), (f"elsewhere.example:{port}", 403), ("", 403), ("10.0.0.1", 403),
+                             ("localhost", 200), (f"localhost:{port}", 200), ("127.0.0.1", 200)]:
+            asked = urllib.request.Request(metrics.url + "metrics", headers={"Host": host})
+            try:
+                with urllib.request.urlopen(asked, timeout=WAIT) as answer:
+                    check(f"http: asked by {host!r}", answer.status, wanted)
+            except urllib.error.HTTPError as fault:
+                check(f"http: asked by {host!r}", fault.code, wanted)
+        ran = run([*HHMC, "--unix", at.path, "metrics", "--listen", f"127.0.0.1:{port}"])
+        check("http: the same port", ran, ("", f"failed: 127.0.0.1:{port}: Address already in use\n", 4))
+    for words in [["--listen", "nowhere"], ["--listen", "h:x"], ["--listen", "h:65536"], ["--every", "0"]]:
+        output, error, status = run([*HHMC, "--unix", "x", "metrics", *words])
+        check(f"metrics {words}", (output, error.startswith("usage"), status), ("", True, 2))
+
+
+class Screen:
+    """A program on a terminal of 120 columns and 50 lines, and all that it has written."""
+
+    def __init__(self, words):
+        self.process, self.terminal = pty.fork()
+        if self.process == 0:
+            os.environ.update({"COLUMNS": "120", "LINES": "50", "PYTHONIOENCODING": "utf-8"})
+            os.execvp(words[0], words)
+        self.text, self.status = "", None
+
+    def __enter__(self):
+        return self
+
+    def __exit__(self, *_):
+        os.kill(self.process, signal.SIGINT)
+        self.until(None)
+        self.status = os.waitstatus_to_exitcode(os.waitpid(self.process, 0)[1])
+        os.close(self.terminal)
+
+    def until(self, words):
+        """Reads until words come behind what was read, or up to the end."""
+        begin, ends = len(self.text), time.monotonic() + WAIT
+        while time.monotonic() < ends and (words is None or words not in self.text[begin:]):
+            if select.select([self.terminal], [], [], 0.2)[0]:
+                try:
+                    more = os.read(self.terminal, 65536)
+                except OSError:
+                    more = b""
+                if not more:
+                    return words is None
+                self.text += more.decode("utf-8", "replace")
+        return words is not None and words in self.text[begin:]
+
+
+def a_server_is_watched():
+    """Lines of the built program, and a screen; while it is gone, and when it is back."""
+    cells = [(ADDRESS + 1, col, 2) for col in range(30)] + [(ADDRESS + 2, 7, 500), (3, 1, 1)]
+    with Server(LARGE, tcp=False) as at:
+        with at.client(8) as hhm:
+            hhm.put(1, cells)
+        output, error, status = run([*HHMC, "--unix", at.path, "watch", "--once", "--ip", "--every", "0.2"])
+        lines = output.splitlines()
+        check("watch: ends", (error, status), ("", 0))
+        check("watch: lines", lines[0], f"server unix:{at.path}")
+        check("watch: status", "batches 1 total 561" in lines, True)
+        check("watch: no rise", [it for it in lines if it.startswith("batches/s 0 events/s 0")] != [], True)
+        tops = [it for it in lines if it.startswith("top ")]
+        check("watch: top", tops, ["top 1 10.0.0.2 entries 1 total 500", "top 2 10.0.0.1 entries 30 total 60",
+                                   "top 3 0.0.0.3 entries 1 total 1"])
+        with Screen([*HHMC, "--unix", at.path, "watch", "--every", "0.2"]) as screen:
+            check("screen: batches", screen.until("batches 1   total 561"), True)
+            check("screen: a row", screen.until(f"{ADDRESS + 2}              1                  500"), True)
+            at.process.kill()
+            at.process.wait()
+            check("screen: gone", screen.until("no answer: Connection refused"), True)
+            with Server(LARGE, tcp=False) as other:
+                with other.client(8) as hhm:
+                    hhm.put(1, cells[:1])
+                check("screen: back", screen.until("batches 1   total 2"), True)
+        check("screen: its end", (screen.status, screen.text.endswith("\x1b[?25h\x1b[?1049l")), (130, True))
+    output, error, status = run([*HHMC, "--unix", at.path, "watch", "--once"])
+    check("watch: gone", (output, status), ("", 4))
+
+
+def rates_are_drawn():
+    """Rates of looks that are worked out by hand; and a picture of the built program, whose line says what was put."""
+    told = [(5, 0), (6, 8), (8, 10), (9, 3)]
+    looks = [Moment(at, Status(batches, 10 * batches), {}, 0.0, 0.0) for at, batches in told]
+    rates = rates_of(looks, [it.batches() for it in looks])
+    check("rates: by hand", (rates.at, rates.values), ([1, 3, 4], [8, 1, 0]))
+    check("rates: over the last second", rate_of(looks[:3], Moment.batches, 1.0), 1)
+    check("rates: over more", rate_of(looks[:3], Moment.total, 5.0), 100 / 3)
+    with Server(LARGE, tcp=False) as at, at.client(8) as hhm:
+        path = os.path.join(server.FOLDER, "rates.svg")
+        words = [*HHMC, "--unix", at.path, "plot", "rates", "--seconds", "3", path]
+        with subprocess.Popen(words, stdout=subprocess.PIPE, stderr=subprocess.PIPE, text=True) as drawing:
+            for number in range(12):
+                hhm.put(number, [(number, 0, 5)])
+                time.sleep(0.2)
+            output, error = drawing.communicate(timeout=WAIT)
+        told = re.fullmatch(r"seconds 3 batches (\d+) total (\d+)\n", output)
+        check("rates: the line", (told is not None, error, drawing.returncode), (True, "", 0))
+        batches, total = map(int, told.groups())
+        check("rates: what was put", (0 < batches <= 12, total), (True, 5 * batches))
+        drawn = xml.etree.ElementTree.parse(path).getroot()
+        check("rates: the title", drawn[0].text, f"Accepted in 3 seconds: {batches} batches, {total} events")
+    for words, wanted in [(["--from", path, "plot", "rates", path], "rates are those of a server that runs: "),
+                          (["--unix", "x", "plot", "spy", "--seconds", "3", path], "--seconds is for the picture rates"),
+                          (["--unix", "x", "plot", "rates", "--ip", path], "--rows, --cols, --whole and --ip are for ")]:
+        output, error, status = run([*HHMC, *words])
+        check(f"rates: {words[2:]}", (output, error.startswith(wanted), status), ("", True, 2))
+
+
+def all_are_tried():
+    what_a_server_tells_is_told()
+    an_earlier_server_is_told()
+    a_browser_is_answered()
+    a_server_is_watched()
+    rates_are_drawn()
+    page.is_tried(Metrics)
+
+
+if __name__ == "__main__":
+    is_drawn = sys.argv[2:3] == ["--picture"]
+    picture = os.path.abspath(sys.argv[-1])
+    sys.exit(server.run_all((lambda: page.draw(Metrics, picture)) if is_drawn else all_are_tried))
