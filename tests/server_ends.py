@@ -266,7 +266,7 @@ def starts_saves_and_ends_are_told():
         lines = error.splitlines()
         events, _ = events_of("told again", "\n".join(lines[:-1]))
         check("told again: the end", (output, lines[-1:], at.process.returncode), ("", ["hhm: file: Create"], 4))
-        failed = 'save-failed step=Create error="Is a directory (os error 21)"'
+        failed = 'save-failed file=snapshot step=Create error="Is a directory (os error 21)"'
         check("told again: all", events, ["loaded batches=1 total=5", failed, "stopping", failed,
                                           "refused code=42 count=1"])
     os.rmdir(path + ".new")
@@ -292,7 +292,7 @@ def failed_saves_are_told():
                 check(f"told {name}: stop", asked(link, STOP, 5), STOPPING)
             _, told = at.process.communicate(timeout=WAIT)
             events, _ = events_of(f"told {name}", "".join(told.splitlines(True)[:-1]))
-            failed = f'save-failed step={name} error="{error}"'
+            failed = f'save-failed file=snapshot step={name} error="{error}"'
             check(f"told {name}: all", [it for it in events if it.startswith("save-failed")], [failed, failed])
 
 
