@@ -112,7 +112,7 @@ impl<'a, R: Files<File = File>> FileLogFolder<'a, R> {
 
     /// The same, which notes there why a call of its own or of its files failed, if anywhere.
     pub fn telling(self, news: Option<&Arc<LogNews>>) -> FileLogFolder<'a, R>
-        ensures { result.failures ≡ self.failures }
+        ensures { result.failures ≡ self.entry.failures }
     {
         FileLogFolder {
             news: again(news),
