@@ -434,7 +434,8 @@ def the_repository_is_in_order():
     names = [name for name in git("ls-files") if os.path.isfile(os.path.join(TOP, name))]
     check("what Python has made", [name for name in names if "__pycache__" in name], [])
     scripts = [name for name in names if content(os.path.join(TOP, name))[:2] == b"#!"]
-    check("scripts that can't be run", [name for name in scripts if not os.access(os.path.join(TOP, name), os.X_OK)], [])
+    stuck = [name for name in scripts if not os.access(os.path.join(TOP, name), os.X_OK)]
+    check("scripts that can't be run", stuck, [])
     for name in ["README.md", "clients/README.md"]:
         text = content(os.path.join(TOP, name)).decode()
         made = re.findall(r"^(?:rustc|cc) .* -o (\S+)$", text, re.M)

@@ -78,10 +78,12 @@ def starts_are_told():
                                      "stopping", f"saved batches=2 bytes={size[1]}", "stopped batches=2 total=8"])
     for name, batches, held, snapshot, wanted in [
         ("behind a stop", [FIVE, THREE], head(BOTH), True, ["log-read batches=0 pages=1", "loaded batches=2 total=8"]),
-        ("of all", [FIVE], log([[FIVE], [THREE, TWO]]), True, ["log-read batches=3 pages=3", "loaded batches=3 total=10"]),
+        ("of all", [FIVE], log([[FIVE], [THREE, TWO]]), True,
+         ["log-read batches=3 pages=3", "loaded batches=3 total=10"]),
         ("no snapshot", None, log([[FIVE], [THREE]]), True,
          [none, "log-read batches=2 pages=3", "started batches=2 total=8"]),
-        ("a log alone", None, log([[FIVE], [THREE]]), False, ["log-read batches=2 pages=3", "started batches=2 total=8"]),
+        ("a log alone", None, log([[FIVE], [THREE]]), False,
+         ["log-read batches=2 pages=3", "started batches=2 total=8"]),
         ("alone and new", None, None, False, [begun, "started batches=0 total=0"]),
         ("too short", [FIVE, THREE], log([[FIVE]]), True, [begun, "loaded batches=2 total=8"]),
     ]:
@@ -110,8 +112,8 @@ def a_long_reading_is_told():
         _, error = at.process.communicate(timeout=WAIT)
         events, seconds = events_of("long", error)
         loading = f'loading path="{room.log}"'
-        check("long: all", events, [loading, loading, "log-read batches=2 pages=3", "started batches=2 total=8", "stopping",
-                                    "stopped batches=2 total=8"])
+        check("long: all", events, [loading, loading, "log-read batches=2 pages=3", "started batches=2 total=8",
+                                    "stopping", "stopped batches=2 total=8"])
         if len(seconds) == 6:
             check("long: how long", (1 <= seconds[0] < 2, 2 <= seconds[1] < 2.6, 2.6 <= seconds[2] < 5), (True,) * 3)
 

@@ -123,7 +123,7 @@ def processor_seconds(pid):
 
 
 def an_end_compares_no_cells():
-    """2,000,000 cells over 64 shards. To compare them in each shard took some 0.7 s of a processor, the end takes 0.03."""
+    """2,000,000 cells over 64 shards: to compare them in each shard took 0.7 s of a processor, the end takes 0.03."""
     size = 100_000
     cells = Arrays(array("Q", range(size)), array("Q", [0]) * size, array("Q", [1]) * size)
     with Server(["--rows", str(size), "--cols", "1", "--shards", "64"], tcp=False) as at:

@@ -2,7 +2,8 @@
 
 use std::time::Duration;
 
-/// Why a save failed: the file that it was about to write, the step, and the system's number of the error, if it had one.
+/// Why a save failed: the file that it was about to write, the step, and the system's number of the error, if it had
+/// one.
 #[derive(Clone, Copy, Debug, PartialEq, Eq)]
 pub struct Unsaved {
     pub file: &'static str,
