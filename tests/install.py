@@ -420,6 +420,31 @@ def statuses_are_those_of_the_program(prefix):
     check("help", (status, "--snapshot" in output, error), (0, True, ""))
 
 
+def git(*words):
+    """The lines that git writes, none where this is no repository of git."""
+    try:
+        told = ran("git", "-C", TOP, *words)
+    except FileNotFoundError:
+        return []
+    return told[1].splitlines() if told[0] == 0 else []
+
+
+def the_repository_is_in_order():
+    """Scripts can be run, nothing that Python made is kept, no two compile lines write one file, README is short."""
+    names = [name for name in git("ls-files") if os.path.isfile(os.path.join(TOP, name))]
+    check("what Python has made", [name for name in names if "__pycache__" in name], [])
+    scripts = [name for name in names if content(os.path.join(TOP, name))[:2] == b"#!"]
+    stuck = [name for name in scripts if not os.access(os.path.join(TOP, name), os.X_OK)]
+    check("scripts that can't be run", stuck, [])
+    for name in ["README.md", "clients/README.md"]:
+        text = content(os.path.join(TOP, name)).decode()
+        made = re.findall(r"^(?:rustc|cc) .* -o (\S+)$", text, re.M)
+        check(f"{name}: files of compile lines", sorted(made), sorted(set(made)))
+    text = re.sub(r"```.*?```", "", content(os.path.join(TOP, "README.md")).decode(), flags=re.S)
+    # At 350 words a minute, which plain English allows, two minutes.
+    check("README.md: words beside code", len(re.findall(r"\S*\w\S*", text)) <= 700, True)
+
+
 def main():
     server.PROGRAM = os.path.abspath(sys.argv[1])
     with tempfile.TemporaryDirectory() as server.FOLDER:
@@ -441,6 +466,7 @@ def main():
         a_refused_save_is_told(prefix)
         a_server_that_loads_is_ended_too(prefix)
         statuses_are_those_of_the_program(prefix)
+    the_repository_is_in_order()
     print(f"{server.passed} passed, {server.failed} failed")
     return 1 if server.failed else 0
 

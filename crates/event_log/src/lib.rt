@@ -13,7 +13,7 @@ mod teller;
 mod telling;
 mod waiting;
 
-pub use event::{Event, Unsaved};
+pub use event::{Event, FailedCall, Unsaved};
 pub use file_sizes::FileSizes;
-pub use log::EventLog;
+pub use log::{EventLog, Paths};
 pub use telling::tell_events;

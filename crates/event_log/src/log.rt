@@ -1,6 +1,6 @@
 //! What has happened and isn't told yet.
 
-use crate::event::{Event, Unsaved};
+use crate::event::{Event, FailedCall, Unsaved};
 use crate::stamp::since;
 use std::alloc::Global;
 use std::mem;
@@ -55,33 +55,57 @@ impl News {
     }
 }
 
+// What was told of a server's log that failed, or is full, and is told once.
+#[derive(Clone, Copy)]
+struct Told {
+    has_failed: bool,
+    is_full: bool,
+}
+
+const UNTOLD: Told = Told {
+    has_failed: false,
+    is_full: false,
+};
+
+/// The paths of a server's files, where it has such.
+#[derive(Drop)]
+pub struct Paths {
+    pub snapshot: Option<String>,
+    pub log: Option<String>,
+}
+
 /// What has happened to a server and isn't told yet. Several threads note it.
 #[derive(Drop)]
 pub struct EventLog {
     alloc: Global,
-    path: Option<String>,
+    paths: Paths,
     news: Mutex<News>,
     refusals: Mutex<[u64; CODES]>,
+    told: Mutex<Told>,
     is_news: Condvar,
 }
 
 impl EventLog {
-    /// A log of a server with its snapshot at this path, or without one.
-    pub fn new(alloc: Global, path: Option<String>) -> EventLog {
+    /// A log of a server with these files.
+    pub fn new(alloc: Global, paths: Paths) -> EventLog {
         EventLog {
             alloc,
-            path,
+            paths,
             news: Mutex::new(News::new(alloc)),
             refusals: Mutex::new([0; CODES]),
+            told: Mutex::new(UNTOLD),
             is_news: Condvar::new(),
         }
     }
 
-    pub(crate) fn path(&self) -> Option<&str> {
-        match &self.path {
-            Some(path) => Some(path.as_str()),
-            None => None,
-        }
+    /// The path of the snapshot, empty where there is none.
+    pub(crate) fn snapshot_path(&self) -> &str {
+        self.paths.snapshot.as_deref().unwrap_or("")
+    }
+
+    /// That of the log.
+    pub(crate) fn log_path(&self) -> &str {
+        self.paths.log.as_deref().unwrap_or("")
     }
 
     /// This happens now.
@@ -92,10 +116,11 @@ impl EventLog {
         self.is_news.notify_one();
     }
 
-    /// A save ends now, with so many batches, that was asked for then.
+    /// A save ends now, with so many batches, that was asked for then. A log is a fresh one from then on.
     pub fn note_saved<R: Wait + Clock>(&self, rt: &R, batches: u64, asked: Option<Instant>) {
         let took = since(rt, asked);
         self.note(rt, Event::Saved { batches, took });
+        *self.told.lock(rt) = UNTOLD;
     }
 
     /// A save fails now that was asked for then, for this reason where it is known.
@@ -107,6 +132,27 @@ impl EventLog {
     ) {
         let took = since(rt, asked);
         self.note(rt, Event::NotSaved { why, took });
+    }
+
+    /// A put is refused since the log has failed, by this call where it is known. It is told once until a save.
+    pub fn note_log_failed<R: Wait>(&self, rt: &R, by: Option<FailedCall>) {
+        let mut told = self.told.lock(rt);
+        let is_news = !mem::replace(&mut told.has_failed, true);
+        drop(told);
+        if is_news {
+            self.note(rt, Event::LogFailed { by });
+        }
+    }
+
+    /// A put is refused since the log has no room for it, as this call has failed where it is known. It is told once
+    /// between two times at which refusals are told.
+    pub fn note_log_full<R: Wait>(&self, rt: &R, by: Option<FailedCall>) {
+        let mut told = self.told.lock(rt);
+        let is_news = !mem::replace(&mut told.is_full, true);
+        drop(told);
+        if is_news {
+            self.note(rt, Event::LogFull { by });
+        }
     }
 
     /// A request is refused with this code.
@@ -148,6 +194,7 @@ impl EventLog {
 
     // How many requests were refused, by codes, since this was called last.
     pub(crate) fn take_refusals<R: Wait>(&self, rt: &R) -> [u64; CODES] {
+        self.told.lock(rt).is_full = false;
         let mut refusals = self.refusals.lock(rt);
         mem::replace(&mut *refusals, [0; CODES])
     }

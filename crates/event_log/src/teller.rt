@@ -1,6 +1,6 @@
 //! The lines of what happens.
 
-use crate::event::{Event, Unsaved};
+use crate::event::{Event, FailedCall, Unsaved};
 use crate::file_sizes::FileSizes;
 use crate::log::{CODES, EventLog, News};
 use crate::stamp::{Seconds, Stamp, since};
@@ -21,6 +21,8 @@ pub struct Teller<'a, R: Wait + Clock + Eprint + FileSizes> {
     loading: Option<Instant>,
     is_loading: bool,
     is_empty: bool,
+    reading: Option<Instant>,
+    is_reading: bool,
     looked: Option<Instant>,
     counted: Option<Instant>,
     waiting: Waiting,
@@ -35,6 +37,8 @@ impl<'a, R: Wait + Clock + Eprint + FileSizes> Teller<'a, R> {
             loading: now,
             is_loading: false,
             is_empty: false,
+            reading: now,
+            is_reading: false,
             looked: now,
             counted: now,
             waiting: Waiting::new(),
@@ -73,12 +77,25 @@ impl<'a, R: Wait + Clock + Eprint + FileSizes> Teller<'a, R> {
             }
             Event::NoSnapshot => {
                 self.is_empty = true;
-                let path = self.log.path().unwrap_or("");
+                let path = self.log.snapshot_path();
                 eprintln!(rt; "{now} no-snapshot path={path:?}")
+            }
+            Event::ReadingLog => {
+                self.reading = Instant::now(rt).ok();
+                self.is_reading = true;
+                Ok(())
+            }
+            Event::LogRead { batches, pages } => self.tell_log(batches, pages),
+            Event::LogBegun => {
+                self.is_reading = false;
+                let path = self.log.log_path();
+                eprintln!(rt; "{now} log-begun path={path:?}")
             }
             Event::Started { batches, total } => self.tell_start(batches, total),
             Event::Saved { batches, took } => self.tell_save(batches, Seconds(took)),
             Event::NotSaved { why, took } => self.tell_failure(why, Seconds(took)),
+            Event::LogFailed { by } => self.tell_of_log("log-failed", by),
+            Event::LogFull { by } => self.tell_of_log("log-full", by),
             Event::Stopping => eprintln!(rt; "{now} stopping"),
             Event::Stopped { batches, total } => {
                 eprintln!(rt; "{now} stopped batches={batches} total={total}")
@@ -90,6 +107,7 @@ impl<'a, R: Wait + Clock + Eprint + FileSizes> Teller<'a, R> {
         let now = self.now();
         let is_loaded = self.is_loading && !self.is_empty;
         self.is_loading = false;
+        self.is_reading = false;
         if !is_loaded {
             return eprintln!(self.rt; "{now} started batches={batches} total={total}");
         }
@@ -97,9 +115,30 @@ impl<'a, R: Wait + Clock + Eprint + FileSizes> Teller<'a, R> {
         eprintln!(self.rt; "{now} loaded batches={batches} total={total} seconds={took}")
     }
 
+    fn tell_log(&mut self, batches: u64, pages: u64) -> io::Result<()> {
+        let now = self.now();
+        let took = Seconds(since(self.rt, self.reading));
+        self.is_reading = false;
+        eprintln!(self.rt; "{now} log-read batches={batches} pages={pages} seconds={took}")
+    }
+
+    // Tells what has become of the log, by which call, and what the system said.
+    fn tell_of_log(&self, event: &str, by: Option<FailedCall>) -> io::Result<()> {
+        let now = self.now();
+        let path = self.log.log_path();
+        let Some(FailedCall { call, error }) = by else {
+            return eprintln!(self.rt; "{now} {event} path={path:?}");
+        };
+        let Some(code) = error else {
+            return eprintln!(self.rt; "{now} {event} path={path:?} call={call}");
+        };
+        let error = io::Error::from_raw_os_error(code);
+        eprintln!(self.rt; "{now} {event} path={path:?} call={call} error=\"{error}\"")
+    }
+
     fn tell_save(&self, batches: u64, took: Seconds) -> io::Result<()> {
         let now = self.now();
-        match self.rt.file_size(self.log.path().unwrap_or("")) {
+        match self.rt.file_size(self.log.snapshot_path()) {
             Some(bytes) => {
                 eprintln!(self.rt; "{now} saved batches={batches} bytes={bytes} seconds={took}")
             }
@@ -107,27 +146,39 @@ impl<'a, R: Wait + Clock + Eprint + FileSizes> Teller<'a, R> {
         }
     }
 
-    // Tells that a save failed, at which step, and what the system said.
+    // Tells that a save failed, of which file and at which step, and what the system said.
     fn tell_failure(&self, why: Option<Unsaved>, took: Seconds) -> io::Result<()> {
         let now = self.now();
-        let Some(Unsaved { step, error }) = why else {
+        let Some(Unsaved { file, step, error }) = why else {
             return eprintln!(self.rt; "{now} save-failed seconds={took}");
         };
         let Some(code) = error else {
-            return eprintln!(self.rt; "{now} save-failed step={step} seconds={took}");
+            return eprintln!(self.rt; "{now} save-failed file={file} step={step} seconds={took}");
         };
         let error = io::Error::from_raw_os_error(code);
-        eprintln!(self.rt; "{now} save-failed step={step} error=\"{error}\" seconds={took}")
+        eprintln!(self.rt;
+            "{now} save-failed file={file} step={step} error=\"{error}\" seconds={took}"
+        )
     }
 
-    // Tells that a snapshot is still loaded, and of connections that wait.
-    fn tell_each_second(&mut self, news: &News) {
+    // Tells that a file is still read.
+    fn tell_reading(&self) {
         let now = self.now();
-        if self.is_loading {
-            let passed = Seconds(since(self.rt, self.loading));
-            let path = self.log.path().unwrap_or("");
-            let _ = eprintln!(self.rt; "{now} loading path={path:?} seconds={passed}");
-        }
+        let (path, begun) = if self.is_reading {
+            (self.log.log_path(), self.reading)
+        } else if self.is_loading {
+            (self.log.snapshot_path(), self.loading)
+        } else {
+            return;
+        };
+        let passed = Seconds(since(self.rt, begun));
+        let _ = eprintln!(self.rt; "{now} loading path={path:?} seconds={passed}");
+    }
+
+    // Tells that a file is still read, and of connections that wait.
+    fn tell_each_second(&mut self, news: &News) {
+        self.tell_reading();
+        let now = self.now();
         let _ = match self
             .waiting
             .look(self.rt, self.looked, news.came, news.served)

@@ -12,12 +12,14 @@ use std::time::{Clock, Duration};
 ///
 /// Each line is `time event key=value ..`, with the time in UTC:
 ///
-/// - `loading path seconds`: a snapshot is being loaded, once a second;
+/// - `loading path seconds`: a snapshot is being loaded, or a log read, once a second;
+/// - `log-read batches pages seconds`, or `log-begun path`;
 /// - `loaded batches total seconds`, or `no-snapshot path` and `started batches total`;
 /// - `no-worker connections seconds`: connections wait for a worker, one of them for more than a second: as it is
 ///   noticed and then once a minute; `worker-free seconds`: no longer;
 /// - `refused code count seconds`: once a minute, and at the end, for each code;
-/// - `saved batches bytes seconds`, `save-failed step error seconds`: since it was asked for;
+/// - `saved batches bytes seconds`, `save-failed file step error seconds`: since it was asked for;
+/// - `log-failed path call error`: once until a save; `log-full path call error`: once a minute at most;
 /// - `stopping`: no further connection is accepted; `stopped batches total`: the end;
 /// - `lost events`: so many lines could not be kept.
 pub fn tell_events<R: Wait + Clock + Eprint + FileSizes>(rt: &R, log: &EventLog) {

@@ -7,7 +7,7 @@ use crate::numbers::{read_list, read_number};
 use crate::report::Fault;
 use batch_store::Setup;
 use clap::ArgMatches;
-use event_log::EventLog;
+use event_log::{EventLog, Paths};
 use snap_file::{FileFault, SnapFault};
 use socket_server::{ServerFault, Settings};
 use std::alloc::{AllocError, Global};
@@ -31,6 +31,7 @@ pub fn status_of(fault: &ServerFault) -> u8
         ServerFault::Listen(_) => 4,
         ServerFault::NoWorker => 4,
         ServerFault::Save(_) => 4,
+        ServerFault::LastLog(_) => 4,
         ServerFault::Output(_) => 4,
         ServerFault::Memory => 5,
         ServerFault::RecordsDiffer => 6,
@@ -78,8 +79,11 @@ fn events_of(alloc: Global, matches: &ArgMatches) -> Result<Option<Arc<EventLog>
     if !matches.get_flag("events") {
         return Ok(None);
     }
-    let path = word_of(alloc, matches, "snapshot")?;
-    Ok(Some(Arc::new(alloc, EventLog::new(alloc, path))?))
+    let paths = Paths {
+        snapshot: word_of(alloc, matches, "snapshot")?,
+        log: word_of(alloc, matches, "log")?,
+    };
+    Ok(Some(Arc::new(alloc, EventLog::new(alloc, paths))?))
 }
 
 /// The settings that the options spell. All numbers are read before the setup is judged.

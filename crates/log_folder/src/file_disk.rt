@@ -1,11 +1,13 @@
 //! A real file as that of a log.
 ghost use Rattle.std.specs.Prelude.{◌≡◌, ◌+◌, ◌<◌, ◌^◌, [], ⊤, true, false};
 
+use crate::news::{FileCall, LogNews};
 use byte_io::DeviceFault;
 use log_disk::LogDisk;
 use std::fs::File;
 use std::io::{self, ErrorKind};
 use std::os::unix::fs::FileExt;
+use std::sync::Arc;
 
 /// A file of the system. It doesn't tell what it holds.
 #[derive(Drop)]
@@ -17,6 +19,8 @@ pub struct FileDisk {
     is_resized: bool,
     in_doubt: bool,
     failures: u64,
+    // Where it is noted why a call failed, if anywhere.
+    news: Option<Arc<LogNews>>,
 }
 
 /// Reads into the whole of `buf`, 00 behind the end of the file.
@@ -51,7 +55,16 @@ impl FileDisk {
             is_resized: true,
             in_doubt: false,
             failures: 0,
+            news: None,
         }
+    }
+
+    /// The same, which notes there why a call failed, if anywhere.
+    pub fn telling(self, news: Option<Arc<LogNews>>) -> FileDisk
+        ensures sound { result.in_doubt ≡ self.in_doubt }
+        ensures failures { result.failures ≡ self.failures }
+    {
+        FileDisk { news, ..self }
     }
 
     /// Writes all of the bytes, in as many calls as the system takes.
@@ -68,22 +81,29 @@ impl FileDisk {
         Ok(())
     }
 
-    /// Counts a call that fails.
-    fn fail(&mut self) -> DeviceFault
+    /// Counts a call that fails so.
+    fn fail(&mut self, call: FileCall, error: &io::Error) -> DeviceFault
         requires { self.old.failures + 1 < 2 ^ 64 }
         ensures { self.new ≡ record self.old { failures = self.old.failures + 1 } }
     {
+        if let Some(news) = &self.news {
+            news.note_failure(call, error);
+        }
         self.failures += 1;
         DeviceFault
     }
 
-    /// Counts a call that fails and leaves the file in doubt.
-    fn fail_in_doubt(&mut self) -> DeviceFault
+    /// Counts a call that fails so and leaves the file in doubt.
+    fn fail_in_doubt(&mut self, call: FileCall, error: &io::Error) -> DeviceFault
         requires { self.old.failures + 1 < 2 ^ 64 }
         ensures { self.new ≡ record self.old { failures = self.old.failures + 1; in_doubt = true } }
     {
+        if let Some(news) = &self.news {
+            news.note_break(call, error);
+        }
         self.in_doubt = true;
-        self.fail()
+        self.failures += 1;
+        DeviceFault
     }
 }
 
@@ -115,21 +135,21 @@ impl LogDisk for FileDisk {
     fn read_at(&mut self, at: u64, buf: &mut [u8]) -> Result<(), DeviceFault> {
         match read_padded(&self.file, at, buf) {
             Ok(()) => Ok(()),
-            Err(_) => Err(self.fail()),
+            Err(error) => Err(self.fail(FileCall::Read, &error)),
         }
     }
 
     fn write_at(&mut self, at: u64, bytes: &[u8]) -> Result<(), DeviceFault> {
         match self.put(at, bytes) {
             Ok(()) => Ok(()),
-            Err(_) => Err(self.fail_in_doubt()),
+            Err(error) => Err(self.fail_in_doubt(FileCall::Write, &error)),
         }
     }
 
     fn fill(&mut self, at: u64, zeros: &[u8]) -> Result<(), DeviceFault> {
         match self.put(at, zeros) {
             Ok(()) => Ok(()),
-            Err(_) => Err(self.fail()),
+            Err(error) => Err(self.fail(FileCall::MakeRoom, &error)),
         }
     }
 
@@ -138,7 +158,7 @@ impl LogDisk for FileDisk {
         self.length = self.length.min(len);
         match cut_longer(&self.file, len) {
             Ok(()) => Ok(()),
-            Err(_) => Err(self.fail_in_doubt()),
+            Err(error) => Err(self.fail_in_doubt(FileCall::Cut, &error)),
         }
     }
 
@@ -149,8 +169,8 @@ impl LogDisk for FileDisk {
         } else {
             self.file.sync_data()
         };
-        if synced.is_err() {
-            return Err(self.fail_in_doubt());
+        if let Err(error) = synced {
+            return Err(self.fail_in_doubt(FileCall::Sync, &error));
         }
         self.is_resized = false;
         Ok(())

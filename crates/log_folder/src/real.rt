@@ -4,12 +4,14 @@ ghost use Rattle.std.specs.Prelude.{◌≡◌, ◌+◌, ◌<◌, ◌^◌, None, 
 use crate::calls::{FoundFile, LogFolder, NumberedFile};
 use crate::fault::FolderFault;
 use crate::file_disk::FileDisk;
+use crate::news::{FileCall, LogNews};
 use byte_io::DeviceFault;
 use snap_file::{UNFINISHED, access_under, clear, folder_of, make_file};
 use std::alloc::Global;
 use std::fs::{self, File, OpenFile, OpenOptions};
 use std::io::{self, ErrorKind};
 use std::rt::Files;
+use std::sync::Arc;
 
 /// The folder of the log under a path, which stays open for as long as this lives. It doesn't tell its files.
 ///
@@ -26,7 +28,11 @@ pub struct FileLogFolder<'a, R: Files<File = File>> {
     snapshot_folder: Option<File>,
     // How many files it has made and found.
     files: u64,
+    // Whether it has made one.
+    has_made: bool,
     failures: u64,
+    // Where it is noted why a call failed, if anywhere.
+    news: Option<Arc<LogNews>>,
 }
 
 /// Opens a folder, so that it can be synced.
@@ -54,12 +60,19 @@ fn open_log<R: Files<File = File>>(rt: &R, path: &str) -> io::Result<Option<(Fil
 }
 
 /// Makes the new file of the log under a path.
-fn make_beside<R: Files<File = File>>(rt: &R, path: &str, name: &str) -> Option<FileDisk>
-    ensures { IfSome result (λ disk. (disk.in_doubt ≡ false) × (disk.failures ≡ 0)) }
+fn make_beside<R: Files<File = File>>(rt: &R, path: &str, name: &str) -> io::Result<FileDisk>
+    ensures { IfOk result (λ disk. (disk.in_doubt ≡ false) × (disk.failures ≡ 0)) }
 {
-    let access = access_under(rt, path).ok()?;
-    let file = make_file(rt, name, access).ok()?;
-    Some(FileDisk::new(file, 0))
+    let Ok(access) = access_under(rt, path) else {
+        return Err(io::Error::from(ErrorKind::Other));
+    };
+    let file = make_file(rt, name, access)?;
+    Ok(FileDisk::new(file, 0))
+}
+
+/// The same news in another hand, if there is one to be had.
+fn again(news: Option<&Arc<LogNews>>) -> Option<Arc<LogNews>> {
+    Arc::try_clone(news?).ok()
 }
 
 impl<'a, R: Files<File = File>> FileLogFolder<'a, R> {
@@ -91,17 +104,36 @@ impl<'a, R: Files<File = File>> FileLogFolder<'a, R> {
             folder,
             snapshot_folder,
             files: 0,
+            has_made: false,
             failures: 0,
+            news: None,
         })
+    }
+
+    /// The same, which notes there why a call of its own or of its files failed, if anywhere.
+    pub fn telling(self, news: Option<&Arc<LogNews>>) -> FileLogFolder<'a, R>
+        ensures { result.failures ≡ self.entry.failures }
+    {
+        FileLogFolder {
+            news: again(news),
+            ..self
+        }
+    }
+
+    /// Whether it has made a new file.
+    pub fn has_made(&self) -> bool {
+        self.has_made
     }
 
     /// Gives a file its number.
     fn number(&mut self, disk: FileDisk) -> NumberedFile<FileDisk>
-        ensures disk { result.disk ≡ disk }
+        ensures sound { result.disk.in_doubt ≡ disk.in_doubt }
+        ensures none_failed { result.disk.failures ≡ disk.failures }
         ensures failures { self.new.failures ≡ self.old.failures }
     {
         let number = self.files;
         self.files = number.saturating_add(1);
+        let disk = disk.telling(again(self.news.as_ref()));
         NumberedFile { disk, number }
     }
 
@@ -113,11 +145,26 @@ impl<'a, R: Files<File = File>> FileLogFolder<'a, R> {
         self.folder.sync_all()
     }
 
-    /// Counts a call that fails.
-    fn fail(&mut self) -> DeviceFault
+    /// Counts a call that fails so.
+    fn fail(&mut self, call: FileCall, error: &io::Error) -> DeviceFault
         requires { self.old.failures + 1 < 2 ^ 64 }
         ensures { self.new ≡ record self.old { failures = self.old.failures + 1 } }
     {
+        if let Some(news) = &self.news {
+            news.note_failure(call, error);
+        }
+        self.failures += 1;
+        DeviceFault
+    }
+
+    /// Counts a call by which a log was to get the name, and that fails so.
+    fn fail_to_name(&mut self, call: FileCall, error: &io::Error) -> DeviceFault
+        requires { self.old.failures + 1 < 2 ^ 64 }
+        ensures { self.new ≡ record self.old { failures = self.old.failures + 1 } }
+    {
+        if let Some(news) = &self.news {
+            news.note_break(call, error);
+        }
         self.failures += 1;
         DeviceFault
     }
@@ -149,7 +196,7 @@ impl<'a, R: Files<File = File>> LogFolder for FileLogFolder<'a, R> {
                 Ok(Some(FoundFile { file, length }))
             }
             Ok(None) => Ok(None),
-            Err(_) => Err(self.fail()),
+            Err(error) => Err(self.fail(FileCall::Open, &error)),
         }
     }
 
@@ -157,22 +204,25 @@ impl<'a, R: Files<File = File>> LogFolder for FileLogFolder<'a, R> {
     /// file nor a folder under the log's name isn't replaced.
     fn make_new(&mut self) -> Result<NumberedFile<FileDisk>, DeviceFault> {
         match make_beside(self.rt, self.path, self.new_name.as_str()) {
-            Some(disk) => Ok(self.number(disk)),
-            None => Err(self.fail()),
+            Ok(disk) => {
+                self.has_made = true;
+                Ok(self.number(disk))
+            }
+            Err(error) => Err(self.fail(FileCall::Create, &error)),
         }
     }
 
     fn take_name(&mut self, _file: &NumberedFile<FileDisk>) -> Result<(), DeviceFault> {
         match fs::rename(self.rt, self.new_name.as_str(), self.path) {
             Ok(()) => Ok(()),
-            Err(_) => Err(self.fail()),
+            Err(error) => Err(self.fail_to_name(FileCall::Rename, &error)),
         }
     }
 
     fn sync_names(&mut self) -> Result<(), DeviceFault> {
         match self.sync_folders() {
             Ok(()) => Ok(()),
-            Err(_) => Err(self.fail()),
+            Err(error) => Err(self.fail_to_name(FileCall::SyncFolder, &error)),
         }
     }
 

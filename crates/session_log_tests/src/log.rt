@@ -3,6 +3,7 @@ ghost use Rattle.std.specs.Prelude.{⊤};
 
 use batch_store::{Batch, BookList, Entry, Setup};
 use log_desk::{FailAt, Log, LogFailed, MemoryLog, NoPause, RoomFault};
+use log_folder::LogNews;
 use session_pool::LogPlace;
 use snap_file::SaveFault;
 use std::alloc::Global;
@@ -91,6 +92,7 @@ impl LogPlace<TestLog> for HostRuntime {
         _snapshot: Option<&str>,
         _setup: &Setup,
         list: &BookList,
+        _news: Option<&Arc<LogNews>>,
     ) -> Result<TestLog, SaveFault> {
         if path == NOT_BEGUN {
             return Err(SaveFault::Create);
@@ -109,6 +111,7 @@ impl LogPlace<TestLog> for HostRuntime {
         _snapshot: Option<&str>,
         in_use: &mut TestLog,
         new: TestLog,
+        _news: Option<&Arc<LogNews>>,
     ) -> Result<(), SaveFault> {
         if path == NOT_NAMED {
             in_use.log.fail();

@@ -5,11 +5,12 @@ use crate::file_log::FileLog;
 use crate::log_place::LogPlace;
 use batch_store::{BookList, Setup};
 use byte_io::WriteFault;
-use log_folder::{FileLogFolder, FolderFault, RotateFault};
+use log_folder::{FileLogFolder, FolderFault, LogNews, RotateFault};
 use snap_file::SaveFault;
 use std::alloc::Global;
 use std::fs::File;
 use std::rt::Files;
+use std::sync::Arc;
 use stored_log::{StoredFault, abandon_stored, begin_stored, name_stored};
 
 // Why there is no folder of a log, as a save tells it.
@@ -41,9 +42,10 @@ impl<R: Files<File = File>> LogPlace<FileLog> for R {
         snapshot: Option<&str>,
         setup: &Setup,
         list: &BookList,
+        news: Option<&Arc<LogNews>>,
     ) -> Result<FileLog, SaveFault> {
         let mut folder = match FileLogFolder::open(self, alloc, path, snapshot) {
-            Ok(folder) => folder,
+            Ok(folder) => folder.telling(news),
             Err(fault) => return Err(of_folder(fault)),
         };
         match begin_stored(&mut folder, alloc, setup, list) {
@@ -60,9 +62,10 @@ impl<R: Files<File = File>> LogPlace<FileLog> for R {
         snapshot: Option<&str>,
         in_use: &mut FileLog,
         new: FileLog,
+        news: Option<&Arc<LogNews>>,
     ) -> Result<(), SaveFault> {
         let mut folder = match FileLogFolder::open(self, alloc, path, snapshot) {
-            Ok(folder) => folder,
+            Ok(folder) => folder.telling(news),
             Err(fault) => return Err(of_folder(fault)),
         };
         match name_stored(&mut folder, &mut in_use.stored, new.stored) {

@@ -6,13 +6,16 @@ ghost use Rattle.batch_store.specs.Books.{AreAccepted, accepted_in};
 
 use batch_store::{BookList, Setup};
 use log_desk::Log;
+use log_folder::LogNews;
 use snap_file::SaveFault;
 use std::alloc::Global;
+use std::sync::Arc;
 
 /// A place where a log can be begun anew. As of a `Disk`, workers know this trait, and every runtime with files has it
 /// for logs in files.
 ///
-/// `path` is that of the log, and `snapshot` that of the snapshot beside which it stands, if there is one.
+/// `path` is that of the log, and `snapshot` that of the snapshot beside which it stands, if there is one. Why a call on
+/// the new log or its folder fails is noted in `news`, where there are some.
 pub trait LogPlace<L: Log> {
     // What it has answered to be named: under this path, a log of these entries. Of a real folder's files no clause can
     // speak, so there it is any; but since callers are proved for every place, a log that they tell to have taken the
@@ -33,6 +36,7 @@ pub trait LogPlace<L: Log> {
         snapshot: Option<&str>,
         setup: &Setup,
         list: &BookList,
+        news: Option<&Arc<LogNews>>,
     ) -> Result<L, SaveFault>
         requires accepted { AreAccepted setup.now (accepted_in list.now) }
         ensures working { IfOk result (λ new. L.failed new ≡ false) }
@@ -53,6 +57,7 @@ pub trait LogPlace<L: Log> {
         snapshot: Option<&str>,
         in_use: &mut L,
         new: L,
+        news: Option<&Arc<LogNews>>,
     ) -> Result<(), SaveFault>
         requires working { L.failed new ≡ false }
         ensures working { OnOk result (L.failed in_use.new ≡ false) }

@@ -10,16 +10,18 @@ use batch_store::{BookList, Setup};
 use byte_io::WriteFault;
 use locked_engine::{Engine, Named, Version};
 use log_desk::{DeskFault, Durable, Group, Log, LogDesk, Turn, TurnWork};
+use log_folder::LogNews;
 use snap_file::SaveFault;
 use std::alloc::Global;
-use std::sync::Wait;
 use std::sync::ledger::Ledger;
+use std::sync::{Arc, Wait};
 
-/// Where a log stands, and the snapshot beside it, if there is one.
+/// Where a log stands, and the snapshot beside it, if there is one; and where it is noted why a call fails, if anywhere.
 #[derive(Clone, Copy)]
 pub(crate) struct LogNames<'a> {
     pub log: &'a str,
     pub snapshot: Option<&'a str>,
+    pub news: Option<&'a Arc<LogNews>>,
 }
 
 // Why nothing more was written to a new log.
@@ -48,7 +50,7 @@ fn begin<N: Named, L: Log, R: LogPlace<L>>(
     let Ok(group) = Group::new(alloc, shown.again()) else {
         return Err(SaveFault::Memory);
     };
-    match rt.begin_log(alloc, names.log, names.snapshot, setup, list) {
+    match rt.begin_log(alloc, names.log, names.snapshot, setup, list, names.news) {
         Ok(log) => Ok(Turn::new(log, Durable::all_of(&shown), group)),
         Err(fault) => Err(fault),
     }
@@ -142,7 +144,7 @@ impl<'a, N: Named, H: Ledger, L: Log, R: Wait + LogPlace<L>> TurnWork<N, L, Resu
             return Err(not_written(fault));
         }
         let (new, whole) = new.into_log();
-        if let Err(fault) = rt.name_log(alloc, names.log, names.snapshot, log, new) {
+        if let Err(fault) = rt.name_log(alloc, names.log, names.snapshot, log, new, names.news) {
             return Err(fault);
         }
         durable.learn(&whole);
@@ -213,10 +215,17 @@ pub(crate) fn rotate_last<L: Log, R: Disk + LogPlace<L>>(
     requires saved { IsSomeAnd names.snapshot (λ path. R.saves rt.now path.now setup.now (accepted_in list.now)) }
     ensures { OnOk result (R.names rt.now names.entry.log.now (entries_in (accepted_in list.now))) }
 {
-    match rt.begin_log(alloc, names.log, names.snapshot, setup, list) {
+    match rt.begin_log(alloc, names.log, names.snapshot, setup, list, names.news) {
         Ok(new) => {
             let mut in_use = in_use;
-            rt.name_log(alloc, names.log, names.snapshot, &mut in_use, new)
+            rt.name_log(
+                alloc,
+                names.log,
+                names.snapshot,
+                &mut in_use,
+                new,
+                names.news,
+            )
         }
         Err(fault) => Err(fault),
     }

@@ -13,7 +13,7 @@ use Rattle.socket_server.specs.Starts.{IsLoadTold, IsLockTold, IsLogTold}
 use Rattle.socket_server.specs.declared.fault.ServerFault.{ServerFault}
 use Rattle.socket_server.specs.declared.fault.ServerFault.TheVariants.{Memory, BadWorkers, NoAddress, SamePath}
 use Rattle.socket_server.specs.declared.fault.ServerFault.TheVariants.{SnapshotDiffers, File, Log, Listen, NoWorker}
-use Rattle.socket_server.specs.declared.fault.ServerFault.TheVariants.{RecordsDiffer, Save, Output}
+use Rattle.socket_server.specs.declared.fault.ServerFault.TheVariants.{RecordsDiffer, Save, LastLog, Output}
 
 pub serving_met : (must_load : Bool) (f : ServerFault) → IsMetServing f → IsMet must_load f
 serving_met must_load Memory m = m
@@ -27,6 +27,7 @@ serving_met must_load (Listen address) m = m
 serving_met must_load NoWorker m = m
 serving_met must_load RecordsDiffer m = m
 serving_met must_load (Save fault) m = m
+serving_met must_load (LastLog fault) m = m
 serving_met must_load (Output fault) m = m
 
 pub serving_told : {H Z : Type 0} (loads : H → List ℕ → ℕ → Result Saved FileFault → Type 0)
@@ -43,6 +44,7 @@ serving_told loads locks h path v (Listen address) m = tt
 serving_told loads locks h path v NoWorker m = tt
 serving_told loads locks h path v RecordsDiffer m = tt
 serving_told loads locks h path v (Save fault) m = tt
+serving_told loads locks h path v (LastLog fault) m = tt
 serving_told loads locks h path v (Output fault) m = tt
 
 -- what tells nothing of the log tells no more of its lock
@@ -59,6 +61,7 @@ no_log_told locks h path (Listen address) n = tt
 no_log_told locks h path NoWorker n = tt
 no_log_told locks h path RecordsDiffer n = tt
 no_log_told locks h path (Save fault) n = tt
+no_log_told locks h path (LastLog fault) n = tt
 no_log_told locks h path (Output fault) n = tt
 
 -- what tells nothing of the snapshot's file was met by no load
@@ -76,6 +79,7 @@ no_file_told loads locks h path v (Listen address) n = tt
 no_file_told loads locks h path v NoWorker n = tt
 no_file_told loads locks h path v RecordsDiffer n = tt
 no_file_told loads locks h path v (Save fault) n = tt
+no_file_told loads locks h path v (LastLog fault) n = tt
 no_file_told loads locks h path v (Output fault) n = tt
 
 pub serving_no_log : (f : ServerFault) → IsMetServing f → TellsNoLog f
@@ -90,6 +94,7 @@ serving_no_log (Listen address) m = tt
 serving_no_log NoWorker m = tt
 serving_no_log RecordsDiffer m = tt
 serving_no_log (Save fault) m = tt
+serving_no_log (LastLog fault) m = tt
 serving_no_log (Output fault) m = tt
 
 -- a fault of the log's lock is told as one of the log

@@ -8,12 +8,14 @@ ghost use Rattle.socket_server.specs.Ends.{GoesOn};
 
 use crate::log_host::LogHost;
 use batch_store::{BookList, Setup};
-use log_folder::{FileLogFolder, FolderFault, LogFolder};
+use log_file::LogMark;
+use log_folder::{FileLogFolder, FolderFault, LogFolder, LogNews, StartedLog};
 use log_start::{StartFault, Started};
 use session_pool::FileLog;
 use std::alloc::Global;
 use std::fs::File;
 use std::rt::Files;
+use std::sync::Arc;
 use stored_log::StoredLog;
 
 // Why there is no folder of a log.
@@ -24,12 +26,26 @@ fn folder_fault(fault: FolderFault) -> StartFault {
     }
 }
 
-// Starts the log of a folder that doesn't tell its files, whose files don't tell what they hold.
+// Notes the log that was started, which ends there.
+fn note_start(news: &LogNews, mark: Option<LogMark>, is_new: bool) {
+    let Some(LogMark { first, next, page }) = mark else {
+        return;
+    };
+    news.note_start(StartedLog {
+        batches: next.saturating_sub(first),
+        pages: page,
+        is_new,
+    });
+}
+
+// Starts the log of a folder that doesn't tell its files, whose files don't tell what they hold, and tells where it
+// ends.
 fn start_untold<F: LogFolder>(
     folder: &mut F,
     alloc: Global,
     setup: &Setup,
     known: BookList,
+    mark: &mut Option<LogMark>,
 ) -> Result<(StoredLog<F::Disk>, BookList), StartFault>
     requires untold { F.tells folder.old → ⊥ }
     requires untelling { F.Disk.telling → ⊥ }
@@ -48,6 +64,7 @@ fn start_untold<F: LogFolder>(
         Ok(started) => started,
         Err(fault) => return Err(fault),
     };
+    *mark = Some(log.writer.mark());
     match StoredLog::new(alloc, log, &list) {
         Ok(log) => Ok((log, list)),
         Err(_) => Err(StartFault::Memory),
@@ -64,13 +81,18 @@ impl<R: Files<File = File>> LogHost<FileLog> for R {
         snapshot: Option<&str>,
         setup: &Setup,
         known: BookList,
+        news: &Arc<LogNews>,
     ) -> Result<(FileLog, BookList), StartFault> {
         let mut folder = match FileLogFolder::open(self, alloc, path, snapshot) {
-            Ok(folder) => folder,
+            Ok(folder) => folder.telling(Some(news)),
             Err(fault) => return Err(folder_fault(fault)),
         };
-        match start_untold(&mut folder, alloc, setup, known) {
-            Ok((stored, list)) => Ok((FileLog::new(stored), list)),
+        let mut mark = None;
+        match start_untold(&mut folder, alloc, setup, known, &mut mark) {
+            Ok((stored, list)) => {
+                note_start(news, mark, folder.has_made());
+                Ok((FileLog::new(stored), list))
+            }
             Err(fault) => Err(fault),
         }
     }

@@ -10,8 +10,10 @@ ghost use Rattle.socket_server.specs.Starts.{started_list};
 
 use batch_store::{BookList, Setup};
 use log_desk::Log;
+use log_folder::LogNews;
 use log_start::StartFault;
 use std::alloc::Global;
+use std::sync::Arc;
 
 /// A place where logs are found and begun. As with `Host`, a server knows this trait, and every runtime with files has
 /// it for logs in files.
@@ -22,7 +24,8 @@ pub trait LogHost<L: Log> {
 
     /// Starts the log under `path`, beside the snapshot under `snapshot`, if there is one: finds it and joins it with
     /// what is known, or begins it behind that. The list is what is known and the log's batches behind it, all of them
-    /// durable. The caller holds the lock of the log's path.
+    /// durable. The caller holds the lock of the log's path. It is noted in `news` which log that is, and as long as it
+    /// is in use why a call on it fails.
     ///
     /// # Errors
     ///
@@ -34,6 +37,7 @@ pub trait LogHost<L: Log> {
         snapshot: Option<&str>,
         setup: &Setup,
         known: BookList,
+        news: &Arc<LogNews>,
     ) -> Result<(L, BookList), StartFault>
         requires accepted { AreAccepted setup.now (accepted_in known) }
         requires based { HasBase setup.now known }

@@ -19,6 +19,7 @@ use crate::unsaved::last_unsaved;
 use byte_io::Sink;
 use locked_engine::{Named, Names, Status};
 use log_desk::Log;
+use log_folder::LogNews;
 use session_pool::{Disk, LastFailure, LogPlace, Saver};
 use std::alloc::Global;
 use std::marker::Brand;
@@ -89,7 +90,7 @@ fn note_last_save<R: Wait + Clock>(
     };
     match outcome {
         Ok(status) => events.note_saved(rt, status.batches, begun),
-        Err(ServerFault::Save(_)) => {
+        Err(ServerFault::Save(_) | ServerFault::LastLog(_)) => {
             let why = last_unsaved(rt, &listeners.shared.failure);
             events.note_unsaved(rt, why, begun);
         }
@@ -222,11 +223,24 @@ fn serve_plan<
     Ok(status)
 }
 
-// Where it is told why a save failed, in two hands: by one it is told, and by the other it is read.
-fn failure_of_saves(alloc: Global) -> Result<(Arc<LastFailure>, Arc<LastFailure>), ServerFault>
+// Where it is noted what happens to the log.
+fn news_of_log(alloc: Global) -> Result<Arc<LogNews>, ServerFault>
     ensures { IfErr result IsMetServing }
 {
-    let Ok(told) = Arc::new(alloc, LastFailure::new()) else {
+    match Arc::new(alloc, LogNews::new()) {
+        Ok(news) => Ok(news),
+        Err(_) => Err(ServerFault::Memory),
+    }
+}
+
+// Where it is told why a save failed, in two hands: by one it is told, and by the other it is read.
+fn failure_of_saves(
+    alloc: Global,
+    news: Arc<LogNews>,
+) -> Result<(Arc<LastFailure>, Arc<LastFailure>), ServerFault>
+    ensures { IfErr result IsMetServing }
+{
+    let Ok(told) = Arc::new(alloc, LastFailure::new(news)) else {
         return Err(ServerFault::Memory);
     };
     match Arc::try_clone(&told) {
@@ -236,7 +250,7 @@ fn failure_of_saves(alloc: Global) -> Result<(Arc<LastFailure>, Arc<LastFailure>
 }
 
 // Where a server listens, and where it saves, as its settings say.
-fn plan_of(alloc: Global, settings: Settings) -> Result<Plan, ServerFault>
+fn plan_of(alloc: Global, settings: Settings, news: Arc<LogNews>) -> Result<Plan, ServerFault>
     ensures path { IfOk result (λ p. p.saver.path ≡ settings.snapshot) }
     ensures met { IfErr result IsMetServing }
 {
@@ -254,7 +268,7 @@ fn plan_of(alloc: Global, settings: Settings) -> Result<Plan, ServerFault>
         drain,
         events,
     } = settings;
-    let (told, failure) = failure_of_saves(alloc)?;
+    let (told, failure) = failure_of_saves(alloc, news)?;
     Ok(Plan {
         places: Places {
             tcp,
@@ -299,9 +313,10 @@ fn serve_settings<
         settings.must_load settings.setup f) }
 {
     let _locks = take_locks(rt, alloc, &settings)?;
-    let start = make_start::<L, R>(rt, alloc, &settings)?;
+    let news = news_of_log(alloc)?;
+    let start = make_start::<L, R>(rt, alloc, &settings, &news)?;
     let workers = settings.workers;
-    let plan = plan_of(alloc, settings)?;
+    let plan = plan_of(alloc, settings, news)?;
     serve_plan(rt, alloc, start, workers, plan, out)
 }
 
@@ -319,7 +334,7 @@ fn serve_settings<
 ///
 /// Where a log's path is given, that is locked too, and the server starts from the snapshot and what the log has behind
 /// it. A batch is answered only once a sync of the log has made it durable. Each save begins the log anew behind the
-/// snapshot, the last one too; where that one fails, which is an event, the snapshot has all, and the next start does it.
+/// snapshot, the last one too; where that one fails the snapshot has all, and the next start does it.
 /// Without a snapshot the log is kept whole, and only grows.
 ///
 /// It may wait for as long as clients keep their connections open, unless the settings have an idle limit or one for

@@ -1,0 +1,127 @@
+//! What has happened to a log, for whoever tells it.
+
+use std::io;
+use std::sync::Mutex;
+
+/// A call on the file or the folder of a log.
+#[derive(Clone, Copy, Debug, PartialEq, Eq)]
+pub enum FileCall {
+    Open,
+    Read,
+    Write,
+    /// A write of zeros, for blocks that come later.
+    MakeRoom,
+    Cut,
+    Sync,
+    Create,
+    Rename,
+    /// A sync of the folder.
+    SyncFolder,
+}
+
+impl FileCall {
+    /// Its name, as lines have it.
+    pub fn name(self) -> &'static str {
+        match self {
+            FileCall::Open => "Open",
+            FileCall::Read => "Read",
+            FileCall::Write => "Write",
+            FileCall::MakeRoom => "MakeRoom",
+            FileCall::Cut => "Cut",
+            FileCall::Sync => "Sync",
+            FileCall::Create => "Create",
+            FileCall::Rename => "Rename",
+            FileCall::SyncFolder => "SyncFolder",
+        }
+    }
+}
+
+/// A call that failed, and the system's number of the error, if it had one.
+#[derive(Clone, Copy, Debug, PartialEq, Eq)]
+pub struct FailedCall {
+    pub call: FileCall,
+    pub error: Option<i32>,
+}
+
+/// The log that a start has found, or begun.
+#[derive(Clone, Copy, Debug, PartialEq, Eq)]
+pub struct StartedLog {
+    /// How many batches and whole pages it has, the head's among them.
+    pub batches: u64,
+    pub pages: u64,
+    /// Whether it was begun.
+    pub is_new: bool,
+}
+
+/// What has happened to a log: what a start found, which call failed last, and which one has left the log failed. A
+/// folder and its files note it, and threads share it. Nobody waits here: a note that meets another one is lost.
+#[derive(Drop)]
+pub struct LogNews {
+    started: Mutex<Option<StartedLog>>,
+    failed: Mutex<Option<FailedCall>>,
+    broken: Mutex<Option<FailedCall>>,
+}
+
+// Puts a note in the place of the one before.
+fn note<T: Copy + Drop>(place: &Mutex<Option<T>>, note: Option<T>) {
+    if let Some(mut held) = place.try_lock() {
+        *held = note;
+    }
+}
+
+// The last note.
+fn last<T: Copy + Drop>(place: &Mutex<Option<T>>) -> Option<T> {
+    match place.try_lock() {
+        Some(held) => *held,
+        None => None,
+    }
+}
+
+impl LogNews {
+    /// Nothing has happened.
+    pub fn new() -> LogNews {
+        LogNews {
+            started: Mutex::new(None),
+            failed: Mutex::new(None),
+            broken: Mutex::new(None),
+        }
+    }
+
+    /// A start has found this log, or begun it.
+    pub fn note_start(&self, log: StartedLog) {
+        note(&self.started, Some(log));
+    }
+
+    /// This call has failed.
+    pub(crate) fn note_failure(&self, call: FileCall, error: &io::Error) {
+        let error = error.raw_os_error();
+        note(&self.failed, Some(FailedCall { call, error }));
+    }
+
+    /// This call has failed, and the log with it.
+    pub(crate) fn note_break(&self, call: FileCall, error: &io::Error) {
+        self.note_failure(call, error);
+        let error = error.raw_os_error();
+        note(&self.broken, Some(FailedCall { call, error }));
+    }
+
+    /// Nothing has failed since, as where other calls begin.
+    pub fn forget_failure(&self) {
+        note(&self.failed, None);
+    }
+
+    /// The log that the start has found or begun.
+    pub fn started(&self) -> Option<StartedLog> {
+        last(&self.started)
+    }
+
+    /// The call that failed last.
+    pub fn failure(&self) -> Option<FailedCall> {
+        last(&self.failed)
+    }
+
+    /// The call that left the log failed last.
+    pub fn broken_by(&self) -> Option<FailedCall> {
+        last(&self.broken)
+    }
+}
