@@ -8,9 +8,9 @@ spelled from docs/FORMATS.md. Frames are mostly puts, as texts and as cells, wit
 totals at the limit, full books, texts with faults and bad headers; they are cut anywhere, or end too early. Between two
 starts a server's snapshot is folded. Of clients that put at once some share their cells, and some have cells of their
 own and read them back, also by ranges. The questions of docs/FORMATS.md are asked as they stand there. It prints a line
-for each check that fails and at the end `N passed, M failed`; the status is 1 where one fails. With `--long` there are ten times as many sessions and puts, and clients with cells of
-their own put for a minute or more. Linux, and nothing but Python's own library, the client of clients/python and the
-server of tests/server.py.
+for each check that fails and at the end `N passed, M failed`; the status is 1 where one fails. With `--long` there are
+ten times as many sessions and puts, and clients with cells of their own put for a minute or more. Linux, and nothing
+but Python's own library, the client of clients/python and the server of tests/server.py.
 """
 import os
 import random
