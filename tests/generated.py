@@ -7,10 +7,10 @@ The model is a list of what was accepted, searched from the front, and a diction
 spelled from docs/FORMATS.md. Frames are mostly puts, as texts and as cells, with repeats, numbers that are used again,
 totals at the limit, full books, texts with faults and bad headers; they are cut anywhere, or end too early. Between two
 starts a server's snapshot is folded. Of clients that put at once some share their cells, and some have cells of their
-own and read them back. It prints a line for each check that fails and at the end `N passed, M failed`;
-the status is 1 where one fails. With `--long` there are ten times as many sessions and puts, and clients with cells of
-their own put for a minute or more. Linux, and nothing but Python's own library, the client of clients/python and the
-server of tests/server.py.
+own and read them back, also by ranges. The questions of docs/FORMATS.md are asked as they stand there. It prints a line
+for each check that fails and at the end `N passed, M failed`; the status is 1 where one fails. With `--long` there are
+ten times as many sessions and puts, and clients with cells of their own put for a minute or more. Linux, and nothing
+but Python's own library, the client of clients/python and the server of tests/server.py.
 """
 import os
 import random
@@ -537,6 +537,54 @@ def own_puts_are_read_back(factor):
         server.stop("own puts", OWN["clients"] * puts, sum(all_sums.values()))
 
 
+WORKED = [
+    (
+        """00000038 0a 0000000000000000 0000000000000002 0000000000000001 0000000000000002
+                       0000000000000000 0000000000000000 0000000000000002""",
+        """00000031 88 01 0000000000000000 0000000000000002 0000000000000003
+                          0000000000000001 0000000000000001 0000000000000008""",
+    ),
+    (
+        """00000038 0a 0000000000000000 0000000000000002 0000000000000001 0000000000000002
+                       0000000000000001 0000000000000002 0000000000000002""",
+        "00000019 88 00 0000000000000002 0000000000000001 0000000000000000",
+    ),
+    ("00000038 0a" + bytes(8).hex() + "0000000000000003" + bytes(40).hex(), "0000000a ff 0029 0000000000000000"),
+    ("00000038 0a" + bytes(56).hex(), "0000000a ff 002c 0000000000000000"),
+    (
+        "00000009 0b 00 0000000000000002",
+        """00000030 89 0000000000000000 0000000000000002 0000000000000008
+                       0000000000000001 0000000000000001 0000000000000008""",
+    ),
+    (
+        "00000009 0b 01 0000000000000003",
+        """00000048 89 0000000000000000 0000000000000002 0000000000000008
+                       0000000000000001 0000000000000001 0000000000000008
+                       0000000000000002 0000000000000001 0000000000000000""",
+    ),
+    ("00000009 0b 02 0000000000000003", "0000000a ff 002c 0000000000000000"),
+    ("00000009 0b 01 0000000000000000", "0000000a ff 002c 0000000000000000"),
+    ("00000008 0b 0100000000000000", "0000000a ff 0034 0000000000000000"),
+]
+WORKED_WORDS = ["--rows", "3", "--cols", "3", "--cuts", "2,4", "--shards", "2", "--limit", "100", "--max-batches", "10"]
+
+
+def worked_questions_are_answered(unix):
+    """The ranges and tops of docs/FORMATS.md, alone and in one session, which is cut at each byte."""
+    name = "unix" if unix else "tcp"
+    asked = [bytes.fromhex(frame) for frame, _ in WORKED]
+    told = [bytes.fromhex(reply) for _, reply in WORKED]
+    with Server(WORKED_WORDS) as server:
+        put = put_cells_frame(7, 1, [(0, 0, 5), (0, 2, 3), (1, 1, 8), (2, 1, 0)])
+        check(f"{name}: the cells that are asked for", server.talk([put], unix), accepted(0, 16))
+        for frame, reply in zip(asked, told):
+            check(f"{name}: the question {frame[:21].hex()}", server.talk([frame], unix), reply)
+        sent, wanted = b"".join(asked[:-1]), b"".join(told[:-1])
+        for place in range(0, len(sent), 1 if unix else 7):
+            check(f"{name}: questions cut at {place}", server.talk([sent[:place], sent[place:]], unix), wanted)
+        server.stop(name, 1, 16)
+
+
 def main():
     servers.PROGRAM = os.path.abspath(sys.argv[1])
     factor = 10 if "--long" in sys.argv[2:] else 1
@@ -544,6 +592,8 @@ def main():
         sessions_are_answered_alike(60 * factor)
         clients_agree_with_a_model(factor)
         own_puts_are_read_back(1 if factor == 1 else FOR_A_MINUTE)
+        worked_questions_are_answered(unix=True)
+        worked_questions_are_answered(unix=False)
     print(f"{servers.passed} passed, {servers.failed} failed")
     return 1 if servers.failed else 0
 
