@@ -139,6 +139,19 @@ def what_is_read_stays(page):
     check("page: and is drawn anew", page.until(f"{part}.dataset.mark === undefined"), True)
 
 
+def a_picture_tells_what_is_pointed_at(page):
+    """The numbers at the time that the pointer is at, and all of them again where it has gone."""
+    page.value("window.scrollTo(0, 0)")
+    box = page.value("(() => { const it = document.querySelector('#latency svg').getBoundingClientRect(); "
+                     "return [it.right - 12, it.top + it.height / 2]; })()")
+    says = "document.querySelector('#latency svg + div').textContent"
+    page.ask("Input.dispatchMouseEvent", type="mouseMoved", x=box[0], y=box[1])
+    told = page.value(says)
+    check(f"page: pointed at: {told}", bool(re.fullmatch(r"\d\d:\d\d:\d\d: status [\d.]+ ms, cell [\d.]+ ms", told)), True)
+    page.ask("Input.dispatchMouseEvent", type="mouseMoved", x=1, y=1)
+    check("page: not pointed at", page.until(f"{says}.startsWith('status: last ')"), True)
+
+
 def it_is_readable(page):
     """On a light and a dark ground, and on a phone, where nothing is wider than the screen."""
     for is_dark in (False, True):
@@ -226,6 +239,7 @@ def is_tried(metrics_of):
         page = stack.enter_context(browser.Browser(program))
         numbers_are_the_servers(page, at, metrics)
         what_is_read_stays(page)
+        a_picture_tells_what_is_pointed_at(page)
         it_is_readable(page)
         a_save_is_told(page, at)
         it_says_that_a_server_is_gone(page, at, metrics, words)
