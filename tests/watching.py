@@ -21,8 +21,8 @@ import xml.etree.ElementTree
 
 import page
 import server
-from hhm_client import Status
-from hhm_figures import Moment, rate_of
+from hhm_client import Client, Status
+from hhm_figures import KEPT, Moment, Watched, rate_of
 from hhm_rates import rates_of
 from peers import WAIT, run, until
 from server import Server, check
@@ -233,6 +233,12 @@ def rates_are_drawn():
     check("rates: by hand", (rates.at, rates.values), ([1, 3, 4], [8, 1, 0]))
     check("rates: over the last second", rate_of(looks[:3], Moment.batches, 1.0), 1)
     check("rates: over more", rate_of(looks[:3], Moment.total, 5.0), 100 / 3)
+    with StandIn(stats=TOLD) as at, Client(unix=at.path) as hhm:
+        seen = Watched(hhm)
+        for _ in range(KEPT + 5):
+            seen.look()
+        check("rates: what is kept", (len(seen.moments), len(seen.moments[-1].stats)), (KEPT, len(TOLD)))
+        check("rates: without labels", {len(it.stats) for it in seen.moments[:-1]}, {len(TOLD) - 2})
     with Server(LARGE, tcp=False) as at, at.client(8) as hhm:
         path = os.path.join(server.FOLDER, "rates.svg")
         words = [*HHMC, "--unix", at.path, "plot", "rates", "--seconds", "3", path]

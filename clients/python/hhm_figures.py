@@ -8,8 +8,8 @@ import array
 import re
 import sys
 import time
-from collections import Counter, deque
-from typing import Any, Callable, Deque, Dict, List, NamedTuple, Optional, Tuple, TypeVar, Union
+from collections import Counter
+from typing import Any, Callable, Dict, List, NamedTuple, Optional, Tuple, TypeVar, Union
 
 from hhm_client import MAX_PAGE, ROWS, TOP, BadReply, Client, Refused, Status, TopRow, request
 
@@ -54,6 +54,10 @@ class Moment(NamedTuple):
             if found:
                 return found
         return []
+
+    def without_labels(self) -> "Moment":
+        """The same without what has labels, as the layers of all shards: what is kept of moments that are over."""
+        return self._replace(stats={name: value for name, value in self.stats.items() if "{" not in name})
 
     def layers(self) -> List["Layer"]:
         """The layers of each shard, in order."""
@@ -139,7 +143,8 @@ class Watched:
     def __init__(self, hhm: Client, most: int = 10):
         self.place = f"unix:{hhm.unix}" if hhm.tcp is None else hhm.tcp
         self.hhm = hhm
-        self.moments: Deque[Moment] = deque(maxlen=KEPT)
+        # (a list that is replaced, and never changed: another thread may read it)
+        self.moments: List[Moment] = []
         self.unknown: Dict[str, bool] = {}
         self._top = Seldom(lambda: self.hhm.top(most), PAUSE, SHARE)
         self._degrees = Seldom(self._ask_degrees, LONG_PAUSE, LONG_SHARE)
@@ -156,7 +161,8 @@ class Watched:
             self.unknown.clear()
             raise
         moment = Moment(time.time(), status, stats, status_seconds, cell_seconds)
-        self.moments.append(moment)
+        before = self.moments[1 - KEPT :]
+        self.moments = [*before[:-1], *(it.without_labels() for it in before[-1:]), moment]
         return moment
 
     def top(self) -> Optional[List[TopRow]]:
@@ -169,7 +175,7 @@ class Watched:
 
     def rate(self, read: Callable[[Moment], Optional[float]], seconds: float = 1.0) -> Optional[float]:
         """How much a number rises in a second, over the last so many; None where it isn't told."""
-        return rate_of(list(self.moments), read, seconds)
+        return rate_of(self.moments, read, seconds)
 
     def known(self, name: str, ask: Callable[[], Answer]) -> Optional[Answer]:
         """An answer; None of a server that refuses the question, which isn't asked it again where it doesn't know it."""

@@ -79,7 +79,6 @@ class Looker:
 
     def look(self) -> None:
         try:
-            # (what readers copy meanwhile changes by whole moments alone)
             self.seen.look()
             if time.monotonic() - self.viewed < VIEWED:
                 self.top = self.seen.top()
@@ -92,8 +91,6 @@ class Looker:
         with self.lock:
             self.fault = fault
 
-    def moments(self) -> List[Moment]:
-        return list(self.seen.moments)
 
 
 def whole(number: Any) -> Any:
@@ -125,7 +122,7 @@ def series_of(moments: List[Moment], since: float, gap: float) -> Dict[str, List
 def page_stats(looker: Looker, since: float, is_ip: bool) -> Dict[str, Any]:
     """What the page draws."""
     looker.viewed = time.monotonic()
-    moments, seen = looker.moments(), looker.seen
+    moments, seen = looker.seen.moments, looker.seen
     last = moments[-1] if moments else None
     told: Dict[str, Any] = {
         "place": seen.place, "now": time.time(), "is_ip": is_ip, "fault": looker.fault,
@@ -153,7 +150,7 @@ def page_stats(looker: Looker, since: float, is_ip: bool) -> Dict[str, Any]:
 
 def metrics_of(looker: Looker) -> str:
     """All that is told, in the text format of Prometheus. Of a server that is gone only that it is."""
-    moments = looker.moments()
+    moments = looker.seen.moments
     families: Dict[str, List[str]] = {"up": ["hhm_up " + ("1" if looker.fault is None else "0")]}
     if looker.fault is None and moments:
         last = moments[-1]

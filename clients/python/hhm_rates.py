@@ -86,5 +86,5 @@ def looked_at(hhm: Client, given: argparse.Namespace) -> Tuple[List[Moment], str
     while len(moments) < 2 or time.monotonic() - begin < given.seconds:
         pause = begin + len(moments) * min(1.0, given.seconds) - time.monotonic()
         time.sleep(max(0.0, pause))
-        moments.append(seen.look())
+        moments.append(seen.look().without_labels())
     return moments, seen.place
