@@ -26,7 +26,7 @@ TOLD = {
     **{f'shard_layer_runs{{shard="{shard}",layer="{layer}"}}': shard for shard in range(12) for layer in range(3)},
 }
 SHOWN = {
-    "Batches": "0", "Events": "0", "Cells put": "1,234,567", "Repeats": "12", "Refused": "3,002", "Sessions": "2 open",
+    "Batches": "0", "Total": "0", "Cells put": "1,234,567", "Repeats": "12", "Refused": "3,002", "Sessions": "2 open",
     "Memory": "231 MB", "Last save": "1 min 1 s ago", "Durable": "7 batches",
 }
 TILES = ("Object.fromEntries([...document.querySelectorAll('#tiles div')].map((it) => [it.querySelector('dt')"
@@ -64,7 +64,7 @@ def numbers_are_the_servers(page, at, metrics):
         for number in range(40):
             hhm.put(number, cells)
         check("page: batches", page.until(f"{TILES}['Batches'] === '40'"), True)
-        check("page: events", page.value(TILES)["Events"], f"{40 * sum(cell[2] for cell in cells):,}")
+        check("page: total", page.value(TILES)["Total"], f"{40 * sum(cell[2] for cell in cells):,}")
         rows = [[f"10.0.0.{row}", f"{1 << row - 1}", f"{40 * row << row - 1:,}"] for row in range(8, 0, -1)]
         page.until(f"document.querySelector('#top tbody tr')?.textContent === '{''.join(rows[0])}'")
         check("page: top", table_of(page, "top", 8), rows)

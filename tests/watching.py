@@ -206,7 +206,7 @@ def a_server_is_watched():
         check("watch: ends", (error, status), ("", 0))
         check("watch: lines", lines[0], f"server unix:{at.path}")
         check("watch: status", "batches 1 total 561" in lines, True)
-        check("watch: no rise", [it for it in lines if it.startswith("batches/s 0 events/s 0")] != [], True)
+        check("watch: no rise", [it for it in lines if it.startswith("batches/s 0 total/s 0")] != [], True)
         tops = [it for it in lines if it.startswith("top ")]
         check("watch: top", tops, ["top 1 10.0.0.2 entries 1 total 500", "top 2 10.0.0.1 entries 30 total 60",
                                    "top 3 0.0.0.3 entries 1 total 1"])
@@ -252,7 +252,7 @@ def rates_are_drawn():
         batches, total = map(int, told.groups())
         check("rates: what was put", (0 < batches <= 12, total), (True, 5 * batches))
         drawn = xml.etree.ElementTree.parse(path).getroot()
-        check("rates: the title", drawn[0].text, f"Accepted in 3 seconds: {batches} batches, {total} events")
+        check("rates: the title", drawn[0].text, f"Accepted in 3 seconds: {batches} batches, total {total}")
     for words, wanted in [(["--from", path, "plot", "rates", path], "rates are those of a server that runs: "),
                           (["--unix", "x", "plot", "spy", "--seconds", "3", path], "--seconds is for the picture rates"),
                           (["--unix", "x", "plot", "rates", "--ip", path], "--rows, --cols, --whole and --ip are for ")]:

@@ -100,7 +100,7 @@ def whole(number: Any) -> Any:
 
 def series_of(moments: List[Moment], since: float, gap: float) -> Dict[str, List[Optional[float]]]:
     """What is drawn over time, of the moments behind a time; nothing said of the time in which the server was gone."""
-    found: Dict[str, List[Any]] = {name: [] for name in ("at", "batches", "events", "memory", "status_ms", "cell_ms")}
+    found: Dict[str, List[Any]] = {name: [] for name in ("at", "batches", "total", "memory", "status_ms", "cell_ms")}
     for before, now in zip([None, *moments], moments):
         if now.at <= since:
             continue
@@ -110,7 +110,7 @@ def series_of(moments: List[Moment], since: float, gap: float) -> Dict[str, List
                 values.append(None)
             found["at"][-1] = now.at - 0.001
         found["at"].append(now.at)
-        for name, read in (("batches", Moment.batches), ("events", Moment.total)):
+        for name, read in (("batches", Moment.batches), ("total", Moment.total)):
             rise = max(0, read(now) - read(before)) / (now.at - before.at) if is_near else None
             found[name].append(rise)
         found["memory"].append(now.number(*MEMORY))
@@ -131,7 +131,7 @@ def page_stats(looker: Looker, since: float, is_ip: bool) -> Dict[str, Any]:
     }
     if last is None:
         return told
-    rates = {"batches": Moment.batches, "events": Moment.total, "cells": lambda it: it.number(*CELLS),
+    rates = {"batches": Moment.batches, "total": Moment.total, "cells": lambda it: it.number(*CELLS),
              "processor": lambda it: it.number(*PROCESSOR)}
     degrees = looker.degrees
     numbers = {name: whole(last.number(*names)) for name, names in NUMBERS.items()}

@@ -63,7 +63,7 @@ label { font-size: .9rem; }
 <dl class="tiles" id="tiles"></dl>
 <div class="parts">
 <section id="batches"></section>
-<section id="events"></section>
+<section id="total"></section>
 <section id="latency"></section>
 <section id="memory"></section>
 <section id="top"></section>
@@ -338,7 +338,7 @@ function drawTiles(now) {
   const told = (key) => now.numbers[key];
   const number = (key) => told(key) === null ? null : big(told(key));
   tile("Batches", big(now.batches), now.rates.batches === null ? "" : big(now.rates.batches) + " a second");
-  tile("Events", big(now.total), now.rates.events === null ? "" : big(now.rates.events) + " a second");
+  tile("Total", big(now.total), now.rates.total === null ? "" : big(now.rates.total) + " a second");
   if (now.rates.cells !== null) tile("Cells put", number("cells"), big(now.rates.cells) + " a second");
   tile("Repeats", number("repeats"));
   tile("Refused", number("refused"), now.refused.map((it) => it[0] + " " + big(it[1])).join(", "));
@@ -394,7 +394,7 @@ function redraw() {
   if (!now) return;
   drawTiles(now);
   drawLines("batches", "Batches a second", [{name: "batches", values: kept.batches, role: "first"}], big);
-  drawLines("events", "Events a second", [{name: "events", values: kept.events, role: "first"}], big);
+  drawLines("total", "Rise of the total in a second", [{name: "total", values: kept.total, role: "first"}], big);
   drawLines("latency", "Latency of a status and of a cell", [{name: "status", values: kept.status_ms, role: "first"},
     {name: "cell", values: kept.cell_ms, role: "second"}], millis);
   drawLines("memory", "Memory", [{name: "resident", values: kept.memory, role: "first"}], bytes);

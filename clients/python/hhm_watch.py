@@ -6,8 +6,8 @@ This is the word `watch` of `hhm_client.py`:
     hhmc --unix /run/hhm/hhm.sock watch --once      # lines `name value ..`, once
 
 Where standard output is no terminal, the lines come once a second. A server that is gone is waited for. What it doesn't
-tell, as one of an earlier version does, is left out. Rates are those of the last second; batches, events and cells are
-those that were accepted, an event being a count of 1.
+tell, as one of an earlier version does, is left out. Rates are those of the last seconds: how much the numbers
+of accepted batches and cells rise in a second, and the total of their counts.
 """
 import argparse
 import contextlib
@@ -93,7 +93,7 @@ def facts_of(seen: Watched, moment: Moment) -> Iterator[List[str]]:
     begun = [("version", moment.stats.get("version")), ("uptime", time_told(up) if (up := number(*UPTIME)) else None)]
     yield [word for name, value in begun if value is not None for word in (name, str(value))]
     yield ["batches", big(moment.batches()), "total", big(moment.total())]
-    rates = [("batches", Moment.batches), ("events", Moment.total), ("cells", lambda it: it.number(*CELLS))]
+    rates = [("batches", Moment.batches), ("total", Moment.total), ("cells", lambda it: it.number(*CELLS))]
     told = [(name, seen.rate(read, BACK)) for name, read in rates]
     yield [word for name, rate in told if rate is not None for word in (f"{name}/s", big(rate))]
     yield pairs(("repeats", number(*REPEATS)), ("refused", refused_of(moment))) + refusals_of(moment)
