@@ -48,7 +48,8 @@ HELP = {
     "processor_seconds_total": "Processor time of the server.", "uptime_seconds": "Seconds since the server began.",
     "saves_total": "Saves that were made.", "failed_saves_total": "Saves that failed.",
     "saved_batches": "Batches of the last save.", "save_age_seconds": "Seconds since the last save.",
-    "log_durable_batches": "Batches that the log has on its disk.", "log_pages": "Pages of the log.",
+    "log_durable_batches": "Batches that the log has on its disk.",
+    "durable_batches": "Accepted batches that no crash takes back.", "log_pages": "Pages of the log.",
     "log_syncs_total": "Syncs of the log.", "log_group_batches": "Batches of the log's last group.",
     "shard_layer_entries": "Entries of a layer of a shard, at most.", "shard_layer_runs": "Runs of a layer of a shard.",
 }

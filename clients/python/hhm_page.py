@@ -330,7 +330,7 @@ function drawLayers(layers) {
 function drawTold(stats) {
   if (!stats.length) { at("told").hidden = true; return; }
   const lines = stats.map((it) => [cell(it[0]), cell(typeof it[1] === "number" ? String(it[1]) : it[1])]);
-  fill("told", "All that the server tells", behind("told", "As a table", table("", ["Name", "Value"], lines)));
+  fill("told", "All that is told", behind("told", "As a table", table("", ["Name", "Value"], lines)));
 }
 function drawTiles(now) {
   const found = [];
@@ -378,7 +378,7 @@ function draw(now) {
   keep(now.series);
   const since = now.answered ? " since " + clock(now.answered) : "";
   const then = now.answered ? ". What is shown is from then." : "";
-  const lacks = " It is of an earlier version, which doesn't tell " + now.lacking.join(" and ") + ".";
+  const lacks = " It doesn't tell " + now.lacking.join(" and ") + ".";
   if (now.fault) say("No answer from the server" + since + ": " + now.fault + then, true);
   else if (now.answered) say("The server answers." + (now.lacking.length ? lacks : ""), false);
   if (!now.answered) return;
