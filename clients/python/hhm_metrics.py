@@ -172,7 +172,7 @@ def metrics_of(looker: Looker) -> str:
 
 def help_of(name: str) -> str:
     """What is said of a name that only the server explains."""
-    return f"{name} of the server's stats, as docs/FORMATS.md has it."
+    return f"{name}, as the server tells it."
 
 
 class Handler(BaseHTTPRequestHandler):
