@@ -188,9 +188,9 @@ def the_command_line_asks():
     with StandIn(stats={"batches": 1, "odd": "1.50"}) as at:
         check("hhmc stats, as they come", hhmc(at, "stats"), ("batches 1\nodd 1.50\n", "", 0))
     with StandIn(stats=None, unknown=[10, 11]) as at:
-        why = "refused: UnknownKind: the server is of an earlier version, which doesn't know this question\n"
+        why = "refused: UnknownKind: this server doesn't know the question\n"
         for words in ["stats", "top rows", "list 1"]:
-            check(f"hhmc {words}, of an earlier server", hhmc(at, *words.split()), ("", why, 1))
+            check(f"hhmc {words}, of a server that knows none", hhmc(at, *words.split()), ("", why, 1))
     for stats, size in [({"batches": 0}, (5, 1 << 60)), (None, (1, 1)), (None, (1 << 60, 1000)), ({"rows": 7}, (7, 7))]:
         with StandIn(stats=stats, size=size) as at, Client(unix=at.path) as hhm:
             check(f"dimensions that aren't told: {size}", hhm.size(), size)

@@ -9,7 +9,7 @@ import time
 import browser
 import server
 from server import Server, check
-from stand_in import StandIn, knows_stats
+from stand_in import OTHERWISE, StandIn, knows_stats
 
 LARGE = ["--rows", str(1 << 32), "--cols", str(1 << 32)]
 ADDRESS = 10 << 24
@@ -26,7 +26,7 @@ TOLD = {
     **{f'shard_layer_runs{{shard="{shard}",layer="{layer}"}}': shard for shard in range(12) for layer in range(3)},
 }
 SHOWN = {
-    "Batches": "0", "Events": "0", "Cells put": "1,234,567", "Repeats": "12", "Refused": "3,002", "Sessions": "2 open",
+    "Batches": "0", "Total": "0", "Cells put": "1,234,567", "Repeats": "12", "Refused": "3,002", "Sessions": "2 open",
     "Memory": "231 MB", "Last save": "1 min 1 s ago", "Durable": "7 batches",
 }
 TILES = ("Object.fromEntries([...document.querySelectorAll('#tiles div')].map((it) => [it.querySelector('dt')"
@@ -64,7 +64,10 @@ def numbers_are_the_servers(page, at, metrics):
         for number in range(40):
             hhm.put(number, cells)
         check("page: batches", page.until(f"{TILES}['Batches'] === '40'"), True)
-        check("page: events", page.value(TILES)["Events"], f"{40 * sum(cell[2] for cell in cells):,}")
+        check("page: durable", page.until(f"{TILES}['Durable'] === '40 batches'"), True)
+        memory = float(page.value(TILES)["Memory"].removesuffix(" MB")) * 1e6
+        check(f"page: memory {memory}", 0.7 < memory / at.memory() < 1.4, True)
+        check("page: total", page.value(TILES)["Total"], f"{40 * sum(cell[2] for cell in cells):,}")
         rows = [[f"10.0.0.{row}", f"{1 << row - 1}", f"{40 * row << row - 1:,}"] for row in range(8, 0, -1)]
         page.until(f"document.querySelector('#top tbody tr')?.textContent === '{''.join(rows[0])}'")
         check("page: top", table_of(page, "top", 8), rows)
@@ -95,7 +98,9 @@ def what_is_told_is_shown(page, metrics_of):
         layers = [["All", "66,000", "66,012", "66,024"]]
         layers += [[f"Shard {shard}", *(f"{1000 * shard + layer:,} in {shard}" for layer in range(3))] for shard in range(12)]
         check("shown: layers", table_of(page, "layers", 13), layers)
-        check("shown: all", dict(table_of(page, "told", len(TOLD))), {name: str(it) for name, it in raw(TOLD).items()})
+        found = dict(table_of(page, "told", len(set(TOLD) | set(OTHERWISE))))
+        wanted = {name: str(it) for name, it in raw(TOLD).items()}
+        check("shown: all", {name: found[name] for name in wanted}, wanted)
         check("shown: pictures", page.until("document.querySelectorAll('section:not([hidden]) svg').length >= 4"), True)
         pictures_have_tables(page)
 
@@ -108,8 +113,8 @@ def raw(told):
 def stats_are_told(page, hhm):
     """The table of all that the server tells has its names, and the numbers that don't change by being asked."""
     stats = hhm.stats()
-    found = dict(table_of(page, "told", len(stats)))
-    check("page: names", sorted(found), sorted(stats))
+    found = dict(table_of(page, "told", len(set(stats) | set(OTHERWISE))))
+    check("page: names", set(found), set(stats) | set(OTHERWISE))
     for name in ("version", "batches", "total", "rows", "cols"):
         check(f"page: {name}", found.get(name), str(stats.get(name)))
     entries = {name: value for name, value in stats.items() if name.startswith("shard_layer_entries{")}
@@ -137,6 +142,19 @@ def what_is_read_stays(page):
     check("page: what is read stays", page.value(f"{part}.dataset.mark"), "here")
     page.value(f"{part}.open = false")
     check("page: and is drawn anew", page.until(f"{part}.dataset.mark === undefined"), True)
+
+
+def a_picture_tells_what_is_pointed_at(page):
+    """The numbers at the time that the pointer is at, and all of them again where it has gone."""
+    page.value("window.scrollTo(0, 0)")
+    box = page.value("(() => { const it = document.querySelector('#latency svg').getBoundingClientRect(); "
+                     "return [it.right - 12, it.top + it.height / 2]; })()")
+    says = "document.querySelector('#latency svg + div').textContent"
+    page.ask("Input.dispatchMouseEvent", type="mouseMoved", x=box[0], y=box[1])
+    told = page.value(says)
+    check(f"page: pointed at: {told}", bool(re.fullmatch(r"\d\d:\d\d:\d\d: status [\d.]+ ms, cell [\d.]+ ms", told)), True)
+    page.ask("Input.dispatchMouseEvent", type="mouseMoved", x=1, y=1)
+    check("page: not pointed at", page.until(f"{says}.startsWith('status: last ')"), True)
 
 
 def it_is_readable(page):
@@ -226,6 +244,7 @@ def is_tried(metrics_of):
         page = stack.enter_context(browser.Browser(program))
         numbers_are_the_servers(page, at, metrics)
         what_is_read_stays(page)
+        a_picture_tells_what_is_pointed_at(page)
         it_is_readable(page)
         a_save_is_told(page, at)
         it_says_that_a_server_is_gone(page, at, metrics, words)

@@ -32,6 +32,10 @@ def rows_of_top(cells, by, most):
     return b"".join(struct.pack(">QQQ", *row) for row in rows[:most])
 
 
+# What is told of a server without its stats: by a Stored, and by the system of its process.
+OTHERWISE = ("durable_batches", "resident_bytes", "uptime_seconds", "processor_seconds_total")
+
+
 def knows_stats(hhm, what):
     """Whether a server answers a Stats; a line says what isn't tried where it doesn't."""
     try:

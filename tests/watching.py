@@ -21,12 +21,12 @@ import xml.etree.ElementTree
 
 import page
 import server
-from hhm_client import Status
-from hhm_figures import Moment, rate_of
+from hhm_client import Client, Status
+from hhm_figures import KEPT, Moment, Watched, rate_of
 from hhm_rates import rates_of
 from peers import WAIT, run, until
 from server import Server, check
-from stand_in import StandIn
+from stand_in import OTHERWISE, StandIn
 
 HERE = os.path.dirname(os.path.abspath(__file__))
 HHMC = [sys.executable, os.path.join(HERE, "..", "clients", "python", "hhm_client.py")]
@@ -97,12 +97,15 @@ def what_a_server_tells_is_told():
         samples = metrics.samples()
         times = [float(samples.pop(name)) for name in ("hhm_status_seconds", "hhm_cell_seconds")]
         check("told: times", all(0 < value < 5 for value in times), True)
+        # (the server in Python is a thread of this process)
+        durable, memory, age, processor = (float(samples.pop(f"hhm_{name}")) for name in OTHERWISE)
+        check("told: of the process", (durable, 1e7 < memory < 1e9, age > 0, 0 < processor < 60), (0, True, True, True))
         wanted = {f"hhm_{name}": str(value) for name, value in TOLD.items() if name != "version"}
         wanted.update({"hhm_up": "1", 'hhm_info{version="1.2.3"}': "1", "hhm_odd_seconds": "0.25"})
         check("told: samples", samples, wanted)
         told = metrics.json()
         raw = {**{name: str(value) for name, value in TOLD.items()}, "odd_seconds": "0.25"}
-        check("told: raw", dict(told["stats"]), raw)
+        check("told: raw", {name: it for name, it in told["stats"] if name not in OTHERWISE}, raw)
         check("told: large", (told["numbers"]["rows"], told["total"]), (str(1 << 60), 0))
         check("told: moments", until(lambda: len(metrics.json()["series"]["at"]) > 3, True), True)
         series = metrics.json()["series"]
@@ -122,13 +125,14 @@ def an_earlier_server_is_told():
             check("earlier: answers", answers(metrics), None)
             check("earlier: moments", until(lambda: len(metrics.json()["series"]["at"]) > 4, True), True)
             told = metrics.json()
-            check("earlier: lacks", (told["lacking"], told["stats"], told["layers"]), (lacks, [], []))
+            names = tuple(name for name, _ in told["stats"])
+            check("earlier: lacks", (told["lacking"], names, told["layers"]), (lacks, OTHERWISE, []))
             check("earlier: total", (told["total"], told["top"]), (9, None if unknown else [[5, 1, 9]]))
             check("earlier: asked once", (at.asked[12], not unknown or at.asked[11] == 1), (1, True))
             samples = metrics.samples()
             check("earlier: samples", [samples[f"hhm_{name}"] for name in ("up", "batches", "total")], ["1", "0", "9"])
             output, error, status = run([*HHMC, "--unix", at.path, "watch", "--once"])
-            words = [f"{lack}: its version doesn't tell them" for lack in lacks]
+            words = [f"{lack}: this server doesn't tell them" for lack in lacks]
             check("earlier: watch", (output.splitlines()[-len(lacks):], error, status), (words, "", 0))
 
 
@@ -206,7 +210,8 @@ def a_server_is_watched():
         check("watch: ends", (error, status), ("", 0))
         check("watch: lines", lines[0], f"server unix:{at.path}")
         check("watch: status", "batches 1 total 561" in lines, True)
-        check("watch: no rise", [it for it in lines if it.startswith("batches/s 0 events/s 0")] != [], True)
+        check("watch: durable", "durable 1" in lines, True)
+        check("watch: no rise", [it for it in lines if it.startswith("batches/s 0 total/s 0")] != [], True)
         tops = [it for it in lines if it.startswith("top ")]
         check("watch: top", tops, ["top 1 10.0.0.2 entries 1 total 500", "top 2 10.0.0.1 entries 30 total 60",
                                    "top 3 0.0.0.3 entries 1 total 1"])
@@ -233,6 +238,13 @@ def rates_are_drawn():
     check("rates: by hand", (rates.at, rates.values), ([1, 3, 4], [8, 1, 0]))
     check("rates: over the last second", rate_of(looks[:3], Moment.batches, 1.0), 1)
     check("rates: over more", rate_of(looks[:3], Moment.total, 5.0), 100 / 3)
+    with StandIn(stats=TOLD) as at, Client(unix=at.path) as hhm:
+        seen = Watched(hhm)
+        for _ in range(KEPT + 5):
+            seen.look()
+        count = len(TOLD) + len(OTHERWISE)
+        check("rates: what is kept", (len(seen.moments), len(seen.moments[-1].stats)), (KEPT, count))
+        check("rates: without labels", {len(it.stats) for it in seen.moments[:-1]}, {count - 2})
     with Server(LARGE, tcp=False) as at, at.client(8) as hhm:
         path = os.path.join(server.FOLDER, "rates.svg")
         words = [*HHMC, "--unix", at.path, "plot", "rates", "--seconds", "3", path]
@@ -246,7 +258,7 @@ def rates_are_drawn():
         batches, total = map(int, told.groups())
         check("rates: what was put", (0 < batches <= 12, total), (True, 5 * batches))
         drawn = xml.etree.ElementTree.parse(path).getroot()
-        check("rates: the title", drawn[0].text, f"Accepted in 3 seconds: {batches} batches, {total} events")
+        check("rates: the title", drawn[0].text, f"Accepted in 3 seconds: {batches} batches, total {total}")
     for words, wanted in [(["--from", path, "plot", "rates", path], "rates are those of a server that runs: "),
                           (["--unix", "x", "plot", "spy", "--seconds", "3", path], "--seconds is for the picture rates"),
                           (["--unix", "x", "plot", "rates", "--ip", path], "--rows, --cols, --whole and --ip are for ")]:

@@ -219,8 +219,9 @@ void hhm_range_close(hhm_range *range);
    first, and of equal ones the lowest row. `count` gets how many there are. */
 hhm_result hhm_ask_top(hhm_client *hhm, hhm_by by, hhm_top_row *rows, size_t most, size_t *count);
 
-/* What the server tells of itself: a text of lines `name value`, by the names of docs/FORMATS.md, which ends with a byte
-   0 that `length` doesn't count; free it with free(). A program takes the names that it knows. */
+/* What the server tells of itself: a text of lines `name value`, which ends with a byte 0 that `length` doesn't count;
+   free it with free(). A program takes the names that it knows. A server that doesn't know the question refuses it
+   (code 51). */
 hhm_result hhm_ask_stats(hhm_client *hhm, char **text, size_t *length);
 
 /* The number behind a name in such a text; 0 where there is none, or where what stands there is no whole number. */

@@ -619,7 +619,8 @@ class Client:
         return self._ask_for(frame, ROWS, lambda body: top_of(body, most, by))
 
     def stats(self) -> Dict[str, Union[int, float, str]]:
-        """What the server tells of itself, by the names of docs/FORMATS.md. A program takes those that it knows."""
+        """What the server tells of itself, by names of which a program takes those that it knows. One that doesn't know
+        the question refuses it (UnknownKind)."""
         return self._ask_for(request(STATS), TOLD, stats_of)
 
     def size(self) -> Tuple[int, int]:

@@ -13,7 +13,7 @@ from hhm_client import MAX_BODY, Client, Ended, Refused, address, number
 TIMEOUT, SAVE_TIMEOUT = 60, 600
 SPLIT = "put it as several batches, as the word load does with files of events"
 TOO_LONG = "the text has more than 64 MiB: save, and take the snapshot (`hhm export`, `hhmc --from`)"
-UNKNOWN = "the server is of an earlier version, which doesn't know this question"
+UNKNOWN = "this server doesn't know the question"
 ADVICE = {"TooManyEntries": f": {SPLIT}", "ReplyTooLarge": f": {TOO_LONG}", "UnknownKind": f": {UNKNOWN}"}
 # The words that ask for long, and so tell only that they wait for a connection.
 LONG = ("load", "top", "list", "plot")

@@ -1,15 +1,19 @@
 """What a running server does, looked at once a second: for `hhmc watch`, `hhmc metrics` and `hhmc plot rates`.
 
 A `Watched` asks a server for its status, for a cell, whose times it takes, for its stats, and now and then for the rows
-that lead. A server of an earlier version refuses some of these as an unknown kind: what it doesn't tell is left out,
-and everything else goes on. Names of stats that aren't known here are passed on as they are.
+that lead. A server may refuse some of these as an unknown kind: what it doesn't tell is left out, and everything else
+goes on. Of a server on this machine, at a Unix socket, the system tells the memory, the processor time and the age of
+its process, where its stats don't. Names of stats that aren't known here are passed on as they are.
 """
 import array
+import os
 import re
+import socket
+import struct
 import sys
 import time
-from collections import Counter, deque
-from typing import Any, Callable, Deque, Dict, List, NamedTuple, Optional, Tuple, TypeVar, Union
+from collections import Counter
+from typing import Any, Callable, Dict, List, NamedTuple, Optional, Tuple, TypeVar, Union
 
 from hhm_client import MAX_PAGE, ROWS, TOP, BadReply, Client, Refused, Status, TopRow, request
 
@@ -54,6 +58,10 @@ class Moment(NamedTuple):
             if found:
                 return found
         return []
+
+    def without_labels(self) -> "Moment":
+        """The same without what has labels, as the layers of all shards: what is kept of moments that are over."""
+        return self._replace(stats={name: value for name, value in self.stats.items() if "{" not in name})
 
     def layers(self) -> List["Layer"]:
         """The layers of each shard, in order."""
@@ -133,13 +141,33 @@ def asking(tcp: Optional[str], unix: Optional[str], timeout: Optional[float]) ->
     return Client(tcp=tcp, unix=unix, timeout=TIMEOUT if timeout is None else timeout, attempts=1)
 
 
+def process_of(hhm: Client) -> Dict[str, Value]:
+    """What the system tells of the process at the other end of a Unix socket, by the names that stats have for it;
+    nothing where there is no such process here, or it may not be looked at."""
+    try:
+        peer = hhm._link._socket.getsockopt(socket.SOL_SOCKET, socket.SO_PEERCRED, struct.calcsize("3i"))
+        process = struct.unpack("3i", peer)[0]
+        with open(f"/proc/{process}/statm") as file:
+            pages = int(file.read().split()[1])
+        with open(f"/proc/{process}/stat") as file:
+            words = file.read().rpartition(")")[2].split()
+        with open("/proc/uptime") as file:
+            now = float(file.read().split()[0])
+    except (AttributeError, OSError):
+        return {}
+    ticks = os.sysconf("SC_CLK_TCK")
+    return {"resident_bytes": pages * os.sysconf("SC_PAGE_SIZE"), "uptime_seconds": round(now - int(words[19]) / ticks, 2),
+            "processor_seconds_total": (int(words[11]) + int(words[12])) / ticks}
+
+
 class Watched:
     """A server that is looked at by a client. `look` may be called from one thread at a time."""
 
     def __init__(self, hhm: Client, most: int = 10):
         self.place = f"unix:{hhm.unix}" if hhm.tcp is None else hhm.tcp
         self.hhm = hhm
-        self.moments: Deque[Moment] = deque(maxlen=KEPT)
+        # (a list that is replaced, and never changed: another thread may read it)
+        self.moments: List[Moment] = []
         self.unknown: Dict[str, bool] = {}
         self._top = Seldom(lambda: self.hhm.top(most), PAUSE, SHARE)
         self._degrees = Seldom(self._ask_degrees, LONG_PAUSE, LONG_SHARE)
@@ -150,14 +178,20 @@ class Watched:
             status, _ = self._timed(self.hhm.status) if self.hhm._link is None else (None, 0)
             status, status_seconds = self._timed(self.hhm.status)
             _, cell_seconds = self._timed(lambda: self.hhm.cell(0, 0))
-            stats = self.known("stats", self.hhm.stats) or {}
+            stats = {**self._stored(), **process_of(self.hhm), **(self.known("stats", self.hhm.stats) or {})}
         except OSError:
             # (another server may be there next time)
             self.unknown.clear()
             raise
         moment = Moment(time.time(), status, stats, status_seconds, cell_seconds)
-        self.moments.append(moment)
+        before = self.moments[1 - KEPT :]
+        self.moments = [*before[:-1], *(it.without_labels() for it in before[-1:]), moment]
         return moment
+
+    def _stored(self) -> Dict[str, Value]:
+        """How many batches are durable."""
+        stored = self.known("stored", self.hhm.stored)
+        return {} if stored is None else {"durable_batches": stored.batches}
 
     def top(self) -> Optional[List[TopRow]]:
         """The rows that lead by total, as they were lately; None where the server doesn't know the question."""
@@ -169,7 +203,7 @@ class Watched:
 
     def rate(self, read: Callable[[Moment], Optional[float]], seconds: float = 1.0) -> Optional[float]:
         """How much a number rises in a second, over the last so many; None where it isn't told."""
-        return rate_of(list(self.moments), read, seconds)
+        return rate_of(self.moments, read, seconds)
 
     def known(self, name: str, ask: Callable[[], Answer]) -> Optional[Answer]:
         """An answer; None of a server that refuses the question, which isn't asked it again where it doesn't know it."""

@@ -48,7 +48,8 @@ HELP = {
     "processor_seconds_total": "Processor time of the server.", "uptime_seconds": "Seconds since the server began.",
     "saves_total": "Saves that were made.", "failed_saves_total": "Saves that failed.",
     "saved_batches": "Batches of the last save.", "save_age_seconds": "Seconds since the last save.",
-    "log_durable_batches": "Batches that the log has on its disk.", "log_pages": "Pages of the log.",
+    "log_durable_batches": "Batches that the log has on its disk.",
+    "durable_batches": "Accepted batches that no crash takes back.", "log_pages": "Pages of the log.",
     "log_syncs_total": "Syncs of the log.", "log_group_batches": "Batches of the log's last group.",
     "shard_layer_entries": "Entries of a layer of a shard, at most.", "shard_layer_runs": "Runs of a layer of a shard.",
 }
@@ -79,7 +80,6 @@ class Looker:
 
     def look(self) -> None:
         try:
-            # (what readers copy meanwhile changes by whole moments alone)
             self.seen.look()
             if time.monotonic() - self.viewed < VIEWED:
                 self.top = self.seen.top()
@@ -92,8 +92,6 @@ class Looker:
         with self.lock:
             self.fault = fault
 
-    def moments(self) -> List[Moment]:
-        return list(self.seen.moments)
 
 
 def whole(number: Any) -> Any:
@@ -103,7 +101,7 @@ def whole(number: Any) -> Any:
 
 def series_of(moments: List[Moment], since: float, gap: float) -> Dict[str, List[Optional[float]]]:
     """What is drawn over time, of the moments behind a time; nothing said of the time in which the server was gone."""
-    found: Dict[str, List[Any]] = {name: [] for name in ("at", "batches", "events", "memory", "status_ms", "cell_ms")}
+    found: Dict[str, List[Any]] = {name: [] for name in ("at", "batches", "total", "memory", "status_ms", "cell_ms")}
     for before, now in zip([None, *moments], moments):
         if now.at <= since:
             continue
@@ -113,7 +111,7 @@ def series_of(moments: List[Moment], since: float, gap: float) -> Dict[str, List
                 values.append(None)
             found["at"][-1] = now.at - 0.001
         found["at"].append(now.at)
-        for name, read in (("batches", Moment.batches), ("events", Moment.total)):
+        for name, read in (("batches", Moment.batches), ("total", Moment.total)):
             rise = max(0, read(now) - read(before)) / (now.at - before.at) if is_near else None
             found[name].append(rise)
         found["memory"].append(now.number(*MEMORY))
@@ -125,7 +123,7 @@ def series_of(moments: List[Moment], since: float, gap: float) -> Dict[str, List
 def page_stats(looker: Looker, since: float, is_ip: bool) -> Dict[str, Any]:
     """What the page draws."""
     looker.viewed = time.monotonic()
-    moments, seen = looker.moments(), looker.seen
+    moments, seen = looker.seen.moments, looker.seen
     last = moments[-1] if moments else None
     told: Dict[str, Any] = {
         "place": seen.place, "now": time.time(), "is_ip": is_ip, "fault": looker.fault,
@@ -134,7 +132,7 @@ def page_stats(looker: Looker, since: float, is_ip: bool) -> Dict[str, Any]:
     }
     if last is None:
         return told
-    rates = {"batches": Moment.batches, "events": Moment.total, "cells": lambda it: it.number(*CELLS),
+    rates = {"batches": Moment.batches, "total": Moment.total, "cells": lambda it: it.number(*CELLS),
              "processor": lambda it: it.number(*PROCESSOR)}
     degrees = looker.degrees
     numbers = {name: whole(last.number(*names)) for name, names in NUMBERS.items()}
@@ -153,7 +151,7 @@ def page_stats(looker: Looker, since: float, is_ip: bool) -> Dict[str, Any]:
 
 def metrics_of(looker: Looker) -> str:
     """All that is told, in the text format of Prometheus. Of a server that is gone only that it is."""
-    moments = looker.moments()
+    moments = looker.seen.moments
     families: Dict[str, List[str]] = {"up": ["hhm_up " + ("1" if looker.fault is None else "0")]}
     if looker.fault is None and moments:
         last = moments[-1]
@@ -174,7 +172,7 @@ def metrics_of(looker: Looker) -> str:
 
 def help_of(name: str) -> str:
     """What is said of a name that only the server explains."""
-    return f"{name} of the server's stats, as docs/FORMATS.md has it."
+    return f"{name}, as the server tells it."
 
 
 class Handler(BaseHTTPRequestHandler):

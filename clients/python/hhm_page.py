@@ -63,7 +63,7 @@ label { font-size: .9rem; }
 <dl class="tiles" id="tiles"></dl>
 <div class="parts">
 <section id="batches"></section>
-<section id="events"></section>
+<section id="total"></section>
 <section id="latency"></section>
 <section id="memory"></section>
 <section id="top"></section>
@@ -191,59 +191,68 @@ function minutes(series, told) {
   const heads = series.flatMap((it) => [it.name + ", mean", "highest"]);
   return table("By minutes, the last one first", ["From", ...heads], lines);
 }
-function drawLines(id, title, series, told) {
-  if (!kept.at.length || !series.some((it) => it.values.some((value) => value !== null))) {
-    at(id).hidden = true;
-    return;
-  }
+// Where times and values lie in a picture, up to now and to the highest value.
+function planeOf(id, series) {
   const width = Math.max(260, at(id).clientWidth - 26), height = 190, left = 62, right = 10, top = 8, bottom = 22;
   const end = Math.max(last.now, kept.at[kept.at.length - 1]), most = highest(series.flatMap((it) => it.values));
   const span = Math.min(KEPT, Math.max(60, end - kept.at[0]));
   const x = (time) => left + (width - left - right) * (1 - (end - time) / span);
   const y = (value) => height - bottom - (height - top - bottom) * value / most;
-  const label = title + ", over ten minutes at most: " +
-    series.map((it) => (series.length > 1 ? it.name + " " : "") + summary(it.values, told)).join("; ");
-  const picture = shape("svg", {viewBox: `0 0 ${width} ${height}`, role: "img", "aria-label": label});
+  return {width, height, left, right: width - right, top, bottom: height - bottom, end, span, most, x, y};
+}
+function rule(picture, plane, told) {
   for (let part = 0; part <= 4; part += 1) {
-    const value = most * part / 4;
-    const kind = part ? "grid" : "axis";
-    picture.append(shape("line", {class: kind, x1: left, x2: width - right, y1: y(value), y2: y(value)}));
-    picture.append(shape("text", {x: left - 6, y: y(value) + 4, "text-anchor": "end"},
-      told === big ? tick(value) : told(value)));
+    const value = plane.most * part / 4, level = plane.y(value);
+    picture.append(shape("line", {class: part ? "grid" : "axis", x1: plane.left, x2: plane.right, y1: level, y2: level}),
+      shape("text", {x: plane.left - 6, y: level + 4, "text-anchor": "end"}, told === big ? tick(value) : told(value)));
   }
-  const step = [15, 30, 60, 120, 300].find((it) => span / it <= (width < 420 ? 3 : 5)) || 300;
-  for (let back = 0; back <= span; back += step) {
+  const step = [15, 30, 60, 120, 300].find((it) => plane.span / it <= (plane.width < 420 ? 3 : 5)) || 300;
+  for (let back = 0; back <= plane.span; back += step) {
     const words = back === 0 ? "now" : step < 60 ? "\u2212" + back + " s" : "\u2212" + back / 60 + " min";
-    picture.append(shape("text", {x: x(end - back), y: height - 5,
-      "text-anchor": back === 0 ? "end" : back > span - 1 ? "start" : "middle"}, words));
+    picture.append(shape("text", {x: plane.x(plane.end - back), y: plane.height - 5,
+      "text-anchor": back === 0 ? "end" : back > plane.span - 1 ? "start" : "middle"}, words));
   }
-  for (const it of series) {
-    let path = "", isDown = false;
-    it.values.forEach((value, index) => {
-      if (value === null || end - kept.at[index] > span) { isDown = false; return; }
-      path += (isDown ? "L" : "M") + x(kept.at[index]).toFixed(1) + " " + y(value).toFixed(1);
-      isDown = true;
-    });
-    picture.append(shape("path", {class: "line " + it.role, d: path || "M0 0"}));
-  }
-  const pointed = shape("line", {class: "axis", y1: top, y2: height - bottom, visibility: "hidden"});
-  picture.append(pointed);
+}
+function trace(plane, values) {
+  let path = "", isDown = false;
+  values.forEach((value, index) => {
+    const isSeen = value !== null && plane.end - kept.at[index] <= plane.span;
+    if (isSeen) path += (isDown ? "L" : "M") + plane.x(kept.at[index]).toFixed(1) + " " + plane.y(value).toFixed(1);
+    isDown = isSeen;
+  });
+  return path || "M0 0";
+}
+// What the lines are, or what they were at the time that is pointed at.
+function legendOf(picture, plane, series, told) {
   const says = el("div", {class: "quiet"});
-  const legend = () => says.replaceChildren(...series.map((it) => el("p", {},
-    el("span", {class: "key", style: `background:var(--${it.role})`}), it.name + ": " + summary(it.values, told))));
-  legend();
+  const pointed = shape("line", {class: "axis", y1: plane.top, y2: plane.bottom, visibility: "hidden"});
+  const leave = () => {
+    pointed.setAttribute("visibility", "hidden");
+    says.replaceChildren(...series.map((it) => el("p", {},
+      el("span", {class: "key", style: `background:var(--${it.role})`}), it.name + ": " + summary(it.values, told))));
+  };
+  picture.append(pointed);
+  picture.addEventListener("pointerleave", leave);
   picture.addEventListener("pointermove", (event) => {
-    const box = picture.getBoundingClientRect(), place = (event.clientX - box.left) * width / box.width;
-    let nearest = 0;
-    kept.at.forEach((time, index) => {
-      if (Math.abs(x(time) - place) < Math.abs(x(kept.at[nearest]) - place)) nearest = index;
-    });
-    const here = x(kept.at[nearest]);
-    pointed.setAttribute("x1", here); pointed.setAttribute("x2", here); pointed.setAttribute("visibility", "visible");
+    const box = picture.getBoundingClientRect(), place = (event.clientX - box.left) * plane.width / box.width;
+    const far = kept.at.map((time) => Math.abs(plane.x(time) - place)), nearest = far.indexOf(Math.min(...far));
+    for (const key of ["x1", "x2"]) pointed.setAttribute(key, plane.x(kept.at[nearest]));
+    pointed.setAttribute("visibility", "visible");
     says.textContent = clock(kept.at[nearest]) + ": " + series.map((it) => it.name + " " +
       (it.values[nearest] === null ? "?" : told(it.values[nearest]))).join(", ");
   });
-  picture.addEventListener("pointerleave", () => { pointed.setAttribute("visibility", "hidden"); legend(); });
+  leave();
+  return says;
+}
+function drawLines(id, title, series, told) {
+  at(id).hidden = !kept.at.length || !series.some((it) => it.values.some((value) => value !== null));
+  if (at(id).hidden) return;
+  const plane = planeOf(id, series), label = title + ", over ten minutes at most: " +
+    series.map((it) => (series.length > 1 ? it.name + " " : "") + summary(it.values, told)).join("; ");
+  const picture = shape("svg", {viewBox: `0 0 ${plane.width} ${plane.height}`, role: "img", "aria-label": label});
+  rule(picture, plane, told);
+  for (const it of series) picture.append(shape("path", {class: "line " + it.role, d: trace(plane, it.values)}));
+  const says = legendOf(picture, plane, series, told);
   fill(id, title, picture, says, behind(id, "As a table", minutes(series, told)));
 }
 
@@ -283,7 +292,8 @@ function drawDegrees(degrees) {
   function words(bin) { return bin[0] === bin[1] ? big(bin[0]) : big(bin[0]) + " to " + big(bin[1]); }
   const lines = degrees.bins.map((it) => [cell(words(it)), cell(big(it[2]))]);
   const note = "Of " + part + ", as of " + clock(degrees.at) + ".";
-  fill("degrees", "Degrees of rows", picture, el("p", {class: "quiet"}, note), behind("degrees", "As a table", table("Rows by their numbers of entries", ["Entries", "Rows"], lines)));
+  fill("degrees", "Degrees of rows", picture, el("p", {class: "quiet"}, note),
+    behind("degrees", "As a table", table("Rows by their numbers of entries", ["Entries", "Rows"], lines)));
 }
 
 // The rest.
@@ -297,7 +307,8 @@ function drawTop(top) {
   box.addEventListener("change", () => { isIp = box.checked; drawTop(last.top); at("ip").focus(); });
   const isHere = document.activeElement && document.activeElement.id === "ip";
   const rows = table("The highest total first", ["Row", "Entries", "Total"], lines);
-  fill("top", "Rows that lead by total", top.length ? rows : el("p", {}, "No row has an entry."), el("label", {}, box, " Rows as IPv4 addresses"));
+  fill("top", "Rows that lead by total", top.length ? rows : el("p", {}, "No row has an entry."),
+    el("label", {}, box, " Rows as IPv4 addresses"));
   if (isHere) at("ip").focus();
 }
 function drawLayers(layers) {
@@ -319,7 +330,7 @@ function drawLayers(layers) {
 function drawTold(stats) {
   if (!stats.length) { at("told").hidden = true; return; }
   const lines = stats.map((it) => [cell(it[0]), cell(typeof it[1] === "number" ? String(it[1]) : it[1])]);
-  fill("told", "All that the server tells", behind("told", "As a table", table("", ["Name", "Value"], lines)));
+  fill("told", "All that is told", behind("told", "As a table", table("", ["Name", "Value"], lines)));
 }
 function drawTiles(now) {
   const found = [];
@@ -327,7 +338,7 @@ function drawTiles(now) {
   const told = (key) => now.numbers[key];
   const number = (key) => told(key) === null ? null : big(told(key));
   tile("Batches", big(now.batches), now.rates.batches === null ? "" : big(now.rates.batches) + " a second");
-  tile("Events", big(now.total), now.rates.events === null ? "" : big(now.rates.events) + " a second");
+  tile("Total", big(now.total), now.rates.total === null ? "" : big(now.rates.total) + " a second");
   if (now.rates.cells !== null) tile("Cells put", number("cells"), big(now.rates.cells) + " a second");
   tile("Repeats", number("repeats"));
   tile("Refused", number("refused"), now.refused.map((it) => it[0] + " " + big(it[1])).join(", "));
@@ -367,7 +378,7 @@ function draw(now) {
   keep(now.series);
   const since = now.answered ? " since " + clock(now.answered) : "";
   const then = now.answered ? ". What is shown is from then." : "";
-  const lacks = " It is of an earlier version, which doesn't tell " + now.lacking.join(" and ") + ".";
+  const lacks = " It doesn't tell " + now.lacking.join(" and ") + ".";
   if (now.fault) say("No answer from the server" + since + ": " + now.fault + then, true);
   else if (now.answered) say("The server answers." + (now.lacking.length ? lacks : ""), false);
   if (!now.answered) return;
@@ -383,7 +394,7 @@ function redraw() {
   if (!now) return;
   drawTiles(now);
   drawLines("batches", "Batches a second", [{name: "batches", values: kept.batches, role: "first"}], big);
-  drawLines("events", "Events a second", [{name: "events", values: kept.events, role: "first"}], big);
+  drawLines("total", "Rise of the total in a second", [{name: "total", values: kept.total, role: "first"}], big);
   drawLines("latency", "Latency of a status and of a cell", [{name: "status", values: kept.status_ms, role: "first"},
     {name: "cell", values: kept.cell_ms, role: "second"}], millis);
   drawLines("memory", "Memory", [{name: "resident", values: kept.memory, role: "first"}], bytes);

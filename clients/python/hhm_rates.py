@@ -2,8 +2,8 @@
 
     hhmc --unix /run/hhm/hhm.sock plot rates --seconds 120 rates.svg
 
-The server is looked at once a second, and each look is drawn: batches a second above, and events a second, counts of 1,
-below. What several clients put meanwhile is drawn together.
+The server is looked at once a second, and each look is drawn: batches a second above, and how much the total of
+all counts rises in a second below. What several clients put meanwhile is drawn together.
 """
 import argparse
 import math
@@ -67,15 +67,15 @@ def panel(name: str, rates: Rates, seconds: float, top: float, bottom: float, ro
 
 
 def rates_page(moments: Sequence[Moment], place: str) -> Page:
-    """The rates of batches and of events."""
+    """The rates of batches and of the total."""
     batches = rates_of(moments, [it.batches() for it in moments])
-    events = rates_of(moments, [it.total() for it in moments])
+    totals = rates_of(moments, [it.total() for it in moments])
     seconds = batches.at[-1]
     title = f"Accepted in {seconds:,.0f} seconds: {moments[-1].batches() - moments[0].batches():,} batches, " \
-            f"{moments[-1].total() - moments[0].total():,} events"
+            f"total {moments[-1].total() - moments[0].total():,}"
     shapes = [Words((24, 30), title, is_strong=True), *panel("batches", batches, seconds, 84, 254, "first"),
-              *panel("events", events, seconds, 330, 500, "second")]
-    told = f"{title}, by {place}; batches: {batches.told()}; events: {events.told()}"
+              *panel("total", totals, seconds, 330, 500, "second")]
+    told = f"{title}, by {place}; batches: {batches.told()}; total: {totals.told()}"
     return Page(WIDTH, 540, title, told, shapes)
 
 
@@ -86,5 +86,5 @@ def looked_at(hhm: Client, given: argparse.Namespace) -> Tuple[List[Moment], str
     while len(moments) < 2 or time.monotonic() - begin < given.seconds:
         pause = begin + len(moments) * min(1.0, given.seconds) - time.monotonic()
         time.sleep(max(0.0, pause))
-        moments.append(seen.look())
+        moments.append(seen.look().without_labels())
     return moments, seen.place

@@ -6,8 +6,8 @@ This is the word `watch` of `hhm_client.py`:
     hhmc --unix /run/hhm/hhm.sock watch --once      # lines `name value ..`, once
 
 Where standard output is no terminal, the lines come once a second. A server that is gone is waited for. What it doesn't
-tell, as one of an earlier version does, is left out. Rates are those of the last second; batches, events and cells are
-those that were accepted, an event being a count of 1.
+tell is left out. Rates are those of the last seconds: how much the numbers
+of accepted batches and cells rise in a second, and the total of their counts.
 """
 import argparse
 import contextlib
@@ -29,7 +29,7 @@ PROCESSOR = ("processor_seconds_total",)
 UPTIME = ("uptime_seconds",)
 SAVES, FAILED, SAVED, SINCE = ("saves_total",), ("failed_saves_total",), ("saved_batches",), ("save_age_seconds",)
 OPEN, WAITING, SERVED, WORKERS = ("sessions_open",), ("sessions_waiting",), ("sessions_total",), ("workers",)
-DURABLE, PAGES, SYNCS, GROUP = ("log_durable_batches",), ("log_pages",), ("log_syncs_total",), ("log_group_batches",)
+DURABLE, PAGES, SYNCS, GROUP = ("log_durable_batches", "durable_batches"), ("log_pages",), ("log_syncs_total",), ("log_group_batches",)
 # The widest bar of a layer, and how long a look back a rate takes.
 BAR = 40
 BACK = 5.0
@@ -93,7 +93,7 @@ def facts_of(seen: Watched, moment: Moment) -> Iterator[List[str]]:
     begun = [("version", moment.stats.get("version")), ("uptime", time_told(up) if (up := number(*UPTIME)) else None)]
     yield [word for name, value in begun if value is not None for word in (name, str(value))]
     yield ["batches", big(moment.batches()), "total", big(moment.total())]
-    rates = [("batches", Moment.batches), ("events", Moment.total), ("cells", lambda it: it.number(*CELLS))]
+    rates = [("batches", Moment.batches), ("total", Moment.total), ("cells", lambda it: it.number(*CELLS))]
     told = [(name, seen.rate(read, BACK)) for name, read in rates]
     yield [word for name, rate in told if rate is not None for word in (f"{name}/s", big(rate))]
     yield pairs(("repeats", number(*REPEATS)), ("refused", refused_of(moment))) + refusals_of(moment)
@@ -103,7 +103,7 @@ def facts_of(seen: Watched, moment: Moment) -> Iterator[List[str]]:
     yield ([] if memory is None else ["memory", bytes_told(memory)]) + (
         [] if processor is None else ["processor", f"{100 * processor:.0f} %"])
     yield from saves_of(moment)
-    yield pairs(("log: durable", number(*DURABLE)), ("pages", number(*PAGES)), ("syncs", number(*SYNCS)),
+    yield pairs(("durable", number(*DURABLE)), ("pages", number(*PAGES)), ("syncs", number(*SYNCS)),
                 ("last group", number(*GROUP)))
     yield ["status", f"{1000 * moment.status_seconds:.2f} ms", "cell", f"{1000 * moment.cell_seconds:.2f} ms"]
 
@@ -137,7 +137,7 @@ def lines_of(seen: Watched, moment: Moment, top: Optional[List[TopRow]], is_ip: 
 
 def lacking(seen: Watched) -> List[str]:
     """What the server doesn't know."""
-    words = {"stats": "stats: its version doesn't tell them", "top": "top rows: its version doesn't tell them"}
+    words = {"stats": "stats: this server doesn't tell them", "top": "top rows: this server doesn't tell them"}
     return [words[name] for name in words if seen.unknown.get(name)]
 
 

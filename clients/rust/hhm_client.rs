@@ -626,7 +626,8 @@ impl Client {
         self.read(top_of(&body, most, by))
     }
 
-    /// What the server tells of itself: names of `docs/FORMATS.md`, and values. A program takes those that it knows.
+    /// What the server tells of itself: names, of which a program takes those that it knows, and values. One that
+    /// doesn't know the question refuses it (code 51).
     pub fn stats(&mut self) -> Result<Vec<(String, String)>, Error> {
         let body = self.ask(&request(12, &[]), TOLD)?;
         self.read(stats_of(body))
