@@ -80,7 +80,28 @@ fn accept_at(book: &mut Book, alloc: Global, setup: &Setup, n: usize) -> Result<
     Ok(())
 }
 
-// The list of a book of the first so many batches.
+// Accepts the first so many batches.
+fn accept_all(book: &mut Book, alloc: Global, setup: &Setup, count: usize) -> Result<(), Stop>
+    requires { book.old.setup ≡ setup.now }
+    ensures { book.new.setup ≡ setup.now }
+{
+    'places: for n in 0..count {
+        accept_at(book, alloc, setup, n)?;
+    }
+    Ok(())
+}
+
+// All that a book has.
+fn listed(book: &Book, alloc: Global) -> Result<BookList, Stop>
+    ensures { IfOk result (λ list. AreAccepted book.now.setup (accepted_in list)) }
+{
+    match book.book_list(alloc) {
+        Ok(list) => Ok(list),
+        Err(_) => Err(Stop::Memory),
+    }
+}
+
+// The list of a book of the first so many batches. The book has one way out, since each is proved for itself.
 fn list_in<R: RandomSource>(
     rt: &R,
     alloc: Global,
@@ -90,13 +111,12 @@ fn list_in<R: RandomSource>(
     ensures { IfOk result (λ list. AreAccepted setup.now (accepted_in list)) }
 {
     let mut book = Book::new(rt, alloc, setup)?;
-    'places: for n in 0..count {
-        accept_at(&mut book, alloc, setup, n)?;
-    }
-    match book.book_list(alloc) {
-        Ok(list) => Ok(list),
-        Err(_) => Err(Stop::Memory),
-    }
+    let list = match accept_all(&mut book, alloc, setup, count) {
+        Ok(()) => listed(&book, alloc),
+        Err(stop) => Err(stop),
+    };
+    drop(book);
+    list
 }
 
 impl Plan {

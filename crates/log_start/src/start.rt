@@ -197,9 +197,10 @@ pub fn start_log<F: LogFolder>(
     ensures failures { OnOk result (F.failure_count folder.new ≡ F.failure_count folder.old) }
     ensures why { IfErr result (λ fault.
         FailsToFind F.call_gives folder.old folder.new (F.failure_count folder.old) (F.failure_count folder.new) fault
-        ⊎ RefusesStart (F.tells folder.old) (F.stored folder.old) F.Disk.tells F.Disk.written F.Disk.may_leave
+        ⊎ ((found : F) × HasFound F.call_gives folder.old found
+        × RefusesStart (F.tells folder.old) (F.stored folder.old) F.Disk.tells F.Disk.written F.Disk.may_leave
         F.Disk.moment F.Disk.left_since F.Disk.failure_count F.Disk.in_doubt kept.0 kept.1 setup.now known
-        (F.failure_count folder.old) (F.failure_count folder.new) fault) }
+        (F.failure_count folder.old) (F.failure_count folder.new) fault)) }
 {
     match find_log(folder) {
         Err(FindFault::Sync) => Err(StartFault::Sync),

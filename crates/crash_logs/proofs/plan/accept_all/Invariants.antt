@@ -1,5 +1,5 @@
 use Rattle.std.proofs.Common.{◌≡◌}
-use Rattle.crash_logs.proofs.plan.list_in.Given as goal
+use Rattle.crash_logs.proofs.plan.accept_all.Given as goal
 
 abbrev pub invariant-places : goal.invariant-places
-invariant-places g l = l.book.setup ≡ l.setup
+invariant-places l = l.book.setup ≡ l.setup
