@@ -1,8 +1,8 @@
 -- What reading one more block does to a sum of a text: it goes on, ends or stops, and the sum takes the block or not.
 use Rattle.std.proofs.Common.{◌≡◌, ◌≢◌, ℕ, ◌+◌, ◌<◌, ◌^◌, Bool, true, false, List, [], ◌++◌, length, Option, Some}
-use Rattle.std.proofs.Common.{Result, Ok, Err, refl, sym, ◌∙◌, ap, subst, arith, get_or, inl, inr, append_assoc, drop}
-use Rattle.std.proofs.Common.{◌≤◌, ◌-◌, zero, suc}
-use Rattle.std.proofs.lemmas.List.{get_or-append-add, length-append, length-take, append-nil}
+use Rattle.std.proofs.Common.{Result, Ok, Err, refl, sym, ◌∙◌, ap, subst, arith, get_or, inl, inr, append_assoc}
+use Rattle.std.proofs.Common.{◌≤◌, zero, suc}
+use Rattle.std.proofs.lemmas.List.{get_or-append-add, length-append, append-nil}
 use Rattle.std.specs.Prelude.{None, IfOk, IfErr}
 use Rattle.byte_io.specs.Streams.{bytes_of_calls}
 use Rattle.byte_io.specs.declared.fault.DeviceFault.{DeviceFault}
@@ -40,7 +40,7 @@ within_back r c xs ys h k d l =
     (omega (arith, length-append xs ys)) in
     subst (IsWithin r c) e at
 
-same_some : (x y : Size) → Some x ≡ Some y → x ≡ y
+pub same_some : (x y : Size) → Some x ≡ Some y → x ≡ y
 same_some x y e = cc
 
 -- the cells of a whole text lie within its dimensions
@@ -126,26 +126,27 @@ module _ {S : Type 0} (gives : S → Result (List ℕ) DeviceFault → S → Typ
       (none : IsUnsummed gives at_end failures s t) × (none.cells ≡ cells)
   handed_unsummed s t reader cells out fits =
       let read = out.has_read in (
-      record {
-        answers = out.answers;
-        calls = out.calls;
-        reads = omega (arith, read.reads, read.room_is);
-        none_failed = out.none_failed;
-        before = read.judged;
-        behind = pending reader ++ read.beyond;
-        text_is = read.text_is ∙ append_assoc read.judged (pending reader) read.beyond;
-        near = omega (
-          arith,
-          pending_short reader,
-          beyond_short reader.room read.beyond read.none_beyond read.one_beyond,
-          length-append (pending reader) read.beyond,
-        );
-        none_within = held_none sum_limits read.judged _ _ cells _ read.holds;
-        cells = cells;
-        cells_are = inl (state_of reader.lines, read.holds);
-        fits = fits;
-      },
-      refl)
+        record {
+          answers = out.answers;
+          calls = out.calls;
+          reads = omega (arith, read.reads, read.room_is);
+          none_failed = out.none_failed;
+          before = read.judged;
+          behind = pending reader ++ read.beyond;
+          text_is = read.text_is ∙ append_assoc read.judged (pending reader) read.beyond;
+          near = omega (
+            arith,
+            pending_short reader,
+            beyond_short reader.room read.beyond read.none_beyond read.one_beyond,
+            length-append (pending reader) read.beyond,
+          );
+          none_within = held_none sum_limits read.judged _ _ cells _ read.holds;
+          cells = cells;
+          cells_are = inl (state_of reader.lines, read.holds);
+          fits = fits;
+        },
+        refl,
+      )
 
   -- The same with the cells of texts before it.
   unsummed : (earlier : List Cell) (s t : S) (reader : TextReader) (cells : List Cell) →

@@ -1,16 +1,17 @@
 -- What one text more does to those before it.
-use Rattle.std.proofs.Common.{◌≡◌, ◌≢◌, ℕ, ◌+◌, ◌<◌, ◌≤◌, ◌^◌, List, [], ◌∷◌, ◌++◌, length, Result, Ok, Err, refl, sym}
-use Rattle.std.proofs.Common.{◌∙◌, ap, subst, arith, inl, inr, append_assoc, Option, Some}
+use Rattle.std.proofs.Common.{◌≡◌, ℕ, ◌+◌, ◌≤◌, ◌^◌, List, [], ◌∷◌, ◌++◌, length, Result, Ok, refl, sym}
+use Rattle.std.proofs.Common.{◌∙◌, ap, subst, arith, inl, inr, append_assoc, Bool, Some}
 use Rattle.std.proofs.lemmas.List.{length-append, append-nil}
-use Rattle.std.specs.Prelude.{None}
 use Rattle.byte_io.specs.declared.fault.DeviceFault.{DeviceFault}
 use Rattle.cells.proofs.SumLaws.{total-append}
 use Rattle.cells.specs.declared.cell.Cell.{Cell}
 use Rattle.mm_text.specs.declared.size.Size.{Size}
+use Rattle.mm_text.specs.declared.text_reader.TextReader.{TextReader}
+use Rattle.mm_sum.proofs.ReadLemmas.{begun_summed}
 use Rattle.hyper_matrix.specs.Cells.{cell_total}
 use Rattle.mm_sum.specs.Running.{IsSumOf, RefusesSum}
-use Rattle.mm_sum.specs.Reading.{Excuses, AddsText, HasSummed}
-use Rattle.mm_sum.specs.Several.{joined, ReadsTexts, SumsTexts, Tells, IsUnsummedBehind}
+use Rattle.mm_sum.specs.Reading.{Begins, IsSummed, Excuses, AddsText, HasSummed}
+use Rattle.mm_sum.specs.Several.{joined, ReadsTexts, AreUnsummed, Tells}
 use Rattle.mm_sum.specs.Steps.{IsOpening, AddsNext, TellsNext, HaveSummed, TellsRead}
 use Rattle.mm_sum.specs.Faults.{fault_within}
 use Rattle.mm_sum.specs.Sum.{ReadsText}
@@ -22,7 +23,7 @@ use Rattle.mm_sum.specs.declared.fault.TextsFault.{TextsFault}
 use Rattle.mm_sum.specs.declared.fault.TextsFault.TheVariants as fault
 
 -- a cell whose count alone passes 64 bits
-abbrev passing : List Cell
+abbrev pub passing : List Cell
 passing = record { row = 0; col = 0; count = 2 ^ 64 } ∷ []
 
 pub passing_total : (cells : List Cell) → 2 ^ 64 ≤ cell_total (passing ++ cells)
@@ -43,6 +44,29 @@ module _ {S : Type 0} (gives : S → Result (List ℕ) DeviceFault → S → Typ
   told_behind_any earlier s t one.BadCuts h = absurd h
   told_behind_any earlier s t one.SumTooLarge h = absurd h
   told_behind_any earlier s t (one.Output text) h = absurd h
+
+  -- The first block of a text of these dimensions was added to the sum of those before it.
+  pub next_begun : (earlier : List Cell) (s t : S) (reader : TextReader) (own size : Size) (block : List Cell)
+      (added : RunningSum) (more : Bool) → (own.rows ≡ size.rows) × (own.cols ≡ size.cols) →
+      Begins gives at_end failures s t reader own block more →
+      IsSumOf size.rows size.cols (earlier ++ block) added →
+      IsSummed gives at_end failures earlier s t reader own added more
+  next_begun earlier s t reader own size block added more same begun is =
+      begun_summed gives at_end failures earlier s t reader own block added more begun
+      (subst (λ (n : ℕ). IsSumOf n own.cols (earlier ++ block) added) (sym same.0)
+      (subst (λ (n : ℕ). IsSumOf size.rows n (earlier ++ block) added) (sym same.1) is))
+
+  -- It was read to its end.
+  pub next_ended : (earlier : List Cell) (s t : S) (own size : Size) (sum : RunningSum) →
+      (own.rows ≡ size.rows) × (own.cols ≡ size.cols) → HasSummed gives at_end failures earlier s t own sum →
+      AddsText gives at_end failures earlier s t size (Some sum)
+  next_ended earlier s t own size sum same held = (
+    held.cells,
+    subst (λ (n : ℕ). ReadsText gives at_end failures s t n size.cols held.cells) same.0
+        (subst (λ (n : ℕ). ReadsText gives at_end failures s t own.rows n held.cells) same.1 held.reads_text),
+    subst (λ (n : ℕ). IsSumOf n size.cols (earlier ++ held.cells) sum) same.0
+        (subst (λ (n : ℕ). IsSumOf own.rows n (earlier ++ held.cells) sum) same.1 held.sum_is),
+  )
 
   module _ (opens : S → Result (Unit {0}) OpenFault → S → Type 0) where
     reads_behind : (s t opened u : S) (rows cols : ℕ) (lists : List (List Cell)) (list : List Cell) →
@@ -102,34 +126,34 @@ module _ {S : Type 0} (gives : S → Result (List ℕ) DeviceFault → S → Typ
 
     -- what is told of a text is told behind those before it
     pub told_behind : (s t u : S) (size : Size) (text : ℕ) (lists : List (List Cell)) → length lists ≡ text →
-        (0 < text) → ReadsTexts gives at_end failures opens s t size.rows size.cols lists → (told : TextsFault) →
+        ReadsTexts gives at_end failures opens s t size.rows size.cols lists → (told : TextsFault) →
         TellsNext gives at_end failures opens (joined lists) t u size text told →
         TellsRead gives at_end failures opens s u told
-    told_behind s t u size text lists count some reads (fault.File at told) h = record {
+    told_behind s t u size text lists count reads (fault.File at told) h = record {
       ended = t;
       before = record { rows = size.rows; cols = size.cols; lists = lists; count_is = count ∙ sym h.0; reads = reads };
       refused = h.1;
     }
-    told_behind s t u size text lists count some reads (fault.Text at told) h = record {
+    told_behind s t u size text lists count reads (fault.Text at told) h = record {
       ended = t;
       opened = h.1.0;
       before = record { rows = size.rows; cols = size.cols; lists = lists; count_is = count ∙ sym h.0; reads = reads };
       opens_it = h.1.1;
       stops = h.1.2;
     }
-    told_behind s t u size text lists count some reads (fault.DimensionsDiffer at) h = record {
+    told_behind s t u size text lists count reads (fault.DimensionsDiffer at) h = record {
       ended = t;
-      opened = h.1.0;
+      opened = h.2.0;
       before = record { rows = size.rows; cols = size.cols; lists = lists; count_is = count ∙ sym h.0; reads = reads };
-      some = omega (arith, some, h.0);
-      opens_it = h.1.1;
-      rows = h.1.2.0;
-      cols = h.1.2.1;
-      list = h.1.2.2;
-      reads_it = h.1.2.3;
-      differs = h.1.2.4;
+      some = omega (arith, h.0, h.1);
+      opens_it = h.2.1;
+      rows = h.2.2.0;
+      cols = h.2.2.1;
+      list = h.2.2.2;
+      reads_it = h.2.2.3;
+      differs = h.2.2.4;
     }
-    told_behind s t u size text lists count some reads fault.Memory h = record {
+    told_behind s t u size text lists count reads fault.Memory h = record {
       rows = size.rows;
       cols = size.cols;
       lists = lists;
@@ -137,6 +161,49 @@ module _ {S : Type 0} (gives : S → Result (List ℕ) DeviceFault → S → Typ
       reads = reads;
       place = inr h;
     }
-    told_behind s t u size text lists count some reads fault.BadCuts h = absurd h
-    told_behind s t u size text lists count some reads fault.SumTooLarge h = absurd h
-    told_behind s t u size text lists count some reads (fault.Output told) h = absurd h
+    told_behind s t u size text lists count reads fault.BadCuts h = absurd h
+    told_behind s t u size text lists count reads fault.SumTooLarge h = absurd h
+    told_behind s t u size text lists count reads (fault.Output told) h = absurd h
+
+    -- There was no memory to begin with.
+    pub told_none : (s : S) → AreUnsummed gives at_end failures opens s s
+    told_none s = record {
+      rows = 0;
+      cols = 0;
+      lists = [];
+      ended = s;
+      reads = refl;
+      place = inl (refl, omega arith);
+    }
+
+    -- what is told of the first text
+    pub told_first : (s u : S) (told : TextsFault) →
+        ((size : Size) → TellsNext gives at_end failures opens [] s u size 0 told) →
+        TellsRead gives at_end failures opens s u told
+    told_first s u told h =
+        let size : Size = record { rows = 0; cols = 0; entries = 0 } in
+        told_behind s s u size 0 [] refl refl told (h size)
+
+    -- All texts were read, and their sum has no list.
+    pub told_at_end : (s t : S) (count : ℕ) (sum : RunningSum)
+        (held : HaveSummed gives at_end failures opens s t count sum) (told : SumFault) →
+        RefusesSum (joined held.lists) told → Tells gives at_end failures opens s t count (fault_within 0 told)
+    told_at_end s t count sum held one.SumTooLarge h = record {
+      rows = held.rows;
+      cols = held.cols;
+      lists = held.lists;
+      count_is = held.count_is;
+      reads = held.reads;
+      passes = h;
+    }
+    told_at_end s t count sum held one.Memory h = record {
+      rows = held.rows;
+      cols = held.cols;
+      lists = held.lists;
+      ended = t;
+      reads = held.reads;
+      place = inl (refl, h);
+    }
+    told_at_end s t count sum held one.BadCuts h = absurd h
+    told_at_end s t count sum held (one.Text text) h = absurd h
+    told_at_end s t count sum held (one.Output text) h = absurd h

@@ -1,5 +1,5 @@
 -- One text more among several: what its opening and its reading do to the sum of those before it.
-use Rattle.std.specs.Prelude.{◌≡◌, ◌⊎◌, ℕ, List, ◌++◌, length, Result, Ok, Err}
+use Rattle.std.specs.Prelude.{◌≡◌, ◌⊎◌, ℕ, ◌<◌, List, ◌++◌, length, Result, Ok, Err}
 use Rattle.byte_io.specs.declared.fault.DeviceFault.{DeviceFault}
 use Rattle.cells.specs.declared.cell.Cell.{Cell}
 use Rattle.mm_text.specs.declared.size.Size.{Size}
@@ -33,7 +33,8 @@ module _ {S : Type 0} (gives : S → Result (List ℕ) DeviceFault → S → Typ
   TellsNext earlier s t size text (fault.File at told) = (at ≡ text) × opens s (Err told) t
   TellsNext earlier s t size text (fault.Text at told) = (at ≡ text) × ((opened : S) × opens s (Ok tt) opened
       × StopsText gives at_end failures opened t told.kind told.line)
-  TellsNext earlier s t size text (fault.DimensionsDiffer at) = (at ≡ text) × ((opened : S) × opens s (Ok tt) opened
+  TellsNext earlier s t size text (fault.DimensionsDiffer at) = (at ≡ text) × (0 < text)
+      × ((opened : S) × opens s (Ok tt) opened
       × ((rows cols : ℕ) × (list : List Cell) × ReadsText gives at_end failures opened t rows cols list
       × ((rows ≡ size.rows) × (cols ≡ size.cols) → ⊥)))
   TellsNext earlier s t size text fault.Memory = ((opened : S) × opens s (Ok tt) opened

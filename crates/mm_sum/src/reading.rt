@@ -1,6 +1,6 @@
 //! Reads one text to its end, and adds its cells to those of the texts before it, block by block.
-ghost use Rattle.std.specs.Prelude.{◌≡◌, ℕ, ◌+◌, ◌<◌, ◌≤◌, ◌^◌, Bool, List, [], ◌++◌, vec_capacity};
-ghost use Rattle.std.specs.Prelude.{OnOk, OnErr, IfOk, IfErr, Option};
+ghost use Rattle.std.specs.Prelude.{◌≡◌, ◌+◌, ◌<◌, ◌≤◌, ◌^◌, List, [], vec_capacity};
+ghost use Rattle.std.specs.Prelude.{OnOk, IfOk, IfErr, IsTrue, ◌↔◌};
 ghost use Rattle.cells.specs.declared.cell.Cell.{Cell};
 ghost use Rattle.layer_cascade.specs.Cuts.{AreCuts};
 ghost use Rattle.mm_text.specs.Readings.{HasRead, SizedCells};
@@ -125,6 +125,13 @@ pub fn sum_first<R: Source>(
     Ok((size, all))
 }
 
+// Whether both have the same numbers of rows and of columns.
+fn has_dims_of(own: Size, size: Size) -> bool
+    ensures { IsTrue result ↔ ((own.rows ≡ size.rows) × (own.cols ≡ size.cols)) }
+{
+    own.rows == size.rows && own.cols == size.cols
+}
+
 /// Reads the next text to its end, and gives the sum with its cells added, or None where its dimensions aren't those of
 /// the size. The reader has read nothing.
 pub fn sum_next<R: Source>(
@@ -146,7 +153,8 @@ pub fn sum_next<R: Source>(
     ensures reserved { BLOCK_CELLS ≤ vec_capacity block.new }
 {
     let (own, more) = first_block(r, reader, block)?;
-    if own.rows != size.rows || own.cols != size.cols {
+    let is_same = has_dims_of(own, size);
+    if !is_same {
         // A sum that has passed takes cells of any place, and keeps none.
         let _passed = sum_rest(alloc, r, reader, block, RunningSum::TooLarge, more)?;
         return Ok(None);

@@ -105,6 +105,7 @@ fn next_text<T: Texts>(
     requires reserved { BLOCK_CELLS ≤ vec_capacity block.old }
     requires fresh { HasRead sum_limits [] [] reader.old }
     requires summed { (earlier : List Cell) × IsSumOf size.rows size.cols earlier sum }
+    requires later { 0 < text }
     ensures ok { IfOk result (λ next. (earlier : List Cell) → IsSumOf size.rows size.cols earlier sum →
         AddsNext T.read_gives T.at_end T.failure_count T.open_gives earlier texts.old texts.new size next) }
     ensures no_failure { OnOk result (T.failure_count texts.new ≡ T.failure_count texts.old) }
