@@ -1,5 +1,5 @@
 //! The texts that `sum` is given by name: files, each opened when its turn comes, and standard input.
-ghost use Rattle.std.specs.Prelude.{⊤};
+ghost use Rattle.std.specs.Prelude.{◌≡◌, ⊤};
 
 use crate::report::Fault;
 use byte_io::{DeviceFault, Source};
