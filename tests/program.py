@@ -14,6 +14,7 @@ import signal
 import subprocess
 import sys
 import tempfile
+import threading
 from typing import NamedTuple
 
 HERE = os.path.dirname(os.path.abspath(__file__))
@@ -327,7 +328,7 @@ NO_SNAPSHOTS += [
 NO_COMMANDS = [
     [],
     ["sun"],
-    ["sum", "a"],
+    ["sum", ""],
     ["sum", "--cuts"],
     ["sum", "--cuts", "1", "--cuts", "2"],
     ["sum", "--cut", "1"],
@@ -371,9 +372,6 @@ def table():
         yield refused(f"cuts {word!r}", word, SMALL, "settings: BadCuts", 2)
     for words in NO_COMMANDS:
         yield Case(f"hhm {' '.join(words)}", words, error=SOME, status=2)
-    usage = "Usage: hhm sum [OPTIONS] < TEXT\n\nFor more information, try '--help'.\n"
-    named = f"error: unexpected argument 'x' found\n\n{usage}"
-    yield Case("a file that is named to sum", ["sum", "x"], error=named, status=2)
     yield Case("an argument that isn't UTF-8", ["sum", b"--cuts=\xff"], error=SOME, status=2)
     for words in [["--help"], ["sum", "--help"], ["check", "--help"], ["export", "--help"]]:
         yield Case(f"hhm {' '.join(words)}", words, output=SOME)
@@ -733,6 +731,134 @@ def flipped_bits(program):
             yield f"a flipped bit of {name} at byte {places.start}", wrong
 
 
+# Texts of one size in files, and the sums of the first two, of the last two and of all.
+FILES = {
+    "a": BANNER + "3 3 2\n1 1 5\n3 2 7\n",
+    "b": SYMMETRIC + "3 3 2\n2 1 4\n1 1 1\n",
+    "c": BANNER + "3 3 1\n2 3 0\n",
+    # Too large with the first, and with itself.
+    "most": f"{BANNER}3 3 1\n3 3 {MOST}\n",
+    "entry": BANNER + "3 3 2\n1 1 5\n3 4 7\n",
+    "banner": "3 3 2\n",
+    "short": BANNER + "3 3 2\n1 1 5\n",
+    "empty": "",
+    "rows": BANNER + "4 3 1\n4 1 1\n",
+    "columns": BANNER + "3 2 1\n1 1 1\n",
+    "both": BANNER + "3 4 1\n1 4 1\n1 1 1\n",
+}
+AB = BANNER + "3 3 4\n1 1 6\n1 2 4\n2 1 4\n3 2 7\n"
+BC = BANNER + "3 3 4\n1 1 1\n1 2 4\n2 1 4\n2 3 0\n"
+ABC = BANNER + "3 3 5\n1 1 6\n1 2 4\n2 1 4\n2 3 0\n3 2 7\n"
+
+# Names, the text on standard input, and the sum.
+SUMS_OF_FILES = [
+    (["a"], "", FILES["a"]),
+    (["a", "b"], "", AB),
+    (["b", "a"], "", AB),
+    (["a", "b", "c"], "", ABC),
+    (["c", "a", "b"], "", ABC),
+    (["-"], FILES["a"], FILES["a"]),
+    (["-", "b"], FILES["a"], AB),
+    (["a", "-"], FILES["b"], AB),
+    (["a", "-", "c"], FILES["b"], ABC),
+    (["b", "-"], FILES["c"], BC),
+    (["--", "b", "c"], "", BC),
+    (["c", "c", "c"], "", FILES["c"]),
+    (["most"], "", FILES["most"]),
+    (["most", "c"], "", f"{BANNER}3 3 2\n2 3 0\n3 3 {MOST}\n"),
+]
+
+# A name whose text can't be summed beside others of 3 rows and columns, what is told of it, and the status.
+IN_FILES = [
+    ("entry", "text: IndexOutOfRange at line 4 of entry", 3),
+    ("banner", "text: BadBanner at line 1 of banner", 3),
+    ("short", "text: TooFewEntries at line 4 of short", 3),
+    ("empty", "text: BadBanner at line 1 of empty", 3),
+    ("nowhere", "file: NotFound in nowhere", 4),
+    ("a/b", "file: OpenFailed in a/b", 4),
+    ("folder", "text: Read at line 1 of folder", 4),
+]
+
+# Names, and the fault that is told of the first or of all.
+FAULTS_OF_FILES = [
+    (["a", "rows"], "text: DimensionsDiffer in rows", 3),
+    (["a", "columns"], "text: DimensionsDiffer in columns", 3),
+    (["rows", "a", "columns"], "text: DimensionsDiffer in a", 3),
+    (["a", "b", "rows"], "text: DimensionsDiffer in rows", 3),
+    (["a", "rows", "entry"], "text: DimensionsDiffer in rows", 3),
+    # A text's own faults come before its dimensions.
+    (["a", "both"], "text: ExtraText at line 4 of both", 3),
+    (["entry", "banner"], "text: IndexOutOfRange at line 4 of entry", 3),
+    (["nowhere", "entry"], "file: NotFound in nowhere", 4),
+    (["entry", "nowhere"], "text: IndexOutOfRange at line 4 of entry", 3),
+    (["a", "most"], "sum: SumTooLarge", 3),
+    (["most", "most"], "sum: SumTooLarge", 3),
+    (["c", "most", "a"], "sum: SumTooLarge", 3),
+    # Every fault of a text comes before the total.
+    (["most", "a", "entry"], "text: IndexOutOfRange at line 4 of entry", 3),
+    (["most", "a", "rows"], "text: DimensionsDiffer in rows", 3),
+    (["most", "a", "nowhere"], "file: NotFound in nowhere", 4),
+]
+
+
+def sums_of_files(program):
+    """Texts in one, two and three files and on standard input, and faults in each place."""
+    with tempfile.TemporaryDirectory() as folder:
+        os.mkdir(os.path.join(folder, "folder"))
+        for name, text in FILES.items():
+            with open(os.path.join(folder, name), "w", encoding="ascii", newline="") as file:
+                file.write(text)
+        for case in cases_of_files():
+            yield case.name, run(program, case, cwd=folder)
+        yield "a FIFO", a_fifo(program, folder)
+        names = ["c"] * 1_000
+        case = Case("a thousand files with room for 8 open ones", ["sum", *names], output=FILES["c"])
+        yield case.name, run(program, case, cwd=folder, preexec_fn=leave_few_files)
+
+
+def cases_of_files():
+    for names, text, output in SUMS_OF_FILES:
+        for cuts in ["none", "1,2", "4096"]:
+            yield Case(f"sum of {' '.join(names)}, cuts {cuts}", ["sum", "--cuts", cuts, *names], text, output)
+    for name, fault, status in IN_FILES:
+        for names in [[name], [name, "a"], ["a", name], [name, "a", "b"], ["a", name, "b"], ["a", "b", name]]:
+            yield Case(f"sum of {' '.join(names)}", ["sum", *names], error=f"hhm: {fault}\n", status=status)
+    for names, fault, status in FAULTS_OF_FILES:
+        yield Case(f"sum of {' '.join(names)}", ["sum", *names], error=f"hhm: {fault}\n", status=status)
+    for names, place in [([], ""), (["-"], ""), (["-", "a"], " of -"), (["a", "-", "b"], " of -")]:
+        error = f"hhm: text: IndexOutOfRange at line 4{place}\n"
+        yield Case(f"a fault on standard input, {names}", ["sum", *names], FILES["entry"], error=error, status=3)
+    twice = "hhm: text: BadBanner at line 1 of -\n"
+    yield Case("standard input twice", ["sum", "-", "-"], FILES["a"], error=twice, status=3)
+    for cuts, fault in [("0", "BadCuts"), ("x", "BadNumber")]:
+        words = ["sum", "--cuts", cuts, "nowhere"]
+        yield Case(f"cuts {cuts} before files", words, error=f"hhm: settings: {fault}\n", status=2)
+
+
+def a_fifo(program, folder):
+    """What is wrong with a sum of a FIFO, as a shell's `<(..)` is one."""
+    path = os.path.join(folder, "fifo")
+    os.mkfifo(path)
+
+    def write():
+        with open(path, "w", encoding="ascii") as fifo:
+            fifo.write(FILES["b"])
+
+    writer = threading.Thread(target=write)
+    writer.start()
+    try:
+        return run(program, Case("", ["sum", "a", "fifo"], output=AB), cwd=folder)
+    finally:
+        # Where the program never opened it, this lets the writer go on.
+        os.close(os.open(path, os.O_RDONLY | os.O_NONBLOCK))
+        writer.join()
+
+
+def leave_few_files():
+    """In a new process: lets it have 8 files open."""
+    resource.setrlimit(resource.RLIMIT_NOFILE, (8, 8))
+
+
 def the_example(program):
     """The example of README.md: the block there is what the program writes."""
     with open(os.path.join(HERE, "..", "README.md"), encoding="utf-8") as readme:
@@ -746,6 +872,7 @@ def the_example(program):
 DEVICES = [
     a_folder_as_input, an_output_that_fails, an_input_that_stays_open, a_limit_of_memory, snapshots, exports,
     folds,
+    sums_of_files,
     flipped_bits,
     the_example,
 ]  # fmt: skip

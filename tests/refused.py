@@ -114,6 +114,16 @@ def runs(folder):
     ]:
         given, output = text_of(size, size, cells), text_of(size, size, summed(cells))
         yield Run(name, ["sum", "--cuts", cuts], given, output, read)
+        # The same of three texts, in files and on standard input.
+        parts = [text_of(size, size, cells[start::3]) for start in range(3)]
+        paths = [os.path.join(folder, f"{name.replace(' ', '_')}_{part}") for part in (0, 2)]
+        for path, part in zip(paths, parts[::2]):
+            with open(path, "wb") as file:
+                file.write(part)
+        words = ["sum", "--cuts", cuts, paths[0], "-", paths[1]]
+        named = "|".join(re.escape(path) for path in [*paths, "-"])
+        fault = rf"hhm: text: Read at line [1-9][0-9]* of ({named})\n"
+        yield Run(f"{name}, three texts", words, parts[1], output, fault)
     for name, count, cells in [("check of a batch", 1, few), ("check of many batches", 400, spread(11, 11))]:
         one = summed(cells)
         total = sum(count for _, _, count in one)

@@ -5,10 +5,12 @@ use Rattle.mm_text.specs.declared.fault.MmKind.{MmKind}
 use Rattle.mm_text.specs.declared.fault.MmKind.TheVariants as kind
 use Rattle.mm_sum.specs.declared.fault.SumFault.{SumFault}
 use Rattle.mm_sum.specs.declared.fault.SumFault.TheVariants.{BadCuts, Text, SumTooLarge, Memory, Output}
+use Rattle.mm_sum.specs.declared.fault.TextsFault.{TextsFault}
+use Rattle.mm_sum.specs.declared.fault.TextsFault.TheVariants as texts
 use Rattle.hhm.specs.declared.numbers.ListFault.{ListFault}
 use Rattle.hhm.specs.declared.numbers.ListFault.TheVariants as list
 use Rattle.hhm.specs.declared.report.Fault.{Fault}
-use Rattle.hhm.specs.declared.report.Fault.TheVariants.{BadNumber, Setup, Sum, Check, Fold}
+use Rattle.hhm.specs.declared.report.Fault.TheVariants.{BadNumber, Setup, Sum, Texts, Check, Fold}
 use Rattle.snap_report.specs.declared.fault.CheckFault.{CheckFault}
 use Rattle.snap_report.specs.declared.fault.CheckFault.TheVariants as check
 use Rattle.snap_report.specs.declared.fault.FoldFault.{FoldFault}
@@ -37,6 +39,16 @@ sum_status (Text fault) = text_status fault.kind
 sum_status SumTooLarge = 3
 sum_status (Output fault) = 4
 sum_status Memory = 5
+
+-- of several texts as of one; and what can't be opened is the device's fault
+abbrev pub texts_status : TextsFault → ℕ
+texts_status texts.BadCuts = 2
+texts_status (texts.Text at fault) = text_status fault.kind
+texts_status (texts.DimensionsDiffer at) = 3
+texts_status texts.SumTooLarge = 3
+texts_status (texts.File at fault) = 4
+texts_status (texts.Output fault) = 4
+texts_status texts.Memory = 5
 
 -- a read that failed is the device's fault, and all else the file's
 abbrev pub snapshot_status : SnapFault → ℕ
@@ -75,5 +87,6 @@ abbrev pub fault_status : Fault → ℕ
 fault_status BadNumber = 2
 fault_status (Setup fault) = 2
 fault_status (Sum fault) = sum_status fault
+fault_status (Texts fault) = texts_status fault
 fault_status (Check fault) = check_status fault
 fault_status (Fold fault) = fold_status fault

@@ -3,7 +3,7 @@
 use crate::query_cli::{degrees_command, list_command, top_command};
 use crate::serve_cli::serve_command;
 use clap::builder::ValueParser;
-use clap::{Arg, Command};
+use clap::{Arg, ArgAction, Command};
 use std::alloc::{AllocError, Global};
 
 /// The cuts of `sum` where no `--cuts` is given.
@@ -12,22 +12,24 @@ pub const DEFAULT_SUM_CUTS: &str = "4096";
 const ABOUT: &str = "Sums counted cells (row, column, count) into a hypersparse matrix, exactly";
 
 const SUM_ABOUT: &str =
-    "Sum a Matrix Market text from standard input, and write the canonical text of the sum";
-
-// What it reads stands here too, for who names a file.
-const SUM_USAGE: &str = "hhm sum [OPTIONS] < TEXT";
+    "Sum the entries of Matrix Market texts, and write the canonical text of the sum";
 
 const SUM_HELP: &str = "\
-Reads one Matrix Market text (matrix coordinate, integer or unsigned-integer,
-general or symmetric) from standard input to its end, adds the counts of each
-cell, and writes the sum to standard output: a Matrix Market text with the cells
-by row and then by column. Counts and totals go up to 18446744073709551615.
+Reads Matrix Market texts (matrix coordinate, integer or unsigned-integer,
+general or symmetric), each to its end before the next is opened, adds the counts
+of each cell, and writes the sum to standard output: a Matrix Market text with
+the cells by row and then by column. Counts and totals go up to
+18446744073709551615. All texts have the dimensions of the first. FILE - is
+standard input, which is read too where no FILE is named.
 
-Nothing is written unless the whole text was read without a fault. A fault is
-one line on standard error:
+Nothing is written unless all texts were read without a fault. A fault is one
+line on standard error, the first in the order of the files; of a text that was
+named it has ' of FILE' or ' in FILE' behind it, unless that is - alone:
 
   hhm: settings: NAME              status 2
+  hhm: file: NotFound, OpenFailed  status 4
   hhm: text: KIND at line N        status 3 (KIND Read: 4)
+  hhm: text: DimensionsDiffer      status 3
   hhm: sum: SumTooLarge            status 3
   hhm: output failed after N bytes status 4
   hhm: memory                      status 5";
@@ -111,11 +113,17 @@ fn sum_command<'a>(alloc: Global) -> Result<Command<'a>, AllocError> {
         .value_name("LIST")
         .default_value(DEFAULT_SUM_CUTS)
         .help(CUTS_HELP);
+    let file = Arg::new(alloc, "file")
+        .value_name("FILE")
+        .action(ArgAction::Append)
+        .num_args(1..)
+        .value_parser(ValueParser::NonEmptyString)
+        .help("The files of the texts, - for standard input");
     Command::new(alloc, "sum")
         .about(SUM_ABOUT)
-        .override_usage(SUM_USAGE)
         .after_help(SUM_HELP)
-        .arg(cuts)
+        .arg(cuts)?
+        .arg(file)
 }
 
 // A word that reads the snapshot in a file.

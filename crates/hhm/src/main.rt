@@ -15,6 +15,7 @@ mod query_cli;
 mod report;
 mod serve;
 mod serve_cli;
+mod sum_files;
 mod told;
 
 use crate::memory::keep_freed_memory;
@@ -22,11 +23,12 @@ use crate::numbers::read_list;
 use crate::query::{range_of, side_of, top_query_of};
 use crate::report::Fault;
 use crate::serve::{settings_of, status_of};
+use crate::sum_files::{NamedTexts, has_input, is_input_alone, place_of};
 use crate::told::run_told;
 use byte_io::{Counted, write_all};
 use clap::error::ErrorKind;
 use clap::{ArgMatches, Error};
-use mm_sum::run_sum;
+use mm_sum::{run_sum, run_sum_of};
 use progress::{Entries, ProgressLine, Watched};
 use snap_file::{LockedFile, NamedFile};
 use snap_query::{run_degrees, run_list, run_top};
@@ -97,6 +99,7 @@ fn run(rt: &HostRuntime) -> Result<Outcome, Fault> {
 fn run_matches(rt: &HostRuntime, matches: &ArgMatches) -> Result<Outcome, Fault> {
     match matches.subcommand() {
         Some(("serve", serve)) => Ok(Outcome::Serve(settings_of(rt.alloc(), serve)?)),
+        Some(("sum", given)) => Ok(Outcome::Ended(run_sum_word(rt, given))),
         Some((word, given)) => {
             run_word(rt, word, given)?;
             Ok(Outcome::Ended(ExitCode::SUCCESS))
@@ -105,27 +108,17 @@ fn run_matches(rt: &HostRuntime, matches: &ArgMatches) -> Result<Outcome, Fault>
     }
 }
 
-/// Does what a word asks for that is given a list of cuts, or the path of a snapshot. How far the reading has come is
-/// said on a terminal, unless the text is typed there.
+/// Does what a word asks for that is given the path of a snapshot. How far the reading has come is said on a terminal.
 fn run_word(rt: &HostRuntime, word: &str, given: &ArgMatches) -> Result<(), Fault> {
-    if word == "sum" {
-        let cuts = given.get_str("cuts").unwrap_or(cli::DEFAULT_SUM_CUTS);
-        let is_shown = rt.stderr().is_terminal() && !rt.stdin().is_terminal();
-        let mut line = progress_line(rt, is_shown, Entries::Lines);
-        let outcome = run_sum_word(rt, cuts, &mut line);
-        clear(&mut line);
-        outcome
-    } else {
-        let path = given.get_str("path").unwrap_or("");
-        let is_shown = rt.stderr().is_terminal();
-        let mut line = progress_line(rt, is_shown, Entries::Cells);
-        let outcome = match given.get_str("log") {
-            Some(log) => run_check_word(rt, path, log, &mut line),
-            None => run_snapshot_word(rt, word, path, given, &mut line),
-        };
-        clear(&mut line);
-        outcome
-    }
+    let path = given.get_str("path").unwrap_or("");
+    let is_shown = rt.stderr().is_terminal();
+    let mut line = progress_line(rt, is_shown, Entries::Cells);
+    let outcome = match given.get_str("log") {
+        Some(log) => run_check_word(rt, path, log, &mut line),
+        None => run_snapshot_word(rt, word, path, given, &mut line),
+    };
+    clear(&mut line);
+    outcome
 }
 
 /// A line that says how far the reading has come, where it is to be shown.
@@ -144,13 +137,43 @@ fn clear(line: &mut Shown<'_>) {
     }
 }
 
-/// Sums the text on standard input, and writes the sum to standard output.
-fn run_sum_word(rt: &HostRuntime, list: &str, line: &mut Shown<'_>) -> Result<(), Fault> {
+/// Sums the texts that are named, or the one on standard input, and says a fault in one line on standard error, with
+/// the text that it is of. How far the reading has come is said on a terminal, unless a text is typed there.
+fn run_sum_word(rt: &HostRuntime, given: &ArgMatches) -> ExitCode {
+    let cuts = given.get_str("cuts").unwrap_or(cli::DEFAULT_SUM_CUTS);
+    let names = given.get_strs("file").unwrap_or(&[]);
+    let is_typed = has_input(names) && rt.stdin().is_terminal();
+    let mut line = progress_line(rt, rt.stderr().is_terminal() && !is_typed, Entries::Lines);
+    let outcome = sum_texts(rt, cuts, names, &mut line);
+    clear(&mut line);
+    match outcome {
+        Ok(()) => ExitCode::SUCCESS,
+        Err(fault) => {
+            let place = place_of(&fault, names);
+            let _ = eprintln!(rt; "hhm: {fault}{place}");
+            fault.exit_code()
+        }
+    }
+}
+
+/// Writes the sum of the texts of these names to standard output.
+fn sum_texts(
+    rt: &HostRuntime,
+    list: &str,
+    names: &[&str],
+    line: &mut Shown<'_>,
+) -> Result<(), Fault> {
     let cuts = read_list(rt.alloc(), list)?;
     keep_freed_memory(rt.alloc());
-    let mut input = Watched::new(Counted::new(rt.stdin()), line);
     let mut output = Counted::new(rt.stdout());
-    run_sum(rt.alloc(), &mut input, &mut output, &cuts)?;
+    if is_input_alone(names) {
+        let mut input = Watched::new(Counted::new(rt.stdin()), line);
+        run_sum(rt.alloc(), &mut input, &mut output, &cuts)?;
+    } else {
+        let mut texts = NamedTexts::new(rt, rt.stdin(), names, line);
+        let count = names.len() as u64;
+        run_sum_of(rt.alloc(), &mut texts, count, &mut output, &cuts)?;
+    }
     Ok(())
 }
 

@@ -1,14 +1,14 @@
 //! What the program says of a fault, and the status that it ends with.
 ghost use Rattle.std.specs.Prelude.{◌≡◌};
-ghost use Rattle.hhm.specs.Reports.{fault_of_list, fault_status, log_kind_status};
+ghost use Rattle.hhm.specs.Reports.{fault_of_list, fault_status, log_kind_status, texts_status};
 ghost use Rattle.mm_sum.specs.declared.fault.SumFault.TheVariants.{Memory, Output};
-ghost use Rattle.hhm.specs.declared.report.Fault.TheVariants.{Setup, Sum, Check, Fold};
+ghost use Rattle.hhm.specs.declared.report.Fault.TheVariants.{Setup, Sum, Texts, Check, Fold};
 
 use crate::numbers::ListFault;
 use batch_store::SetupFault;
 use byte_io::WriteFault;
 use log_blocks::LogKind;
-use mm_sum::SumFault;
+use mm_sum::{SumFault, TextsFault};
 use mm_text::{MmFault, MmKind};
 use snap_file::{FileFault, SnapFault};
 use snap_report::{CheckFault, FoldFault, LogFileFault};
@@ -28,6 +28,9 @@ pub enum Fault {
     /// `sum` wrote no sum, or not all of it.
     #[error(transparent)]
     Sum(SumFault),
+    /// The same of several texts.
+    #[error(transparent)]
+    Texts(TextsFault),
     /// `check` wrote no line, or `export` no text, or not all of it.
     #[error(transparent)]
     Check(CheckFault),
@@ -41,6 +44,14 @@ impl From<SumFault> for Fault {
 
     fn from(fault: SumFault) -> Fault {
         Fault::Sum(fault)
+    }
+}
+
+impl From<TextsFault> for Fault {
+    ghost from_gives = { λ fault e. e ≡ Texts fault };
+
+    fn from(fault: TextsFault) -> Fault {
+        Fault::Texts(fault)
     }
 }
 
@@ -106,6 +117,28 @@ pub fn log_kind_status(kind: LogKind) -> u8
     }
 }
 
+/// The status of a fault of several texts: as of one, and 4 where one can't be opened.
+fn texts_status(fault: TextsFault) -> u8
+    ensures { result ≡ texts_status fault }
+{
+    match fault {
+        TextsFault::BadCuts => 2,
+        TextsFault::Text(
+            _,
+            MmFault {
+                kind: MmKind::Read,
+                ..
+            },
+        ) => 4,
+        TextsFault::Text(..) => 3,
+        TextsFault::DimensionsDiffer(_) => 3,
+        TextsFault::SumTooLarge => 3,
+        TextsFault::File(..) => 4,
+        TextsFault::Output(_) => 4,
+        TextsFault::Memory => 5,
+    }
+}
+
 impl Fault {
     /// The status: 2 for settings, 3 for what the text says, 4 for a device, 5 for memory.
     pub fn status(self) -> u8
@@ -127,6 +160,7 @@ impl Fault {
             Fault::Sum(SumFault::SumTooLarge) => 3,
             Fault::Sum(SumFault::Output(_)) => 4,
             Fault::Sum(SumFault::Memory) => 5,
+            Fault::Texts(fault) => texts_status(fault),
             Fault::Check(CheckFault::File(FileFault::Snap(SnapFault::Read))) => 4,
             Fault::Check(CheckFault::File(FileFault::Snap(_))) => 3,
             Fault::Check(CheckFault::File(_)) => 4,

@@ -4,8 +4,7 @@
 //! into the layers; and at the end to one list of the cells of all layers and of those that wait, and to as much again
 //! while it is sorted. A place whose cells are in several layers has several in that list. The time is that of one pass
 //! over the text, of the additions that the cuts ask for, of the sort, and of one pass over the sum.
-ghost use Rattle.std.specs.Prelude.{◌≡◌, ℕ, ◌+◌, ◌<◌, ◌≤◌, ◌^◌, ◌⊎◌, ◌↔◌, List, vec_capacity};
-ghost use Rattle.std.specs.Prelude.{Some, Err, OnOk, OnErr, IfOk, IfErr};
+ghost use Rattle.std.specs.Prelude.{◌≡◌, ℕ, ◌+◌, ◌<◌, ◌^◌, ◌⊎◌, ◌↔◌, List, [], Err, OnOk, IfOk, IfErr};
 ghost use Rattle.mm_text.specs.declared.size.Size.{Size};
 ghost use Rattle.byte_io.specs.Writing.{HasTaken, HasStopped};
 ghost use Rattle.cells.specs.declared.cell.Cell.{Cell};
@@ -13,88 +12,30 @@ ghost use Rattle.mm_text.specs.declared.fault.MmFault.{MmFault};
 ghost use Rattle.byte_io.specs.declared.fault.WriteFault.{WriteFault};
 ghost use Rattle.layer_cascade.specs.Cuts.{AreCuts};
 ghost use Rattle.mm_sum.specs.Faults.{IsOutput};
-ghost use Rattle.mm_sum.specs.Reading.{IsSized, IsSumming, HasSummed, Excuses};
-ghost use Rattle.mm_sum.specs.Running.{IsSumOf};
-ghost use Rattle.mm_text.specs.Readings.{size_of};
+ghost use Rattle.mm_sum.specs.Reading.{HasSummed, Excuses};
 ghost use Rattle.mm_sum.specs.Sum.{sum_text, StopsText, SumsText, SumPasses, IsUnsummed};
-ghost use Rattle.hyper_matrix.specs.Cells.{cell_total};
 
 use crate::fault::SumFault;
 use crate::limits::{BLOCK_CELLS, TEXT_LIMITS};
+use crate::reading::sum_first;
 use crate::running_sum::RunningSum;
 use byte_io::{Sink, Source};
-use cells::Cell;
 use layer_cascade::are_cuts;
 use mm_text::{TextReader, write_matrix};
-use std::alloc::{AllocError, Global};
-
-// The sum of the cells of a text's first block, in the dimensions of the size line that was read.
-fn first_sum(
-    alloc: Global,
-    reader: &TextReader,
-    cuts: &[u64],
-    block: &[Cell],
-) -> Result<RunningSum, AllocError>
-    requires sized { IsSized reader.now block.now }
-    requires cuts { AreCuts cuts.now }
-    ensures ok { IfOk result (λ sum. (size : Size) → size_of reader.now ≡ Some size →
-        IsSumOf size.rows size.cols block.now sum) }
-    ensures memory { OnErr result (cell_total block.now < 2 ^ 64) }
-{
-    let Some(size) = reader.size() else {
-        unreachable!()
-    };
-    RunningSum::new(alloc, size, cuts, block)
-}
-
-// Reads the blocks behind the first, and adds each to the sum of those before it, to the text's end.
-fn sum_blocks<R: Source>(
-    alloc: Global,
-    r: &mut R,
-    reader: &mut TextReader,
-    block: &mut Vec<Cell>,
-    first: RunningSum,
-) -> Result<RunningSum, SumFault>
-    requires failures { R.failure_count r.old + 1 < 2 ^ 64 }
-    requires reserved { BLOCK_CELLS ≤ vec_capacity block.old }
-    requires summing { (s : R) × (size : Size) ×
-        IsSumming R.read_gives R.at_end R.failure_count s r.old reader.old size first }
-    ensures ok { IfOk result (λ sum. (s : R) (size : Size) →
-        IsSumming R.read_gives R.at_end R.failure_count s r.old reader.old size first →
-        HasSummed R.read_gives R.at_end R.failure_count s r.new size sum) }
-    ensures err { IfErr result (λ fault. (s : R) (size : Size) →
-        IsSumming R.read_gives R.at_end R.failure_count s r.old reader.old size first →
-        Excuses R.read_gives R.at_end R.failure_count s r.new fault) }
-{
-    let mut sum = first;
-    'text: for _blocks in 0..u64::MAX {
-        block.clear();
-        let more = reader.read_block(r, block, BLOCK_CELLS)?;
-        sum = sum.add(alloc, block)?;
-        if !more {
-            return Ok(sum);
-        }
-    }
-    // Each block has a cell, and a text at most 2^41 of them.
-    unreachable!()
-}
+use std::alloc::Global;
 
 // Reads a text to its end, and gives the sum of its cells.
 fn read_running<R: Source>(alloc: Global, r: &mut R, cuts: &[u64]) -> Result<RunningSum, SumFault>
     requires failures { R.failure_count r.old + 1 < 2 ^ 64 }
     requires cuts { AreCuts cuts.now }
     ensures ok { IfOk result (λ sum. (size : Size) ×
-        HasSummed R.read_gives R.at_end R.failure_count r.old r.new size sum) }
-    ensures err { IfErr result (λ fault. Excuses R.read_gives R.at_end R.failure_count r.old r.new fault) }
+        HasSummed R.read_gives R.at_end R.failure_count [] r.old r.new size sum) }
+    ensures err { IfErr result (λ fault. Excuses R.read_gives R.at_end R.failure_count [] r.old r.new fault) }
 {
     let mut reader = TextReader::new(alloc, TEXT_LIMITS)?;
     let mut block = Vec::with_capacity(alloc, BLOCK_CELLS)?;
-    let more = reader.read_block(r, &mut block, BLOCK_CELLS)?;
-    let sum = first_sum(alloc, &reader, cuts, &block)?;
-    if !more {
-        return Ok(sum);
-    }
-    sum_blocks(alloc, r, &mut reader, &mut block, sum)
+    let (_, sum) = sum_first(alloc, r, &mut reader, &mut block, cuts)?;
+    Ok(sum)
 }
 
 /// Sums the cells of a Matrix Market text, and writes the canonical text of the sum.

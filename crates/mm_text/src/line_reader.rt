@@ -28,4 +28,18 @@ impl LineReader {
             carry,
         })
     }
+
+    /// The state before the first line, in the same memory.
+    pub fn restarted(self) -> LineReader
+        ensures stage { result.progress.stage ≡ Stage.AtBanner }
+        ensures lines { result.progress.lines ≡ 0 }
+        ensures carry { result.carry.items ≡ [] }
+    {
+        let mut carry = self.carry;
+        carry.clear();
+        LineReader {
+            progress: Progress::new(),
+            carry,
+        }
+    }
 }

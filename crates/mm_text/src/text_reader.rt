@@ -82,6 +82,23 @@ impl TextReader {
         })
     }
 
+    /// A reader that has read nothing, as `new` makes it, in the memory of one that was used. It takes none. This is
+    /// for the next of several texts, whatever came of the last.
+    pub fn restarted(self, limits: TextLimits) -> TextReader
+        requires { limits.max_bytes ≤ MAX_BYTES }
+        ensures { HasRead limits [] [] result }
+    {
+        let mut buffer = self.buffer;
+        let waiting = buffer.pending().len();
+        buffer.consume(waiting);
+        TextReader {
+            limits,
+            lines: self.lines.restarted(),
+            buffer,
+            room: limits.max_bytes + 1,
+        }
+    }
+
     /// What the size line declares, once it was read: dimensions from 1 to 2^60, within which all cells lie that were
     /// handed out. Constant time.
     pub fn size(&self) -> Option<Size>

@@ -9,3 +9,5 @@ mod snapshots;
 mod sources;
 #[cfg(test)]
 mod sums;
+#[cfg(test)]
+mod texts;
