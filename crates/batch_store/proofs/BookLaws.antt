@@ -2,14 +2,13 @@
 use Rattle.std.proofs.Common.{◌≡◌, ℕ, zero, suc, ◌+◌, false, cond, not, eqb, ◌&&◌, List, [], ◌∷◌, ◌++◌, length}
 use Rattle.std.proofs.Common.{take, drop, slice_get, None, Some, position, refl, sym, ◌∙◌, ap, subst, arith, length-append}
 use Rattle.std.proofs.Common.{append_assoc, append-nil, ◌-◌, ◌≤◌}
-use Rattle.std.specs.Prelude.{Result, Ok, Err, IsOk, OnOk, slice_index_or, nat_lt}
+use Rattle.std.specs.Prelude.{slice_index_or, nat_lt}
 use Rattle.std.specs.FinMap.{empty}
-use Rattle.std.specs.List.{position_or_len, AllByRecursion, IsDistinct}
+use Rattle.std.specs.List.{position_or_len, AllByRecursion}
 use Rattle.std.specs.Map.{keys_of, lookup}
-use Rattle.std.proofs.lemmas.List.{map-append, take-append-drop, take-append-le, drop-append-le, length-drop, length-map}
+use Rattle.std.proofs.lemmas.List.{map-append, take-append-drop, take-append-le, drop-append-le}
 use Rattle.std.proofs.lemmas.Option.{none-some, same_Some}
-use Rattle.hyper_matrix.specs.Counts.{Counts}
-use Rattle.hyper_matrix.specs.Matrix.{Matrix, matrix}
+use Rattle.hyper_matrix.specs.Matrix.{Matrix}
 use Rattle.hyper_matrix.proofs.CountLaws.{total-empty}
 use Rattle.batch_store.specs.declared.pair.Pair.{Pair}
 use Rattle.batch_store.specs.declared.line.Line.{Line}
@@ -19,15 +18,14 @@ use Rattle.batch_store.specs.declared.verdict.Verdict.TheVariants.{Fresh}
 use Rattle.batch_store.specs.Setups.{Setting, IsSetting}
 use Rattle.batch_store.specs.Batches.{Submission, entry_of, entries_of, batch_total}
 use Rattle.batch_store.specs.Accepted.{count_in}
-use Rattle.batch_store.specs.Accepted.{Accepted, accepted, entries_in, total_in, with_batch, IsBase}
+use Rattle.batch_store.specs.Accepted.{Accepted, accepted, entries_in, total_in, with_batch}
 use Rattle.batch_store.specs.Verdicts.{verdict_of, verdict_on_new, repeat_of, same_pair, total_of_entries}
 use Rattle.batch_store.specs.Folds.{Fold, repeat_in}
 use Rattle.batch_store.specs.Books.{line_entry, line_entries}
 use Rattle.batch_store.specs.Books.{Register, register, AreLines, AreAccepted, HaveDims, state_of}
-use Rattle.batch_store.specs.Books.{KeepsBook, same_key, list_total}
+use Rattle.batch_store.specs.Books.{KeepsBook, same_key}
 use Rattle.batch_store.proofs.VerdictLaws.{fresh_is, none_same, distinct_nil, distinct_push, total_push}
 use Rattle.batch_store.proofs.VerdictLaws.{same_pair_flips, total_of-append}
-use Rattle.batch_store.proofs.SumLaws.{base-folded}
 use Rattle.batch_store.proofs.TwoLists.{known_before, known_behind, new_to_both}
 
 abbrev pub all_entries : List (Pair × Line) → List Entry

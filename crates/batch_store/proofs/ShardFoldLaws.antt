@@ -1,10 +1,9 @@
 -- What a shard's fields come to where its record is sealed, and where the sealed front has gone into the base.
-use Rattle.std.proofs.lemmas.Bool.{or_parts}
 use Rattle.std.proofs.lemmas.List.Folds.{list_any-append}
 use Rattle.std.proofs.lemmas.Option.{none-some, same_Some}
-use Rattle.std.proofs.Common.{◌≡◌, ℕ, zero, suc, not, slice_get, ◌-◌, ◌+◌, ◌<◌, ◌≤◌, ◌^◌, Bool, true, false, cond, ◌||◌, true≢false, List, [], ◌∷◌, ◌++◌, length}
+use Rattle.std.proofs.Common.{◌≡◌, ℕ, zero, suc, slice_get, ◌-◌, ◌+◌, ◌≤◌, Bool, true, false, cond, ◌||◌, true≢false, List, [], ◌∷◌, ◌++◌, length}
 use Rattle.std.proofs.Common.{take, drop, Option, None, Some, is_some, IfSome, refl, sym, ◌∙◌, ap, subst, arith, length-append}
-use Rattle.std.proofs.Common.{append-nil, append_assoc}
+use Rattle.std.proofs.Common.{append-nil}
 use Rattle.std.proofs.Math.Seq.{take-append_seam, drop-append_seam}
 use Rattle.std.proofs.lemmas.List.{map-append, length-map}
 use Rattle.std.specs.List.{IsDistinct}
@@ -28,7 +27,7 @@ use Rattle.batch_store.specs.Verdicts.{same_pair}
 use Rattle.batch_store.specs.Parts.{parts_of, record_content}
 use Rattle.batch_store.specs.Books.{same_key, HaveDims}
 use Rattle.batch_store.specs.Shards.{Holding, holding, stands, recorded, AreKeyed, KeepsShard}
-use Rattle.batch_store.specs.ShardFolds.{StaysAll, FoldsFront, IsSealed}
+use Rattle.batch_store.specs.ShardFolds.{FoldsFront, IsSealed}
 use Rattle.batch_store.proofs.SumLaws.{record-own}
 use Rattle.batch_store.proofs.ShardLaws.{Held, stands_is}
 

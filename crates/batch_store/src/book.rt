@@ -57,7 +57,7 @@ pub struct Book {
 /// What a fold let go of: the old base, and the batches that went into the new one. It is to be dropped when no lock is
 /// held.
 #[derive(Drop)]
-pub struct Released {
+pub struct ReleasedBatches {
     base: Arc<Hyper>,
     batches: Option<Arc<BookFold>>,
 }
@@ -397,7 +397,7 @@ impl Book {
     /// Folds the batches that were sealed, where their base was made: it is put in place of the old one. What the book
     /// lets go of is given back, to be dropped when no lock is held. None where the base isn't made yet, or nothing is
     /// sealed. No verdict changes. It takes no memory and constant time.
-    pub fn settle_fold(&mut self) -> Option<Released>
+    pub fn settle_fold(&mut self) -> Option<ReleasedBatches>
         ensures setup { self.new.setup ≡ self.old.setup }
         ensures free { self.new.free ≡ self.old.free }
         ensures kept { result ≡ None → self.new ≡ self.old }
@@ -408,7 +408,7 @@ impl Book {
         let batches = self.rest.take_sealed();
         self.gone += sealed_len(&batches);
         let base = self.past.set_base(base);
-        Some(Released { base, batches })
+        Some(ReleasedBatches { base, batches })
     }
 }
 

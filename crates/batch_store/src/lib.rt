@@ -8,6 +8,10 @@
 //! Each step that changes anything has one before it that makes all growth and changes nothing: `Book::reserve` before
 //! `Book::admit`, `Shard::prepare` before `Shard::commit`. The second can't fail and takes no memory, so a caller makes
 //! all that can be refused first, and then accepts the batch everywhere or nowhere.
+//!
+//! A book and a shard are folded beside what they take in: `begin_fold` seals what there is and gives away what the new
+//! base is made of, `run` makes it without the book or the shard, and `settle_fold` puts it in place, which can't be
+//! refused. Whoever folds an engine seals the book and all shards at one moment.
 #![tactic(auto)]
 
 mod batch;
@@ -33,7 +37,7 @@ mod view;
 mod view_reads;
 
 pub use batch::Batch;
-pub use book::{Book, Released};
+pub use book::{Book, ReleasedBatches};
 pub use book_fold::BookFold;
 pub use book_list::BookList;
 pub use fault::{BatchFault, CellsFault, SetupFault, ShardFault};
@@ -46,6 +50,6 @@ pub use laws::{
 pub use layer_cascade::Compaction;
 pub use limits::{MAX_BATCHES, MAX_CELLS, MAX_SHARDS};
 pub use setup::Setup;
-pub use shard::{Prepared, Shard, Unsealed};
+pub use shard::{Prepared, ReleasedRecord, Shard};
 pub use verdict::{Entry, Kept, Verdict};
 pub use view::ShardView;

@@ -60,7 +60,7 @@ pub struct Shard {
 
 /// What a fold let go of: to be dropped when no lock is held.
 #[derive(Drop)]
-pub struct Unsealed {
+pub struct ReleasedRecord {
     base: Arc<Hyper>,
     sealed: SegmentedMap<Pair, Arc<Batch>, RandomState>,
 }
@@ -561,7 +561,7 @@ impl Shard {
     /// Puts the base that was made in place of the old one and of the sealed front of the record, and gives what the
     /// shard lets go of; None where it isn't made yet, or nothing is sealed. The layers stay. It takes no memory, and
     /// moves pointers alone.
-    pub fn settle_fold(&mut self, alloc: Global) -> Option<Unsealed>
+    pub fn settle_fold(&mut self, alloc: Global) -> Option<ReleasedRecord>
         ensures kept { result ≡ None → self.new ≡ self.old }
         ensures folded { IfSome result (λ u. (m : ℕ) × FoldsFront m self.old self.new) }
     {
@@ -570,7 +570,7 @@ impl Shard {
         self.due = None;
         let base = mem::replace(&mut self.base, base);
         let sealed = mem::replace(&mut self.sealed, none);
-        Some(Unsealed { base, sealed })
+        Some(ReleasedRecord { base, sealed })
     }
 }
 

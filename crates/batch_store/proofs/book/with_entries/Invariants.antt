@@ -1,4 +1,4 @@
-use Rattle.std.proofs.Common.{◌≡◌, ◌≤◌, ◌-◌, ◌++◌, length, take}
+use Rattle.std.proofs.Common.{◌≡◌, ◌≤◌, ◌-◌, ◌++◌, take}
 use Rattle.batch_store.specs.Books.{line_entries}
 use Rattle.batch_store.proofs.book.with_entries.Given as goal
 

@@ -1,6 +1,5 @@
 use Rattle.std.proofs.Common.{ap, sym, ◌∙◌, Some, slice_get}
 use Rattle.batch_store.specs.Accepted.{entries_in}
-use Rattle.batch_store.specs.Batches.{entry_of}
 use Rattle.batch_store.specs.Books.{Register}
 use Rattle.batch_store.proofs.BookLaws.{entries_same, entry_behind, entry_none}
 use Rattle.batch_store.proofs.book.Book.entry_at.Goals as goal

@@ -1,6 +1,5 @@
 use Rattle.std.proofs.Common.{◌≡◌, sym, ap, ◌∙◌, subst, arith}
 use Rattle.std.proofs.lemmas.List.{take_all}
-use Rattle.std.specs.Arc.{arc_value}
 use Rattle.hyper_rows.proofs.CountLaws.{ewise_add_comm}
 use Rattle.hyper_matrix.specs.Counts.{ewise_add}
 use Rattle.batch_store.specs.Accepted.{list_sum}

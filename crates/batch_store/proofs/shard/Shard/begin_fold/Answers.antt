@@ -1,4 +1,4 @@
-use Rattle.std.proofs.Common.{◌∙◌, ap, sym, subst, ◌∷◌}
+use Rattle.std.proofs.Common.{ap, sym, subst}
 use Rattle.std.specs.Arc.{arc_value}
 use Rattle.batch_store.specs.Shards.{KeepsShard}
 use Rattle.batch_store.proofs.ShardLaws.{Held}

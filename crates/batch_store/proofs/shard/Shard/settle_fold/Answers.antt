@@ -1,4 +1,4 @@
-use Rattle.std.proofs.Common.{◌≡◌, ◌∙◌, ap, refl, length}
+use Rattle.std.proofs.Common.{◌∙◌, ap, refl, length}
 use Rattle.std.specs.Arc.{arc_value}
 use Rattle.layer_compaction.specs.Due.{numbers_of}
 use Rattle.batch_store.proofs.ShardFoldLaws.{made_due, shard_settled, folds_front}

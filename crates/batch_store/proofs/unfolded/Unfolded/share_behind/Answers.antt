@@ -1,12 +1,9 @@
-use Rattle.std.proofs.Common.{◌≡◌, ℕ, zero, suc, ◌+◌, ◌<◌, List, [], ◌∷◌, ◌++◌, length, take, drop, Option, Some, None}
-use Rattle.std.proofs.Common.{slice_get, refl, sym, ◌∙◌, ap, arith, vec_len, Bor}
+use Rattle.std.proofs.Common.{◌≡◌, ℕ, zero, suc, ◌+◌, List, [], ◌∷◌, ◌++◌, take, drop}
+use Rattle.std.proofs.Common.{slice_get, refl, sym, ◌∙◌, ap, arith, vec_len}
 use Rattle.std.specs.Arc.{arc_value}
-use Rattle.std.specs.declared.sync.Arc.{Arc}
-use Rattle.std.specs.declared.alloc.Global.{Global}
-use Rattle.std.specs.Prelude.{option_map}
 use Rattle.std.proofs.lemmas.List.{map-append}
 use Rattle.std.proofs.lemmas.Option.{slice_get_within}
-use Rattle.batch_store.specs.Batches.{Submission, values}
+use Rattle.batch_store.specs.Batches.{values}
 use Rattle.batch_store.specs.BookFolds.{rest_list}
 use Rattle.batch_store.proofs.BookLaws.{next_item, none_past}
 use Rattle.batch_store.proofs.unfolded.Unfolded.share_behind.Goals as goal
