@@ -125,6 +125,20 @@ SCENARIOS = {
         Step([["reserve refused", "book of batches 0 total 0"]], ["admitted 0 total 9", "book of batches 1 total 9"]),
         LIST,
     ],
+    "sealing": [
+        Step([["prepare refused", "shard 0 batches 0 total 0"]], ["shard 0 batches 1 total 5"]),
+        Step([["reserve refused", "book of batches 0 total 0"]], ["admitted 0 total 9", "book of batches 1 total 9"]),
+        Step([["shard seal refused", "shard 0 batches 1 total 5"]], []),
+        Step(
+            [["shard sum refused", "shard 0 batches 1 total 5"]],
+            ["shard settled, base total 5", "shard 0 batches 0 total 5"],
+        ),
+        Step([["book seal refused", "book of batches 1 total 9"]], []),
+        Step(
+            [["book sum refused", "book of batches 1 total 9"]],
+            ["book settled, folded 1 base total 9", "book of batches 1 total 9"],
+        ),
+    ],
     "compacting": [
         Step([["begin refused", COMPACTED]], []),
         Step([["run refused", COMPACTED]], []),

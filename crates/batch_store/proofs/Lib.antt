@@ -6,6 +6,9 @@ pub mod TwoLists
 pub mod FoldLaws
 pub mod BookLaws
 pub mod ShardLaws
+pub mod ShardFoldLaws
+pub mod BookFoldLaws
+pub mod WalkLaws
 pub mod FileLaws
 pub mod ListLaws
 pub mod VerdictMeaning

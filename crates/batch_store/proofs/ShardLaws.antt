@@ -6,10 +6,10 @@ use Rattle.std.specs.List.{AllByRecursion}
 use Rattle.std.specs.Arc.{arc_value}
 use Rattle.std.specs.declared.sync.Arc.{Arc}
 use Rattle.std.specs.declared.alloc.Global.{Global}
-use Rattle.std.specs.FinMap.{empty, len-empty}
+use Rattle.std.specs.FinMap.{empty}
 use Rattle.std.specs.Map.{lookup}
-use Rattle.std.proofs.lemmas.List.{map-append}
-use Rattle.hyper_matrix.specs.Counts.{Counts, place_cmp, ewise_add, total, part}
+use Rattle.std.proofs.lemmas.List.{map-append, length-map, length-append}
+use Rattle.hyper_matrix.specs.Counts.{Counts, ewise_add, total, part}
 use Rattle.hyper_matrix.specs.Matrix.{Matrix, matrix}
 use Rattle.hyper_matrix.proofs.CountLaws.{ewise_add_assoc, ewise_add-empty, total-ewise_add, total-empty}
 use Rattle.layer_compaction.specs.Shared.{content}
@@ -112,6 +112,7 @@ begins v s ls base sound here rows cols own within held kept count = record {
   cuts = refl;
   count = count;
   keyed = tt;
+  few = omega arith;
 }
 
 -- a shard without batches
@@ -175,6 +176,7 @@ shard_rebased v s free layers base new held none x keeps view is nothing =
       cuts = keeps.cuts;
       count = keeps.count;
       keyed = tt;
+      few = omega arith;
     })
 
 -- the record after a batch that wasn't there
@@ -262,4 +264,11 @@ module _ (s : Setting) (n free : ℕ) (layers : Layering) (base : Matrix) (held 
               ∙ keeps.count;
           keyed = subst AreKeyed (sym more) (keyed_push held (p, batch) keeps.keyed (client
               ∙ sym (ap (λ (b : Submission). b.client) same)) (number ∙ sym (ap (λ (b : Submission). b.number) same)));
+          few = omega (
+            arith,
+            r.few,
+            ap length more,
+            length-append held ((p, batch) ∷ []),
+            length-map held (λ (e : Pair × Arc Submission Global). arc_value e.1),
+          );
         }

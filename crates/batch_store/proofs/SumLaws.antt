@@ -2,8 +2,8 @@
 use Rattle.std.proofs.Common.{◌≡◌, ℕ, Bool, true, false, cond, List, [], ◌∷◌, ◌++◌, Option, None, refl, sym, ◌∙◌}
 use Rattle.std.proofs.Common.{ap, arith, append-nil}
 use Rattle.std.specs.FinMap.{empty, get, get-empty}
-use Rattle.hyper_matrix.specs.Counts.{Place, place_cmp, Counts, plus, total, ewise_add, part, in_part}
-use Rattle.hyper_matrix.proofs.CountLaws.{same_counts, get-part, get-ewise_add, ewise_add-empty}
+use Rattle.hyper_matrix.specs.Counts.{Place, place_cmp, Counts, total, ewise_add, part, in_part}
+use Rattle.hyper_matrix.proofs.CountLaws.{same_counts, get-part, ewise_add-empty}
 use Rattle.hyper_matrix.proofs.CountLaws.{ewise_add_assoc, total-empty, total-ewise_add}
 use Rattle.hyper_matrix.proofs.PartLaws.{part-ewise_add}
 use Rattle.layer_compaction.specs.Shared.{content}

@@ -5,17 +5,18 @@
 --     verdict_on      the verdict of a book on a batch
 --     list_total      the sum of the totals of a list of batches
 --     Listing         a list of what was accepted, as it is handed out: the base is a matrix
---     KeepsBook       what a book's fields keep: all that, beside each batch its pair and the total up to it, and the
---                     total of all
-use Rattle.std.specs.Prelude.{◌≡◌, ℕ, ◌+◌, ◌≤◌, Bool, ◌==◌, ◌&&◌, List, [], ◌∷◌, map, refl}
+--     line_entries    the entries that lines tell
+--     state_of        what a book's fields tell together
+--     KeepsBook       what a book's fields keep: all that, the entry of each batch that isn't folded in its line, the
+--                     total up to each line, and the total of all
+use Rattle.std.specs.Prelude.{◌≡◌, ℕ, ◌+◌, ◌≤◌, Bool, ◌==◌, ◌&&◌, List, [], ◌∷◌, ◌++◌, length, take, drop, map, refl}
 use Rattle.std.specs.Coded.{Coded, code_by, coded×, coded_ℕ, coded_list}
 use Rattle.std.specs.List.{IsDistinct}
-use Rattle.std.specs.Arc.{arc_value}
 use Rattle.hyper_matrix.specs.Matrix.{Matrix, matrix, coded_matrix}
 use Rattle.batch_store.specs.declared.pair.Pair.{Pair}
 use Rattle.batch_store.specs.declared.line.Line.{Line}
 use Rattle.batch_store.specs.Setups.{Setting, coded_setting, IsSetting}
-use Rattle.batch_store.specs.Batches.{Submission, coded_submission, batch_total, entry_of, entries_of}
+use Rattle.batch_store.specs.Batches.{Submission, coded_submission, entry_of, entries_of}
 use Rattle.batch_store.specs.declared.verdict.Entry.{Entry}
 use Rattle.batch_store.specs.declared.verdict.Verdict.{Verdict}
 use Rattle.batch_store.specs.Verdicts.{coded_entry, total_of_entries, same_pair, verdict_of}
@@ -84,24 +85,29 @@ verdict_on v b = verdict_of v.setup.limit v.setup.max_batches (entries_in v.stat
 abbrev pub same_key : Pair → Pair → Bool
 same_key p q = (p.client == q.client) && (p.number == q.number)
 
-abbrev pub batches_of : List (Pair × Line) → List Submission
-batches_of lines = map (λ (e : Pair × Line). arc_value e.1.batch) lines
+-- what a verdict reads of a line
+abbrev pub line_entry : Pair × Line → Entry
+line_entry e = record { client = e.0.client; number = e.0.number; cells = e.1.cells; total = e.1.total }
 
--- each line stands under its batch's pair, and tells the total up to it, where those before have this total
+abbrev pub line_entries : List (Pair × Line) → List Entry
+line_entries lines = map line_entry lines
+
+-- each line tells the total up to it, where those before have this total
 abbrev pub AreLines : ℕ → List (Pair × Line) → Type 0
 AreLines total [] = Unit {0}
-AreLines total (e ∷ es) =
-    (e.0.client ≡ (arc_value e.1.batch).client) × (e.0.number ≡ (arc_value e.1.batch).number)
-    × (e.1.total_after ≡ total + batch_total (arc_value e.1.batch))
-    × AreLines (total + batch_total (arc_value e.1.batch)) es
+AreLines total (e ∷ es) = (e.1.total_after ≡ total + e.1.total) × AreLines (total + e.1.total) es
 
--- what folded batches and lines tell together
-abbrev pub state_of : Fold → List (Pair × Line) → Accepted
-state_of past lines = accepted past.base.counts past.entries (batches_of lines)
+-- what a base, entries, lines and batches tell together, of which the first so many lines are of folded batches
+abbrev pub state_of : Fold → ℕ → List (Pair × Line) → List Submission → Accepted
+state_of past gone lines list = accepted past.base.counts (past.entries ++ line_entries (take gone lines)) list
 
-pub record KeepsBook (setup : Setting) (total : ℕ) (past : Fold) (lines : List (Pair × Line)) : Type 0 where
-  pub told : AreAccepted setup (state_of past lines)
+pub record KeepsBook (setup : Setting) (total : ℕ) (past : Fold) (gone : ℕ) (lines : List (Pair × Line))
+    (list : List Submission) : Type 0 where
+  pub told : AreAccepted setup (state_of past gone lines list)
   pub rows : past.base.rows ≡ setup.rows
   pub cols : past.base.cols ≡ setup.cols
   pub kept : AreLines (total_of_entries past.entries) lines
-  pub adds_up : total ≡ total_in (state_of past lines)
+  pub adds_up : total ≡ total_in (state_of past gone lines list)
+  pub within : gone ≤ length lines
+  pub same : entries_of list ≡ line_entries (drop gone lines)
+  pub count : count_in (state_of past gone lines list) ≡ length past.entries + length lines

@@ -10,7 +10,7 @@
 --     Sight           the layers of a moment, and how many batches were in the record then
 --     KeepsShard      what a shard's fields keep: all that, the setup's dimensions and cuts, and each batch under its
 --                     client and number
-use Rattle.std.specs.Prelude.{◌≡◌, ℕ, ◌+◌, ◌<◌, ◌≤◌, Bool, true, false, ◌==◌, ◌&&◌, List, [], ◌∷◌, length, map, refl}
+use Rattle.std.specs.Prelude.{◌≡◌, ℕ, ◌+◌, ◌<◌, ◌≤◌, ◌^◌, Bool, true, false, ◌==◌, ◌&&◌, List, [], ◌∷◌, length, map, refl}
 use Rattle.std.specs.List.{list_any}
 use Rattle.batch_store.specs.declared.fault.ShardFault.{ShardFault}
 use Rattle.batch_store.specs.declared.fault.ShardFault.TheVariants.{Memory, AlreadyThere, Over}
@@ -125,6 +125,7 @@ pub record IsReady (v : Holding) (p : Preparation) : Type 0 where
   pub rows : p.batch.matrix.rows ≡ v.setup.rows
   pub cols : p.batch.matrix.cols ≡ v.setup.cols
   pub fits : shard_total v + p.amount ≤ v.setup.limit
+  pub few : length v.record_list < 2 ^ 62
   pub room : 0 < v.free
 
 -- what a reader sees of a shard at one moment
@@ -157,3 +158,4 @@ pub record KeepsShard (setup : Setting) (number : ℕ) (layers : Layering) (base
   pub cuts : layers.cuts ≡ setup.cuts
   pub count : length layers.layers ≡ length setup.cuts + 1
   pub keyed : AreKeyed held
+  pub few : length held ≤ 2 ^ 62

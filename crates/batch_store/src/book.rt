@@ -1,10 +1,13 @@
 //! The book of accepted batches: a map from client and number to the batch and its reply, in the order of acceptance,
 //! behind what is kept of the batches that were folded.
 //!
-//! A verdict is one look-up, and one more where batches are folded. The keys are hashed with seeds drawn for each book,
-//! since clients choose them. What a reply tells is kept beside its batch, so no call but `list`, `book_list` and
-//! `fold` walks over the book.
-ghost use Rattle.std.specs.Prelude.{◌≡◌, ℕ, ◌+◌, ◌-◌, ◌<◌, ◌≤◌, ◌^◌, [], IfOk, OnOk, OnErr, None, length};
+//! A verdict is one look-up, and one more where batches were folded when the book was made. The keys are hashed with
+//! seeds drawn for each book, since clients choose them. What a reply tells is kept beside its client and number, so no
+//! call but `list` and `book_list` walks over the book.
+//!
+//! The entries of all batches stand in one map, in order, and a boundary tells how many of them are folded. The batches
+//! that aren't are listed apart (`Unfolded`), so to fold moves the boundary and exchanges pointers.
+ghost use Rattle.std.specs.Prelude.{◌≡◌, ℕ, ◌+◌, ◌-◌, ◌<◌, ◌≤◌, ◌^◌, ◌++◌, [], IfOk, IfSome, OnOk, OnErr, None, length};
 ghost use Rattle.std.specs.Prelude.{slice_get, take, drop, vec_len, vec_capacity};
 ghost use Rattle.std.specs.Bool.{OnTrue};
 ghost use Rattle.std.specs.Option.{option_map};
@@ -12,16 +15,19 @@ ghost use Rattle.std.specs.Arc.{arc_value};
 ghost use Rattle.hyper_matrix.specs.Matrix.{matrix};
 ghost use Rattle.batch_store.specs.Accepted.{accepted, unfolded, entries_in, count_in, total_in, with_batch};
 ghost use Rattle.batch_store.specs.Accepted.{folded_into, batch_at, summed};
-ghost use Rattle.batch_store.specs.Batches.{entry_of, entries_of, batch_total, values};
+ghost use Rattle.batch_store.specs.Batches.{entry_of, batch_total, values};
+ghost use Rattle.batch_store.specs.BookFolds.{folded_to, due_list};
 ghost use Rattle.batch_store.specs.Verdicts.{verdict_on_new, kept};
-ghost use Rattle.batch_store.specs.Books.{AreAccepted, batches_of, verdict_on, listed_in};
+ghost use Rattle.batch_store.specs.Books.{AreAccepted, line_entry, line_entries, verdict_on, listed_in};
 
 use crate::batch::Batch;
+use crate::book_fold::BookFold;
 use crate::book_list::BookList;
 use crate::folded::{Folded, repeated};
 use crate::line::Line;
 use crate::pair::Pair;
 use crate::setup::Setup;
+use crate::unfolded::Unfolded;
 use crate::verdict::{Entry, Kept, Verdict};
 use hyper_matrix::Hyper;
 use segmented_map::SegmentedMap;
@@ -35,27 +41,42 @@ use std::sync::Arc;
 ///
 /// Contracts see the setup, what was accepted, and how many batches more the book takes without memory. No client and
 /// number stands twice, each batch that isn't folded has the setup's dimensions, and both limits of the setup hold. The
-/// batches are shared with whoever else has them; beside each the book takes some 50 bytes, and 20 more just after
+/// batches are shared with whoever else has them; beside each the book takes some 65 bytes, and 20 more just after
 /// its map grew. Of a folded batch some 60 bytes are all that is kept.
 #[derive(Drop)]
 pub struct Book {
     setup: Setup,
     total: u64,
     past: Folded,
+    // So many lines in front are of folded batches.
+    gone: usize,
     lines: SegmentedMap<Pair, Line, RandomState>,
+    rest: Unfolded,
+}
+
+/// What a fold let go of: the old base, and the batches that went into the new one. It is to be dropped when no lock is
+/// held.
+#[derive(Drop)]
+pub struct ReleasedBatches {
+    base: Arc<Hyper>,
+    batches: Option<Arc<BookFold>>,
 }
 
 impl Model for Book {
+    ghost use Rattle.std.specs.Prelude.{min};
     ghost use Rattle.indexmap.specs.IndexMap.{spare};
     ghost use Rattle.batch_store.specs.Books.{Register, register, coded_register, state_of, KeepsBook};
+    ghost use Rattle.batch_store.specs.BookFolds.{IsBookDue, rest_list};
 
     ghost Value = { Register };
 
     ghost coded = { coded_register };
 
-    ghost view = { λ a. register a.setup (state_of a.past a.lines.entries) (spare a.lines) };
+    ghost view = { λ a. register a.setup (state_of a.past a.gone a.lines.entries (rest_list a.rest))
+        (min (spare a.lines) a.rest.free) };
 
-    ghost invariant = { λ a. KeepsBook a.setup a.total a.past a.lines.entries };
+    ghost invariant = { λ a. KeepsBook a.setup a.total a.past a.gone a.lines.entries (rest_list a.rest)
+        × IsBookDue a.past.base a.rest.due };
 }
 
 // What a new pair is answered, where `count` batches were accepted, with this total.
@@ -118,13 +139,16 @@ impl Book {
                 setup: *setup,
                 total: past.total(),
                 past,
+                gone: 0,
                 lines: SegmentedMap::with_hasher(alloc, hasher),
+                rest: Unfolded::new(alloc),
             }),
             Err(_) => Err(AllocError),
         }
     }
 
-    /// The verdict on a batch, by one look-up, and one more where batches are folded, in whole numbers: no sum wraps.
+    /// The verdict on a batch, by one look-up, and one more where batches were folded when the book was made, in whole
+    /// numbers: no sum wraps.
     /// Takes no memory.
     ///
     /// If the batch's client and number stand in the book: `Known` with the reply of then, where the batch has as many
@@ -148,7 +172,7 @@ impl Book {
                     index: self.past.len() + index as u64,
                     total_after: line.total_after,
                 };
-                repeated(line.batch.matrix.entries(), line.batch.total, b, kept)
+                repeated(line.cells, line.total, b, kept)
             }
             None => judged_new(
                 self.setup.limit(),
@@ -174,7 +198,7 @@ impl Book {
     pub fn folded(&self) -> u64
         ensures { result ≡ length self.now.state.folded }
     {
-        self.past.len()
+        self.past.len() + self.gone as u64
     }
 
     /// The sum of the folded batches, shared. Constant time.
@@ -207,7 +231,8 @@ impl Book {
         ensures ok { OnOk result (0 < self.new.free) }
         ensures room { self.old.free ≤ self.new.free }
     {
-        self.lines.reserve_one()
+        self.lines.reserve_one()?;
+        self.rest.reserve_one()
     }
 
     /// Appends a batch, and tells its place and the total with it: the reply that is kept for it. It can't fail, and
@@ -233,13 +258,13 @@ impl Book {
         };
         let index = self.len();
         let total_after = self.total + batch.total;
-        self.lines.push(
-            pair,
-            Line {
-                batch: b,
-                total_after,
-            },
-        );
+        let line = Line {
+            cells: batch.matrix.entries(),
+            total: batch.total,
+            total_after,
+        };
+        self.lines.push(pair, line);
+        self.rest.push(b);
         self.total = total_after;
         Kept { index, total_after }
     }
@@ -249,12 +274,11 @@ impl Book {
     pub fn at(&self, i: u64) -> Option<&Arc<Batch>>
         ensures { option_map (λ a. arc_value a.now) result ≡ batch_at self.now.state i }
     {
-        let folded = self.past.len();
+        let folded = self.folded();
         if i < folded {
             return None;
         }
-        let (_, line) = self.lines.get_index((i - folded) as usize)?;
-        Some(&line.batch)
+        self.rest.at((i - folded) as usize)
     }
 
     /// What a verdict reads of the batch at a place, folded or not, counted from 0, and None from the number of batches
@@ -266,20 +290,23 @@ impl Book {
         if i < folded {
             return self.past.at(i);
         }
-        let (_, line) = self.lines.get_index((i - folded) as usize)?;
-        Some(line.batch.entry())
+        match self.lines.get_index((i - folded) as usize) {
+            Some((pair, line)) => Some(entry_under(pair, line)),
+            None => None,
+        }
     }
 
-    /// The batches that aren't folded, in order, in a list that shares them. One growth, of a pointer for each batch.
+    /// The batches that aren't folded, in order, in a list that shares them. At most two growths, of a
+    /// pointer for each batch together.
     ///
     /// # Errors
     ///
-    /// The growth was refused.
+    /// A growth was refused.
     pub fn list(&self, alloc: Global) -> Result<Vec<Arc<Batch>>, AllocError>
         ensures list { IfOk result (λ list. values list.items ≡ self.now.state.list) }
         ensures kept { AreAccepted self.now.setup self.now.state }
     {
-        let list = share_all(alloc, &self.lines)?;
+        let list = self.rest.share_all(alloc)?;
         Ok(list)
     }
 
@@ -297,12 +324,14 @@ impl Book {
             take (vec_len out.new) (drop (from - length self.now.state.folded) self.now.state.list) }
         ensures some { OnTrue result (from < count_in self.now.state → 0 < vec_len out.new) }
     {
-        let place = (from - self.past.len()) as usize;
-        share_behind(&self.lines, place, most_cells, out)
+        // It bounds the places.
+        let _count = self.lines.len();
+        let place = (from - self.folded()) as usize;
+        self.rest.share_behind(place, most_cells, out)
     }
 
-    /// All that was accepted, in a list that shares the base and the batches. Two growths: 32 bytes for each folded
-    /// batch, and a pointer for each other.
+    /// All that was accepted, in a list that shares the base and the batches. A few growths: 32 bytes for each
+    /// folded batch, and a pointer for each other.
     ///
     /// # Errors
     ///
@@ -312,8 +341,9 @@ impl Book {
         ensures kept { AreAccepted self.now.setup self.now.state }
     {
         let base = Arc::try_clone(self.past.base())?;
-        let folded = self.past.list(alloc)?;
-        let batches = share_all(alloc, &self.lines)?;
+        let past = self.past.list(alloc)?;
+        let folded = with_entries(past, &self.lines, self.gone)?;
+        let batches = self.rest.share_all(alloc)?;
         Ok(BookList {
             base,
             folded,
@@ -322,93 +352,107 @@ impl Book {
     }
 
     /// Folds all batches: of each only its entry, its place and its reply are kept, and its cells are let go of, as far
-    /// as nobody else shares them. No verdict changes. Takes the time of a look-up for each batch, and two growths.
+    /// as nobody else shares them. No verdict changes. It takes no memory.
     ///
     /// The caller has added up the base: the old one and the matrices of all batches that aren't folded.
     ///
     /// # Errors
     ///
-    /// A growth was refused. The book is as before.
+    /// None.
     pub fn fold(&mut self, alloc: Global, base: Arc<Hyper>) -> Result<(), AllocError>
         requires { arc_value base ≡ matrix self.old.setup.rows self.old.setup.cols (summed self.old.state) }
         ensures ok { OnOk result (self.new.state ≡ folded_into (arc_value base).counts self.old.state) }
         ensures err { OnErr result (self.new.state ≡ self.old.state) }
         ensures setup { self.new.setup ≡ self.old.setup }
     {
-        // It bounds the total.
-        let _limit = self.setup.limit();
-        let entries = entries_of_batches(alloc, &self.lines)?;
-        self.past.reserve(entries.len())?;
-        self.past.push_all(&entries);
-        self.past.set_base(base);
-        self.lines.clear();
+        let _old = self.past.set_base(base);
+        self.gone = self.lines.len();
+        self.rest = Unfolded::new(alloc);
         Ok(())
     }
 }
 
-// Puts the batches of lines from a place on into a list that shares them, in order, as far as it has room: the first
-// alone, or as many as have at most so many cells together. False where there are too many copies of a pointer.
-fn share_behind(
-    lines: &SegmentedMap<Pair, Line, RandomState>,
-    from: usize,
-    most_cells: u64,
-    out: &mut Vec<Arc<Batch>>,
-) -> bool
-    requires empty { out.old.items ≡ [] }
-    requires none { vec_len out.old ≡ 0 }
-    requires room { 0 < vec_capacity out.old }
-    ensures capacity { vec_capacity out.new ≡ vec_capacity out.old }
-    ensures list { values out.new.items ≡ take (vec_len out.new) (drop from (batches_of lines.now.entries)) }
-    ensures some { OnTrue result (from < length lines.now.entries → 0 < vec_len out.new) }
-{
-    // It bounds the places.
-    let _count = lines.len();
-    let mut cells = 0u64;
-    let mut place = from;
-    'lines: while let Some((_, line)) = lines.get_index(place) {
-        let with = cells.saturating_add(line.batch.matrix.entries());
-        if out.len() == out.capacity() || (out.len() > 0 && with > most_cells) {
-            break;
-        }
-        let Ok(batch) = Arc::try_clone(&line.batch) else {
-            return false;
-        };
-        out.push_reserved(batch);
-        cells = with;
-        place += 1;
+impl Book {
+    /// Seals the batches that aren't folded: all of them are to be folded next, by `settle_fold`, and whoever has the
+    /// answer makes the base with them without the book. None where some are sealed already, or there are none, or more
+    /// than `most`. What was accepted stays, also on an error, but the free places may be fewer. Constant time: one
+    /// growth, of what is shared, and no batch is listed.
+    ///
+    /// # Errors
+    ///
+    /// A growth was refused.
+    pub fn begin_fold(
+        &mut self,
+        alloc: Global,
+        most: u64,
+    ) -> Result<Option<Arc<BookFold>>, AllocError>
+        ensures setup { self.new.setup ≡ self.old.setup }
+        ensures state { self.new.state ≡ self.old.state }
+    {
+        let base = Arc::try_clone(self.past.base())?;
+        self.rest
+            .seal(alloc, most, self.setup.rows(), self.setup.cols(), base)
     }
-    true
+
+    /// Folds the batches that were sealed, where their base was made: it is put in place of the old one. What the book
+    /// lets go of is given back, to be dropped when no lock is held. None where the base isn't made yet, or nothing is
+    /// sealed. No verdict changes. It takes no memory and constant time.
+    pub fn settle_fold(&mut self) -> Option<ReleasedBatches>
+        ensures setup { self.new.setup ≡ self.old.setup }
+        ensures free { self.new.free ≡ self.old.free }
+        ensures kept { result ≡ None → self.new ≡ self.old }
+        ensures folded { IfSome result (λ r. (m : ℕ) × (m ≤ length self.old.state.list)
+            × (self.new.state ≡ folded_to m self.old.state)) }
+    {
+        let base = self.rest.made_base()?;
+        let batches = self.rest.take_sealed();
+        self.gone += sealed_len(&batches);
+        let base = self.past.set_base(base);
+        Some(ReleasedBatches { base, batches })
+    }
 }
 
-// The batches of all lines, shared.
-fn share_all(
-    alloc: Global,
-    lines: &SegmentedMap<Pair, Line, RandomState>,
-) -> Result<Vec<Arc<Batch>>, AllocError>
-    ensures { IfOk result (λ list. values list.items ≡ batches_of lines.now.entries) }
+// How many batches a fold has; none where there is no fold.
+fn sealed_len(sealed: &Option<Arc<BookFold>>) -> usize
+    ensures { result ≡ length (due_list (option_map (λ d. arc_value d) sealed.now)) }
 {
-    let mut list = Vec::with_capacity(alloc, lines.len())?;
-    let mut place = 0;
-    'lines: while let Some((_, line)) = lines.get_index(place) {
-        let batch = Arc::try_clone(&line.batch)?;
-        list.push(batch)?;
-        place += 1;
+    match sealed {
+        Some(fold) => fold.len(),
+        None => 0,
     }
-    Ok(list)
 }
 
-// The entries of all lines.
-fn entries_of_batches(
-    alloc: Global,
+// Entries, and behind them those of the first so many lines.
+fn with_entries(
+    before: Vec<Entry>,
     lines: &SegmentedMap<Pair, Line, RandomState>,
+    count: usize,
 ) -> Result<Vec<Entry>, AllocError>
-    ensures { IfOk result (λ list. list.items ≡ entries_of (batches_of lines.now.entries)) }
+    requires { count ≤ length lines.now.entries }
+    ensures { IfOk result (λ list. list.items ≡
+        before.items ++ line_entries (take count lines.now.entries)) }
 {
-    let mut list = Vec::with_capacity(alloc, lines.len())?;
+    let mut list = before;
+    list.reserve(count)?;
     let mut place = 0;
-    'lines: while let Some((_, line)) = lines.get_index(place) {
-        list.push(line.batch.entry())?;
+    'lines: while place < count {
+        let Some((pair, line)) = lines.get_index(place) else {
+            unreachable!()
+        };
+        list.push(entry_under(pair, line))?;
         place += 1;
     }
     Ok(list)
+}
+
+// The entry of a line.
+fn entry_under(pair: &Pair, line: &Line) -> Entry
+    ensures { result ≡ line_entry (pair.now, line.now) }
+{
+    Entry {
+        client: pair.client,
+        number: pair.number,
+        cells: line.cells,
+        total: line.total,
+    }
 }

@@ -18,6 +18,7 @@ use indexmap::IndexMap;
 use std::alloc::{AllocError, Global};
 use std::collections::hash_map::RandomState;
 use std::marker::Model;
+use std::mem;
 use std::random::RandomSource;
 use std::sync::Arc;
 
@@ -190,11 +191,11 @@ impl Folded {
     }
 
     /// Puts another base in place of this one, which is given back.
-    pub fn set_base(&mut self, base: Arc<Hyper>)
+    pub fn set_base(&mut self, base: Arc<Hyper>) -> Arc<Hyper>
         ensures base { self.new.base ≡ arc_value base }
         ensures entries { self.new.entries ≡ self.old.entries }
     {
-        self.base = base;
+        mem::replace(&mut self.base, base)
     }
 
     /// The entry at a place, and None past the last. Constant time.

@@ -8,13 +8,19 @@
 //! Each step that changes anything has one before it that makes all growth and changes nothing: `Book::reserve` before
 //! `Book::admit`, `Shard::prepare` before `Shard::commit`. The second can't fail and takes no memory, so a caller makes
 //! all that can be refused first, and then accepts the batch everywhere or nowhere.
+//!
+//! A book and a shard are folded beside what they take in: `begin_fold` seals what there is and gives away what the new
+//! base is made of, `run` makes it without the book or the shard, and `settle_fold` puts it in place, which can't be
+//! refused. Whoever folds an engine seals the book and all shards at one moment.
 #![tactic(auto)]
 
 mod batch;
 mod batch_parts;
 mod book;
+mod book_fold;
 mod book_list;
 mod fault;
+mod fold_place;
 mod folded;
 mod given;
 mod laws;
@@ -25,14 +31,17 @@ mod pair;
 mod part;
 mod setup;
 mod shard;
+mod unfolded;
 mod verdict;
 mod view;
 mod view_reads;
 
 pub use batch::Batch;
-pub use book::Book;
+pub use book::{Book, ReleasedBatches};
+pub use book_fold::BookFold;
 pub use book_list::BookList;
 pub use fault::{BatchFault, CellsFault, SetupFault, ShardFault};
+pub use fold_place::ShardFold;
 pub use laws::{
     a_part_is_no_more_than_the_whole, fresh_batches_fit, no_cell_lies_below_shard_zero,
     one_shard_more, records_grow_by_a_part, records_hold_the_part, shards_have_all,
@@ -41,6 +50,6 @@ pub use laws::{
 pub use layer_cascade::Compaction;
 pub use limits::{MAX_BATCHES, MAX_CELLS, MAX_SHARDS};
 pub use setup::Setup;
-pub use shard::{Prepared, Shard};
+pub use shard::{Prepared, ReleasedRecord, Shard};
 pub use verdict::{Entry, Kept, Verdict};
 pub use view::ShardView;

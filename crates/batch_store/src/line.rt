@@ -1,11 +1,10 @@
-//! What the book keeps of an accepted batch.
+//! What the book keeps of an accepted batch beside its client and number, whether it is folded or not.
 
-use crate::batch::Batch;
-use std::sync::Arc;
-
-/// An accepted batch, with the accepted total up to and with it: its reply is never worked out again.
-#[derive(Drop)]
+/// What a repeat of a batch is judged by and answered: its number of cells, its total, and the accepted total up to and
+/// with it. A reply is never worked out again.
+#[derive(Clone, Copy)]
 pub struct Line {
-    pub batch: Arc<Batch>,
+    pub cells: u64,
+    pub total: u64,
     pub total_after: u64,
 }

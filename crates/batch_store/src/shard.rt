@@ -4,22 +4,25 @@
 //! `prepare` makes every growth and changes nothing that can be seen, and `commit` puts what was prepared in place and
 //! can't fail. The record is a map from client and number to the batch, in the order of acceptance, hashed with a seed
 //! drawn for each shard, since clients choose the keys.
-ghost use Rattle.std.specs.Prelude.{◌≡◌, ℕ, ◌+◌, ◌<◌, ◌≤◌, ◌++◌, [], ◌∷◌, ◌↔◌, IfOk, IfErr, IsTrue, None, false};
-ghost use Rattle.std.specs.Prelude.{option_map, replicate, length, slice_get};
+ghost use Rattle.std.specs.Prelude.{◌≡◌, ℕ, ◌+◌, ◌<◌, ◌≤◌, ◌++◌, ◌^◌, [], ◌∷◌, ◌↔◌, IfOk, IfErr, IfSome, IsTrue, None, false};
+ghost use Rattle.std.specs.Prelude.{option_map, replicate, length, slice_get, is_some, true};
 ghost use Rattle.std.specs.Arc.{arc_value};
 ghost use Rattle.std.specs.FinMap.{empty, get as get_count, len};
 ghost use Rattle.hyper_matrix.specs.Counts.{total as total_of, part};
 ghost use Rattle.hyper_matrix.specs.Matrix.{matrix};
 ghost use Rattle.hyper_matrix.specs.RowOf.{row_of};
 ghost use Rattle.layer_compaction.specs.Shared.{content};
+ghost use Rattle.layer_compaction.specs.Due.{numbers_of};
 ghost use Rattle.layer_cascade.specs.Cascade.{cascade};
 ghost use Rattle.layer_cascade.specs.Layering.{entries_of_layer, no_layers};
 ghost use Rattle.batch_store.specs.Parts.{part_of};
 ghost use Rattle.batch_store.specs.Shards.{AreHeld, stands, Refuses, IsReady, shard_total, part_in, amount_in};
+ghost use Rattle.batch_store.specs.ShardFolds.{StaysAll, FoldsFront};
 ghost use Rattle.batch_store.specs.Shards.{layering_of, layering_with, HasDims, matrix_in, Stays, KeepsShard};
 
 use crate::batch::Batch;
 use crate::fault::ShardFault;
+use crate::fold_place::{BasePlace, ShardFold};
 use crate::pair::Pair;
 use crate::part::part_total;
 use crate::setup::Setup;
@@ -30,6 +33,7 @@ use segmented_map::SegmentedMap;
 use std::alloc::{AllocError, Global};
 use std::collections::hash_map::RandomState;
 use std::marker::Model;
+use std::mem;
 use std::random::RandomSource;
 use std::sync::Arc;
 
@@ -46,22 +50,40 @@ pub struct Shard {
     number: u64,
     layers: Layers,
     base: Arc<Hyper>,
+    // The front of the record that is to go into the base, while that is made. Empty where nothing is sealed.
+    sealed: SegmentedMap<Pair, Arc<Batch>, RandomState>,
     held: SegmentedMap<Pair, Arc<Batch>, RandomState>,
+    // Where the base with the sealed batches' parts will be found.
+    due: Option<Arc<BasePlace>>,
+    hasher: RandomState,
 }
+
+/// What a fold let go of: to be dropped when no lock is held.
+#[derive(Drop)]
+pub struct ReleasedRecord {
+    base: Arc<Hyper>,
+    sealed: SegmentedMap<Pair, Arc<Batch>, RandomState>,
+}
+
+// The most batches of a record.
+const MOST_HELD: u64 = 1 << 62;
 
 impl Model for Shard {
     ghost use Rattle.std.specs.Arc.{arc_value};
     ghost use Rattle.indexmap.specs.IndexMap.{spare};
+    ghost use Rattle.std.specs.Prelude.{◌++◌};
     ghost use Rattle.batch_store.specs.Shards.{Holding, holding, coded_holding, recorded, KeepsShard};
+    ghost use Rattle.batch_store.specs.ShardFolds.{IsSealed};
 
     ghost Value = { Holding };
 
     ghost coded = { coded_holding };
 
-    ghost view = { λ a. holding a.setup a.number a.layers.layers (arc_value a.base).counts (recorded a.held.entries)
-        (spare a.held) };
+    ghost view = { λ a. holding a.setup a.number a.layers.layers (arc_value a.base).counts
+        (recorded (a.sealed.entries ++ a.held.entries)) (spare a.held) };
 
-    ghost invariant = { λ a. KeepsShard a.setup a.number a.layers (arc_value a.base) a.held.entries };
+    ghost invariant = { λ a. KeepsShard a.setup a.number a.layers (arc_value a.base) (a.sealed.entries ++ a.held.entries)
+        × IsSealed a.setup a.number (arc_value a.base) (recorded a.sealed.entries) a.due };
 }
 
 /// A batch with the layers that hold its part, ready to be committed to the shard that it was prepared for.
@@ -188,7 +210,10 @@ impl Shard {
                 number: s,
                 layers,
                 base,
+                sealed: SegmentedMap::with_hasher(alloc, hasher),
                 held: SegmentedMap::with_hasher(alloc, hasher),
+                due: None,
+                hasher,
             }),
             Err(_) => Err(AllocError),
         }
@@ -221,7 +246,7 @@ impl Shard {
     pub fn record_len(&self) -> u64
         ensures { result ≡ length self.now.record_list }
     {
-        self.held.len() as u64
+        self.sealed.len() as u64 + self.held.len() as u64
     }
 
     /// The count at a place of the sum of all parts, and None where that has no entry, as outside the dimensions and in
@@ -248,18 +273,25 @@ impl Shard {
         self.layers.layer_entries(i)
     }
 
-    /// Whether a batch with this client and number stands in the record. One look-up.
+    /// Whether a batch with this client and number stands in the record. One look-up, and one more where batches are
+    /// sealed.
     pub fn holds(&self, client: u64, number: u64) -> bool
         ensures { result ≡ stands client number self.now.record_list }
     {
-        self.held.contains_key(&Pair { client, number })
+        let pair = Pair { client, number };
+        self.sealed.contains_key(&pair) || self.held.contains_key(&pair)
     }
 
     /// The batch at a place of the record, counted from 0, and None past the last. Constant time.
     pub fn at(&self, i: u64) -> Option<&Arc<Batch>>
         ensures { option_map (λ a. arc_value a.now) result ≡ slice_get self.now.record_list i }
     {
-        let (_, batch) = self.held.get_index(i as usize)?;
+        let sealed = self.sealed.len() as u64;
+        if i < sealed {
+            let (_, batch) = self.sealed.get_index(i as usize)?;
+            return Some(batch);
+        }
+        let (_, batch) = self.held.get_index((i - sealed) as usize)?;
         Some(batch)
     }
 
@@ -361,6 +393,9 @@ impl Shard {
         ensures batch { IfOk result (λ p. p.batch ≡ arc_value b.now) }
         ensures ready { IfOk result (IsReady self.new) }
     {
+        if self.record_len() >= MOST_HELD {
+            return Err(AllocError);
+        }
         let plan = self.layers.plan(alloc, part)?;
         self.held.reserve_one()?;
         let batch = Arc::try_clone(b)?;
@@ -413,7 +448,9 @@ impl Shard {
         ensures record { self.new.record_list ≡ [] }
     {
         self.base = base;
+        self.sealed.clear();
         self.held.clear();
+        self.due = None;
     }
 
     /// Adds up parts that stand side by side in the layers, or counts their places, so that the batch that needs that
@@ -463,7 +500,7 @@ impl Shard {
         ensures record { IfOk result (λ v. v.record_len ≡ length self.now.record_list) }
     {
         let layers = self.layers.view(alloc)?;
-        Ok(ShardView::new(layers, self.held.len() as u64))
+        Ok(ShardView::new(layers, self.record_len()))
     }
 
     /// The layers and the length of the record as `commit` of what was prepared will leave them, so that the growth of
@@ -482,8 +519,71 @@ impl Shard {
             (cascade self.now.layers self.now.setup.cuts (part_in self.now p.now.batch)) self.now.base
             (self.now.record_list ++ p.now.batch ∷ []) }
     {
-        let record_len = self.held.len() as u64 + 1;
+        let record_len = self.sealed.len() as u64 + self.held.len() as u64 + 1;
         let layers = p.plan.view(alloc)?;
         Ok(ShardView::new(layers, record_len))
+    }
+}
+
+impl Shard {
+    /// Seals the record: all batches that are in it now are to go into the base, which whoever has the answer makes
+    /// without the shard. None where batches are sealed already, or there are none. What the shard holds stays, also on
+    /// an error, but for the free places. Only pointers are moved: a view of the layers and a place are the growths.
+    ///
+    /// # Errors
+    ///
+    /// A growth was refused.
+    pub fn begin_fold(&mut self, alloc: Global) -> Result<Option<ShardFold>, AllocError>
+        ensures { StaysAll self.old self.new }
+    {
+        if self.sealed.len() > 0 || self.held.is_empty() {
+            return Ok(None);
+        }
+        let layers = self.layers.view(alloc)?;
+        let (place, fold) = ShardFold::begin(alloc, layers)?;
+        mem::swap(&mut self.sealed, &mut self.held);
+        self.due = Some(place);
+        Ok(Some(fold))
+    }
+
+    /// Takes a seal back, where no batch came since. What the shard holds stays, but for the free places. It takes no
+    /// memory.
+    pub fn unseal(&mut self)
+        ensures { StaysAll self.old self.new }
+    {
+        if self.held.len() > 0 {
+            return;
+        }
+        mem::swap(&mut self.sealed, &mut self.held);
+        self.due = None;
+    }
+
+    /// Puts the base that was made in place of the old one and of the sealed front of the record, and gives what the
+    /// shard lets go of; None where it isn't made yet, or nothing is sealed. The layers stay. It takes no memory, and
+    /// moves pointers alone.
+    pub fn settle_fold(&mut self, alloc: Global) -> Option<ReleasedRecord>
+        ensures kept { result ≡ None → self.new ≡ self.old }
+        ensures folded { IfSome result (λ u. (m : ℕ) × FoldsFront m self.old self.new) }
+    {
+        let base = made_base(&self.due)?;
+        let none = SegmentedMap::with_hasher(alloc, self.hasher);
+        self.due = None;
+        let base = mem::replace(&mut self.base, base);
+        let sealed = mem::replace(&mut self.sealed, none);
+        Some(ReleasedRecord { base, sealed })
+    }
+}
+
+// The base that is due, if it was made.
+fn made_base(due: &Option<Arc<BasePlace>>) -> Option<Arc<Hyper>>
+    ensures told { IfSome result (λ base. IfSome due.now (λ place. numbers_of (arc_value base) ≡ arc_value place)) }
+    ensures some { IfSome result (λ base. is_some due.now ≡ true) }
+{
+    match due {
+        Some(place) => {
+            let base = place.base()?;
+            Arc::try_clone(base).ok()
+        }
+        None => None,
     }
 }

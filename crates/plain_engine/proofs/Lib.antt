@@ -10,3 +10,5 @@ pub mod LookLaws
 pub mod KnownLaws
 pub mod LoadLaws
 mod WalkLaws
+pub mod FoldTogetherLaws
+mod RoundLaws

@@ -1,6 +1,7 @@
 pub mod Object
 pub mod Records
 pub mod World
+pub mod Rounds
 pub mod Standing
 pub mod Views
 pub mod Puts

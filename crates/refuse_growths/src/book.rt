@@ -46,7 +46,8 @@ fn run_example(
     Ok(())
 }
 
-fn show_book(rt: &impl Print, book: &Book) {
+/// How many batches a book has, and their total.
+pub fn show_book(rt: &impl Print, book: &Book) {
     tell(
         rt,
         &[
@@ -56,8 +57,13 @@ fn show_book(rt: &impl Print, book: &Book) {
     );
 }
 
-// Has a shard take a batch in; where memory was refused, it is told what stands, and the shard prepares it again.
-fn take_in(rt: &impl Print, alloc: Global, shard: &mut Shard, b: &Arc<Batch>) -> Result<(), Stop>
+/// Has a shard take a batch in; where memory was refused, it is told what stands, and the shard prepares it again.
+pub fn take_in(
+    rt: &impl Print,
+    alloc: Global,
+    shard: &mut Shard,
+    b: &Arc<Batch>,
+) -> Result<(), Stop>
     requires rows { (arc_value b.now).matrix.rows ≡ shard.old.setup.rows }
     requires cols { (arc_value b.now).matrix.cols ≡ shard.old.setup.cols }
 {
@@ -75,9 +81,9 @@ fn take_in(rt: &impl Print, alloc: Global, shard: &mut Shard, b: &Arc<Batch>) ->
     Ok(())
 }
 
-// Has a book admit a batch that is new to it; where memory was refused, it is told what stands, and the book is asked
-// for room again.
-fn admit(rt: &impl Print, book: &mut Book, b: Arc<Batch>) -> Result<(), Stop>
+/// Has a book admit a batch that is new to it; where memory was refused, it is told what stands, and the book is asked
+/// for room again.
+pub fn admit(rt: &impl Print, book: &mut Book, b: Arc<Batch>) -> Result<(), Stop>
     requires rows { (arc_value b).matrix.rows ≡ book.old.setup.rows }
     requires cols { (arc_value b).matrix.cols ≡ book.old.setup.cols }
 {

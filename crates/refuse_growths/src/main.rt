@@ -14,6 +14,7 @@ mod frames;
 mod locked;
 mod plain;
 mod reads;
+mod sealing;
 mod seats;
 mod session;
 mod show;
@@ -35,6 +36,7 @@ static NAMES: &[&str] = &[
     "reads",
     "folding",
     "book",
+    "sealing",
     "compacting",
     "locked",
     "frames",
@@ -98,6 +100,7 @@ fn run_scenario<R: Wait + Print + RandomSource + Files>(
         "reads" => reads::run(rt, alloc),
         "folding" => folding::run(rt, alloc),
         "book" => book::run(rt, alloc),
+        "sealing" => sealing::run(rt, alloc),
         "compacting" => compacting::run(rt, alloc),
         "locked" => locked::run(rt, alloc),
         "frames" => frames::run(rt, alloc),

@@ -5,6 +5,7 @@ mod books;
 mod folds;
 mod lists;
 mod queues;
+mod sealed;
 pub mod setups;
 mod shards;
 pub mod views;

@@ -88,16 +88,16 @@ fn folded_after<R: RandomSource + Abort + Eprint>(
 }
 
 // The entries of a matrix, their total, and the count at the first place.
-type Sum = (u64, u64, Option<u64>);
+pub type Sum = (u64, u64, Option<u64>);
 
 fn sum(m: &Hyper) -> Sum {
     (m.entries(), m.total(), m.get(0, 0))
 }
 
 // How many batches a book has, how many of them are folded, their total, and the base.
-type Size = (u64, u64, u64, Sum);
+pub type Size = (u64, u64, u64, Sum);
 
-fn size(book: &Book) -> Size {
+pub fn size(book: &Book) -> Size {
     (book.len(), book.folded(), book.total(), sum(book.base()))
 }
 
@@ -144,7 +144,7 @@ fn list_sizes(rt: &impl Abort, alloc: Global, book: &Book) -> (usize, usize, Sum
 }
 
 // All that a book tells without a batch.
-type Told = (
+pub type Told = (
     Size,
     [Option<Entry>; 4],
     [Option<u64>; 4],
@@ -152,7 +152,7 @@ type Told = (
     (usize, usize, Sum),
 );
 
-fn told(rt: &impl Abort, alloc: Global, book: &Book) -> Told {
+pub fn told(rt: &impl Abort, alloc: Global, book: &Book) -> Told {
     let listed = listed(rt, alloc, book);
     let sizes = list_sizes(rt, alloc, book);
     (size(book), entries(book), totals(book), listed, sizes)
@@ -180,7 +180,7 @@ const THIRD: Entry = Entry {
 };
 
 // What is put first, and then folded.
-static TWO: &[Put] = &[
+pub static TWO: &[Put] = &[
     (
         7,
         1,
@@ -325,7 +325,7 @@ fn a_book_of_folded_batches_answers_as_one_that_folded_them(rt: HostRuntime) {
 }
 
 // What is put behind those two, and then folded with them.
-static ONE_MORE: &[Put] = &[
+pub static ONE_MORE: &[Put] = &[
     (
         9,
         1,
@@ -406,7 +406,7 @@ fn one_more(
 }
 
 // What those tell that are put to a book with two batches folded.
-fn behind_two() -> (Told, Size, Size) {
+pub fn behind_two() -> (Told, Size, Size) {
     let behind = (
         (3, 2, 10, (1, 8, Some(8))),
         [Some(FIRST), Some(SECOND), Some(THIRD), None],
@@ -486,16 +486,16 @@ fn shard_of<R: RandomSource + Abort>(rt: &R, alloc: Global, setup: &Setup, cells
 
 // The total of a shard and the length of its record, its base, its counts at the places (0, 0) and (2, 0), and whether
 // the batches (7, 1) and (9, 1) stand in its record.
-type Held = ((u64, u64), Sum, [Option<u64>; 2], [bool; 2]);
+pub type Held = ((u64, u64), Sum, [Option<u64>; 2], [bool; 2]);
 
-fn held(shard: &Shard) -> Held {
+pub fn held(shard: &Shard) -> Held {
     let counts = [shard.get(0, 0), shard.get(2, 0)];
     let stand = [shard.holds(7, 1), shard.holds(9, 1)];
     (shards::size(shard), sum(shard.base()), counts, stand)
 }
 
 // Of shard 0 of 2: rows 1 and 3 of a text.
-static SIX: &[Step] = &[(9, 1, "3 3 3\n1 1 2\n2 1 7\n3 1 4\n", Ok(6))];
+pub static SIX: &[Step] = &[(9, 1, "3 3 3\n1 1 2\n2 1 7\n3 1 4\n", Ok(6))];
 
 static EIGHT: &[Cell] = &[Cell {
     row: 0,
@@ -584,7 +584,7 @@ fn rebase(rt: &impl Abort, alloc: Global, shard: &mut Shard)
     shard.rebase(Arc::new(alloc, sum).expect(rt, "memory"));
 }
 
-static FIVE: &[Step] = &[(7, 1, "3 3 2\n1 1 5\n2 2 1\n", Ok(5))];
+pub static FIVE: &[Step] = &[(7, 1, "3 3 2\n1 1 5\n2 2 1\n", Ok(5))];
 
 // What the view of a shard adds up to.
 fn seen(rt: &impl Abort, alloc: Global, shard: &Shard) -> Sum {

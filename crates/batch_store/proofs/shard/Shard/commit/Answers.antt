@@ -1,24 +1,30 @@
-use Rattle.std.proofs.Common.{◌∙◌, ap}
+use Rattle.std.proofs.Common.{◌∙◌, ◌++◌, ap, sym, append_assoc}
 use Rattle.batch_store.specs.Batches.{Submission}
 use Rattle.batch_store.specs.Shards.{Preparation}
-use Rattle.batch_store.proofs.ShardLaws.{absent_held, total_committed, keeps_committed}
+use Rattle.batch_store.proofs.ShardLaws.{Held, absent_held, total_committed, keeps_committed}
+use Rattle.batch_store.proofs.ShardFoldLaws.{lookup_behind}
 use Rattle.batch_store.proofs.shard.Shard.commit.Goals as goal
 
 pub push-requires-clause-absent : goal.push-requires-clause-absent
 push-requires-clause-absent c =
     let same = c.taken.view_is ∙ c.deref-taken.ensures ∙ ap (λ (q : Preparation). q.batch) c.p.view_is in
-    absent_held _ _ _ _ _ _ _ c.self.invariant c.self.view_is _ c.args.p (ap (λ (b : Submission). b.client) same)
-    (ap (λ (b : Submission). b.number) same) c.requires.absent
+    lookup_behind _ c.self.inside.sealed.entries c.self.inside.held.entries
+    (absent_held _ _ _ _ _ _ _ c.self.invariant.0 c.self.view_is _ c.args.p (ap (λ (b : Submission). b.client) same)
+    (ap (λ (b : Submission). b.number) same) c.requires.absent)
 
 pub invariant_of-self : goal.invariant_of-self
 invariant_of-self c =
     let same = c.taken.view_is ∙ c.deref-taken.ensures ∙ ap (λ (q : Preparation). q.batch) c.p.view_is in
-    keeps_committed _ _ _ _ _ _ _ c.self.invariant c.self.view_is c.args.p c.requires c.commit.new.self c.p.inside.plan
-    (ap (λ (q : Preparation). q.planned) c.p.view_is) c.commit.ensures
-    c.push.new.self.entries _ c.p.inside.batch (ap (λ (q : Preparation). q.batch) c.p.view_is)
-    (ap (λ (b : Submission). b.client) same) (ap (λ (b : Submission). b.number) same) c.push.ensures.entries
+    let sealed = c.self.inside.sealed.entries in (
+      keeps_committed _ _ _ _ _ _ _ c.self.invariant.0 c.self.view_is c.args.p c.requires c.commit.new.self c.p.inside.plan
+          (ap (λ (q : Preparation). q.planned) c.p.view_is) c.commit.ensures
+          (sealed ++ c.push.new.self.entries) _ c.p.inside.batch (ap (λ (q : Preparation). q.batch) c.p.view_is)
+          (ap (λ (b : Submission). b.client) same) (ap (λ (b : Submission). b.number) same)
+          (ap (λ (l : Held). sealed ++ l) c.push.ensures.entries ∙ sym (append_assoc sealed c.self.inside.held.entries _)),
+      c.self.invariant.1,
+    )
 
 pub returns-clause-total : goal.returns-clause-total
 returns-clause-total c =
-    total_committed _ _ _ _ _ _ _ c.self.invariant c.self.view_is c.args.p c.requires c.commit.new.self c.p.inside.plan
+    total_committed _ _ _ _ _ _ _ c.self.invariant.0 c.self.view_is c.args.p c.requires c.commit.new.self c.p.inside.plan
     (ap (λ (q : Preparation). q.planned) c.p.view_is) c.commit.ensures
