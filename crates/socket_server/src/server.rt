@@ -234,26 +234,32 @@ fn news_of_log(alloc: Global) -> Result<Arc<LogNews>, ServerFault>
 }
 
 // Where it is told why a save failed, in two hands: by one it is told, and by the other it is read.
-fn failure_of_saves(
-    alloc: Global,
-    news: Arc<LogNews>,
-) -> Result<(Arc<LastFailure>, Arc<LastFailure>), ServerFault>
+#[derive(Drop)]
+struct SaveFailure {
+    told: Arc<LastFailure>,
+    read: Arc<LastFailure>,
+}
+
+fn failure_of_saves(alloc: Global, news: &Arc<LogNews>) -> Result<SaveFailure, ServerFault>
     ensures { IfErr result IsMetServing }
 {
+    let Ok(news) = Arc::try_clone(news) else {
+        return Err(ServerFault::Memory);
+    };
     let Ok(told) = Arc::new(alloc, LastFailure::new(news)) else {
         return Err(ServerFault::Memory);
     };
     match Arc::try_clone(&told) {
-        Ok(read) => Ok((told, read)),
+        Ok(read) => Ok(SaveFailure { told, read }),
         Err(_) => Err(ServerFault::Memory),
     }
 }
 
 // Where a server listens, and where it saves, as its settings say.
-fn plan_of(alloc: Global, settings: Settings, news: Arc<LogNews>) -> Result<Plan, ServerFault>
-    ensures path { IfOk result (λ p. p.saver.path ≡ settings.snapshot) }
-    ensures met { IfErr result IsMetServing }
+fn plan_of(settings: Settings, failure: SaveFailure) -> Plan
+    ensures path { result.saver.path ≡ settings.snapshot }
 {
+    let SaveFailure { told, read } = failure;
     let Settings {
         tcp,
         unix,
@@ -268,8 +274,7 @@ fn plan_of(alloc: Global, settings: Settings, news: Arc<LogNews>) -> Result<Plan
         drain,
         events,
     } = settings;
-    let (told, failure) = failure_of_saves(alloc, news)?;
-    Ok(Plan {
+    Plan {
         places: Places {
             tcp,
             unix,
@@ -277,10 +282,10 @@ fn plan_of(alloc: Global, settings: Settings, news: Arc<LogNews>) -> Result<Plan
             idle: time_limit(idle),
             drain: time_limit(drain),
             events,
-            failure,
+            failure: read,
         },
         saver: Saver::telling(snapshot, told).with_log(log),
-    })
+    }
 }
 
 // Serves as the settings say, which were judged.
@@ -313,10 +318,12 @@ fn serve_settings<
         settings.must_load settings.setup f) }
 {
     let _locks = take_locks(rt, alloc, &settings)?;
+    // What can be refused comes before the start: a refusal then has no engine to drop.
     let news = news_of_log(alloc)?;
+    let failure = failure_of_saves(alloc, &news)?;
     let start = make_start::<L, R>(rt, alloc, &settings, &news)?;
     let workers = settings.workers;
-    let plan = plan_of(alloc, settings, news)?;
+    let plan = plan_of(settings, failure);
     serve_plan(rt, alloc, start, workers, plan, out)
 }
 

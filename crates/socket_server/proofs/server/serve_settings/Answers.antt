@@ -17,8 +17,8 @@ returns-clause-ended g c =
     × IsStored g.L.Log.was_synced b a x)) told.has_log
     (subst (λ (p : Option (String _)). IfOk c.serve_plan.result (λ s. (x : Accepted) × GoesOn a x
     × EndsWith g.R.Disk.saves c.args.rt.now p c.args.settings.setup x s
-    × IsStored g.L.Log.was_synced (is_some c.in_ok-start.start.log) a x)) c.in_ok-plan.ensures.path
+    × IsStored g.L.Log.was_synced (is_some c.in_ok-start.start.log) a x)) c.plan_of-plan.ensures.path
     (subst (λ (v : Setting). IfOk c.serve_plan.result (λ s. (x : Accepted) × GoesOn a x
-    × EndsWith g.R.Disk.saves c.args.rt.now c.in_ok-plan.plan.saver.path v x s
+    × EndsWith g.R.Disk.saves c.args.rt.now c.plan_of-plan.result.saver.path v x s
     × IsStored g.L.Log.was_synced (is_some c.in_ok-start.start.log) a x)) told.setup
     c.serve_plan.ensures.ended)))
