@@ -1,5 +1,5 @@
 //! The texts that `sum` is given by name: files, each opened when its turn comes, and standard input.
-ghost use Rattle.std.specs.Prelude.{◌≡◌, ⊤};
+ghost use Rattle.std.specs.Prelude.{◌≡◌, ◌<◌, length, false, ⊤};
 
 use crate::report::Fault;
 use byte_io::{DeviceFault, Source};
@@ -14,8 +14,13 @@ use std::rt::Files;
 const STANDARD_INPUT: &str = "-";
 
 /// Whether standard input is the one text that is summed, which is so too where no name is given.
-pub fn is_input_alone(names: &[&str]) -> bool {
-    names.len() <= 1 && has_input(names)
+pub fn is_input_alone(names: &[&str]) -> bool
+    ensures { result ≡ false → 0 < length names.now }
+{
+    if names.is_empty() {
+        return true;
+    }
+    names.len() == 1 && has_input(names)
 }
 
 /// Whether standard input is one of the texts that are summed.
