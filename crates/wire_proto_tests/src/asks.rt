@@ -124,10 +124,10 @@ fn short_request(ask: Ask) -> Option<Request>
         Ask::Save => Some(Request::Save),
         Ask::Stop => Some(Request::Stop),
         Ask::Stored => Some(Request::Stored),
-        Ask::Range([rows, cols, start], most) => Some(Request::Range {
-            rows,
-            cols,
-            start,
+        Ask::Range(places, most) => Some(Request::Range {
+            rows: places[0],
+            cols: places[1],
+            start: places[2],
             most,
         }),
         Ask::Top(by, most) => Some(Request::Top { by, most }),
