@@ -14,6 +14,9 @@ use locked_engine::Named;
 use std::marker::Model;
 pub use ticket::Ticket;
 
+/// The most batches that a leader waits for. Behind larger groups the threads that write them have enough to do meanwhile.
+const MOST_EXPECTED: u64 = 8;
+
 /// What is durable, whether the log has failed, its room, what of it is promised, and the leader's turn, unless a
 /// thread has it.
 ///
@@ -28,6 +31,11 @@ pub struct DeskState<N: Named, L: Log> {
     room: u64,
     // How many pages are promised, and not given back.
     promised: u64,
+    // The place behind the last that a thread has waited for.
+    awaited: u64,
+    // How many batches were waited for when the last group was done, those of the group among them: so many may come
+    // again before the next one.
+    expected: u64,
 }
 
 impl<N: Named, L: Log> Model for DeskState<N, L> {
@@ -53,6 +61,8 @@ impl<N: Named, L: Log> DeskState<N, L> {
             room: turn.room(),
             turn: Some(turn),
             promised: 0,
+            awaited: 0,
+            expected: 0,
         }
     }
 
@@ -70,6 +80,24 @@ impl<N: Named, L: Log> DeskState<N, L> {
             × (self.now.home ≡ false)) }
     {
         self.durable.count() <= index && !self.failed && self.is_out()
+    }
+
+    /// Notes that a thread waits for this place.
+    pub fn note_waiting(&mut self, index: u64)
+        ensures { self.new ≡ self.old }
+    {
+        self.awaited = self.awaited.max(index.saturating_add(1));
+    }
+
+    // How many batches behind what is durable are waited for.
+    fn waiting(&self) -> u64 {
+        self.awaited.saturating_sub(self.durable.count())
+    }
+
+    /// Whether more batches are likely to come at once: fewer are waited for than were when the last group was done, and
+    /// those were few.
+    pub fn expects_more(&self) -> bool {
+        self.expected <= MOST_EXPECTED && self.waiting() < self.expected
     }
 
     /// Whether a thread that asks for so many pages has nothing to do but wait: they aren't there, the log hasn't
@@ -184,6 +212,7 @@ impl<N: Named, L: Log> DeskState<N, L> {
     pub fn put_back(&mut self, turn: Turn<N, L>)
         ensures { self.new ≡ desk_standing turn self.old.promised true }
     {
+        self.expected = self.waiting();
         self.durable = turn.durable();
         self.failed = turn.is_failed();
         self.room = turn.room();
@@ -201,6 +230,8 @@ impl<N: Named, L: Log> DeskState<N, L> {
             failed: _,
             room: _,
             promised: _,
+            awaited: _,
+            expected: _,
         } = self;
         turn
     }
