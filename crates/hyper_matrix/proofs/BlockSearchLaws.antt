@@ -112,7 +112,7 @@ is_equal Ordering.Equal e = refl
 is_equal Ordering.Greater e = absurd (false≢true e)
 
 -- a cell that comes before a place doesn't stand there
-before_other : (p q : Place) → is_before p q ≡ true → eq_by_cmp place_cmp q p ≡ false
+pub before_other : (p q : Place) → is_before p q ≡ true → eq_by_cmp place_cmp q p ≡ false
 before_other p q b = turn (eq_by_cmp place_cmp q p) refl
   where
     turn : (t : Bool) → eq_by_cmp place_cmp q p ≡ t → t ≡ false

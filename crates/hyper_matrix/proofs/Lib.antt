@@ -11,6 +11,7 @@ pub mod BlockEndLaws
 pub mod RowOfLaws
 pub mod QueryLaws
 pub mod CellIterLaws
+pub mod SkipLaws
 pub mod RefusalLaws
 pub mod SplitRunLaws
 pub mod PartLaws

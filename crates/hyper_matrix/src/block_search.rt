@@ -47,8 +47,8 @@ fn ends_before(blocks: &[Block], k: usize, place: (u64, u64)) -> bool
     is_before(block_end(block.rows()), place)
 }
 
-// How many blocks end before the place.
-fn blocks_before(blocks: &[Block], place: (u64, u64)) -> usize
+/// How many blocks end before the place.
+pub fn blocks_before(blocks: &[Block], place: (u64, u64)) -> usize
     requires rows { HaveRows blocks.now }
     requires sorted { T (is_sorted place_cmp (all_cells blocks.now)) }
     ensures turn { TurnsAt (λ k. is_before (block_end (rows_at blocks.now k)) place) (length blocks.now) result }

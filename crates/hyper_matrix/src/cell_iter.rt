@@ -1,12 +1,17 @@
 //! The cells of a matrix one after the other, read from its blocks as they lie.
 //!
-//! A block is looked at once, when its first cell is due. Nothing is searched for, and no memory is taken.
-ghost use Rattle.std.specs.Prelude.{◌≡◌};
+//! A block is looked at once, when its first cell is due. Nothing is searched for but by `skip_to`, and no memory is
+//! taken.
+ghost use Rattle.std.specs.Prelude.{◌≡◌, T};
+ghost use Rattle.std.specs.FinMap.{is_sorted};
 ghost use Rattle.std.specs.Iterator.{YieldsFirstBy, item_count};
 ghost use Rattle.hyper_matrix.specs.Blocks.{all_cells, AreBlocks};
 ghost use Rattle.hyper_rows.specs.Cells.{entry_of};
+ghost use Rattle.hyper_rows.specs.Counts.{place_cmp};
+ghost use Rattle.hyper_rows.specs.Search.{cells_from};
 
 use crate::block::Block;
+use crate::block_search::blocks_before;
 use cells::Cell;
 use hyper_rows::RunCells;
 use std::marker::Model;
@@ -44,6 +49,27 @@ impl<'a> Cells<'a> {
             run: RunCells::empty(),
             blocks,
         }
+    }
+
+    /// Passes over the cells before a place: those at it and behind it are left, in order.
+    ///
+    /// It takes no memory, and time in the logarithm of the cells: a bisection in what is left of the current block,
+    /// one in the blocks behind it by where they end, and one in the block that is found.
+    pub fn skip_to(&mut self, place: (u64, u64))
+        requires { T (is_sorted place_cmp self.old) }
+        ensures { self.new ≡ cells_from place self.old }
+    {
+        if self.run.skip_to(place) {
+            return;
+        }
+        let passed = blocks_before(self.blocks, place);
+        let Some((block, blocks)) = self.blocks[passed..].split_first() else {
+            self.blocks = &[];
+            return;
+        };
+        self.blocks = blocks;
+        self.run = RunCells::new(block.rows());
+        self.run.skip_to(place);
     }
 }
 

@@ -7,8 +7,10 @@ pub mod BuildLaws
 pub mod PlaceOrderLaws
 pub mod RowEndLaws
 pub mod SearchLaws
+pub mod SkipLaws
 pub mod BuiltOfLaws
 pub mod RunCellLaws
+pub mod RunSkipLaws
 pub mod RowHeadLaws
 pub mod PartLaws
 pub mod InPlaceLaws

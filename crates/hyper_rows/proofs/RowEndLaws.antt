@@ -5,7 +5,7 @@ use Rattle.hyper_rows.specs.Rows.{Entries, Rows, rows_from, EndsAt, start_from, 
 use Rattle.hyper_rows.specs.Search.{RowsFull}
 use Rattle.hyper_rows.proofs.RowLaws.{ends_le, ends-take, ends-drop, start-get, rows_from-take, length-cells_from}
 
-full_from : (at : ℕ) (hs : List (ℕ × ℕ)) (es : Entries) (n : ℕ) → EndsAt at hs n → n ≤ length es →
+pub full_from : (at : ℕ) (hs : List (ℕ × ℕ)) (es : Entries) (n : ℕ) → EndsAt at hs n → n ≤ length es →
     RowsFull (rows_from at hs es)
 full_from at [] es n e h = tt
 full_from at (x ∷ hs) es n e h = (

@@ -205,7 +205,7 @@ rows_before rows q (suc i) sorted f t =
     (ends_before _ _ q (rows_end rows n f lt) here (t.before (omega arith)))
 
 -- a row's entries before a column
-entries_before : (r c : ℕ) (es : Entries) (j : ℕ) → T (is_sorted place_cmp (at_places r es)) →
+pub entries_before : (r c : ℕ) (es : Entries) (j : ℕ) → T (is_sorted place_cmp (at_places r es)) →
     TurnsAt (λ k. ltb (get_or es k (0, 0)).0 c) (length es) j → AllBefore (r, c) (at_places r (take j es))
 entries_before r c es zero sorted t = tt
 entries_before r c es (suc j) sorted t =

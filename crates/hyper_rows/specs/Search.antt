@@ -1,11 +1,12 @@
 -- Look-ups in a list of cells by row and then column, and in the rows that hold such a list.
 --     is_before p q           the place p comes before q
 --     first_from q es         the first cell at q or behind it
+--     cells_from q es         the cells at q or behind it
 --     row_cells r es          the cells of row r
 --     last_place row          where a row ends: the place of its last entry
 --     TurnsAt test size n     of the places 0 to size - 1, n is where the test turns: it holds right before n, and not
 --     at n
-use Rattle.std.specs.Prelude.{◌≡◌, ℕ, ◌-◌, ◌<◌, ◌≤◌, Bool, true, false, cond, ◌==◌, List, [], ◌∷◌, length}
+use Rattle.std.specs.Prelude.{◌≡◌, ℕ, ◌-◌, ◌<◌, ◌≤◌, Bool, true, false, not, cond, ◌==◌, List, [], ◌∷◌, length}
 use Rattle.std.specs.Prelude.{slice_index_or, Option, Some, None}
 use Rattle.std.specs.List.{filter}
 use Rattle.std.specs.Ordering.{is_lt}
@@ -23,6 +24,9 @@ is_before p q = is_lt (place_cmp p q)
 abbrev pub first_from : Place → List (Place × ℕ) → Option (Place × ℕ)
 first_from q [] = None
 first_from q (e ∷ es) = cond (is_before e.0 q) (first_from q es) (Some e)
+
+abbrev pub cells_from : Place → List (Place × ℕ) → List (Place × ℕ)
+cells_from q es = filter (λ e. not (is_before e.0 q)) es
 
 abbrev pub row_cells : ℕ → List (Place × ℕ) → List (Place × ℕ)
 row_cells r es = filter (λ e. e.0.0 == r) es

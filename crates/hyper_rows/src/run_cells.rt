@@ -1,14 +1,18 @@
 //! The cells of a run one after the other, read from its heads and entries as they lie.
 //!
 //! A row's head is looked at once, when its first cell is due, so a cell costs a comparison and the read of its entry.
-ghost use Rattle.std.specs.Prelude.{◌≡◌, [], ◌++◌, OnOk, map};
+ghost use Rattle.std.specs.Prelude.{◌≡◌, ◌<◌, ◌≤◌, ◌↔◌, [], ◌++◌, OnOk, MatchOption, IsTrue, T, map, length};
+ghost use Rattle.std.specs.Prelude.{slice_range};
+ghost use Rattle.std.specs.FinMap.{is_sorted};
 ghost use Rattle.std.specs.Iterator.{YieldsFirstBy, item_count};
-ghost use Rattle.hyper_rows.specs.Rows.{cells_of};
+ghost use Rattle.hyper_rows.specs.Counts.{place_cmp};
+ghost use Rattle.hyper_rows.specs.Rows.{cells_of, rows_from, start_from, EndsAt};
 ghost use Rattle.hyper_rows.specs.Cells.{entry_of};
-ghost use Rattle.hyper_rows.specs.Search.{RowsFull};
+ghost use Rattle.hyper_rows.specs.Search.{RowsFull, TurnsAt, is_before, row_end, cells_from};
 
 use crate::head::Head;
 use crate::rows::Rows;
+use crate::search::{entries_passed, is_before, partition_point};
 use cells::Cell;
 use std::alloc::AllocError;
 use std::marker::Model;
@@ -39,6 +43,78 @@ impl<'a> Model for RunCells<'a> {
     ghost invariant = { λ r. (r.at ≤ r.end) × EndsAt r.end r.heads.now (length r.entries.now) };
 }
 
+// The entries from `from` to `to`.
+fn part(entries: &[(u64, u64)], from: usize, to: usize) -> &[(u64, u64)]
+    requires order { from ≤ to }
+    requires within { to ≤ length entries.now }
+    ensures { result.now ≡ slice_range entries.now from to }
+{
+    &entries[from..to]
+}
+
+// Where the row of head i begins, where that of the first begins at `from`.
+fn begin_of(heads: &[Head], from: usize, i: usize) -> usize
+    requires { i ≤ length heads.now }
+    ensures { result ≡ start_from from heads.now i }
+{
+    if i == 0 { from } else { heads[i - 1].end() }
+}
+
+// Whether the row of head i ends before the place. Its entries are read only where it is the place's row.
+fn ends_before(
+    heads: &[Head],
+    entries: &[(u64, u64)],
+    from: usize,
+    i: usize,
+    place: (u64, u64),
+) -> bool
+    requires ends { EndsAt from heads.now (length entries.now) }
+    requires within { i < length heads.now }
+    ensures { result ≡ is_before (row_end (rows_from from heads.now entries.now) i) place }
+{
+    let row = heads[i].number();
+    if row == place.0 {
+        is_before((row, entries[heads[i].end() - 1].0), place)
+    } else {
+        row < place.0
+    }
+}
+
+// How many rows end before the place.
+fn rows_before(heads: &[Head], entries: &[(u64, u64)], from: usize, place: (u64, u64)) -> usize
+    requires { EndsAt from heads.now (length entries.now) }
+    ensures { TurnsAt (λ k. is_before (row_end (rows_from from heads.now entries.now) k) place)
+        (length heads.now) result }
+{
+    partition_point(heads.len(), |k| ends_before(heads, entries, from, k, place))
+}
+
+// The cells of these rows at a place or behind it, if there is one.
+fn run_from<'a>(
+    heads: &'a [Head],
+    entries: &'a [(u64, u64)],
+    from: usize,
+    place: (u64, u64),
+) -> Option<RunCells<'a>>
+    requires ends { EndsAt from heads.now (length entries.now) }
+    requires sorted { T (is_sorted place_cmp (cells_of (rows_from from heads.now entries.now))) }
+    ensures { MatchOption result (cells_from place (cells_of (rows_from from heads.now entries.now)) ≡ [])
+        (λ run. (run ≡ cells_from place (cells_of (rows_from from heads.now entries.now))) × (0 < length run)) }
+{
+    let passed = rows_before(heads, entries, from, place);
+    let begin = begin_of(heads, from, passed);
+    let (head, behind) = heads[passed..].split_first()?;
+    let (row, end) = (head.number(), head.end());
+    let at = begin + entries_passed(row, part(entries, begin, end), place);
+    Some(RunCells {
+        heads: behind,
+        entries,
+        row,
+        at,
+        end,
+    })
+}
+
 impl<'a> RunCells<'a> {
     /// The cells of no run.
     pub fn empty() -> RunCells<'a>
@@ -65,6 +141,30 @@ impl<'a> RunCells<'a> {
             row: 0,
             at: 0,
             end: 0,
+        }
+    }
+
+    /// Passes over the cells before a place, and answers whether any cell is left. A bisection in the rest of the
+    /// current row, in the rows behind it by where they end, and in the row that is found, and no memory.
+    pub fn skip_to(&mut self, place: (u64, u64)) -> bool
+        requires { T (is_sorted place_cmp self.old) }
+        ensures left { self.new ≡ cells_from place self.old }
+        ensures some { IsTrue result ↔ (0 < length self.new) }
+    {
+        let passed = entries_passed(self.row, part(self.entries, self.at, self.end), place);
+        if passed < self.end - self.at {
+            self.at += passed;
+            return true;
+        }
+        match run_from(self.heads, self.entries, self.end, place) {
+            Some(run) => {
+                *self = run;
+                true
+            }
+            None => {
+                *self = RunCells::empty();
+                false
+            }
         }
     }
 }

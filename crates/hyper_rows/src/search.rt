@@ -1,6 +1,6 @@
 //! Searches in one run of rows, by bisection: in the rows by where they end, then in a row by column. Each takes time
 //! in the logarithm of the run's rows and entries, and no memory.
-ghost use Rattle.std.specs.Prelude.{◌≡◌, ℕ, ◌+◌, ◌-◌, ◌<◌, ◌≤◌, ◌^◌, [], T, length, take, nat_lt, nat_le};
+ghost use Rattle.std.specs.Prelude.{◌≡◌, ℕ, ◌+◌, ◌-◌, ◌<◌, ◌≤◌, ◌^◌, [], T, length, take, drop, nat_lt, nat_le};
 ghost use Rattle.std.specs.Prelude.{slice_index_or, slice_get, true, false, ◌++◌, ◌∷◌, List, Option, Some, None};
 ghost use Rattle.std.specs.Option.{option_map};
 ghost use Rattle.std.specs.FinMap.{is_sorted};
@@ -8,7 +8,7 @@ ghost use Rattle.hyper_rows.specs.Counts.{place_cmp, count_sum};
 ghost use Rattle.hyper_rows.specs.Rows.{cells_of, at_places};
 ghost use Rattle.hyper_rows.specs.Cells.{entry_of};
 ghost use Rattle.hyper_rows.specs.Search.{TurnsAt, is_before, first_from, row_cells, last_place, row_end, StandsAt};
-ghost use Rattle.hyper_rows.specs.Search.{IsRowSum};
+ghost use Rattle.hyper_rows.specs.Search.{IsRowSum, cells_from};
 
 use crate::rows::Rows;
 use cells::Cell;
@@ -65,6 +65,21 @@ fn entries_before(entries: &[(u64, u64)], col: u64) -> usize
     ensures { TurnsAt (λ k. nat_lt (slice_index_or entries.now k (0, 0)).0 col) (length entries.now) result }
 {
     partition_point(entries.len(), |k| entries[k].0 < col)
+}
+
+/// How many of a row's entries come before the place.
+pub fn entries_passed(row: u64, entries: &[(u64, u64)], place: (u64, u64)) -> usize
+    requires { T (is_sorted place_cmp (at_places row entries.now)) }
+    ensures within { result ≤ length entries.now }
+    ensures left { at_places row (drop result entries.now) ≡ cells_from place (at_places row entries.now) }
+{
+    if row == place.0 {
+        entries_before(entries, place.1)
+    } else if row < place.0 {
+        entries.len()
+    } else {
+        0
+    }
 }
 
 // Whether row i ends before the place. Its entries are read only where it is the place's row.
