@@ -1,5 +1,6 @@
 -- The first digits of some bytes, and the number that they write.
 use Rattle.std.proofs.Common.{◌≡◌, ◌≢◌, ℕ, ◌+◌, ◌-◌, ◌*◌, ◌^◌, ◌<◌, ◌≤◌, true, false, ◌&&◌, List, [], ◌∷◌, length, take}
+use Rattle.std.proofs.Common.{drop}
 use Rattle.std.proofs.Common.{get_or, refl, ◌∙◌, ap, arith, length-take, suc, ◌++◌, sym, append_assoc, length-append}
 use Rattle.std.proofs.lemmas.Bool.Decides.{nat_tests}
 use Rattle.std.proofs.lemmas.List.{take_more}
@@ -53,7 +54,7 @@ after_more n xs i l = ap (digits_value_after 10 n) (take_more xs i 0 l)
 turned : (a b c : ℕ) → a * (b * c) ≡ a * c * b
 turned a b c = grind arith
 
-after_below : (n : ℕ) (xs : List ℕ) → list_all is_ascii_digit xs ≡ true →
+pub after_below : (n : ℕ) (xs : List ℕ) → list_all is_ascii_digit xs ≡ true →
     digits_value_after 10 n xs < (n + 1) * 10 ^ length xs
 after_below n [] h = omega arith
 after_below n (x ∷ xs) h =
@@ -173,3 +174,16 @@ digits_alone bytes rest n x = record {
   };
   value = x.value;
 }
+
+-- one digit alone
+pub one_digit : (bytes : List ℕ) (n : ℕ) (rest : List ℕ) → is_ascii_digit (get_or bytes 0 0) ≡ true →
+    0 < length bytes → n + 48 ≡ get_or bytes 0 0 → rest ≡ drop 1 bytes → BeginsWithDigits bytes n rest
+one_digit [] n rest h some e r = absurd (omega arith)
+one_digit (d ∷ ds) n rest h some e r =
+    let x = digit_is d h in
+    record {
+      word = d ∷ [];
+      whole = ap (λ t. d ∷ t) (sym r);
+      numeral = record { digits = rw h refl; short = omega arith };
+      value = omega (arith, x.2);
+    }

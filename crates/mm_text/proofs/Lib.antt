@@ -20,6 +20,7 @@ pub mod Faultless
 pub mod OneFile
 pub mod WriterLemmas
 pub mod DigitLemmas
+pub mod LastLemmas
 pub mod EightLemmas
 pub mod EntryLemmas
 pub mod PlainLemmas

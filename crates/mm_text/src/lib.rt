@@ -29,5 +29,5 @@ pub use laws::{one_file_spelled, one_first_fault, spelled_or_faulty, spelled_wit
 pub use limits::{MAX_BYTES, TextLimits};
 pub use size::Size;
 pub use text_reader::TextReader;
-pub use whole_text::read_matrix;
+pub use whole_text::{read_matrix, read_text};
 pub use writer::{TextWriter, write_matrix};

@@ -24,5 +24,8 @@ pub const MAX_DIGITS: usize = 19;
 /// How many digits are read at once.
 pub const WORD_DIGITS: usize = 8;
 
+/// The most digits of such a number behind two words of them.
+pub const LAST_DIGITS: usize = MAX_DIGITS - 2 * WORD_DIGITS;
+
 /// The bytes of the longest line that is written: three numbers of at most 20 digits, two spaces and LF.
 pub const LONGEST_LINE: usize = 63;

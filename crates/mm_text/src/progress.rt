@@ -7,6 +7,7 @@ ghost use Rattle.std.specs.Prelude.{vec_capacity, Bool, true, Some};
 ghost use Rattle.std.specs.List.{list_all};
 ghost use Rattle.mm_text.specs.Lines.{content, is_comment, is_skipped, is_blank};
 ghost use Rattle.mm_text.specs.Stages.{judged, Keeps, LineFault, is_symmetric, added, AddsLine, lack_at};
+ghost use Rattle.mm_text.specs.Stages.{declared_size};
 ghost use Rattle.cells.specs.declared.cell.Cell.{Cell};
 
 use crate::fault::{MmFault, MmKind};
@@ -167,6 +168,17 @@ impl Progress {
         ensures lines { self.new.lines ≡ self.old.lines + 1 }
     {
         self.lines += 1;
+    }
+
+    /// What the size line declares, once it was judged.
+    pub fn size(&self) -> Option<Size>
+        ensures { result ≡ declared_size self.now.stage }
+    {
+        match self.stage {
+            Stage::AtBanner => None,
+            Stage::AtSize { .. } => None,
+            Stage::AtEntries { size, .. } => Some(size),
+        }
     }
 
     /// The dimensions, where the text has ended and nothing is missing.

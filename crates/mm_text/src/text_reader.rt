@@ -20,7 +20,6 @@ use crate::fault::{MmFault, MmKind};
 use crate::limits::{MAX_BYTES, TextLimits};
 use crate::line_reader::LineReader;
 use crate::size::Size;
-use crate::stages::Stage;
 use byte_io::{READ_CAPACITY, ReadBuffer, Source};
 use cells::Cell;
 use std::alloc::{AllocError, Global};
@@ -106,11 +105,7 @@ impl TextReader {
         ensures within { (limits : TextLimits) (answers : List Answer) (given : List Cell) →
             HasRead limits answers given self.now → AreSized given result }
     {
-        match self.lines.progress.stage {
-            Stage::AtBanner => None,
-            Stage::AtSize { .. } => None,
-            Stage::AtEntries { size, .. } => Some(size),
-        }
+        self.lines.progress.size()
     }
 
     /// Judges the pending lines that have an LF, as long as the block has room for two cells.

@@ -19,8 +19,8 @@ overflow_add-high c =
     let l = eight_less _ _ _ c.in-Some-eight_digits.ensures in
     omega (arith, h, l)
 
-pub more_digits-requires-2 : goal.more_digits-requires-2
-more_digits-requires-2 c =
+pub last_digits-requires : goal.last_digits-requires
+last_digits-requires c =
     let h = eight_less _ _ _ c.in-Some.ensures in
     let l = eight_less _ _ _ c.in-Some-eight_digits.ensures in
     omega (arith, h, l)
@@ -28,6 +28,6 @@ more_digits-requires-2 c =
 pub returns : goal.returns
 returns c =
     let low = eight_more 3 c.in-Some.high _ c.in-Some.rest.now _ _ c.in-Some-eight_digits.low _
-    c.in-Some-eight_digits.ensures (omega arith) c.more_digits-2.ensures in
+    c.in-Some-eight_digits.ensures (omega arith) c.last_digits.ensures in
     digits_alone c.args.bytes.now _ _ (eight_more 11 0 c.in-Some.high c.args.bytes.now _ _ c.in-Some.high _
     c.in-Some.ensures (omega arith) low)
