@@ -1,18 +1,12 @@
--- A Put's text in memory, read from its front, and what it leads to; and what the cells of a PutCells lead to.
-use Rattle.std.specs.Prelude.{◌≡◌, ℕ, List, ◌++◌, Result, Ok, Err}
+-- What a Put's text leads to, and what the cells of a PutCells lead to.
+use Rattle.std.specs.Prelude.{ℕ, List, Result, Ok, Err}
 use Rattle.std.specs.Arc.{arc_value}
 use Rattle.std.specs.declared.sync.Arc.{Arc}
-use Rattle.byte_io.specs.Streams.{Answer}
 use Rattle.batch_store.specs.Setups.{Setting}
 use Rattle.batch_store.specs.Batches.{Submission}
 use Rattle.wire_proto.specs.Answering.{PutsBatch, RefusesText, PutsCells, RefusesCells}
 use Rattle.wire_proto.specs.declared.texts.BodyRefusal.{BodyRefusal}
 use Rattle.wire_proto.specs.declared.texts.BodyRefusal.TheVariants.{Memory, Refused}
-
--- a read hands out bytes from the front, and never fails
-abbrev pub HandsOut : List ℕ → Answer → List ℕ → Type 0
-HandsOut old (Ok bytes) new = old ≡ bytes ++ new
-HandsOut old (Err e) new = ⊥
 
 -- what a Put's text leads to
 abbrev pub Leads : {Z : Type 0} → Setting → ℕ → ℕ → List ℕ → Result (Arc Submission Z) BodyRefusal → Type 0

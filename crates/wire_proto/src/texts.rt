@@ -1,13 +1,12 @@
 //! Reads the text of a Put.
-ghost use Rattle.std.specs.Prelude.{◌≡◌, ◌≢◌, ◌≤◌, IfOk, IfErr, []};
+ghost use Rattle.std.specs.Prelude.{◌≡◌, ◌≢◌, ◌≤◌, IfOk, IfErr};
 ghost use Rattle.mm_text.specs.Texts.{Spells, FirstFault};
 ghost use Rattle.wire_proto.specs.Answering.{put_limits, kind_number};
-ghost use Rattle.wire_proto.specs.PutTexts.{HandsOut, Leads};
+ghost use Rattle.wire_proto.specs.PutTexts.{Leads};
 
 use crate::limits::MAX_ENTRIES;
 use batch_store::{Batch, BatchFault, Setup};
-use byte_io::{DeviceFault, Source};
-use mm_text::{MmFault, MmFile, MmKind, TextLimits, read_matrix};
+use mm_text::{MmFault, MmFile, MmKind, TextLimits, read_text};
 use std::alloc::Global;
 use std::sync::Arc;
 use wire_frames::MAX_BODY;
@@ -24,42 +23,12 @@ pub enum BodyRefusal {
     Refused { code: u16, detail: u64 },
 }
 
-/// A text in memory, as a source that never fails.
-#[derive(Drop)]
-struct SliceSource<'a> {
-    left: &'a [u8],
-}
-
-impl<'a> Source for SliceSource<'a> {
-    ghost read_gives = { λ s answer t. HandsOut s.left.now answer t.left.now };
-
-    ghost at_end = { λ s. s.left.now ≡ [] };
-
-    ghost failure_count = { λ s. 0 };
-
-    fn read(&mut self, buf: &mut [u8]) -> Result<usize, DeviceFault> {
-        let n = self.left.len().min(buf.len());
-        let (front, rest) = self.left.split_at(n);
-        buf[..n].copy_from_slice(front);
-        self.left = rest;
-        Ok(n)
-    }
-
-    fn failures(&self) -> u64 {
-        0
-    }
-}
-
 /// The matrix that a text spells, or its first fault.
 fn spelled_file(alloc: Global, text: &[u8]) -> Result<MmFile, MmFault>
     ensures ok { IfOk result (λ m. Spells text.now put_limits m.rows m.cols m.cells.items) }
     ensures err { IfErr result (λ f. f.kind ≢ MmKind.Memory → FirstFault text.now put_limits f.kind f.line) }
 {
-    let mut source = SliceSource { left: text };
-    match read_matrix(alloc, &mut source, LIMITS) {
-        Ok(file) => Ok(file),
-        Err(fault) => Err(fault),
-    }
+    read_text(alloc, text, LIMITS)
 }
 
 /// The number of a kind of fault.
