@@ -1,5 +1,5 @@
 -- The cells of blocks from a place on.
-use Rattle.std.proofs.Common.{◌≡◌, ℕ, zero, suc, ◌-◌, ◌+◌, ◌<◌, ◌≤◌, T, List, [], ◌∷◌, ◌++◌, length, drop, take, sym, ◌∙◌, ap}
+use Rattle.std.proofs.Common.{◌≡◌, ℕ, zero, suc, ◌-◌, ◌<◌, T, List, [], ◌∷◌, ◌++◌, length, drop, take, sym, ◌∙◌, ap}
 use Rattle.std.proofs.Common.{Bool, true, false, subst, refl, arith, length-take, length-drop}
 use Rattle.std.proofs.lemmas.Bool.{false≢true}
 use Rattle.std.proofs.lemmas.List.{take_all}

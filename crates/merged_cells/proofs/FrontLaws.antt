@@ -90,7 +90,7 @@ crossed f g old mid new popped pushed =
     (IsPermutation-trans _ _ _ (IsPermutation-middle (f ∷ []) g mid) (IsPermutation-cons g (f ∷ mid) new pushed))
 
 -- The cell of the first front is taken, and these are the fronts of what is left, in any order.
-left_permuted : (fs gs : List Front) → IsPermutation fs gs → cells_left gs ≡ cells_left fs
+pub left_permuted : (fs gs : List Front) → IsPermutation fs gs → cells_left gs ≡ cells_left fs
 left_permuted fs gs h =
     let all = is_sum_by cells_left (λ (f : Front). suc (length f.rest)) refl (λ _ _. refl) in
     all gs ∙ sum_by-IsPermutation _ fs gs h ∙ sym (all fs)

@@ -1,3 +1,4 @@
 mod OrderLaws
 mod FrontLaws
 mod MergeLaws
+mod SkipLaws

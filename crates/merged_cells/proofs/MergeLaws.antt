@@ -9,7 +9,6 @@ use Rattle.std.specs.List.Sorted.{IsPermutation}
 use Rattle.std.specs.Iterator.{YieldsFirstBy}
 use Rattle.std.specs.FinMap.{empty, entries, entries_sorted, from_entries, get-from_entries, get-entries, is_sorted}
 use Rattle.std.specs.FinMap.{len-entries, len-empty, empty_of_len}
-use Rattle.std.specs.FinMap.Entries.{below_all}
 use Rattle.std.proofs.lemmas.Bool.{cases_order}
 use Rattle.cells.specs.declared.cell.Cell.{Cell}
 use Rattle.cells.proofs.OrderLaws.{less_place}
@@ -34,7 +33,7 @@ again m = same_counts _ _ (λ q. get-from_entries places_total (entries m) q ∙
 built_again : (m : Counts) → built (entries m) ≡ m
 built_again m = built-in_order (entries m) (entries_sorted m) ∙ again m
 
-no_entries : entries (empty {X = ℕ} {R = place_cmp}) ≡ []
+pub no_entries : entries (empty {X = ℕ} {R = place_cmp}) ≡ []
 no_entries = no_items _ (sym (len-entries empty) ∙ len-empty place_cmp ℕ)
 
 -- an entry before all others of a sum is its first
@@ -51,7 +50,7 @@ module _ (Q : Place → Type 0) where
   places_of_add a b = places_of_sum Q (entries (ewise_add a b)) (entries a) (entries b)
       (again (ewise_add a b) ∙ sym (λ i. ewise_add (again a i) (again b i)))
 
-  places_of_fronts : (fs : List Front) → AllByRecursion (λ f. AllPlaces Q (left_of f)) fs →
+  pub places_of_fronts : (fs : List Front) → AllByRecursion (λ f. AllPlaces Q (left_of f)) fs →
       AllPlaces Q (entries (fronts_sum fs))
   places_of_fronts [] h = subst (AllPlaces Q) (sym no_entries) tt
   places_of_fronts (f ∷ fs) h = places_of_add (built (left_of f)) (fronts_sum fs)

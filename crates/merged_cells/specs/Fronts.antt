@@ -4,16 +4,18 @@
 --     fronts_sum fs           the sum of what all fronts stand for
 --     AreFronts first fs      fronts as a merge keeps them
 --     Pulls                   the least cell was taken
-use Rattle.std.specs.Prelude.{◌≡◌, ℕ, suc, ◌+◌, ◌≤◌, T, false, List, [], ◌∷◌, length, Option, Some, None}
+--     Skips                   a front has passed over cells before a place
+use Rattle.std.specs.Prelude.{◌≡◌, ℕ, suc, ◌+◌, ◌<◌, ◌≤◌, T, false, true, List, [], ◌∷◌, length, Option, Some, None}
 use Rattle.std.specs.Prelude.{MatchOption}
 use Rattle.std.specs.declared.cmp.Ordering.{Ordering}
 use Rattle.std.specs.Ordering.{is_lt}
 use Rattle.std.specs.List.{AllByRecursion}
 use Rattle.std.specs.BinaryHeap.{IsHeap}
-use Rattle.std.specs.FinMap.{empty, is_sorted}
+use Rattle.std.specs.FinMap.{empty, entries, is_sorted}
 use Rattle.cells.specs.declared.cell.Cell.{Cell}
 use Rattle.hyper_rows.specs.Counts.{Place, place_cmp, Counts, ewise_add, built, total}
 use Rattle.hyper_rows.specs.Cells.{entry_of, place_of}
+use Rattle.hyper_rows.specs.Search.{is_before, cells_from}
 use Rattle.merged_cells.specs.declared.front.Front.{Front}
 
 -- the front with the lower place is the greater one
@@ -73,3 +75,16 @@ pub record IsMerge (bound : ℕ) (first : Option Front) (fs : List Front) : Type
 abbrev pub IsElsewhere : Place → Option Front → Type 0
 IsElsewhere p None = Unit {0}
 IsElsewhere p (Some f) = (f.cell.row ≡ p.0) × (f.cell.col ≡ p.1) → ⊥
+
+-- there is a front, and its cell stands before this place
+abbrev pub IsFrontBefore : Place → Option Front → Type 0
+IsFrontBefore p None = ⊥
+IsFrontBefore p (Some f) = is_before (place_of f.cell) p ≡ true
+
+-- Cells before a place were left out of the first fronts, and the second are left: from the place on both have the same.
+pub record Skips (p : Place) (first : Option Front) (fs : List Front) (next : Option Front) (gs : List Front)
+    : Type 0 where
+  pub kept : AreFronts next gs
+  pub same : cells_from p (entries (fronts_sum (fronts_of next gs))) ≡
+      cells_from p (entries (fronts_sum (fronts_of first fs)))
+  pub fewer : cells_left (fronts_of next gs) < cells_left (fronts_of first fs)

@@ -1,10 +1,13 @@
 //! The cells of one matrix that are still to come, ordered by the place of the first.
-ghost use Rattle.std.specs.Prelude.{◌≡◌, [], ◌∷◌, ◌==◌, MatchBool};
+ghost use Rattle.std.specs.Prelude.{◌≡◌, [], ◌∷◌, ◌==◌, T, MatchBool};
+ghost use Rattle.std.specs.FinMap.{is_sorted};
 ghost use Rattle.std.proofs.Common.{rules};
 ghost use Rattle.std.specs.Cmp.{partial_order_from_own_ties};
 ghost use Rattle.std.specs.Cmp.Rules.{comparing};
 ghost use Rattle.std.specs.Ordering.{nat_cmp, on, flip_args, then_cmp, as_partial_cmp, eq_of_both};
 ghost use Rattle.hyper_rows.specs.Cells.{entry_of};
+ghost use Rattle.hyper_rows.specs.Counts.{place_cmp};
+ghost use Rattle.hyper_rows.specs.Search.{cells_from};
 
 use cells::Cell;
 use hyper_matrix::Cells;
@@ -32,6 +35,16 @@ impl Front<'_> {
             }
             None => false,
         }
+    }
+
+    /// Goes on to the next cell at a place or behind it, if there is one.
+    pub fn skip_to(&mut self, place: (u64, u64)) -> bool
+        requires { T (is_sorted place_cmp self.old.rest) }
+        ensures { MatchBool result (cells_from place self.old.rest ≡ entry_of self.new.cell ∷ self.new.rest)
+            (cells_from place self.old.rest ≡ []) }
+    {
+        self.rest.skip_to(place);
+        self.advance()
     }
 }
 

@@ -1,5 +1,5 @@
 //! The merged cells, and the way through them.
-ghost use Rattle.std.specs.Prelude.{◌≡◌, ◌<◌, ◌^◌, ◌∷◌, ℕ, None, MatchOption, OnOk, OnErr};
+ghost use Rattle.std.specs.Prelude.{◌≡◌, ◌<◌, ◌^◌, ◌↔◌, ◌∷◌, ℕ, None, IsTrue, MatchOption, OnOk, OnErr};
 ghost use Rattle.std.specs.BinaryHeap.{heap_items, IsHeap};
 ghost use Rattle.std.specs.FinMap.{entries, empty};
 ghost use Rattle.std.specs.Iterator.{YieldsFirstBy, item_count};
@@ -7,11 +7,14 @@ ghost use Rattle.std.specs.List.Sorted.{IsPermutation};
 ghost use Rattle.hyper_matrix.specs.Counts.{ewise_add, total};
 ghost use Rattle.hyper_rows.specs.Cells.{place_of, entry_of};
 ghost use Rattle.merged_cells.specs.Within.{LieWithin};
+ghost use Rattle.hyper_rows.specs.Search.{cells_from};
 ghost use Rattle.merged_cells.specs.Fronts.{front_cmp, fronts_of, fronts_sum, AreFronts, NoneBefore, Pulls, IsElsewhere};
+ghost use Rattle.merged_cells.specs.Fronts.{IsFrontBefore, Skips};
 
 use crate::front::Front;
 use cells::Cell;
 use hyper_matrix::Hyper;
+use hyper_rows::is_before;
 use std::alloc::{AllocError, Global};
 use std::collections::BinaryHeap;
 use std::marker::Model;
@@ -197,6 +200,64 @@ fn pull_sum<'a>(first: &mut Option<Front<'a>>, others: &mut BinaryHeap<Front<'a>
         sum.count += cell.count;
     }
     Some(sum)
+}
+
+// Whether the least cell that is left stands before a place.
+fn begins_before(first: &Option<Front<'_>>, place: (u64, u64)) -> bool
+    ensures { IsTrue result ↔ IsFrontBefore place first.now }
+{
+    match first {
+        Some(front) => is_before((front.cell.row, front.cell.col), place),
+        None => false,
+    }
+}
+
+// Has the first front pass over its cells before a place, of which its first is one.
+fn skip_first<'a>(
+    first: &mut Option<Front<'a>>,
+    others: &mut BinaryHeap<Front<'a>>,
+    place: (u64, u64),
+)
+    requires kept { AreFronts first.old (heap_items others.old) }
+    requires before { IsFrontBefore place first.old }
+    ensures { Skips place first.old (heap_items others.old) first.new (heap_items others.new) }
+{
+    let Some(mut front) = first.take() else {
+        return;
+    };
+    *first = if front.skip_to(place) {
+        Some(exchanged(front, others))
+    } else {
+        others.pop()
+    };
+}
+
+// Has each front pass over its cells before a place.
+fn skip_fronts<'a>(
+    first: &mut Option<Front<'a>>,
+    others: &mut BinaryHeap<Front<'a>>,
+    place: (u64, u64),
+)
+    requires { AreFronts first.old (heap_items others.old) }
+    ensures kept { AreFronts first.new (heap_items others.new) }
+    ensures left { entries (fronts_sum (fronts_of first.new (heap_items others.new))) ≡
+        cells_from place (entries (fronts_sum (fronts_of first.old (heap_items others.old)))) }
+{
+    'skip: while begins_before(first, place) {
+        skip_first(first, others, place);
+    }
+}
+
+impl<'a> MergedCells<'a> {
+    /// Passes over the cells before a place: those at it and behind it are left, in order.
+    ///
+    /// It takes no memory, and for each matrix that has a cell before the place the time of `Cells::skip_to` and the
+    /// logarithm of the number of matrices.
+    pub fn skip_to(&mut self, place: (u64, u64))
+        ensures { entries self.new ≡ cells_from place (entries self.old) }
+    {
+        skip_fronts(&mut self.first, &mut self.others, place);
+    }
 }
 
 impl<'a> Iterator for MergedCells<'a> {
