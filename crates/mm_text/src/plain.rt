@@ -106,8 +106,8 @@ fn last_digits(value: u64, bytes: &[u8]) -> (u64, &[u8])
     (value, &bytes[count..])
 }
 
-/// The number that the first digits write, read by eight digits where so many stand: at most two words of them, and then
-/// at most 11 or 3 digits.
+/// The number that the first digits write, read by eight digits where so many stand: at most two words of them, and
+/// then at most 11 or 3 digits.
 ///
 /// Inlined, as its callers are: a call for each index shows in the time of reading a line.
 #[inline(always)]

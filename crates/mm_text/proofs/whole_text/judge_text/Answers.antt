@@ -1,5 +1,5 @@
-use Rattle.std.proofs.Common.{◌≡◌, ◌++◌, ◌+◌, ◌≤◌, ◌<◌, [], length, take, drop, arith, sym, ap, ◌∙◌, length-take}
-use Rattle.std.proofs.Common.{length-drop, subst}
+use Rattle.std.proofs.Common.{◌≡◌, ◌++◌, ◌<◌, [], length, take, drop, arith, sym, ap, ◌∙◌, length-take}
+use Rattle.std.proofs.Common.{length-drop}
 use Rattle.std.proofs.lemmas.List.{take-append-drop, take_all, take_rest}
 use Rattle.std.proofs.lemmas.Result.{err_from_is_err_and, on_ok_weaker, IfErr-weaker}
 use Rattle.mm_text.specs.Lines.{IsLine}

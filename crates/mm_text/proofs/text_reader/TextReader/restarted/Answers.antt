@@ -1,4 +1,4 @@
-use Rattle.std.proofs.Common.{ℕ, ◌≤◌, List, length, sym, ap, refl, ◌∙◌, arith}
+use Rattle.std.proofs.Common.{◌≤◌, length, ap, refl, ◌∙◌, arith}
 use Rattle.std.proofs.lemmas.List.{drop_all}
 use Rattle.mm_text.proofs.TextReaderLemmas.{has_read_none}
 use Rattle.mm_text.proofs.text_reader.TextReader.restarted.Goals as goal
