@@ -33,7 +33,8 @@ some_power k = pow-le-pow_right {n = 2} (omega arith) {i = 0} {j = k} (omega ari
 -- a row with k bits behind the first of its number of entries is counted at k, and at no other
 at_its_own : (k : ℕ) (t : RowTally) → 2 ^ k ≤ t.entries → t.entries < 2 * 2 ^ k →
     is_between (2 ^ k) (2 * 2 ^ k - 1) t ≡ true
-at_its_own k t low high = and_from (leb (2 ^ k) t.entries) (leb t.entries (2 * 2 ^ k - 1)) (le-leb (2 ^ k) t.entries low)
+at_its_own k t low high =
+    and_from (leb (2 ^ k) t.entries) (leb t.entries (2 * 2 ^ k - 1)) (le-leb (2 ^ k) t.entries low)
     (le-leb t.entries (2 * 2 ^ k - 1) (omega (arith, high)))
 
 at_no_lower : (j k : ℕ) (t : RowTally) → j < k → 2 ^ k ≤ t.entries → is_between (2 ^ j) (2 * 2 ^ j - 1) t ≡ false
@@ -119,7 +120,8 @@ listed_some list ts k rows whole below is some h =
     append_assoc list (degree_at (2 ^ k) (2 ^ k + (2 ^ k - 1)) rows ∷ []) behind
     ∙ ap (λ d. list ++ d ∷ behind) same
     ∙ ap (λ ds. list ++ ds) (sym (range_at k ts below
-    ∙ ap (λ b. cond b behind (degree (2 ^ k) ts ∷ behind)) (ne_eqb (rows_at k ts) 0 (λ none. omega (arith, none, is, some)))))
+    ∙ ap (λ b. cond b behind (degree (2 ^ k) ts ∷ behind))
+    (ne_eqb (rows_at k ts) 0 (λ none. omega (arith, none, is, some)))))
     ∙ h
 
 pub listed_other : (list : List Degree) (ts : List RowTally) (k rows : ℕ) (whole : List Degree) → k < 64 →
@@ -134,7 +136,8 @@ listed_other list ts k rows whole below is none h =
 -- nothing is listed of a range without a row, and else the range
 pub listed_nothing : (list : List Degree) (k rows : ℕ) → rows ≡ 0 → list ++ listed_at k rows ≡ list
 listed_nothing list k rows none =
-    ap (λ b. list ++ cond b [] (degree_at (2 ^ k) (2 ^ k + (2 ^ k - 1)) rows ∷ [])) (eq-eqb rows 0 none) ∙ append-nil list
+    ap (λ b. list ++ cond b [] (degree_at (2 ^ k) (2 ^ k + (2 ^ k - 1)) rows ∷ [])) (eq-eqb rows 0 none)
+    ∙ append-nil list
 
 pub listed_one : (list : List Degree) (k rows : ℕ) → (rows ≡ 0 → ⊥) → list ++ listed_at k rows ≡
     list ++ (record { first = 2 ^ k; last = 2 ^ k + (2 ^ k - 1); rows = rows }) ∷ []
@@ -188,4 +191,5 @@ pub counted_next : (all left ts : List RowTally) (t : RowTally) (counts : List �
     AreCounted all left counts → left ≡ t ∷ ts → k < length counts → 2 ^ k ≤ t.entries → t.entries < 2 * 2 ^ k →
     n ≡ get_or counts k 0 + 1 → AreCounted all ts (set counts k n)
 counted_next all left ts t counts k n before is within low high one =
-    counted_more all ts t counts k n (subst (λ (us : List RowTally). AreCounted all us counts) is before) within low high one
+    counted_more all ts t counts k n (subst (λ (us : List RowTally). AreCounted all us counts) is before) within low
+    high one

@@ -106,7 +106,8 @@ first_is_one t u xs ys alike once same =
     let few : count_by (differs t) xs ≤ count_by (λ x. eqb x.row t.row) xs =
     fewer_pass (differs t) (λ x. eqb x.row t.row)
     (λ x h. (and_parts (eqb x.row t.row) (not (eqb x.entries t.entries && eqb x.total t.total)) h).0) xs in
-    let itself : differs t t ≡ false = and_right (eqb t.row t.row) (not (eqb t.entries t.entries && eqb t.total t.total))
+    let itself : differs t t ≡ false =
+    and_right (eqb t.row t.row) (not (eqb t.entries t.entries && eqb t.total t.total))
     (not_from_true (eqb t.entries t.entries && eqb t.total t.total) (and_from (eqb t.entries t.entries)
     (eqb t.total t.total) (eq-eqb t.entries t.entries refl) (eq-eqb t.total t.total refl))) in
     let none : cond {A = ℕ} (differs t t) 1 0 ≡ 0 = ap (λ b. cond b 1 0) itself in
@@ -203,5 +204,10 @@ one_top by most rows a b rise top other =
     same_tops by a top.rest b other.rest
     (λ p. sum_by-IsPermutation (λ x. cond (p x) 1 0) rows (a ++ top.rest) top.all
     ∙ sym (sum_by-IsPermutation (λ x. cond (p x) 1 0) rows (b ++ other.rest) other.all))
-    (λ r. omega (arith, stand_once rows rise r, sum_by-IsPermutation (λ x. cond (eqb x.row r) 1 0) rows (a ++ top.rest) top.all))
+    (λ r. omega (
+      arith,
+      stand_once rows rise r,
+      sum_by-IsPermutation (λ x. cond (eqb x.row r) 1 0) rows
+          (a ++ top.rest) top.all,
+    ))
     top.ranked top.ahead other.ranked other.ahead (top.long ∙ sym other.long)

@@ -75,7 +75,8 @@ rows_rise (e ∷ es) h = joined_rise (tally e.0.0 1 e.1) (tallies es)
 cell_of_row : (r : ℕ) (e : Place × ℕ) (es : List (Place × ℕ)) → e.0.0 ≡ r → row_cells r (e ∷ es) ≡ e ∷ row_cells r es
 cell_of_row r e es h = ap (λ b. cond b (e ∷ row_cells r es) (row_cells r es)) (eq-eqb e.0.0 r h)
 
-cell_of_other : (r : ℕ) (e : Place × ℕ) (es : List (Place × ℕ)) → (e.0.0 ≡ r → ⊥) → row_cells r (e ∷ es) ≡ row_cells r es
+cell_of_other : (r : ℕ) (e : Place × ℕ) (es : List (Place × ℕ)) → (e.0.0 ≡ r → ⊥) →
+    row_cells r (e ∷ es) ≡ row_cells r es
 cell_of_other r e es h = ap (λ b. cond b (e ∷ row_cells r es) (row_cells r es)) (ne_eqb e.0.0 r h)
 
 none_of_row : (r : ℕ) (es : List (Place × ℕ)) → AllPlaces (λ p. r < p.0) es → row_cells r es ≡ []
@@ -172,7 +173,8 @@ has_still r t (u ∷ us) h = elim (cases_eq u.row t.row) [
   | inr other ↦ subst (HasRow r) (sym (other_row t u us other)) (inr h)
 ]
   where
-    moved : (u.row ≡ r) ⊎ HasRow r us → u.row ≡ t.row → HasRow r (tally t.row (t.entries + u.entries) (t.total + u.total) ∷ us)
+    moved : (u.row ≡ r) ⊎ HasRow r us → u.row ≡ t.row →
+        HasRow r (tally t.row (t.entries + u.entries) (t.total + u.total) ∷ us)
     moved (inl is) same = inl (sym same ∙ is)
     moved (inr rest) same = inr rest
 

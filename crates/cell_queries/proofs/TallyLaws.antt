@@ -13,11 +13,13 @@ use Rattle.cell_queries.specs.Tallies.{tally, joined, tallies, rows_left}
 pub same_row : (t u : RowTally) (us : List RowTally) → u.row ≡ t.row →
     joined t (u ∷ us) ≡ tally t.row (t.entries + u.entries) (t.total + u.total) ∷ us
 same_row t u us h =
-    ap (λ b. cond b (tally t.row (t.entries + u.entries) (t.total + u.total) ∷ us) (t ∷ (u ∷ us))) (eq-eqb u.row t.row h)
+    ap (λ b. cond b (tally t.row (t.entries + u.entries) (t.total + u.total) ∷ us) (t ∷ (u ∷ us)))
+    (eq-eqb u.row t.row h)
 
 pub other_row : (t u : RowTally) (us : List RowTally) → (u.row ≡ t.row → ⊥) → joined t (u ∷ us) ≡ t ∷ (u ∷ us)
 other_row t u us h =
-    ap (λ b. cond b (tally t.row (t.entries + u.entries) (t.total + u.total) ∷ us) (t ∷ (u ∷ us))) (ne_eqb u.row t.row h)
+    ap (λ b. cond b (tally t.row (t.entries + u.entries) (t.total + u.total) ∷ us) (t ∷ (u ∷ us)))
+    (ne_eqb u.row t.row h)
 
 -- the row that a joined list begins with
 pub record Begins (t : RowTally) (us : List RowTally) : Type 0 where
@@ -41,8 +43,10 @@ joined_more row n a count (u ∷ us) = elim (cases_eq u.row row) [
   | inl same ↦
       ap (joined (tally row n a)) (same_row (tally row 1 count) u us same)
       ∙ same_row (tally row n a) (tally row (1 + u.entries) (count + u.total)) us refl
-      ∙ ap (λ k. tally row k (a + (count + u.total)) ∷ us) {x = n + (1 + u.entries)} {y = (n + 1) + u.entries} (omega arith)
-      ∙ ap (λ k. tally row ((n + 1) + u.entries) k ∷ us) {x = a + (count + u.total)} {y = (a + count) + u.total} (omega arith)
+      ∙ ap (λ k. tally row k (a + (count + u.total)) ∷ us) {x = n + (1 + u.entries)} {y = (n + 1) + u.entries}
+      (omega arith)
+      ∙ ap (λ k. tally row ((n + 1) + u.entries) k ∷ us) {x = a + (count + u.total)} {y = (a + count) + u.total}
+      (omega arith)
       ∙ sym (same_row (tally row (n + 1) (a + count)) u us same)
   | inr other ↦
       ap (joined (tally row n a)) (other_row (tally row 1 count) u us other)
@@ -77,7 +81,8 @@ pub row_other : (t : RowTally) (cell : Cell) (es news : List (Place × ℕ)) (wh
 row_other t cell es news whole told is other =
     sym told ∙ ap (λ xs. joined t (tallies xs)) is ∙ joined_other t cell.row cell.count (tallies news) other
 
-pub row_ends : (t : RowTally) (es : List (Place × ℕ)) (whole : List RowTally) → joined t (tallies es) ≡ whole → es ≡ [] →
+pub row_ends : (t : RowTally) (es : List (Place × ℕ)) (whole : List RowTally) → joined t (tallies es) ≡ whole →
+    es ≡ [] →
     whole ≡ t ∷ []
 row_ends t es whole told is = sym told ∙ ap (λ xs. joined t (tallies xs)) is
 

@@ -1,5 +1,6 @@
 -- The rows that lead, as one row more is offered.
-use Rattle.std.proofs.Common.{◌≡◌, ℕ, ◌+◌, ◌<◌, ◌≤◌, ◌⊎◌, T, true, false, List, [], ◌∷◌, ◌++◌, length, map, get_or, refl, sym, ◌∙◌}
+use Rattle.std.proofs.Common.{◌≡◌, ℕ, ◌+◌, ◌<◌, ◌≤◌, ◌⊎◌, T, true, false, List, [], ◌∷◌, ◌++◌, length, map, get_or}
+use Rattle.std.proofs.Common.{refl, sym, ◌∙◌}
 use Rattle.std.proofs.Common.{ap, subst, inl, inr, arith, length-append}
 use Rattle.std.proofs.Common.{Option, Some, None, Bor, Ordering, Result, Ok, Err, IfOk}
 use Rattle.std.specs.Prelude.{All, IfSome, IfNone, IsSome, option_map}
@@ -9,9 +10,11 @@ use Rattle.std.specs.List.{Contains}
 use Rattle.std.specs.List.Sorted.{IsPermutation, IsSortedBy}
 use Rattle.std.specs.BinaryHeap.{IsHeap, IsUpperBound, PopsGreatest}
 use Rattle.std.proofs.lemmas.List.{get_or-map, get_or_default, map-append, length-map}
-use Rattle.std.proofs.lemmas.List.Elements.{All-nil, All-cons, All-head, All-tail, All-weaker, All-from_recursion, All-map}
+use Rattle.std.proofs.lemmas.List.Elements.{All-nil, All-cons, All-head, All-tail, All-weaker, All-from_recursion}
+use Rattle.std.proofs.lemmas.List.Elements.{All-map}
 use Rattle.std.proofs.lemmas.List.Elements.{Contains-append_cases, All-contains_itself}
-use Rattle.std.proofs.lemmas.List.Sorted.{IsPermutation-refl, IsPermutation-sym, IsPermutation-trans, IsPermutation-cons}
+use Rattle.std.proofs.lemmas.List.Sorted.{IsPermutation-refl, IsPermutation-sym, IsPermutation-trans}
+use Rattle.std.proofs.lemmas.List.Sorted.{IsPermutation-cons}
 use Rattle.std.proofs.lemmas.List.Sorted.{IsPermutation-to_front, IsPermutation-middle, IsPermutation-append_left}
 use Rattle.std.proofs.lemmas.List.Sorted.{IsPermutation-map, All-permutation, length_permutation}
 use Rattle.cells.proofs.OrderLaws.{not_below}
@@ -20,7 +23,8 @@ use Rattle.cell_queries.specs.declared.tally.RowTally.{RowTally}
 use Rattle.cell_queries.specs.declared.top.TopBy.{TopBy}
 use Rattle.cell_queries.specs.declared.top.Ranked.{Ranked}
 use Rattle.cell_queries.specs.Tops.{number_of, IsAhead, IsTop}
-use Rattle.cell_queries.specs.Heaps.{ranked, ranked_cmp, StandsAhead, FallBehind, Joins, StaysOut, Displaces, IsOffered, Leads}
+use Rattle.cell_queries.specs.Heaps.{ranked, ranked_cmp, StandsAhead, FallBehind, Joins, StaysOut, Displaces, IsOffered}
+use Rattle.cell_queries.specs.Heaps.{Leads}
 
 -- what comparisons say
 pub not_before : (r s : Ranked) → is_lt (ranked_cmp s r) ≡ false → StandsAhead r s
@@ -77,7 +81,8 @@ pub takes_place : (most n : ℕ) (x last : Ranked) (olds mid news : List Ranked)
     IfSome r (λ w. IsPermutation olds (w ∷ mid)) → IfSome r (λ w. PopsGreatest ranked_cmp olds w mid) →
     IfNone r (n ≡ 0) → last ≡ get_or olds 0 last → is_lt (ranked_cmp x last) ≡ true →
     IsPermutation (x ∷ mid) news → IsOffered most x olds news
-takes_place most n x last olds mid news None heap full some pos top parts pops none is e joined = absurd (omega (arith, none))
+takes_place most n x last olds mid news None heap full some pos top parts pops none is e joined =
+    absurd (omega (arith, none))
 takes_place most n x last olds mid news (Some w) heap full some pos top parts pops none is e joined =
     let same : last ≡ w = is ∙ get_or_default olds 0 last w some ∙ sym top in
     inr (inr (record {
@@ -179,7 +184,8 @@ module _ (by : TopBy) (most : ℕ) (done : List RowTally) (items after : List Ra
         ahead = All-permutation (λ r. All (StandsAhead r) (d.last ∷ l.dropped)) (x ∷ d.others) after d.joined
             (All-cons (λ r. All (StandsAhead r) (d.last ∷ l.dropped)) x d.others
             (All-cons (StandsAhead x) d.last l.dropped d.ahead
-            (All-weaker (StandsAhead d.last) (StandsAhead x) (λ r h. ahead_trans x d.last r d.ahead h) l.dropped last_apart))
+            (All-weaker (StandsAhead d.last) (StandsAhead x) (λ r h. ahead_trans x d.last r d.ahead h) l.dropped
+            last_apart))
             (λ k e h. All-cons (StandsAhead (get_or d.others k e)) d.last l.dropped
             (All-tail (λ r. StandsAhead r d.last) d.last d.others behind k e h)
             (All-tail (λ r. All (StandsAhead r) l.dropped) d.last d.others apart k e h)));
@@ -271,7 +277,8 @@ none_left_out by most rows top h =
 
 pub rows_alone : (by : TopBy) (most : ℕ) (rows top : List RowTally) → IsTop by most rows top → All (Contains rows) top
 rows_alone by most rows top h =
-    all_front (Contains rows) top h.rest (All-permutation (Contains rows) rows (top ++ h.rest) h.all (All-contains_itself rows))
+    all_front (Contains rows) top h.rest
+    (All-permutation (Contains rows) rows (top ++ h.rest) h.all (All-contains_itself rows))
 
 -- where no row is as far behind as the last, it isn't before it
 pub not_ge : (o : Ordering) → is_ge o ≡ false → is_lt o ≡ true

@@ -1,8 +1,12 @@
 -- The cells of a range of rows and columns, in the order of a list, and its first page.
---     is_in_range r e     the cell's row and column are among those of the range, and its place is the start or behind it
+--     is_in_range r e     the cell's row and column are among those of the range, and its place is the start or behind
+--                         it
 --     cells_in r es       the cells of the range
 --     page_of r most es   the first of them
-use Rattle.std.specs.Prelude.{ℕ, Bool, ◌&&◌, not, nat_le, List, take}
+--     place_at es k       the place of the cell k
+--     IsLimit r p Q       of the places that Q holds of, none is in the range before p
+--     HasNone r Q         of these places, none is in the range
+use Rattle.std.specs.Prelude.{◌≡◌, ℕ, Bool, true, false, ◌&&◌, not, nat_le, List, take, slice_index_or}
 use Rattle.std.specs.List.{filter}
 use Rattle.std.specs.Ordering.{is_lt}
 use Rattle.hyper_rows.specs.Counts.{Place, place_cmp}
@@ -20,3 +24,12 @@ cells_in r es = filter (is_in_range r) es
 
 abbrev pub page_of : CellRange → ℕ → List (Place × ℕ) → List (Place × ℕ)
 page_of r most es = take most (cells_in r es)
+
+abbrev pub place_at : List (Place × ℕ) → ℕ → Place
+place_at es k = (slice_index_or es k ((0, 0), 0)).0
+
+abbrev pub IsLimit : CellRange → Place → (Place → Type 0) → Type 0
+IsLimit r p Q = (e : Place × ℕ) → Q e.0 → is_in_range r e ≡ true → is_lt (place_cmp e.0 p) ≡ false
+
+abbrev pub HasNone : CellRange → (Place → Type 0) → Type 0
+HasNone r Q = (e : Place × ℕ) → Q e.0 → is_in_range r e ≡ false

@@ -1,6 +1,7 @@
 -- The rows of a list of cells in order, each with the number of its entries and their total.
 --     tally r n t        row r has n entries, which come to t
---     joined t ts        a row's first entries and the rows behind them: the first of these has the rest of it, or is another
+--     joined t ts        a row's first entries and the rows behind them: the first of these has the rest of it, or is
+--                        another
 --     tallies es         the rows of the cells
 --     rows_left ahead es the rows of a cell that was taken and of those behind it
 use Rattle.std.specs.Prelude.{ℕ, ◌+◌, ◌==◌, List, [], ◌∷◌, Option, Some, None, if◌then◌else◌}
@@ -13,7 +14,8 @@ tally row entries total = record { row = row; entries = entries; total = total }
 
 abbrev pub joined : RowTally → List RowTally → List RowTally
 joined t [] = t ∷ []
-joined t (u ∷ us) = if u.row == t.row then tally t.row (t.entries + u.entries) (t.total + u.total) ∷ us else t ∷ (u ∷ us)
+joined t (u ∷ us) =
+    if u.row == t.row then tally t.row (t.entries + u.entries) (t.total + u.total) ∷ us else t ∷ (u ∷ us)
 
 abbrev pub tallies : List (Place × ℕ) → List RowTally
 tallies [] = []

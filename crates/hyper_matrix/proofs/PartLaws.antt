@@ -1,7 +1,7 @@
 -- The part of a matrix in one shard: its entries, its total, and the blocks that hold it; and the parts in all shards.
 use Rattle.std.proofs.Common.{T, ◌≡◌, ℕ, zero, suc, ◌+◌, ◌-◌, ◌<◌, ◌≤◌, ◌^◌, Bool, true, false, cond, List, [], ◌∷◌}
-use Rattle.std.proofs.Common.{◌++◌, map, take, drop, get_or, length, replicate, Option, None, Ordering, refl, sym, ◌∙◌, ap}
-use Rattle.std.proofs.Common.{subst, arith, inl, inr, length-append}
+use Rattle.std.proofs.Common.{◌++◌, map, take, drop, get_or, length, replicate, Option, None, Ordering, refl, sym, ◌∙◌}
+use Rattle.std.proofs.Common.{ap, subst, arith, inl, inr, length-append}
 use Rattle.std.proofs.Math.ListN.{get_or-append}
 use Rattle.std.proofs.Math.Seq.{take-add, get_or-append_seam}
 use Rattle.std.proofs.lemmas.Bool.{cases_lt}

@@ -1,6 +1,6 @@
 -- The sum of blocks and cells, a block at a time.
-use Rattle.std.proofs.Common.{◌≡◌, ℕ, ◌+◌, ◌-◌, ◌<◌, ◌≤◌, T, List, [], ◌∷◌, ◌++◌, length, get_or, take, drop, map, sym, ◌∙◌}
-use Rattle.std.proofs.Common.{ap, subst, refl, inl, inr, arith, append_assoc, Bool, true, false, not, cond, Option}
+use Rattle.std.proofs.Common.{◌≡◌, ℕ, ◌+◌, ◌-◌, ◌<◌, ◌≤◌, T, List, [], ◌∷◌, ◌++◌, length, get_or, take, drop, map, sym}
+use Rattle.std.proofs.Common.{◌∙◌, ap, subst, refl, inl, inr, arith, append_assoc, Bool, true, false, not, cond, Option}
 use Rattle.std.proofs.Common.{Some, None}
 use Rattle.std.specs.List.{slice_range}
 use Rattle.std.specs.Option.{option_map, is_some}

@@ -1,6 +1,7 @@
 -- The entries of one shard, and those of all shards, row by row.
 use Rattle.std.proofs.Common.{◌≡◌, ℕ, zero, suc, ◌+◌, ◌-◌, ◌*◌, ◌<◌, ◌%◌, ◌^◌, bit_and, true, false, cond, eqb}
-use Rattle.std.proofs.Common.{List, [], ◌∷◌, ◌++◌, map, drop, set, get_or, length, append_assoc, refl, sym, ◌∙◌, ap, arith}
+use Rattle.std.proofs.Common.{List, [], ◌∷◌, ◌++◌, map, drop, set, get_or, length, append_assoc, refl, sym, ◌∙◌, ap}
+use Rattle.std.proofs.Common.{arith}
 use Rattle.std.specs.declared.vec.Vec.{Vec}
 use Rattle.std.proofs.Math.Nat.{mod-eq_of_lt}
 use Rattle.std.proofs.Math.Pow.{pow-lt}

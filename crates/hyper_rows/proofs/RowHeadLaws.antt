@@ -1,6 +1,7 @@
 -- The heads of the rows of a list of cells: they cut the cells' entries into rows that hold these cells.
 use Rattle.std.proofs.Common.{◌≡◌, ℕ, ◌+◌, ◌<◌, ◌≤◌, ◌==◌, ◌-◌, true, not, List, [], ◌∷◌, ◌++◌, length, get_or}
-use Rattle.std.proofs.Common.{map, drop, take, set, sym, ◌∙◌, ap, subst, refl, inl, inr, arith, append_assoc, length-drop}
+use Rattle.std.proofs.Common.{map, drop, take, set, sym, ◌∙◌, ap, subst, refl, inl, inr, arith, append_assoc}
+use Rattle.std.proofs.Common.{length-drop}
 use Rattle.std.proofs.Common.{length-take, length-append}
 use Rattle.std.specs.List.{slice_range}
 use Rattle.std.proofs.lemmas.Bool.{cond_both, cond-true, cond-false, not-true, not-false, not_from_true, not_from_false}
@@ -161,7 +162,8 @@ rows_some at cell (next ∷ cells) =
 -- from cell i on there is a row
 pub rows_from_here : (cells : List Cell) (at i : ℕ) (d : Cell) → i < length cells →
     0 < length (heads_in at (drop i cells))
-rows_from_here cells at i d lt = subst (λ (rest : List Cell). 0 < length (heads_in at rest)) (sym (drop_more cells i d lt))
+rows_from_here cells at i d lt =
+    subst (λ (rest : List Cell). 0 < length (heads_in at rest)) (sym (drop_more cells i d lt))
     (rows_some at (get_or cells i d) (drop (i + 1) cells))
 
 -- of the heads hs the first are those of the rows of the first i cells, where the last of these rows, which has the
@@ -184,7 +186,8 @@ written_first hs hs' (cell ∷ cells) row some room is =
     }
 
 -- the head of cell i, which is written over that of its row or behind it
-written_next : (hs hs' : List (ℕ × ℕ)) (cells : List Cell) (at i row : ℕ) → at < length hs → hs' ≡ set hs at (row, i + 1) →
+written_next : (hs hs' : List (ℕ × ℕ)) (cells : List Cell) (at i row : ℕ) → at < length hs →
+    hs' ≡ set hs at (row, i + 1) →
     take at hs ++ heads_in i (drop i cells) ≡ heads_in 0 cells → AreWritten hs' cells at (i + 1) row
 written_next hs hs' cells at i row room is told =
     let before : take at (set hs at (row, i + 1)) ≡ take at hs = take-set hs at (row, i + 1) in

@@ -1,6 +1,7 @@
 -- The cells of a run from a place on.
-use Rattle.std.proofs.Common.{◌≡◌, ℕ, zero, suc, ◌+◌, ◌-◌, ◌<◌, ◌≤◌, false, T, List, [], ◌∷◌, ◌++◌, length, get_or, take}
-use Rattle.std.proofs.Common.{drop, ltb, true, inl, inr, sym, ◌∙◌, ap, subst, refl, arith, length-take, length-drop, length-append}
+use Rattle.std.proofs.Common.{◌≡◌, ℕ, zero, suc, ◌+◌, ◌-◌, ◌<◌, ◌≤◌, false, T, List, [], ◌∷◌, ◌++◌, length, get_or}
+use Rattle.std.proofs.Common.{take, drop, ltb, true, inl, inr, sym, ◌∙◌, ap, subst, refl, arith, length-take}
+use Rattle.std.proofs.Common.{length-drop, length-append}
 use Rattle.std.specs.List.{slice_range}
 use Rattle.std.specs.Prelude.{IsTrue}
 use Rattle.std.specs.FinMap.{is_sorted}
@@ -20,7 +21,8 @@ pub length-part : {X : Type 0} (es : List X) (i j : ℕ) → i ≤ j → j ≤ l
 length-part es i j h k = omega (arith, length-take (j - i) (drop i es), length-drop i es)
 
 -- a part without its first n
-pub part_rest : {X : Type 0} (es : List X) (i j n : ℕ) → i + n ≤ j → drop n (slice_range es i j) ≡ slice_range es (i + n) j
+pub part_rest : {X : Type 0} (es : List X) (i j n : ℕ) → i + n ≤ j →
+    drop n (slice_range es i j) ≡ slice_range es (i + n) j
 part_rest es i j n h =
     ap (λ k. drop n (take k (drop i es))) {x = j - i} {y = n + (j - (i + n))} (omega arith)
     ∙ drop-take n (j - (i + n)) (drop i es) ∙ ap (take (j - (i + n))) (drop-drop n i es)
@@ -161,7 +163,8 @@ module _ (q : Place) (heads : List (ℕ × ℕ)) (es : Entries) (from i : ℕ) (
       (begins : begin ≡ start_from from heads i) where
     ends_here : EndsAt begin (head ∷ rest) (length es)
     ends_here = subst (λ (hs : List (ℕ × ℕ)). EndsAt begin hs (length es)) is
-        (subst (λ n. EndsAt n (drop i heads) (length es)) (sym begins) (ends-drop from heads (length es) i turn.within ends))
+        (subst (λ n. EndsAt n (drop i heads) (length es)) (sym begins)
+        (ends-drop from heads (length es) i turn.within ends))
 
     pub part_order : begin < head.1
     part_order = ends_here.0
@@ -192,7 +195,8 @@ module _ (q : Place) (heads : List (ℕ × ℕ)) (es : Entries) (from i : ℕ) (
     )
 
     some : 0 < length (cells_from q (at_places head.0 (slice_range es begin head.1)))
-    some = some_from q (at_places head.0 (slice_range es begin head.1)) (last_place (head.0, slice_range es begin head.1))
+    some = some_from q (at_places head.0 (slice_range es begin head.1))
+        (last_place (head.0, slice_range es begin head.1))
         (row_ends (head.0, slice_range es begin head.1)
         (omega (arith, part_order, length-part es begin head.1 (omega (arith, part_order)) part_within)))
         (subst (λ (r : ℕ × Entries). is_before (last_place r) q ≡ false) here.1 (turn.behind here.0))
@@ -201,7 +205,8 @@ module _ (q : Place) (heads : List (ℕ × ℕ)) (es : Entries) (from i : ℕ) (
         (passed : at_places head.0 (drop n (slice_range es begin head.1)) ≡
         cells_from q (at_places head.0 (slice_range es begin head.1))) where
       pub reached_order : begin + n ≤ head.1
-      reached_order = omega (arith, few, part_order, length-part es begin head.1 (omega (arith, part_order)) part_within)
+      reached_order =
+          omega (arith, few, part_order, length-part es begin head.1 (omega (arith, part_order)) part_within)
 
       pub reached : run_left rest es head.0 (begin + n) head.1 ≡ cells_from q (cells_of (rows_from from heads es))
       reached =

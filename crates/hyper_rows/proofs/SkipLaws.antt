@@ -1,7 +1,9 @@
 -- The cells of a list in order from a place on.
-use Rattle.std.proofs.Common.{◌≡◌, ℕ, ◌+◌, ◌<◌, ◌≤◌, Bool, true, false, not, cond, T, ltb, List}
-use Rattle.std.proofs.Common.{[], ◌∷◌, ◌++◌, length, get_or, take, drop, sym, ◌∙◌, ap, subst, refl, inl, inr, arith, length-append}
+use Rattle.std.proofs.Common.{◌≡◌, ℕ, suc, ◌+◌, ◌<◌, ◌≤◌, Bool, true, false, not, cond, T, ltb, List}
+use Rattle.std.proofs.Common.{[], ◌∷◌, ◌++◌, length, get_or, take, drop, sym, ◌∙◌, ap, subst, refl, inl, inr, arith}
+use Rattle.std.proofs.Common.{length-append}
 use Rattle.std.specs.FinMap.{is_sorted}
+use Rattle.std.specs.FinMap.Entries.{is_sorted-where_key}
 use Rattle.std.proofs.lemmas.Bool.{cases_lt, lt-ltb, false≢true}
 use Rattle.std.proofs.lemmas.List.{take-append-drop, drop_more, drop_all}
 use Rattle.std.proofs.lemmas.List.Elements.{filter-append}
@@ -38,8 +40,8 @@ still_behind p r q less behind = turn (is_before r q) refl
     turn false e = refl
     turn true e = sym (before_trans p r q (as_true _ less) e) ∙ behind
 
-behind_one : (q : Place) (xs ys : List (Place × ℕ)) → T (is_sorted place_cmp (xs ++ ys)) → 0 < length (cells_from q xs) →
-    AllFrom q ys
+behind_one : (q : Place) (xs ys : List (Place × ℕ)) → T (is_sorted place_cmp (xs ++ ys)) →
+    0 < length (cells_from q xs) → AllFrom q ys
 behind_one q [] ys sorted some = absurd (omega arith)
 behind_one q (x ∷ xs) ys sorted some = elim (is_before x.0 q) as (λ t. is_before x.0 q ≡ t → AllFrom q ys) [
   | true ↦ λ b. behind_one q xs ys (T_second _ _ sorted) (subst (λ (l : List (Place × ℕ)). 0 < length l)
@@ -77,6 +79,19 @@ begins_from q x xs sorted h = all_from q (x ∷ xs) (
   all_map (Less x.0) (λ p. is_before p q ≡ false) (λ p less. still_behind x.0 p q less h) xs
       (to_all x.0 xs (T_first _ _ sorted)),
 )
+
+-- what is left of a list in order is in order, and isn't longer
+pub sorted_from : (q : Place) (es : List (Place × ℕ)) → T (is_sorted place_cmp es) →
+    T (is_sorted place_cmp (cells_from q es))
+sorted_from q es sorted = is_sorted-where_key place_cmp (λ p. not (is_before p q)) es sorted
+
+pub fewer_from : (q : Place) (es : List (Place × ℕ)) → length (cells_from q es) ≤ length es
+fewer_from q [] = omega arith
+fewer_from q (x ∷ es) = elim (is_before x.0 q) as
+    (λ t. length (cond (not t) (x ∷ cells_from q es) (cells_from q es)) ≤ suc (length es)) [
+      | true ↦ omega (arith, fewer_from q es)
+      | false ↦ omega (arith, fewer_from q es)
+    ]
 
 -- the entries of a row in which the place's column turns
 pub row_passed : (r c : ℕ) (es : Entries) (j : ℕ) → T (is_sorted place_cmp (at_places r es)) →

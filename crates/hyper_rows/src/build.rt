@@ -1,7 +1,8 @@
 //! Rows from a list of cells in strict order.
 //!
-//! One pass writes the entries, and one the heads. Neither branches on where rows end, which the processor can't foresee
-//! where they are of many lengths; a loop that pushes a head as the next cell's row decides takes twice as long there.
+//! One pass writes the entries, and one the heads. Neither branches on where rows end, which the processor can't
+//! foresee where they are of many lengths; a loop that pushes a head as the next cell's row decides takes twice as long
+//! there.
 ghost use Rattle.std.specs.Prelude.{◌≡◌, ℕ, [], ◌<◌, ◌≤◌, ◌^◌, ◌++◌, OnOk, IfOk, length, map, take};
 ghost use Rattle.hyper_rows.specs.Rows.{AreRows, AreRising, EndsAt, InOrder, rows_of, cells_of};
 ghost use Rattle.hyper_rows.specs.Cells.{entry_of, entries_in, heads_in};

@@ -44,7 +44,8 @@ impl Rows {
         Ok(())
     }
 
-    /// Appends each cell to the list of its row's shard, of as many shards as there are lists: by row and then by column.
+    /// Appends each cell to the list of its row's shard, of as many shards as there are lists: by row and then by
+    /// column.
     pub fn push_parts(&self, lists: &mut [Vec<Cell>]) -> Result<(), AllocError>
         requires { 0 < length lists.old }
         ensures { OnOk result (listed lists.new ≡

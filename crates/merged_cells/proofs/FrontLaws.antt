@@ -1,6 +1,6 @@
 -- The sum of fronts doesn't depend on their order, and steps as the least cell is taken.
-use Rattle.std.proofs.Common.{◌≡◌, ℕ, ◌+◌, ◌<◌, cond, ltb, false, true, zero, suc, T, List, [], ◌∷◌, length, Option, Some, None, sym}
-use Rattle.std.proofs.Common.{◌∙◌, ap, subst, refl, inl, inr, arith}
+use Rattle.std.proofs.Common.{◌≡◌, ℕ, ◌+◌, ◌<◌, cond, ltb, false, true, zero, suc, T, List, [], ◌∷◌, length}
+use Rattle.std.proofs.Common.{Option, Some, None, sym, ◌∙◌, ap, subst, refl, inl, inr, arith}
 use Rattle.std.specs.Prelude.{unwrap_or, MatchOption, IfSome}
 use Rattle.std.specs.Ordering.{is_lt}
 use Rattle.std.specs.BinaryHeap.{IsHeap, IsUpperBound, PopsGreatest}
@@ -15,8 +15,8 @@ use Rattle.hyper_rows.specs.Cells.{entry_of, place_of}
 use Rattle.hyper_rows.proofs.CountLaws.{same_counts, get-ewise_add, get-built, gathered, built-append, ewise_add_assoc}
 use Rattle.hyper_rows.proofs.CountLaws.{ewise_add_comm, ewise_add-empty, T_first, T_second}
 use Rattle.merged_cells.specs.declared.front.Front.{Front}
-use Rattle.merged_cells.specs.Fronts.{front_cmp, left_of, fronts_of, fronts_sum, cells_left, AreRising, NoneBefore, AreFronts}
-use Rattle.merged_cells.specs.Fronts.{Pulls}
+use Rattle.merged_cells.specs.Fronts.{front_cmp, left_of, fronts_of, fronts_sum, cells_left, AreRising, NoneBefore}
+use Rattle.merged_cells.specs.Fronts.{AreFronts, Pulls}
 use Rattle.merged_cells.proofs.OrderLaws.{all_permuted, not_before, before_not_behind}
 
 -- how many fronts have an entry at the place q, and their counts together
@@ -128,11 +128,13 @@ moved_on f g h fs gs kept is same heap least =
     subst (λ (es : List (Place × ℕ)). T (is_sorted place_cmp (entry_of f.cell ∷ es))) is kept.rise.0 in
     pulled f fs (g ∷ fs) (Some h) gs kept (ap (λ es. ewise_add (built es) (fronts_sum fs)) (sym is))
     (sorted, kept.rise.1)
-    (before_not_behind (place_of f.cell) (place_of g.cell) (T_first _ _ (T_first _ _ above)), kept.least) count same heap least
+    (before_not_behind (place_of f.cell) (place_of g.cell) (T_first _ _ (T_first _ _ above)), kept.least)
+    count same heap least
 
 none_left : (fs : List Front) → ewise_add (built []) (fronts_sum fs) ≡ fronts_sum fs
 none_left fs =
-    ap (λ m. ewise_add m (fronts_sum fs)) (same_counts (built []) empty (λ q. get-built [] q ∙ sym (get-empty place_cmp q)))
+    ap (λ m. ewise_add m (fronts_sum fs))
+    (same_counts (built []) empty (λ q. get-built [] q ∙ sym (get-empty place_cmp q)))
     ∙ ewise_add_comm empty (fronts_sum fs) ∙ ewise_add-empty (fronts_sum fs)
 
 pub no_items : {X : Type 0} (xs : List X) → length xs ≡ 0 → xs ≡ []
@@ -154,5 +156,5 @@ ended f fs None gs kept is popped order below none same =
     kept.least (omega (arith, ap length is)) (subst (IsPermutation fs) (sym as_before) (IsPermutation-refl fs))
     (subst (IsHeap front_cmp) (sym as_before) kept.heap) (as_before ∙ no_items fs (none refl))
 ended f fs (Some x) gs kept is popped order below none same =
-    pulled f fs fs (Some x) gs kept (sym (ap (λ es. ewise_add (built es) (fronts_sum fs)) is ∙ none_left fs)) kept.rise.1
-    kept.least (omega (arith, ap length is)) popped (order kept.heap).0 (below kept.heap)
+    pulled f fs fs (Some x) gs kept (sym (ap (λ es. ewise_add (built es) (fronts_sum fs)) is ∙ none_left fs))
+    kept.rise.1 kept.least (omega (arith, ap length is)) popped (order kept.heap).0 (below kept.heap)

@@ -1,6 +1,6 @@
 -- What is left of a merge, as the sum of its fronts: its first entry, and what is added before it begins.
-use Rattle.std.proofs.Common.{◌≡◌, ℕ, ◌+◌, ◌≤◌, Bool, true, false, cond, T, List, [], ◌∷◌, length, Option, Some, None, sym}
-use Rattle.std.proofs.Common.{◌∙◌, ap, subst, refl, inl, inr, arith}
+use Rattle.std.proofs.Common.{◌≡◌, ℕ, ◌+◌, ◌≤◌, Bool, true, false, cond, T, List, [], ◌∷◌, length, Option, Some, None}
+use Rattle.std.proofs.Common.{sym, ◌∙◌, ap, subst, refl, inl, inr, arith}
 use Rattle.std.specs.Prelude.{IfSome}
 use Rattle.std.specs.Ordering.{is_lt, eq_by_cmp}
 use Rattle.std.specs.BinaryHeap.{IsHeap, IsUpperBound, PopsGreatest}
@@ -16,8 +16,9 @@ use Rattle.hyper_rows.specs.Counts.{Place, place_cmp, Counts, ewise_add, built, 
 use Rattle.hyper_rows.specs.Cells.{entry_of, place_of}
 use Rattle.hyper_rows.specs.Places.{Less, AllPlaces}
 use Rattle.hyper_rows.proofs.BuildLaws.{not_below}
-use Rattle.hyper_rows.proofs.CountLaws.{places_total, same_counts, get-ewise_add, get-built, built-append, ewise_add_assoc}
-use Rattle.hyper_rows.proofs.CountLaws.{ewise_add_comm, ewise_add-empty, T_both, total-ewise_add, total-built, total-empty}
+use Rattle.hyper_rows.proofs.CountLaws.{places_total, same_counts, get-ewise_add, get-built, built-append}
+use Rattle.hyper_rows.proofs.CountLaws.{ewise_add_assoc, ewise_add_comm, ewise_add-empty, T_both, total-ewise_add}
+use Rattle.hyper_rows.proofs.CountLaws.{total-built, total-empty}
 use Rattle.hyper_rows.proofs.SortedListLaws.{entries-in_order, built-in_order, places_of_sum, places_of_built}
 use Rattle.hyper_rows.proofs.PlaceOrderLaws.{before_first, before_from, of_all}
 use Rattle.merged_cells.specs.declared.front.Front.{Front}
@@ -58,8 +59,8 @@ module _ (Q : Place → Type 0) where
       (places_of_fronts fs h.1)
 
 -- what stands before a front, and none of the others before that, stands before all
-others_behind : (p : Place) (f : Front) → Less p (place_of f.cell) → (fs : List Front) → NoneBefore (place_of f.cell) fs →
-    AreRising fs → AllByRecursion (λ g. AllPlaces (Less p) (left_of g)) fs
+others_behind : (p : Place) (f : Front) → Less p (place_of f.cell) → (fs : List Front) →
+    NoneBefore (place_of f.cell) fs → AreRising fs → AllByRecursion (λ g. AllPlaces (Less p) (left_of g)) fs
 others_behind p f less [] behind rise = tt
 others_behind p f less (g ∷ fs) behind rise = (
   before_first p (place_of g.cell) (left_of g) refl rise.0

@@ -1,6 +1,6 @@
 -- What a merge has from a place on, where its fronts pass over cells before the place.
-use Rattle.std.proofs.Common.{◌≡◌, ℕ, ◌+◌, ◌≤◌, ◌<◌, suc, Bool, true, false, not, cond, T, List, [], ◌∷◌, length, Option, Some, None}
-use Rattle.std.proofs.Common.{sym, ◌∙◌, ap, subst, refl, arith, Ordering}
+use Rattle.std.proofs.Common.{◌≡◌, ℕ, ◌+◌, ◌≤◌, ◌<◌, Bool, true, false, not, cond, T, List, [], ◌∷◌, length}
+use Rattle.std.proofs.Common.{Option, Some, None, sym, ◌∙◌, ap, subst, refl, arith, Ordering}
 use Rattle.std.specs.Prelude.{MatchOption, IfSome}
 use Rattle.std.specs.Ordering.{eq_by_cmp}
 use Rattle.std.specs.List.{AllByRecursion}
@@ -14,12 +14,14 @@ use Rattle.hyper_rows.specs.Counts.{Place, place_cmp, Counts, built, plus, count
 use Rattle.hyper_rows.specs.Cells.{entry_of, place_of}
 use Rattle.hyper_rows.specs.Places.{Less}
 use Rattle.hyper_rows.specs.Search.{is_before, cells_from}
-use Rattle.hyper_rows.proofs.CountLaws.{exact_places, same_counts, get-ewise_add, get-built, gathered, T_first, T_second}
+use Rattle.hyper_rows.proofs.CountLaws.{exact_places, same_counts, get-ewise_add, get-built, gathered, T_first}
+use Rattle.hyper_rows.proofs.CountLaws.{T_second}
 use Rattle.hyper_rows.proofs.PlaceOrderLaws.{all_map, to_all}
-use Rattle.hyper_rows.proofs.SkipLaws.{AllFrom, all_from, still_behind}
+use Rattle.hyper_rows.proofs.SkipLaws.{AllFrom, all_from, still_behind, sorted_from, fewer_from}
 use Rattle.hyper_matrix.proofs.BlockSearchLaws.{before_until, before_other}
 use Rattle.merged_cells.specs.declared.front.Front.{Front}
-use Rattle.merged_cells.specs.Fronts.{front_cmp, left_of, fronts_of, fronts_sum, cells_left, AreRising, NoneBefore, AreFronts}
+use Rattle.merged_cells.specs.Fronts.{front_cmp, left_of, fronts_of, fronts_sum, cells_left, AreRising, NoneBefore}
+use Rattle.merged_cells.specs.Fronts.{AreFronts}
 use Rattle.merged_cells.specs.Fronts.{IsFrontBefore, Skips}
 use Rattle.merged_cells.proofs.OrderLaws.{all_permuted, not_before}
 use Rattle.merged_cells.proofs.FrontLaws.{sum_permuted, left_permuted, no_items}
@@ -81,11 +83,6 @@ past_first : (p : Place) (f : Front) → is_before (place_of f.cell) p ≡ true 
     cells_from p (left_of f) ≡ cells_from p f.rest
 past_first p f before = ap (λ t. cond (not t) (entry_of f.cell ∷ cells_from p f.rest) (cells_from p f.rest)) before
 
-fewer_from : (p : Place) (es : List (Place × ℕ)) → length (cells_from p es) ≤ length es
-fewer_from p [] = omega arith
-fewer_from p (x ∷ es) = elim (is_before x.0 p) as (λ t. length (cond (not t) (x ∷ cells_from p es) (cells_from p es)) ≤
-    suc (length es)) [ true ↦ omega (arith, fewer_from p es) | false ↦ omega (arith, fewer_from p es) ]
-
 skipped : (p : Place) (f : Front) (fs hs : List Front) (next : Option Front) (gs : List Front) → AreFronts (Some f) fs →
     ((q : Place) → is_before q p ≡ false → get (fronts_sum hs) q ≡ get (fronts_sum (f ∷ fs)) q) → AreRising hs →
     cells_left hs < cells_left (f ∷ fs) → IsPermutation hs (fronts_of next gs) → IsHeap front_cmp gs →
@@ -101,9 +98,6 @@ skipped p f fs hs next gs kept sum rise count same heap least = record {
   fewer = omega (arith, count, left_permuted hs (fronts_of next gs) same);
 }
 
-sorted_from : (p : Place) (es : List (Place × ℕ)) → T (is_sorted place_cmp es) → T (is_sorted place_cmp (cells_from p es))
-sorted_from p es sorted = is_sorted-where_key place_cmp (λ q. not (is_before q p)) es sorted
-
 -- The first front has gone on to g, and changes places with another or doesn't.
 pub skipped_on : (p : Place) (f g h : Front) (fs gs : List Front) → AreFronts (Some f) fs →
     is_before (place_of f.cell) p ≡ true → cells_from p f.rest ≡ left_of g →
@@ -112,7 +106,8 @@ pub skipped_on : (p : Place) (f g h : Front) (fs gs : List Front) → AreFronts 
 skipped_on p f g h fs gs kept before is same heap least =
     skipped p f fs (g ∷ fs) (Some h) gs kept
     (λ q behind. sum_at g fs q ∙ ap (λ o. plus o (get (fronts_sum fs) q))
-    (ap (gathered q) (sym is ∙ sym (past_first p f before)) ∙ gathered_from p q (left_of f) behind) ∙ sym (sum_at f fs q)) (
+    (ap (gathered q) (sym is ∙ sym (past_first p f before)) ∙ gathered_from p q (left_of f) behind)
+    ∙ sym (sum_at f fs q)) (
       subst (λ (es : List (Place × ℕ)). T (is_sorted place_cmp es)) is
           (sorted_from p f.rest (T_second _ _ kept.rise.0)),
       kept.rise.1,
@@ -183,8 +178,11 @@ all_skipped p (Some f) fs kept stop =
 -- the total of what is left is no more
 total_from : (p : Place) (es : List (Place × ℕ)) → count_sum (cells_from p es) ≤ count_sum es
 total_from p [] = omega arith
-total_from p (x ∷ es) = elim (is_before x.0 p) as (λ t. count_sum (cond (not t) (x ∷ cells_from p es) (cells_from p es)) ≤
-    x.1 + count_sum es) [ true ↦ omega (arith, total_from p es) | false ↦ omega (arith, total_from p es) ]
+total_from p (x ∷ es) = elim (is_before x.0 p) as
+    (λ t. count_sum (cond (not t) (x ∷ cells_from p es) (cells_from p es)) ≤ x.1 + count_sum es) [
+      | true ↦ omega (arith, total_from p es)
+      | false ↦ omega (arith, total_from p es)
+    ]
 
 pub total_skipped : (p : Place) (x y : Counts) → entries y ≡ cells_from p (entries x) → total y ≤ total x
 unfolding total

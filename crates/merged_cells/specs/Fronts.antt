@@ -81,7 +81,8 @@ abbrev pub IsFrontBefore : Place → Option Front → Type 0
 IsFrontBefore p None = ⊥
 IsFrontBefore p (Some f) = is_before (place_of f.cell) p ≡ true
 
--- Cells before a place were left out of the first fronts, and the second are left: from the place on both have the same.
+-- Cells before a place were left out of the first fronts, and the second are left: from the place on both have the
+-- same.
 pub record Skips (p : Place) (first : Option Front) (fs : List Front) (next : Option Front) (gs : List Front)
     : Type 0 where
   pub kept : AreFronts next gs

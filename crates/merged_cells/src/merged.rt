@@ -8,8 +8,8 @@ ghost use Rattle.hyper_matrix.specs.Counts.{ewise_add, total};
 ghost use Rattle.hyper_rows.specs.Cells.{place_of, entry_of};
 ghost use Rattle.merged_cells.specs.Within.{LieWithin};
 ghost use Rattle.hyper_rows.specs.Search.{cells_from};
-ghost use Rattle.merged_cells.specs.Fronts.{front_cmp, fronts_of, fronts_sum, AreFronts, NoneBefore, Pulls, IsElsewhere};
-ghost use Rattle.merged_cells.specs.Fronts.{IsFrontBefore, Skips};
+ghost use Rattle.merged_cells.specs.Fronts.{front_cmp, fronts_of, fronts_sum, AreFronts, NoneBefore, Pulls, Skips};
+ghost use Rattle.merged_cells.specs.Fronts.{IsElsewhere, IsFrontBefore};
 
 use crate::front::Front;
 use cells::Cell;
@@ -152,7 +152,8 @@ fn exchanged<'a>(front: Front<'a>, others: &mut BinaryHeap<Front<'a>>) -> Front<
 // Takes the least cell that is left.
 fn pull<'a>(first: &mut Option<Front<'a>>, others: &mut BinaryHeap<Front<'a>>) -> Option<Cell>
     requires { AreFronts first.old (heap_items others.old) }
-    ensures { MatchOption result ((first.old ≡ None) × (first.new ≡ None) × (heap_items others.new ≡ heap_items others.old))
+    ensures { MatchOption result
+        ((first.old ≡ None) × (first.new ≡ None) × (heap_items others.new ≡ heap_items others.old))
         (λ cell. Pulls first.old (heap_items others.old) cell first.new (heap_items others.new)) }
 {
     let mut front = first.take()?;

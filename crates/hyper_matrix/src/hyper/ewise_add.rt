@@ -70,8 +70,8 @@ impl Hyper {
     /// `into_sum` with the matrix that the list builds, and that matrix isn't made.
     ///
     /// A block into whose range no cell falls is moved. The time is that of a pass over the list, of a pointer for each
-    /// block, and of a copy of the blocks that are touched. A thousand cells or more that stand behind all of the matrix
-    /// take the time of their own blocks alone.
+    /// block, and of a copy of the blocks that are touched. A thousand cells or more that stand behind all of the
+    /// matrix take the time of their own blocks alone.
     ///
     /// # Errors
     ///

@@ -120,9 +120,9 @@ fn parts_of(
 impl Hyper {
     /// The parts of all shards of `k`, in order: for each what `part` gives.
     ///
-    /// Reads the cells once, and takes the time and memory of building a matrix of the cells of each shard that has any.
-    /// Lists of some 4,000 cells for each shard, 24 bytes each, are held meanwhile. Where there is one shard, its part
-    /// shares all blocks, as `copy`.
+    /// Reads the cells once, and takes the time and memory of building a matrix of the cells of each shard that has
+    /// any. Lists of some 4,000 cells for each shard, 24 bytes each, are held meanwhile. Where there is one shard, its
+    /// part shares all blocks, as `copy`.
     ///
     /// # Errors
     ///

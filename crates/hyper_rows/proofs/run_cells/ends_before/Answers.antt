@@ -9,8 +9,10 @@ some : (c : goal.After-end) → (0 < c.end.result) × (c.end.result ≤ length c
 some c =
     let i = c.args.i in
     let end : c.end.result ≡ (get_or c.args.heads.now i (0, 0)).1 = end_read c.args.heads.now i
-    c.index-heads-i-then-row-place.result c.end.result c.requires.within c.index-heads-i-then-row-place.is c.end.ensures in
-    let h = end_some c.args.from c.args.heads.now (length c.args.entries.now) i (0, 0) c.requires.ends c.requires.within in
+    c.index-heads-i-then-row-place.result c.end.result c.requires.within c.index-heads-i-then-row-place.is
+    c.end.ensures in
+    let h = end_some c.args.from c.args.heads.now (length c.args.entries.now) i (0, 0) c.requires.ends
+    c.requires.within in
     (omega (arith, h.0, end), omega (arith, h.1, end))
 
 pub overflow_sub-end : goal.overflow_sub-end
@@ -32,7 +34,8 @@ returns-then-row-place c =
     let number : c.number-row.result ≡ (get_or heads i (0, 0)).0 = number_read heads i c.index-heads-i.result
     c.number-row.result c.requires.within c.index-heads-i.is c.number-row.ensures in
     let end : c.end.result ≡ (get_or heads i (0, 0)).1 = end_read heads i
-    c.index-heads-i-then-row-place.result c.end.result c.requires.within c.index-heads-i-then-row-place.is c.end.ensures in
+    c.index-heads-i-then-row-place.result c.end.result c.requires.within c.index-heads-i-then-row-place.is
+    c.end.ensures in
     c.is_before.ensures ∙ ap (λ (p : Place). is_before p c.args.place)
     ((λ k. (number k, (get_or es (end k - 1) (0, 0)).0)) ∙ sym (row_end_is c.args.from heads es i (0, 0) c.requires.ends
     c.requires.within))

@@ -8,7 +8,8 @@ pub returns-then-row-place-clause-left : goal.returns-then-row-place-clause-left
 returns-then-row-place-clause-left c =
     let row = c.args.row in
     let es = c.args.entries.now in
-    subst (λ (r : ℕ). at_places row (drop c.entries_before.result es) ≡ cells_from (r, c.args.place.1) (at_places row es))
+    subst (λ (r : ℕ). at_places row (drop c.entries_before.result es) ≡
+    cells_from (r, c.args.place.1) (at_places row es))
     c.if-row-place.true (row_passed row c.args.place.1 es c.entries_before.result c.requires c.entries_before.ensures)
 
 pub returns-then-row-place-2-clause-left : goal.returns-then-row-place-2-clause-left

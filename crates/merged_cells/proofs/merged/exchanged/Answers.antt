@@ -18,7 +18,8 @@ returns-then-not-is_before-clause-least c =
     elim c.match-peek.branch [
       | in-Some w ↦
           let q = place_of w.in-Some.other.now.cell in
-          none_before p q (sym (turned p q) ∙ sym w.gt-is_before.ensures ∙ sym w.is_before-is ∙ c.if-not-is_before.true) fs
+          none_before p q
+          (sym (turned p q) ∙ sym w.gt-is_before.ensures ∙ sym w.is_before-is ∙ c.if-not-is_before.true) fs
           (w.in-Some.ensures.greatest c.requires)
       | in-None w ↦
           let none : heap_len c.args.others.now ≡ 0 = empty_len _ w.in-None.ensures.variant.1 in
@@ -45,5 +46,5 @@ returns-clause-least c =
           c.if-not-is_before.false))
       | in-None w ↦ absurd (false≢true (sym w.is_before-is ∙ c.if-not-is_before.false))
     ] in
-    all_permuted (λ (f : Front). is_lt (place_cmp (place_of f.cell) x) ≡ false) (c.args.front ∷ mid) (heap_items c.push.new.self)
-    c.in-Ok.ensures.permutation (front_behind, c.in-Some-pop.ensures.below_top c.requires)
+    all_permuted (λ (f : Front). is_lt (place_cmp (place_of f.cell) x) ≡ false) (c.args.front ∷ mid)
+    (heap_items c.push.new.self) c.in-Ok.ensures.permutation (front_behind, c.in-Some-pop.ensures.below_top c.requires)

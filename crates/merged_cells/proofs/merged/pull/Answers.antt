@@ -13,7 +13,8 @@ returns-then-advance c =
     let gs = heap_items c.exchanged.new.others in
     let was : Some f ≡ c.args.first.now = c.in_ok-front.ensures.value in
     subst (λ (o : Option Front). Pulls o fs f.cell (Some c.exchanged.result) gs) was
-    (moved_on f c.advance.new.self c.exchanged.result fs gs (subst (λ (o : Option Front). AreFronts o fs) (sym was) c.requires)
+    (moved_on f c.advance.new.self c.exchanged.result fs gs
+    (subst (λ (o : Option Front). AreFronts o fs) (sym was) c.requires)
     c.if-advance.ensures c.exchanged.ensures.same c.exchanged.ensures.heap c.exchanged.ensures.least)
 
 pub returns-else-advance : goal.returns-else-advance

@@ -20,7 +20,8 @@ overflow_add-sum c =
     let pulls = c.in-Some-pull_at.ensures in
     let all : c.places.sum.count + c.in-Some-pull_at.cell.count ≤
     total (fronts_sum (fronts_of c.args.first.now (heap_items c.args.others.now))) =
-    count_within _ _ _ (sum_more c.places.sum c.in-Some-pull_at.cell _ _ _ c.places.invariant.sum pulls.0.sum pulls.1 pulls.2) in
+    count_within _ _ _ (sum_more c.places.sum c.in-Some-pull_at.cell _ _ _ c.places.invariant.sum pulls.0.sum pulls.1
+    pulls.2) in
     omega (arith, c.requires.fits)
 
 pub places-preserved : goal.places-preserved

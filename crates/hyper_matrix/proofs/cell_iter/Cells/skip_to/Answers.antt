@@ -31,7 +31,8 @@ returns-in_default c =
     c.if-skip_to.false in
     ap (λ (l : List (Place × ℕ)). l ++ []) run
     ∙ past_blocks c.args.place c.self.inside.run c.self.inside.blocks.now c.args.self.now c.self.view_is c.requires
-    c.blocks_before-passed.result (sym c.skip_to.ensures.left ∙ run) (have_rows c.self.inside.blocks.now c.self.invariant)
+    c.blocks_before-passed.result (sym c.skip_to.ensures.left ∙ run)
+    (have_rows c.self.inside.blocks.now c.self.invariant)
     c.blocks_before-passed.ensures.full_before c.blocks_before-passed.ensures.turn
     (no_blocks c.self.inside.blocks.now c.blocks_before-passed.result c.in_default.ensures.cases)
 
@@ -40,7 +41,8 @@ skip_to-requires-2 c =
     let run : c.skip_to.new.self ≡ [] = no_cells c.skip_to.new.self c.skip_to.result c.skip_to.ensures.some.1
     c.if-skip_to.false in
     block_in_order c.args.place c.self.inside.run c.self.inside.blocks.now c.args.self.now c.self.view_is c.requires
-    c.blocks_before-passed.result (sym c.skip_to.ensures.left ∙ run) (have_rows c.self.inside.blocks.now c.self.invariant)
+    c.blocks_before-passed.result (sym c.skip_to.ensures.left ∙ run)
+    (have_rows c.self.inside.blocks.now c.self.invariant)
     c.blocks_before-passed.ensures.full_before c.blocks_before-passed.ensures.turn
     c.in-Some.block.now c.rows.result.now c.in-Some.blocks.now c.new-self-inside.result
     (behind_is c.self.inside.blocks.now (c.in-Some.block.now ∷ c.in-Some.blocks.now) c.blocks_before-passed.result
@@ -58,7 +60,8 @@ returns c =
     ap (λ (l : List (Place × ℕ)). l ++ all_cells c.in-Some.blocks.now) (c.skip_to-2.ensures.left ∙
     ap (cells_from c.args.place) c.new-self-inside.ensures.value)
     ∙ in_block c.args.place c.self.inside.run c.self.inside.blocks.now c.args.self.now c.self.view_is c.requires
-    c.blocks_before-passed.result (sym c.skip_to.ensures.left ∙ run) (have_rows c.self.inside.blocks.now c.self.invariant)
+    c.blocks_before-passed.result (sym c.skip_to.ensures.left ∙ run)
+    (have_rows c.self.inside.blocks.now c.self.invariant)
     c.blocks_before-passed.ensures.full_before c.blocks_before-passed.ensures.turn
     c.in-Some.block.now c.rows.result.now c.in-Some.blocks.now
     (behind_is c.self.inside.blocks.now (c.in-Some.block.now ∷ c.in-Some.blocks.now) c.blocks_before-passed.result

@@ -19,18 +19,20 @@ entries_passed-passed-requires c = subst (λ (es : Entries). T (is_sorted place_
     c.self.view_is c.requires)
 
 pub returns-then-passed-self-clause-left : goal.returns-then-passed-self-clause-left
-returns-then-passed-self-clause-left c = in_row c.args.place c.self.inside.heads.now c.self.inside.entries.now
+returns-then-passed-self-clause-left c =
+    let left = subst (λ (es : Entries). at_places c.self.inside.row (drop c.entries_passed-passed.result es) ≡
+    cells_from c.args.place (at_places c.self.inside.row es)) c.part.ensures c.entries_passed-passed.ensures.left in
+    in_row c.args.place c.self.inside.heads.now c.self.inside.entries.now
     c.self.inside.row c.self.inside.at c.self.inside.end c.args.self.now c.self.invariant.0 c.self.invariant.1
-    c.self.view_is c.requires c.entries_passed-passed.result (subst (λ (es : Entries).
-    at_places c.self.inside.row (drop c.entries_passed-passed.result es) ≡
-    cells_from c.args.place (at_places c.self.inside.row es)) c.part.ensures c.entries_passed-passed.ensures.left) c.if-passed-self.true
+    c.self.view_is c.requires c.entries_passed-passed.result left c.if-passed-self.true
 
 pub returns-then-passed-self-clause-some : goal.returns-then-passed-self-clause-some
-returns-then-passed-self-clause-some c = in_row_some c.args.place c.self.inside.heads.now c.self.inside.entries.now
+returns-then-passed-self-clause-some c =
+    let left = subst (λ (es : Entries). at_places c.self.inside.row (drop c.entries_passed-passed.result es) ≡
+    cells_from c.args.place (at_places c.self.inside.row es)) c.part.ensures c.entries_passed-passed.ensures.left in
+    in_row_some c.args.place c.self.inside.heads.now c.self.inside.entries.now
     c.self.inside.row c.self.inside.at c.self.inside.end c.args.self.now c.self.invariant.0 c.self.invariant.1
-    c.self.view_is c.requires c.entries_passed-passed.result (subst (λ (es : Entries).
-    at_places c.self.inside.row (drop c.entries_passed-passed.result es) ≡
-    cells_from c.args.place (at_places c.self.inside.row es)) c.part.ensures c.entries_passed-passed.ensures.left) c.if-passed-self.true
+    c.self.view_is c.requires c.entries_passed-passed.result left c.if-passed-self.true
 
 pub run_from-requires-clause-sorted : goal.run_from-requires-clause-sorted
 run_from-requires-clause-sorted c = rest_in_order c.args.place c.self.inside.heads.now c.self.inside.entries.now

@@ -11,6 +11,7 @@ invariant_of-self c = record {
     arith,
     c.self.invariant.fits,
     total_skipped c.args.place (fronts_sum (fronts_of c.self.inside.first (heap_items c.self.inside.others)))
-        (fronts_sum (fronts_of c.skip_fronts.new.first (heap_items c.skip_fronts.new.others))) c.skip_fronts.ensures.left,
+        (fronts_sum (fronts_of c.skip_fronts.new.first (heap_items c.skip_fronts.new.others)))
+        c.skip_fronts.ensures.left,
   );
 }

@@ -11,7 +11,8 @@ use Rattle.merged_cells.proofs.merged.Sources.add.Goals as goal
 
 pub returns-in_default-next-clause-sum : goal.returns-in_default-next-clause-sum
 returns-in_default-next-clause-sum c =
-    nothing_added c.args.self.now c.args.m.now.counts (sym c.iter-rest.ensures.order ∙ c.in_default-next.ensures.steps.0)
+    nothing_added c.args.self.now c.args.m.now.counts
+    (sym c.iter-rest.ensures.order ∙ c.in_default-next.ensures.steps.0)
 
 pub invariant_of-self : goal.invariant_of-self
 invariant_of-self c =
