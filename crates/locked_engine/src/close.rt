@@ -1,5 +1,5 @@
 //! Closing: once all seats are given back, the locks are taken away, and the books must agree.
-ghost use Rattle.std.specs.Prelude.{◌≡◌, ◌≢◌, ◌+◌, ◌≤◌, ◌<◌, IfOk, OnOk, [], List, length, vec_len, vec_capacity};
+ghost use Rattle.std.specs.Prelude.{◌≡◌, ◌≢◌, ◌+◌, ◌≤◌, ◌<◌, IfOk, OnOk, [], List, false, length, vec_len, vec_capacity};
 ghost use mathlib.Core.List.{IsPrefix};
 ghost use Rattle.batch_store.specs.declared.verdict.Entry.{Entry};
 ghost use Rattle.batch_store.specs.Accepted.{entries_in, total_in};
@@ -103,15 +103,17 @@ impl<N: Named, H: Ledger> Engine<N, H> {
             book,
             shards: locked,
             shown: _,
+            has_folder: _,
         } = self;
         let (mut first, mut second, seen) = gather(seats);
         let book = book.into_inner();
         let mut known = book.known();
-        unlock_all(locked, &mut shards, &mut second, &mut known);
+        let shards_rebased = unlock_all(locked, &mut shards, &mut second, &mut known);
+        let rebased = book.is_rebased_or(shards_rebased);
         let (book, mut first_number, mut second_number) = book.end(rt, &seen, &known);
         first_number.audit(&mut first);
         second_number.audit(&mut second);
-        match join_known(setup, book, shards) {
+        match join_known(setup, book, shards, rebased) {
             Ok(plain) => {
                 // Any call on it tells what it keeps.
                 let _setup = plain.setup();
@@ -134,6 +136,7 @@ impl<N: Named, H: Ledger> Engine<N, H> {
             book,
             shards: _,
             shown: _,
+            has_folder: _,
         } = self;
         book.into_inner().drop_all(rt);
     }
@@ -161,25 +164,29 @@ fn gather<N: Named, H: Ledger>(seats: Vec<Seat<N, H>>) -> (Share<N>, Share<H>, V
     (first, second, seen)
 }
 
-// Takes each shard from behind its lock, with its part of the share and what is known of its batches.
+// Takes each shard from behind its lock, with its part of the share and what is known of its batches. Whether anything was
+// folded into one of them since the engine was opened.
 fn unlock_all<N: Named, H: Ledger>(
     locked: Vec<Mutex<LockedShard<N, H>>>,
     shards: &mut Vec<Shard>,
     second: &mut Share<H>,
     known: &mut Known<N>,
-)
+) -> bool
     requires empty { shards.old.items ≡ [] }
     requires room { vec_len locked ≤ vec_capacity shards.old }
     ensures made { HaveSetup N.setup shards.new.items }
     ensures parts { second.new.parts ≡ second.old.parts + vec_len locked }
     ensures amount { second.new.amount ≡ second.old.amount + shards_total shards.new.items }
-    ensures based { AreBased N.opened N.setup.shards shards.new.items }
+    ensures based { result ≡ false → AreBased N.opened N.setup.shards shards.new.items }
     ensures from { AllFrom known.new shards.new.items }
 {
+    let mut rebased = false;
     'shards: for behind in locked {
-        let (shard, held, from) = behind.into_inner().into_parts();
+        let (shard, held, from, is_rebased) = behind.into_inner().into_parts();
         second.merge(held);
         known.learn(&from);
         shards.push_reserved(shard);
+        rebased = rebased || is_rebased;
     }
+    rebased
 }

@@ -1,5 +1,5 @@
 //! What one shard answers under its lock, and what the book does.
-ghost use Rattle.std.specs.Prelude.{◌≡◌, ◌⊎◌, ◌<◌, ◌≤◌, ◌%◌, None, Some, IfOk, IfSome, drop, length};
+ghost use Rattle.std.specs.Prelude.{◌≡◌, ◌⊎◌, ◌<◌, ◌≤◌, ◌%◌, None, Some, IfOk, IfSome};
 ghost use Rattle.std.specs.Fn.{FnOnceReturnsAt};
 ghost use Rattle.std.specs.FinMap.{get};
 ghost use Rattle.layer_compaction.specs.Shared.{content};
@@ -8,7 +8,7 @@ ghost use Rattle.batch_store.specs.Accepted.{unfolded, entries_in};
 ghost use Rattle.batch_store.specs.Batches.{entries_of, values};
 ghost use Rattle.batch_store.specs.Books.{AreAccepted, accepted_in, listed_in};
 ghost use Rattle.batch_store.specs.Shards.{Holding};
-ghost use Rattle.locked_engine.specs.Opened.{SharePast};
+ghost use Rattle.locked_engine.specs.Opened.{SharePast, IsBehind};
 ghost use Rattle.locked_engine.specs.Moments.{IsShardOf, no_sum, row_sum_in};
 ghost use Rattle.locked_engine.specs.Versions.{IsVersion, version_status};
 
@@ -40,8 +40,9 @@ impl<N: Named, H: Ledger> Engine<N, H> {
     {
         let guard = self.shards[s as usize].lock(rt);
         let locked = &*guard;
-        if locked.shard.number() == s {
-            Some(f(&locked.shard))
+        let shard = locked.shard();
+        if shard.number() == s {
+            Some(f(shard))
         } else {
             None
         }
@@ -117,7 +118,7 @@ impl<N: Named, H: Ledger> Engine<N, H> {
         ensures later { IsPrefix seat.old.seen seat.new.seen }
         ensures list { IfOk result (λ list. AreAccepted N.setup (unfolded (values list.items))) }
         ensures shown { IfOk result (λ list.
-            entries_of (values list.items) ≡ drop (length N.opened.folded) seat.new.seen) }
+            IsBehind N.opened (entries_of (values list.items)) seat.new.seen) }
     {
         let locked = self.book.lock(rt);
         let list = locked.list(alloc, &mut seat.seen);

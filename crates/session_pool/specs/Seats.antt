@@ -107,11 +107,11 @@ IsStored v synced a seen (Some known) =
 
 -- A put, a status and a save show the seat a version, of which the answer is true: a put's is that version's word on
 -- the batch, whose total is added to the seat's share where the put was the first; a saved list has just its entries,
--- and the same batches are folded in it as when the engine was opened, into the same base. With a log a put is accepted
--- once its entry is known as durable. Where the log was full the put leaves the seat as it is; where it had failed, the
--- batch may be accepted all the same. A cell, a row and the parts of an export are what a shard of the row's number
--- showed under its lock at a moment of the call, over its part of the base that the engine was opened with; they leave
--- the seat as it is.
+-- what was folded when the engine was opened is folded in it, and behind it batches that were folded since. With a log a
+-- put is accepted once its entry is known as durable. Where the log was full the put leaves the seat as it is; where it
+-- had failed, the batch may be accepted all the same. A cell, a row and the parts of an export are what a shard of the
+-- row's number showed under its lock at a moment of the call, over its part of the base that the engine was opened with
+-- and of batches that were folded since; they leave the seat as it is.
 abbrev pub SeatGives : Setting → Accepted → (Accepted → Type 0) → (List Entry → Type 0) → Type 0 → Type 0 → Sight →
     Event → Sight → Type 0
 SeatGives v opened saved synced failed full s (put batch (Ok kept)) t =

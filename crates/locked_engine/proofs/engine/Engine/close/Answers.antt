@@ -1,4 +1,4 @@
-use Rattle.std.proofs.Common.{◌≡◌, ap, sym, subst, arith}
+use Rattle.std.proofs.Common.{◌≡◌, ◌++◌, ◌∙◌, ap, sym, subst, arith}
 use mathlib.Core.List.{IsPrefix}
 use Rattle.batch_store.specs.Accepted.{entries_in, total_in}
 use Rattle.batch_store.specs.Books.{Register}
@@ -88,13 +88,20 @@ returns-clause-apart g c = λ shards book e both.
     let told = c.in-Err.ensures.exactly.1 moved in
     cc told
 
--- the book has the base with which the engine was opened, and of its batches what is known
+-- where nothing was folded the book has the base with which the engine was opened; and what is known is of its batches,
+-- and of those before them that it has folded
 pub join_known-requires-clause-based : goal.join_known-requires-clause-based
-join_known-requires-clause-based g c =
+join_known-requires-clause-based g c = λ never.
+    let told = c.is_rebased_or-rebased.ensures never in
     based_on g.N.Named.opened c.end-book.result.0.state g.N.Named.setup.shards _ c.unlock_all.new.shards.items
-    c.end-book.ensures.past.base (ap (λ (v : Setting). v.shards) c.self.invariant.0) c.unlock_all.ensures.based
+    (ap (λ (w : Register). w.state.base) c.end-book.ensures.book ∙ told.1)
+    (ap (λ (v : Setting). v.shards) c.self.invariant.0) (c.unlock_all.ensures.based told.0)
 
 pub join_known-requires-clause-known : goal.join_known-requires-clause-known
 join_known-requires-clause-known g c =
-    all_later c.unlock_all.new.known c.end-book.result.0.state.list c.unlock_all.new.shards.items c.end-book.ensures.known
-    c.unlock_all.ensures.from
+    let told = c.end-book.ensures.known in (
+      told.0,
+      told.1,
+      all_later c.unlock_all.new.known (told.0 ++ c.end-book.result.0.state.list) c.unlock_all.new.shards.items told.2
+          c.unlock_all.ensures.from,
+    )
