@@ -1,10 +1,10 @@
 -- What the book and the shards of an engine have folded since it was opened.
-use Rattle.std.proofs.Common.{◌≡◌, ℕ, ◌+◌, ◌≤◌, Bool, true, false, ◌||◌, List, [], ◌∷◌, ◌++◌, length, take, drop}
+use Rattle.std.proofs.Common.{◌≡◌, ℕ, ◌+◌, ◌≤◌, Bool, true, false, List, [], ◌∷◌, ◌++◌, length, take, drop}
 use Rattle.std.proofs.Common.{refl, sym, ◌∙◌, ap, subst, arith, append-nil, append_assoc, length-append}
 use Rattle.std.proofs.lemmas.List.{take-append-drop, length-drop}
 use Rattle.std.specs.List.{IsDistinct}
 use mathlib.Core.List.{IsPrefix}
-use Rattle.hyper_matrix.specs.Counts.{Counts, part, total}
+use Rattle.hyper_matrix.specs.Counts.{part, total}
 use Rattle.hyper_matrix.proofs.CountLaws.{ewise_add-empty}
 use Rattle.layer_compaction.specs.Shared.{content}
 use Rattle.batch_store.specs.declared.verdict.Entry.{Entry}
@@ -25,11 +25,6 @@ use Rattle.plain_engine.proofs.RoundLaws.{folded_twice}
 use Rattle.plain_engine.proofs.KnownLaws.{distinct_behind, from_behind, from_later, from_push}
 use Rattle.locked_engine.specs.Opened.{SharePast, HasFolded}
 use Rattle.locked_engine.specs.Moments.{KeepsLocked}
-
--- neither is where not one of both is
-pub or_parts : (p q : Bool) → (p || q) ≡ false → (p ≡ false) × (q ≡ false)
-or_parts false q h = (refl, h)
-or_parts true q h = absurd (cc h)
 
 -- ---- the book
 module _ (o : Accepted) where

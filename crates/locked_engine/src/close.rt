@@ -164,6 +164,13 @@ fn gather<N: Named, H: Ledger>(seats: Vec<Seat<N, H>>) -> (Share<N>, Share<H>, V
     (first, second, seen)
 }
 
+// Whether one of both holds.
+fn either(one: bool, other: bool) -> bool
+    ensures { result ≡ false → (one ≡ false) × (other ≡ false) }
+{
+    one || other
+}
+
 // Takes each shard from behind its lock, with its part of the share and what is known of its batches. Whether anything was
 // folded into one of them since the engine was opened.
 fn unlock_all<N: Named, H: Ledger>(
@@ -186,7 +193,7 @@ fn unlock_all<N: Named, H: Ledger>(
         second.merge(held);
         known.learn(&from);
         shards.push_reserved(shard);
-        rebased = rebased || is_rebased;
+        rebased = either(rebased, is_rebased);
     }
     rebased
 }

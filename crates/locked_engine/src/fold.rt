@@ -100,7 +100,7 @@ impl<N: Named, H: Ledger> Engine<N, H> {
     ) -> Result<Option<u64>, AllocError>
         ensures place { IfOk result (λ place. place ≡ folder.new.place) }
         ensures kept { IsSome folder.old.place → folder.new ≡ folder.old }
-        ensures nothing { result ≡ Ok None → folder.new ≡ folder.old }
+        ensures nothing { result ≡ Ok None → (folder.old ≡ nothing_sealed) × (folder.new ≡ nothing_sealed) }
         ensures err { OnErr result (folder.new ≡ folder.old) }
     {
         if let Some(place) = folder.place() {

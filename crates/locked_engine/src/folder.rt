@@ -1,5 +1,5 @@
 //! What one thread folds: what was sealed at one moment, and the sums that are left to be made of it.
-ghost use Rattle.std.specs.Prelude.{◌≡◌, ◌↔◌, Some, OnOk, IsTrue};
+ghost use Rattle.std.specs.Prelude.{◌≡◌, ◌↔◌, ◌<◌, None, Some, OnOk, OnErr, IsTrue};
 ghost use Rattle.locked_engine.specs.Folders.{nothing_sealed, IsMade};
 
 use batch_store::{BookFold, ShardFold};
@@ -50,7 +50,8 @@ impl Folder {
     /// Up to which place of the book all batches are sealed, counted from 0 over all that were ever accepted: those in
     /// front of it are folded once it is settled. None where nothing is sealed. Constant time.
     pub fn place(&self) -> Option<u64>
-        ensures { result ≡ self.now.place }
+        ensures place { result ≡ self.now.place }
+        ensures none { result ≡ None → self.now ≡ nothing_sealed }
     {
         self.place
     }
@@ -90,6 +91,7 @@ impl Folder {
     pub fn run(&mut self, alloc: Global) -> Result<(), AllocError>
         ensures place { self.new.place ≡ self.old.place }
         ensures ok { OnOk result (self.new.left ≡ 0) }
+        ensures err { OnErr result (0 < self.new.left) }
     {
         while let Some(fold) = self.shards.pop() {
             if fold.run(alloc).is_err() {

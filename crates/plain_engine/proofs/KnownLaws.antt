@@ -102,8 +102,10 @@ same_known list held n i x b distinct known there at clients numbers =
 -- a place behind others
 pub place_after : (before list : List Submission) (i : ℕ) →
     slice_get (before ++ list) (length before + i) ≡ slice_get list i
-place_after [] list i = refl
-place_after (x ∷ xs) list i = place_after xs list i
+place_after [] list i = ap (slice_get list) {x = 0 + i} {y = i} (omega arith)
+place_after (x ∷ xs) list i =
+    ap (slice_get (x ∷ xs ++ list)) {x = suc (length xs) + i} {y = suc (length xs + i)} (omega arith)
+    ∙ place_after xs list i
 
 found_later : (x b : Submission) (xs zs : List Submission) → found x xs ≡ Some b → found x (xs ++ zs) ≡ Some b
 found_later x b [] zs h = absurd cc

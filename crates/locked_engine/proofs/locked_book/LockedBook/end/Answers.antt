@@ -16,7 +16,7 @@ returns-clause-known g c =
     let history = c.self.inside.history in
     let a = c.self.inside.book.state in
     let distinct = all_distinct o history.batches a history.entries c.self.invariant.1 c.self.invariant.4
-    c.status-_status.ensures.legal.distinct in
+    c.status-status.ensures.legal.distinct in
     known_behind o c.args.known.now history.batches a c.self.invariant.1 distinct
     (subst (λ (l : List Submission). IsPrefix c.args.known.now l)
     (ap (λ (s : Course). s.batches) (c.contains.ensures.same ∙ c.covers.ensures.same)) c.contains.ensures.begins)
