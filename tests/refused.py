@@ -221,8 +221,16 @@ REPLIES = [
 ]
 STOPPING = struct.pack(">IB", 0, 0x87)
 SAVED = snapshot([(7, 1, [(0, 0, 5)]), (8, 1, [(0, 0, 3)])], 8, past=NONE)
-# The snapshot that a server starts with, and whether it has a log.
-STARTS = {"serve": (None, False), "serve of a snapshot": (SAVED, False), "serve with a log": (SAVED, True)}
+# The same once both batches are folded.
+FOLDED = snapshot([], 8, past=([(7, 1, 1, 5), (8, 1, 1, 3)], [(0, 0, 8)]))
+# The snapshot that a server starts with, whether it has a log, and above how many cells it folds.
+STARTS = {
+    "serve": (None, False, 0),
+    "serve of a snapshot": (SAVED, False, 0),
+    "serve with a log": (SAVED, True, 0),
+    "serve that folds": (None, False, 1),
+    "serve with a log that folds": (SAVED, True, 1),
+}
 # One growth is refused, so the second time is the last at which anything may be.
 TRIES = 3
 
@@ -268,7 +276,7 @@ def judge_end(process, saved, ends, held):
     if os.path.exists(saved):
         with open(saved, "rb") as file:
             found = file.read()
-    return None if found == held else found
+    return None if found == held or held == SAVED and found == FOLDED else found
 
 
 NO_MEMORY = Ended(b"", b"hhm: memory\n", 5)
@@ -328,16 +336,16 @@ def judge_server(kind, process, path, saved, before):
 def served_run(program, folder, start, kind, error, at):
     """What was wrong with a server whose call number `at` was refused, and whether there was such a call.
 
-    It starts with a snapshot, or with none, and has a log, or none.
+    It starts with a snapshot, or with none, and has a log, or none. One that folds may have folded both batches or none.
     """
-    before, has_log = start
+    before, has_log, fold_above = start
     path, saved = (os.path.join(folder, f"{name}{at}") for name in ("socket", "snap"))
     if before is not None:
         with open(saved, "wb") as file:
             file.write(before)
     refusing = Refusing(kind, error, at)
     words = [program, "serve", "--unix", path, "--workers", "1", "--snapshot", saved, *SMALL]
-    words += ["--log", f"{saved}.log"] if has_log else []
+    words += ["--fold-above", str(fold_above), *(["--log", f"{saved}.log"] if has_log else [])]
     process = subprocess.Popen(words, stdout=subprocess.PIPE, stderr=subprocess.PIPE, **refusing.how)
     try:
         wrong = judge_server(kind, process, path, saved, before)

@@ -175,6 +175,7 @@ def settings_are_refused():
         ([*at, *size, "--workers", "0"], "settings: BadWorkers", 2),
         ([*at, *size, "--workers", "33"], "settings: BadWorkers", 2),
         ([*at, *size, "--limit", "0", "--workers", "0"], "settings: BadLimit", 2),
+        ([*at, *size, "--fold-above", "x", "--limit", "0"], "settings: BadNumber", 2),
         ([*size, "--workers", "0"], "settings: BadWorkers", 2),
         ([*at, *size, "--snapshot", folder], "snapshot: Read", 4),
         ([*at, *size, "--snapshot", other], "snapshot: BadMark", 3),

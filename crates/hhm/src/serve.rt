@@ -90,6 +90,7 @@ fn events_of(alloc: Global, matches: &ArgMatches) -> Result<Option<Arc<EventLog>
 pub fn settings_of(alloc: Global, matches: &ArgMatches) -> Result<Settings, Fault> {
     let workers = number_of(matches, "workers")?;
     let sessions = number_of(matches, "sessions")?;
+    let fold_above = number_of(matches, "fold-above")?;
     let idle = limit_of(matches, "idle")?;
     let drain = limit_of(matches, "drain")?;
     let setup = setup_of(alloc, matches)?;
@@ -103,6 +104,7 @@ pub fn settings_of(alloc: Global, matches: &ArgMatches) -> Result<Settings, Faul
         must_load: matches.get_flag("must-load"),
         must_save: matches.get_flag("must-save"),
         sessions,
+        fold_above,
         idle,
         drain,
         events: events_of(alloc, matches)?,

@@ -173,6 +173,13 @@ static OPTIONS: &[ServeOption] = &[
         ..LEFT_OUT
     },
     ServeOption {
+        name: "fold-above",
+        value: "CELLS",
+        default: Some("4194304"),
+        help: "Add up what was accepted once batches have so many cells more; 0: never",
+        ..LEFT_OUT
+    },
+    ServeOption {
         name: "idle",
         value: "SECONDS",
         help: "End a connection that has sent or taken nothing for so long; 0: never, as without it",

@@ -9,15 +9,15 @@ use std::sync::ledger::Ledger;
 use std::thread::{Scope, Threads};
 use wire_proto::PutRefusal;
 
-/// Wakes whoever compacts, if anyone does, after a put that was answered so. It waits for no room: where there is none,
-/// a message is there that hasn't been seen. One that is lost is made up for by the next.
+/// Wakes whoever compacts or folds, if anyone does, after a put that was answered so. It waits for no room: where there
+/// is none, a message is there that hasn't been seen. One that is lost is made up for by the next.
 pub(crate) fn wake_after<R: Wait>(
     rt: &R,
-    compactor: Option<&Sender<()>>,
+    woken: Option<&Sender<()>>,
     answer: &Result<Kept, PutRefusal>,
 ) {
-    if let (Some(compactor), Ok(_)) = (compactor, answer) {
-        let _ = compactor.try_send(rt, ());
+    if let (Some(woken), Ok(_)) = (woken, answer) {
+        let _ = woken.try_send(rt, ());
     }
 }
 

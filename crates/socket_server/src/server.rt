@@ -270,6 +270,7 @@ fn plan_of(settings: Settings, failure: SaveFailure) -> Plan
         must_load: _,
         must_save: _,
         sessions,
+        fold_above,
         idle,
         drain,
         events,
@@ -284,7 +285,9 @@ fn plan_of(settings: Settings, failure: SaveFailure) -> Plan
             events,
             failure: read,
         },
-        saver: Saver::telling(snapshot, told).with_log(log),
+        saver: Saver::telling(snapshot, told)
+            .with_log(log)
+            .folding_above(fold_above),
     }
 }
 
