@@ -1,11 +1,11 @@
 //! What stands behind the book's lock.
-ghost use Rattle.std.specs.Prelude.{◌≡◌, ◌+◌, ◌≤◌, ◌<◌, ◌++◌, List, [], ◌∷◌, IfOk, IfErr, IsSome, IsSomeAnd, OnOk, OnErr, Ok, Some};
+ghost use Rattle.std.specs.Prelude.{◌≡◌, ◌+◌, ◌≤◌, ◌<◌, ◌++◌, List, [], ◌∷◌, IfOk, IfErr, IsSome, IfSome, IsSomeAnd, OnOk, OnErr, Ok, Some};
 ghost use Rattle.batch_store.specs.declared.verdict.Entry.{Entry};
 ghost use Rattle.std.specs.Prelude.{drop, length, vec_len, vec_capacity};
 ghost use Rattle.std.specs.Bool.{OnTrue, OnFalse};
 ghost use mathlib.Core.List.{IsPrefix};
 ghost use Rattle.std.specs.Arc.{arc_value};
-ghost use Rattle.batch_store.specs.Accepted.{unfolded, entries_in, count_in, total_in, with_batch};
+ghost use Rattle.batch_store.specs.Accepted.{Accepted, unfolded, entries_in, count_in, total_in, with_batch};
 ghost use Rattle.batch_store.specs.Batches.{batch_total, entry_of as summary_of, entries_of, values};
 ghost use Rattle.batch_store.specs.Books.{AreAccepted, accepted_in, listed_in, verdict_on};
 ghost use Rattle.batch_store.specs.Verdicts.{kept};
@@ -317,6 +317,20 @@ where
             return Err(AllocError);
         }
         self.book.book_list(alloc)
+    }
+
+    /// How many of the book's batches are folded. The seat is shown the entries of all. None where it was shown more.
+    pub fn folded(&self, seen: &mut Version<N>) -> Option<u64>
+        ensures later { IsPrefix seen.old seen.new }
+        ensures folded { IfSome result (λ n. (a : Accepted) × AreAccepted N.setup a × (entries_in a ≡ seen.new)
+            × SharePast a N.opened × (n ≡ length a.folded)) }
+    {
+        if !self.show(seen) {
+            return None;
+        }
+        // It tells what the book keeps.
+        let _count = self.book.len();
+        Some(self.book.folded())
     }
 
     /// Puts the batches from a place on into a list that shares them, as `Engine::batches_from` says.

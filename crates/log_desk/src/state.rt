@@ -28,6 +28,8 @@ pub struct DeskState<N: Named, L: Log> {
     room: u64,
     // How many pages are promised, and not given back.
     promised: u64,
+    // How many batches the last group had.
+    group: u64,
 }
 
 impl<N: Named, L: Log> Model for DeskState<N, L> {
@@ -42,6 +44,22 @@ impl<N: Named, L: Log> Model for DeskState<N, L> {
         × (s.failed ≡ true → L.has_failed) };
 }
 
+/// What a desk tells of its log, of which nothing is proved.
+#[derive(Clone, Copy, Debug, PartialEq, Eq)]
+pub struct DeskFigures {
+    /// How many batches are durable.
+    pub durable: u64,
+    /// How many pages are ready for blocks; 0 while the log may be exchanged.
+    pub room: u64,
+    /// How many batches the group had that was written last; 0 before the first.
+    pub group: u64,
+}
+
+// How many batches the last group had, where so many were durable before and are now.
+fn group_of(before: u64, now: u64, last: u64) -> u64 {
+    if now > before { now - before } else { last }
+}
+
 impl<N: Named, L: Log> DeskState<N, L> {
     /// A state in which nobody has the turn, and nothing is promised.
     pub fn new(turn: Turn<N, L>) -> DeskState<N, L>
@@ -53,6 +71,16 @@ impl<N: Named, L: Log> DeskState<N, L> {
             room: turn.room(),
             turn: Some(turn),
             promised: 0,
+            group: 0,
+        }
+    }
+
+    /// What is told of the log.
+    pub fn figures(&self) -> DeskFigures {
+        DeskFigures {
+            durable: self.durable.count(),
+            room: self.room,
+            group: self.group,
         }
     }
 
@@ -176,6 +204,7 @@ impl<N: Named, L: Log> DeskState<N, L> {
             desk_standing (standing out.now.durable out.now.failed self.old.log.room) self.old.promised false }
     {
         self.turn = None;
+        self.group = group_of(self.durable.count(), out.durable().count(), self.group);
         self.durable = out.durable();
         self.failed = out.is_failed();
     }
@@ -184,6 +213,7 @@ impl<N: Named, L: Log> DeskState<N, L> {
     pub fn put_back(&mut self, turn: Turn<N, L>)
         ensures { self.new ≡ desk_standing turn self.old.promised true }
     {
+        self.group = group_of(self.durable.count(), turn.durable().count(), self.group);
         self.durable = turn.durable();
         self.failed = turn.is_failed();
         self.room = turn.room();
@@ -201,6 +231,7 @@ impl<N: Named, L: Log> DeskState<N, L> {
             failed: _,
             room: _,
             promised: _,
+            group: _,
         } = self;
         turn
     }
