@@ -10,6 +10,7 @@ use crossbeam_channel::{Receiver, bounded};
 use locked_engine::{Engine, Named, Names};
 use log_desk::{FailAt, LogDesk, MemoryLog, NoPause};
 use plain_engine::PlainEngine;
+use server_counters::Machine;
 use session_pool::{Disk, Gate, LogPlace, PoolFault, PoolReport, Session, run_pool};
 use std::alloc::Global;
 use std::marker::Brand;
@@ -59,7 +60,7 @@ fn queued<R: Wait + Abort>(rt: &R, alloc: Global, count: u8) -> Receiver<Session
 fn play<
     N: Named + Send + Sync,
     H: Ledger + Send + Sync,
-    R: Threads + Wait + Disk + LogPlace<TestLog> + Abort + Sync,
+    R: Threads + Wait + Disk + Machine + LogPlace<TestLog> + Abort + Sync,
 >(rt: &R, alloc: Global, plain: PlainEngine, names: Names, count: u8) -> Outcome
     requires named { NamesEngine names N.setup N.seats N.history N.name N.parts H.name H.parts }
     requires made_from { plain.setup ≡ names.setup }
@@ -105,7 +106,7 @@ fn play<
     }
 }
 
-fn played<R: Threads + Wait + Disk + LogPlace<TestLog> + RandomSource + Abort + Sync>(
+fn played<R: Threads + Wait + Disk + Machine + LogPlace<TestLog> + RandomSource + Abort + Sync>(
     rt: &R,
     alloc: Global,
     workers: usize,
