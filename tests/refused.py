@@ -206,7 +206,7 @@ def judged_run(program, run, kind, error, at):
     return None if is_right else ended, met
 
 
-STATUS, EXPORT, SAVE, STOP = (struct.pack(">IB", 0, kind) for kind in (4, 5, 6, 7))
+STATUS, EXPORT, SAVE, STOP, STATS = (struct.pack(">IB", 0, kind) for kind in (4, 5, 6, 7, 12))
 ASKS = put_frame(7, 1, text(5)) + put_frame(8, 1, text(3)) + struct.pack(">IBQQ", 16, 2, 0, 0)
 ASKS += struct.pack(">IBQ", 8, 3, 0) + STATUS + EXPORT + SAVE
 SUM = text(8)
@@ -266,6 +266,17 @@ def ask_until_answered(path, asks, replies):
     return False, None
 
 
+def ask_for_stats(path):
+    """What is wrong with the answer to a Stats, whose lines are to tell what was accepted, or None."""
+    for _ in range(TRIES):
+        answer = talk(path, STATS)
+        if answer[4:5] == b"\x8a" and len(answer) == 5 + int.from_bytes(answer[:4], "big"):
+            return None if {b"batches 2", b"folded 0", b"total 8"} <= set(answer[5:].split(b"\n")) else answer
+        if answer not in (b"", refused(1)):
+            return answer
+    return "no answer to a Stats"
+
+
 def judge_end(process, saved, ends, held):
     """What is wrong with the end of a server, or with what it saved, or None."""
     output, error = process.communicate(timeout=SECONDS)
@@ -289,6 +300,7 @@ def talk_to_server(process, path, saved, before):
     if not is_served:
         # A thread that there was no memory for couldn't be started: it is told, and nothing is saved.
         return judge_end(process, saved, [NO_MEMORY, Ended(b"", b"hhm: no worker\n", 4)], before)
+    wrong = wrong or ask_for_stats(path)
     if wrong:
         return wrong
     is_served, wrong = ask_until_answered(path, STOP, [STOPPING])

@@ -4,6 +4,7 @@ use crate::query_cli::{degrees_command, list_command, top_command};
 use crate::serve_cli::serve_command;
 use clap::builder::ValueParser;
 use clap::{Arg, ArgAction, Command};
+use server_counters::VERSION;
 use std::alloc::{AllocError, Global};
 
 /// The cuts of `sum` where no `--cuts` is given.
@@ -160,7 +161,7 @@ fn program<'a>(alloc: Global) -> Result<Command<'a>, AllocError> {
     let program = Command::new(alloc, "hhm").bin_name("hhm")?;
     Ok(
         program
-            .version("0.1.0")
+            .version(VERSION)
             .about(ABOUT)
             .subcommand_required(true)
             .arg_required_else_help(true),

@@ -18,7 +18,7 @@ ghost use Rattle.hyper_matrix.specs.Counts.{ewise_add, total};
 ghost use Rattle.hyper_matrix.specs.Matrix.{matrix};
 ghost use Rattle.merged_cells.specs.Within.{LieWithin};
 ghost use Rattle.layer_cascade.specs.Cascade.{cascade};
-ghost use Rattle.layer_compaction.specs.Shared.{content};
+ghost use Rattle.layer_compaction.specs.Shared.{content, values, all_counts};
 ghost use Rattle.layer_cascade.specs.Cuts.{AreCuts};
 ghost use Rattle.hyper_matrix.specs.RowOf.{row_of};
 ghost use Rattle.layer_cascade.specs.Layering.{IsLayering, no_layers, entries_of_layer};
@@ -351,6 +351,13 @@ impl Layers {
             sum += layer.total();
         }
         sum
+    }
+
+    /// All layers, the first one first. Constant time.
+    pub(crate) fn all(&self) -> &[Arc<Layer>]
+        ensures { all_counts (values result.now) ≡ self.now.layers }
+    {
+        self.layers.as_slice()
     }
 
     /// The number of entries of layer `i`, counted from 1; `None` for 0 and past the last layer. No memory.

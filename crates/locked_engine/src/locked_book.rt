@@ -5,7 +5,7 @@ ghost use Rattle.std.specs.Prelude.{drop, length, vec_len, vec_capacity};
 ghost use Rattle.std.specs.Bool.{OnTrue, OnFalse};
 ghost use mathlib.Core.List.{IsPrefix};
 ghost use Rattle.std.specs.Arc.{arc_value};
-ghost use Rattle.batch_store.specs.Accepted.{unfolded, entries_in, count_in, total_in, with_batch};
+ghost use Rattle.batch_store.specs.Accepted.{Accepted, unfolded, entries_in, count_in, total_in, with_batch};
 ghost use Rattle.batch_store.specs.Batches.{Submission, batch_total, entry_of as summary_of, entries_of, values};
 ghost use Rattle.batch_store.specs.Books.{AreAccepted, AreDistinct, accepted_in, listed_in, verdict_on};
 ghost use Rattle.batch_store.specs.BookFolds.{folded_to};
@@ -348,6 +348,20 @@ where
             return Err(AllocError);
         }
         self.book.book_list(alloc)
+    }
+
+    /// How many of the book's batches are folded. The seat is shown the entries of all. None where it was shown more.
+    pub fn folded(&self, seen: &mut Version<N>) -> Option<u64>
+        ensures later { IsPrefix seen.old seen.new }
+        ensures folded { IfSome result (λ n. (a : Accepted) × AreAccepted N.setup a × (entries_in a ≡ seen.new)
+            × SharePast a N.opened × (n ≡ length a.folded)) }
+    {
+        if !self.show(seen) {
+            return None;
+        }
+        // It tells what the book keeps.
+        let _count = self.book.len();
+        Some(self.book.folded())
     }
 
     /// Puts the batches from a place on into a list that shares them, as `Engine::batches_from` says.

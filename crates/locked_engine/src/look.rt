@@ -4,7 +4,7 @@ ghost use Rattle.std.specs.Fn.{FnOnceReturnsAt};
 ghost use Rattle.std.specs.FinMap.{get};
 ghost use Rattle.layer_compaction.specs.Shared.{content};
 ghost use mathlib.Core.List.{IsPrefix};
-ghost use Rattle.batch_store.specs.Accepted.{unfolded, entries_in};
+ghost use Rattle.batch_store.specs.Accepted.{Accepted, unfolded, entries_in};
 ghost use Rattle.batch_store.specs.Batches.{entries_of, values};
 ghost use Rattle.batch_store.specs.Books.{AreAccepted, accepted_in, listed_in};
 ghost use Rattle.batch_store.specs.Shards.{Holding};
@@ -151,6 +151,22 @@ impl<N: Named, H: Ledger> Engine<N, H> {
         let list = locked.book_list(alloc, &mut seat.seen);
         let _ = MutexGuard::unlock(locked);
         list
+    }
+
+    /// How many of the accepted batches are folded, as the book has them under its lock, which is held for no longer
+    /// than that takes: constant time, and no memory. The seat is shown the entries of all. None where it was shown more
+    /// than the book has, to which puts alone never lead.
+    pub fn folded<R: Wait>(&self, rt: &R, seat: &mut Seat<N, H>) -> Option<u64>
+        ensures number { seat.new.number ≡ seat.old.number }
+        ensures first { seat.new.first ≡ seat.old.first }
+        ensures later { IsPrefix seat.old.seen seat.new.seen }
+        ensures folded { IfSome result (λ n. (a : Accepted) × AreAccepted N.setup a × (entries_in a ≡ seat.new.seen)
+            × SharePast a N.opened × (n ≡ length a.folded)) }
+    {
+        let locked = self.book.lock(rt);
+        let folded = locked.folded(&mut seat.seen);
+        let _ = MutexGuard::unlock(locked);
+        folded
     }
 
     /// How many batches were accepted, and their total, as they were published last. It waits for nobody, at no lock,

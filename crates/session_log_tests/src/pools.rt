@@ -10,6 +10,7 @@ use crossbeam_channel::{Receiver, bounded};
 use locked_engine::{Engine, Named, Names};
 use log_desk::{FailAt, LogDesk, MemoryLog, NoPause};
 use plain_engine::PlainEngine;
+use server_counters::Machine;
 use session_pool::{Disk, Gate, LogPlace, PoolFault, PoolReport, Session, run_pool};
 use std::alloc::Global;
 use std::marker::Brand;
@@ -59,7 +60,7 @@ fn queued<R: Wait + Abort>(rt: &R, alloc: Global, count: u8) -> Receiver<Session
 fn play<
     N: Named + Send + Sync,
     H: Ledger + Send + Sync,
-    R: Threads + Wait + Disk + LogPlace<TestLog> + Abort + Sync,
+    R: Threads + Wait + Disk + Machine + LogPlace<TestLog> + Abort + Sync,
 >(
     rt: &R,
     alloc: Global,
@@ -113,7 +114,7 @@ fn play<
     }
 }
 
-fn played<R: Threads + Wait + Disk + LogPlace<TestLog> + RandomSource + Abort + Sync>(
+fn played<R: Threads + Wait + Disk + Machine + LogPlace<TestLog> + RandomSource + Abort + Sync>(
     rt: &R,
     alloc: Global,
     fold_above: u64,

@@ -12,6 +12,7 @@ use crate::watched_listener::{Listen, WatchedListener};
 use byte_io::{Sink, WriteFault, write_all};
 use event_log::EventLog;
 use mio::Waker;
+use server_counters::Counters;
 use session_pool::LastFailure;
 use std::alloc::Global;
 use std::io;
@@ -21,7 +22,7 @@ use std::sync::Arc;
 use std::time::Duration;
 
 /// Where a server listens, how many connections it takes, how long one may be silent, how long sessions go on after a
-/// Stop, where what happens is noted, and why the last save that failed did.
+/// Stop, where what happens is noted, why the last save that failed did, and what is counted.
 #[derive(Drop)]
 pub struct Places {
     pub tcp: Option<String>,
@@ -31,6 +32,7 @@ pub struct Places {
     pub drain: Option<Duration>,
     pub events: Option<Arc<EventLog>>,
     pub failure: Arc<LastFailure>,
+    pub counters: Counters,
 }
 
 /// The path at which a Unix socket was bound, and the file that was made there, where that could be told.
@@ -196,6 +198,7 @@ pub fn bind_listeners<R: Host + Net<Listener = TcpListener, Stream = TcpStream>,
         drain,
         events,
         failure,
+        counters,
     } = places;
     let (tcp, tcp_waker) = parted(bind_tcp(rt, alloc, tcp, out, written)?);
     let (unix, unix_waker, own) = match unix {
@@ -206,7 +209,13 @@ pub fn bind_listeners<R: Host + Net<Listener = TcpListener, Stream = TcpStream>,
         None => (None, None, None),
     };
     let shared = Shared {
-        gate: StopGate::new(tcp_waker, unix_waker, drain.map(Drain::new), events),
+        gate: StopGate::new(
+            tcp_waker,
+            unix_waker,
+            drain.map(Drain::new),
+            events,
+            counters,
+        ),
         numbers: SessionNumbers::new(sessions),
         idle,
         failure,

@@ -20,6 +20,7 @@ use byte_io::Sink;
 use locked_engine::{Named, Names, Status};
 use log_desk::Log;
 use log_folder::LogNews;
+use server_counters::{Counters, Machine};
 use session_pool::{Disk, LastFailure, LogPlace, Saver};
 use std::alloc::Global;
 use std::marker::Brand;
@@ -42,7 +43,7 @@ fn serve_open<
     N: Named + Send + Sync,
     H: Ledger + Send + Sync,
     L: Log + Send,
-    R: Threads + Wait + Clock + Disk + LogPlace<L> + Sync,
+    R: Threads + Wait + Clock + Machine + Disk + LogPlace<L> + Sync,
 >(
     rt: &R,
     alloc: Global,
@@ -103,7 +104,7 @@ fn serve_bound<
     N: Named + Send + Sync,
     H: Ledger + Send + Sync,
     L: Log + Send,
-    R: Threads + Wait + Clock + Disk + LogPlace<L> + Host + Sync,
+    R: Threads + Wait + Clock + Machine + Disk + LogPlace<L> + Host + Sync,
 >(
     rt: &R,
     alloc: Global,
@@ -130,6 +131,7 @@ fn serve_named<
     R: Threads
         + Wait
         + Clock
+        + Machine
         + Disk
         + LogPlace<L>
         + Host
@@ -177,6 +179,7 @@ fn serve_plan<
     R: Threads
         + Wait
         + Clock
+        + Machine
         + Disk
         + LogPlace<L>
         + Host
@@ -233,6 +236,16 @@ fn news_of_log(alloc: Global) -> Result<Arc<LogNews>, ServerFault>
     }
 }
 
+// What the server counts from now on, with so many workers.
+fn counters_of<R: Clock>(rt: &R, alloc: Global, workers: u64) -> Result<Counters, ServerFault>
+    ensures { IfErr result IsMetServing }
+{
+    match Counters::new(rt, alloc, workers) {
+        Ok(counters) => Ok(counters),
+        Err(_) => Err(ServerFault::Memory),
+    }
+}
+
 // Where it is told why a save failed, in two hands: by one it is told, and by the other it is read.
 #[derive(Drop)]
 struct SaveFailure {
@@ -256,7 +269,7 @@ fn failure_of_saves(alloc: Global, news: &Arc<LogNews>) -> Result<SaveFailure, S
 }
 
 // Where a server listens, and where it saves, as its settings say.
-fn plan_of(settings: Settings, failure: SaveFailure) -> Plan
+fn plan_of(settings: Settings, failure: SaveFailure, counters: Counters) -> Plan
     ensures path { result.saver.path ≡ settings.snapshot }
 {
     let SaveFailure { told, read } = failure;
@@ -284,6 +297,7 @@ fn plan_of(settings: Settings, failure: SaveFailure) -> Plan
             drain: time_limit(drain),
             events,
             failure: read,
+            counters,
         },
         saver: Saver::telling(snapshot, told)
             .with_log(log)
@@ -298,6 +312,7 @@ fn serve_settings<
     R: Threads
         + Wait
         + Clock
+        + Machine
         + Disk
         + LogPlace<L>
         + Host
@@ -324,9 +339,11 @@ fn serve_settings<
     // What can be refused comes before the start: a refusal then has no engine to drop.
     let news = news_of_log(alloc)?;
     let failure = failure_of_saves(alloc, &news)?;
+    let counters = counters_of(rt, alloc, settings.workers)?;
     let start = make_start::<L, R>(rt, alloc, &settings, &news)?;
     let workers = settings.workers;
-    let plan = plan_of(settings, failure);
+    counters.note_start(start.plain.status().batches);
+    let plan = plan_of(settings, failure, counters);
     serve_plan(rt, alloc, start, workers, plan, out)
 }
 
@@ -358,6 +375,7 @@ pub fn run_server<
     R: Threads
         + Wait
         + Clock
+        + Machine
         + Disk
         + LogPlace<L>
         + Host

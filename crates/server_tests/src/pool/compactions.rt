@@ -7,6 +7,7 @@ use crate::pool::links::{Kind, links};
 use byte_io::Script;
 use byte_io_tests::pieces;
 use crossbeam_channel::bounded;
+use server_counters::Machine;
 use session_pool::{Disk, LogPlace, PoolFault, PoolReport, Saver};
 use socket_server::FileLog;
 use std::alloc::Global;
@@ -34,7 +35,7 @@ static WAKES: &[(&[u8], Accepted, [bool; 2])] = &[
 ];
 
 // Serves a session of these frames.
-fn waking<R: Wait + Disk + LogPlace<FileLog> + RandomSource + Abort>(
+fn waking<R: Wait + Disk + Machine + LogPlace<FileLog> + RandomSource + Abort>(
     rt: &R,
     alloc: Global,
     frames: &[u8],
@@ -62,7 +63,7 @@ fn accepted_puts_wake_whoever_compacts(rt: HostRuntime) -> Result<(), Fail> {
 }
 
 // What a pool did over so many Puts of a count of 1 at one place, and the count there and in the next column then.
-fn put_by_pool<R: Threads + Wait + Disk + LogPlace<FileLog> + RandomSource + Abort + Sync>(
+fn put_by_pool<R: Threads + Wait + Disk + Machine + LogPlace<FileLog> + RandomSource + Abort + Sync>(
     rt: &R,
     alloc: Global,
     count: u8,

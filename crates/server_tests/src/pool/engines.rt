@@ -9,6 +9,7 @@ use crossbeam_channel::{Receiver, Sender, bounded};
 use locked_engine::{Engine, Named, Names, Seat};
 use log_desk::LogDesk;
 use plain_engine::PlainEngine;
+use server_counters::Machine;
 use session_pool::{
     Disk, Gate, LogPlace, PoolFault, PoolReport, Saver, SeatKeeper, Session, SessionLog, run_pool,
 };
@@ -110,7 +111,7 @@ fn pooled<
     N: Named + Send + Sync,
     H: Ledger + Send + Sync,
     G: Gate<R> + Sync,
-    R: Threads + Wait + Disk + LogPlace<FileLog> + Abort + Sync,
+    R: Threads + Wait + Disk + Machine + LogPlace<FileLog> + Abort + Sync,
 >(
     rt: &R,
     alloc: Global,
@@ -145,7 +146,7 @@ fn pooled<
 /// Serves sessions over these links, numbered in order, by a pool with the first `workers` of an engine's seats.
 pub fn pool_over<
     G: Gate<R> + Sync,
-    R: Threads + Wait + Disk + LogPlace<FileLog> + RandomSource + Abort + Sync,
+    R: Threads + Wait + Disk + Machine + LogPlace<FileLog> + RandomSource + Abort + Sync,
 >(
     rt: &R,
     alloc: Global,
@@ -175,7 +176,7 @@ pub fn found_of(outcome: &Outcome) -> Found {
 /// Serves sessions over these links by a pool with the first `workers` of an engine's seats and without snapshots.
 pub fn found_over<
     G: Gate<R> + Sync,
-    R: Threads + Wait + Disk + LogPlace<FileLog> + RandomSource + Abort + Sync,
+    R: Threads + Wait + Disk + Machine + LogPlace<FileLog> + RandomSource + Abort + Sync,
 >(rt: &R, alloc: Global, seats: usize, workers: usize, gate: &G, links: Vec<Script>) -> Found {
     let saver = Saver::new(None);
     let outcome = pool_over(rt, alloc, seats, workers, gate, &saver, links);
@@ -194,7 +195,7 @@ pub fn served_by(started: u64, served: u64, accepted: Accepted) -> Found {
 pub type After = (Ended, Accepted);
 
 // Serves a session by a seat, over a link that hasn't failed.
-fn serve_link<N: Named, H: Ledger, L: Link, R: Wait + Disk + LogPlace<FileLog> + Abort>(
+fn serve_link<N: Named, H: Ledger, L: Link, R: Wait + Disk + Machine + LogPlace<FileLog> + Abort>(
     rt: &R,
     alloc: Global,
     engine: &Engine<N, H>,
@@ -225,7 +226,7 @@ fn total_of_shards(closed: &PlainEngine) -> Option<u64> {
 pub type InTurn = (After, Option<After>, Accepted, Option<u64>);
 
 // Opens an engine, serves these links by its first seat, and closes it.
-fn served_in_turn<N: Named, H: Ledger, L: Link, R: Wait + Disk + LogPlace<FileLog> + Abort>(
+fn served_in_turn<N: Named, H: Ledger, L: Link, R: Wait + Disk + Machine + LogPlace<FileLog> + Abort>(
     rt: &R,
     alloc: Global,
     plain: PlainEngine,
@@ -254,7 +255,7 @@ fn served_in_turn<N: Named, H: Ledger, L: Link, R: Wait + Disk + LogPlace<FileLo
 
 /// Serves a session over the first link and then one over the second, if there is one, by one of a new engine's seats.
 /// Their puts wake whoever receives from `compactor`, where there is one.
-pub fn sessions_in_turn<L: Link, R: Wait + Disk + LogPlace<FileLog> + RandomSource + Abort>(
+pub fn sessions_in_turn<L: Link, R: Wait + Disk + Machine + LogPlace<FileLog> + RandomSource + Abort>(
     rt: &R,
     alloc: Global,
     seats: usize,

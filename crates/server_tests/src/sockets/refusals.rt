@@ -2,6 +2,7 @@
 
 use crate::sockets::settings::{ANY_PORT, PLAIN, Plan, settings};
 use byte_io::{Script, WriteFault};
+use server_counters::Machine;
 use session_pool::{Disk, LogPlace};
 use snap_file::{FileFault, SaveFault, SnapFault};
 use socket_server::{FileLog, Host, LogHost, ServerFault, Settings, run_server};
@@ -24,6 +25,7 @@ pub fn is_fault<
         + Wait
         + Clock
         + Disk
+        + Machine
         + LogPlace<FileLog>
         + Host
         + LogHost<FileLog>
