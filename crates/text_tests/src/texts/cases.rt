@@ -1,6 +1,6 @@
 //! A text with its answer, and the ways to read it.
 use byte_io_tests::{halves, pieces};
-use mm_text::{Cell, MmFault, MmFile, MmKind, Script, TextLimits, read_matrix};
+use mm_text::{Cell, MmFault, MmFile, MmKind, Script, TextLimits, read_matrix, read_text};
 use std::alloc::{AllocError, Global};
 use std::io::Eprint;
 use std::process::Abort;
@@ -111,14 +111,35 @@ impl<'a> Case<'a> {
         }
     }
 
-    /// Reads the text in each way: whole, byte by byte, and in two pieces, cut at each place. Lets go of the text.
+    /// Reads the text in each way: where it lies, whole, byte by byte, and in two pieces, cut at each place. Lets go of
+    /// the text.
     pub fn check(self, rt: &(impl Abort + Eprint), alloc: Global) {
-        self.check_cut(rt, alloc, Cut::Nowhere);
+        self.check_from(rt, alloc, 0);
+    }
+
+    /// The same, with the two pieces cut at each place from this one on.
+    pub fn check_from(self, rt: &(impl Abort + Eprint), alloc: Global, first: usize) {
+        self.check_whole(rt, alloc);
         self.check_cut(rt, alloc, Cut::Everywhere);
-        for place in 0..=self.text.len() {
+        for place in first..=self.text.len() {
             self.check_cut(rt, alloc, Cut::At(place));
         }
         drop(self);
+    }
+
+    /// Reads the text where it lies, and from a source that gives it in one piece.
+    pub fn check_whole(&self, rt: &(impl Abort + Eprint), alloc: Global) {
+        let answer = read_text(alloc, self.text.as_slice(), self.limits);
+        let is_met = self.expected.is_met_by(&answer);
+        drop(answer);
+        assert!(rt;
+            holds_at(
+                rt,
+                &(self.name, self.limits, "in its place", self.expected),
+                is_met
+            )
+        );
+        self.check_cut(rt, alloc, Cut::Nowhere);
     }
 
     /// Reads the text in these pieces, with no more reads than the limits allow.

@@ -32,7 +32,7 @@ fn check_filled(
 ) {
     let parts = [filling, (rest, 1)];
     let case = Case::of_parts(rt, alloc, rest, GENERAL, &parts, expected);
-    case.check_cut(rt, alloc, Cut::Nowhere);
+    case.check_whole(rt, alloc);
     drop(case);
 }
 
@@ -41,10 +41,10 @@ fn check_limits(rt: &(impl Abort + Eprint), alloc: Global, count: usize, last_li
     let parts = [("\n", count), (REST, 1)];
     let mut case = Case::of_parts(rt, alloc, "blank lines", GENERAL, &parts, MATRIX);
     case.limits.max_bytes = case.text.len() as u64;
-    case.check_cut(rt, alloc, Cut::Nowhere);
+    case.check_whole(rt, alloc);
     case.limits.max_bytes = case.limits.max_bytes.saturating_sub(1);
     case.expected = Fault(TooLong, last_line);
-    case.check_cut(rt, alloc, Cut::Nowhere);
+    case.check_whole(rt, alloc);
     drop(case);
 }
 
@@ -99,7 +99,7 @@ fn many_entries(rt: HostRuntime) {
     check_many(&rt, alloc, &case, Cut::Everywhere);
     check_many(&rt, alloc, &case, Cut::At(60_000));
     case.text.push(b'x').expect(&rt, "memory");
-    case.check_cut(&rt, alloc, Cut::Nowhere);
+    case.check_whole(&rt, alloc);
     case.check_cut(&rt, alloc, Cut::Everywhere);
     drop(case);
 }
