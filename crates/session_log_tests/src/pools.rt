@@ -94,6 +94,7 @@ fn play<
         &OpenGate,
         &saver,
         Some(&desk),
+        2,
     );
     drop(sessions);
     drop(saver);
