@@ -166,6 +166,13 @@ static OPTIONS: &[ServeOption] = &[
         ..LEFT_OUT
     },
     ServeOption {
+        name: "compactors",
+        value: "N",
+        default: Some("2"),
+        help: "The number of threads that add up what batches leave, 1 or 2",
+        ..LEFT_OUT
+    },
+    ServeOption {
         name: "sessions",
         value: "N",
         default: Some("1099511627776"),

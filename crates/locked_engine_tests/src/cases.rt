@@ -47,6 +47,8 @@ pub enum Act {
     Watch,
     /// Two threads put small batches while a third compacts.
     CompactBesidePuts,
+    /// Two threads put small batches while two others compact, each layers of its own.
+    CompactByDepthBesidePuts,
     /// Both seats put small batches, and then the shards are compacted.
     CompactAfterPuts,
     /// Small batches are put and compacted, twice.
@@ -144,6 +146,9 @@ fn perform<
         Act::PutAndFind => versions::put_and_find(rt, alloc, engine, seats),
         Act::Watch => versions::watch_from_seats(rt, alloc, engine, seats),
         Act::CompactBesidePuts => compactions::compact_beside_puts(rt, alloc, engine, seats),
+        Act::CompactByDepthBesidePuts => {
+            compactions::compact_by_depth_beside_puts(rt, alloc, engine, seats)
+        }
         Act::CompactAfterPuts => compactions::compact_after_puts(rt, alloc, engine, seats),
         Act::CompactTwice => compactions::compact_twice(rt, alloc, engine, seats),
     }

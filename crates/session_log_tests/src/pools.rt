@@ -85,6 +85,7 @@ fn play<
         &OpenGate,
         &saver,
         Some(&desk),
+        2,
     );
     drop(sessions);
     drop(saver);

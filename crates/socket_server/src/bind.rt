@@ -20,13 +20,15 @@ use std::os::unix::net::UnixListener;
 use std::sync::Arc;
 use std::time::Duration;
 
-/// Where a server listens, how many connections it takes, how long one may be silent, how long sessions go on after a
-/// Stop, where what happens is noted, and why the last save that failed did.
+/// Where a server listens, how many connections it takes, how many threads compact beside them, how long a connection
+/// may be silent, how long sessions go on after a Stop, where what happens is noted, and why the last save that failed
+/// did.
 #[derive(Drop)]
 pub struct Places {
     pub tcp: Option<String>,
     pub unix: Option<String>,
     pub sessions: u64,
+    pub compactors: u64,
     pub idle: Option<Duration>,
     pub drain: Option<Duration>,
     pub events: Option<Arc<EventLog>>,
@@ -52,12 +54,13 @@ impl OwnPath {
     }
 }
 
-/// The listeners that are bound, and what their acceptors share.
+/// The listeners that are bound, what their acceptors share, and how many threads compact.
 #[derive(Drop)]
 pub struct Listeners {
     pub tcp: Option<WatchedListener<TcpListener>>,
     pub unix: Option<WatchedListener<UnixListener>>,
     pub shared: Arc<Shared>,
+    pub compactors: u64,
     own: Option<OwnPath>,
 }
 
@@ -192,6 +195,7 @@ pub fn bind_listeners<R: Host + Net<Listener = TcpListener, Stream = TcpStream>,
         tcp,
         unix,
         sessions,
+        compactors,
         idle,
         drain,
         events,
@@ -221,6 +225,7 @@ pub fn bind_listeners<R: Host + Net<Listener = TcpListener, Stream = TcpStream>,
         tcp,
         unix,
         shared,
+        compactors,
         own,
     })
 }

@@ -265,6 +265,7 @@ fn plan_of(settings: Settings, failure: SaveFailure) -> Plan
         unix,
         setup: _,
         workers: _,
+        compactors,
         snapshot,
         log,
         must_load: _,
@@ -279,6 +280,7 @@ fn plan_of(settings: Settings, failure: SaveFailure) -> Plan
             tcp,
             unix,
             sessions,
+            compactors,
             idle: time_limit(idle),
             drain: time_limit(drain),
             events,
@@ -349,7 +351,8 @@ fn serve_settings<
 ///
 /// # Errors
 ///
-/// As `ServerFault` says. `BadWorkers`, `NoAddress` and `SamePath` are judged in this order and before anything is done.
+/// As `ServerFault` says. `BadWorkers`, `NoAddress`, `SamePath` and `BadCompactors` are judged in this order and before
+/// anything is done.
 pub fn run_server<
     L: Log + Send,
     R: Threads
@@ -372,8 +375,12 @@ pub fn run_server<
     ensures one_path { (result ≡ Err ServerFault.SamePath)
         ↔ ((1 ≤ settings.workers) × (settings.workers ≤ 32) × ((settings.tcp ≡ None) × (settings.unix ≡ None) → ⊥)
         × IsOnePath settings.snapshot settings.log) }
+    ensures compactors { (result ≡ Err ServerFault.BadCompactors)
+        ↔ ((1 ≤ settings.workers) × (settings.workers ≤ 32) × ((settings.tcp ≡ None) × (settings.unix ≡ None) → ⊥)
+        × (IsOnePath settings.snapshot settings.log → ⊥)
+        × ((1 ≤ settings.compactors) × (settings.compactors ≤ 2) → ⊥)) }
     ensures others { IfErr result (λ f. (f ≡ ServerFault.BadWorkers) ⊎ (f ≡ ServerFault.NoAddress)
-        ⊎ (f ≡ ServerFault.SamePath) ⊎ IsMet settings.must_load f) }
+        ⊎ (f ≡ ServerFault.SamePath) ⊎ (f ≡ ServerFault.BadCompactors) ⊎ IsMet settings.must_load f) }
     ensures told { IfErr result (λ f. IsLoadTold R.loads R.locks rt.now settings.snapshot settings.setup f) }
     ensures log_told { IfErr result (λ f. IsLogTold R.loads R.locks R.log_starts rt.now settings.snapshot settings.log
         settings.must_load settings.setup f) }

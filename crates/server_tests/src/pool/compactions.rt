@@ -1,6 +1,6 @@
-//! The thread that compacts beside a pool's workers: which sessions wake it, and that its sums change no answer.
+//! The threads that compact beside a pool's workers: which sessions wake them, and that their sums change no answer.
 
-use crate::pool::engines::{Accepted, pool_over, sessions_in_turn};
+use crate::pool::engines::{Accepted, pool_beside, sessions_in_turn};
 use crate::pool::frames::TWO_PUTS_AND_A_CELL;
 use crate::pool::gates::OpenGate;
 use crate::pool::links::{Kind, links};
@@ -15,7 +15,7 @@ use std::random::RandomSource;
 use std::sync::Wait;
 use std::test::Fail;
 use std::thread::Threads;
-use test_support::{same, same_at};
+use test_support::same_at;
 
 // A Cell at row 0 and column 0.
 const CELL: &[u8] = b"\0\0\0\x10\x02\0\0\0\0\0\0\0\0\0\0\0\0\0\0\0\0";
@@ -66,10 +66,11 @@ fn put_by_pool<R: Threads + Wait + Disk + LogPlace<FileLog> + RandomSource + Abo
     rt: &R,
     alloc: Global,
     count: u8,
+    compactors: u64,
 ) -> (Result<PoolReport, PoolFault>, [Option<u64>; 2]) {
     let saver = Saver::new(None);
     let links = links(rt, alloc, Kind::Put, count);
-    let (report, closed) = pool_over(rt, alloc, 4, 4, &OpenGate, &saver, links);
+    let (report, closed) = pool_beside(rt, alloc, 4, 4, &OpenGate, &saver, links, compactors);
     let counts = [closed.cell(0, 0), closed.cell(0, 1)];
     drop(closed);
     drop(saver);
@@ -78,11 +79,13 @@ fn put_by_pool<R: Threads + Wait + Disk + LogPlace<FileLog> + RandomSource + Abo
 
 #[test]
 fn sums_beside_puts_change_no_count(rt: HostRuntime) -> Result<(), Fail> {
-    let found = put_by_pool(&rt, rt.alloc(), 100);
     let report = PoolReport {
         started: 4,
         served: 100,
     };
-    assert!(rt; same(&rt, &found, &(Ok(report), [Some(100), None])));
+    for compactors in [1u64, 2] {
+        let found = put_by_pool(&rt, rt.alloc(), 100, compactors);
+        assert!(rt; same_at(&rt, &compactors, &found, &(Ok(report), [Some(100), None])));
+    }
     Ok(())
 }

@@ -120,6 +120,7 @@ fn pooled<
     gate: &G,
     saver: &Saver,
     sessions: &Receiver<Session<Script>, Global>,
+    compactors: u64,
 ) -> Outcome
     requires named { NamesEngine names N.setup N.seats N.history N.name N.parts H.name H.parts }
     requires made_from { plain.setup ≡ names.setup }
@@ -137,12 +138,14 @@ fn pooled<
         gate,
         saver,
         desk.as_ref(),
+        compactors,
     );
     drop(desk);
     (report, closed(rt, alloc, engine, seats))
 }
 
-/// Serves sessions over these links, numbered in order, by a pool with the first `workers` of an engine's seats.
+/// Serves sessions over these links, numbered in order, by a pool with the first `workers` of an engine's seats and two
+/// threads that compact.
 pub fn pool_over<
     G: Gate<R> + Sync,
     R: Threads + Wait + Disk + LogPlace<FileLog> + RandomSource + Abort + Sync,
@@ -155,10 +158,27 @@ pub fn pool_over<
     saver: &Saver,
     links: Vec<Script>,
 ) -> Outcome {
+    pool_beside(rt, alloc, seats, workers, gate, saver, links, 2)
+}
+
+/// The same with so many threads that compact.
+pub fn pool_beside<
+    G: Gate<R> + Sync,
+    R: Threads + Wait + Disk + LogPlace<FileLog> + RandomSource + Abort + Sync,
+>(
+    rt: &R,
+    alloc: Global,
+    seats: usize,
+    workers: usize,
+    gate: &G,
+    saver: &Saver,
+    links: Vec<Script>,
+    compactors: u64,
+) -> Outcome {
     let sessions = queued(rt, alloc, links);
     let (plain, names) = unopened(rt, alloc, seats);
     let outcome = pooled::<Brand, Brand, G, R>(
-        rt, alloc, plain, names, workers, gate, saver, &sessions,
+        rt, alloc, plain, names, workers, gate, saver, &sessions, compactors,
     );
     drop(sessions);
     outcome

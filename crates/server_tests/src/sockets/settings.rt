@@ -13,6 +13,7 @@ pub const ANY_PORT: &str = "127.0.0.1:0";
 #[derive(Clone, Copy)]
 pub struct Plan<'a> {
     pub workers: u64,
+    pub compactors: u64,
     pub sessions: u64,
     pub tcp: Option<&'a str>,
     pub unix: Option<&'a str>,
@@ -25,6 +26,7 @@ pub struct Plan<'a> {
 /// Two workers, no address, no snapshot and no log.
 pub const PLAIN: Plan<'static> = Plan {
     workers: 2,
+    compactors: 2,
     sessions: 1 << 40,
     tcp: None,
     unix: None,
@@ -50,6 +52,7 @@ pub fn settings(rt: &impl Abort, alloc: Global, plan: &Plan) -> Settings {
         unix: owned(rt, alloc, plan.unix),
         setup: Setup::new(3, 3, &[2, 4], 2, 100, 10).expect(rt, "setup"),
         workers: plan.workers,
+        compactors: plan.compactors,
         snapshot: owned(rt, alloc, plan.snapshot),
         log: owned(rt, alloc, plan.log),
         must_load: plan.must_load,
