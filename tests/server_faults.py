@@ -88,7 +88,7 @@ def is_silent(link, seconds):
 def numbers_come_first():
     """An option that is no number is told before all that is wrong beside it."""
     for option in ["--rows", "--cols", "--cuts", "--shards", "--workers", "--limit", "--max-batches", "--sessions",
-                   "--idle", "--drain"]:
+                   "--idle", "--drain", "--compactors"]:
         for word in ["", "-1", "+1", "1x", " 1", "18446744073709551616", "0" * 21]:
             rest = {"--rows": "0", "--cols": "0"}
             rest[option] = word

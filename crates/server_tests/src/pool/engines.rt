@@ -176,6 +176,23 @@ pub fn pool_beside<
     links: Vec<Script>,
     compactors: u64,
 ) -> Outcome {
+    pool_beside(rt, alloc, seats, workers, gate, saver, links, 2)
+}
+
+/// The same with so many threads that compact.
+pub fn pool_beside<
+    G: Gate<R> + Sync,
+    R: Threads + Wait + Disk + LogPlace<FileLog> + RandomSource + Abort + Sync,
+>(
+    rt: &R,
+    alloc: Global,
+    seats: usize,
+    workers: usize,
+    gate: &G,
+    saver: &Saver,
+    links: Vec<Script>,
+    compactors: u64,
+) -> Outcome {
     let sessions = queued(rt, alloc, links);
     let (plain, names) = unopened(rt, alloc, seats);
     let outcome = pooled::<Brand, Brand, G, R>(
