@@ -2,6 +2,7 @@ use Rattle.std.proofs.Common.{◌∙◌, sym, ap, subst}
 use Rattle.batch_store.specs.Setups.{Setting}
 use Rattle.batch_store.specs.Accepted.{entries_in}
 use Rattle.batch_store.specs.Books.{Register, AreAccepted}
+use Rattle.locked_engine.proofs.FoldedLaws.{past_of}
 use Rattle.locked_engine.proofs.locked_book.LockedBook.folded.Goals as goal
 
 pub returns-clause-folded : goal.returns-clause-folded
@@ -11,6 +12,6 @@ returns-clause-folded g c =
       state,
       subst (λ (v : Setting). AreAccepted v state) c.self.invariant.0 c.len-count.ensures.kept,
       sym shown,
-      c.self.invariant.1,
+      past_of g.N.Named.opened c.self.inside.history.batches c.self.inside.book.state c.self.invariant.1,
       c.folded.ensures,
     )
