@@ -41,7 +41,13 @@ fn nothing_is_folded_unasked(rt: HostRuntime) -> Result<(), Fail> {
         folded_by_pool(&rt, rt.alloc(), 0),
         folded_by_pool(&rt, rt.alloc(), 100),
     ];
-    assert!(rt; same(&rt, &found, &[(SERVED, Some(100), 0), (SERVED, Some(100), 0)]));
+    assert!(rt;
+        same(
+            &rt,
+            &found,
+            &[(SERVED, Some(100), 0), (SERVED, Some(100), 0)]
+        )
+    );
     Ok(())
 }
 
