@@ -1,12 +1,13 @@
 #!/usr/bin/env python3
 """Starts the built program so that it folds what was accepted while it serves, and compares all that it answers.
 
-    python3 tests/folding.py PATH-TO-HHM [--measure CELLS]
+    python3 tests/folding.py PATH-TO-HHM [--measure CELLS [RATE]]
 
 Each server with a low `--fold-above` is fed, asked, saved, killed, stopped and started again. What is wanted is what a
 plain dictionary says of the same batches: folding changes no answer. That a server has folded is seen in its snapshot,
 which tells how many batches are folded. With `--measure` nothing is compared: so many cells, of which few are distinct,
-go to a server that folds and to one that doesn't, and the memory, the time and the longest wait of each are printed.
+go to a server that folds and to one that doesn't, as fast as they are taken or RATE cells a second, and the memory, the
+time, the longest wait and the processor time of each are printed.
 
 It prints a line for each check that fails and at the end `N passed, M failed`; the status is 1 where one fails. Linux,
 and nothing but Python's own library, the client of clients/python and the server of tests/server.py.
@@ -197,10 +198,12 @@ def frames_of(cells):
         yield put_cells_frame(number % 2, number, [(*place, 1) for place in draw.choices(places, k=BATCH)])
 
 
-def put_frames(server, frames, waits):
-    """Puts frames one by one, and notes how long each is waited for."""
+def put_frames(server, frames, pause, waits):
+    """Puts frames one by one, each so long behind the last at the least, and notes how long each is waited for."""
     with server.link() as link, link.makefile("rb") as stream:
-        for frame in frames:
+        first = time.monotonic()
+        for turn, frame in enumerate(frames):
+            time.sleep(max(0, first + turn * pause - time.monotonic()))
             begun = time.monotonic()
             ask(link, stream, frame)
             waits.append(time.monotonic() - begun)
@@ -212,7 +215,14 @@ def watch_memory(server, ended, seen):
         time.sleep(0.05)
 
 
-def measured(name, more, frames):
+def processor_seconds(server):
+    """The processor time that a server has used."""
+    with open(f"/proc/{server.process.pid}/stat") as file:
+        user, system = file.read().rsplit(")", 1)[1].split()[11:13]
+    return (int(user) + int(system)) / os.sysconf("SC_CLK_TCK")
+
+
+def measured(name, more, frames, rate):
     """Feeds a server over two connections, and tells how long that takes and how much memory it uses."""
     words = ["--rows", str(1 << 32), "--cols", str(1 << 32), *more]
     with Server(words) as server:
@@ -220,7 +230,8 @@ def measured(name, more, frames):
         watcher = threading.Thread(target=watch_memory, args=(server, ended, seen))
         watcher.start()
         begun = time.monotonic()
-        threads = [threading.Thread(target=put_frames, args=(server, frames[n::2], waits)) for n in range(2)]
+        pause = 2 * BATCH / rate if rate else 0
+        threads = [threading.Thread(target=put_frames, args=(server, frames[n::2], pause, waits)) for n in range(2)]
         for thread in threads:
             thread.start()
         for thread in threads:
@@ -228,7 +239,7 @@ def measured(name, more, frames):
         seconds = time.monotonic() - begun
         ended.set()
         watcher.join()
-        last = server.memory()
+        last, used = server.memory(), processor_seconds(server)
         with server.client() as hhm:
             total = hhm.status().total
         server.stop(name, len(frames), total)
@@ -237,16 +248,17 @@ def measured(name, more, frames):
     print(f"{name}: {cells:,} cells in {seconds:.2f} s, {cells / seconds / 1e6:.2f} million a second; memory "
           f"{last / 1e6:.0f} MB at the end, {max(seen) / 1e6:.0f} MB at most; a put waited {waits[len(waits) // 2] * 1e3:.1f} "
           f"ms in the middle, {waits[len(waits) * 99 // 100] * 1e3:.1f} at 99 of 100, {waits[-1] * 1e3:.1f} at most; "
-          f"load {os.getloadavg()[0]:.1f}", flush=True)  # fmt: skip
+          f"processor {used:.2f} s; load {os.getloadavg()[0]:.1f}", flush=True)  # fmt: skip
 
 
 def main():
     servers.PROGRAM = os.path.abspath(sys.argv[1])
     with tempfile.TemporaryDirectory() as servers.FOLDER:
         if "--measure" in sys.argv:
-            frames = list(frames_of(int(sys.argv[sys.argv.index("--measure") + 1])))
+            cells, *rate = map(int, sys.argv[sys.argv.index("--measure") + 1 :])
+            frames = list(frames_of(cells))
             for above in [0, 1_000_000, 4_194_304]:
-                measured(f"fold above {above}", ["--fold-above", str(above)], frames)
+                measured(f"fold above {above}", ["--fold-above", str(above)], frames, *rate or [0])
             return 0
         numbers_are_refused()
         answers_are_as_without("never-folded", ["--fold-above", "0"], logged=False)

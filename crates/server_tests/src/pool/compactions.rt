@@ -63,7 +63,9 @@ fn accepted_puts_wake_whoever_compacts(rt: HostRuntime) -> Result<(), Fail> {
 }
 
 // What a pool did over so many Puts of a count of 1 at one place, and the count there and in the next column then.
-fn put_by_pool<R: Threads + Wait + Disk + Machine + LogPlace<FileLog> + RandomSource + Abort + Sync>(
+fn put_by_pool<
+    R: Threads + Wait + Disk + Machine + LogPlace<FileLog> + RandomSource + Abort + Sync,
+>(
     rt: &R,
     alloc: Global,
     count: u8,

@@ -263,7 +263,12 @@ fn total_of_shards(closed: &PlainEngine) -> Option<u64> {
 pub type InTurn = (After, Option<After>, Accepted, Option<u64>);
 
 // Opens an engine, serves these links by its first seat, and closes it.
-fn served_in_turn<N: Named, H: Ledger, L: Link, R: Wait + Disk + Machine + LogPlace<FileLog> + Abort>(
+fn served_in_turn<
+    N: Named,
+    H: Ledger,
+    L: Link,
+    R: Wait + Disk + Machine + LogPlace<FileLog> + Abort,
+>(
     rt: &R,
     alloc: Global,
     plain: PlainEngine,
@@ -292,7 +297,10 @@ fn served_in_turn<N: Named, H: Ledger, L: Link, R: Wait + Disk + Machine + LogPl
 
 /// Serves a session over the first link and then one over the second, if there is one, by one of a new engine's seats.
 /// Their puts wake whoever receives from `compactor`, where there is one.
-pub fn sessions_in_turn<L: Link, R: Wait + Disk + Machine + LogPlace<FileLog> + RandomSource + Abort>(
+pub fn sessions_in_turn<
+    L: Link,
+    R: Wait + Disk + Machine + LogPlace<FileLog> + RandomSource + Abort,
+>(
     rt: &R,
     alloc: Global,
     seats: usize,

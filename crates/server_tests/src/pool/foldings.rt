@@ -3,6 +3,7 @@
 use crate::pool::engines::pool_over;
 use crate::pool::gates::OpenGate;
 use crate::pool::links::{Kind, links};
+use server_counters::Machine;
 use session_pool::{Disk, LogPlace, PoolFault, PoolReport, Saver};
 use socket_server::FileLog;
 use std::alloc::Global;
@@ -15,11 +16,9 @@ use test_support::same;
 
 // What a pool did that folds above so many cells, over 100 Puts of a count of 1 at one place, the count there and the
 // number of folded batches.
-fn folded_by_pool<R: Threads + Wait + Disk + LogPlace<FileLog> + RandomSource + Abort + Sync>(
-    rt: &R,
-    alloc: Global,
-    above: u64,
-) -> (Result<PoolReport, PoolFault>, Option<u64>, u64) {
+fn folded_by_pool<
+    R: Threads + Wait + Disk + Machine + LogPlace<FileLog> + RandomSource + Abort + Sync,
+>(rt: &R, alloc: Global, above: u64) -> (Result<PoolReport, PoolFault>, Option<u64>, u64) {
     let saver = Saver::new(None).folding_above(above);
     let links = links(rt, alloc, Kind::Put, 100);
     let (report, closed) = pool_over(rt, alloc, 4, 4, &OpenGate, &saver, links);
@@ -41,7 +40,13 @@ fn nothing_is_folded_unasked(rt: HostRuntime) -> Result<(), Fail> {
         folded_by_pool(&rt, rt.alloc(), 0),
         folded_by_pool(&rt, rt.alloc(), 100),
     ];
-    assert!(rt; same(&rt, &found, &[(SERVED, Some(100), 0), (SERVED, Some(100), 0)]));
+    assert!(rt;
+        same(
+            &rt,
+            &found,
+            &[(SERVED, Some(100), 0), (SERVED, Some(100), 0)]
+        )
+    );
     Ok(())
 }
 
