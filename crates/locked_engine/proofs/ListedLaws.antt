@@ -44,7 +44,7 @@ module _ {T E : Type 0} (list : T → List Submission) (w : Register) where
     length w.state.folded,
     omega (arith, ap length past.folded, length-append opened.folded (entries_of past.since)),
     ap entries_of is ∙ sym (drop_front w.state.folded (entries_of w.state.list))
-    ∙ ap (λ (l : List Entry). drop (length w.state.folded) l) (sym shown),
+        ∙ ap (λ (l : List Entry). drop (length w.state.folded) l) (sym shown),
   )
 
 -- the list of all that a book has accepted, in the words of the call

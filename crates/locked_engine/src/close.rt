@@ -34,7 +34,8 @@ pub enum CloseFault<N: Named, H: Ledger> {
         seats: Vec<Seat<N, H>>,
     },
     /// Some shard's base isn't the book's cut to its rows, or its record isn't, in order, the book's batches that
-    /// aren't folded and concern it. The totals agree all the same. Puts alone never lead to it.
+    /// aren't folded and concern it. The totals agree all the same. Puts, and folds by the engine's folder, never lead to
+    /// it.
     RecordsDiffer {
         shards: Vec<Shard>,
         book: Book,
@@ -44,8 +45,9 @@ pub enum CloseFault<N: Named, H: Ledger> {
 impl<N: Named, H: Ledger> Engine<N, H> {
     /// The engine of one thread that has accepted what this one has, where all seats are given back. It takes out what
     /// shows readers the status, which waits for those that read; whoever owns the engine and all its seats has no
-    /// thread that does. One growth, of a place for each shard; then the
-    /// records are compared with the book, by client and number, since it is known that their batches are the book's.
+    /// thread that does. One growth, of a place for each shard; then the records are compared with the book, by client and
+    /// number, since it is known that their batches are the book's. Where anything was folded since the engine was opened
+    /// the bases are compared too, cell by cell. What is sealed and not settled stays in the records and in the list.
     ///
     /// # Errors
     ///

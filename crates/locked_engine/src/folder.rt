@@ -13,7 +13,8 @@ use std::sync::Arc;
 /// Contracts see up to which place of the book all batches are sealed, if any are, and how many sums are left to be made.
 /// While it has sealed something it keeps the layers of that moment and the batches from being freed.
 ///
-/// Where it is dropped before what it has sealed is settled, the engine folds no more, and nothing is lost.
+/// Where it is dropped before what it has sealed is settled, nothing is lost, and the engine folds no more: nor does one
+/// that is opened with what this one was closed to, before that was folded itself (`PlainEngine::fold`).
 #[derive(Drop)]
 pub struct Folder {
     place: Option<u64>,

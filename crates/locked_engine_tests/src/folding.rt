@@ -72,7 +72,13 @@ fn expect_backlog<N: Named, H: Ledger, R: Wait + Abort + Eprint>(
     expected: (u64, u64, u64),
 ) {
     let backlog = engine.backlog(rt);
-    assert!(rt; same(rt, &(backlog.folded, backlog.base, backlog.cells), &expected));
+    assert!(rt;
+        same(
+            rt,
+            &(backlog.folded, backlog.base, backlog.cells),
+            &expected
+        )
+    );
 }
 
 // Folds, and compares whether anything was.

@@ -221,7 +221,11 @@ pub fn watch_from_seats<
 }
 
 /// Whether each of two threads found all that it had put.
-pub fn put_from_both<N: Named + Send + Sync, H: Ledger + Send + Sync, R: Threads + Wait + Abort + Sync>(
+pub fn put_from_both<
+    N: Named + Send + Sync,
+    H: Ledger + Send + Sync,
+    R: Threads + Wait + Abort + Sync,
+>(
     rt: &R,
     alloc: Global,
     engine: &Engine<N, H>,
