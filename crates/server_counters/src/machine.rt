@@ -35,7 +35,12 @@ fn number_in(bytes: &[u8]) -> Option<u64> {
             break;
         }
         let digit = (*byte - b'0') as u64;
-        number = Some(number.unwrap_or(0u64).saturating_mul(10).saturating_add(digit));
+        number = Some(
+            number
+                .unwrap_or(0u64)
+                .saturating_mul(10)
+                .saturating_add(digit),
+        );
     }
     number
 }

@@ -100,7 +100,14 @@ fn each_write_of_the_lines_fails_in_turn(rt: HostRuntime) {
         let ended = Ended::WriteFault {
             written: u128::from(room),
         };
-        let found = served_cut(&rt, rt.alloc(), &TOLD, Cut::Pieces(1_000), failing, room as usize);
+        let found = served_cut(
+            &rt,
+            rt.alloc(),
+            &TOLD,
+            Cut::Pieces(1_000),
+            failing,
+            room as usize,
+        );
         assert!(rt; same_at(&rt, &room, &found, &((ended, true, (1, 5)), wanted(&TOLD))));
     }
 }

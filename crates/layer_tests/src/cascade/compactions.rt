@@ -297,7 +297,15 @@ fn by_depth(rt: &impl Abort, alloc: Global) -> [bool; 7] {
     drop(more);
     let holds = sizes(&layers, MANY_RUNS) == [Some(MANY_RUNS), Some(200), Some(1)];
     drop(layers);
-    [begins.0, begins.1, has_none, runs && made_both, settles, has_more, holds]
+    [
+        begins.0,
+        begins.1,
+        has_none,
+        runs && made_both,
+        settles,
+        has_more,
+        holds,
+    ]
 }
 
 #[test]

@@ -14,9 +14,23 @@ use std::process::Abort;
 use test_support::holds_at;
 
 /// The first and the last row, or column.
-static ROWS: &[(u64, u64)] = &[(0, u64::MAX), (7, 7), (8, 210), (207, 410), (407, u64::MAX), (9, 8)];
+static ROWS: &[(u64, u64)] = &[
+    (0, u64::MAX),
+    (7, 7),
+    (8, 210),
+    (207, 410),
+    (407, u64::MAX),
+    (9, 8),
+];
 
-static COLS: &[(u64, u64)] = &[(0, u64::MAX), (0, 0), (3, 6), (100, 130), (1_190, u64::MAX), (5, 4)];
+static COLS: &[(u64, u64)] = &[
+    (0, u64::MAX),
+    (0, 0),
+    (3, 6),
+    (100, 130),
+    (1_190, u64::MAX),
+    (5, 4),
+];
 
 static MOST: &[usize] = &[0, 1, 50, 1_000_000];
 
@@ -26,7 +40,10 @@ fn is_between(n: u64, (first, last): (u64, u64)) -> bool {
 
 // Whether a page has the first cells of a list that stand in a range, and tells whether there are more.
 fn is_page(page: &RangePage, list: &[Cell], range: &CellRange, most: usize) -> bool {
-    let (rows, cols) = ((range.rows.first, range.rows.last), (range.cols.first, range.cols.last));
+    let (rows, cols) = (
+        (range.rows.first, range.rows.last),
+        (range.cols.first, range.cols.last),
+    );
     let (mut told, mut more) = (0usize, false);
     for cell in list {
         let place = (cell.row, cell.col);
@@ -67,8 +84,14 @@ fn all_given(rt: &impl Abort, alloc: Global, all: &[Hyper], list: &[Cell], start
         for cols in COLS {
             for most in MOST {
                 let range = CellRange {
-                    rows: Span { first: rows.0, last: rows.1 },
-                    cols: Span { first: cols.0, last: cols.1 },
+                    rows: Span {
+                        first: rows.0,
+                        last: rows.1,
+                    },
+                    cols: Span {
+                        first: cols.0,
+                        last: cols.1,
+                    },
                     start,
                 };
                 let mut sum = merged(rt, alloc, all);

@@ -97,7 +97,10 @@ fn first_wrong(rt: &impl Abort, alloc: Global, all: &[Hyper], step: usize) -> Op
     let places = places(rt, alloc, &list, step);
     let mut wrong = None;
     for (k, place) in places.iter().enumerate() {
-        let other = places.get(k.saturating_mul(7) % 131).copied().unwrap_or(*place);
+        let other = places
+            .get(k.saturating_mul(7) % 131)
+            .copied()
+            .unwrap_or(*place);
         let mut sum = merged(rt, alloc, all);
         if !skips_to(&mut sum, &list, *place, other) {
             wrong = Some(*place);
@@ -123,7 +126,10 @@ fn first_wrong_in(rt: &impl Abort, alloc: Global, m: &Hyper, step: usize) -> Opt
     let places = places(rt, alloc, &list, step);
     let mut wrong = None;
     for (k, place) in places.iter().enumerate() {
-        let other = places.get(k.saturating_mul(7) % 131).copied().unwrap_or(*place);
+        let other = places
+            .get(k.saturating_mul(7) % 131)
+            .copied()
+            .unwrap_or(*place);
         let mut cells = m.iter();
         if !skips_to(&mut cells, &list, *place, other) {
             wrong = Some(*place);
