@@ -165,24 +165,7 @@ pub fn pool_over<
 /// The same with so many threads that compact.
 pub fn pool_beside<
     G: Gate<R> + Sync,
-    R: Threads + Wait + Disk + LogPlace<FileLog> + RandomSource + Abort + Sync,
->(
-    rt: &R,
-    alloc: Global,
-    seats: usize,
-    workers: usize,
-    gate: &G,
-    saver: &Saver,
-    links: Vec<Script>,
-    compactors: u64,
-) -> Outcome {
-    pool_beside(rt, alloc, seats, workers, gate, saver, links, 2)
-}
-
-/// The same with so many threads that compact.
-pub fn pool_beside<
-    G: Gate<R> + Sync,
-    R: Threads + Wait + Disk + LogPlace<FileLog> + RandomSource + Abort + Sync,
+    R: Threads + Wait + Disk + Machine + LogPlace<FileLog> + RandomSource + Abort + Sync,
 >(
     rt: &R,
     alloc: Global,
