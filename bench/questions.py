@@ -138,14 +138,6 @@ def load():
     return f"load {os.getloadavg()[0]:.1f}"
 
 
-def row_name(cells):
-    """The number of the row that is long."""
-    rows = {}
-    for row, _, _ in cells:
-        rows[row] = rows.get(row, 0) + 1
-    return max(rows, key=rows.get)
-
-
 def peak(server):
     """The memory at its highest since the last reset, and the reset, in bytes."""
     with open(f"/proc/{server.process.pid}/status") as file:
@@ -183,7 +175,8 @@ def measured(server, questions, length):
 def tell(what, server, questions, length, beside=None):
     seconds, processor, memory = measured(server, questions, length)
     other = f"{beside:.2f}" if beside is not None else ""
-    print(f"| {what} | {seconds * 1e3:.2f} | {processor * 1e3:.2f} | {other} | {memory / 1e6:.1f} | {load()} |", flush=True)
+    told = [what, f"{seconds * 1e3:.2f}", f"{processor * 1e3:.2f}", other, f"{memory / 1e6:.1f}", load()]
+    print(f"| {' | '.join(told)} |", flush=True)
 
 
 def serve(program, snapshot=None):
@@ -216,7 +209,6 @@ def ask_short_rows(program, folder, cells, repeat):
         tell("the last 5,000 cells", server, [range_frame(ALL, ALL, last, PAGE)] * repeat, 1 + 12 * PAGE)
         row = [range_frame((long, long), ALL, (0, 0), LONG)] * repeat
         tell(f"a row of {LONG:,} cells", server, row, 1 + 24 * LONG, beside[2])
-    # A server saves as it stops.
     return snapshot
 
 

@@ -1,14 +1,10 @@
-//! Pages of ranges that begin anywhere, beside a plain filter of the list: of matrices that are merged, of one, and of
-//! its list.
-ghost use Rattle.std.specs.Prelude.{T};
-ghost use Rattle.std.specs.FinMap.{is_sorted};
-ghost use Rattle.hyper_matrix.specs.Counts.{place_cmp};
-
+//! Pages of ranges that begin anywhere, of matrices that are merged, beside a plain filter of their list.
 use crate::merges::matrices::{listed, merged};
 use crate::merges::skips::{Place, four, places};
-use cell_queries::{CellRange, CellSource, ListedCells, RangePage, Span, range_of};
+use cell_queries::{CellRange, RangePage, Span, range_of};
 use cells::Cell;
 use hyper_matrix::Hyper;
+use merged_cells::MergedCells;
 use std::alloc::Global;
 use std::process::Abort;
 use test_support::holds_at;
@@ -60,18 +56,16 @@ fn is_page(page: &RangePage, list: &[Cell], range: &CellRange, most: usize) -> b
     told == page.cells.len() && more == page.more
 }
 
-// Whether a source gives the page of a range.
-fn gives<S: CellSource>(
+// Whether merged cells give the page of a range.
+fn gives(
     rt: &impl Abort,
     alloc: Global,
-    source: &mut S,
+    sum: &mut MergedCells<'_>,
     list: &[Cell],
     range: &CellRange,
     most: usize,
-) -> bool
-    requires { T (is_sorted place_cmp (S.left source.old)) }
-{
-    let page = range_of(alloc, source, range, most).expect(rt, "memory");
+) -> bool {
+    let page = range_of(alloc, sum, range, most).expect(rt, "memory");
     let is_it = is_page(&page, list, range, most);
     drop(page);
     is_it

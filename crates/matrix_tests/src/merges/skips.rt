@@ -1,14 +1,10 @@
-//! What is left of cells behind a skip, beside a plain filter of their list: of one matrix, of four that are merged, and
-//! of the list.
-ghost use Rattle.std.specs.Prelude.{T};
-ghost use Rattle.std.specs.FinMap.{is_sorted};
-ghost use Rattle.hyper_matrix.specs.Counts.{place_cmp};
-
+//! What is left of cells behind a skip, beside a plain filter of their list: of one matrix, and of four that are merged.
 use crate::fixtures::Triple;
 use crate::merges::matrices::{listed, matrix, merged};
 use cell_queries::CellSource;
 use cells::Cell;
 use hyper_matrix::Hyper;
+use merged_cells::MergedCells;
 use std::alloc::Global;
 use std::process::Abort;
 use test_support::holds_at;
@@ -22,9 +18,9 @@ fn entries(rt: &impl Abort, alloc: Global, first: u64, count: u64) -> Vec<Triple
     for k in 0..CELLS {
         let (part, place) = (k / 350 * 200, k % 350);
         let entry = if place < 300 {
-            (part + 7, place * 4 + first, count)
+            (part + 7, (place * 4).saturating_add(first), count)
         } else {
-            (part + 8 + place % 50, first * 3, count)
+            (part + 8 + place % 50, first.saturating_mul(3), count)
         };
         entries.push(entry).expect(rt, "memory");
     }
@@ -77,32 +73,27 @@ fn are_left<S: CellSource>(source: &mut S, list: &[Cell], place: Place) -> bool 
     source.next_cell().is_none() && source.next_cell().is_none()
 }
 
-// Whether a source skips to a place, and from the cell behind it to another.
-fn skips_to<S: CellSource>(source: &mut S, list: &[Cell], first: Place, second: Place) -> bool
-    requires { T (is_sorted place_cmp (S.left source.old)) }
-{
-    source.skip_to_place(first);
-    let Some(cell) = source.next_cell() else {
-        return are_left(source, list, first);
+// Whether merged cells skip to a place, and from the cell behind it to another.
+fn skips_twice(sum: &mut MergedCells<'_>, list: &[Cell], first: Place, second: Place) -> bool {
+    sum.skip_to(first);
+    let Some(cell) = sum.next() else {
+        return are_left(sum, list, first);
     };
     let behind = (cell.row, cell.col.saturating_add(1));
-    source.skip_to_place(second);
+    sum.skip_to(second);
     let from = if behind < second { second } else { behind };
-    (cell.row, cell.col) >= first && are_left(source, list, from)
+    (cell.row, cell.col) >= first && are_left(sum, list, from)
 }
 
-// The first place to which one of these sources doesn't skip: the matrices merged, the first of them, and the list.
+// The first place from which on four matrices that are merged have other cells than their list.
 fn first_wrong(rt: &impl Abort, alloc: Global, all: &[Hyper], step: usize) -> Option<Place> {
     let list = listed(rt, alloc, all);
     let places = places(rt, alloc, &list, step);
     let mut wrong = None;
     for (k, place) in places.iter().enumerate() {
-        let other = places
-            .get(k.saturating_mul(7) % 131)
-            .copied()
-            .unwrap_or(*place);
+        let other = places.get(k.saturating_mul(7) % 131).copied();
         let mut sum = merged(rt, alloc, all);
-        if !skips_to(&mut sum, &list, *place, other) {
+        if !skips_twice(&mut sum, &list, *place, other.unwrap_or(*place)) {
             wrong = Some(*place);
         }
         drop(sum);
@@ -120,21 +111,22 @@ fn sums_skip_to_any_place(rt: HostRuntime) {
     assert!(rt; holds_at(&rt, &wrong, wrong.is_none()));
 }
 
-// The same of one matrix.
+// Whether the cells of a matrix skip to a place.
+fn skips_to(m: &Hyper, list: &[Cell], place: Place) -> bool {
+    let mut cells = m.iter();
+    cells.skip_to(place);
+    are_left(&mut cells, list, place)
+}
+
+// The first place from which on a matrix has other cells than its list.
 fn first_wrong_in(rt: &impl Abort, alloc: Global, m: &Hyper, step: usize) -> Option<Place> {
     let list = m.cells(alloc).expect(rt, "memory");
     let places = places(rt, alloc, &list, step);
     let mut wrong = None;
-    for (k, place) in places.iter().enumerate() {
-        let other = places
-            .get(k.saturating_mul(7) % 131)
-            .copied()
-            .unwrap_or(*place);
-        let mut cells = m.iter();
-        if !skips_to(&mut cells, &list, *place, other) {
+    for place in &places {
+        if !skips_to(m, &list, *place) {
             wrong = Some(*place);
         }
-        drop(cells);
     }
     drop(places);
     drop(list);
