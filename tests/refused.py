@@ -134,6 +134,25 @@ def runs(folder):
         line = f"rows 11 cols 11 shards 2 batches {count} total {count * total} entries {len(one)}\n"
         yield Run(name, ["check", path], b"", line.encode(), r"hhm: snapshot: Read\n")
     yield logged_check(folder)
+    yield several_exported(folder)
+
+
+def several_exported(folder):
+    """Three snapshots, one of them folded, as one text."""
+    lists = [summed(spread(count, 11)) for count in (40, 11, 30)]
+    totals = [sum(count for _, _, count in cells) for cells in lists]
+    held = [
+        snapshot([(7, 1, lists[0])], totals[0], 11, 11, limit=10**9),
+        snapshot([], totals[1], 11, 11, limit=10**9, past=([(7, 2, len(lists[1]), totals[1])], lists[1])),
+        snapshot([(8, 1, lists[2])], totals[2], 11, 11, limit=10**9, past=NONE),
+    ]
+    paths = [os.path.join(folder, f"several_{at}") for at in range(3)]
+    for path, bytes_of_it in zip(paths, held):
+        with open(path, "wb") as file:
+            file.write(bytes_of_it)
+    output = text_of(11, 11, summed(lists[0] + lists[1] + lists[2]))
+    fault = rf"hhm: snapshot: Read in ({'|'.join(re.escape(path) for path in paths)})\n"
+    return Run("export of three snapshots", ["export", *paths], b"", output, fault)
 
 
 def logged_check(folder):

@@ -8,7 +8,7 @@ use Rattle.batch_store.proofs.SumLaws.{total-list_sum}
 use Rattle.batch_store.specs.Batches.{values}
 use Rattle.batch_store.specs.Books.{Listing, list_total, accepted_in}
 use Rattle.snap_file.proofs.Kept.{total_parts}
-use Rattle.snap_query.proofs.sum.sum_of_list.Goals as goal
+use Rattle.snap_report.proofs.sum.sum_of_list.Goals as goal
 
 pub sum_of-requires-clause-fits : goal.sum_of-requires-clause-fits
 sum_of-requires-clause-fits c =
