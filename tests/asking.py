@@ -9,6 +9,7 @@ at the end `N passed, M failed`; the status is 1 where one fails. Linux, and not
 """
 import os
 import random
+import re
 import shutil
 import struct
 import sys
@@ -73,8 +74,10 @@ def worked_answers(name, command):
         with at.client() as hhm:
             is_known = knows_stats(hhm, f"stats by the client for {name}")
         if is_known:
-            told = dict(it.rsplit(" ", 1) for it in driver.ask("stats").split(","))
-            check(f"{name}: stats", (told.get("batches"), told.get("total"), told.get("rows")), ("1", "16", "3"))
+            # (a comma stands between two labels too)
+            told = dict(re.findall(r"([a-z_]+(?:\{[^}]*\})?) ([^,]*)", driver.ask("stats")))
+            numbers = ("rows", "cols", "batches", "folded", "total", "version", 'frames_total{kind="top"}', 'refused_total{code="44"}')
+            check(f"{name}: stats", [told.get(number) for number in numbers], ["3", "3", "1", "0", "16", "0.1.0", "4", "2"])
 
 
 def drawn_answers(name, command):

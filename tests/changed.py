@@ -20,7 +20,7 @@ sys.dont_write_bytecode = True
 from attacks import RT, SOURCES, TOP, copy_parts, crates_below, lines_of_list
 
 HHM_TESTS = (
-    "asking.py", "watching.py",
+    "asking.py", "stats.py", "watching.py", "folding.py",
     "program.py", "questions.py", "log_check.py", "server.py", "generated.py", "server_faults.py", "server_log.py",
     "server_log_faults.py", "log_events.py", "log_torture.py", "server_paths.py", "server_ends.py", "progress.py",
     "server_clients.py", "refused.py", "clients.py", "loading.py", "packages.py", "cluster.py", "install.py",

@@ -57,6 +57,9 @@ top: row 1 entries 1 total 25
 top: row 0 entries 1 total 8
 status: batches 7 total 40
 stored: batches 7 total 40
+stats: rows 3
+stats: batches 7
+stats: total 40
 %%MatrixMarket matrix coordinate integer general
 3 3 3
 1 1 8

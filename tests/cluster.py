@@ -309,7 +309,7 @@ def a_used_number_is_told_by_an_empty_part():
 
 
 def hours_are_summed():
-    """What examples/systemd and sum_texts.sh make of the snapshots of three hours of a day, when it is over."""
+    """What examples/systemd makes of the snapshots of three hours of a day, when it is over."""
     state, lists = os.path.join(server.FOLDER, "hours"), [batch(1, number) for number in range(3)]
     for place, cells in enumerate(lists):
         os.makedirs(os.path.join(state, f"202611270{place}"))

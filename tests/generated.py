@@ -5,12 +5,13 @@
 
 The model is a list of what was accepted, searched from the front, and a dictionary of all cells; its replies are
 spelled from docs/FORMATS.md. Frames are mostly puts, as texts and as cells, with repeats, numbers that are used again,
-totals at the limit, full books, texts with faults and bad headers; they are cut anywhere, or end too early. Between two
-starts a server's snapshot is folded. Of clients that put at once some share their cells, and some have cells of their
-own and read them back, also by ranges. The questions of docs/FORMATS.md are asked as they stand there. It prints a line
-for each check that fails and at the end `N passed, M failed`; the status is 1 where one fails. With `--long` there are
-ten times as many sessions and puts, and clients with cells of their own put for a minute or more. Linux, and nothing
-but Python's own library, the client of clients/python and the server of tests/server.py.
+totals at the limit, full books, texts with faults and bad headers; they are cut anywhere, or end too early. Servers
+fold at drawn numbers of cells while they run, and between two starts a server's snapshot is folded. Of clients that put
+at once some share their cells, and some have cells of their own and read them back, also by ranges. The questions of
+docs/FORMATS.md are asked as they stand there. It prints a line for each check that fails and at the end `N passed, M
+failed`; the status is 1 where one fails. With `--long` there are ten times as many sessions and puts, and clients with
+cells of their own put for a minute or more. Linux, and nothing but Python's own library, the client of clients/python
+and the server of tests/server.py.
 """
 import os
 import random
@@ -253,8 +254,9 @@ def sessions_are_answered_alike(sessions):
         path = os.path.join(servers.FOLDER, f"generated.{shards}")
         words = ["--rows", str(ROWS), "--cols", str(COLS), "--shards", str(shards), "--limit", str(limit)]
         words += ["--max-batches", str(most), "--cuts", cuts, *(["--snapshot", path] if saves else [])]
+        folds = random.Random(most)
         for start in range(3 if saves else 1):
-            with Server(words) as server:
+            with Server([*words, "--fold-above", str(folds.choice([0, 1, 3, 20]))]) as server:
                 compare_sessions(f"{name}, start {start}", draw, model, server, sessions)
                 server.stop(name, len(model.list), model.total)
             if saves:
@@ -506,9 +508,11 @@ def watch_cells(link, ended, faults):
 
 
 def own_puts_are_read_back(factor):
-    """What a client put and was answered, it finds, while others put and what all left side by side is added up."""
+    """What a client put and was answered, it finds, while others put, what all left side by side is added up, and what
+    was accepted is folded.
+    """
     sums, faults, ended = [{} for _ in range(OWN["clients"])], [], threading.Event()
-    with Server(OWN_WORDS) as server:
+    with Server([*OWN_WORDS, "--fold-above", "2000"]) as server:
         links = [server.link(n % 2 == 0) for n in range(OWN["clients"] + 1)]
         reader = threading.Thread(target=watch_cells, args=(links[-1], ended, faults))
         puts = factor * OWN["puts"]

@@ -7,7 +7,8 @@ A story is one log with its snapshot, and the lives of servers on them. In each 
 texts and as cells, with up to 64 on the way, and save meanwhile; it ends by SIGKILL at a drawn moment or at a drawn
 call, or by a Stop. In some stories the program is alone. In the others lose_power.c is loaded before it: calls fail in
 some lives, or move a part of their bytes, and between two lives the files may be made anew as a loss of power may leave
-them (disks.py); so are they at drawn moments of the life, for `hhm check` to read.
+them (disks.py); so are they at drawn moments of the life, for `hhm check` to read. Servers of two stories of three fold
+while they run.
 
 Each start must succeed, unless a call of it was made to fail. Each batch that was answered Accepted is there at its
 place, however often the server died since, and is answered so again; each that was sent and not answered is there once
@@ -312,7 +313,7 @@ class Story:
         self.disk = Disk(self.room.folder, misses)
         self.socket, self.lives, self.looks, self.first = os.path.join(top, "socket"), 0, 0, {}
         self.words = [server.PROGRAM, "serve", "--unix", self.socket, *SIZE, "--log", self.room.log]
-        self.words += ["--snapshot", self.room.snap]
+        self.words += ["--snapshot", self.room.snap, "--fold-above", str((0, 20, 500)[seed % 3])]
 
     def start(self, may_end=False):
         """A server that listens, or None where it ended before, as a fault of the plan may have it."""

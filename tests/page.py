@@ -20,14 +20,15 @@ TOLD = {
     "repeats_total": 12, 'refused_total{code="30"}': 2, 'refused_total{code="22"}': 3000, "sessions_open": 2,
     "sessions_waiting": 1, "sessions_total": 99, "workers": 4, "resident_bytes": 231_400_000, "uptime_seconds": "3725.5",
     "saves_total": 2, "failed_saves_total": 1, "saved_batches": 0, "save_age_seconds": "61.2", "log_durable_batches": 7,
-    "log_pages": 12, "log_syncs_total": 8, "log_group_batches": 3, "<b>odd</b>": 1,
+    "log_pages": 12, "log_room_pages": 4096, "log_syncs_total": 8, "log_group_batches": 3, "<b>odd</b>": 1,
+    "received_bytes_total": 1_500_000, "sent_bytes_total": 2_000,
     **{f'shard_layer_entries{{shard="{shard}",layer="{layer}"}}': 1000 * shard + layer
        for shard in range(12) for layer in range(3)},
     **{f'shard_layer_runs{{shard="{shard}",layer="{layer}"}}': shard for shard in range(12) for layer in range(3)},
 }
 SHOWN = {
     "Batches": "0", "Total": "0", "Cells put": "1,234,567", "Repeats": "12", "Refused": "3,002", "Sessions": "2 open",
-    "Memory": "231 MB", "Last save": "1 min 1 s ago", "Durable": "7 batches",
+    "Memory": "231 MB", "Last save": "1 min 1 s ago", "Received": "1.5 MB", "Sent": "2 kB", "Durable": "7 batches",
 }
 TILES = ("Object.fromEntries([...document.querySelectorAll('#tiles div')].map((it) => [it.querySelector('dt')"
          ".textContent, it.querySelector('dd').firstChild.textContent]))")
@@ -91,7 +92,7 @@ def what_is_told_is_shown(page, metrics_of):
         check("shown: tiles", page.value(TILES), SHOWN)
         small = page.value("[...document.querySelectorAll('#tiles small')].map((it) => it.textContent)")
         for words in ["NumberReused 2, IndexOutOfRange 3,000", "1 waiting, 99 served, 4 workers",
-                      "0 batches since, 2 saves, 1 failed", "12 pages, 8 syncs, 3 batches in the last group"]:
+                      "0 batches since, 2 saves, 1 failed", "12 pages, 4,096 ready, 8 syncs, 3 in the last group"]:
             check(f"shown: {words}", words in small, True)
         version = "version 1.2.3, up 1 h 2 min, 1,152,921,504,606,846,976 rows by 5 columns"
         check("shown: version", page.value("document.getElementById('version').textContent"), version)

@@ -134,6 +134,25 @@ def runs(folder):
         line = f"rows 11 cols 11 shards 2 batches {count} total {count * total} entries {len(one)}\n"
         yield Run(name, ["check", path], b"", line.encode(), r"hhm: snapshot: Read\n")
     yield logged_check(folder)
+    yield several_exported(folder)
+
+
+def several_exported(folder):
+    """Three snapshots, one of them folded, as one text."""
+    lists = [summed(spread(count, 11)) for count in (40, 11, 30)]
+    totals = [sum(count for _, _, count in cells) for cells in lists]
+    held = [
+        snapshot([(7, 1, lists[0])], totals[0], 11, 11, limit=10**9),
+        snapshot([], totals[1], 11, 11, limit=10**9, past=([(7, 2, len(lists[1]), totals[1])], lists[1])),
+        snapshot([(8, 1, lists[2])], totals[2], 11, 11, limit=10**9, past=NONE),
+    ]
+    paths = [os.path.join(folder, f"several_{at}") for at in range(3)]
+    for path, bytes_of_it in zip(paths, held):
+        with open(path, "wb") as file:
+            file.write(bytes_of_it)
+    output = text_of(11, 11, summed(lists[0] + lists[1] + lists[2]))
+    fault = rf"hhm: snapshot: Read in ({'|'.join(re.escape(path) for path in paths)})\n"
+    return Run("export of three snapshots", ["export", *paths], b"", output, fault)
 
 
 def logged_check(folder):
@@ -206,7 +225,7 @@ def judged_run(program, run, kind, error, at):
     return None if is_right else ended, met
 
 
-STATUS, EXPORT, SAVE, STOP = (struct.pack(">IB", 0, kind) for kind in (4, 5, 6, 7))
+STATUS, EXPORT, SAVE, STOP, STATS = (struct.pack(">IB", 0, kind) for kind in (4, 5, 6, 7, 12))
 ASKS = put_frame(7, 1, text(5)) + put_frame(8, 1, text(3)) + struct.pack(">IBQQ", 16, 2, 0, 0)
 ASKS += struct.pack(">IBQ", 8, 3, 0) + STATUS + EXPORT + SAVE
 SUM = text(8)
@@ -221,8 +240,16 @@ REPLIES = [
 ]
 STOPPING = struct.pack(">IB", 0, 0x87)
 SAVED = snapshot([(7, 1, [(0, 0, 5)]), (8, 1, [(0, 0, 3)])], 8, past=NONE)
-# The snapshot that a server starts with, and whether it has a log.
-STARTS = {"serve": (None, False), "serve of a snapshot": (SAVED, False), "serve with a log": (SAVED, True)}
+# The same once both batches are folded.
+FOLDED = snapshot([], 8, past=([(7, 1, 1, 5), (8, 1, 1, 3)], [(0, 0, 8)]))
+# The snapshot that a server starts with, whether it has a log, and above how many cells it folds.
+STARTS = {
+    "serve": (None, False, 0),
+    "serve of a snapshot": (SAVED, False, 0),
+    "serve with a log": (SAVED, True, 0),
+    "serve that folds": (None, False, 1),
+    "serve with a log that folds": (SAVED, True, 1),
+}
 # One growth is refused, so the second time is the last at which anything may be.
 TRIES = 3
 
@@ -258,6 +285,17 @@ def ask_until_answered(path, asks, replies):
     return False, None
 
 
+def ask_for_stats(path):
+    """What is wrong with the answer to a Stats, whose lines are to tell what was accepted, or None."""
+    for _ in range(TRIES):
+        answer = talk(path, STATS)
+        if answer[4:5] == b"\x8a" and len(answer) == 5 + int.from_bytes(answer[:4], "big"):
+            return None if {b"batches 2", b"folded 0", b"total 8"} <= set(answer[5:].split(b"\n")) else answer
+        if answer not in (b"", refused(1)):
+            return answer
+    return "no answer to a Stats"
+
+
 def judge_end(process, saved, ends, held):
     """What is wrong with the end of a server, or with what it saved, or None."""
     output, error = process.communicate(timeout=SECONDS)
@@ -268,7 +306,7 @@ def judge_end(process, saved, ends, held):
     if os.path.exists(saved):
         with open(saved, "rb") as file:
             found = file.read()
-    return None if found == held else found
+    return None if found == held or held == SAVED and found == FOLDED else found
 
 
 NO_MEMORY = Ended(b"", b"hhm: memory\n", 5)
@@ -281,6 +319,7 @@ def talk_to_server(process, path, saved, before):
     if not is_served:
         # A thread that there was no memory for couldn't be started: it is told, and nothing is saved.
         return judge_end(process, saved, [NO_MEMORY, Ended(b"", b"hhm: no worker\n", 4)], before)
+    wrong = wrong or ask_for_stats(path)
     if wrong:
         return wrong
     is_served, wrong = ask_until_answered(path, STOP, [STOPPING])
@@ -328,16 +367,16 @@ def judge_server(kind, process, path, saved, before):
 def served_run(program, folder, start, kind, error, at):
     """What was wrong with a server whose call number `at` was refused, and whether there was such a call.
 
-    It starts with a snapshot, or with none, and has a log, or none.
+    It starts with a snapshot, or with none, and has a log, or none. One that folds may have folded both batches or none.
     """
-    before, has_log = start
+    before, has_log, fold_above = start
     path, saved = (os.path.join(folder, f"{name}{at}") for name in ("socket", "snap"))
     if before is not None:
         with open(saved, "wb") as file:
             file.write(before)
     refusing = Refusing(kind, error, at)
     words = [program, "serve", "--unix", path, "--workers", "1", "--snapshot", saved, *SMALL]
-    words += ["--log", f"{saved}.log"] if has_log else []
+    words += ["--fold-above", str(fold_above), *(["--log", f"{saved}.log"] if has_log else [])]
     process = subprocess.Popen(words, stdout=subprocess.PIPE, stderr=subprocess.PIPE, **refusing.how)
     try:
         wrong = judge_server(kind, process, path, saved, before)

@@ -69,11 +69,31 @@ def folded_engine(batches, behind, *totals):
     return [first.replace(f"batches {behind}", f"batches {batches}"), *shards]
 
 
+def folded_reads(batches, *totals):
+    """What seats read of an engine that has folded all: as before, and the shards' records are empty."""
+    return [line.replace(f"batches {batches}", "batches 0") if line.startswith("shard") else line
+            for line in reads(batches, *totals)]
+
+
+# What the engine tells of itself at the end of a session.
+LINES = b"""rows 3
+cols 3
+cuts 2
+layer_cut_entries{layer="1"} 2
+layer_cut_entries{layer="2"} 4
+shards 2
+limit 100
+max_batches 10
+batches 2
+folded 0
+total 8
+"""
 # A session of the puts of two batches, of total 5 and 3 at one place, of a query of that place, of a range, which has
-# that cell alone, and of the row that leads.
+# that cell alone, of the row that leads, and of these lines.
 REPLIES = [accepted(0, 5), accepted(1, 8), bytes.fromhex("000000098201") + (8).to_bytes(8, "big"),
            bytes.fromhex("000000198800") + bytes(16) + (8).to_bytes(8, "big"),
-           bytes.fromhex("0000001889") + bytes(8) + (1).to_bytes(8, "big") + (8).to_bytes(8, "big")]  # fmt: skip
+           bytes.fromhex("0000001889") + bytes(8) + (1).to_bytes(8, "big") + (8).to_bytes(8, "big"),
+           len(LINES).to_bytes(4, "big") + b"\x8a" + LINES]  # fmt: skip
 
 
 def session(end, written, batches):
@@ -152,7 +172,17 @@ SCENARIOS = {
         LIST,
         listed(0, 1, 0),
         Step([], reads(1, 5, 4)),
-        Step([["close refused, seats 2"]], ALL),
+        Step([["seal refused", *reads(1, 5, 4)]], ["sealed up to 1"]),
+        Step(
+            [["fold of the engine refused", *reads(1, 5, 4)]],
+            ["settled, folded 1 base entries 2 cells behind 0", *folded_reads(1, 5, 4)],
+        ),
+        # There is nothing to fold.
+        Step([["fold of the engine refused", *folded_reads(1, 5, 4)]], []),
+        # The folded batch is known again, and that takes no memory.
+        Step([], [KEPT]),
+        listed(1, 0, 9),
+        Step([["close refused, seats 2"]], folded_engine(1, 0, 5, 4)),
     ],
     "frames": [
         fed(0, 30),

@@ -174,7 +174,18 @@ def settings_are_refused():
         ([*at, *size, "--max-batches", "1000001"], "settings: BadBatches", 2),
         ([*at, *size, "--workers", "0"], "settings: BadWorkers", 2),
         ([*at, *size, "--workers", "33"], "settings: BadWorkers", 2),
+        ([*at, *size, "--compactors", "0"], "settings: BadCompactors", 2),
+        ([*at, *size, "--compactors", "3"], "settings: BadCompactors", 2),
+        ([*at, *size, "--compactors", "18446744073709551615"], "settings: BadCompactors", 2),
+        ([*at, *size, "--compactors", "18446744073709551616"], "settings: BadNumber", 2),
+        ([*at, *size, "--compactors", "one"], "settings: BadNumber", 2),
+        ([*at, *size, "--limit", "0", "--compactors", "0"], "settings: BadLimit", 2),
+        ([*at, *size, "--workers", "0", "--compactors", "0"], "settings: BadWorkers", 2),
+        ([*size, "--compactors", "0"], "settings: NoAddress", 2),
+        ([*at, *size, "--snapshot", other, "--log", other, "--compactors", "0"], "settings: SamePath", 2),
+        ([*at, *size, "--snapshot", other, "--compactors", "0"], "settings: BadCompactors", 2),
         ([*at, *size, "--limit", "0", "--workers", "0"], "settings: BadLimit", 2),
+        ([*at, *size, "--fold-above", "x", "--limit", "0"], "settings: BadNumber", 2),
         ([*size, "--workers", "0"], "settings: BadWorkers", 2),
         ([*at, *size, "--snapshot", folder], "snapshot: Read", 4),
         ([*at, *size, "--snapshot", other], "snapshot: BadMark", 3),
@@ -531,9 +542,9 @@ def content(path):
         return file.read()
 
 
-def many_put_at_once():
+def many_put_at_once(*words):
     """Clients at once, each batch twice: each counts once."""
-    with Server(["--rows", "100", "--cols", "100", "--cuts", "16,64", "--workers", "4"]) as server:
+    with Server(["--rows", "100", "--cols", "100", "--cuts", "16,64", "--workers", "4", *words]) as server:
         faults = []
 
         def put(client):
@@ -758,6 +769,8 @@ def main():
             for is_freed in [False, True]:
                 saves_need_room(mounted, is_freed)
         many_put_at_once()
+        many_put_at_once("--compactors", "1")
+        many_put_at_once("--compactors", "002")
         status_waits_for_nobody(60 if is_long else 4)
         bad_clients_do_no_harm(5000 if is_long else 200)
         connections_come_and_go(*((10_000, 500) if is_long else (300, 200)))

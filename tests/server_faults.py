@@ -88,7 +88,7 @@ def is_silent(link, seconds):
 def numbers_come_first():
     """An option that is no number is told before all that is wrong beside it."""
     for option in ["--rows", "--cols", "--cuts", "--shards", "--workers", "--limit", "--max-batches", "--sessions",
-                   "--idle", "--drain"]:
+                   "--idle", "--drain", "--compactors"]:
         for word in ["", "-1", "+1", "1x", " 1", "18446744073709551616", "0" * 21]:
             rest = {"--rows": "0", "--cols": "0"}
             rest[option] = word
@@ -404,22 +404,72 @@ def memory_is_refused():
     os.remove(path)
 
 
-def no_thread_is_started():
-    """A user who may have no further thread, or only an acceptor: no worker, and what was saved stands."""
-    folder = in_folder("other")
+def as_other(most):
+    """Makes this process one of a user without others, who may have so many threads in all."""
+    if os.getuid() == 0:
+        os.setgroups([])
+        os.setgid(OTHER)
+        os.setuid(OTHER)
+    resource.setrlimit(resource.RLIMIT_NPROC, (most, most))
+
+
+def folder_of_other(name):
+    """A folder that the other user can write to, with a program of its own there."""
+    folder = in_folder(name)
     os.mkdir(folder)
     os.chmod(folder, 0o777)
     os.chmod(server.FOLDER, 0o755)
-    own, unix, path = (os.path.join(folder, name) for name in ["hhm", "socket", "snapshot"])
-    shutil.copy(server.PROGRAM, own)
-    os.chmod(own, 0o755)
+    shutil.copy(server.PROGRAM, os.path.join(folder, "hhm"))
+    os.chmod(os.path.join(folder, "hhm"), 0o755)
+    return folder
 
-    def as_other(most):
-        if os.getuid() == 0:
-            os.setgroups([])
-            os.setgid(OTHER)
-            os.setuid(OTHER)
-        resource.setrlimit(resource.RLIMIT_NPROC, (most, most))
+
+def threads_of(process):
+    return len(os.listdir(f"/proc/{process.pid}/task"))
+
+
+def compactors_that_start(most, words, threads):
+    """A server of one worker whose user may have so many threads: how many it has, and that it sums all that is put."""
+    folder = folder_of_other(f"threads {most} {' '.join(words)}")
+    own, unix = (os.path.join(folder, name) for name in ["hhm", "socket"])
+    size = ["--rows", "1000", "--cols", "1000", "--cuts", "64,256", "--shards", "2", "--workers", "1"]
+    process = subprocess.Popen([own, "serve", "--unix", unix, *size, *words], stdout=subprocess.PIPE,
+                               stderr=subprocess.PIPE, text=True, preexec_fn=lambda: as_other(most))  # fmt: skip
+    name = f"{most} threads, {words}"
+    try:
+        check(f"{name}: listens", process.stdout.readline(), f"listening unix {unix}\n")
+        sums = {}
+        with server.Client(client=7, unix=unix, timeout=WAIT) as hhm:
+            for n in range(300):
+                cells = [((n * 31 + k) % 1000, (n + k * k) % 1000, n + k) for k in range(20)]
+                for row, col, count in cells:
+                    sums[row, col] = sums.get((row, col), 0) + count
+                hhm.put(n, cells)
+            check(f"{name}: threads", threads_of(process), threads)
+            found = list(server.cells_of(hhm.export()))
+            check(f"{name}: the sum", found, [(r, c, n) for (r, c), n in sorted(sums.items())])
+            hhm.stop()
+        output, error = process.communicate(timeout=WAIT)
+        check(f"{name}: end", (output, error, process.returncode),
+              (f"stopped batches 300 total {sum(sums.values())}\n", "", 0))  # fmt: skip
+    finally:
+        process.kill()
+        process.wait()
+
+
+def compactors_are_started():
+    """Where the second thread that compacts can't be started, or neither, a server sums all the same."""
+    # The main thread, an acceptor, a worker, and those that compact.
+    if os.getuid() == 0:
+        for most, words, threads in [(3, [], 3), (4, [], 4), (5, [], 5), (9, [], 5), (9, ["--compactors", "2"], 5),
+                                     (9, ["--compactors", "1"], 4), (3, ["--compactors", "1"], 3)]:  # fmt: skip
+            compactors_that_start(most, words, threads)
+
+
+def no_thread_is_started():
+    """A user who may have no further thread, or only an acceptor: no worker, and what was saved stands."""
+    folder = folder_of_other("other")
+    own, unix, path = (os.path.join(folder, name) for name in ["hhm", "socket", "snapshot"])
 
     # Its own thread counts. That it may have one more says nothing of a user with other processes.
     for most in [1, 2] if os.getuid() == 0 else [1]:
@@ -643,6 +693,7 @@ def all_are_tried():
     the_last_line_is_not_taken()
     memory_is_refused()
     no_thread_is_started()
+    compactors_are_started()
     for unix in [True, False]:
         accepting_goes_on_after_faults(unix)
         a_full_queue_holds_no_end(unix)

@@ -211,6 +211,13 @@ def a_server_is_watched():
         check("watch: lines", lines[0], f"server unix:{at.path}")
         check("watch: status", "batches 1 total 561" in lines, True)
         check("watch: durable", "durable 1" in lines, True)
+        check("watch: begun", bool(re.search(r"^version 0\.1\.0 uptime \d+ s$", output, re.M)), True)
+        check("watch: refused", "repeats 0 refused 0" in lines, True)
+        check("watch: sessions", "sessions 1 waiting 0 served 2 workers 4" in lines, True)
+        check("watch: traffic", bool(re.search(r"^received/s [\d.]+ B sent/s [\d.]+ k?B$", output, re.M)), True)
+        check("watch: saves", "saves 0 failed 0" in lines, True)
+        check("watch: layers", [it.partition(" runs ")[0] for it in lines if it.startswith("layer ")],
+              ["layer 1 entries 32", *(f"layer {k} entries 0" for k in (2, 3, 4))])
         check("watch: no rise", [it for it in lines if it.startswith("batches/s 0 total/s 0")] != [], True)
         tops = [it for it in lines if it.startswith("top ")]
         check("watch: top", tops, ["top 1 10.0.0.2 entries 1 total 500", "top 2 10.0.0.1 entries 30 total 60",

@@ -83,6 +83,22 @@ static hhm_result ask_more(hhm_client *hhm)
     return HHM_OK;
 }
 
+static hhm_result ask_stats(hhm_client *hhm)
+{
+    static const char *names[] = {"rows", "batches", "total"};
+    char *text;
+    size_t length;
+    uint64_t value;
+    hhm_result result = hhm_ask_stats(hhm, &text, &length);
+    if (result)
+        return result;
+    for (size_t k = 0; k < 3; k++)
+        if (hhm_stat_of(text, names[k], &value))
+            printf("stats: %s %" PRIu64 "\n", names[k], value);
+    free(text);
+    return HHM_OK;
+}
+
 static hhm_result ask_some(hhm_client *hhm)
 {
     hhm_value value;
@@ -106,7 +122,7 @@ static hhm_result ask_some(hhm_client *hhm)
     if ((result = hhm_ask_stored(hhm, &stored)))
         return result;
     printf("stored: batches %" PRIu64 " total %" PRIu64 "\n", stored.batches, stored.total);
-    return HHM_OK;
+    return ask_stats(hhm);
 }
 
 static hhm_result export_and_stop(hhm_client *hhm)

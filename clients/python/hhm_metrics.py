@@ -23,8 +23,8 @@ from hhm_client import Refused, TopRow
 from hhm_figures import LABELLED, Degrees, Moment, Watched, asking
 from hhm_page import PAGE
 from hhm_watch import (
-    BACK, CELLS, DURABLE, FAILED, GROUP, MEMORY, OPEN, PAGES, PROCESSOR, REPEATS, SAVED, SAVES, SERVED, SINCE, SYNCS,
-    UPTIME, WAITING, WORKERS, words_of, lacking, refusals_of, refused_of, seconds,
+    BACK, CELLS, DURABLE, FAILED, GROUP, MEMORY, OPEN, PAGES, PROCESSOR, RECEIVED, REPEATS, ROOM, SAVED, SAVES, SENT,
+    SERVED, SINCE, SYNCS, UPTIME, WAITING, WORKERS, words_of, lacking, refusals_of, refused_of, seconds,
 )
 
 # The looks for whose time nothing is said of the time between two of them, where so much lies between, and the seconds
@@ -41,9 +41,14 @@ HELP = {
     "cell_seconds": "How long the last cell took, as hhmc metrics measured it.",
     "batches": "Accepted batches.", "total": "The sum of all counts.", "info": "The version of the server.",
     "rows": "Rows of the matrix.", "cols": "Columns of the matrix.", "workers": "Connections that are served at once.",
+    "cuts": "Cuts between the layers of a shard.", "layer_cut_entries": "Entries above which a layer goes on to the next.",
+    "shards": "Shards of the matrix.", "limit": "The highest total that may be accepted.",
+    "max_batches": "The most batches that may be accepted.", "accepted_total": "Batches accepted since the start.",
+    "frames_total": "Requests that came, by their kind.", "received_bytes_total": "Bytes that were read.",
+    "sent_bytes_total": "Bytes that were written.", "log_room_pages": "Pages that are ready for batches.",
     "folded": "Accepted batches that are folded.", "cells_total": "Cells of accepted batches.",
     "repeats_total": "Puts of batches that had been accepted.", "refused_total": "Refused requests, by their code.",
-    "sessions_total": "Connections that were accepted.", "sessions_open": "Connections that are served now.",
+    "sessions_total": "Connections that got a worker.", "sessions_open": "Connections that are served now.",
     "sessions_waiting": "Connections that wait for a worker.", "resident_bytes": "Resident memory of the server.",
     "processor_seconds_total": "Processor time of the server.", "uptime_seconds": "Seconds since the server began.",
     "saves_total": "Saves that were made.", "failed_saves_total": "Saves that failed.",
@@ -57,7 +62,7 @@ NUMBERS = {
     "rows": ("rows",), "cols": ("cols", "columns"), "uptime": UPTIME, "cells": CELLS, "repeats": REPEATS, "open": OPEN,
     "waiting": WAITING, "served": SERVED, "workers": WORKERS, "memory": MEMORY, "saves": SAVES, "failed": FAILED,
     "saved": SAVED, "save_age": SINCE, "log_durable": DURABLE, "log_pages": PAGES, "log_syncs": SYNCS,
-    "log_group": GROUP,
+    "log_group": GROUP, "log_room": ROOM, "received": RECEIVED, "sent": SENT,
 }
 
 
@@ -133,7 +138,8 @@ def page_stats(looker: Looker, since: float, is_ip: bool) -> Dict[str, Any]:
     if last is None:
         return told
     rates = {"batches": Moment.batches, "total": Moment.total, "cells": lambda it: it.number(*CELLS),
-             "processor": lambda it: it.number(*PROCESSOR)}
+             "processor": lambda it: it.number(*PROCESSOR), "received": lambda it: it.number(*RECEIVED),
+             "sent": lambda it: it.number(*SENT)}
     degrees = looker.degrees
     numbers = {name: whole(last.number(*names)) for name, names in NUMBERS.items()}
     told.update({

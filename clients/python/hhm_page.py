@@ -353,8 +353,12 @@ function drawTiles(now) {
     tile("Last save", told("saves") === 0 || told("save_age") === null ? "none" : lasting(told("save_age")) + " ago",
       since + number("saves") + " saves, " + (number("failed") || "0") + " failed");
   }
+  for (const [name, key] of [["Received", "received"], ["Sent", "sent"]]) {
+    if (told(key) !== null) tile(name, bytes(Number(told(key))),
+      now.rates[key] === null ? "" : bytes(now.rates[key]) + " a second");
+  }
   if (told("log_durable") !== null) tile("Durable", number("log_durable") + " batches",
-    [["log_pages", "pages"], ["log_syncs", "syncs"], ["log_group", "batches in the last group"]]
+    [["log_pages", "pages"], ["log_room", "ready"], ["log_syncs", "syncs"], ["log_group", "in the last group"]]
       .filter((it) => told(it[0]) !== null).map((it) => number(it[0]) + " " + it[1]).join(", "));
   at("tiles").replaceChildren(...found.map((it) => el("div", {}, el("dt", {}, it[0]),
     el("dd", {}, it[1], ...(it[2] ? [el("small", {}, it[2])] : [])))));

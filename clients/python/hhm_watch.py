@@ -30,6 +30,8 @@ UPTIME = ("uptime_seconds",)
 SAVES, FAILED, SAVED, SINCE = ("saves_total",), ("failed_saves_total",), ("saved_batches",), ("save_age_seconds",)
 OPEN, WAITING, SERVED, WORKERS = ("sessions_open",), ("sessions_waiting",), ("sessions_total",), ("workers",)
 DURABLE, PAGES, SYNCS, GROUP = ("log_durable_batches", "durable_batches"), ("log_pages",), ("log_syncs_total",), ("log_group_batches",)
+ROOM = ("log_room_pages",)
+RECEIVED, SENT = ("received_bytes_total",), ("sent_bytes_total",)
 # The widest bar of a layer, and how long a look back a rate takes.
 BAR = 40
 BACK = 5.0
@@ -96,6 +98,9 @@ def facts_of(seen: Watched, moment: Moment) -> Iterator[List[str]]:
     rates = [("batches", Moment.batches), ("total", Moment.total), ("cells", lambda it: it.number(*CELLS))]
     told = [(name, seen.rate(read, BACK)) for name, read in rates]
     yield [word for name, rate in told if rate is not None for word in (f"{name}/s", big(rate))]
+    traffic = [(name, seen.rate(lambda it, names=names: it.number(*names), BACK))
+               for name, names in (("received", RECEIVED), ("sent", SENT))]
+    yield [word for name, rate in traffic if rate is not None for word in (f"{name}/s", bytes_told(rate))]
     yield pairs(("repeats", number(*REPEATS)), ("refused", refused_of(moment))) + refusals_of(moment)
     yield pairs(("sessions", number(*OPEN)), ("waiting", number(*WAITING)), ("served", number(*SERVED)),
                 ("workers", number(*WORKERS)))
@@ -103,7 +108,7 @@ def facts_of(seen: Watched, moment: Moment) -> Iterator[List[str]]:
     yield ([] if memory is None else ["memory", bytes_told(memory)]) + (
         [] if processor is None else ["processor", f"{100 * processor:.0f} %"])
     yield from saves_of(moment)
-    yield pairs(("durable", number(*DURABLE)), ("pages", number(*PAGES)), ("syncs", number(*SYNCS)),
+    yield pairs(("durable", number(*DURABLE)), ("pages", number(*PAGES)), ("room", number(*ROOM)), ("syncs", number(*SYNCS)),
                 ("last group", number(*GROUP)))
     yield ["status", f"{1000 * moment.status_seconds:.2f} ms", "cell", f"{1000 * moment.cell_seconds:.2f} ms"]
 

@@ -111,6 +111,11 @@ fn ask_all(hhm: &mut Client) -> Result<(), Error> {
     println!("status: batches {} total {}", status.batches, status.total);
     let stored = hhm.stored()?;
     println!("stored: batches {} total {}", stored.batches, stored.total);
+    for (name, value) in hhm.stats()? {
+        if matches!(name.as_str(), "rows" | "batches" | "total") {
+            println!("stats: {name} {value}");
+        }
+    }
     print!("{}", String::from_utf8_lossy(&hhm.export()?));
     println!("saved: {}", hhm.save()?);
     hhm.stop()?;

@@ -6,7 +6,6 @@
 # for ever: so a batch that comes up to two hours late, or is sent again, still finds its server. SYSTEMCTL, STATE and NOW
 # (seconds) are for a test.
 set -eu
-here=$(cd "$(dirname "${BASH_SOURCE[0]}")" && pwd)
 systemctl=${SYSTEMCTL:-systemctl}
 state=${STATE:-/var/lib/hhm}
 now=${NOW:-$(date +%s)}
@@ -16,14 +15,10 @@ hour() { date -u -d "@$((now + 3600 * $1))" +%Y%m%d%H; }
 "$systemctl" stop "hhm@$(hour -3)"
 day=$(date -u -d "@$((now - 3600 * 27))" +%Y%m%d)
 [ -e "$state/$day.mtx" ] && exit 0
-texts=()
+snapshots=()
 for snapshot in "$state/$day"[0-9][0-9]/sum.snap; do
-    [ -e "$snapshot" ] || continue
-    "${HHM:-hhm}" export "$snapshot" > "${snapshot%.snap}.mtx"
-    texts+=("${snapshot%.snap}.mtx")
+    if [ -e "$snapshot" ]; then snapshots+=("$snapshot"); fi
 done
-[ ${#texts[@]} -gt 0 ] || exit 0
-sum=$here/sum_texts.sh
-[ -e "$sum" ] || sum=$here/../sum_texts.sh
-"$sum" "${texts[@]}" > "$state/$day.mtx.new"
+[ ${#snapshots[@]} -gt 0 ] || exit 0
+"${HHM:-hhm}" export "${snapshots[@]}" > "$state/$day.mtx.new"
 mv "$state/$day.mtx.new" "$state/$day.mtx"

@@ -453,28 +453,22 @@ impl Shard {
         self.due = None;
     }
 
-    /// Adds up parts that stand side by side in the layers, or counts their places, so that the batch that needs that
-    /// finds most of it done: one bounded step (`Layers::gather`). What the shard holds stays, also on an error.
+    /// Chooses parts that stand side by side in one of the layers from the place `from` on and before `until`, which count
+    /// from 0, to be added up, and makes a place for their sum; None where nothing is due there (`Layers::begin`). What
+    /// the shard holds stays, also on an error.
     ///
     /// # Errors
     ///
     /// A growth was refused.
-    pub fn gather(&mut self, alloc: Global) -> Result<(), AllocError>
+    pub fn begin(
+        &mut self,
+        alloc: Global,
+        from: usize,
+        until: usize,
+    ) -> Result<Option<Compaction>, AllocError>
         ensures { self.new ≡ self.old }
     {
-        self.layers.gather(alloc)
-    }
-
-    /// Chooses parts that stand side by side in one of the first `depth` layers to be added up, and makes a place for
-    /// their sum; None where nothing is due there (`Layers::begin`). What the shard holds stays, also on an error.
-    ///
-    /// # Errors
-    ///
-    /// A growth was refused.
-    pub fn begin(&mut self, alloc: Global, depth: usize) -> Result<Option<Compaction>, AllocError>
-        ensures { self.new ≡ self.old }
-    {
-        self.layers.begin(alloc, depth)
+        self.layers.begin(alloc, from, until)
     }
 
     /// Puts the sums that were made in the place of their parts (`Layers::settle`). Whether any was. What the shard

@@ -3,11 +3,13 @@ ghost use Rattle.std.specs.Prelude.{◌≡◌, IfOk};
 ghost use Rattle.std.specs.FinMap.{get as get_count, len};
 ghost use Rattle.hyper_matrix.specs.Counts.{total as total_of};
 ghost use Rattle.hyper_matrix.specs.RowOf.{row_of};
-ghost use Rattle.layer_compaction.specs.Shared.{content};
+ghost use Rattle.layer_compaction.specs.Shared.{content, values, all_counts};
 
 use crate::view::ShardView;
 use hyper_matrix::RowSum;
+use layer_compaction::Layer;
 use std::alloc::{AllocError, Global};
+use std::sync::Arc;
 
 impl ShardView {
     /// The same view once more, which shares all layers with this one. One growth, of a pointer for each layer.
@@ -20,6 +22,13 @@ impl ShardView {
     {
         let layers = self.layers.again(alloc)?;
         Ok(ShardView::new(layers, self.record_len))
+    }
+
+    /// The layers, the first one first. Constant time.
+    pub fn layers(&self) -> &[Arc<Layer>]
+        ensures { all_counts (values result.now) ≡ self.now.layers.layers }
+    {
+        self.layers.layers()
     }
 
     /// The count at a place of the sum of the layers, as `Shard::get`. No memory.

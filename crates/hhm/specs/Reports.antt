@@ -10,7 +10,9 @@ use Rattle.mm_sum.specs.declared.fault.TextsFault.TheVariants as texts
 use Rattle.hhm.specs.declared.numbers.ListFault.{ListFault}
 use Rattle.hhm.specs.declared.numbers.ListFault.TheVariants as list
 use Rattle.hhm.specs.declared.report.Fault.{Fault}
-use Rattle.hhm.specs.declared.report.Fault.TheVariants.{BadNumber, Setup, Sum, Texts, Check, Fold}
+use Rattle.hhm.specs.declared.report.Fault.TheVariants.{BadNumber, Setup, Sum, Texts, Check, Fold, Export}
+use Rattle.snap_export.specs.declared.fault.ExportFault.{ExportFault}
+use Rattle.snap_export.specs.declared.fault.ExportFault.TheVariants as export
 use Rattle.snap_report.specs.declared.fault.CheckFault.{CheckFault}
 use Rattle.snap_report.specs.declared.fault.CheckFault.TheVariants as check
 use Rattle.snap_report.specs.declared.fault.FoldFault.{FoldFault}
@@ -83,6 +85,14 @@ fold_status fold.Memory = 5
 fold_status (fold.Save fault) = 4
 fold_status (fold.Output fault) = 4
 
+abbrev pub export_status : ExportFault → ℕ
+export_status (export.File at fault) = file_status fault
+export_status (export.DimensionsDiffer at) = 3
+export_status export.SumTooLarge = 3
+export_status export.Memory = 5
+export_status (export.Output fault) = 4
+export_status (export.Save fault) = 4
+
 abbrev pub fault_status : Fault → ℕ
 fault_status BadNumber = 2
 fault_status (Setup fault) = 2
@@ -90,3 +100,4 @@ fault_status (Sum fault) = sum_status fault
 fault_status (Texts fault) = texts_status fault
 fault_status (Check fault) = check_status fault
 fault_status (Fold fault) = fold_status fault
+fault_status (Export fault) = export_status fault

@@ -1,9 +1,11 @@
 //! The command line: the words of the program, as `clap` reads them.
 
+use crate::export_cli::export_command;
 use crate::query_cli::{degrees_command, list_command, top_command};
 use crate::serve_cli::serve_command;
 use clap::builder::ValueParser;
 use clap::{Arg, ArgAction, Command};
+use server_counters::VERSION;
 use std::alloc::{AllocError, Global};
 
 /// The cuts of `sum` where no `--cuts` is given.
@@ -62,22 +64,6 @@ A fault is one line on standard error:
   hhm: settings: LogDiffers        status 2
   hhm: log: LinkDiffers            status 3
   hhm: log: Gap, EntryDiffers, NotFresh at batch N  status 3
-  hhm: output failed after N bytes status 4
-  hhm: memory                      status 5";
-
-const EXPORT_ABOUT: &str =
-    "Read a snapshot, and write the canonical text of the sum of its batches";
-
-const EXPORT_HELP: &str = "\
-Reads the snapshot in the file PATH to its end, and writes the sum of all its
-batches to standard output: a Matrix Market text (matrix coordinate integer
-general) with the cells by row and then by column.
-
-Nothing is written unless the whole snapshot was read without a fault. A fault is
-one line on standard error:
-
-  hhm: file: NotFound, OpenFailed  status 4
-  hhm: snapshot: KIND              status 3 (KIND Read: 4)
   hhm: output failed after N bytes status 4
   hhm: memory                      status 5";
 
@@ -160,7 +146,7 @@ fn program<'a>(alloc: Global) -> Result<Command<'a>, AllocError> {
     let program = Command::new(alloc, "hhm").bin_name("hhm")?;
     Ok(
         program
-            .version("0.1.0")
+            .version(VERSION)
             .about(ABOUT)
             .subcommand_required(true)
             .arg_required_else_help(true),
@@ -175,19 +161,12 @@ fn with<'a>(
     program.subcommand(word?)
 }
 
-// The other words that read a snapshot: each with what is said of it in one line, and in its help.
-static SNAPSHOT_WORDS: &[(&str, &str, &str)] = &[
-    ("export", EXPORT_ABOUT, EXPORT_HELP),
-    ("fold", FOLD_ABOUT, FOLD_HELP),
-];
-
 /// The command line of the program.
 pub fn command<'a>(alloc: Global) -> Result<Command<'a>, AllocError> {
     let mut hhm = with(program(alloc)?, sum_command(alloc))?;
     hhm = with(hhm, check_command(alloc))?;
-    for (name, about, help) in SNAPSHOT_WORDS {
-        hhm = with(hhm, snapshot_command(alloc, name, about, help))?;
-    }
+    hhm = with(hhm, export_command(alloc))?;
+    hhm = with(hhm, snapshot_command(alloc, "fold", FOLD_ABOUT, FOLD_HELP))?;
     hhm = with(hhm, top_command(alloc))?;
     hhm = with(hhm, list_command(alloc))?;
     hhm = with(hhm, degrees_command(alloc))?;

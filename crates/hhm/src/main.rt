@@ -6,6 +6,8 @@
 #![tactic(auto)]
 
 mod cli;
+mod export_cli;
+mod export_files;
 mod limits;
 mod log_report;
 mod memory;
@@ -18,6 +20,7 @@ mod serve_cli;
 mod sum_files;
 mod told;
 
+use crate::export_files::{NamedSnapshots, file_of};
 use crate::memory::keep_freed_memory;
 use crate::numbers::read_list;
 use crate::query::{range_of, side_of, top_query_of};
@@ -30,6 +33,7 @@ use clap::error::ErrorKind;
 use clap::{ArgMatches, Error};
 use mm_sum::{run_sum, run_sum_of};
 use progress::{Entries, ProgressLine, Watched};
+use snap_export::{NamedFolder, run_compact, run_export_of};
 use snap_file::{LockedFile, NamedFile};
 use snap_query::{run_degrees, run_list, run_top};
 use snap_report::{NamedLog, run_check, run_check_with_log, run_export, run_fold};
@@ -100,6 +104,7 @@ fn run_matches(rt: &HostRuntime, matches: &ArgMatches) -> Result<Outcome, Fault>
     match matches.subcommand() {
         Some(("serve", serve)) => Ok(Outcome::Serve(settings_of(rt.alloc(), serve)?)),
         Some(("sum", given)) => Ok(Outcome::Ended(run_sum_word(rt, given))),
+        Some(("export", given)) => Ok(Outcome::Ended(run_export_word(rt, given))),
         Some((word, given)) => {
             run_word(rt, word, given)?;
             Ok(Outcome::Ended(ExitCode::SUCCESS))
@@ -177,6 +182,62 @@ fn sum_texts(
     Ok(())
 }
 
+/// Exports the snapshots that are named, and says a fault in one line on standard error, with the file that it is of
+/// where there are several. How far the reading has come is said on a terminal.
+fn run_export_word(rt: &HostRuntime, given: &ArgMatches) -> ExitCode {
+    let names = given.get_strs("path").unwrap_or(&[]);
+    let mut line = progress_line(rt, rt.stderr().is_terminal(), Entries::Cells);
+    let outcome = match given.get_str("compact") {
+        Some(folder) => save_compact(rt, names, folder, &mut line),
+        None => export(rt, names, &mut line),
+    };
+    clear(&mut line);
+    match outcome {
+        Ok(()) => ExitCode::SUCCESS,
+        Err(fault) => {
+            let place = file_of(&fault, names);
+            let _ = eprintln!(rt; "hhm: {fault}{place}");
+            fault.exit_code()
+        }
+    }
+}
+
+/// Writes the sum of the snapshots in these files to standard output.
+fn export(rt: &HostRuntime, names: &[&str], line: &mut Shown<'_>) -> Result<(), Fault> {
+    let mut out = Counted::new(rt.stdout());
+    match names {
+        // The command line has one at least.
+        [] => {}
+        [path] => run_export(rt.alloc(), &mut NamedFile::new(rt, *path, line), &mut out)?,
+        _ => {
+            let mut files = NamedSnapshots::new(rt, names, line);
+            run_export_of(rt.alloc(), &mut files, names.len() as u64, &mut out)?;
+        }
+    }
+    Ok(())
+}
+
+/// Saves the sum of the snapshots in these files in a folder, without empty rows and columns.
+fn save_compact(
+    rt: &HostRuntime,
+    names: &[&str],
+    path: &str,
+    line: &mut Shown<'_>,
+) -> Result<(), Fault> {
+    // The command line has one at least.
+    if names.is_empty() {
+        return Ok(());
+    }
+    let mut files = NamedSnapshots::new(rt, names, line);
+    let mut folder = NamedFolder::new(rt, rt.alloc(), path)?;
+    let outcome = run_compact(rt.alloc(), &mut files, names.len() as u64, &mut folder);
+    if outcome.is_err() {
+        folder.remove_unfinished();
+    }
+    outcome?;
+    Ok(())
+}
+
 /// Does what a word asks for that reads the snapshot under a path.
 fn run_snapshot_word(
     rt: &HostRuntime,
@@ -188,7 +249,6 @@ fn run_snapshot_word(
     let mut out = Counted::new(rt.stdout());
     match word {
         "check" => run_check(rt.alloc(), &mut NamedFile::new(rt, path, line), &mut out)?,
-        "export" => run_export(rt.alloc(), &mut NamedFile::new(rt, path, line), &mut out)?,
         "fold" => run_fold(rt.alloc(), &mut LockedFile::new(rt, path, line), &mut out)?,
         _ => run_query_word(rt, word, path, given, line)?,
     }

@@ -1,8 +1,8 @@
 //! What the program says of a fault, and the status that it ends with.
 ghost use Rattle.std.specs.Prelude.{◌≡◌};
-ghost use Rattle.hhm.specs.Reports.{fault_of_list, fault_status, log_kind_status, texts_status};
+ghost use Rattle.hhm.specs.Reports.{export_status, fault_of_list, fault_status, log_kind_status, texts_status};
 ghost use Rattle.mm_sum.specs.declared.fault.SumFault.TheVariants.{Memory, Output};
-ghost use Rattle.hhm.specs.declared.report.Fault.TheVariants.{Setup, Sum, Texts, Check, Fold};
+ghost use Rattle.hhm.specs.declared.report.Fault.TheVariants.{Setup, Sum, Texts, Check, Fold, Export};
 
 use crate::numbers::ListFault;
 use batch_store::SetupFault;
@@ -10,6 +10,7 @@ use byte_io::WriteFault;
 use log_blocks::LogKind;
 use mm_sum::{SumFault, TextsFault};
 use mm_text::{MmFault, MmKind};
+use snap_export::ExportFault;
 use snap_file::{FileFault, SnapFault};
 use snap_report::{CheckFault, FoldFault, LogFileFault};
 use std::alloc::AllocError;
@@ -37,6 +38,9 @@ pub enum Fault {
     /// `fold` saved no snapshot, or didn't tell it.
     #[error(transparent)]
     Fold(FoldFault),
+    /// `export` of several snapshots wrote no text, or not all of it, or it saved no compact matrix.
+    #[error(transparent)]
+    Export(ExportFault),
 }
 
 impl From<SumFault> for Fault {
@@ -76,6 +80,14 @@ impl From<FoldFault> for Fault {
 
     fn from(fault: FoldFault) -> Fault {
         Fault::Fold(fault)
+    }
+}
+
+impl From<ExportFault> for Fault {
+    ghost from_gives = { λ fault e. e ≡ Export fault };
+
+    fn from(fault: ExportFault) -> Fault {
+        Fault::Export(fault)
     }
 }
 
@@ -139,6 +151,22 @@ fn texts_status(fault: TextsFault) -> u8
     }
 }
 
+/// The status of a fault of several snapshots, or of a compact matrix.
+fn export_status(fault: ExportFault) -> u8
+    ensures { result ≡ export_status fault }
+{
+    match fault {
+        ExportFault::File(_, FileFault::Snap(SnapFault::Read)) => 4,
+        ExportFault::File(_, FileFault::Snap(_)) => 3,
+        ExportFault::File(..) => 4,
+        ExportFault::DimensionsDiffer(_) => 3,
+        ExportFault::SumTooLarge => 3,
+        ExportFault::Memory => 5,
+        ExportFault::Output(_) => 4,
+        ExportFault::Save(_) => 4,
+    }
+}
+
 impl Fault {
     /// The status: 2 for settings, 3 for what the text says, 4 for a device, 5 for memory.
     pub fn status(self) -> u8
@@ -176,6 +204,7 @@ impl Fault {
             Fault::Fold(FoldFault::Memory) => 5,
             Fault::Fold(FoldFault::Save(_)) => 4,
             Fault::Fold(FoldFault::Output(_)) => 4,
+            Fault::Export(fault) => export_status(fault),
         }
     }
 

@@ -23,6 +23,7 @@ pub fn status_of(fault: &ServerFault) -> u8
         ServerFault::BadWorkers => 2,
         ServerFault::NoAddress => 2,
         ServerFault::SamePath => 2,
+        ServerFault::BadCompactors => 2,
         ServerFault::SnapshotDiffers => 2,
         ServerFault::File(FileFault::Snap(SnapFault::Read)) => 4,
         ServerFault::File(FileFault::Snap(_)) => 3,
@@ -89,7 +90,9 @@ fn events_of(alloc: Global, matches: &ArgMatches) -> Result<Option<Arc<EventLog>
 /// The settings that the options spell. All numbers are read before the setup is judged.
 pub fn settings_of(alloc: Global, matches: &ArgMatches) -> Result<Settings, Fault> {
     let workers = number_of(matches, "workers")?;
+    let compactors = number_of(matches, "compactors")?;
     let sessions = number_of(matches, "sessions")?;
+    let fold_above = number_of(matches, "fold-above")?;
     let idle = limit_of(matches, "idle")?;
     let drain = limit_of(matches, "drain")?;
     let setup = setup_of(alloc, matches)?;
@@ -98,11 +101,13 @@ pub fn settings_of(alloc: Global, matches: &ArgMatches) -> Result<Settings, Faul
         unix: word_of(alloc, matches, "unix")?,
         setup,
         workers,
+        compactors,
         snapshot: word_of(alloc, matches, "snapshot")?,
         log: word_of(alloc, matches, "log")?,
         must_load: matches.get_flag("must-load"),
         must_save: matches.get_flag("must-save"),
         sessions,
+        fold_above,
         idle,
         drain,
         events: events_of(alloc, matches)?,

@@ -166,10 +166,24 @@ static OPTIONS: &[ServeOption] = &[
         ..LEFT_OUT
     },
     ServeOption {
+        name: "compactors",
+        value: "N",
+        default: Some("2"),
+        help: "The number of threads that add up what batches leave, 1 or 2",
+        ..LEFT_OUT
+    },
+    ServeOption {
         name: "sessions",
         value: "N",
         default: Some("1099511627776"),
         help: "End after so many connections",
+        ..LEFT_OUT
+    },
+    ServeOption {
+        name: "fold-above",
+        value: "CELLS",
+        default: Some("4194304"),
+        help: "Add up what was accepted once batches have so many cells more; 0: never",
         ..LEFT_OUT
     },
     ServeOption {

@@ -4,6 +4,7 @@ ghost use Rattle.std.specs.Prelude.{◌+◌, ◌<◌, ◌^◌};
 use byte_io::Sink;
 use event_log::{Event, FileSizes, tell_events};
 use locked_engine::Status;
+use server_counters::Machine;
 use session_pool::{Disk, LogPlace};
 use socket_server::{FileLog, Host, LogHost, ServerFault, Settings, run_server};
 use std::alloc::Global;
@@ -21,6 +22,7 @@ pub fn run_told<
     R: Threads
         + Wait
         + Clock
+        + Machine
         + Disk
         + LogPlace<FileLog>
         + Host

@@ -1,10 +1,7 @@
 //! What is compacted next in layers, and how a layer takes the place of one that holds the same.
 //!
-//! Layer 1 is compacted by itself. Of the layers behind it each call here finds the first in which something is due, and
-//! tells it as that layer's place, from 0, and the layer that is to stand there.
-//!
-//! Sums can also be made apart from the layers: the layer that is to stand there then has a place for the sum, and once
-//! that is full, one with the sum takes its place.
+//! Sums are made apart from the layers: a layer in which something is due is exchanged for one that has a place for the
+//! sum, and once that is full, for one with the sum. Places of layers count from 0 here.
 ghost use Rattle.std.specs.Prelude.{◌≡◌, ◌<◌, IfOk, IfSome, OnOk, Some, length, slice_get};
 ghost use Rattle.layer_compaction.specs.Shared.{values};
 
@@ -12,70 +9,8 @@ use layer_compaction::{Compaction, Layer};
 use std::alloc::{AllocError, Global};
 use std::sync::Arc;
 
-/// A place, and a layer that holds the same as the one there.
-type Exchange = (usize, Layer);
-
-/// As `Exchange`, where that layer has a place for a sum, and what is to make it.
+/// A place, a layer that holds the same as the one there and has a place for a sum, and what is to make that sum.
 type Beginning = (usize, Layer, Compaction);
-
-// Two neighbouring matrices are added up.
-fn first_paired(layers: &[Arc<Layer>], alloc: Global) -> Result<Option<Exchange>, AllocError>
-    ensures { IfOk result (λ next. IfSome next (λ n. slice_get (values layers.now) n.0 ≡ Some n.1)) }
-{
-    for place in 1..layers.len() {
-        if let Some(layer) = layers[place].paired(alloc)? {
-            return Ok(Some((place, layer)));
-        }
-    }
-    Ok(None)
-}
-
-// A matrix gets its filter.
-fn first_filtered(layers: &[Arc<Layer>], alloc: Global) -> Result<Option<Exchange>, AllocError>
-    ensures { IfOk result (λ next. IfSome next (λ n. slice_get (values layers.now) n.0 ≡ Some n.1)) }
-{
-    for place in 1..layers.len() {
-        if let Some(layer) = layers[place].filtered(alloc)? {
-            return Ok(Some((place, layer)));
-        }
-    }
-    Ok(None)
-}
-
-// The places of one matrix more are counted, before a layer passes its cut.
-fn first_counted(
-    layers: &[Arc<Layer>],
-    cuts: &[u64],
-    alloc: Global,
-) -> Result<Option<Exchange>, AllocError>
-    ensures { IfOk result (λ next. IfSome next (λ n. slice_get (values layers.now) n.0 ≡ Some n.1)) }
-{
-    for place in 1..cuts.len().min(layers.len()) {
-        if layers[place].is_to_count(cuts[place]) {
-            let layer = layers[place].counted_on(alloc, 1)?;
-            return Ok(Some((place, layer)));
-        }
-    }
-    Ok(None)
-}
-
-/// What is due next behind layer 1: first two matrices to be added up, then a filter to be made, then places to be
-/// counted.
-pub fn compacted(
-    layers: &[Arc<Layer>],
-    cuts: &[u64],
-    alloc: Global,
-) -> Result<Option<Exchange>, AllocError>
-    ensures { IfOk result (λ next. IfSome next (λ n. slice_get (values layers.now) n.0 ≡ Some n.1)) }
-{
-    if let Some(next) = first_paired(layers, alloc)? {
-        return Ok(Some(next));
-    }
-    if let Some(next) = first_filtered(layers, alloc)? {
-        return Ok(Some(next));
-    }
-    first_counted(layers, cuts, alloc)
-}
 
 /// Puts a layer in the place of one that holds the same.
 pub fn exchange(
@@ -88,37 +23,6 @@ pub fn exchange(
     ensures { values layers.new ≡ values layers.old }
 {
     layers[place] = Arc::new(alloc, layer)?;
-    Ok(())
-}
-
-// The matrices of layer 1 are added up, where they are many.
-fn gather_first(layers: &mut [Arc<Layer>], alloc: Global) -> Result<(), AllocError>
-    requires { 0 < length layers.old }
-    ensures { values layers.new ≡ values layers.old }
-{
-    if let Some(layer) = layers[0].gathered(alloc)? {
-        exchange(layers, 0, alloc, layer)?;
-    }
-    Ok(())
-}
-
-// What is due next behind layer 1 is done.
-fn compact_next(layers: &mut [Arc<Layer>], cuts: &[u64], alloc: Global) -> Result<(), AllocError>
-    ensures { values layers.new ≡ values layers.old }
-{
-    if let Some((place, layer)) = compacted(layers, cuts, alloc)? {
-        exchange(layers, place, alloc, layer)?;
-    }
-    Ok(())
-}
-
-/// Compacts layer 1, where it has many matrices, and then what is due next behind it. What the layers hold stays.
-pub fn compact(layers: &mut [Arc<Layer>], cuts: &[u64], alloc: Global) -> Result<(), AllocError>
-    requires { 0 < length layers.old }
-    ensures { values layers.new ≡ values layers.old }
-{
-    gather_first(layers, alloc)?;
-    compact_next(layers, cuts, alloc)?;
     Ok(())
 }
 
@@ -142,34 +46,39 @@ fn first_begun(
     Ok(None)
 }
 
-// The same of the first `depth` layers, from the one on whose turn it is, and then up to that one.
+// The same from the layer on whose turn it is, and then up to that one.
 fn next_begun(
     layers: &[Arc<Layer>],
     cuts: &[u64],
     turn: usize,
-    depth: usize,
+    from: usize,
+    until: usize,
     alloc: Global,
 ) -> Result<Option<Beginning>, AllocError>
     ensures { IfOk result (λ next. IfSome next (λ n. slice_get (values layers.now) n.0 ≡ Some n.1)) }
 {
-    if let Some(next) = first_begun(layers, cuts, turn, depth, alloc)? {
+    let turn = turn.max(from);
+    if let Some(next) = first_begun(layers, cuts, turn, until, alloc)? {
         return Ok(Some(next));
     }
-    first_begun(layers, cuts, 0, turn.min(depth), alloc)
+    first_begun(layers, cuts, from, turn.min(until), alloc)
 }
 
-/// Begins what is due next in the first `depth` layers, and tells in which that is. What the layers hold stays.
+/// Begins what is due next in the layers from one place up to another, and tells in which that is; the search begins at
+/// `turn`. What the layers hold stays.
 pub fn begin_next(
     layers: &mut [Arc<Layer>],
     cuts: &[u64],
     turn: usize,
-    depth: usize,
+    from: usize,
+    until: usize,
     alloc: Global,
 ) -> Result<Option<(usize, Compaction)>, AllocError>
     ensures same { values layers.new ≡ values layers.old }
     ensures place { IfOk result (λ begun. IfSome begun (λ b. b.0 < length layers.old)) }
 {
-    let Some((place, layer, compaction)) = next_begun(layers, cuts, turn, depth, alloc)? else {
+    let Some((place, layer, compaction)) = next_begun(layers, cuts, turn, from, until, alloc)?
+    else {
         return Ok(None);
     };
     exchange(layers, place, alloc, layer)?;

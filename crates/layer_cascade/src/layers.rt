@@ -18,15 +18,16 @@ ghost use Rattle.hyper_matrix.specs.Counts.{ewise_add, total};
 ghost use Rattle.hyper_matrix.specs.Matrix.{matrix};
 ghost use Rattle.merged_cells.specs.Within.{LieWithin};
 ghost use Rattle.layer_cascade.specs.Cascade.{cascade};
-ghost use Rattle.layer_compaction.specs.Shared.{content};
+ghost use Rattle.layer_compaction.specs.Shared.{content, values, all_counts};
 ghost use Rattle.layer_cascade.specs.Cuts.{AreCuts};
 ghost use Rattle.hyper_matrix.specs.RowOf.{row_of};
 ghost use Rattle.layer_cascade.specs.Layering.{IsLayering, no_layers, entries_of_layer};
 
 use crate::addition::{cascade_end, layers_after, push_copies, push_layers};
-use crate::compaction::{begin_next, compact, settle};
+use crate::compaction::{begin_next, settle};
 use crate::cuts::are_cuts;
 use crate::fault::CascadeFault;
+use crate::limits::MAX_CUTS;
 use crate::row_entries::columns_with_layer;
 use cells::Cell;
 use hyper_matrix::{Hyper, RowSum};
@@ -49,8 +50,8 @@ pub struct Layers {
     // The empty layer, shared by all that hold nothing.
     empty: Arc<Layer>,
     layers: Vec<Arc<Layer>>,
-    // From which layer on, counted from 0, `begin` looks for what is due.
-    turn: usize,
+    // From which layer on `begin` looks for what is due, by the first layer that it may choose; both count from 0.
+    turns: [usize; MAX_CUTS + 1],
 }
 
 impl Model for Layers {
@@ -105,7 +106,7 @@ fn empty_layers(alloc: Global, rows: u64, cols: u64, cuts: &[u64]) -> Result<Lay
         cuts,
         empty,
         layers,
-        turn: 0,
+        turns: [0; MAX_CUTS + 1],
     })
 }
 
@@ -156,13 +157,13 @@ impl Layers {
     ///
     /// Where `m` is put beside the matrices of a layer, that takes the time of a pointer for each of these, at most 32.
     /// Where all together may pass its cut, their places are counted, and they stay or go on. Those of which the places
-    /// aren't known yet (`begin`, `gather`), but for a large first one, are added up before where they have at most 16,384
+    /// aren't known yet, but for a large first one, are added up before where they have at most 16,384
     /// cells together; more are counted by one list of their cells and a walk through each of the others. Where there are
     /// more than 32, all are added up, or all but a large first one: one that has a third of what the others have, or more,
     /// where all have more than 2,048 entries. A list takes 24 bytes for each of its cells, at most 2^21, and at most as
     /// much again while it is sorted. In sums blocks that meet no other are shared. The layers above that one aren't read.
     ///
-    /// No filter for look-ups is made here: matrices get theirs by `begin` or `gather`.
+    /// No filter for look-ups is made here: matrices get theirs by compactions (`begin`).
     ///
     /// # Errors
     ///
@@ -184,7 +185,7 @@ impl Layers {
             cuts,
             empty,
             layers,
-            turn: self.turn,
+            turns: self.turns,
         };
         Ok(Plan { after })
     }
@@ -199,40 +200,21 @@ impl Layers {
         *self = plan.after;
     }
 
-    /// Adds up matrices that stand side by side, so that the addition that needs their sum doesn't have all of them to
-    /// add up: in layer 1 all, where they are many, and two neighbours in the first deeper layer that has two of like
-    /// size and not too large. Each sum gets a filter of its places, for look-ups, where it isn't small. Where no deeper
-    /// layer has two to add up, one matrix that has no filter and should have one gets it, in the first deeper layer
-    /// that has such a matrix. Where none has, it counts the places of one matrix more in the first deeper layer that
-    /// may have more than three quarters of its cut, so that the addition that passes the cut has few to count. What
-    /// the layers hold stays, also on an error. The numbers stand in `layer_compaction`'s `limits.rt`.
+    /// Chooses matrices that stand side by side in one of the layers from the place `from` on and before `until`, which
+    /// count from 0, and are to be added up, and makes a place for their sum; None where nothing is due there.
+    /// `Compaction::run` makes the sum, without these layers and whatever lock they are behind, and `settle` takes it
+    /// over. What the layers hold stays, also on an error.
     ///
-    /// Takes the time and memory of these sums: of at most the first cut of entries where there is one, and of at most
-    /// 28,000. A filter takes 1 to 2 bytes and some nanoseconds for each entry of its matrix, which may be the largest.
-    /// To count a matrix takes a list of its cells, of 24 bytes for each, and a walk through that list and each matrix
-    /// before it, each of a bounded number of entries; where it is small beside those, each of its cells is looked up
-    /// in each of them instead, without a list.
+    /// All matrices of a layer are due where it is about to pass its cut and has at most 131,072 entries. Else in layer 1
+    /// none are as long as there are fewer than 16. Else the last ones are, from the first on of which those behind it
+    /// have more than three times the entries, where all these are no more than 131,072; else two neighbours of like size
+    /// with more than that, however large they are, since nobody waits for their sum; else one that is to have a filter.
     ///
-    /// # Errors
-    ///
-    /// A growth was refused.
-    pub fn gather(&mut self, alloc: Global) -> Result<(), AllocError>
-        ensures { self.new ≡ self.old }
-    {
-        compact(&mut self.layers, &self.cuts, alloc)
-    }
-
-    /// Chooses matrices that stand side by side in one of the first `depth` layers and are to be added up, and makes a
-    /// place for their sum; None where nothing is due there. `Compaction::run` makes the sum, without these layers and
-    /// whatever lock they are behind, and `settle` takes it over. What the layers hold stays, also on an error.
-    ///
-    /// In layer 1 matrices are due where they are 24 or more. In any layer all are, where it is about to pass its cut and
-    /// has at most 131,072 entries; else the last ones, from the first on of which those behind it have more than three
-    /// times the entries, where all these are no more than 131,072; else two neighbours of like size with more than that,
-    /// however large they are, since nobody waits for their sum; else one that is to have a filter. Each layer has its
-    /// turn, so that none is forgotten. A sum that was begun and isn't made is begun again when its layer's turn comes,
-    /// since it may have been given up: who begins the next one before the last one is made may have the same one made
-    /// twice. In a layer whose sum was made and not taken over nothing is due.
+    /// Each of these layers has its turn, so that none is forgotten; calls with another `from` have turns of their own.
+    /// A sum that was begun and isn't made is begun again when its layer's turn comes, since it may have been given up:
+    /// who begins the next one before the last one is made may have the same one made twice. So where several threads
+    /// compact the same layers at once, each has layers of its own. In a layer whose sum was made and not taken over
+    /// nothing is due.
     ///
     /// Takes the time and memory of some pointers for each matrix of a layer, at most 32. To drop what it gives is to
     /// give it up, and does no harm, and neither does an addition that comes before the sum is taken over: where it
@@ -241,14 +223,22 @@ impl Layers {
     /// # Errors
     ///
     /// A growth was refused.
-    pub fn begin(&mut self, alloc: Global, depth: usize) -> Result<Option<Compaction>, AllocError>
+    pub fn begin(
+        &mut self,
+        alloc: Global,
+        from: usize,
+        until: usize,
+    ) -> Result<Option<Compaction>, AllocError>
         ensures { self.new ≡ self.old }
     {
-        let begun = begin_next(&mut self.layers, &self.cuts, self.turn, depth, alloc)?;
+        let Some(turn) = self.turns.get(from).copied() else {
+            return Ok(None);
+        };
+        let begun = begin_next(&mut self.layers, &self.cuts, turn, from, until, alloc)?;
         let Some((place, compaction)) = begun else {
             return Ok(None);
         };
-        self.turn = place + 1;
+        self.turns[from] = place + 1;
         Ok(Some(compaction))
     }
 
@@ -279,7 +269,7 @@ impl Layers {
             cuts,
             empty,
             layers,
-            turn: self.turn,
+            turns: self.turns,
         })
     }
 
@@ -353,8 +343,15 @@ impl Layers {
         sum
     }
 
+    /// All layers, the first one first. Constant time.
+    pub(crate) fn all(&self) -> &[Arc<Layer>]
+        ensures { all_counts (values result.now) ≡ self.now.layers }
+    {
+        self.layers.as_slice()
+    }
+
     /// The number of entries of layer `i`, counted from 1; `None` for 0 and past the last layer. No memory.
-    /// Constant time where the layer holds one matrix, and for those in front whose places are known (`gather`), and a
+    /// Constant time where the layer holds one matrix, and for those in front whose places are known (`plan`), and a
     /// step for each cell where it holds two of like size. Else each cell, but those of the first, is looked up in the
     /// matrices before its own: at most 31 bisections.
     pub fn layer_entries(&self, i: usize) -> Option<u64>

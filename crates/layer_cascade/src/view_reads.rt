@@ -3,12 +3,14 @@ ghost use Rattle.std.specs.Prelude.{◌≡◌, IfOk};
 ghost use Rattle.std.specs.FinMap.{get, len};
 ghost use Rattle.hyper_matrix.specs.Counts.{total};
 ghost use Rattle.hyper_matrix.specs.RowOf.{row_of};
-ghost use Rattle.layer_compaction.specs.Shared.{content};
+ghost use Rattle.layer_compaction.specs.Shared.{content, values, all_counts};
 
 use crate::layers::Plan;
 use crate::view::LayerView;
 use hyper_matrix::RowSum;
+use layer_compaction::Layer;
 use std::alloc::{AllocError, Global};
+use std::sync::Arc;
 
 impl Plan {
     /// The layers that `Layers::commit` will leave, for a reader. So the growth of a view is made before the commit:
@@ -35,6 +37,13 @@ impl LayerView {
         ensures { IfOk result (λ view. view ≡ self.now) }
     {
         self.layers.view(alloc)
+    }
+
+    /// The layers of that moment, the first one first. Constant time.
+    pub fn layers(&self) -> &[Arc<Layer>]
+        ensures { all_counts (values result.now) ≡ self.now.layers }
+    {
+        self.layers.all()
     }
 
     /// The count at a place of the sum of the layers of that moment, as `Layers::get`. No memory.

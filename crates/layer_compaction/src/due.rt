@@ -305,10 +305,10 @@ impl Due {
     }
 }
 
-/// Which runs are to be added up next: the place of the first, and how many. In layer 1 none, where they are fewer than
-/// `GATHERED_RUNS`. All, where the layer is about to pass its cut. Else a tail of them (`due_tail`), or two neighbours of
-/// like size that are too large for that: nobody waits for their sum. Where there are none, a single one that has no
-/// filter and is to have one.
+/// Which runs are to be added up next: the place of the first, and how many. All, where the layer is about to pass its
+/// cut. Else in layer 1 none, where they are fewer than `GATHERED_RUNS`. Else a tail of them (`due_tail`), or two
+/// neighbours of like size that are too large for that: nobody waits for their sum. Where there are none, a single one
+/// that has no filter and is to have one.
 pub(crate) fn due_runs(
     runs: &[Arc<FilteredMatrix>],
     is_first: bool,
@@ -316,11 +316,11 @@ pub(crate) fn due_runs(
 ) -> Option<(usize, usize)>
     ensures { IfSome result (λ due. due.0 + due.1 ≤ length runs.now) }
 {
-    if is_first && runs.len() < GATHERED_RUNS {
-        return None;
-    }
     if is_filling && runs.len() > 1 {
         return Some((0, runs.len()));
+    }
+    if is_first && runs.len() < GATHERED_RUNS {
+        return None;
     }
     if let Some(place) = due_tail(runs) {
         return Some((place, runs.len() - place));

@@ -8,7 +8,7 @@ ghost use Rattle.std.specs.Arc.{arc_value};
 ghost use Rattle.layer_compaction.specs.Shared.{values};
 
 use crate::limits::FEWEST_FILTERED;
-use crate::runs::{run_of, shared_runs};
+use crate::runs::run_of;
 use filtered_matrix::FilteredMatrix;
 use hyper_matrix::Hyper;
 use std::alloc::{AllocError, Global};
@@ -55,28 +55,4 @@ pub fn first_unfiltered(runs: &[Arc<FilteredMatrix>]) -> Option<usize>
         }
     }
     None
-}
-
-// A copy of a run, which shares its blocks, with a filter.
-fn filtered_copy(run: &FilteredMatrix, alloc: Global) -> Result<Arc<FilteredMatrix>, AllocError>
-    ensures { IfOk result (λ copy. arc_value copy ≡ run.now) }
-{
-    let copy = run.matrix().copy(alloc)?;
-    let filtered = FilteredMatrix::with_filter(alloc, copy)?;
-    run_of(alloc, filtered)
-}
-
-/// The runs with a filter beside the one at a place, a copy that shares its blocks. All others are shared.
-pub fn with_filter_at(
-    runs: &[Arc<FilteredMatrix>],
-    place: usize,
-    alloc: Global,
-) -> Result<Vec<Arc<FilteredMatrix>>, AllocError>
-    requires { place < length runs.now }
-    ensures { IfOk result (λ after. values after.items ≡ values runs.now) }
-{
-    let copy = filtered_copy(&runs[place], alloc)?;
-    let mut after = shared_runs(alloc, runs, runs.len())?;
-    after[place] = copy;
-    Ok(after)
 }

@@ -20,10 +20,10 @@ ghost use Rattle.layer_compaction.specs.Steps.{joined, Takes};
 ghost use Rattle.layer_compaction.specs.Due.{IsDue};
 
 use crate::due::{Compaction, Due, begun, copied, due_runs};
-use crate::filters::{filtered_run, first_unfiltered, single_run, with_filter_at};
-use crate::limits::{GATHERED_RUNS, MAX_COUNTED, MAX_LISTED, MAX_PAIRED, MAX_RUNS};
+use crate::filters::single_run;
+use crate::limits::{MAX_COUNTED, MAX_LISTED, MAX_RUNS};
 use crate::lists::{add_runs, entries_bound, push_cells_of};
-use crate::pairs::{due_pair, kept_in_front, with_pair_added, with_rest_added};
+use crate::pairs::{kept_in_front, with_rest_added};
 use crate::runs::{
     added_to_runs, count_in, entries_in, places_to, push_runs, row_counts_in, run_of, shared_runs,
 };
@@ -313,20 +313,15 @@ impl Layer {
         Ok(self.with_runs(runs, self.counted, self.places))
     }
 
-    /// The same layer with the places of so many more of its runs counted, or of all where there are fewer. Where none
-    /// is counted, two are: the first takes no time. The runs are shared.
-    pub fn counted_on(&self, alloc: Global, more: usize) -> Result<Layer, AllocError>
+    // The same layer with the places of all its runs counted. The runs are shared.
+    fn with_all_counted(&self, alloc: Global) -> Result<Layer, AllocError>
         ensures { IfOk result (λ layer. layer ≡ self.now) }
     {
         // It fits 64 bits, so the entries do.
         let _bound = self.most;
-        let until = self
-            .counted
-            .saturating_add(more)
-            .max(2)
-            .min(self.runs.len());
+        let until = self.runs.len();
         let places = places_to(alloc, &self.runs, self.counted, self.places, until)?;
-        let runs = shared_runs(alloc, &self.runs, self.runs.len())?;
+        let runs = shared_runs(alloc, &self.runs, until)?;
         Ok(self.with_due(runs, until, places, copied(&self.due)?))
     }
 
@@ -346,56 +341,11 @@ impl Layer {
             return Ok(Step::Ends(layer));
         }
         let layer = layer.settled(alloc)?;
-        let layer = layer.counted_on(alloc, layer.runs.len())?;
+        let layer = layer.with_all_counted(alloc)?;
         if layer.entries() > cut {
             return Ok(Step::Carries(layer));
         }
         Ok(Step::Ends(layer))
-    }
-
-    /// Whether places are to be counted before this layer passes its cut: not all runs are counted, and the bound is
-    /// more than three quarters of the cut, and at most `MAX_COUNTED`. Constant time.
-    pub fn is_to_count(&self, cut: u64) -> bool {
-        self.counted < self.runs.len() && self.most > cut - cut / 4 && self.most <= MAX_COUNTED
-    }
-
-    /// The same layer with its runs added up, where they are `GATHERED_RUNS` or more.
-    pub fn gathered(&self, alloc: Global) -> Result<Option<Layer>, AllocError>
-        ensures { IfOk result (λ gathered. IfSome gathered (λ layer. layer ≡ self.now)) }
-    {
-        if self.runs.len() < GATHERED_RUNS {
-            return Ok(None);
-        }
-        let sum = self.sum(alloc)?;
-        let run = filtered_run(alloc, sum)?;
-        let layer = Layer::of_run(alloc, run)?;
-        Ok(Some(layer))
-    }
-
-    /// The same layer with two neighbouring runs added up, where two are to be (`due_pair`). The others are shared.
-    pub fn paired(&self, alloc: Global) -> Result<Option<Layer>, AllocError>
-        ensures { IfOk result (λ paired. IfSome paired (λ layer. layer ≡ self.now)) }
-    {
-        let Some(place) = due_pair(&self.runs, 0, MAX_PAIRED) else {
-            return Ok(None);
-        };
-        let runs = with_pair_added(&self.runs, place, alloc, self.rows, self.cols)?;
-        if place < self.counted {
-            return Ok(Some(self.with_runs(runs, 0, 0)));
-        }
-        Ok(Some(self.with_runs(runs, self.counted, self.places)))
-    }
-
-    /// The same layer with a filter beside a run that has none and is to have one (`first_unfiltered`). The others are
-    /// shared.
-    pub fn filtered(&self, alloc: Global) -> Result<Option<Layer>, AllocError>
-        ensures { IfOk result (λ filtered. IfSome filtered (λ layer. layer ≡ self.now)) }
-    {
-        let Some(place) = first_unfiltered(&self.runs) else {
-            return Ok(None);
-        };
-        let runs = with_filter_at(&self.runs, place, alloc)?;
-        Ok(Some(self.with_runs(runs, self.counted, self.places)))
     }
 
     // Whether the layer is about to pass its cut, isn't large, and much of it isn't counted: the bound is more than three
@@ -408,9 +358,9 @@ impl Layer {
     }
 
     /// The same layer with a place for the sum of the runs that are due, and their compaction; `is_first` tells whether
-    /// it is layer 1, and u64::MAX stands for no cut. In layer 1 none are due as long as there are fewer than
-    /// `GATHERED_RUNS`. All are due where a layer that isn't large is about to pass its cut, so that the addition that
-    /// does has few places to count. Else all from the first run on of which those behind it have more than `TAIL_RATIO`
+    /// it is layer 1, and u64::MAX stands for no cut. All are due where a layer that isn't large is about to pass its
+    /// cut, so that the addition that does has few places to count. Else in layer 1 none are, as long as there are fewer
+    /// than `GATHERED_RUNS`. Else all from the first run on of which those behind it have more than `TAIL_RATIO`
     /// times the entries together, where these are at most `MAX_TAIL`; or else the first two neighbours with `MAX_TAIL` or
     /// more of which the earlier one has fewer than `PAIR_RATIO` times as many entries as the later one; or else the first
     /// run that has no filter and is to have one.

@@ -4,15 +4,12 @@
 /// moves each of their cells five times at most.
 pub const MAX_RUNS: usize = 32;
 
-/// The fewest runs of layer 1 that are added up at once (`Layer::gathered`, `Layer::begun`). With fewer each of its cells
-/// is written more often, and with more an addition has more to add up, where nobody was in time to do it.
-pub const GATHERED_RUNS: usize = 24;
+/// The fewest runs of layer 1 that `Layer::begun` gives together, unless the layer is about to pass its cut. With fewer
+/// each of its cells is written more often. With more, whoever adds them up is more often too late for the addition that
+/// passes the cut, which has to do it then.
+pub const GATHERED_RUNS: usize = 16;
 
-/// The most entries of two runs together that `Layer::paired` adds up: about a millisecond, for which an addition
-/// waits. For what `Layer::begun` gives nobody waits, so that has no such bound.
-pub const MAX_PAIRED: u64 = 28_000;
-
-/// The most entries of a layer, as its bound tells them, whose places are counted before it passes its cut.
+/// The most entries of a layer, as its bound tells them, whose runs are all added up before it passes its cut.
 pub const MAX_COUNTED: u64 = 1 << 17;
 
 /// The fewest entries of a matrix that gets a filter of its places, once it was added up. A bisection in fewer is short,

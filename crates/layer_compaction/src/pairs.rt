@@ -7,10 +7,9 @@ ghost use Rattle.cells.specs.Bounds.{IsDimension};
 ghost use Rattle.hyper_matrix.specs.Counts.{total};
 ghost use Rattle.layer_compaction.specs.Shared.{content, values, all_counts, HaveDims};
 
-use crate::filters::filtered_run;
 use crate::limits::{FEWEST_KEPT, MAX_TAIL, PAIR_RATIO, TAIL_RATIO};
 use crate::lists::entries_bound;
-use crate::runs::{added_to_runs, run_of, shared_runs, sum_of_runs, with_run_between};
+use crate::runs::{added_to_runs, run_of, shared_runs};
 use filtered_matrix::FilteredMatrix;
 use hyper_matrix::Hyper;
 use std::alloc::{AllocError, Global};
@@ -51,33 +50,6 @@ pub fn due_tail(runs: &[Arc<FilteredMatrix>]) -> Option<usize>
         tail = behind;
     }
     None
-}
-
-/// The runs with the one at a place and the next added up, in their stead, with a filter where the sum isn't too small
-/// for one. All others are shared.
-pub fn with_pair_added(
-    runs: &[Arc<FilteredMatrix>],
-    place: usize,
-    alloc: Global,
-    rows: u64,
-    cols: u64,
-) -> Result<Vec<Arc<FilteredMatrix>>, AllocError>
-    requires place { place + 1 < length runs.now }
-    requires rows { IsDimension rows }
-    requires cols { IsDimension cols }
-    requires dims { HaveDims rows cols (values runs.now) }
-    requires fits { total (content (all_counts (values runs.now))) < 2 ^ 64 }
-    ensures content { IfOk result (λ after.
-        content (all_counts (values after.items)) ≡ content (all_counts (values runs.now))) }
-    ensures dims { IfOk result (λ after. HaveDims rows cols (values after.items)) }
-    ensures before { IfOk result (λ after. take place (values after.items) ≡ take place (values runs.now)) }
-{
-    let (before, from) = runs.split_at(place);
-    let (pair, behind) = from.split_at(2);
-    let sum = sum_of_runs(pair, alloc, rows, cols)?;
-    let run = filtered_run(alloc, sum)?;
-    let after = with_run_between(alloc, before, run, behind)?;
-    Ok(after)
 }
 
 /// How many runs in front stay as they are where runs are added up: the first, if it has at least a third of what all

@@ -2,7 +2,6 @@
 
 mod adding;
 mod compactions;
-mod gathers;
 mod layers;
 mod look_ups;
 mod passing;

@@ -8,3 +8,4 @@ pub mod ListedLaws
 pub mod ShownLaws
 pub mod FollowLaws
 pub mod CountedLaws
+pub mod FoldedLaws

@@ -9,7 +9,7 @@ use Rattle.batch_store.specs.Batches.{Submission, entries_of}
 use Rattle.batch_store.specs.Books.{Register, Listing, AreAccepted, accepted_in, listed_in}
 use Rattle.batch_store.proofs.VerdictLaws.{total_of-append}
 use Rattle.plain_engine.proofs.WorldLaws.{distinct_behind}
-use Rattle.locked_engine.specs.Opened.{SharePast}
+use Rattle.locked_engine.specs.Opened.{SharePast, IsBehind}
 
 drop_front : (es fs : List Entry) → drop (length es) (es ++ fs) ≡ fs
 drop_front [] fs = refl
@@ -38,11 +38,14 @@ module _ {T E : Type 0} (list : T → List Submission) (w : Register) where
   -- it has the entries behind the folded ones
   pub behind_listed : (opened : Accepted) (seen : List Entry) (res : Result T E) →
       IfOk res (λ (x : T). list x ≡ w.state.list) → SharePast w.state opened → seen ≡ entries_in w.state →
-      IfOk res (λ (x : T). entries_of (list x) ≡ drop (length opened.folded) seen)
+      IfOk res (λ (x : T). IsBehind opened (entries_of (list x)) seen)
   behind_listed opened seen (Err e) is past shown = tt
-  behind_listed opened seen (Ok x) is past shown =
-      ap entries_of is ∙ sym (drop_front w.state.folded (entries_of w.state.list))
-      ∙ (λ i. drop (length (past.folded i)) (sym shown i))
+  behind_listed opened seen (Ok x) is past shown = (
+    length w.state.folded,
+    omega (arith, ap length past.folded, length-append opened.folded (entries_of past.since)),
+    ap entries_of is ∙ sym (drop_front w.state.folded (entries_of w.state.list))
+        ∙ ap (λ (l : List Entry). drop (length w.state.folded) l) (sym shown),
+  )
 
 -- the list of all that a book has accepted, in the words of the call
 module _ {E : Type 0} (w : Register) (v : Setting) (setup : w.setup ≡ v) where

@@ -17,12 +17,12 @@ use Rattle.batch_store.specs.Batches.{Submission}
 use Rattle.batch_store.specs.Shards.{Holding, holding, Sight, AreHeld, layering_of, layering_with, part_in}
 use Rattle.plain_engine.specs.Standing.{Stand}
 use Rattle.locked_engine.specs.Moments.{IsShardOf, row_sum_in, no_sum}
-use Rattle.plain_engine.specs.Known.{IsBased}
+use Rattle.plain_engine.specs.Known.{IsBased, IsBasedOn}
 use Rattle.locked_engine.specs.Shown.{Shown, shown, IsSightOf}
 
 -- what shows a shard with a batch more is of a shard
 pub next_shown : (v : Setting) (opened : Accepted) (n : ℕ) (a : Sight) (x : Holding) (b : Submission) →
-    x.setup ≡ v → n ≡ x.number → IsBased opened v.shards x →
+    x.setup ≡ v → n ≡ x.number → (since : List Submission) × IsBasedOn opened v.shards since x →
     AreHeld x.setup x.number (cascade x.layers x.setup.cuts (part_in x b)) x.base (x.record_list ++ b ∷ []) →
     a.layers ≡ layering_with x b → a.record_len ≡ length x.record_list + 1 →
     (y : Holding) × IsSightOf v opened n a y
@@ -30,7 +30,7 @@ next_shown v opened n a x b setup number based held layers count =
     let list = x.record_list ++ b ∷ [] in (
       holding x.setup x.number (cascade x.layers x.setup.cuts (part_in x b)) x.base list 0,
       record {
-        shard = record { setup = setup; number = sym number; based = based; held = held };
+        shard = record { setup = setup; number = sym number; since = based.0; based = based.1; held = held };
         layers = layers;
         record_len = omega (arith, count, length-append x.record_list (b ∷ []));
       },

@@ -7,3 +7,4 @@ pub mod Told
 pub mod Counted
 pub mod Shown
 pub mod Queues
+pub mod Folders

@@ -4,12 +4,21 @@
 --     opened_seats    the seats of an engine that was just opened, in order of their numbers: the first has all that
 --                     was accepted before, the others have nothing; each was shown this version
 --     firsts          the seats' shares of the first ledger, added up
---     SharePast a b   the same batches are folded in both, into the same base
-use Rattle.std.specs.Prelude.{◌≡◌, ℕ, ◌+◌, ◌==◌, if◌then◌else◌, zero, suc, List, [], ◌∷◌, ◌++◌, sum_by}
+--     SharePast a b   what is folded in b is folded in a too, and behind it these batches, which are in a's base beside
+--                     what b's has
+--     IsBehind o es seen
+--                     these are the entries of a version behind some first ones, no fewer than are folded in o
+--     HasFolded o all a
+--                     of these batches, which stand behind those that are folded in o, so many are folded in a too, and
+--                     the others aren't
+use Rattle.std.specs.Prelude.{◌≡◌, ℕ, ◌+◌, ◌≤◌, ◌==◌, if◌then◌else◌, zero, suc, List, [], ◌∷◌, ◌++◌, sum_by, length, drop}
 use Rattle.logbook.specs.Pages.{Book}
+use Rattle.hyper_matrix.specs.Counts.{ewise_add}
 use Rattle.batch_store.specs.Setups.{Setting}
 use Rattle.batch_store.specs.declared.verdict.Entry.{Entry}
-use Rattle.batch_store.specs.Accepted.{Accepted}
+use Rattle.batch_store.specs.Accepted.{Accepted, accepted, list_sum}
+use Rattle.batch_store.specs.Batches.{Submission, entries_of}
+use Rattle.batch_store.specs.BookFolds.{folded_to}
 use Rattle.locked_engine.specs.Views.{NamesView, SeatView, seat_view}
 
 pub record NamesEngine (names : NamesView) (setup : Setting) (seats : ℕ) (history : Book)
@@ -33,5 +42,14 @@ abbrev pub firsts : List SeatView → ℕ
 firsts seats = sum_by (λ (s : SeatView). s.first) seats
 
 pub record SharePast (a b : Accepted) : Type 0 where
-  pub base : a.base ≡ b.base
-  pub folded : a.folded ≡ b.folded
+  pub since : List Submission
+  pub base : a.base ≡ ewise_add b.base (list_sum since)
+  pub folded : a.folded ≡ b.folded ++ entries_of since
+
+abbrev pub IsBehind : Accepted → List Entry → List Entry → Type 0
+IsBehind opened es seen = (n : ℕ) × (length opened.folded ≤ n) × (es ≡ drop n seen)
+
+pub record HasFolded (opened : Accepted) (all : List Submission) (a : Accepted) : Type 0 where
+  pub count : ℕ
+  pub within : count ≤ length all
+  pub state : a ≡ folded_to count (accepted opened.base opened.folded all)

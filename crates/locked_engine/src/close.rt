@@ -1,5 +1,5 @@
 //! Closing: once all seats are given back, the locks are taken away, and the books must agree.
-ghost use Rattle.std.specs.Prelude.{◌≡◌, ◌≢◌, ◌+◌, ◌≤◌, ◌<◌, IfOk, OnOk, [], List, length, vec_len, vec_capacity};
+ghost use Rattle.std.specs.Prelude.{◌≡◌, ◌≢◌, ◌+◌, ◌≤◌, ◌<◌, IfOk, OnOk, [], List, false, length, vec_len, vec_capacity};
 ghost use mathlib.Core.List.{IsPrefix};
 ghost use Rattle.batch_store.specs.declared.verdict.Entry.{Entry};
 ghost use Rattle.batch_store.specs.Accepted.{entries_in, total_in};
@@ -34,7 +34,8 @@ pub enum CloseFault<N: Named, H: Ledger> {
         seats: Vec<Seat<N, H>>,
     },
     /// Some shard's base isn't the book's cut to its rows, or its record isn't, in order, the book's batches that
-    /// aren't folded and concern it. The totals agree all the same. Puts alone never lead to it.
+    /// aren't folded and concern it. The totals agree all the same. Puts, and folds by the engine's folder, never lead to
+    /// it.
     RecordsDiffer {
         shards: Vec<Shard>,
         book: Book,
@@ -44,8 +45,9 @@ pub enum CloseFault<N: Named, H: Ledger> {
 impl<N: Named, H: Ledger> Engine<N, H> {
     /// The engine of one thread that has accepted what this one has, where all seats are given back. It takes out what
     /// shows readers the status, which waits for those that read; whoever owns the engine and all its seats has no
-    /// thread that does. One growth, of a place for each shard; then the
-    /// records are compared with the book, by client and number, since it is known that their batches are the book's.
+    /// thread that does. One growth, of a place for each shard; then the records are compared with the book, by client and
+    /// number, since it is known that their batches are the book's. Where anything was folded since the engine was opened
+    /// the bases are compared too, cell by cell. What is sealed and not settled stays in the records and in the list.
     ///
     /// # Errors
     ///
@@ -103,15 +105,17 @@ impl<N: Named, H: Ledger> Engine<N, H> {
             book,
             shards: locked,
             shown: _,
+            has_folder: _,
         } = self;
         let (mut first, mut second, seen) = gather(seats);
         let book = book.into_inner();
         let mut known = book.known();
-        unlock_all(locked, &mut shards, &mut second, &mut known);
+        let shards_rebased = unlock_all(locked, &mut shards, &mut second, &mut known);
+        let rebased = book.is_rebased_or(shards_rebased);
         let (book, mut first_number, mut second_number) = book.end(rt, &seen, &known);
         first_number.audit(&mut first);
         second_number.audit(&mut second);
-        match join_known(setup, book, shards) {
+        match join_known(setup, book, shards, rebased) {
             Ok(plain) => {
                 // Any call on it tells what it keeps.
                 let _setup = plain.setup();
@@ -134,6 +138,7 @@ impl<N: Named, H: Ledger> Engine<N, H> {
             book,
             shards: _,
             shown: _,
+            has_folder: _,
         } = self;
         book.into_inner().drop_all(rt);
     }
@@ -161,25 +166,36 @@ fn gather<N: Named, H: Ledger>(seats: Vec<Seat<N, H>>) -> (Share<N>, Share<H>, V
     (first, second, seen)
 }
 
-// Takes each shard from behind its lock, with its part of the share and what is known of its batches.
+// Whether one of both holds.
+fn either(one: bool, other: bool) -> bool
+    ensures { result ≡ false → (one ≡ false) × (other ≡ false) }
+{
+    one || other
+}
+
+// Takes each shard from behind its lock, with its part of the share and what is known of its batches. Whether anything was
+// folded into one of them since the engine was opened.
 fn unlock_all<N: Named, H: Ledger>(
     locked: Vec<Mutex<LockedShard<N, H>>>,
     shards: &mut Vec<Shard>,
     second: &mut Share<H>,
     known: &mut Known<N>,
-)
+) -> bool
     requires empty { shards.old.items ≡ [] }
     requires room { vec_len locked ≤ vec_capacity shards.old }
     ensures made { HaveSetup N.setup shards.new.items }
     ensures parts { second.new.parts ≡ second.old.parts + vec_len locked }
     ensures amount { second.new.amount ≡ second.old.amount + shards_total shards.new.items }
-    ensures based { AreBased N.opened N.setup.shards shards.new.items }
+    ensures based { result ≡ false → AreBased N.opened N.setup.shards shards.new.items }
     ensures from { AllFrom known.new shards.new.items }
 {
+    let mut rebased = false;
     'shards: for behind in locked {
-        let (shard, held, from) = behind.into_inner().into_parts();
+        let (shard, held, from, is_rebased) = behind.into_inner().into_parts();
         second.merge(held);
         known.learn(&from);
         shards.push_reserved(shard);
+        rebased = either(rebased, is_rebased);
     }
+    rebased
 }

@@ -11,8 +11,9 @@ use std::sync::ledger::Ledger;
 use std::sync::{Arc, MutexGuard, Wait};
 
 impl<N: Named, H: Ledger> Engine<N, H> {
-    /// Makes the compaction that is due next in the first `depth` layers of shard s: some of what puts left side by
-    /// side there is added up. It may wait for other threads at the shard's lock.
+    /// Makes the compaction that is due next in some layers of shard s, those from the place `from` on and before
+    /// `until`, which count from 0: some of what puts left side by side there is added up. It may wait for other threads
+    /// at the shard's lock.
     ///
     /// Under that lock the compaction is begun. It is made without any lock, in the time and memory of a sum of the
     /// cells concerned. Then the lock is taken once more, to put the sum in the place of what was added up and to show
@@ -20,43 +21,54 @@ impl<N: Named, H: Ledger> Engine<N, H> {
     /// is freed once the lock was given back, with what only that shared. What the shard holds stays throughout, and
     /// puts go on meanwhile. Where one of them has carried on what was added up, the sum is dropped.
     ///
-    /// It answers whether a sum was put in place. With no other call beside it and no refusal of memory, false says
-    /// that nothing is due in these layers. Where memory is refused, what the shard holds and what readers are shown
-    /// stay as they are, and a later call tries again. It begins with putting in place what was made before and could
-    /// not be.
+    /// It answers whether a sum was made. With no other call beside it and no refusal of memory, false says that nothing
+    /// is due in these layers. Where memory is refused, what the shard holds and what readers are shown stay as they are,
+    /// and a later call tries again. It begins with putting in place what was made before and could not be.
     ///
-    /// Any number of threads may call it, but one is enough for an engine: two at one shard may make the same sum
-    /// twice. None has to; `put` says what is left then.
-    pub fn compact<R: Wait>(&self, rt: &R, alloc: Global, s: u64, depth: usize) -> bool
+    /// Any number of threads may call it, and none has to; `put` says what is left then. Two that have the same layers of
+    /// a shard may make the same sum twice, so each is to have layers of its own. Whoever puts sums in place takes all
+    /// that are made there, also those of others, who then find nothing left to do.
+    pub fn compact<R: Wait>(&self, rt: &R, alloc: Global, s: u64, from: usize, until: usize) -> bool
         requires { s < N.setup.shards }
     {
-        let Some(compaction) = self.begin(rt, alloc, s, depth) else {
+        let Some(compaction) = self.begin(rt, alloc, s, from, until) else {
             return false;
         };
-        compaction.run(alloc).is_ok() && self.settle(rt, alloc, s)
+        let is_made = compaction.run(alloc).is_ok();
+        if is_made {
+            self.settle(rt, alloc, s);
+        }
+        is_made
     }
 
-    // Puts in place what was made before in shard s, and chooses what is due next there.
-    fn begin<R: Wait>(&self, rt: &R, alloc: Global, s: u64, depth: usize) -> Option<Compaction>
+    // Puts in place what was made before in shard s, and chooses what is due next in these layers of it.
+    fn begin<R: Wait>(
+        &self,
+        rt: &R,
+        alloc: Global,
+        s: u64,
+        from: usize,
+        until: usize,
+    ) -> Option<Compaction>
         requires { s < N.setup.shards }
     {
         let mut guard = self.shards[s as usize].lock(rt);
         let locked = &mut *guard;
         let replaced = self.settle_in(rt, alloc, s, locked);
-        let begun = locked.begin(alloc, depth);
+        let begun = locked.begin(alloc, from, until);
         let _ = MutexGuard::unlock(guard);
         drop(replaced);
         begun.ok().flatten()
     }
 
-    // Puts in place what was made in shard s, and tells whether anything was put there.
-    fn settle<R: Wait>(&self, rt: &R, alloc: Global, s: u64) -> bool
+    // Puts in place what was made in shard s.
+    fn settle<R: Wait>(&self, rt: &R, alloc: Global, s: u64)
         requires { s < N.setup.shards }
     {
         let mut guard = self.shards[s as usize].lock(rt);
         let replaced = self.settle_in(rt, alloc, s, &mut guard);
         let _ = MutexGuard::unlock(guard);
-        replaced.is_some()
+        drop(replaced);
     }
 
     // Puts in place what was made in shard s, whose lock the caller holds, and shows readers the shard with it. It

@@ -181,8 +181,8 @@ impl NewHistory {
 /// The whole history of the engine that N names, behind what the engine was opened with. There is one of it, and what
 /// it doesn't have can't be seen by anybody.
 ///
-/// Contracts see the entries and the batches that aren't folded, first those of what was opened. No client and number
-/// stands twice, and both limits hold.
+/// Contracts see the entries, first those of what was opened, and the batches, first those that weren't folded then. No
+/// client and number stands twice, and both limits hold.
 #[derive(Drop)]
 pub struct History<N: Named> {
     status: Status,

@@ -8,7 +8,7 @@ use crate::names::Named;
 use logbook::Seen;
 use std::marker::{Model, PhantomData};
 
-/// A beginning of the batches of the history, behind those that the engine was opened with and that aren't folded.
+/// A beginning of the batches of the history, behind those that the engine was opened with and that weren't folded then.
 ///
 /// Contracts see these batches.
 #[derive(Drop)]

@@ -13,6 +13,10 @@
 //! a lock, and takes the shard's lock to begin and to put the sum in place, each time for as long as pointers are
 //! copied.
 //!
+//! A running engine is folded by one thread at a time, by its `Folder`: `Engine::begin_fold` seals all that was accepted
+//! at a moment at which it holds every lock, `Folder::run` adds it up without a lock, and `Engine::settle_fold`
+//! exchanges pointers. Then the first batches are in the bases, and their cells are let go of.
+//!
 //! What a seat is shown of the book is a beginning of one history, to which only the book's lock adds (`History`). So
 //! whatever a put was answered, the book has its batch where the answer says so.
 //!
@@ -29,6 +33,8 @@ mod counted;
 mod engine;
 mod export;
 mod fault;
+mod fold;
+mod folder;
 mod history;
 mod known;
 mod locked_book;
@@ -47,6 +53,8 @@ pub use close::CloseFault;
 pub use counted::answers_count_once;
 pub use engine::Engine;
 pub use fault::OpenFault;
+pub use fold::Backlog;
+pub use folder::Folder;
 pub use names::{Named, Names};
 pub use plain_engine::{PutFault, Status};
 pub use seat::Seat;

@@ -1,27 +1,29 @@
 //! What stands behind the book's lock.
-ghost use Rattle.std.specs.Prelude.{◌≡◌, ◌+◌, ◌≤◌, ◌<◌, ◌++◌, List, [], ◌∷◌, IfOk, IfErr, IsSome, IsSomeAnd, OnOk, OnErr, Ok, Some};
+ghost use Rattle.std.specs.Prelude.{◌≡◌, ℕ, None, false, IfSome, ◌+◌, ◌≤◌, ◌<◌, ◌++◌, List, [], ◌∷◌, IfOk, IfErr, IsSome, IsSomeAnd, OnOk, OnErr, Ok, Some};
 ghost use Rattle.batch_store.specs.declared.verdict.Entry.{Entry};
 ghost use Rattle.std.specs.Prelude.{drop, length, vec_len, vec_capacity};
 ghost use Rattle.std.specs.Bool.{OnTrue, OnFalse};
 ghost use mathlib.Core.List.{IsPrefix};
 ghost use Rattle.std.specs.Arc.{arc_value};
-ghost use Rattle.batch_store.specs.Accepted.{unfolded, entries_in, count_in, total_in, with_batch};
-ghost use Rattle.batch_store.specs.Batches.{batch_total, entry_of as summary_of, entries_of, values};
-ghost use Rattle.batch_store.specs.Books.{AreAccepted, accepted_in, listed_in, verdict_on};
+ghost use Rattle.batch_store.specs.Accepted.{Accepted, unfolded, entries_in, count_in, total_in, with_batch};
+ghost use Rattle.batch_store.specs.Batches.{Submission, batch_total, entry_of as summary_of, entries_of, values};
+ghost use Rattle.batch_store.specs.Books.{AreAccepted, AreDistinct, accepted_in, listed_in, verdict_on};
+ghost use Rattle.batch_store.specs.BookFolds.{folded_to};
 ghost use Rattle.batch_store.specs.Verdicts.{kept};
 ghost use Rattle.batch_store.specs.declared.verdict.Verdict.TheVariants.{Fresh};
 ghost use Rattle.plain_engine.specs.Known.{AreFrom};
 ghost use Rattle.locked_engine.specs.Told.{Answers, IsTold, answer_of};
-ghost use Rattle.locked_engine.specs.Opened.{SharePast};
+ghost use Rattle.locked_engine.specs.Opened.{SharePast, IsBehind};
 ghost use Rattle.locked_engine.specs.Queues.{Follows};
 ghost use Rattle.locked_engine.specs.Versions.{IsVersion};
 
 use crate::fault::NotAdmitted;
+use crate::fold::{Backlog, SealedBook};
 use crate::history::History;
 use crate::known::Known;
 use crate::names::Named;
 use crate::version::{NextPlace, NextVersion, Version, VersionWriter, entry_of};
-use batch_store::{Batch, Book, BookList, Kept, Verdict};
+use batch_store::{Batch, Book, BookList, Kept, ReleasedBatches, Verdict};
 use crossbeam_utils::rule::Unruled;
 use left_right::Absorb;
 use plain_engine::PutFault;
@@ -31,8 +33,8 @@ use std::sync::ledger::{Ledger, Share};
 use std::sync::{Arc, Wait, ledger};
 
 /// The book with the numbers of both ledgers, each of which is its total, beside what shows its entries to readers, who
-/// are shown no others. The same batches are folded as when the engine was
-/// opened.
+/// are shown no others. It has accepted what the engine was opened with and the batches of its history; of these the first
+/// may be folded.
 ///
 /// Contracts see the book. It isn't Drop, since the writer isn't: `end` takes that out.
 pub struct LockedBook<N: Named, H: Ledger>
@@ -46,16 +48,20 @@ where
     // Readers are shown the book's entries, and nothing that was offered is kept back. None only while a call that was
     // lent this field shows them more.
     writer: Option<VersionWriter<N>>,
+    // How many cells the batches have together that are neither folded nor sealed, for `backlog`.
+    cells: u64,
+    // Whether anything was folded since the engine was opened.
+    rebased: bool,
 }
 
 impl<N: Named, H: Ledger> Model for LockedBook<N, H>
 where
     Version<N>: Absorb<NextVersion<N>, State = ()>,
 {
-    ghost use Rattle.std.specs.Prelude.{◌≡◌, [], drop, IsSomeAnd};
+    ghost use Rattle.std.specs.Prelude.{◌≡◌, [], drop, IsSomeAnd, false};
     ghost use Rattle.batch_store.specs.Accepted.{entries_in, total_in};
     ghost use Rattle.batch_store.specs.Books.{Register, coded_register};
-    ghost use Rattle.locked_engine.specs.Opened.{SharePast};
+    ghost use Rattle.locked_engine.specs.Opened.{HasFolded};
 
     ghost Value = { Register };
 
@@ -63,9 +69,9 @@ where
 
     ghost view = { λ d. d.book };
 
-    ghost invariant = { λ d. (d.book.setup ≡ N.setup) × SharePast d.book.state N.opened
+    ghost invariant = { λ d. (d.book.setup ≡ N.setup) × HasFolded N.opened d.history.batches d.book.state
         × (d.first.total ≡ total_in d.book.state) × (d.second.total ≡ total_in d.book.state)
-        × (d.history.entries ≡ entries_in d.book.state) × (d.history.batches ≡ d.book.state.list)
+        × (d.history.entries ≡ entries_in d.book.state) × (d.rebased ≡ false → d.book.state.base ≡ N.opened.base)
         × IsSomeAnd d.writer (λ w. (w.desk.shown.value ≡ entries_in d.book.state) × (drop w.behind w.log.items ≡ [])) };
 }
 
@@ -89,6 +95,18 @@ pub fn fresh(verdict: Verdict) -> Result<(), NotAdmitted>
         Verdict::BookFull => PutFault::BookFull,
     };
     Err(NotAdmitted::Refused(fault))
+}
+
+// How many cells the batches have together that aren't folded, sealed or not; 2^64 - 1 where they have more.
+fn unfolded_cells(book: &Book) -> u64 {
+    let folded = book.folded();
+    let mut cells = 0u64;
+    'batches: for i in 0..book.len() - folded {
+        if let Some(batch) = book.at(folded + i) {
+            cells = cells.saturating_add(batch.matrix.entries());
+        }
+    }
+    cells
 }
 
 // Offers readers a place for the next version. False where that growth was refused: then they are shown what they were,
@@ -194,26 +212,29 @@ where
         writer: VersionWriter<N>,
     ) -> LockedBook<N, H>
         requires setup { book.setup ≡ N.setup }
-        requires past { SharePast book.state N.opened }
+        requires opened { book.state ≡ N.opened }
         requires first { first.total ≡ total_in book.state }
         requires second { second.total ≡ total_in book.state }
         requires history { history.entries ≡ entries_in book.state }
-        requires batches { history.batches ≡ book.state.list }
+        requires batches { history.batches ≡ N.opened.list }
         requires published { writer.desk.shown.value ≡ entries_in book.state }
         requires pending { drop writer.behind writer.log.items ≡ [] }
         ensures { result ≡ book }
     {
+        let cells = unfolded_cells(&book);
         LockedBook {
             book,
             first,
             second,
             history,
             writer: Some(writer),
+            cells,
+            rebased: false,
         }
     }
 
     /// Takes the writer out, once no reader has a place any more, and gives what else there is. What another has seen
-    /// begins the book's entries, and what is known its batches.
+    /// begins the book's entries, and what is known its batches, those before them included that it has folded.
     pub fn end<R: Wait>(
         self,
         rt: &R,
@@ -226,7 +247,8 @@ where
         ensures first { result.1.total ≡ total_in result.0.state }
         ensures second { result.2.total ≡ total_in result.0.state }
         ensures shown { IsPrefix seen.now (entries_in result.0.state) }
-        ensures known { IsPrefix known.now result.0.state.list }
+        ensures known { (before : List Submission) × AreDistinct (before ++ result.0.state.list)
+            × IsPrefix known.now (before ++ result.0.state.list) }
         ensures opened { IsPrefix (entries_in N.opened) (entries_in result.0.state) }
     {
         let LockedBook {
@@ -235,6 +257,8 @@ where
             second,
             history,
             writer,
+            cells: _,
+            rebased: _,
         } = self;
         if let Some(writer) = writer {
             writer.take(rt);
@@ -245,6 +269,13 @@ where
         history.covers(seen);
         history.contains(known);
         (book, first, second)
+    }
+
+    /// Whether this holds, or anything was folded since the engine was opened.
+    pub fn is_rebased_or(&self, other: bool) -> bool
+        ensures { result ≡ false → (other ≡ false) × (self.now.state.base ≡ N.opened.base) }
+    {
+        self.rebased || other
     }
 
     /// What is known of its batches.
@@ -293,7 +324,7 @@ where
     pub fn list(&self, alloc: Global, seen: &mut Version<N>) -> Result<Vec<Arc<Batch>>, AllocError>
         ensures later { IsPrefix seen.old seen.new }
         ensures list { IfOk result (λ list. AreAccepted N.setup (unfolded (values list.items))) }
-        ensures shown { IfOk result (λ list. entries_of (values list.items) ≡ drop (length N.opened.folded) seen.new) }
+        ensures shown { IfOk result (λ list. IsBehind N.opened (entries_of (values list.items)) seen.new) }
     {
         if !self.show(seen) {
             return Err(AllocError);
@@ -319,6 +350,20 @@ where
         self.book.book_list(alloc)
     }
 
+    /// How many of the book's batches are folded. The seat is shown the entries of all. None where it was shown more.
+    pub fn folded(&self, seen: &mut Version<N>) -> Option<u64>
+        ensures later { IsPrefix seen.old seen.new }
+        ensures folded { IfSome result (λ n. (a : Accepted) × AreAccepted N.setup a × (entries_in a ≡ seen.new)
+            × SharePast a N.opened × (n ≡ length a.folded)) }
+    {
+        if !self.show(seen) {
+            return None;
+        }
+        // It tells what the book keeps.
+        let _count = self.book.len();
+        Some(self.book.folded())
+    }
+
     /// Puts the batches from a place on into a list that shares them, as `Engine::batches_from` says.
     pub fn batches_from(
         &self,
@@ -339,6 +384,49 @@ where
             return false;
         }
         self.book.share_from(from, most_cells, out)
+    }
+
+    /// What the next fold would be made of. Constant time.
+    pub fn backlog(&self) -> Backlog
+        ensures { length N.opened.folded ≤ result.folded }
+    {
+        Backlog {
+            folded: self.book.folded(),
+            base: self.book.base().entries(),
+            cells: self.cells,
+        }
+    }
+
+    /// Seals all batches that aren't folded (`Book::begin_fold`), and tells up to which place they reach; None where
+    /// some are sealed already, or there are none. What was accepted stays, also on an error. Constant time.
+    ///
+    /// # Errors
+    ///
+    /// A growth was refused.
+    pub fn begin_fold(&mut self, alloc: Global) -> Result<Option<SealedBook>, AllocError>
+        ensures { self.new.state ≡ self.old.state }
+    {
+        let Some(fold) = self.book.begin_fold(alloc, u64::MAX)? else {
+            return Ok(None);
+        };
+        self.cells = 0;
+        Ok(Some(SealedBook {
+            place: self.book.len(),
+            fold,
+        }))
+    }
+
+    /// Folds the batches that were sealed, where their base was made (`Book::settle_fold`), and gives what the book
+    /// lets go of. What is published stays, since the entries do. It takes no memory and constant time.
+    pub fn settle_fold(&mut self) -> Option<ReleasedBatches>
+        ensures setup { self.new.setup ≡ self.old.setup }
+        ensures kept { result ≡ None → self.new ≡ self.old }
+        ensures folded { IfSome result (λ r. (m : ℕ) × (m ≤ length self.old.state.list)
+            × (self.new.state ≡ folded_to m self.old.state)) }
+    {
+        let released = self.book.settle_fold()?;
+        self.rebased = true;
+        Some(released)
     }
 
     /// Accepts a fresh batch, and deposits its total in both ledgers: in the first for good, in the second until the
@@ -412,12 +500,15 @@ where
             second: two,
             history,
             writer,
+            cells,
+            rebased: _,
         } = self;
         if !offer(rt, writer, offered) {
             return Err(NotAdmitted::Refused(PutFault::Memory));
         }
         one.add(first, b.total);
         two.add(second, b.total);
+        *cells = cells.saturating_add(b.matrix.entries());
         let b = history.add(entry_of(&b), b);
         // It tells that no client and number stands twice.
         let _status = history.status();

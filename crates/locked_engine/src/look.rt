@@ -1,14 +1,14 @@
 //! What one shard answers under its lock, and what the book does.
-ghost use Rattle.std.specs.Prelude.{◌≡◌, ◌⊎◌, ◌<◌, ◌≤◌, ◌%◌, None, Some, IfOk, IfSome, drop, length};
+ghost use Rattle.std.specs.Prelude.{◌≡◌, ◌⊎◌, ◌<◌, ◌≤◌, ◌%◌, None, Some, IfOk, IfSome, length};
 ghost use Rattle.std.specs.Fn.{FnOnceReturnsAt};
 ghost use Rattle.std.specs.FinMap.{get};
 ghost use Rattle.layer_compaction.specs.Shared.{content};
 ghost use mathlib.Core.List.{IsPrefix};
-ghost use Rattle.batch_store.specs.Accepted.{unfolded, entries_in};
+ghost use Rattle.batch_store.specs.Accepted.{Accepted, unfolded, entries_in};
 ghost use Rattle.batch_store.specs.Batches.{entries_of, values};
 ghost use Rattle.batch_store.specs.Books.{AreAccepted, accepted_in, listed_in};
 ghost use Rattle.batch_store.specs.Shards.{Holding};
-ghost use Rattle.locked_engine.specs.Opened.{SharePast};
+ghost use Rattle.locked_engine.specs.Opened.{SharePast, IsBehind};
 ghost use Rattle.locked_engine.specs.Moments.{IsShardOf, no_sum, row_sum_in};
 ghost use Rattle.locked_engine.specs.Versions.{IsVersion, version_status};
 
@@ -40,8 +40,9 @@ impl<N: Named, H: Ledger> Engine<N, H> {
     {
         let guard = self.shards[s as usize].lock(rt);
         let locked = &*guard;
-        if locked.shard.number() == s {
-            Some(f(&locked.shard))
+        let shard = locked.shard();
+        if shard.number() == s {
+            Some(f(shard))
         } else {
             None
         }
@@ -117,7 +118,7 @@ impl<N: Named, H: Ledger> Engine<N, H> {
         ensures later { IsPrefix seat.old.seen seat.new.seen }
         ensures list { IfOk result (λ list. AreAccepted N.setup (unfolded (values list.items))) }
         ensures shown { IfOk result (λ list.
-            entries_of (values list.items) ≡ drop (length N.opened.folded) seat.new.seen) }
+            IsBehind N.opened (entries_of (values list.items)) seat.new.seen) }
     {
         let locked = self.book.lock(rt);
         let list = locked.list(alloc, &mut seat.seen);
@@ -150,6 +151,22 @@ impl<N: Named, H: Ledger> Engine<N, H> {
         let list = locked.book_list(alloc, &mut seat.seen);
         let _ = MutexGuard::unlock(locked);
         list
+    }
+
+    /// How many of the accepted batches are folded, as the book has them under its lock, which is held for no longer
+    /// than that takes: constant time, and no memory. The seat is shown the entries of all. None where it was shown more
+    /// than the book has, to which puts alone never lead.
+    pub fn folded<R: Wait>(&self, rt: &R, seat: &mut Seat<N, H>) -> Option<u64>
+        ensures number { seat.new.number ≡ seat.old.number }
+        ensures first { seat.new.first ≡ seat.old.first }
+        ensures later { IsPrefix seat.old.seen seat.new.seen }
+        ensures folded { IfSome result (λ n. (a : Accepted) × AreAccepted N.setup a × (entries_in a ≡ seat.new.seen)
+            × SharePast a N.opened × (n ≡ length a.folded)) }
+    {
+        let locked = self.book.lock(rt);
+        let folded = locked.folded(&mut seat.seen);
+        let _ = MutexGuard::unlock(locked);
+        folded
     }
 
     /// How many batches were accepted, and their total, as they were published last. It waits for nobody, at no lock,

@@ -18,6 +18,7 @@ use batch_store::Shard;
 use plain_engine::PlainEngine;
 use std::alloc::{AllocError, Global};
 use std::sync::Mutex;
+use std::sync::atomic::AtomicBool;
 use std::sync::ledger::{Ledger, Share};
 
 impl<N: Named, H: Ledger> Engine<N, H> {
@@ -26,7 +27,8 @@ impl<N: Named, H: Ledger> Engine<N, H> {
     /// version for each shard, a place for each seat, and what shows readers the status.
     ///
     /// N and H name `names`, which were made from `plain`, and N what `plain` has accepted: whoever calls with `Brand`
-    /// for both picks them so. Each seat is shown the entries of that. Nothing is folded while the engine is open.
+    /// for both picks them so. Each seat is shown the entries of that. What is folded in it stays so; more is folded by
+    /// `Engine::fold`.
     ///
     /// # Errors
     ///
@@ -78,6 +80,7 @@ impl<N: Named, H: Ledger> Engine<N, H> {
             book: Mutex::new(locked),
             shards,
             shown,
+            has_folder: AtomicBool::new(true),
         };
         Ok((engine, seats))
     }

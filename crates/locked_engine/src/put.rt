@@ -105,7 +105,10 @@ impl<N: Named, H: Ledger> Engine<N, H> {
             &mut seat.seen,
             &b,
         ) {
-            Ok(kept) => Ok(kept),
+            Ok(kept) => {
+                seat.note_accepted();
+                Ok(kept)
+            }
             Err(other) => other.answer(),
         }
     }

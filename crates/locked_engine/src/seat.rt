@@ -23,6 +23,8 @@ pub struct Seat<N: Named, H: Ledger> {
     pub(crate) seen: Version<N>,
     // None where no place for a reader was to be had, and while it reads.
     reader: Option<VersionReader<N>>,
+    // How many batches its puts were the first to have accepted. It stays at 2^64 - 1 once there.
+    accepted: u64,
 }
 
 impl<N: Named, H: Ledger> Model for Seat<N, H> {
@@ -44,6 +46,19 @@ impl<N: Named, H: Ledger> Seat<N, H> {
         ensures { result ≡ self.now.number }
     {
         self.number
+    }
+
+    /// How many batches its puts were the first to have accepted, so that a caller can tell a first acceptance from a
+    /// repeat by what it is before and after. It stays at 2^64 - 1 once there.
+    pub fn accepted(&self) -> u64 {
+        self.accepted
+    }
+
+    // One more was.
+    pub(crate) fn note_accepted(&mut self)
+        ensures { self.new ≡ self.old }
+    {
+        self.accepted = self.accepted.saturating_add(1);
     }
 
     /// A copy of the version that it was shown last, for whoever reads the book without a seat
@@ -75,6 +90,7 @@ impl<N: Named, H: Ledger> Seat<N, H> {
             second,
             seen,
             reader,
+            accepted: 0,
         }
     }
 
@@ -113,6 +129,7 @@ impl<N: Named, H: Ledger> Seat<N, H> {
             second,
             seen,
             reader: _,
+            accepted: _,
         } = self;
         (first, second, seen)
     }

@@ -1,11 +1,12 @@
 //! What readers of a shard are shown without its lock.
-ghost use Rattle.std.specs.Prelude.{◌≡◌, IfOk, IfSome, Some};
+ghost use Rattle.std.specs.Prelude.{◌≡◌, List, IfOk, IfSome, Some};
 ghost use Rattle.std.specs.Arc.{arc_value};
 ghost use Rattle.std.specs.FinMap.{get};
 ghost use Rattle.layer_compaction.specs.Shared.{content};
 ghost use Rattle.batch_store.specs.Shards.{Holding, IsReady};
 ghost use Rattle.locked_engine.specs.Moments.{IsShardOf, row_sum_in};
-ghost use Rattle.plain_engine.specs.Known.{IsBased};
+ghost use Rattle.plain_engine.specs.Known.{IsBasedOn};
+ghost use Rattle.batch_store.specs.Batches.{Submission};
 ghost use Rattle.locked_engine.specs.Shown.{IsSightOf, IsOf, IsNext, shown};
 
 use crate::names::Named;
@@ -18,8 +19,9 @@ use std::sync::Arc;
 /// A shard as it was at one moment: its number, and a view of its layers, which it shares.
 ///
 /// Contracts see the number, the layers, and how many batches the record had. They are those of a shard of N's setup,
-/// as it keeps itself behind its lock: its base is its part of what was folded when the engine was opened, the layers
-/// add up to the base and the parts of the record's batches, each but the last within its cut, no batch twice.
+/// as it keeps itself behind its lock: its base is its part of what was folded when the engine was opened and of batches
+/// that were folded since, the layers add up to the base and the parts of the record's batches, each but the last within
+/// its cut, no batch twice.
 #[derive(Drop)]
 pub struct ShardVersion<N: Named> {
     number: u64,
@@ -59,7 +61,7 @@ impl<N: Named> ShardVersion<N> {
     /// A growth was refused.
     pub fn of_shard(alloc: Global, shard: &Shard) -> Result<Arc<ShardVersion<N>>, AllocError>
         requires setup { shard.now.setup ≡ N.setup }
-        requires based { IsBased N.opened N.setup.shards shard.now }
+        requires based { (since : List Submission) × IsBasedOn N.opened N.setup.shards since shard.now }
         ensures { IfOk result (λ a. IsOf shard.now (arc_value a)) }
     {
         let number = shard.number();
@@ -80,7 +82,7 @@ impl<N: Named> ShardVersion<N> {
         p: &Prepared,
     ) -> Result<Arc<ShardVersion<N>>, AllocError>
         requires setup { shard.now.setup ≡ N.setup }
-        requires based { IsBased N.opened N.setup.shards shard.now }
+        requires based { (since : List Submission) × IsBasedOn N.opened N.setup.shards since shard.now }
         requires ready { IsReady shard.now p.now }
         ensures { IfOk result (λ a. IsNext shard.now p.now (arc_value a)) }
     {

@@ -6,7 +6,7 @@ ghost use Rattle.locked_engine.specs.Opened.{NamesEngine};
 use crate::batches::Cells;
 use crate::expected::{expect_batches, expect_closed};
 use crate::opened::{Step, close_at_last, closed, opened};
-use crate::{compactions, folds, looks, puts, queues, seats, several, versions};
+use crate::{compactions, folding, folds, looks, puts, queues, seats, several, versions};
 use batch_store::Setup;
 use locked_engine::{Engine, Named, Names, Seat};
 use plain_engine::PlainEngine;
@@ -19,6 +19,7 @@ use std::sync::Wait;
 use std::sync::ledger::Ledger;
 use std::thread::Threads;
 use std::time::Clock;
+use test_support::same;
 
 /// What is done from an engine's seats.
 #[derive(Clone, Copy)]
@@ -47,10 +48,18 @@ pub enum Act {
     Watch,
     /// Two threads put small batches while a third compacts.
     CompactBesidePuts,
+    /// Two threads put small batches while two others compact, each layers of its own.
+    CompactByDepthBesidePuts,
     /// Both seats put small batches, and then the shards are compacted.
     CompactAfterPuts,
     /// Small batches are put and compacted, twice.
     CompactTwice,
+    /// Batches are put and folded, twice.
+    FoldBetweenPuts,
+    /// Batches are put between the steps of a fold.
+    FoldInSteps,
+    /// Two threads put while a third reads and a fourth folds.
+    FoldBesidePuts,
 }
 
 /// The client, the number and the cells of a batch.
@@ -62,6 +71,8 @@ pub struct Case {
     pub act: Act,
     /// How many batches are accepted then, and their total.
     pub accepted: (u64, u64),
+    /// How many of them are folded.
+    pub folded: u64,
     /// Of each of some shards its number, its total and the length of its record.
     pub shards: &'static [(u64, u64, u64)],
     /// The batches that are listed then, where they are compared.
@@ -75,6 +86,7 @@ pub const NOTHING: Case = Case {
     seats: 2,
     act: Act::Put(&[]),
     accepted: (0, 0),
+    folded: 0,
     shards: &[],
     batches: None,
     lacks_seat: false,
@@ -101,6 +113,7 @@ pub fn play_on<R: Threads + Wait + Clock + RandomSource + Abort + Eprint + Sync>
     let names = Names::new(rt, alloc, &plain, case.seats).expect(rt, "names");
     let closed = closed_after::<Brand, Brand, R>(rt, alloc, plain, names, case);
     expect_closed(rt, &closed, case.accepted, case.shards);
+    assert!(rt; same(rt, &closed.folded(), &case.folded));
     if let Some(batches) = case.batches {
         expect_batches(rt, alloc, &closed, batches);
     }
@@ -144,7 +157,13 @@ fn perform<
         Act::PutAndFind => versions::put_and_find(rt, alloc, engine, seats),
         Act::Watch => versions::watch_from_seats(rt, alloc, engine, seats),
         Act::CompactBesidePuts => compactions::compact_beside_puts(rt, alloc, engine, seats),
+        Act::CompactByDepthBesidePuts => {
+            compactions::compact_by_depth_beside_puts(rt, alloc, engine, seats)
+        }
         Act::CompactAfterPuts => compactions::compact_after_puts(rt, alloc, engine, seats),
         Act::CompactTwice => compactions::compact_twice(rt, alloc, engine, seats),
+        Act::FoldBetweenPuts => folding::fold_between_puts(rt, alloc, engine, seats),
+        Act::FoldInSteps => folding::fold_in_steps(rt, alloc, engine, seats),
+        Act::FoldBesidePuts => folding::fold_beside_puts(rt, alloc, engine, seats),
     }
 }

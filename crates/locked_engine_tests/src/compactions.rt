@@ -50,6 +50,18 @@ fn puts_go_on_beside_compactions(rt: HostRuntime) -> Result<(), Fail> {
     Ok(())
 }
 
+const COMPACTED_BY_DEPTH: Case = Case {
+    act: Act::CompactByDepthBesidePuts,
+    ..COMPACTED
+};
+
+#[test]
+fn puts_go_on_beside_two_threads_that_compact(rt: HostRuntime) -> Result<(), Fail> {
+    play(&rt, rt.alloc(), setup(PASSED)?, &COMPACTED_BY_DEPTH);
+    play(&rt, rt.alloc(), setup(PASSED_LATER)?, &COMPACTED_BY_DEPTH);
+    Ok(())
+}
+
 const COMPACTED_LATER: Case = Case {
     act: Act::CompactAfterPuts,
     ..COMPACTED
@@ -62,11 +74,11 @@ fn compactions_after_puts_leave_nothing_due(rt: HostRuntime) -> Result<(), Fail>
 }
 
 // So many parts side by side in layer 1 are due, and one sum is made of all.
-const DUE: u64 = 24;
+const DUE: u64 = 16;
 
 const COMPACTED_TWICE: Case = Case {
     act: Act::CompactTwice,
-    accepted: (48, 48),
+    accepted: (32, 32),
     ..NOTHING
 };
 
@@ -89,9 +101,27 @@ pub fn compact_beside_puts<
     let (found, saw_end) = thread::join(
         rt,
         || put_from_both(rt, alloc, engine, first, second, &ended),
-        || compact_until(rt, alloc, engine, &ended),
+        || compact_until(rt, alloc, engine, &ended, (0, usize::MAX)),
     );
     assert!(rt; same(rt, &(found, saw_end), &((true, true), true)));
+    expect_settled(rt, alloc, engine, 0);
+    expect_all(rt, alloc, engine);
+}
+
+/// Two threads put while two others compact, each layers of its own, until nothing is due any more.
+pub fn compact_by_depth_beside_puts<
+    N: Named + Send + Sync,
+    H: Ledger + Send + Sync,
+    R: Threads + Wait + Abort + Eprint + Sync,
+>(rt: &R, alloc: Global, engine: &Engine<N, H>, seats: &mut [Seat<N, H>]) {
+    let (first, second) = two_seats(rt, seats);
+    let ended = AtomicU64::new(0);
+    let (found, saw_end) = thread::join(
+        rt,
+        || put_from_both(rt, alloc, engine, first, second, &ended),
+        || compact_from_both(rt, alloc, engine, &ended),
+    );
+    assert!(rt; same(rt, &(found, saw_end), &((true, true), (true, true))));
     expect_settled(rt, alloc, engine, 0);
     expect_all(rt, alloc, engine);
 }
@@ -235,15 +265,29 @@ fn looked_up<N: Named, H: Ledger, R: Wait + Abort>(
     engine.look(rt, s, |shard| shard.get(row, col)).flatten()
 }
 
-// Goes over all shards until both putters have ended. False where they don't in time.
+// Whether each of two threads saw both putters end. One has layer 1, and one those behind it.
+fn compact_from_both<
+    N: Named + Send + Sync,
+    H: Ledger + Send + Sync,
+    R: Threads + Wait + Abort + Sync,
+>(rt: &R, alloc: Global, engine: &Engine<N, H>, ended: &AtomicU64) -> (bool, bool) {
+    thread::join(
+        rt,
+        || compact_until(rt, alloc, engine, ended, (0, 1)),
+        || compact_until(rt, alloc, engine, ended, (1, usize::MAX)),
+    )
+}
+
+// Goes over these layers of all shards until both putters have ended. False where they don't in time.
 fn compact_until<N: Named, H: Ledger, R: Wait>(
     rt: &R,
     alloc: Global,
     engine: &Engine<N, H>,
     ended: &AtomicU64,
+    layers: (usize, usize),
 ) -> bool {
     for _ in 0..10_000_000 {
-        compact_each(rt, alloc, engine);
+        compact_each(rt, alloc, engine, layers);
         if ended.load(Ordering::SeqCst) == PUTTERS {
             return true;
         }
@@ -251,10 +295,15 @@ fn compact_until<N: Named, H: Ledger, R: Wait>(
     false
 }
 
-fn compact_each<N: Named, H: Ledger, R: Wait>(rt: &R, alloc: Global, engine: &Engine<N, H>) {
+fn compact_each<N: Named, H: Ledger, R: Wait>(
+    rt: &R,
+    alloc: Global,
+    engine: &Engine<N, H>,
+    layers: (usize, usize),
+) {
     let shards = engine.setup().shards();
     for s in 0..shards {
-        let _ = engine.compact(rt, alloc, s, usize::MAX);
+        let _ = engine.compact(rt, alloc, s, layers.0, layers.1);
     }
 }
 
@@ -271,7 +320,7 @@ fn compactions_of<N: Named, H: Ledger, R: Wait>(
     requires { s < N.setup.shards }
 {
     for made in 0..MAX_COMPACTIONS {
-        if !engine.compact(rt, alloc, s, usize::MAX) {
+        if !engine.compact(rt, alloc, s, 0, usize::MAX) {
             return Some(made);
         }
     }

@@ -53,6 +53,7 @@ pub fn folded_two<R: RandomSource + Abort>(rt: &R, alloc: Global, setup: Setup) 
 static BEHIND: Case = Case {
     act: Act::PutBehindFolded,
     accepted: (3, 14),
+    folded: 2,
     // Each record begins behind what was folded.
     shards: &[(0, 9, 1), (1, 5, 1)],
     batches: Some(&[(9, 1, TWO)]),

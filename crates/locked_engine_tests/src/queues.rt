@@ -23,6 +23,7 @@ static PUTS: &[Step] = &[(9, 1, TWO, Ok((2, 14))), (9, 2, ONE, Ok((3, 15)))];
 static QUEUED: Case = Case {
     act: Act::ReadFromPlaces,
     accepted: (4, 15),
+    folded: 2,
     // Row 0 has 8 of what is folded and one of the second batch, row 2 one of the first.
     shards: &[(0, 10, 2), (1, 5, 1)],
     batches: Some(&[(9, 1, TWO), (9, 2, ONE)]),

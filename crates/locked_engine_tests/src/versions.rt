@@ -171,7 +171,8 @@ fn put_step<N: Named, H: Ledger, R: Wait + Abort + Eprint>(
 
 const ROUNDS: u64 = 2_000;
 
-const PUTTERS: u64 = 2;
+/// The threads that put.
+pub const PUTTERS: u64 = 2;
 
 static WATCHED: Case = Case {
     seats: 3,
@@ -188,9 +189,11 @@ fn what_is_shown_never_grows_less(rt: HostRuntime) -> Result<(), Fail> {
     Ok(())
 }
 
-static SUM: Cells = &[(0, 0, 2_000), (1, 0, 2_000), (2, 0, 2_000), (3, 0, 2_000)];
+/// What their rounds add up to.
+pub static SUM_OF_ROUNDS: Cells = &[(0, 0, 2_000), (1, 0, 2_000), (2, 0, 2_000), (3, 0, 2_000)];
 
-fn three_seats<'a, N: Named, H: Ledger>(
+/// The first three of these seats.
+pub fn three_seats<'a, N: Named, H: Ledger>(
     rt: &impl Abort,
     seats: &'a mut [Seat<N, H>],
 ) -> (&'a mut Seat<N, H>, &'a mut Seat<N, H>, &'a mut Seat<N, H>) {
@@ -214,11 +217,15 @@ pub fn watch_from_seats<
         || watch(rt, engine, third, &ended),
     );
     assert!(rt; same(rt, &(found, fits), &((true, true), true)));
-    expect_export(rt, alloc, engine, SUM);
+    expect_export(rt, alloc, engine, SUM_OF_ROUNDS);
 }
 
-// Whether each of two threads found all that it had put.
-fn put_from_both<N: Named + Send + Sync, H: Ledger + Send + Sync, R: Threads + Wait + Abort + Sync>(
+/// Whether each of two threads found all that it had put.
+pub fn put_from_both<
+    N: Named + Send + Sync,
+    H: Ledger + Send + Sync,
+    R: Threads + Wait + Abort + Sync,
+>(
     rt: &R,
     alloc: Global,
     engine: &Engine<N, H>,
@@ -313,8 +320,8 @@ fn follows(before: Found, now: Found) -> bool {
         && now.counts.1 <= now.batches
 }
 
-// Reads until all putters have ended. Whether nothing grew less.
-fn watch<N: Named, H: Ledger, R: Wait>(
+/// Reads until all putters have ended. Whether nothing grew less.
+pub fn watch<N: Named, H: Ledger, R: Wait>(
     rt: &R,
     engine: &Engine<N, H>,
     seat: &mut Seat<N, H>,

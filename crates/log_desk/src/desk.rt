@@ -8,7 +8,7 @@ use crate::durable::Durable;
 use crate::fault::DeskFault;
 use crate::group::Group;
 use crate::log::Log;
-use crate::state::{DeskState, Ticket};
+use crate::state::{DeskFigures, DeskState, Ticket};
 use crate::turn::Turn;
 use crate::work::TurnWork;
 use locked_engine::{Engine, Named, Status, Version};
@@ -221,6 +221,14 @@ impl<N: Named, L: Log> LogDesk<N, L> {
         let is_failed = state.is_failed();
         let _ = MutexGuard::unlock(state);
         is_failed
+    }
+
+    /// What is told of the log. It waits for the desk's lock, under which nobody writes.
+    pub fn figures<R: Wait>(&self, rt: &R) -> DeskFigures {
+        let state = self.state.lock(rt);
+        let figures = state.figures();
+        let _ = MutexGuard::unlock(state);
+        figures
     }
 
     /// Shows what is durable, and tells how many batches that are, and their total. It waits for the desk's lock, under

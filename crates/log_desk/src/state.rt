@@ -36,6 +36,8 @@ pub struct DeskState<N: Named, L: Log> {
     // How many batches were waited for when the last group was done, those of the group among them: so many may come
     // again before the next one.
     expected: u64,
+    // How many batches the last group had.
+    group: u64,
 }
 
 impl<N: Named, L: Log> Model for DeskState<N, L> {
@@ -48,6 +50,22 @@ impl<N: Named, L: Log> Model for DeskState<N, L> {
 
     ghost invariant = { λ s. IfSome s.turn (λ t. t ≡ standing s.durable s.failed s.room)
         × (s.failed ≡ true → L.has_failed) };
+}
+
+/// What a desk tells of its log, of which nothing is proved.
+#[derive(Clone, Copy, Debug, PartialEq, Eq)]
+pub struct DeskFigures {
+    /// How many batches are durable.
+    pub durable: u64,
+    /// How many pages are ready for blocks; 0 while the log may be exchanged.
+    pub room: u64,
+    /// How many batches the group had that was written last; 0 before the first.
+    pub group: u64,
+}
+
+// How many batches the last group had, where so many were durable before and are now.
+fn group_of(before: u64, now: u64, last: u64) -> u64 {
+    if now > before { now - before } else { last }
 }
 
 impl<N: Named, L: Log> DeskState<N, L> {
@@ -63,6 +81,16 @@ impl<N: Named, L: Log> DeskState<N, L> {
             promised: 0,
             awaited: 0,
             expected: 0,
+            group: 0,
+        }
+    }
+
+    /// What is told of the log.
+    pub fn figures(&self) -> DeskFigures {
+        DeskFigures {
+            durable: self.durable.count(),
+            room: self.room,
+            group: self.group,
         }
     }
 
@@ -204,6 +232,7 @@ impl<N: Named, L: Log> DeskState<N, L> {
             desk_standing (standing out.now.durable out.now.failed self.old.log.room) self.old.promised false }
     {
         self.turn = None;
+        self.group = group_of(self.durable.count(), out.durable().count(), self.group);
         self.durable = out.durable();
         self.failed = out.is_failed();
     }
@@ -213,6 +242,7 @@ impl<N: Named, L: Log> DeskState<N, L> {
         ensures { self.new ≡ desk_standing turn self.old.promised true }
     {
         self.expected = self.waiting();
+        self.group = group_of(self.durable.count(), turn.durable().count(), self.group);
         self.durable = turn.durable();
         self.failed = turn.is_failed();
         self.room = turn.room();
@@ -232,6 +262,7 @@ impl<N: Named, L: Log> DeskState<N, L> {
             promised: _,
             awaited: _,
             expected: _,
+            group: _,
         } = self;
         turn
     }

@@ -81,6 +81,20 @@ impl FileDisk {
         Ok(())
     }
 
+    /// Notes up to where something was written.
+    fn note_end(&self, end: u64) {
+        if let Some(news) = &self.news {
+            news.note_end(end);
+        }
+    }
+
+    /// Notes a sync.
+    fn note_sync(&self) {
+        if let Some(news) = &self.news {
+            news.note_sync();
+        }
+    }
+
     /// Counts a call that fails so.
     fn fail(&mut self, call: FileCall, error: &io::Error) -> DeviceFault
         requires { self.old.failures + 1 < 2 ^ 64 }
@@ -141,7 +155,10 @@ impl LogDisk for FileDisk {
 
     fn write_at(&mut self, at: u64, bytes: &[u8]) -> Result<(), DeviceFault> {
         match self.put(at, bytes) {
-            Ok(()) => Ok(()),
+            Ok(()) => {
+                self.note_end(at.saturating_add(bytes.len() as u64));
+                Ok(())
+            }
             Err(error) => Err(self.fail_in_doubt(FileCall::Write, &error)),
         }
     }
@@ -173,6 +190,7 @@ impl LogDisk for FileDisk {
             return Err(self.fail_in_doubt(FileCall::Sync, &error));
         }
         self.is_resized = false;
+        self.note_sync();
         Ok(())
     }
 

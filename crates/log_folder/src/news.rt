@@ -2,6 +2,10 @@
 
 use std::io;
 use std::sync::Mutex;
+use std::sync::atomic::{AtomicU64, Ordering};
+
+/// The bytes of a page of a log.
+const PAGE: u64 = 4096;
 
 /// A call on the file or the folder of a log.
 #[derive(Clone, Copy, Debug, PartialEq, Eq)]
@@ -53,13 +57,16 @@ pub struct StartedLog {
     pub is_new: bool,
 }
 
-/// What has happened to a log: what a start found, which call failed last, and which one has left the log failed. A
-/// folder and its files note it, and threads share it. Nobody waits here: a note that meets another one is lost.
+/// What has happened to a log: what a start found, how many syncs were made, how many pages the log has, which call
+/// failed last, and which one has left the log failed. A folder and its files note it, and threads share it. Nobody
+/// waits here: a note that meets another one is lost, but for the numbers.
 #[derive(Drop)]
 pub struct LogNews {
     started: Mutex<Option<StartedLog>>,
     failed: Mutex<Option<FailedCall>>,
     broken: Mutex<Option<FailedCall>>,
+    syncs: AtomicU64,
+    pages: AtomicU64,
 }
 
 // Puts a note in the place of the one before.
@@ -84,12 +91,36 @@ impl LogNews {
             started: Mutex::new(None),
             failed: Mutex::new(None),
             broken: Mutex::new(None),
+            syncs: AtomicU64::new(0),
+            pages: AtomicU64::new(0),
         }
     }
 
     /// A start has found this log, or begun it.
     pub fn note_start(&self, log: StartedLog) {
+        self.pages.store(log.pages, Ordering::SeqCst);
         note(&self.started, Some(log));
+    }
+
+    /// A file of the log was synced.
+    pub(crate) fn note_sync(&self) {
+        self.syncs.fetch_add(1, Ordering::SeqCst);
+    }
+
+    /// A page or a block was written up to this byte of the log's file.
+    pub(crate) fn note_end(&self, end: u64) {
+        self.pages.store(end.div_ceil(PAGE), Ordering::SeqCst);
+    }
+
+    /// How many syncs were made of the log's files, since this was made.
+    pub fn syncs(&self) -> u64 {
+        self.syncs.load(Ordering::SeqCst)
+    }
+
+    /// How many pages the log has, that of its head among them: those up to the last that was written. While the log is
+    /// begun anew, those of the new file, once more of that is written.
+    pub fn pages(&self) -> u64 {
+        self.pages.load(Ordering::SeqCst)
     }
 
     /// This call has failed.

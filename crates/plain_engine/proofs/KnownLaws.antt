@@ -75,6 +75,11 @@ from_head list held b h = cc
 from_tail : (list held : List Submission) (b : Submission) → AreFrom list (b ∷ held) → AreFrom list held
 from_tail list held b h = cc
 
+-- the last of them are
+pub from_behind : (list since held : List Submission) → AreFrom list (since ++ held) → AreFrom list held
+from_behind list [] held h = h
+from_behind list (x ∷ xs) held h = from_behind list xs held (from_tail list (xs ++ held) x h)
+
 from_both : (list held : List Submission) (b : Submission) → found b list ≡ Some b → AreFrom list held →
     AreFrom list (b ∷ held)
 from_both list held b here rest = cc
@@ -93,6 +98,14 @@ same_known list held n i x b distinct known there at clients numbers =
     let own = from_at list held n x known there in
     let other = found_here list i x b distinct at (same_by x b clients numbers) in
     cc (own, other)
+
+-- a place behind others
+pub place_after : (before list : List Submission) (i : ℕ) →
+    slice_get (before ++ list) (length before + i) ≡ slice_get list i
+place_after [] list i = ap (slice_get list) {x = 0 + i} {y = i} (omega arith)
+place_after (x ∷ xs) list i =
+    ap (slice_get (x ∷ xs ++ list)) {x = suc (length xs) + i} {y = suc (length xs + i)} (omega arith)
+    ∙ place_after xs list i
 
 found_later : (x b : Submission) (xs zs : List Submission) → found x xs ≡ Some b → found x (xs ++ zs) ≡ Some b
 found_later x b [] zs h = absurd cc

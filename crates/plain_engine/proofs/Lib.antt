@@ -11,4 +11,4 @@ pub mod KnownLaws
 pub mod LoadLaws
 mod WalkLaws
 pub mod FoldTogetherLaws
-mod RoundLaws
+pub mod RoundLaws

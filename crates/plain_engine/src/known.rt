@@ -1,10 +1,13 @@
-//! An engine from parts of which it is known where they come from: `join_parts` without a look at a cell.
-ghost use Rattle.std.specs.Prelude.{◌≡◌, ◌<◌, ◌↔◌, IfOk, IfErr, IsOk, IsTrue, true, length};
+//! An engine from parts of which it is known where they come from: `join_parts` without a look at a batch's cells, and
+//! where nothing was folded since without one at any.
+ghost use Rattle.std.specs.Prelude.{◌≡◌, ◌<◌, ◌↔◌, IfOk, IfErr, IsOk, IsTrue, false, true, length};
+ghost use Rattle.hyper_matrix.specs.Counts.{part};
 ghost use Rattle.plain_engine.specs.Records.{Follows};
-ghost use Rattle.plain_engine.specs.Known.{AreFrom, AllFrom, AreBased};
+ghost use Rattle.plain_engine.specs.Known.{IsFromBehind, AllFromBehind, AreBased};
 ghost use Rattle.plain_engine.specs.Standing.{standing, HaveSetup, AreTogether, Stand};
 
 use crate::engine::PlainEngine;
+use crate::same::is_part;
 use batch_store::{Batch, Book, Setup, Shard};
 
 // Whether two batches have the same client and number.
@@ -14,11 +17,11 @@ fn same_pair(a: &Batch, b: &Batch) -> bool
     a.client == b.client && a.number == b.number
 }
 
-// Whether a shard's record, each batch of which is the book's, is, in order, the book's batches that concern shard s of
-// k and aren't folded. The book has no client and number twice, so those of a batch tell which it is.
+// Whether a shard's record, each batch of which is one that the book has or had, is, in order, the book's batches that
+// concern shard s of k and aren't folded. No client and number stands twice among those, so a batch's tell which it is.
 fn known_follows(shard: &Shard, book: &Book, s: u64, k: u64) -> bool
     requires some { 0 < k }
-    requires known { AreFrom book.now.state.list shard.now.record_list }
+    requires known { IsFromBehind book.now.state.list shard.now.record_list }
     ensures { IsTrue result ↔ Follows s k shard.now.record_list book.now.state.list }
 {
     let folded = book.folded();
@@ -43,23 +46,36 @@ fn known_follows(shard: &Shard, book: &Book, s: u64, k: u64) -> bool
     next == shard.record_len()
 }
 
+// Whether a shard's base is the book's cut to the rows of shard s of k. It is compared cell by cell where it is `rebased`,
+// and known else.
+fn base_follows(shard: &Shard, book: &Book, s: u64, k: u64, rebased: bool) -> bool
+    requires some { 0 < k }
+    requires based { rebased ≡ false → shard.now.base ≡ part book.now.state.base s k }
+    ensures { IsTrue result ↔ (shard.now.base ≡ part book.now.state.base s k) }
+{
+    !rebased || is_part(shard.base(), book.base(), s, k)
+}
+
 /// An engine of a book and its shards, which were made with this setup, where each batch in a record is known to be the
-/// book's and each base to be its part of the book's. It takes no memory, and reads no batch but for which shards it
+/// book's, or to have been before the book folded it. Unless they are `rebased` each base is known to be its part of the
+/// book's; else bases are compared, cell by cell. It takes no memory, and reads no batch but for which shards it
 /// concerns.
 ///
 /// # Errors
 ///
-/// There isn't a shard for each number below the setup's shards, a shard's number isn't its place, or its record isn't,
-/// in order, the book's batches that aren't folded and concern it. Book and shards are handed back as they were.
+/// There isn't a shard for each number below the setup's shards, a shard's number isn't its place, its base isn't the
+/// book's cut to its rows, or its record isn't, in order, the book's batches that aren't folded and concern it. Book and
+/// shards are handed back as they were.
 pub fn join_known(
     setup: Setup,
     book: Book,
     shards: Vec<Shard>,
+    rebased: bool,
 ) -> Result<PlainEngine, (Book, Vec<Shard>)>
     requires book { book.setup ≡ setup }
     requires shards { HaveSetup setup shards.items }
-    requires based { AreBased book.state setup.shards shards.items }
-    requires known { AllFrom book.state.list shards.items }
+    requires based { rebased ≡ false → AreBased book.state setup.shards shards.items }
+    requires known { AllFromBehind book.state.list shards.items }
     ensures ok { IfOk result (λ e. e ≡ standing setup book shards.items) }
     ensures err { IfErr result (λ r. (r.0 ≡ book) × (r.1 ≡ shards)) }
     ensures exactly { IsOk result ↔
@@ -68,7 +84,7 @@ pub fn join_known(
     if shards.len() as u64 != setup.shards() {
         return Err((book, shards));
     }
-    if !known_together(&setup, &book, &shards) {
+    if !known_together(&setup, &book, &shards, rebased) {
         return Err((book, shards));
     }
     // Any call on a book tells what it keeps.
@@ -76,11 +92,11 @@ pub fn join_known(
     Ok(PlainEngine::of_parts(setup, book, shards))
 }
 
-// Whether each shard has its place for its number, and its record follows the book.
-fn known_together(setup: &Setup, book: &Book, shards: &[Shard]) -> bool
+// Whether each shard has its place for its number, and its base and its record follow the book.
+fn known_together(setup: &Setup, book: &Book, shards: &[Shard], rebased: bool) -> bool
     requires made { HaveSetup setup.now shards.now }
-    requires based { AreBased book.now.state setup.now.shards shards.now }
-    requires known { AllFrom book.now.state.list shards.now }
+    requires based { rebased ≡ false → AreBased book.now.state setup.now.shards shards.now }
+    requires known { AllFromBehind book.now.state.list shards.now }
     ensures stand { result ≡ true → Stand setup.now book.now.state 0 shards.now }
     ensures exactly { IsTrue result ↔ AreTogether setup.now.shards book.now.state 0 shards.now }
 {
@@ -88,6 +104,9 @@ fn known_together(setup: &Setup, book: &Book, shards: &[Shard]) -> bool
     let mut place = 0u64;
     'shards: for shard in shards {
         if shard.number() != place {
+            return false;
+        }
+        if !base_follows(shard, book, place, k, rebased) {
             return false;
         }
         if !known_follows(shard, book, place, k) {

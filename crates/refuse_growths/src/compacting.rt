@@ -85,12 +85,12 @@ fn begun_at_last(
     alloc: Global,
     shard: &mut Shard,
 ) -> Result<Option<Compaction>, AllocError> {
-    match shard.begin(alloc, usize::MAX) {
+    match shard.begin(alloc, 0, usize::MAX) {
         Ok(compaction) => Ok(compaction),
         Err(_) => {
             say(rt, "begin refused");
             show_shard(rt, shard);
-            shard.begin(alloc, usize::MAX)
+            shard.begin(alloc, 0, usize::MAX)
         }
     }
 }
@@ -107,7 +107,7 @@ fn make_at_last(
     }
     say(rt, "run refused");
     show_shard(rt, shard);
-    let Some(again) = shard.begin(alloc, usize::MAX)? else {
+    let Some(again) = shard.begin(alloc, 0, usize::MAX)? else {
         return Err(Stop::Fault);
     };
     again.run(alloc)?;

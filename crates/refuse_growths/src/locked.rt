@@ -1,4 +1,5 @@
-//! The engine of several threads: it is opened, a batch is put from one seat and read from another, and it is closed.
+//! The engine of several threads: it is opened, a batch is put from one seat and read from another, it is folded, and it is
+//! closed.
 ghost use Rattle.std.specs.Prelude.{◌≡◌};
 ghost use Rattle.std.specs.Arc.{arc_value};
 ghost use Rattle.batch_store.specs.Accepted.{entries_in};

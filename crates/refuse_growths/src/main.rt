@@ -14,6 +14,7 @@ mod frames;
 mod locked;
 mod plain;
 mod reads;
+mod running;
 mod sealing;
 mod seats;
 mod session;

@@ -2,6 +2,7 @@
 ghost use Rattle.std.specs.Prelude.{◌≡◌};
 ghost use Rattle.std.specs.Arc.{arc_value};
 
+use crate::running::show_fold;
 use crate::show::{say, show_book_list, show_cells, show_put, tell};
 use crate::stop::Stop;
 use batch_store::{Batch, BookList, Kept};
@@ -11,7 +12,7 @@ use std::alloc::{AllocError, Global};
 use std::sync::ledger::Ledger;
 use std::sync::{Arc, Wait};
 
-/// Puts a batch twice from the first seat, and reads what the second is shown.
+/// Puts a batch twice from the first seat, reads what the second is shown, folds, and puts and reads again.
 pub fn show_seats<N: Named, H: Ledger, R: Wait + Print>(
     rt: &R,
     alloc: Global,
@@ -32,6 +33,10 @@ pub fn show_seats<N: Named, H: Ledger, R: Wait + Print>(
     show_list(rt, alloc, engine, second)?;
     show_all(rt, alloc, engine, second)?;
     show_status(rt, engine, second);
+    show_fold(rt, alloc, engine, second)?;
+    let again = put(rt, alloc, engine, first, b)?;
+    show_put(rt, &again);
+    show_all(rt, alloc, engine, second)?;
     Ok(())
 }
 
@@ -72,8 +77,8 @@ fn put_at_last<N: Named, H: Ledger, R: Wait + Print>(
     Ok(())
 }
 
-// What was accepted, what stands at the first place and in its row, and what stands behind each shard's lock.
-fn show_status<N: Named, H: Ledger, R: Wait + Print>(
+/// What was accepted, what stands at the first place and in its row, and what stands behind each shard's lock.
+pub fn show_status<N: Named, H: Ledger, R: Wait + Print>(
     rt: &R,
     engine: &Engine<N, H>,
     seat: &mut Seat<N, H>,

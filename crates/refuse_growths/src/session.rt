@@ -11,7 +11,7 @@ use std::random::RandomSource;
 use wire_proto::{Ended, serve_engine};
 
 /// Client 7 puts 5 at row 0 and column 0 under its number 1, client 8 puts 3 there, and the count there is asked for,
-/// then the first two cells of all, and the row that leads by its total.
+/// then the first two cells of all, the row that leads by its total, and what the engine tells of itself.
 static SENT: &[u8] = b"\0\0\0\x4d\x01\0\0\0\0\0\0\0\x07\0\0\0\0\0\0\0\x01\
 %%MatrixMarket matrix coordinate integer general\n3 3 1\n1 1 5\n\
 \0\0\0\x4d\x01\0\0\0\0\0\0\0\x08\0\0\0\0\0\0\0\x01\
@@ -19,7 +19,8 @@ static SENT: &[u8] = b"\0\0\0\x4d\x01\0\0\0\0\0\0\0\x07\0\0\0\0\0\0\0\x01\
 \0\0\0\x10\x02\0\0\0\0\0\0\0\0\0\0\0\0\0\0\0\0\
 \0\0\0\x38\x0a\0\0\0\0\0\0\0\0\0\0\0\0\0\0\0\x02\0\0\0\0\0\0\0\0\0\0\0\0\0\0\0\x02\
 \0\0\0\0\0\0\0\0\0\0\0\0\0\0\0\0\0\0\0\0\0\0\0\x02\
-\0\0\0\x09\x0b\0\0\0\0\0\0\0\0\x01";
+\0\0\0\x09\x0b\0\0\0\0\0\0\0\0\x01\
+\0\0\0\0\x0c";
 
 /// More reads than a session of these frames takes.
 const TURNS: u64 = 100;

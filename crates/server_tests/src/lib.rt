@@ -5,6 +5,8 @@
 #![tactic(auto)]
 
 #[cfg(test)]
+mod counters;
+#[cfg(test)]
 mod pool;
 #[cfg(test)]
 mod sockets;

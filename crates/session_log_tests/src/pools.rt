@@ -10,6 +10,7 @@ use crossbeam_channel::{Receiver, bounded};
 use locked_engine::{Engine, Named, Names};
 use log_desk::{FailAt, LogDesk, MemoryLog, NoPause};
 use plain_engine::PlainEngine;
+use server_counters::Machine;
 use session_pool::{Disk, Gate, LogPlace, PoolFault, PoolReport, Session, run_pool};
 use std::alloc::Global;
 use std::marker::Brand;
@@ -59,8 +60,16 @@ fn queued<R: Wait + Abort>(rt: &R, alloc: Global, count: u8) -> Receiver<Session
 fn play<
     N: Named + Send + Sync,
     H: Ledger + Send + Sync,
-    R: Threads + Wait + Disk + LogPlace<TestLog> + Abort + Sync,
->(rt: &R, alloc: Global, plain: PlainEngine, names: Names, count: u8) -> Outcome
+    R: Threads + Wait + Disk + Machine + LogPlace<TestLog> + Abort + Sync,
+>(
+    rt: &R,
+    alloc: Global,
+    plain: PlainEngine,
+    names: Names,
+    count: u8,
+    fold_above: u64,
+    path: &str,
+) -> Outcome
     requires named { NamesEngine names N.setup N.seats N.history N.name N.parts H.name H.parts }
     requires made_from { plain.setup ≡ names.setup }
     requires opened { plain.book.state ≡ N.opened }
@@ -74,7 +83,7 @@ fn play<
     let desk = LogDesk::open(alloc, TestLog { log }, nothing(first), first.version()).expect(
         rt, "memory",
     );
-    let saver = saver_to(rt, alloc, "session_log_pool_test.snapshot", WELL);
+    let saver = saver_to(rt, alloc, path, WELL).folding_above(fold_above);
     let sessions = queued(rt, alloc, count);
     let report = run_pool(
         rt,
@@ -85,6 +94,7 @@ fn play<
         &OpenGate,
         &saver,
         Some(&desk),
+        2,
     );
     drop(sessions);
     drop(saver);
@@ -105,30 +115,42 @@ fn play<
     }
 }
 
-fn played<R: Threads + Wait + Disk + LogPlace<TestLog> + RandomSource + Abort + Sync>(
+fn played<R: Threads + Wait + Disk + Machine + LogPlace<TestLog> + RandomSource + Abort + Sync>(
     rt: &R,
     alloc: Global,
-    workers: usize,
-    count: u8,
+    fold_above: u64,
+    path: &str,
 ) -> Outcome {
     let plain = PlainEngine::new(rt, alloc, small_setup(rt)).expect(rt, "memory");
-    let names = Names::new(rt, alloc, &plain, workers).expect(rt, "names");
-    play::<Brand, Brand, R>(rt, alloc, plain, names, count)
+    let names = Names::new(rt, alloc, &plain, 4).expect(rt, "names");
+    play::<Brand, Brand, R>(rt, alloc, plain, names, 20, fold_above, path)
 }
+
+// What becomes of 20 sessions that four workers serve.
+const ALL_DURABLE: Outcome = Outcome {
+    report: Ok(PoolReport {
+        started: 4,
+        served: 20,
+    }),
+    durable: 20,
+    entries: 20,
+    accepted: (20, 20),
+};
 
 #[test]
 fn workers_share_a_log_that_is_begun_anew(rt: HostRuntime) -> Result<(), Fail> {
-    let found = played(&rt, rt.alloc(), 4, 20);
-    let expected = Outcome {
-        report: Ok(PoolReport {
-            started: 4,
-            served: 20,
-        }),
-        durable: 20,
-        entries: 20,
-        accepted: (20, 20),
-    };
-    assert!(&rt; same(&rt, &found, &expected));
-    std::fs::remove_file(&rt, "session_log_pool_test.snapshot")?;
+    let path = "session_log_pool_test.snapshot";
+    let found = played(&rt, rt.alloc(), 0, path);
+    assert!(&rt; same(&rt, &found, &ALL_DURABLE));
+    std::fs::remove_file(&rt, path)?;
+    Ok(())
+}
+
+#[test]
+fn what_is_durable_is_folded_beside_them(rt: HostRuntime) -> Result<(), Fail> {
+    let path = "session_log_fold_test.snapshot";
+    let found = played(&rt, rt.alloc(), 1, path);
+    assert!(&rt; same(&rt, &found, &ALL_DURABLE));
+    std::fs::remove_file(&rt, path)?;
     Ok(())
 }

@@ -9,6 +9,7 @@ use byte_io::{Script, Sink};
 use locked_engine::{Engine, Named, Names, Seat};
 use log_desk::{Durable, FailAt, Log, LogDesk, MemoryLog, NoPause};
 use plain_engine::{PlainEngine, Status};
+use server_counters::Machine;
 use session_pool::{Disk, LogPlace, Saver, SeatKeeper, SessionLog};
 use std::alloc::Global;
 use std::marker::Brand;
@@ -47,7 +48,7 @@ pub fn small_setup(rt: &impl Abort) -> Setup {
 }
 
 /// Plays a session over a new engine and an empty log.
-pub fn play<R: Wait + Disk + LogPlace<TestLog> + RandomSource + Abort>(
+pub fn play<R: Wait + Disk + Machine + LogPlace<TestLog> + RandomSource + Abort>(
     rt: &R,
     alloc: Global,
     case: &Case,
@@ -57,7 +58,7 @@ pub fn play<R: Wait + Disk + LogPlace<TestLog> + RandomSource + Abort>(
     play_named::<Brand, Brand, R>(rt, alloc, plain, names, case)
 }
 
-fn play_named<N: Named, H: Ledger, R: Wait + Disk + LogPlace<TestLog> + Abort>(
+fn play_named<N: Named, H: Ledger, R: Wait + Disk + Machine + LogPlace<TestLog> + Abort>(
     rt: &R,
     alloc: Global,
     plain: PlainEngine,
@@ -110,7 +111,7 @@ pub fn saver_to(rt: &impl Abort, alloc: Global, path: &str, log: &str) -> Saver 
 }
 
 // Serves a session by a seat, over a desk of its own.
-fn serve_case<'x, N: Named, H: Ledger, R: Wait + Disk + LogPlace<TestLog> + Abort>(
+fn serve_case<'x, N: Named, H: Ledger, R: Wait + Disk + Machine + LogPlace<TestLog> + Abort>(
     rt: &'x R,
     alloc: Global,
     engine: &'x Engine<N, H>,

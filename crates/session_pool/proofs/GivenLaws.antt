@@ -1,5 +1,5 @@
 -- What a keeper over a seat gives.
-use Rattle.std.proofs.Common.{◌≡◌, ◌%◌, ℕ, List, Option, Some, None, refl, sym, subst}
+use Rattle.std.proofs.Common.{◌≡◌, ◌%◌, ℕ, List, length, Option, Some, None, refl, sym, subst}
 use Rattle.std.specs.Prelude.{IfSome, IfOk, Result, Ok, Err, String, string_bytes}
 use mathlib.Core.List.{IsPrefix}
 use Rattle.std.specs.FinMap.{get}
@@ -11,7 +11,12 @@ use Rattle.batch_store.specs.Books.{AreAccepted}
 use Rattle.batch_store.specs.Shards.{Holding}
 use Rattle.locked_engine.specs.Moments.{IsShardOf}
 use Rattle.locked_engine.specs.Opened.{SharePast}
-use Rattle.wire_proto.specs.Keeping.{cell, save}
+use Rattle.wire_proto.specs.Keeping.{cell, save, stats}
+use Rattle.wire_proto.specs.Telling.{telling}
+use Rattle.wire_proto.specs.declared.figures.Figure.{Figure}
+use Rattle.std.specs.declared.alloc.AllocError.{AllocError}
+use Rattle.plain_engine.specs.declared.status.Status.{Status}
+use Rattle.locked_engine.specs.Versions.{version_status}
 use Rattle.wire_proto.specs.declared.keeper.SaveRefusal.{SaveRefusal}
 use Rattle.session_pool.specs.Saves.{IsSaved}
 use Rattle.session_pool.specs.Seats.{Sight, SeatGives}
@@ -43,6 +48,31 @@ module _ (v : Setting) (opened : Accepted) (saved : Accepted → Type 0) (synced
     h.4,
     h.5,
   )
+
+  -- a Stats shows the seat the entries that its status is of
+  pub gives_told : (s t : Sight) (setup : Setting) (status : Status) (folded : ℕ) (figures : List Figure) →
+      t.known ≡ s.known → t.seat.number ≡ s.seat.number → IsPrefix s.seat.seen t.seat.seen →
+      t.seat.first ≡ s.seat.first → setup ≡ v → status ≡ version_status t.seat.seen →
+      (a : Accepted) × AreAccepted v a × (entries_in a ≡ t.seat.seen) × SharePast a opened
+      × (folded ≡ length a.folded) →
+      SeatGives v opened saved synced failed full s (stats (Ok (telling setup status folded figures))) t
+  gives_told s t setup status folded figures known number later first is told h = (
+    known,
+    (number, later),
+    first,
+    is,
+    told,
+    h.0,
+    h.1,
+    h.2,
+    h.3,
+    h.4,
+  )
+
+  pub gives_untold : (s t : Sight) (e : AllocError) → t.known ≡ s.known → t.seat.number ≡ s.seat.number →
+      IsPrefix s.seat.seen t.seat.seen → t.seat.first ≡ s.seat.first →
+      SeatGives v opened saved synced failed full s (stats (Err e)) t
+  gives_untold s t e known number later first = (known, (number, later), first)
 
 -- what a disk has answered as saved, in the words of the saver
 pub is_saved : {D Z : Type 0} (saves : D → List ℕ → Setting → Accepted → Type 0) (d : D) (o : Option (String Z))

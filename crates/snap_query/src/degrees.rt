@@ -15,13 +15,12 @@ ghost use Rattle.snap_query.specs.Queries.{by_side, degree_lines, rows_in};
 
 use crate::lines::write_lines;
 use crate::side::Side;
-use crate::sum::{SNAPSHOT_BYTES, sum_of_list};
 use batch_store::{BookList, Setup};
 use byte_io::Sink;
 use cell_queries::{Degree, ListedCells, degrees_of};
 use cells::Cell;
 use snap_file::SnapshotFile;
-use snap_report::CheckFault;
+use snap_report::{CheckFault, SNAPSHOT_BYTES, sum_of_list};
 use std::alloc::{AllocError, Global};
 
 // How many rows or columns of cells have how many entries.

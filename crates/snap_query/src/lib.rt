@@ -9,7 +9,6 @@ mod degrees;
 mod lines;
 mod list;
 mod side;
-mod sum;
 mod top;
 
 pub use degrees::run_degrees;

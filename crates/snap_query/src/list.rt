@@ -11,14 +11,13 @@ ghost use Rattle.snap_report.specs.Checks.{LeavesOutput};
 ghost use Rattle.snap_report.specs.Kept.{HasLoaded, IsReadTold, ComesLater};
 ghost use Rattle.snap_query.specs.Queries.{list_text};
 
-use crate::sum::{SNAPSHOT_BYTES, sum_of_list};
 use batch_store::{BookList, Setup};
 use byte_io::Sink;
 use cell_queries::CellRange;
 use cells::Cell;
 use mm_text::write_matrix;
 use snap_file::SnapshotFile;
-use snap_report::CheckFault;
+use snap_report::{CheckFault, SNAPSHOT_BYTES, sum_of_list};
 use std::alloc::Global;
 
 // The cells that stand in a range, in their own memory.

@@ -16,13 +16,12 @@ ghost use Rattle.snap_query.specs.Queries.{by_side, row_lines, rows_in};
 
 use crate::lines::write_lines;
 use crate::side::Side;
-use crate::sum::{SNAPSHOT_BYTES, sum_of_list};
 use batch_store::{BookList, Setup};
 use byte_io::Sink;
 use cell_queries::{ListedCells, RowTally, TopBy, top_of};
 use cells::Cell;
 use snap_file::SnapshotFile;
-use snap_report::CheckFault;
+use snap_report::{CheckFault, SNAPSHOT_BYTES, sum_of_list};
 use std::alloc::{AllocError, Global};
 
 /// Which rows or columns are told, and how many of them.

@@ -62,7 +62,7 @@ fn with_batch(
 }
 
 /// The cells of the sum of a base and of all batches, by row and then by column, each place once.
-pub fn sum_of(
+pub(crate) fn sum_of(
     alloc: Global,
     setup: &Setup,
     base: &Hyper,
@@ -110,7 +110,7 @@ fn total_of_one(batch: &Batch) -> u64
 }
 
 // The counts of all batches together.
-fn total_of(batches: &[Arc<Batch>]) -> u64
+pub(crate) fn total_of(batches: &[Arc<Batch>]) -> u64
     requires { list_total (values batches.now) < 2 ^ 64 }
     ensures { result ≡ list_total (values batches.now) }
 {

@@ -13,10 +13,13 @@ mod fault;
 mod fold;
 mod kept_log;
 mod limits;
+mod sum;
 
-pub use check::{run_check, sum_of};
+pub use check::run_check;
 pub use check_log::run_check_with_log;
 pub use export::run_export;
 pub use fault::{CheckFault, FoldFault};
 pub use fold::run_fold;
 pub use kept_log::{KeptLog, LogFileFault, NamedLog};
+pub use limits::SNAPSHOT_BYTES;
+pub use sum::{sum_of_list, total_of_list};

@@ -12,6 +12,7 @@ use Rattle.log_start.specs.declared.fault.StartFault.{StartFault}
 use Rattle.socket_server.specs.Starts.{IsLoadTold, IsLockTold, IsLogTold}
 use Rattle.socket_server.specs.declared.fault.ServerFault.{ServerFault}
 use Rattle.socket_server.specs.declared.fault.ServerFault.TheVariants.{Memory, BadWorkers, NoAddress, SamePath}
+use Rattle.socket_server.specs.declared.fault.ServerFault.TheVariants.{BadCompactors}
 use Rattle.socket_server.specs.declared.fault.ServerFault.TheVariants.{SnapshotDiffers, File, Log, Listen, NoWorker}
 use Rattle.socket_server.specs.declared.fault.ServerFault.TheVariants.{RecordsDiffer, Save, LastLog, Output}
 
@@ -20,6 +21,7 @@ serving_met must_load Memory m = m
 serving_met must_load BadWorkers m = m
 serving_met must_load NoAddress m = m
 serving_met must_load SamePath m = absurd m
+serving_met must_load BadCompactors m = absurd m
 serving_met must_load SnapshotDiffers m = absurd m
 serving_met must_load (File fault) m = absurd m
 serving_met must_load (Log fault) m = absurd m
@@ -37,6 +39,7 @@ serving_told loads locks h path v Memory m = tt
 serving_told loads locks h path v BadWorkers m = tt
 serving_told loads locks h path v NoAddress m = tt
 serving_told loads locks h path v SamePath m = absurd m
+serving_told loads locks h path v BadCompactors m = absurd m
 serving_told loads locks h path v SnapshotDiffers m = absurd m
 serving_told loads locks h path v (File fault) m = absurd m
 serving_told loads locks h path v (Log fault) m = absurd m
@@ -54,6 +57,7 @@ no_log_told locks h path Memory n = tt
 no_log_told locks h path BadWorkers n = tt
 no_log_told locks h path NoAddress n = tt
 no_log_told locks h path SamePath n = tt
+no_log_told locks h path BadCompactors n = tt
 no_log_told locks h path SnapshotDiffers n = tt
 no_log_told locks h path (File fault) n = tt
 no_log_told locks h path (Log fault) n = absurd n
@@ -72,6 +76,7 @@ no_file_told loads locks h path v Memory n = tt
 no_file_told loads locks h path v BadWorkers n = tt
 no_file_told loads locks h path v NoAddress n = tt
 no_file_told loads locks h path v SamePath n = tt
+no_file_told loads locks h path v BadCompactors n = tt
 no_file_told loads locks h path v SnapshotDiffers n = absurd n
 no_file_told loads locks h path v (File fault) n = absurd n
 no_file_told loads locks h path v (Log fault) n = tt
@@ -87,6 +92,7 @@ serving_no_log Memory m = tt
 serving_no_log BadWorkers m = tt
 serving_no_log NoAddress m = tt
 serving_no_log SamePath m = tt
+serving_no_log BadCompactors m = tt
 serving_no_log SnapshotDiffers m = tt
 serving_no_log (File fault) m = tt
 serving_no_log (Log fault) m = absurd m

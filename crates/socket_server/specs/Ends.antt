@@ -4,7 +4,8 @@
 --                     of batches and its total, and where there is a path the disk d has answered that it was saved
 --                     under it
 --     GoesOn a b      what an engine had accepted when it was closed, b, goes on from what it was opened with, a: the
---                     entries of a are the first of b's, and the same batches are folded, into the same base
+--                     entries of a are the first of b's, and what is folded in a is folded in b, and behind it batches that
+--                     were folded since
 --     IsStored synced has_log a b
 --                     where there is a log, a sync of it has made this much durable at the end: all that the engine was
 --                     opened with, a, and of what it had accepted when it was closed, b, a beginning

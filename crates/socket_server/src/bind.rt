@@ -12,6 +12,7 @@ use crate::watched_listener::{Listen, WatchedListener};
 use byte_io::{Sink, WriteFault, write_all};
 use event_log::EventLog;
 use mio::Waker;
+use server_counters::Counters;
 use session_pool::LastFailure;
 use std::alloc::Global;
 use std::io;
@@ -20,17 +21,20 @@ use std::os::unix::net::UnixListener;
 use std::sync::Arc;
 use std::time::Duration;
 
-/// Where a server listens, how many connections it takes, how long one may be silent, how long sessions go on after a
-/// Stop, where what happens is noted, and why the last save that failed did.
+/// Where a server listens, how many connections it takes, how many threads compact beside them, how long a connection
+/// may be silent, how long sessions go on after a Stop, where what happens is noted, why the last save that failed did,
+/// and what is counted.
 #[derive(Drop)]
 pub struct Places {
     pub tcp: Option<String>,
     pub unix: Option<String>,
     pub sessions: u64,
+    pub compactors: u64,
     pub idle: Option<Duration>,
     pub drain: Option<Duration>,
     pub events: Option<Arc<EventLog>>,
     pub failure: Arc<LastFailure>,
+    pub counters: Counters,
 }
 
 /// The path at which a Unix socket was bound, and the file that was made there, where that could be told.
@@ -52,12 +56,13 @@ impl OwnPath {
     }
 }
 
-/// The listeners that are bound, and what their acceptors share.
+/// The listeners that are bound, what their acceptors share, and how many threads compact.
 #[derive(Drop)]
 pub struct Listeners {
     pub tcp: Option<WatchedListener<TcpListener>>,
     pub unix: Option<WatchedListener<UnixListener>>,
     pub shared: Arc<Shared>,
+    pub compactors: u64,
     own: Option<OwnPath>,
 }
 
@@ -192,10 +197,12 @@ pub fn bind_listeners<R: Host + Net<Listener = TcpListener, Stream = TcpStream>,
         tcp,
         unix,
         sessions,
+        compactors,
         idle,
         drain,
         events,
         failure,
+        counters,
     } = places;
     let (tcp, tcp_waker) = parted(bind_tcp(rt, alloc, tcp, out, written)?);
     let (unix, unix_waker, own) = match unix {
@@ -206,7 +213,13 @@ pub fn bind_listeners<R: Host + Net<Listener = TcpListener, Stream = TcpStream>,
         None => (None, None, None),
     };
     let shared = Shared {
-        gate: StopGate::new(tcp_waker, unix_waker, drain.map(Drain::new), events),
+        gate: StopGate::new(
+            tcp_waker,
+            unix_waker,
+            drain.map(Drain::new),
+            events,
+            counters,
+        ),
         numbers: SessionNumbers::new(sessions),
         idle,
         failure,
@@ -221,6 +234,7 @@ pub fn bind_listeners<R: Host + Net<Listener = TcpListener, Stream = TcpStream>,
         tcp,
         unix,
         shared,
+        compactors,
         own,
     })
 }

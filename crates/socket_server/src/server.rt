@@ -20,6 +20,7 @@ use byte_io::Sink;
 use locked_engine::{Named, Names, Status};
 use log_desk::Log;
 use log_folder::LogNews;
+use server_counters::{Counters, Machine};
 use session_pool::{Disk, LastFailure, LogPlace, Saver};
 use std::alloc::Global;
 use std::marker::Brand;
@@ -42,7 +43,7 @@ fn serve_open<
     N: Named + Send + Sync,
     H: Ledger + Send + Sync,
     L: Log + Send,
-    R: Threads + Wait + Clock + Disk + LogPlace<L> + Sync,
+    R: Threads + Wait + Clock + Machine + Disk + LogPlace<L> + Sync,
 >(
     rt: &R,
     alloc: Global,
@@ -103,7 +104,7 @@ fn serve_bound<
     N: Named + Send + Sync,
     H: Ledger + Send + Sync,
     L: Log + Send,
-    R: Threads + Wait + Clock + Disk + LogPlace<L> + Host + Sync,
+    R: Threads + Wait + Clock + Machine + Disk + LogPlace<L> + Host + Sync,
 >(
     rt: &R,
     alloc: Global,
@@ -130,6 +131,7 @@ fn serve_named<
     R: Threads
         + Wait
         + Clock
+        + Machine
         + Disk
         + LogPlace<L>
         + Host
@@ -177,6 +179,7 @@ fn serve_plan<
     R: Threads
         + Wait
         + Clock
+        + Machine
         + Disk
         + LogPlace<L>
         + Host
@@ -233,6 +236,16 @@ fn news_of_log(alloc: Global) -> Result<Arc<LogNews>, ServerFault>
     }
 }
 
+// What the server counts from now on, with so many workers.
+fn counters_of<R: Clock>(rt: &R, alloc: Global, workers: u64) -> Result<Counters, ServerFault>
+    ensures { IfErr result IsMetServing }
+{
+    match Counters::new(rt, alloc, workers) {
+        Ok(counters) => Ok(counters),
+        Err(_) => Err(ServerFault::Memory),
+    }
+}
+
 // Where it is told why a save failed, in two hands: by one it is told, and by the other it is read.
 #[derive(Drop)]
 struct SaveFailure {
@@ -256,7 +269,7 @@ fn failure_of_saves(alloc: Global, news: &Arc<LogNews>) -> Result<SaveFailure, S
 }
 
 // Where a server listens, and where it saves, as its settings say.
-fn plan_of(settings: Settings, failure: SaveFailure) -> Plan
+fn plan_of(settings: Settings, failure: SaveFailure, counters: Counters) -> Plan
     ensures path { result.saver.path ≡ settings.snapshot }
 {
     let SaveFailure { told, read } = failure;
@@ -265,11 +278,13 @@ fn plan_of(settings: Settings, failure: SaveFailure) -> Plan
         unix,
         setup: _,
         workers: _,
+        compactors,
         snapshot,
         log,
         must_load: _,
         must_save: _,
         sessions,
+        fold_above,
         idle,
         drain,
         events,
@@ -279,12 +294,16 @@ fn plan_of(settings: Settings, failure: SaveFailure) -> Plan
             tcp,
             unix,
             sessions,
+            compactors,
             idle: time_limit(idle),
             drain: time_limit(drain),
             events,
             failure: read,
+            counters,
         },
-        saver: Saver::telling(snapshot, told).with_log(log),
+        saver: Saver::telling(snapshot, told)
+            .with_log(log)
+            .folding_above(fold_above),
     }
 }
 
@@ -295,6 +314,7 @@ fn serve_settings<
     R: Threads
         + Wait
         + Clock
+        + Machine
         + Disk
         + LogPlace<L>
         + Host
@@ -321,9 +341,11 @@ fn serve_settings<
     // What can be refused comes before the start: a refusal then has no engine to drop.
     let news = news_of_log(alloc)?;
     let failure = failure_of_saves(alloc, &news)?;
+    let counters = counters_of(rt, alloc, settings.workers)?;
     let start = make_start::<L, R>(rt, alloc, &settings, &news)?;
     let workers = settings.workers;
-    let plan = plan_of(settings, failure);
+    counters.note_start(start.plain.status().batches);
+    let plan = plan_of(settings, failure, counters);
     serve_plan(rt, alloc, start, workers, plan, out)
 }
 
@@ -349,12 +371,14 @@ fn serve_settings<
 ///
 /// # Errors
 ///
-/// As `ServerFault` says. `BadWorkers`, `NoAddress` and `SamePath` are judged in this order and before anything is done.
+/// As `ServerFault` says. `BadWorkers`, `NoAddress`, `SamePath` and `BadCompactors` are judged in this order and before
+/// anything is done.
 pub fn run_server<
     L: Log + Send,
     R: Threads
         + Wait
         + Clock
+        + Machine
         + Disk
         + LogPlace<L>
         + Host
@@ -372,8 +396,12 @@ pub fn run_server<
     ensures one_path { (result ≡ Err ServerFault.SamePath)
         ↔ ((1 ≤ settings.workers) × (settings.workers ≤ 32) × ((settings.tcp ≡ None) × (settings.unix ≡ None) → ⊥)
         × IsOnePath settings.snapshot settings.log) }
+    ensures compactors { (result ≡ Err ServerFault.BadCompactors)
+        ↔ ((1 ≤ settings.workers) × (settings.workers ≤ 32) × ((settings.tcp ≡ None) × (settings.unix ≡ None) → ⊥)
+        × (IsOnePath settings.snapshot settings.log → ⊥)
+        × ((1 ≤ settings.compactors) × (settings.compactors ≤ 2) → ⊥)) }
     ensures others { IfErr result (λ f. (f ≡ ServerFault.BadWorkers) ⊎ (f ≡ ServerFault.NoAddress)
-        ⊎ (f ≡ ServerFault.SamePath) ⊎ IsMet settings.must_load f) }
+        ⊎ (f ≡ ServerFault.SamePath) ⊎ (f ≡ ServerFault.BadCompactors) ⊎ IsMet settings.must_load f) }
     ensures told { IfErr result (λ f. IsLoadTold R.loads R.locks rt.now settings.snapshot settings.setup f) }
     ensures log_told { IfErr result (λ f. IsLogTold R.loads R.locks R.log_starts rt.now settings.snapshot settings.log
         settings.must_load settings.setup f) }

@@ -100,11 +100,12 @@ fn open(kind: u8, mut body: Bytes) -> Request
         }
         9 => Request::Stored,
         10 => open_range(body),
-        _ => {
+        11 => {
             let by = body.get_u8();
             let most = body.get_u64();
             Request::Top { by, most }
         }
+        _ => Request::Stats,
     }
 }
 

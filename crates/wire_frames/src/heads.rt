@@ -55,6 +55,7 @@ fn fits(head: Head) -> Option<bool>
         9 => Some(head.len == 0),
         10 => Some(head.len == 56),
         11 => Some(head.len == 9),
+        12 => Some(head.len == 0),
         _ => None,
     }
 }

@@ -46,6 +46,7 @@ pub enum Request {
         by: u8,
         most: u64,
     },
+    Stats,
 }
 
 /// What is wrong with the bytes of a link, or that memory ran out.
@@ -113,6 +114,7 @@ fn kind(request: &Request) -> u8
         Request::Stored => 9,
         Request::Range { .. } => 10,
         Request::Top { .. } => 11,
+        Request::Stats => 12,
     }
 }
 
@@ -128,7 +130,12 @@ fn body_len(request: &Request) -> usize
         Request::Row { .. } => 8,
         Request::Range { .. } => 56,
         Request::Top { .. } => 9,
-        Request::Status | Request::Export | Request::Save | Request::Stop | Request::Stored => 0,
+        Request::Status
+        | Request::Export
+        | Request::Save
+        | Request::Stop
+        | Request::Stored
+        | Request::Stats => 0,
     }
 }
 
@@ -186,9 +193,12 @@ fn push_body(out: &mut Vec<u8>, request: &Request) -> Result<(), AllocError>
             out.extend_from_slice(&[*by])?;
             push_number(out, *most)
         }
-        Request::Status | Request::Export | Request::Save | Request::Stop | Request::Stored => Ok(
-            (),
-        ),
+        Request::Status
+        | Request::Export
+        | Request::Save
+        | Request::Stop
+        | Request::Stored
+        | Request::Stats => Ok(()),
     }
 }
 

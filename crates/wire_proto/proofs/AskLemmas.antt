@@ -3,12 +3,13 @@ use Rattle.std.proofs.Common.{◌≡◌, ℕ, ◌<◌, ◌≤◌, List, length, 
 use Rattle.std.proofs.lemmas.Bool.{lt-ltb, le-ltb, cases_lt}
 use Rattle.hyper_rows.specs.declared.search.RowSum.{RowSum}
 use Rattle.wire_frames.specs.Frames.{frame, head_bytes, number}
-use Rattle.wire_proto.specs.Keeping.{Event, cell, row, status, export, save, stored}
-use Rattle.wire_proto.specs.Replies.{value, row_sum, counts, save_reply, text, text_reply, refused}
+use Rattle.wire_proto.specs.Keeping.{Event, cell, row, status, export, save, stored, stats}
+use Rattle.wire_proto.specs.Telling.{Telling, stats_text}
+use Rattle.wire_proto.specs.Replies.{value, row_sum, counts, save_reply, text, text_reply, refused, lines_reply}
 use Rattle.mm_laws.specs.MatrixText.{matrix_text}
-use Rattle.std.proofs.Common.{OnErr, Err, subst}
+use Rattle.std.proofs.Common.{OnErr, IfOk, Err, subst}
 use Rattle.std.specs.declared.alloc.AllocError.{AllocError}
-use Rattle.wire_frames.specs.declared.request.Request.TheVariants.{Range, Top}
+use Rattle.wire_frames.specs.declared.request.Request.TheVariants.{Range, Top, Stats}
 use Rattle.wire_proto.specs.Questions.{AreBounds, IsCount}
 use Rattle.wire_proto.specs.Answering.{Answers, asked, RunsOut, in_call}
 use Rattle.hyper_matrix.specs.Matrix.{Matrix}
@@ -83,3 +84,31 @@ pub top_lacks : {S : Type 0} (gives : S → Event → S → Type 0) (setup : Set
     (lack : AllocError) → by ≤ 1 → IsCount most → gives s (export (Err lack)) t →
     RunsOut gives setup (Top by most) s t
 top_lacks gives setup s t by most lack b n h = in_call (export (Err lack)) (b, n, lack, refl) h refl
+
+-- ---- what a store tells of itself
+pub stats_answered : {S : Type 0} (gives : S → Event → S → Type 0) (setup : Setting) (s t : S) (told : Telling)
+    (reply : List ℕ) → gives s (stats (Ok told)) t → reply ≡ lines_reply (stats_text told) →
+    Answers gives setup Stats reply s t
+stats_answered gives setup s t told reply h e = asked (stats (Ok told)) (Ok told, refl) h (ap (λ x. Some x) (sym e))
+
+pub stats_lacks : {S : Type 0} (gives : S → Event → S → Type 0) (setup : Setting) (s t : S) (lack : AllocError) →
+    gives s (stats (Err lack)) t → RunsOut gives setup Stats s t
+stats_lacks gives setup s t lack h = in_call (stats (Err lack)) (Err lack, refl) h refl
+
+pub stats_replied : {S X E : Type 0} (bytes : X → List ℕ) (gives : S → Event → S → Type 0) (setup : Setting) (s t : S)
+    (told : Telling) (r : Result X E) → gives s (stats (Ok told)) t →
+    IfOk r (λ (x : X). bytes x ≡ lines_reply (stats_text told)) → IfOk r (λ (x : X). Answers gives setup Stats (bytes x) s t)
+stats_replied bytes gives setup s t told (Ok x) h e = stats_answered gives setup s t told (bytes x) h e
+stats_replied bytes gives setup s t told (Err lack) h e = tt
+
+pub on_err_of : {A E : Type 0} (r : Result A E) (P : Type 0) → ((e : E) → P) → OnErr r P
+on_err_of (Ok a) P f = tt
+on_err_of (Err e) P f = f e
+
+pub lines_carried : (bytes : List ℕ) → length bytes ≤ 67108864 → frame 138 bytes ≡ lines_reply bytes
+unfolding lines_reply
+lines_carried bytes short = rw (le-ltb 67108864 (length bytes) short) refl
+
+pub lines_refused : (bytes reply : List ℕ) → 67108864 < length bytes → reply ≡ refused 40 0 → reply ≡ lines_reply bytes
+unfolding lines_reply
+lines_refused bytes reply long e = rw (lt-ltb 67108864 (length bytes) long) e

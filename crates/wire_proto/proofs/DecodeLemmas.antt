@@ -7,7 +7,7 @@ use Rattle.std.proofs.lemmas.List.{append-nil, take-append-drop}
 use Rattle.wire_frames.specs.Frames.{frame, head_bytes, number, number_at, head_kind}
 use Rattle.wire_proto.specs.Replies as frames
 use Rattle.wire_proto.specs.Decoding.{Said, accepted, value, row_sum, counts, text, saved, stopping, refused, FitsReply}
-use Rattle.wire_proto.specs.Decoding.{reply_frame, IsReplyFrame, short_fits, body_says, code_at, cells, rows, AreWhole}
+use Rattle.wire_proto.specs.Decoding.{reply_frame, IsReplyFrame, short_fits, body_says, code_at, cells, rows, stats, AreWhole}
 use Rattle.wire_proto.specs.Questions.{more_byte}
 use Rattle.wire_frames.proofs.RoundLemmas.{kind_read, tail_read, frame_len, number_first, pair_second, lone}
 
@@ -23,12 +23,14 @@ said_kind stopping = 135
 said_kind (refused code detail) = 255
 said_kind (cells more bytes) = 136
 said_kind (rows bytes) = 137
+said_kind (stats bytes) = 138
 
 -- the kinds whose bodies have any length
 pub record IsShort (kind : ℕ) : Type 0 where
   pub no_text : kind ≡ 133 → ⊥
   pub no_cells : kind ≡ 136 → ⊥
   pub no_rows : kind ≡ 137 → ⊥
+  pub no_lines : kind ≡ 138 → ⊥
 
 abbrev pub said_body : Said → List ℕ
 said_body (accepted kept) = number kept.index ++ number kept.total_after
@@ -42,6 +44,7 @@ said_body stopping = []
 said_body (refused code detail) = to_be_bytes w16 code ++ number detail
 said_body (cells more bytes) = more_byte more ∷ bytes
 said_body (rows bytes) = bytes
+said_body (stats bytes) = bytes
 
 pub as_frame : (r : Said) → reply_frame r ≡ frame (said_kind r) (said_body r)
 as_frame (accepted kept) = refl
@@ -55,6 +58,7 @@ as_frame stopping = refl
 as_frame (refused code detail) = refl
 as_frame (cells more bytes) = refl
 as_frame (rows bytes) = refl
+as_frame (stats bytes) = refl
 
 number_alone : (n : ℕ) → n < 2 ^ 64 → number_at 1 (1 ∷ number n) ≡ n
 unfolding number_at number
@@ -78,6 +82,7 @@ body_fits (counts status) n = refl
 body_fits (text bytes) n = absurd (n.no_text refl)
 body_fits (cells more bytes) n = absurd (n.no_cells refl)
 body_fits (rows bytes) n = absurd (n.no_rows refl)
+body_fits (stats bytes) n = absurd (n.no_lines refl)
 body_fits (saved batches) n = refl
 body_fits stopping n = refl
 body_fits (refused code detail) n = refl
@@ -102,6 +107,7 @@ says_again (counts status) h n = rw (
 says_again (text bytes) h n = absurd (n.no_text refl)
 says_again (cells more bytes) h n = absurd (n.no_cells refl)
 says_again (rows bytes) h n = absurd (n.no_rows refl)
+says_again (stats bytes) h n = absurd (n.no_lines refl)
 says_again (saved batches) h n = rw (lone batches h) refl
 says_again stopping h n = refl
 says_again (refused code detail) h n = rw (code_read code detail h.0, detail_read code detail h.1) refl
@@ -144,6 +150,7 @@ text_alone stopping e = absurd (omega (arith, e))
 text_alone (refused code detail) e = absurd (omega (arith, e))
 text_alone (cells more bytes) e = absurd (omega (arith, e))
 text_alone (rows bytes) e = absurd (omega (arith, e))
+text_alone (stats bytes) e = absurd (omega (arith, e))
 
 pub decoded_text : (bytes : List ℕ) (r : Said) → IsReplyFrame bytes r → head_kind bytes ≡ 133 → r ≡ text (drop 5 bytes)
 decoded_text bytes r h k = text_alone r (sym (frame_kind bytes r h.spelled) ∙ k) ∙
@@ -206,6 +213,7 @@ cells_alone bytes (saved batches) e h b = absurd (omega (arith, e))
 cells_alone bytes stopping e h b = absurd (omega (arith, e))
 cells_alone bytes (refused code detail) e h b = absurd (omega (arith, e))
 cells_alone bytes (rows t) e h b = absurd (omega (arith, e))
+cells_alone bytes (stats t) e h b = absurd (omega (arith, e))
 cells_alone bytes (cells more t) e h b = record { more = more; told = t; is = refl; body = b; whole = h }
 
 pub decoded_cells : (bytes : List ℕ) (r : Said) → IsReplyFrame bytes r → head_kind bytes ≡ 136 → TellsCells bytes r
@@ -227,6 +235,7 @@ rows_alone bytes (saved batches) e h b = absurd (omega (arith, e))
 rows_alone bytes stopping e h b = absurd (omega (arith, e))
 rows_alone bytes (refused code detail) e h b = absurd (omega (arith, e))
 rows_alone bytes (cells more t) e h b = absurd (omega (arith, e))
+rows_alone bytes (stats t) e h b = absurd (omega (arith, e))
 rows_alone bytes (rows t) e h b = (ap rows (sym b), subst AreWhole (sym b) h)
 
 pub decoded_rows : (bytes : List ℕ) (r : Said) → IsReplyFrame bytes r → head_kind bytes ≡ 137 →
@@ -237,6 +246,30 @@ decoded_rows bytes r h k = rows_alone bytes r (sym (frame_kind bytes r h.spelled
 pub rows_framed : (bytes : List ℕ) → AreWhole (drop 5 bytes) → take 5 bytes ≡ head_bytes 137 (length (drop 5 bytes)) →
     IsReplyFrame bytes (rows (drop 5 bytes))
 rows_framed bytes whole e = record { fits = whole; spelled = framed bytes 137 e }
+
+-- ---- lines
+lines_alone : (bytes : List ℕ) (r : Said) → said_kind r ≡ 138 → FitsReply r → drop 5 bytes ≡ said_body r →
+    (r ≡ stats (drop 5 bytes)) × (length (drop 5 bytes) ≤ 67108864)
+lines_alone bytes (accepted kept) e h b = absurd (omega (arith, e))
+lines_alone bytes (value count) e h b = absurd (omega (arith, e))
+lines_alone bytes (row_sum sum) e h b = absurd (omega (arith, e))
+lines_alone bytes (counts status) e h b = absurd (omega (arith, e))
+lines_alone bytes (text t) e h b = absurd (omega (arith, e))
+lines_alone bytes (saved batches) e h b = absurd (omega (arith, e))
+lines_alone bytes stopping e h b = absurd (omega (arith, e))
+lines_alone bytes (refused code detail) e h b = absurd (omega (arith, e))
+lines_alone bytes (cells more t) e h b = absurd (omega (arith, e))
+lines_alone bytes (rows t) e h b = absurd (omega (arith, e))
+lines_alone bytes (stats t) e h b = (ap stats (sym b), subst (λ (l : List ℕ). length l ≤ 67108864) (sym b) h)
+
+pub decoded_lines : (bytes : List ℕ) (r : Said) → IsReplyFrame bytes r → head_kind bytes ≡ 138 →
+    (r ≡ stats (drop 5 bytes)) × (length (drop 5 bytes) ≤ 67108864)
+decoded_lines bytes r h k = lines_alone bytes r (sym (frame_kind bytes r h.spelled) ∙ k) h.fits
+    (frame_body bytes r h.spelled)
+
+pub lines_framed : (bytes : List ℕ) → length (drop 5 bytes) ≤ 67108864 →
+    take 5 bytes ≡ head_bytes 138 (length (drop 5 bytes)) → IsReplyFrame bytes (stats (drop 5 bytes))
+lines_framed bytes short e = record { fits = short; spelled = framed bytes 138 e }
 
 -- the byte that says whether there are more cells
 pub byte_low : (more : Bool) → more_byte more ≤ 1

@@ -103,3 +103,12 @@ page_few r most es cells a =
 pub top_few : (by : TopBy) (most : ℕ) (rows top : List RowTally) → IsTop by most rows top → length top ≤ most
 top_few by most rows top h =
     let low = min-le_left most (length rows) in let e = h.long in omega (arith, e, low)
+
+-- lines behind their head
+pub lines_made : (text front out : List ℕ) → front ≡ head_bytes 138 (length text) → out ≡ front ++ text →
+    out ≡ frame 138 text
+unfolding frame
+lines_made text front out h e = e ∙ ap (λ l. l ++ text) h
+
+pub lines_short : (text out : List ℕ) → length text ≤ 67108864 → out ≡ frame 138 text → length out ≤ 134217728
+lines_short text out short e = let a = frame_length 138 text in let b = ap length e in omega (arith, a, b, short)

@@ -30,16 +30,17 @@ use Rattle.plain_engine.specs.declared.fault.PutFault.TheVariants as fault
 use Rattle.wire_proto.specs.declared.keeper.PutRefusal.{PutRefusal}
 use Rattle.wire_proto.specs.declared.keeper.PutRefusal.TheVariants.{Put as Refuses, LogFull, LogFailed}
 use Rattle.wire_frames.specs.Frames.{Message}
-use Rattle.wire_proto.specs.Keeping.{Event, put, cell, row, status, export, save, stored}
+use Rattle.wire_proto.specs.Keeping.{Event, put, cell, row, status, export, save, stored, stats}
+use Rattle.wire_proto.specs.Telling.{Telling}
 use Rattle.wire_proto.specs.Replies.{put_reply, reply_of, refused}
 use Rattle.wire_proto.specs.Answering.{put_limits, kind_number, PutsBatch, RefusesText, faulty, differs, too_large}
 use Rattle.wire_proto.specs.Answering.{Answers, asked, unasked, of_sum, PutsCells, RefusesCells, too_many, outside, sum_passes}
 use Rattle.wire_proto.specs.CellBytes.{cells_of}
-use Rattle.wire_proto.specs.Plain.{PlainGives, IsAnswered}
+use Rattle.wire_proto.specs.Plain.{PlainGives, IsAnswered, plain_told}
 use Rattle.wire_proto.specs.declared.keeper.SaveRefusal.TheVariants.{SaveOff}
 use Rattle.wire_frames.specs.declared.request.Request.{Request}
 use Rattle.wire_frames.specs.declared.request.Request.TheVariants.{Put, Cell as CellAt, Row, Status, Export, Save, Stop}
-use Rattle.wire_frames.specs.declared.request.Request.TheVariants.{PutCells, Stored, Range, Top}
+use Rattle.wire_frames.specs.declared.request.Request.TheVariants.{PutCells, Stored, Range, Top, Stats}
 use Rattle.std.specs.FinMap.{entries, entries_sorted}
 use Rattle.cell_queries.specs.Tallies.{tallies}
 use Rattle.cell_queries.specs.Tops.{IsTop}
@@ -179,6 +180,12 @@ export_is : (v : Setting) (state : Accepted) (a : Result Matrix AllocError) (t :
 export_is v state (Ok m) t w h e = (ap (λ x. Ok x) h.0, h.1)
 export_is v state (Err x) t w h e = absurd (cc)
 
+-- so are the numbers
+told_is : (v : Setting) (state : Accepted) (a : Result Telling AllocError) (t : Accepted) (w : List ℕ) →
+    PlainGives v state (stats a) t → reply_of (stats a) ≡ Some w → (a ≡ Ok (plain_told v state)) × (t ≡ state)
+told_is v state (Ok told) t w h i = (ap (λ x. Ok x) h.0, h.1)
+told_is v state (Err e) t w h i = absurd (cc)
+
 -- of puts of one batch, one reply
 one_put : (v : Setting) (state : Accepted) (e e' : Event) (b b' : Submission) (a a' : Result Kept PutRefusal)
     (w w' : List ℕ) (t t' : Accepted) → b ≡ b' → e ≡ put b a → e' ≡ put b' a' → PlainGives v state e t →
@@ -250,6 +257,14 @@ one_answer v state Stored w w' t t' (asked e a h i) (asked e' a' h' i') =
     event_once v state e e' w w' t t' (a.1 ∙ ap stored (g.0 ∙ sym g'.0) ∙ sym a'.1) (g.1 ∙ sym g'.1) i i'
 one_answer v state Stored w w' t t' (asked e a h i) (unasked a' i') = absurd a'
 one_answer v state Stored w w' t t' (unasked a i) other = absurd a
+one_answer v state Stats w w' t t' (asked e a h i) (asked e' a' h' i') =
+    let g = told_is v state a.0 t w (subst (λ x. PlainGives v state x t) a.1 h)
+    (subst (λ x. reply_of x ≡ Some w) a.1 i) in
+    let g' = told_is v state a'.0 t' w' (subst (λ x. PlainGives v state x t') a'.1 h')
+    (subst (λ x. reply_of x ≡ Some w') a'.1 i') in
+    event_once v state e e' w w' t t' (a.1 ∙ ap stats (g.0 ∙ sym g'.0) ∙ sym a'.1) (g.1 ∙ sym g'.1) i i'
+one_answer v state Stats w w' t t' (asked e a h i) (unasked a' i') = absurd a'
+one_answer v state Stats w w' t t' (unasked a i) other = absurd a
 one_answer v state Stop w w' t t' (asked e a h i) other = absurd a
 one_answer v state Stop w w' t t' (unasked a i) other = absurd a
 one_answer v state (PutCells c n bytes) w w' t t' (asked e a h i) (asked e' a' h' i') =
@@ -281,6 +296,8 @@ one_answer v state Save w w' t t' (of_sum m b g) other = absurd b
 one_answer v state Save w w' t t' (asked e a h i) (of_sum m b g) = absurd b
 one_answer v state Stored w w' t t' (of_sum m b g) other = absurd b
 one_answer v state Stored w w' t t' (asked e a h i) (of_sum m b g) = absurd b
+one_answer v state Stats w w' t t' (of_sum m b g) other = absurd b
+one_answer v state Stats w w' t t' (asked e a h i) (of_sum m b g) = absurd b
 one_answer v state Stop w w' t t' (of_sum m b g) other = absurd b
 one_answer v state (Range x y z n) w w' t t' (asked e a h i) other = absurd (lacks e a.2 w a.3 i)
 one_answer v state (Range x y z n) w w' t t' (unasked a i) (asked e' a' h' i') = absurd (lacks e' a'.2 w' a'.3 i')
@@ -347,6 +364,8 @@ answered_once v state (Ok (PutCells x y z) ∷ ms) w w' t t' a b = then_one v st
 answered_once v state (Ok (Range x y z n) ∷ ms) w w' t t' a b = then_one v state (Range x y z n) ms w w' t t'
     (λ m p q c d. answered_once v m ms p q t t' c d) a b
 answered_once v state (Ok (Top x n) ∷ ms) w w' t t' a b = then_one v state (Top x n) ms w w' t t'
+    (λ m p q c d. answered_once v m ms p q t t' c d) a b
+answered_once v state (Ok Stats ∷ ms) w w' t t' a b = then_one v state Stats ms w w' t t'
     (λ m p q c d. answered_once v m ms p q t t' c d) a b
 
 -- ---- and there is one
@@ -552,3 +571,6 @@ has_answers v state (Ok (Range x y z n) ∷ ms) = let h = then_some v state (Ran
     (λ m. has_answers v m ms) in (h.0, h.1, (h.2, h.3, h.4, h.5, h.6, h.7))
 has_answers v state (Ok (Top x n) ∷ ms) = let h = then_some v state (Top x n) ms (has_rows v state x n)
     (λ m. has_answers v m ms) in (h.0, h.1, (h.2, h.3, h.4, h.5, h.6, h.7))
+has_answers v state (Ok Stats ∷ ms) = let h = then_some v state Stats ms
+    (_, state, asked (stats (Ok (plain_told v state))) (_, refl) (refl, refl) refl) (λ m. has_answers v m ms) in
+    (h.0, h.1, (h.2, h.3, h.4, h.5, h.6, h.7))

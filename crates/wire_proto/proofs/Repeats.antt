@@ -21,7 +21,8 @@ use Rattle.plain_engine.specs.declared.fault.PutFault.{PutFault}
 use Rattle.plain_engine.specs.declared.fault.PutFault.TheVariants as fault
 use Rattle.wire_proto.specs.declared.keeper.PutRefusal.{PutRefusal}
 use Rattle.wire_proto.specs.declared.keeper.PutRefusal.TheVariants.{Put as Refuses, LogFull, LogFailed}
-use Rattle.wire_proto.specs.Keeping.{Event, put, export}
+use Rattle.wire_proto.specs.Keeping.{Event, put, export, stats}
+use Rattle.wire_proto.specs.Telling.{Telling}
 use Rattle.wire_proto.specs.Replies.{accepted, refused, put_reply, reply_of}
 use Rattle.wire_proto.specs.Answering.{PutsBatch, PutsCells, Answers, asked, unasked, of_sum}
 use Rattle.wire_frames.specs.Frames.{Message}
@@ -32,7 +33,7 @@ use Rattle.wire_proto.proofs.OneAnswer.{one_batch, never_both, put_is, one_cells
 use Rattle.wire_proto.proofs.PlainLemmas.{one_more}
 use Rattle.wire_frames.specs.declared.request.Request.{Request}
 use Rattle.wire_frames.specs.declared.request.Request.TheVariants.{Put, PutCells, Cell, Row, Status, Export, Save, Stop}
-use Rattle.wire_frames.specs.declared.request.Request.TheVariants.{Stored, Range, Top}
+use Rattle.wire_frames.specs.declared.request.Request.TheVariants.{Stored, Range, Top, Stats}
 
 -- ---- batches behind what was accepted
 none_behind : (state : Accepted) → with_batches state [] ≡ state
@@ -267,6 +268,7 @@ put_stored v state t c n Export w k p a e = absurd p
 put_stored v state t c n Save w k p a e = absurd p
 put_stored v state t c n Stop w k p a e = absurd p
 put_stored v state t c n Stored w k p a e = absurd p
+put_stored v state t c n Stats w k p a e = absurd p
 
 -- ---- what a session adds to what was accepted
 -- P: it is the one batch of a put
@@ -293,6 +295,12 @@ export_keeps : (v : Setting) (state t : Accepted) (e : Event) (a : Result Matrix
     PlainGives v state e t → t ≡ state
 export_keeps v state t e (Ok m) is h = (subst (λ x. PlainGives v state x t) is h).1
 export_keeps v state t e (Err x) is h = subst (λ x. PlainGives v state x t) is h
+
+-- nor what it tells of itself
+stats_keeps : (v : Setting) (state t : Accepted) (e : Event) (a : Result Telling AllocError) → e ≡ stats a →
+    PlainGives v state e t → t ≡ state
+stats_keeps v state t e (Ok told) is h = (subst (λ x. PlainGives v state x t) is h).1
+stats_keeps v state t e (Err lack) is h = subst (λ x. PlainGives v state x t) is h
 
 adds : (v : Setting) (state t : Accepted) (r : Request) (w : List ℕ) → Answers (PlainGives v) v r w state t →
     Adds v state r t
@@ -336,6 +344,9 @@ adds v state t (Range x y z n) w (of_sum m b g) = inl ((λ x f. f), g.1)
 adds v state t (Top x n) w (asked ev a h i) = inl ((λ x f. f), export_keeps v state t ev (Err a.2) a.3 h)
 adds v state t (Top x n) w (unasked a i) = inl ((λ x f. f), i)
 adds v state t (Top x n) w (of_sum m b g) = inl ((λ x f. f), g.1)
+adds v state t Stats w (asked ev a h i) = inl ((λ x f. f), stats_keeps v state t ev a.0 a.1 h)
+adds v state t Stats w (unasked a i) = inl ((λ x f. f), i)
+adds v state t Stats w (of_sum m b g) = absurd b
 
 -- a request that is answered, and then other messages
 abbrev OneFirst : Setting → Accepted → Request → List Message → List Submission → Type 0
@@ -382,6 +393,7 @@ all_adds v state t (Ok Stored ∷ ms) w a = then_adds v state a.0 t Stored ms a.
 all_adds v state t (Ok (Range x y z n) ∷ ms) w a =
     then_adds v state a.0 t (Range x y z n) ms a.1 a.3 (all_adds v a.0 t ms a.2 a.5)
 all_adds v state t (Ok (Top x n) ∷ ms) w a = then_adds v state a.0 t (Top x n) ms a.1 a.3 (all_adds v a.0 t ms a.2 a.5)
+all_adds v state t (Ok Stats ∷ ms) w a = then_adds v state a.0 t Stats ms a.1 a.3 (all_adds v a.0 t ms a.2 a.5)
 all_adds v state t (Ok Stop ∷ ms) w a = ends_here state t a.1
 all_adds v state t (Err f ∷ ms) w a = ends_here state t a.1
 
@@ -410,6 +422,7 @@ first_answered v state t Save ms w n a = a
 first_answered v state t Stored ms w n a = a
 first_answered v state t (Range x y z i) ms w n a = a
 first_answered v state t (Top x i) ms w n a = a
+first_answered v state t Stats ms w n a = a
 first_answered v state t Stop ms w n a = absurd (n refl)
 
 -- requests, none of them a Stop, and then other messages
@@ -454,6 +467,7 @@ alone_stored v state t c n Stop w k p a e = absurd p
 alone_stored v state t c n Stored w k p a e = absurd p
 alone_stored v state t c n (Range x y z i) w k p a e = absurd p
 alone_stored v state t c n (Top x i) w k p a e = absurd p
+alone_stored v state t c n Stats w k p a e = absurd p
 
 pub repeat_replied : (v : Setting) (state a b t : Accepted) (c n : ℕ) (r r' : Request) (w w' : List ℕ)
     (between : List (List Message)) (k k' : Kept) → IsPut c n r → IsPut c n r' →

@@ -24,6 +24,7 @@ pub data Said : Type 0 where
   refused : ℕ → ℕ → Said
   cells : Bool → List ℕ → Said
   rows : List ℕ → Said
+  stats : List ℕ → Said
 
 abbrev pub said : Reply → Said
 said (reply.Accepted kept) = accepted kept
@@ -36,6 +37,7 @@ said reply.Stopping = stopping
 said (reply.Refused code detail) = refused code detail
 said (reply.Cells more cell_bytes) = cells more cell_bytes.now
 said (reply.Rows row_bytes) = rows row_bytes.now
+said (reply.Stats lines) = stats lines.now
 
 -- 24 bytes for each cell, or row, of which there are at most 1,000,000
 abbrev pub AreWhole : List ℕ → Type 0
@@ -54,6 +56,7 @@ FitsReply stopping = Unit {0}
 FitsReply (refused code detail) = (code < 2 ^ 16) × (detail < 2 ^ 64)
 FitsReply (cells more bytes) = AreWhole bytes
 FitsReply (rows bytes) = AreWhole bytes
+FitsReply (stats bytes) = length bytes ≤ 67108864
 
 abbrev pub reply_frame : Said → List ℕ
 reply_frame (accepted kept) = frames.accepted kept
@@ -66,6 +69,7 @@ reply_frame stopping = frames.stopping
 reply_frame (refused code detail) = frames.refused code detail
 reply_frame (cells more bytes) = frame 136 (more_byte more ∷ bytes)
 reply_frame (rows bytes) = frame 137 bytes
+reply_frame (stats bytes) = frame 138 bytes
 
 pub record IsReplyFrame (bytes : List ℕ) (r : Said) : Type 0 where
   pub fits : FitsReply r

@@ -15,6 +15,7 @@ use Rattle.wire_proto.specs.declared.keeper.PutRefusal.TheVariants.{Put, LogFail
 use Rattle.wire_proto.specs.declared.keeper.SaveRefusal.{SaveRefusal}
 use Rattle.wire_proto.specs.declared.keeper.Settled.{Settled}
 use Rattle.wire_proto.specs.declared.keeper.Settled.TheVariants as place_is
+use Rattle.wire_proto.specs.Telling.{Telling}
 
 pub data Event : Type 0 where
   put : Submission → Result Kept PutRefusal → Event
@@ -24,6 +25,7 @@ pub data Event : Type 0 where
   export : Result Matrix AllocError → Event
   save : Result ℕ SaveRefusal → Event
   stored : Status → Event
+  stats : Result Telling AllocError → Event
 
 abbrev pub settled : Kept → Settled → Result Kept PutRefusal
 settled kept place_is.Durable = Ok kept

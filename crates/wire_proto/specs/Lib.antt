@@ -1,4 +1,5 @@
 pub mod CellBytes
+pub mod Telling
 pub mod Keeping
 pub mod TextSizes
 pub mod Replies

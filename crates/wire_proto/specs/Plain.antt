@@ -1,5 +1,6 @@
 -- Sessions over the engine of one thread, whose state is what was accepted, and nothing else.
 --     with_batches        what was accepted with these batches behind it
+--     plain_told          what the engine tells of itself
 --     PlainGives          what the engine answers to a call, and the state that it leaves; it has no log
 --     AnswersMessages     these bytes answer the messages, one after another: each request as a keeper does, a Stop and
 --                         a bad header as the last
@@ -18,7 +19,8 @@ use Rattle.batch_store.specs.Accepted.{Accepted, accepted, with_batch}
 use Rattle.plain_engine.specs.Object.{Puts, verdict_in, cell_of, row_sum_of, export_of, status_of}
 use Rattle.batch_store.specs.declared.verdict.Verdict.TheVariants.{Fresh}
 use Rattle.wire_frames.specs.Frames.{Message, front, Gives, messages}
-use Rattle.wire_proto.specs.Keeping.{Event, put, cell, row, status, export, save, stored}
+use Rattle.wire_proto.specs.Keeping.{Event, put, cell, row, status, export, save, stored, stats}
+use Rattle.wire_proto.specs.Telling.{Telling, telling}
 use Rattle.wire_proto.specs.Replies.{stopping, refused, fault_code}
 use Rattle.wire_proto.specs.Answering.{Answers, PutsBatch, PutsCells}
 use Rattle.wire_proto.specs.Sessions.{Talks, AllPut}
@@ -34,6 +36,9 @@ use Rattle.wire_proto.specs.declared.ended.Ended.TheVariants.{TooManyTurns}
 abbrev pub with_batches : Accepted → List Submission → Accepted
 with_batches a bs = accepted a.base a.folded (a.list ++ bs)
 
+abbrev pub plain_told : Setting → Accepted → Telling
+plain_told v state = telling v (status_of state) (length state.folded) []
+
 abbrev pub PlainGives : Setting → Accepted → Event → Accepted → Type 0
 PlainGives v state (put batch (Ok kept)) after = Puts v state batch (Ok kept) after
 PlainGives v state (put batch (Err (Refuses fault))) after = Puts v state batch (Err fault) after
@@ -46,6 +51,8 @@ PlainGives v state (export (Ok m)) after = (m ≡ export_of v state) × (after �
 PlainGives v state (export (Err e)) after = after ≡ state
 PlainGives v state (save answer) after = (answer ≡ Err SaveOff) × (after ≡ state)
 PlainGives v state (stored s) after = (s ≡ status_of state) × (after ≡ state)
+PlainGives v state (stats (Ok told)) after = (told ≡ plain_told v state) × (after ≡ state)
+PlainGives v state (stats (Err e)) after = after ≡ state
 
 abbrev pub AnswersMessages : {S : Type 0} → (S → Event → S → Type 0) → Setting → S → List Message → List ℕ → S → Type 0
 AnswersMessages gives setup s [] bytes t = (bytes ≡ []) × (t ≡ s)

@@ -11,7 +11,8 @@ use Rattle.plain_engine.specs.declared.fault.PutFault.TheVariants.{Memory, Numbe
 use Rattle.plain_engine.specs.declared.fault.PutFault.TheVariants.{RecordsDiffer}
 use Rattle.wire_frames.specs.Frames.{frame, number}
 use Rattle.mm_laws.specs.MatrixText.{matrix_text}
-use Rattle.wire_proto.specs.Keeping.{Event, put, cell, row, status, export, save, stored}
+use Rattle.wire_proto.specs.Keeping.{Event, put, cell, row, status, export, save, stored, stats}
+use Rattle.wire_proto.specs.Telling.{Telling, stats_text}
 use Rattle.wire_frames.specs.declared.request.FrameFault.{FrameFault}
 use Rattle.wire_frames.specs.declared.request.FrameFault.TheVariants.{Memory as NoMemory, TooLarge, UnknownKind}
 use Rattle.wire_frames.specs.declared.request.FrameFault.TheVariants.{BadLength}
@@ -76,6 +77,14 @@ save_reply (Err SaveMemory) = None
 save_reply (Err SaveOff) = Some (refused 43 0)
 save_reply (Err SaveFailed) = Some (refused 42 0)
 
+-- a text of more bytes than a body may have is refused
+unfoldable pub lines_reply : List ℕ → List ℕ
+lines_reply bytes = if nat_lt 67108864 (length bytes) then refused 40 0 else frame 138 bytes
+
+abbrev pub stats_reply : Result Telling AllocError → Option (List ℕ)
+stats_reply (Ok told) = Some (lines_reply (stats_text told))
+stats_reply (Err e) = None
+
 abbrev pub reply_of : Event → Option (List ℕ)
 reply_of (put batch answer) = put_reply answer
 reply_of (cell r c count) = Some (value count)
@@ -84,3 +93,4 @@ reply_of (status s) = Some (counts s)
 reply_of (export answer) = export_reply answer
 reply_of (save answer) = save_reply answer
 reply_of (stored s) = Some (counts s)
+reply_of (stats answer) = stats_reply answer

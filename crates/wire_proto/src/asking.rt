@@ -10,6 +10,7 @@ use crate::held::Begun;
 use crate::keeper::{Keeper, PutRefusal, SaveRefusal};
 use crate::questions::{Answer, ask_range, ask_top};
 use crate::replies::{Short, counts, refused, row_sum, saved, value};
+use crate::telling::ask_stats;
 use crate::texts::{BodyRefusal, batch_of};
 use batch_store::Kept;
 use bytes::Bytes;
@@ -207,6 +208,7 @@ pub fn ask<K: Keeper>(alloc: Global, keeper: &mut K, request: Request) -> Result
             most,
         } => ask_range(alloc, keeper, rows, cols, start, most),
         Request::Top { by, most } => ask_top(alloc, keeper, by, most),
+        Request::Stats => ask_stats(alloc, keeper),
         Request::Put { .. } | Request::PutCells { .. } | Request::Export | Request::Stop => {
             unreachable!()
         }

@@ -10,8 +10,8 @@ ghost use Rattle.wire_proto.specs.Decoding.{value_at, code_at, AreWhole};
 
 use crate::limits::MOST_BYTES;
 use crate::replies::{
-    Short, accepted, cells_head, counts, refused, row_sum, rows_head, saved, stopping, text_head,
-    value,
+    Short, accepted, cells_head, counts, lines_head, refused, row_sum, rows_head, saved, stopping,
+    text_head, value,
 };
 use batch_store::Kept;
 use bytes::Buf;
@@ -42,9 +42,11 @@ pub enum Reply<'a> {
     Cells { more: bool, cells: &'a [u8] },
     /// Rows, 24 bytes each: row, entries and total.
     Rows(&'a [u8]),
+    /// Lines of what the server tells of itself, or any other bytes.
+    Stats(&'a [u8]),
 }
 
-/// Whether a body of this length fits the kind of a reply but a text, cells and rows.
+/// Whether a body of this length fits the kind of a reply but a text, cells, rows and lines.
 #[tactic(auto, unfolding(crate::specs::Decoding::short_fits))]
 fn fits(kind: u8, len: usize) -> bool
     ensures { result ≡ short_fits kind len }
@@ -216,6 +218,24 @@ fn rows_in(bytes: &[u8]) -> Option<Reply<'_>>
     }
 }
 
+/// The reply that tells lines.
+fn lines_in(bytes: &[u8]) -> Option<Reply<'_>>
+    requires long { 5 ≤ length bytes.now }
+    requires kind { head_kind bytes.now ≡ 138 }
+    ensures some { IfSome result (λ r. IsReplyFrame bytes.now (said r)) }
+    ensures only { (r : Said) → IsReplyFrame bytes.now r → option_map said result ≡ Some r }
+{
+    let (head, body) = bytes.split_at(HEAD);
+    if body.len() > MAX_BODY as usize {
+        return None;
+    }
+    if head == lines_head(body.len() as u32).as_slice() {
+        Some(Reply::Stats(body))
+    } else {
+        None
+    }
+}
+
 /// The reply of one whole frame; None where the bytes are anything else, a byte less or more too. Reads a text no
 /// further than its head, and takes no memory.
 pub fn decode_reply(bytes: &[u8]) -> Option<Reply<'_>>
@@ -234,6 +254,9 @@ pub fn decode_reply(bytes: &[u8]) -> Option<Reply<'_>>
     }
     if kind == 0x89 {
         return rows_in(bytes);
+    }
+    if kind == 0x8a {
+        return lines_in(bytes);
     }
     let (_, body) = bytes.split_at(HEAD);
     if !fits(kind, body.len()) {

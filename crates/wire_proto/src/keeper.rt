@@ -9,9 +9,12 @@ ghost use Rattle.batch_store.specs.Batches.{Submission};
 ghost use Rattle.batch_store.specs.declared.verdict.Kept.{Kept};
 ghost use Rattle.wire_proto.specs.Keeping.{Event, put as putting, cell as looking, row as summing, status as counting};
 ghost use Rattle.wire_proto.specs.Keeping.{export as exporting, save as saving, stored as telling, settled};
+ghost use Rattle.wire_proto.specs.Keeping.{stats as told_by};
+ghost use Rattle.wire_proto.specs.Telling.{Telling};
 ghost use Rattle.wire_proto.specs.declared.keeper.PutRefusal.{PutRefusal};
 ghost use Rattle.wire_proto.specs.declared.keeper.Settled.{Settled};
 
+use crate::told::Told;
 use batch_store::{Batch, Kept, Setup};
 use hyper_matrix::RowSum;
 use plain_engine::{PutFault, Status, ViewedSum};
@@ -168,6 +171,17 @@ pub trait Keeper {
         ensures fact { fact self.new }
         ensures setup { setup_of self.new ≡ setup_of self.old };
 
+    /// What the store tells of itself.
+    ///
+    /// # Errors
+    ///
+    /// A growth was refused.
+    fn stats(&mut self, alloc: Global) -> Result<Told, AllocError>
+        requires fact { fact self.old }
+        ensures gives { gives self.old (told_by result) self.new }
+        ensures fact { fact self.new }
+        ensures setup { setup_of self.new ≡ setup_of self.old };
+
     // A refusal is what the put is answered.
     ghost refused: { (s t : Self) (batch : Submission) (refusal : PutRefusal) → begins s batch (Err refusal) t →
         gives s (putting batch (Err refusal)) t };
@@ -185,4 +199,8 @@ pub trait Keeper {
     // To go through an exported sum takes memory too. Where that is refused it is as if the export had been.
     ghost may_lack: { (s t : Self) (m : Matrix) (e : AllocError) → gives s (exporting (Ok m)) t →
         gives s (exporting (Err e)) t };
+
+    // Nor is there a text of what was told where that takes more memory than there is.
+    ghost may_lack_text: { (s t : Self) (told : Telling) (e : AllocError) → gives s (told_by (Ok told)) t →
+        gives s (told_by (Err e)) t };
 }

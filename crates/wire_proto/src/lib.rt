@@ -19,6 +19,7 @@ mod cell_bodies;
 mod decoding;
 mod ended;
 mod exporting;
+mod figures;
 mod held;
 mod keeper;
 mod laws;
@@ -29,10 +30,13 @@ mod questions;
 mod replies;
 mod sending;
 mod serving;
+mod telling;
 mod texts;
+mod told;
 
 pub use decoding::{Reply, decode_reply};
 pub use ended::Ended;
+pub use figures::{Amount, Figure, Label, Labels};
 pub use keeper::{Keeper, PutRefusal, SaveRefusal, Settled};
 pub use laws::{
     cells_are_read_again, messages_are_answered_in_parts, messages_have_one_answer,
@@ -40,6 +44,7 @@ pub use laws::{
 };
 pub use plain::{PlainKeeper, serve_engine};
 pub use serving::serve;
+pub use told::Told;
 pub use wire_frames::{
     EncodeFault, FrameFault, Frames, Request, bad_headers_stay, encode_request,
     frames_are_read_again, frames_come_in_any_pieces,

@@ -23,7 +23,7 @@ fn push_numbers(out: &mut Vec<u8>, first: u64, second: u64, third: u64) -> Resul
 
 /// A frame's head, behind which there is room for so many bytes.
 #[tactic(auto, unfolding(wire_frames::specs::Frames::head_bytes))]
-fn start(alloc: Global, kind: u8, len: u32) -> Result<Vec<u8>, AllocError>
+pub fn start(alloc: Global, kind: u8, len: u32) -> Result<Vec<u8>, AllocError>
     ensures { IfOk result (λ out. out.items ≡ head_bytes kind len) }
 {
     let mut out = Vec::with_capacity(alloc, HEAD + len as usize)?;

@@ -7,6 +7,7 @@ ghost use Rattle.wire_proto.specs.Plain.{PlainGives, EndsPlain};
 use crate::ended::Ended;
 use crate::keeper::{Keeper, PutRefusal, SaveRefusal, Settled};
 use crate::serving::serve;
+use crate::told::Told;
 use batch_store::{Batch, Kept, Setup};
 use byte_io::Link;
 use hyper_matrix::RowSum;
@@ -62,6 +63,8 @@ impl<'a> Keeper for PlainKeeper<'a> {
 
     ghost may_lack = { λ s t m e h. (h.0, h.1, h.2.1) };
 
+    ghost may_lack_text = { λ s t told e h. (h.0, h.1, h.2.1) };
+
     fn setup(&self) -> Setup {
         self.engine.setup()
     }
@@ -96,6 +99,16 @@ impl<'a> Keeper for PlainKeeper<'a> {
 
     fn stored(&mut self) -> Status {
         self.engine.status()
+    }
+
+    /// It tells no further numbers.
+    fn stats(&mut self, alloc: Global) -> Result<Told, AllocError> {
+        Ok(Told {
+            setup: self.engine.setup(),
+            status: self.engine.status(),
+            folded: self.engine.folded(),
+            figures: Vec::new(alloc),
+        })
     }
 }
 

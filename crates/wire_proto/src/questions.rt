@@ -35,7 +35,7 @@ impl Answer {
 }
 
 /// A refusal with this code, and the detail 0.
-fn refuses(code: u16) -> Answer
+pub fn refuses(code: u16) -> Answer
     ensures bytes { bytes_of result ≡ refused_reply code 0 }
     ensures few { length (bytes_of result) ≤ 2 ^ 27 }
 {

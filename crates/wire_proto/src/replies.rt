@@ -136,6 +136,13 @@ pub fn cells_head(len: u32) -> Short
     start(0x88, len)
 }
 
+/// The head of a reply that tells lines.
+pub fn lines_head(len: u32) -> Short
+    ensures { result.items ≡ head_bytes 138 len }
+{
+    start(0x8a, len)
+}
+
 /// The head of a reply that tells rows.
 pub fn rows_head(len: u32) -> Short
     ensures { result.items ≡ head_bytes 137 len }

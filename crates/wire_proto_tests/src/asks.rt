@@ -38,6 +38,7 @@ pub enum Ask {
     Range([(u64, u64); 3], u64),
     /// By what, and how many rows.
     Top(u8, u64),
+    Stats,
     /// These bytes, in hexadecimal digits.
     Raw(&'static str),
 }
@@ -131,6 +132,7 @@ fn short_request(ask: Ask) -> Option<Request>
             most,
         }),
         Ask::Top(by, most) => Some(Request::Top { by, most }),
+        Ask::Stats => Some(Request::Stats),
         Ask::Put(..) | Ask::Text(..) | Ask::Cells(..) | Ask::Raw(_) => None,
     }
 }

@@ -14,7 +14,7 @@ use std::process::Abort;
 use std::random::RandomSource;
 use std::sync::Arc;
 use test_support::{same, same_at};
-use wire_proto::{Ended, Keeper, PutRefusal, SaveRefusal, Settled, serve};
+use wire_proto::{Ended, Keeper, PutRefusal, SaveRefusal, Settled, Told, serve};
 
 // An engine, and how much of what it accepted was synced. A sync makes all durable that is accepted by then. After so
 // many syncs one fails, and from then on none is tried.
@@ -45,6 +45,8 @@ impl Keeper for Logged {
     ghost earlier = { λ s m t batch answer place known b h. (s, h, b) };
 
     ghost may_lack = { λ s t m e h. h };
+
+    ghost may_lack_text = { λ s t told e h. h };
 
     fn setup(&self) -> Setup {
         self.engine.setup()
@@ -91,6 +93,10 @@ impl Keeper for Logged {
 
     fn stored(&mut self) -> Status {
         self.durable
+    }
+
+    fn stats(&mut self, _alloc: Global) -> Result<Told, AllocError> {
+        Err(AllocError)
     }
 }
 

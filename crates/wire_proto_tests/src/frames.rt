@@ -58,6 +58,9 @@ static HEADERS: &[(&str, Result<Option<u8>, FrameFault>)] = &[
     ("00000009 0b", Ok(None)),
     ("00000008 0b", Err(FrameFault::BadLength)),
     ("0000000a 0b", Err(FrameFault::BadLength)),
+    ("00000000 0c", Ok(Some(12))),
+    ("00000001 0c", Err(FrameFault::BadLength)),
+    ("04000001 0c", Err(FrameFault::TooLarge)),
     ("00000000 0d", Err(FrameFault::UnknownKind)),
     ("01000000 81", Err(FrameFault::UnknownKind)),
     ("00000010 81", Err(FrameFault::UnknownKind)),
@@ -77,6 +80,7 @@ fn kind(request: &Request) -> u8 {
         Request::Stored => 9,
         Request::Range { .. } => 10,
         Request::Top { .. } => 11,
+        Request::Stats => 12,
     }
 }
 
@@ -223,6 +227,7 @@ static SPELLED: &[(Ask, &str)] = &[
          0000000000000005 0000000000000006 0000000000000007",
     ),
     (Ask::Top(1, 258), "00000009 0b 01 0000000000000102"),
+    (Ask::Stats, "00000000 0c"),
     (
         Ask::Cells(9, 1, &[(0, 1, 5), (2, 0, u64::MAX)]),
         "00000040 08 0000000000000009 0000000000000001

@@ -26,6 +26,8 @@ mod replies;
 #[cfg(test)]
 mod sessions;
 #[cfg(test)]
+mod stats;
+#[cfg(test)]
 mod stores;
 #[cfg(test)]
 mod together;

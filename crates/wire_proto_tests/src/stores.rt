@@ -13,7 +13,9 @@ use std::process::Abort;
 use std::sync::Arc;
 use std::test::Fail;
 use test_support::same_at;
-use wire_proto::{Ended, Keeper, PutRefusal, SaveRefusal, Settled, serve};
+use wire_proto::{
+    Amount, Ended, Figure, Keeper, Label, Labels, PutRefusal, SaveRefusal, Settled, serve,
+};
 
 // A store that keeps nothing. It refuses each batch, and answers a save as it was told to; it has no memory to export,
 // and tells three batches as durable.
@@ -42,6 +44,8 @@ impl Keeper for Told {
     ghost earlier = { λ s m t batch answer place known b h. (s, b, h) };
 
     ghost may_lack = { λ s t m e h. h };
+
+    ghost may_lack_text = { λ s t told e h. h };
 
     fn setup(&self) -> Setup {
         self.setup
@@ -87,7 +91,76 @@ impl Keeper for Told {
             total: 12,
         }
     }
+
+    fn stats(&mut self, alloc: Global) -> Result<wire_proto::Told, AllocError> {
+        if self.saved.is_err() {
+            return Err(AllocError);
+        }
+        Ok(wire_proto::Told {
+            setup: self.setup,
+            status: Status {
+                batches: 3,
+                total: 12,
+            },
+            folded: 2,
+            figures: Vec::from_slice(alloc, FIGURES)?,
+        })
+    }
 }
+
+// A line of each kind of amounts and of labels.
+static FIGURES: &[Figure] = &[
+    Figure {
+        name: "version",
+        labels: Labels::None,
+        amount: Amount::Word("0.1.0"),
+    },
+    Figure {
+        name: "refused_total",
+        labels: Labels::One(Label {
+            key: "code",
+            value: Amount::Count(30),
+        }),
+        amount: Amount::Count(7),
+    },
+    Figure {
+        name: "shard_layer_entries",
+        labels: Labels::Two(
+            Label {
+                key: "shard",
+                value: Amount::Count(0),
+            },
+            Label {
+                key: "layer",
+                value: Amount::Count(2),
+            },
+        ),
+        amount: Amount::Count(61_234),
+    },
+    Figure {
+        name: "uptime_seconds",
+        labels: Labels::None,
+        amount: Amount::Millis(12_034),
+    },
+    Figure {
+        name: "save_age_seconds",
+        labels: Labels::None,
+        amount: Amount::Millis(7),
+    },
+    Figure {
+        name: "processor_seconds_total",
+        labels: Labels::None,
+        amount: Amount::Millis(u64::MAX),
+    },
+    Figure {
+        name: "frames_total",
+        labels: Labels::One(Label {
+            key: "kind",
+            value: Amount::Word("put"),
+        }),
+        amount: Amount::Count(u64::MAX),
+    },
+];
 
 const PUT: Ask = Ask::Put(7, 1, "3 3 1\n1 1 5\n");
 
@@ -186,6 +259,41 @@ static CASES: &[Case] = &[
         Ask::Stored,
         "00000010 84 0000000000000003 000000000000000c",
         ON,
+    ),
+    // The setup, `batches 3`, `folded 2` and `total 12`, and then `version 0.1.0`, `refused_total{code="30"} 7`,
+    // `shard_layer_entries{shard="0",layer="2"} 61234`, `uptime_seconds 12.034`, `save_age_seconds 0.007`,
+    // `processor_seconds_total 18446744073709551.615` and `frames_total{kind="put"} 18446744073709551615`.
+    (
+        PutRefusal::LogFull,
+        Ok(0),
+        Ask::Stats,
+        "00000172 8a
+         726f777320330a
+         636f6c7320330a
+         6375747320320a
+         6c617965725f6375745f656e74726965737b6c617965723d2231227d20320a
+         6c617965725f6375745f656e74726965737b6c617965723d2232227d20340a
+         73686172647320320a
+         6c696d6974203130300a
+         6d61785f626174636865732031300a
+         6261746368657320330a
+         666f6c64656420320a
+         746f74616c2031320a
+         76657273696f6e20302e312e300a
+         726566757365645f746f74616c7b636f64653d223330227d20370a
+         73686172645f6c617965725f656e74726965737b73686172643d2230222c6c617965723d2232227d2036313233340a
+         757074696d655f7365636f6e64732031322e3033340a
+         736176655f6167655f7365636f6e647320302e3030370a
+         70726f636573736f725f7365636f6e64735f746f74616c2031383434363734343037333730393535312e3631350a
+         6672616d65735f746f74616c7b6b696e643d22707574227d2031383434363734343037333730393535313631350a",
+        ON,
+    ),
+    (
+        PutRefusal::LogFull,
+        Err(SaveRefusal::Memory),
+        Ask::Stats,
+        "0000000a ff 0001 0000000000000000",
+        Ended::Memory,
     ),
     (
         PutRefusal::LogFull,

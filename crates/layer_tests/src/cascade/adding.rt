@@ -30,16 +30,20 @@ pub fn add(rt: &impl Abort, alloc: Global, layers: &mut Layers, m: &Hyper) {
     layers.commit(planned(rt, alloc, layers, m));
 }
 
-/// Adds a matrix, and gathers so many times.
-pub fn add_and_gather(
-    rt: &impl Abort,
-    alloc: Global,
-    layers: &mut Layers,
-    m: &Hyper,
-    gathers: u64,
-) {
+/// Makes the sum that is due next, if any is, and has the layers take it over.
+pub fn compact(rt: &impl Abort, alloc: Global, layers: &mut Layers) {
+    let begun = layers.begin(alloc, 0, usize::MAX).expect(rt, "memory");
+    if let Some(compaction) = begun {
+        compaction.run(alloc).expect(rt, "memory");
+        let settled = layers.settle(alloc).expect(rt, "memory");
+        assert!(rt; settled);
+    }
+}
+
+/// Adds a matrix, and makes up to so many sums that are due.
+pub fn add_and_compact(rt: &impl Abort, alloc: Global, layers: &mut Layers, m: &Hyper, sums: u64) {
     add(rt, alloc, layers, m);
-    for _ in 0..gathers {
-        layers.gather(alloc).expect(rt, "memory");
+    for _ in 0..sums {
+        compact(rt, alloc, layers);
     }
 }

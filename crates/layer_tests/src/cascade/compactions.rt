@@ -12,12 +12,23 @@ use std::process::Abort;
 use std::test::Fail;
 use test_support::{same, same_at};
 
-/// What is due next, once more where memory is refused.
-fn begun(rt: &impl Abort, alloc: Global, layers: &mut Layers) -> Option<Compaction> {
-    match layers.begin(alloc, usize::MAX) {
+/// What is due next in some layers, once more where memory is refused.
+fn begun_in(
+    rt: &impl Abort,
+    alloc: Global,
+    layers: &mut Layers,
+    from: usize,
+    until: usize,
+) -> Option<Compaction> {
+    match layers.begin(alloc, from, until) {
         Ok(compaction) => compaction,
-        Err(_) => layers.begin(alloc, usize::MAX).expect(rt, "memory"),
+        Err(_) => layers.begin(alloc, from, until).expect(rt, "memory"),
     }
+}
+
+/// What is due next in any layer.
+fn begun(rt: &impl Abort, alloc: Global, layers: &mut Layers) -> Option<Compaction> {
+    begun_in(rt, alloc, layers, 0, usize::MAX)
 }
 
 /// Has the layers take over what was made. Whether anything was.
@@ -127,7 +138,7 @@ fn add_row(rt: &impl Abort, alloc: Global, layers: &mut Layers, row: u64, cells:
 }
 
 /// So many runs of layer 1 are added up at once.
-const MANY_RUNS: u64 = 24;
+const MANY_RUNS: u64 = 16;
 
 /// Layers with the cut 30 and one row of 40 cells for each of so many, which all pass it, and then so many of one cell,
 /// which stay in layer 1.
@@ -160,16 +171,16 @@ fn rest(rt: &impl Abort, alloc: Global, long: u64, short: u64) -> (Option<u64>, 
     (sums, found)
 }
 
-/// Long rows, short ones, how many sums are made, and the entries of layer 2. In layer 1 twenty-four matrices are added
+/// Long rows, short ones, how many sums are made, and the entries of layer 2. In layer 1 sixteen matrices are added
 /// up at once. In layer 2 those are that have more than three times as many entries behind them: five of like size.
 const RESTS: [(u64, u64, u64, u64); 7] = [
     (0, 1, 0, 0),
-    (1, 23, 0, 40),
-    (1, 24, 1, 40),
-    (2, 24, 1, 80),
+    (1, 15, 0, 40),
+    (1, 16, 1, 40),
+    (2, 16, 1, 80),
     (4, 1, 0, 160),
     (5, 1, 1, 200),
-    (5, 24, 2, 200),
+    (5, 16, 2, 200),
 ];
 
 #[test]
@@ -178,6 +189,43 @@ fn what_is_due_is_compacted_once(rt: HostRuntime) -> Result<(), Fail> {
         let found = rest(&rt, rt.alloc(), long, short);
         let want = (Some(sums), [Some(short), Some(deep), Some(1)]);
         assert!(rt; same_at(&rt, &(long, short), &found, &want));
+    }
+    Ok(())
+}
+
+/// How often sums are taken over of so many rows in layer 1 below this cut, and the entries there then.
+fn filled(
+    rt: &impl Abort,
+    alloc: Global,
+    cut: u64,
+    rows: u64,
+    cells: u64,
+) -> (Option<u64>, Option<u64>) {
+    let mut layers = Layers::new(alloc, SIDE, SIDE, &[cut]).expect(rt, "layers");
+    for row in 0..rows {
+        add_row(rt, alloc, &mut layers, row, cells);
+    }
+    let sums = compacted(rt, alloc, &mut layers);
+    let entries = layers.layer_entries(1);
+    drop(layers);
+    (sums, entries)
+}
+
+/// A cut, rows, their cells, and how many sums are made. Fewer than sixteen matrices of layer 1 are added up only where
+/// they have more than three quarters of the cut.
+const FILLED: [(u64, u64, u64, u64); 4] = [
+    (100, 15, 5, 0),
+    (100, 15, 6, 1),
+    (100, 12, 6, 0),
+    (1_000, 15, 6, 0),
+];
+
+#[test]
+fn a_layer_that_fills_is_compacted_before_its_cut(rt: HostRuntime) -> Result<(), Fail> {
+    for (cut, rows, cells, sums) in FILLED {
+        let found = filled(&rt, rt.alloc(), cut, rows, cells);
+        let want = (Some(sums), Some(rows.wrapping_mul(cells)));
+        assert!(rt; same_at(&rt, &(cut, rows, cells), &found, &want));
     }
     Ok(())
 }
@@ -229,6 +277,45 @@ fn each_layer_has_its_turn(rt: HostRuntime) -> Result<(), Fail> {
     Ok(())
 }
 
+/// As `in_turn`, where each is begun in layers of its own, and both are taken over at once: whether each was begun, and
+/// nothing else is there or behind the last layer.
+fn by_depth(rt: &impl Abort, alloc: Global) -> [bool; 7] {
+    let mut layers = layers_with(rt, alloc, 5, MANY_RUNS);
+    let deeper = begun_in(rt, alloc, &mut layers, 1, usize::MAX);
+    let first = begun_in(rt, alloc, &mut layers, 0, 1);
+    let behind = begun_in(rt, alloc, &mut layers, 2, usize::MAX);
+    let far = begun_in(rt, alloc, &mut layers, usize::MAX, usize::MAX);
+    let has_none = behind.is_none() && far.is_none();
+    drop(behind);
+    drop(far);
+    let begins = (deeper.is_some(), first.is_some());
+    let runs = deeper.is_none_or(|it| it.run(alloc).is_ok());
+    let made_both = made(rt, alloc, &mut layers, first);
+    let settles = settled(rt, alloc, &mut layers);
+    let more = begun(rt, alloc, &mut layers);
+    let has_more = more.is_some();
+    drop(more);
+    let holds = sizes(&layers, MANY_RUNS) == [Some(MANY_RUNS), Some(200), Some(1)];
+    drop(layers);
+    [
+        begins.0,
+        begins.1,
+        has_none,
+        runs && made_both,
+        settles,
+        has_more,
+        holds,
+    ]
+}
+
+#[test]
+fn sums_of_two_layers_are_taken_over_at_once(rt: HostRuntime) -> Result<(), Fail> {
+    let found = by_depth(&rt, rt.alloc());
+    let want = [true, true, true, true, false, false, true];
+    assert!(rt; same(&rt, &found, &want));
+    Ok(())
+}
+
 /// What may be given to another thread, and be shared with it.
 fn for_any_thread<T: Send + Sync>(value: T) -> T {
     value
@@ -267,7 +354,7 @@ fn carried(rt: &impl Abort, alloc: Global) -> (bool, [Option<u64>; 3]) {
 #[test]
 fn a_sum_of_what_went_on_is_not_used(rt: HostRuntime) -> Result<(), Fail> {
     let found = carried(&rt, rt.alloc());
-    assert!(rt; same(&rt, &found, &(false, [Some(0), Some(104), Some(1)])));
+    assert!(rt; same(&rt, &found, &(false, [Some(0), Some(96), Some(1)])));
     Ok(())
 }
 

@@ -2,11 +2,11 @@
 //! number of the place alone.
 //!
 //! `rt try --test --fail-alloc N` refuses the growth number N: what the layers hold is then as before.
-use crate::cascade::adding::add_and_gather;
+use crate::cascade::adding::add_and_compact;
 use cells::Cell;
 use hyper_matrix::Hyper;
 use layer_cascade::Layers;
-use std::alloc::Global;
+use std::alloc::{AllocError, Global};
 use std::io::Eprint;
 use std::process::Abort;
 use test_support::{holds_at, same};
@@ -65,12 +65,12 @@ impl Chain {
         true
     }
 
-    /// Layers to which all matrices were added, with so many steps of `gather` after each.
-    fn layers(&self, rt: &impl Abort, alloc: Global, cuts: &[u64], gathers: u64) -> Layers {
+    /// Layers to which all matrices were added, with up to so many sums made after each.
+    fn layers(&self, rt: &impl Abort, alloc: Global, cuts: &[u64], sums: u64) -> Layers {
         let mut layers = Layers::new(alloc, SIDE, SIDE, cuts).expect(rt, "layers");
         for i in 0..self.matrices {
             let m = self.matrix(rt, alloc, i);
-            add_and_gather(rt, alloc, &mut layers, &m, gathers);
+            add_and_compact(rt, alloc, &mut layers, &m, sums);
             drop(m);
         }
         layers
@@ -78,7 +78,7 @@ impl Chain {
 }
 
 /// Cuts, the places from a matrix of the chain to the next, and the matrices. In the first row matrices of 64 places
-/// are added up eight at a time, pass the cut as one, and are added up in pairs in the second layer. In the second they
+/// pass the cut many at a time, and go on to the second layer. In the second they
 /// are of 600 places. In the third they pass all cuts at once, with 40,000.
 static ROWS: &[(&[u64], u64, u64)] = &[
     (&[1_000], 32, 200),
@@ -86,37 +86,46 @@ static ROWS: &[(&[u64], u64, u64)] = &[
     (&[300, 700], 20_000, 2),
 ];
 
-fn check_found(rt: &(impl Abort + Eprint), alloc: Global, gathers: u64) {
+fn check_found(rt: &(impl Abort + Eprint), alloc: Global, sums: u64) {
     for (cuts, step, matrices) in ROWS {
         let chain = Chain {
             step: *step,
             matrices: *matrices,
         };
-        let layers = chain.layers(rt, alloc, cuts, gathers);
+        let layers = chain.layers(rt, alloc, cuts, sums);
         let found = chain.is_found(&layers);
         drop(layers);
-        assert!(rt; holds_at(rt, &(matrices, gathers), found));
+        assert!(rt; holds_at(rt, &(matrices, sums), found));
     }
 }
 
 #[test]
 fn places_are_found_with_their_counts(rt: HostRuntime) {
-    for gathers in [0, 1, 4] {
-        check_found(&rt, rt.alloc(), gathers);
+    for sums in [0, 1, 4] {
+        check_found(&rt, rt.alloc(), sums);
     }
 }
 
-/// Gathers, once more where memory is refused. False if something else is found after the refusal.
-fn gathered(rt: &impl Abort, alloc: Global, layers: &mut Layers, chain: Chain) -> bool {
-    if layers.gather(alloc).is_ok() {
+/// Makes the sum that is due next, if any is, and has the layers take it over.
+fn tried(alloc: Global, layers: &mut Layers) -> Result<(), AllocError> {
+    if let Some(compaction) = layers.begin(alloc, 0, usize::MAX)? {
+        compaction.run(alloc)?;
+        layers.settle(alloc)?;
+    }
+    Ok(())
+}
+
+/// The same, once more where memory is refused. False if something else is found after the refusal.
+fn compacted(rt: &impl Abort, alloc: Global, layers: &mut Layers, chain: Chain) -> bool {
+    if tried(alloc, layers).is_ok() {
         return true;
     }
     let found = chain.is_found(layers);
-    layers.gather(alloc).expect(rt, "memory");
+    tried(alloc, layers).expect(rt, "memory");
     found
 }
 
-/// Two matrices of 200 places pass the cut as one of 300, which `gather` leaves as it is but for its filter.
+/// Two matrices of 200 places pass the cut as one of 300, and nothing is due then.
 #[test]
 fn places_are_found_after_a_refusal(rt: HostRuntime) {
     let chain = Chain {
@@ -125,7 +134,7 @@ fn places_are_found_after_a_refusal(rt: HostRuntime) {
     };
     let mut layers = chain.layers(&rt, rt.alloc(), &[250], 0);
     let sizes = (layers.layer_entries(1), layers.layer_entries(2));
-    let found = gathered(&rt, rt.alloc(), &mut layers, chain) && chain.is_found(&layers);
+    let found = compacted(&rt, rt.alloc(), &mut layers, chain) && chain.is_found(&layers);
     let after = layers.layer_entries(2);
     drop(layers);
     assert!(rt; same(&rt, &sizes, &(Some(0), Some(300))));

@@ -1,6 +1,6 @@
 //! Layers of many entries that pass a cut, beside layers that are built anew from lists of cells at each addition.
 //! Between additions places are counted or matrices are added up, so that a cut is met after none, some or all of that.
-use crate::cascade::adding::add_and_gather;
+use crate::cascade::adding::add_and_compact;
 use crate::cascade::streams::are_same;
 use cells::Cell;
 use hyper_matrix::Hyper;
@@ -164,30 +164,30 @@ fn check_addition(
     model: &mut Model,
     stream: Stream,
     i: u64,
-    gathers: u64,
+    sums: u64,
 ) {
     let list = stream.list(rt, alloc, i);
     let m = built(rt, alloc, &list);
     drop(list);
-    add_and_gather(rt, alloc, layers, &m, gathers);
+    add_and_compact(rt, alloc, layers, &m, sums);
     model.add(rt, alloc, m);
     assert!(rt; holds_at(rt, &i, model.has_sizes(layers)));
 }
 
-/// The entries of each of three layers once so many matrices were added, at least one, with so many steps of `gather`
-/// after each. All agree with the model.
+/// The entries of each of three layers once so many matrices were added, at least one, with up to so many
+/// sums made after each. All agree with the model.
 fn check(
     rt: &(impl Abort + Eprint),
     alloc: Global,
     cuts: &'static [u64],
     stream: Stream,
     matrices: u64,
-    gathers: u64,
+    sums: u64,
 ) -> [u64; 3] {
     let mut layers = Layers::new(alloc, SIDE, SIDE, cuts).expect(rt, "layers");
     let mut model = Model::new(rt, alloc, cuts);
     for i in 0..matrices {
-        check_addition(rt, alloc, &mut layers, &mut model, stream, i, gathers);
+        check_addition(rt, alloc, &mut layers, &mut model, stream, i, sums);
     }
     let list = stream.list(rt, alloc, matrices.wrapping_sub(1));
     let holds = hold(rt, alloc, &layers, &model, &list);
@@ -219,24 +219,23 @@ fn layers_that_pass_a_cut_agree_with_lists(rt: HostRuntime) {
     }
 }
 
-/// As `ROWS`, where three matrices of 7,100 cells pass the first cut at once, and no two of them are added up. In the
-/// first row all places differ, and two thirds are counted before the cut. In the others places come again, with no
-/// entry above the cut, and with one.
+/// As `ROWS`, where three matrices of 7,100 cells pass the first cut at once. In the first row all places differ. In the
+/// others places come again, with no entry above the cut, and with one.
 static COUNTED: &[(&[u64], u64, [u64; 3])] = &[
     (&[5_000, 18_000], 1 << 20, [0, 0, 21_300]),
     (&[5_000, 17_000], 17_000, [0, 17_000, 0]),
     (&[5_000, 16_999], 17_000, [0, 0, 17_000]),
 ];
 
-/// The rows of `COUNTED`, with so many steps of `gather` after each addition.
-fn check_counted(rt: &(impl Abort + Eprint), alloc: Global, gathers: u64) {
+/// The rows of `COUNTED`, with up to so many sums made after each addition.
+fn check_counted(rt: &(impl Abort + Eprint), alloc: Global, sums: u64) {
     for (cuts, places, want) in COUNTED {
         let stream = Stream {
             places: *places,
             cells: 7_100,
         };
-        let sizes = check(rt, alloc, *cuts, stream, 3, gathers);
-        assert!(rt; same_at(rt, &(places, gathers), &sizes, want));
+        let sizes = check(rt, alloc, *cuts, stream, 3, sums);
+        assert!(rt; same_at(rt, &(places, sums), &sizes, want));
     }
 }
 
@@ -246,11 +245,6 @@ fn layers_that_are_counted_at_their_cut_agree_with_lists(rt: HostRuntime) {
 }
 
 #[test]
-fn layers_that_are_counted_in_part_before_agree_with_lists(rt: HostRuntime) {
-    check_counted(&rt, rt.alloc(), 1);
-}
-
-#[test]
-fn layers_that_are_counted_before_their_cut_agree_with_lists(rt: HostRuntime) {
+fn layers_that_are_added_up_before_their_cut_agree_with_lists(rt: HostRuntime) {
     check_counted(&rt, rt.alloc(), 9);
 }

@@ -1,12 +1,13 @@
-//! The thread that compacts beside a pool's workers: which sessions wake it, and that its sums change no answer.
+//! The threads that compact beside a pool's workers: which sessions wake them, and that their sums change no answer.
 
-use crate::pool::engines::{Accepted, pool_over, sessions_in_turn};
+use crate::pool::engines::{Accepted, pool_beside, sessions_in_turn};
 use crate::pool::frames::TWO_PUTS_AND_A_CELL;
 use crate::pool::gates::OpenGate;
 use crate::pool::links::{Kind, links};
 use byte_io::Script;
 use byte_io_tests::pieces;
 use crossbeam_channel::bounded;
+use server_counters::Machine;
 use session_pool::{Disk, LogPlace, PoolFault, PoolReport, Saver};
 use socket_server::FileLog;
 use std::alloc::Global;
@@ -15,7 +16,7 @@ use std::random::RandomSource;
 use std::sync::Wait;
 use std::test::Fail;
 use std::thread::Threads;
-use test_support::{same, same_at};
+use test_support::same_at;
 
 // A Cell at row 0 and column 0.
 const CELL: &[u8] = b"\0\0\0\x10\x02\0\0\0\0\0\0\0\0\0\0\0\0\0\0\0\0";
@@ -34,7 +35,7 @@ static WAKES: &[(&[u8], Accepted, [bool; 2])] = &[
 ];
 
 // Serves a session of these frames.
-fn waking<R: Wait + Disk + LogPlace<FileLog> + RandomSource + Abort>(
+fn waking<R: Wait + Disk + Machine + LogPlace<FileLog> + RandomSource + Abort>(
     rt: &R,
     alloc: Global,
     frames: &[u8],
@@ -62,14 +63,17 @@ fn accepted_puts_wake_whoever_compacts(rt: HostRuntime) -> Result<(), Fail> {
 }
 
 // What a pool did over so many Puts of a count of 1 at one place, and the count there and in the next column then.
-fn put_by_pool<R: Threads + Wait + Disk + LogPlace<FileLog> + RandomSource + Abort + Sync>(
+fn put_by_pool<
+    R: Threads + Wait + Disk + Machine + LogPlace<FileLog> + RandomSource + Abort + Sync,
+>(
     rt: &R,
     alloc: Global,
     count: u8,
+    compactors: u64,
 ) -> (Result<PoolReport, PoolFault>, [Option<u64>; 2]) {
     let saver = Saver::new(None);
     let links = links(rt, alloc, Kind::Put, count);
-    let (report, closed) = pool_over(rt, alloc, 4, 4, &OpenGate, &saver, links);
+    let (report, closed) = pool_beside(rt, alloc, 4, 4, &OpenGate, &saver, links, compactors);
     let counts = [closed.cell(0, 0), closed.cell(0, 1)];
     drop(closed);
     drop(saver);
@@ -78,11 +82,13 @@ fn put_by_pool<R: Threads + Wait + Disk + LogPlace<FileLog> + RandomSource + Abo
 
 #[test]
 fn sums_beside_puts_change_no_count(rt: HostRuntime) -> Result<(), Fail> {
-    let found = put_by_pool(&rt, rt.alloc(), 100);
     let report = PoolReport {
         started: 4,
         served: 100,
     };
-    assert!(rt; same(&rt, &found, &(Ok(report), [Some(100), None])));
+    for compactors in [1u64, 2] {
+        let found = put_by_pool(&rt, rt.alloc(), 100, compactors);
+        assert!(rt; same_at(&rt, &compactors, &found, &(Ok(report), [Some(100), None])));
+    }
     Ok(())
 }

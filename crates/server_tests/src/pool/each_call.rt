@@ -4,6 +4,7 @@
 use crate::pool::engines::{Accepted, InTurn, sessions_in_turn};
 use byte_io::{Once, Script, Source, Trickle};
 use byte_io_tests::pieces;
+use server_counters::Machine;
 use session_pool::{Disk, LogPlace};
 use socket_server::FileLog;
 use std::alloc::Global;
@@ -190,7 +191,7 @@ fn taken_of(rt: &impl Abort, alloc: Global, link: &Script) -> Option<u64> {
 type Found = (InTurn, (u64, u64), [Option<u64>; 2]);
 
 // The session whose call with this number fails, and behind it, where asked for, the session without a failure.
-fn found_at<R: Wait + Disk + LogPlace<FileLog> + RandomSource + Abort>(
+fn found_at<R: Wait + Disk + Machine + LogPlace<FileLog> + RandomSource + Abort>(
     rt: &R,
     alloc: Global,
     call: u32,

@@ -9,6 +9,7 @@ use crossbeam_channel::{Receiver, Sender, bounded};
 use locked_engine::{Engine, Named, Names, Seat};
 use log_desk::LogDesk;
 use plain_engine::PlainEngine;
+use server_counters::Machine;
 use session_pool::{
     Disk, Gate, LogPlace, PoolFault, PoolReport, Saver, SeatKeeper, Session, SessionLog, run_pool,
 };
@@ -110,7 +111,7 @@ fn pooled<
     N: Named + Send + Sync,
     H: Ledger + Send + Sync,
     G: Gate<R> + Sync,
-    R: Threads + Wait + Disk + LogPlace<FileLog> + Abort + Sync,
+    R: Threads + Wait + Disk + Machine + LogPlace<FileLog> + Abort + Sync,
 >(
     rt: &R,
     alloc: Global,
@@ -120,6 +121,7 @@ fn pooled<
     gate: &G,
     saver: &Saver,
     sessions: &Receiver<Session<Script>, Global>,
+    compactors: u64,
 ) -> Outcome
     requires named { NamesEngine names N.setup N.seats N.history N.name N.parts H.name H.parts }
     requires made_from { plain.setup ≡ names.setup }
@@ -137,15 +139,17 @@ fn pooled<
         gate,
         saver,
         desk.as_ref(),
+        compactors,
     );
     drop(desk);
     (report, closed(rt, alloc, engine, seats))
 }
 
-/// Serves sessions over these links, numbered in order, by a pool with the first `workers` of an engine's seats.
+/// Serves sessions over these links, numbered in order, by a pool with the first `workers` of an engine's seats and two
+/// threads that compact.
 pub fn pool_over<
     G: Gate<R> + Sync,
-    R: Threads + Wait + Disk + LogPlace<FileLog> + RandomSource + Abort + Sync,
+    R: Threads + Wait + Disk + Machine + LogPlace<FileLog> + RandomSource + Abort + Sync,
 >(
     rt: &R,
     alloc: Global,
@@ -155,10 +159,27 @@ pub fn pool_over<
     saver: &Saver,
     links: Vec<Script>,
 ) -> Outcome {
+    pool_beside(rt, alloc, seats, workers, gate, saver, links, 2)
+}
+
+/// The same with so many threads that compact.
+pub fn pool_beside<
+    G: Gate<R> + Sync,
+    R: Threads + Wait + Disk + Machine + LogPlace<FileLog> + RandomSource + Abort + Sync,
+>(
+    rt: &R,
+    alloc: Global,
+    seats: usize,
+    workers: usize,
+    gate: &G,
+    saver: &Saver,
+    links: Vec<Script>,
+    compactors: u64,
+) -> Outcome {
     let sessions = queued(rt, alloc, links);
     let (plain, names) = unopened(rt, alloc, seats);
     let outcome = pooled::<Brand, Brand, G, R>(
-        rt, alloc, plain, names, workers, gate, saver, &sessions,
+        rt, alloc, plain, names, workers, gate, saver, &sessions, compactors,
     );
     drop(sessions);
     outcome
@@ -175,7 +196,7 @@ pub fn found_of(outcome: &Outcome) -> Found {
 /// Serves sessions over these links by a pool with the first `workers` of an engine's seats and without snapshots.
 pub fn found_over<
     G: Gate<R> + Sync,
-    R: Threads + Wait + Disk + LogPlace<FileLog> + RandomSource + Abort + Sync,
+    R: Threads + Wait + Disk + Machine + LogPlace<FileLog> + RandomSource + Abort + Sync,
 >(rt: &R, alloc: Global, seats: usize, workers: usize, gate: &G, links: Vec<Script>) -> Found {
     let saver = Saver::new(None);
     let outcome = pool_over(rt, alloc, seats, workers, gate, &saver, links);
@@ -194,7 +215,7 @@ pub fn served_by(started: u64, served: u64, accepted: Accepted) -> Found {
 pub type After = (Ended, Accepted);
 
 // Serves a session by a seat, over a link that hasn't failed.
-fn serve_link<N: Named, H: Ledger, L: Link, R: Wait + Disk + LogPlace<FileLog> + Abort>(
+fn serve_link<N: Named, H: Ledger, L: Link, R: Wait + Disk + Machine + LogPlace<FileLog> + Abort>(
     rt: &R,
     alloc: Global,
     engine: &Engine<N, H>,
@@ -225,7 +246,12 @@ fn total_of_shards(closed: &PlainEngine) -> Option<u64> {
 pub type InTurn = (After, Option<After>, Accepted, Option<u64>);
 
 // Opens an engine, serves these links by its first seat, and closes it.
-fn served_in_turn<N: Named, H: Ledger, L: Link, R: Wait + Disk + LogPlace<FileLog> + Abort>(
+fn served_in_turn<
+    N: Named,
+    H: Ledger,
+    L: Link,
+    R: Wait + Disk + Machine + LogPlace<FileLog> + Abort,
+>(
     rt: &R,
     alloc: Global,
     plain: PlainEngine,
@@ -254,7 +280,10 @@ fn served_in_turn<N: Named, H: Ledger, L: Link, R: Wait + Disk + LogPlace<FileLo
 
 /// Serves a session over the first link and then one over the second, if there is one, by one of a new engine's seats.
 /// Their puts wake whoever receives from `compactor`, where there is one.
-pub fn sessions_in_turn<L: Link, R: Wait + Disk + LogPlace<FileLog> + RandomSource + Abort>(
+pub fn sessions_in_turn<
+    L: Link,
+    R: Wait + Disk + Machine + LogPlace<FileLog> + RandomSource + Abort,
+>(
     rt: &R,
     alloc: Global,
     seats: usize,

@@ -5,6 +5,7 @@ use crate::pool::frames::{REPLIES, TWO_PUTS_AND_A_CELL};
 use crate::pool::gates::end_after;
 use byte_io::Script;
 use byte_io_tests::pieces;
+use server_counters::Machine;
 use session_pool::{Disk, LogPlace};
 use socket_server::FileLog;
 use std::alloc::Global;
@@ -83,7 +84,7 @@ fn has_taken(link: &Script, case: &Case) -> bool {
 type Found = (InTurn, [bool; 2]);
 
 // A session of a case, and then one that doesn't fail.
-fn found_of<R: Wait + Disk + LogPlace<FileLog> + RandomSource + Abort>(
+fn found_of<R: Wait + Disk + Machine + LogPlace<FileLog> + RandomSource + Abort>(
     rt: &R,
     alloc: Global,
     case: &Case,

@@ -2,6 +2,7 @@
 
 use crate::sockets::settings::{ANY_PORT, PLAIN, Plan, settings};
 use byte_io::{Script, WriteFault};
+use server_counters::Machine;
 use session_pool::{Disk, LogPlace};
 use snap_file::{FileFault, SaveFault, SnapFault};
 use socket_server::{FileLog, Host, LogHost, ServerFault, Settings, run_server};
@@ -24,6 +25,7 @@ pub fn is_fault<
         + Wait
         + Clock
         + Disk
+        + Machine
         + LogPlace<FileLog>
         + Host
         + LogHost<FileLog>
@@ -55,6 +57,7 @@ fn taken(rt: &impl Abort, alloc: Global, address: &str) -> Option<ServerFault> {
 enum Wanted {
     BadWorkers,
     NoAddress,
+    BadCompactors,
     Runs,
 }
 
@@ -63,6 +66,7 @@ fn fault_of(wanted: Wanted) -> Option<ServerFault> {
     match wanted {
         Wanted::BadWorkers => Some(ServerFault::BadWorkers),
         Wanted::NoAddress => Some(ServerFault::NoAddress),
+        Wanted::BadCompactors => Some(ServerFault::BadCompactors),
         Wanted::Runs => None,
     }
 }
@@ -82,6 +86,34 @@ static WORKERS: &[(u64, Option<&'static str>, Wanted)] = &[
 fn there_are_one_to_32_workers(rt: HostRuntime) -> Result<(), Fail> {
     for (workers, tcp, wanted) in WORKERS {
         let plan = Plan {
+            workers: *workers,
+            tcp: *tcp,
+            ..PLAIN
+        };
+        let wanted = fault_of(*wanted);
+        let is_told = is_fault(&rt, rt.alloc(), &plan, None, &wanted);
+        drop(wanted);
+        assert!(&rt; is_told);
+    }
+    Ok(())
+}
+
+// A number of threads that compact, of workers, and an address, and what becomes of such a server.
+static COMPACTORS: &[(u64, u64, Option<&'static str>, Wanted)] = &[
+    (0, 1, Some(ANY_PORT), Wanted::BadCompactors),
+    (3, 1, Some(ANY_PORT), Wanted::BadCompactors),
+    (u64::MAX, 1, Some(ANY_PORT), Wanted::BadCompactors),
+    (0, 0, Some(ANY_PORT), Wanted::BadWorkers),
+    (0, 1, None, Wanted::NoAddress),
+    (1, 1, Some(ANY_PORT), Wanted::Runs),
+    (2, 1, Some(ANY_PORT), Wanted::Runs),
+];
+
+#[test]
+fn there_are_one_or_two_threads_that_compact(rt: HostRuntime) -> Result<(), Fail> {
+    for (compactors, workers, tcp, wanted) in COMPACTORS {
+        let plan = Plan {
+            compactors: *compactors,
             workers: *workers,
             tcp: *tcp,
             ..PLAIN

@@ -9,6 +9,7 @@ use crate::sockets::said::Said;
 use crate::sockets::settings::{ANY_PORT, PLAIN, Plan, settings};
 use byte_io::Counted;
 use locked_engine::Status;
+use server_counters::Machine;
 use session_pool::{Disk, LogPlace};
 use snap_file::SaveFault;
 use socket_server::{FileLog, Host, LogHost, ServerFault, Settings, run_server};
@@ -32,6 +33,7 @@ fn run_saying<
         + Wait
         + Clock
         + Disk
+        + Machine
         + LogPlace<FileLog>
         + Host
         + LogHost<FileLog>
@@ -51,6 +53,7 @@ fn outcome_of<
         + Wait
         + Clock
         + Disk
+        + Machine
         + LogPlace<FileLog>
         + Host
         + LogHost<FileLog>

@@ -8,12 +8,15 @@ use std::process::Abort;
 /// A port of TCP that is free.
 pub const ANY_PORT: &str = "127.0.0.1:0";
 
-/// What differs between the servers of the tests: how many workers they have and how many sessions they take, their
-/// addresses, the paths of their snapshot and of their log, and whether the snapshot must be there and be saved to.
+/// What differs between the servers of the tests: how many workers they have and how many sessions they take, above
+/// how many cells they fold, their addresses, the paths of their snapshot and of their log, and whether the snapshot must
+/// be there and be saved to.
 #[derive(Clone, Copy)]
 pub struct Plan<'a> {
     pub workers: u64,
+    pub compactors: u64,
     pub sessions: u64,
+    pub fold_above: u64,
     pub tcp: Option<&'a str>,
     pub unix: Option<&'a str>,
     pub snapshot: Option<&'a str>,
@@ -25,7 +28,9 @@ pub struct Plan<'a> {
 /// Two workers, no address, no snapshot and no log.
 pub const PLAIN: Plan<'static> = Plan {
     workers: 2,
+    compactors: 2,
     sessions: 1 << 40,
+    fold_above: 0,
     tcp: None,
     unix: None,
     snapshot: None,
@@ -50,11 +55,13 @@ pub fn settings(rt: &impl Abort, alloc: Global, plan: &Plan) -> Settings {
         unix: owned(rt, alloc, plan.unix),
         setup: Setup::new(3, 3, &[2, 4], 2, 100, 10).expect(rt, "setup"),
         workers: plan.workers,
+        compactors: plan.compactors,
         snapshot: owned(rt, alloc, plan.snapshot),
         log: owned(rt, alloc, plan.log),
         must_load: plan.must_load,
         must_save: plan.must_save,
         sessions: plan.sessions,
+        fold_above: plan.fold_above,
         idle: None,
         drain: None,
         events: None,

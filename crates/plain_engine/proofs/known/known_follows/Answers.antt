@@ -1,12 +1,11 @@
-use Rattle.std.proofs.Common.{◌≡◌, ℕ, false, true, Some, None, sym, ◌∙◌, ap, arith, suc, ◌+◌, take, add-one}
+use Rattle.std.proofs.Common.{◌≡◌, ℕ, false, true, Some, None, sym, ◌∙◌, ap, arith, suc, ◌+◌, ◌++◌, length, take, add-one}
 use Rattle.std.specs.Prelude.{slice_get}
 use Rattle.std.specs.Arc.{arc_value}
 use Rattle.std.proofs.lemmas.Option.{same_Some}
 use Rattle.batch_store.specs.Batches.{Submission}
-use Rattle.batch_store.specs.Books.{AreDistinct}
 use Rattle.batch_store.specs.Parts.{concerns, concerned}
 use Rattle.plain_engine.proofs.SameLaws.{behind_folded, held_next, next_taken, next_skipped, within_list}
-use Rattle.plain_engine.proofs.KnownLaws.{distinct_behind, same_known}
+use Rattle.plain_engine.proofs.KnownLaws.{place_after, same_known}
 use Rattle.plain_engine.proofs.known.known_follows.Goals as goal
 use Rattle.plain_engine.proofs.known.known_follows.Goals.{then-concerns+in-Some-at+else-not-same_pair, else-concerns}
 
@@ -58,7 +57,7 @@ batches-preserved c =
     let i = c.batches.i in
     let n = c.batches.next in
     let b = arc_value c.in-Some.batch.now in
-    let distinct : AreDistinct list = distinct_behind c.args.book.now.state.folded list c.len-len.ensures.kept.distinct in
+    let known = c.requires.known in
     let at : slice_get list i ≡ Some b =
     sym (behind_folded c.args.book.now.state _ i c.folded-folded.ensures) ∙ sym c.in-Some.ensures in
     let test : concerns s k b.matrix.counts ≡ c.concerns.result =
@@ -74,7 +73,8 @@ batches-preserved c =
           ∙ told.0 ∙ ap (λ (z : Submission). z.client) w.deref-in-Some-at-2.ensures in
           let numbers : x.number ≡ b.number = ap (λ (z : Submission). z.number) (sym w.deref-in-Some-at.ensures)
           ∙ told.1 ∙ ap (λ (z : Submission). z.number) w.deref-in-Some-at-2.ensures in
-          let same : x ≡ b = same_known list held n i x b distinct c.requires.known own at clients numbers in
+          let same : x ≡ b = same_known (known.0 ++ list) held n (length known.0 + i) x b known.1 known.2 own
+          (place_after known.0 list i ∙ at) clients numbers in
           let there : slice_get held n ≡ Some b = own ∙ ap Some same in
           let here : concerns s k b.matrix.counts ≡ true = test ∙ w.if-concerns.true in
           record {

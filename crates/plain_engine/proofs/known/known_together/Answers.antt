@@ -1,4 +1,4 @@
-use Rattle.std.proofs.Common.{◌≡◌, ◌∙◌, ap, subst, arith, ℕ}
+use Rattle.std.proofs.Common.{◌≡◌, ◌++◌, ◌∙◌, sym, subst, arith, ℕ}
 use Rattle.hyper_matrix.specs.Counts.{part}
 use Rattle.plain_engine.specs.Records.{Follows}
 use Rattle.plain_engine.specs.Standing.{AreTogether}
@@ -9,8 +9,23 @@ use Rattle.plain_engine.proofs.known.known_together.Goals as goal
 -- the record of the shard at this place is from the book
 pub known_follows-requires-clause-known : goal.known_follows-requires-clause-known
 known_follows-requires-clause-known c =
-    from_here c.args.book.now.state.list c.args.shards.now c.shards.shard-index c.shard-item.result c.requires.known
-    c.shards-test.true c.shard-item.is
+    let known = c.requires.known in (
+      known.0,
+      known.1,
+      from_here (known.0 ++ c.args.book.now.state.list) c.args.shards.now c.shards.shard-index c.shard-item.result known.2
+          c.shards-test.true c.shard-item.is,
+    )
+
+-- where nothing was folded since, its base is known to be its part
+pub base_follows-requires-clause-based : goal.base_follows-requires-clause-based
+base_follows-requires-clause-based c = λ kept.
+    let v = c.args.setup.now in
+    let a = c.args.book.now.state in
+    let x = c.shard-item.result in
+    let number : x.number ≡ c.shards.place = omega (arith, c.number.ensures.value, c.if-number-place.false) in
+    based_place a v.shards c.args.shards.now c.shards.shard-index x (c.requires.based kept) c.shards-test.true
+    c.shard-item.is
+    ∙ (λ j. part a.base (number j) (sym c.shards-k.ensures.value j))
 
 pub shards-preserved : goal.shards-preserved
 shards-preserved c =
@@ -26,8 +41,8 @@ shards-preserved c =
     let follows : Follows i v.shards x.record_list a.list =
     subst (λ (n : ℕ). Follows n v.shards x.record_list a.list) inv.at
     (subst (λ (k : ℕ). Follows c.shards.place k x.record_list a.list) c.shards-k.ensures.value told) in
-    let based : x.base ≡ part a.base i v.shards = based_place a v.shards xs i x c.requires.based c.shards-test.true
-    c.shard-item.is ∙ ap (λ (n : ℕ). part a.base n v.shards) number in
+    let based : x.base ≡ part a.base i v.shards = c.base_follows.ensures.0 c.if-not-base_follows.false
+    ∙ (λ j. part a.base (inv.at j) (c.shards-k.ensures.value j)) in
     record {
       at = omega (arith, inv.at);
       stand = stand_next v a xs i x c.shards-test.true c.shard-item.is number based follows c.requires.made

@@ -18,7 +18,7 @@ unfolding head_kind
 returns-then-not-fits-clause-only c = λ r h.
     let yes = c.fits.ensures ∙ ap (short_fits _) (ap length c.split_at.ensures.back) ∙
     decoded_fits c.args.bytes.now r h
-    (record { no_text = c.if-kind.false; no_cells = c.if-kind-2.false; no_rows = c.if-kind-3.false }) in
+    (record { no_text = c.if-kind.false; no_cells = c.if-kind-2.false; no_rows = c.if-kind-3.false; no_lines = c.if-kind-4.false }) in
     let no = c.if-not-fits.true in absurd (cc)
 
 pub returns-then-eq-clause-only : goal.returns-then-eq-clause-only
@@ -26,14 +26,14 @@ unfolding head_kind
 returns-then-eq-clause-only c = λ r h.
     ap (λ v. Some v) (c.open-encoded.ensures.says ∙ ap (body_says _) c.split_at.ensures.back ∙
     decoded_says c.args.bytes.now r h
-    (record { no_text = c.if-kind.false; no_cells = c.if-kind-2.false; no_rows = c.if-kind-3.false }))
+    (record { no_text = c.if-kind.false; no_cells = c.if-kind-2.false; no_rows = c.if-kind-3.false; no_lines = c.if-kind-4.false }))
 
 pub returns-else-eq-clause-only : goal.returns-else-eq-clause-only
 unfolding head_kind
 returns-else-eq-clause-only c = λ r h.
     let says = c.open-encoded.ensures.says ∙ ap (body_says _) c.split_at.ensures.back ∙
     decoded_says c.args.bytes.now r h
-    (record { no_text = c.if-kind.false; no_cells = c.if-kind-2.false; no_rows = c.if-kind-3.false }) in
+    (record { no_text = c.if-kind.false; no_cells = c.if-kind-2.false; no_rows = c.if-kind-3.false; no_lines = c.if-kind-4.false }) in
     let same = c.as_slice.ensures.value ∙ c.open-encoded.ensures.encoded ∙ ap reply_frame says ∙ sym h.spelled in
     let yes = c.eq.ensures ∙ (bytes_eq-Decides _ _).1 same in
     let no = c.if-eq.false in absurd (cc)
@@ -45,3 +45,7 @@ cells_in-requires-clause-kind c = c.if-kind-2.true
 pub rows_in-requires-clause-kind : goal.rows_in-requires-clause-kind
 unfolding head_kind
 rows_in-requires-clause-kind c = c.if-kind-3.true
+
+pub lines_in-requires-clause-kind : goal.lines_in-requires-clause-kind
+unfolding head_kind
+lines_in-requires-clause-kind c = c.if-kind-4.true

@@ -1,4 +1,4 @@
-use Rattle.std.proofs.Common.{◌≡◌, ap, sym, subst, arith}
+use Rattle.std.proofs.Common.{◌≡◌, ◌++◌, ◌∙◌, ap, sym, subst, arith}
 use mathlib.Core.List.{IsPrefix}
 use Rattle.batch_store.specs.Accepted.{entries_in, total_in}
 use Rattle.batch_store.specs.Books.{Register}
@@ -32,8 +32,8 @@ returns-clause-differ g c = λ shards book e.
     let parts = c.gather-first.ensures.parts in
     let all : c.gather-first.result.0.parts ≡ g.N.Ledger.parts =
     omega (arith, parts.0, c.if-len-self.false, c.len.ensures, named.1, named.4) in
-    let both : c.unlock_all.new.second.parts ≡ g.H.Ledger.parts =
-    omega (arith, parts.1, c.unlock_all.ensures.parts, c.if-len-self.false, c.len.ensures, named.1, named.2, named.5) in
+    let both : c.unlock_all-shards_rebased.new.second.parts ≡ g.H.Ledger.parts =
+    omega (arith, parts.1, c.unlock_all-shards_rebased.ensures.parts, c.if-len-self.false, c.len.ensures, named.1, named.2, named.5) in
     let same_shards : c.in-Err.shards ≡ shards = cc in
     let same_book : c.in-Err.book ≡ book = cc in
     let back = c.in-Err.ensures.err in
@@ -41,7 +41,7 @@ returns-clause-differ g c = λ shards book e.
     rw (← same_shards, ← same_book, back.0, back.1) (
       omega (
         arith,
-        c.unlock_all.ensures.amount,
+        c.unlock_all-shards_rebased.ensures.amount,
         c.gather-first.ensures.balanced,
         c.audit-2.ensures.whole both,
         c.end-book.ensures.second,
@@ -88,13 +88,20 @@ returns-clause-apart g c = λ shards book e both.
     let told = c.in-Err.ensures.exactly.1 moved in
     cc told
 
--- the book has the base with which the engine was opened, and of its batches what is known
+-- where nothing was folded the book has the base with which the engine was opened; and what is known is of its batches,
+-- and of those before them that it has folded
 pub join_known-requires-clause-based : goal.join_known-requires-clause-based
-join_known-requires-clause-based g c =
-    based_on g.N.Named.opened c.end-book.result.0.state g.N.Named.setup.shards _ c.unlock_all.new.shards.items
-    c.end-book.ensures.past.base (ap (λ (v : Setting). v.shards) c.self.invariant.0) c.unlock_all.ensures.based
+join_known-requires-clause-based g c = λ never.
+    let told = c.is_rebased_or-rebased.ensures never in
+    based_on g.N.Named.opened c.end-book.result.0.state g.N.Named.setup.shards _ c.unlock_all-shards_rebased.new.shards.items
+    (ap (λ (w : Register). w.state.base) c.end-book.ensures.book ∙ told.1)
+    (ap (λ (v : Setting). v.shards) c.self.invariant.0) (c.unlock_all-shards_rebased.ensures.based told.0)
 
 pub join_known-requires-clause-known : goal.join_known-requires-clause-known
 join_known-requires-clause-known g c =
-    all_later c.unlock_all.new.known c.end-book.result.0.state.list c.unlock_all.new.shards.items c.end-book.ensures.known
-    c.unlock_all.ensures.from
+    let told = c.end-book.ensures.known in (
+      told.0,
+      told.1,
+      all_later c.unlock_all-shards_rebased.new.known (told.0 ++ c.end-book.result.0.state.list) c.unlock_all-shards_rebased.new.shards.items told.2
+          c.unlock_all-shards_rebased.ensures.from,
+    )

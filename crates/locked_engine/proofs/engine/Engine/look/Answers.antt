@@ -3,11 +3,12 @@ use Rattle.locked_engine.proofs.engine.Engine.look.Goals as goal
 
 pub returns-then-number-s : goal.returns-then-number-s
 returns-then-number-s g c = (
-  c.deref-locked.result.now.shard,
+  c.shard-shard.result.now,
   record {
-    setup = c.deref-locked.result.now.setup_is;
+    setup = c.shard-shard.ensures.setup;
     number = sym c.number.ensures.value ∙ c.if-number-s.true;
-    based = c.deref-locked.result.now.based;
+    since = c.shard-shard.ensures.based.0;
+    based = c.shard-shard.ensures.based.1;
     held = c.number.ensures.kept;
   },
   (_, c.f.ensures, refl),

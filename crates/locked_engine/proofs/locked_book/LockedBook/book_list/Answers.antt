@@ -1,6 +1,7 @@
 use Rattle.std.proofs.Common.{◌∙◌, sym, ap}
 use Rattle.batch_store.specs.Accepted.{entries_in}
 use Rattle.batch_store.specs.Books.{Register}
+use Rattle.locked_engine.proofs.FoldedLaws.{past_of}
 use Rattle.locked_engine.proofs.ListedLaws.{all_accepted, all_sized, all_past, all_listed}
 use Rattle.locked_engine.proofs.locked_book.LockedBook.book_list.Goals as goal
 
@@ -22,4 +23,5 @@ returns-clause-shown g c =
 pub returns-clause-past : goal.returns-clause-past
 returns-clause-past g c =
     all_past c.self.inside.book g.N.Named.setup c.self.invariant.0 g.N.Named.opened c.book_list.result
-    c.book_list.ensures.list c.self.invariant.1
+    c.book_list.ensures.list
+    (past_of g.N.Named.opened c.self.inside.history.batches c.self.inside.book.state c.self.invariant.1)

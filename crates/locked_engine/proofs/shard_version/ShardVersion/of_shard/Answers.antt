@@ -8,7 +8,8 @@ new-requires g c = (
     shard = record {
       setup = c.requires.setup;
       number = sym c.number-number.ensures.value;
-      based = c.requires.based;
+      since = c.requires.based.0;
+      based = c.requires.based.1;
       held = c.number-number.ensures.kept;
     };
     layers = c.in_ok-sight.ensures.layers;

@@ -1,0 +1,57 @@
+//! The word `export`, as `clap` reads it.
+
+use clap::builder::ValueParser;
+use clap::{Arg, ArgAction, Command};
+use std::alloc::{AllocError, Global};
+
+const EXPORT_ABOUT: &str = "Read snapshots, and write the canonical text of the sum of their batches";
+
+const EXPORT_HELP: &str = "\
+Reads the snapshots in the files PATH to their ends, one after the other, and
+writes the sum of all their batches to standard output: a Matrix Market text
+(matrix coordinate integer general) with the cells by row and then by column. All
+have the rows and columns of the first; a file that is named twice counts twice.
+
+With --compact it writes no text, and saves the sum in the folder DIR without
+empty rows and columns, which tools with a place for each row can't hold. DIR is
+made where it isn't there:
+
+  matrix.mtx  a Matrix Market text of the matrix, rows and columns from 1
+  rows.txt    line i is the row that row i of the matrix stands for, from 0
+  cols.txt    the same of columns
+
+Of a sum without an entry the matrix is 1 by 1, and the others are empty. Other
+files of DIR stay, and files of these names are replaced once all are whole.
+
+Nothing is written unless all snapshots were read without a fault. A fault is one
+line on standard error, the first in the order of the files; where several are
+named it has ' in FILE' behind it, if it is of one:
+
+  hhm: file: NotFound, OpenFailed  status 4
+  hhm: snapshot: KIND              status 3 (KIND Read: 4)
+  hhm: snapshot: DimensionsDiffer  status 3
+  hhm: sum: SumTooLarge            status 3
+  hhm: file: Create, Write, Sync, Rename  status 4
+  hhm: output failed after N bytes status 4
+  hhm: memory                      status 5";
+
+/// The word `export`.
+pub fn export_command<'a>(alloc: Global) -> Result<Command<'a>, AllocError> {
+    let compact = Arg::new(alloc, "compact")
+        .long("compact")
+        .value_name("DIR")
+        .value_parser(ValueParser::NonEmptyString)
+        .help("Save the sum in this folder, without empty rows and columns");
+    let path = Arg::new(alloc, "path")
+        .value_name("PATH")
+        .required(true)
+        .action(ArgAction::Append)
+        .num_args(1..)
+        .value_parser(ValueParser::NonEmptyString)
+        .help("The snapshots' files");
+    Command::new(alloc, "export")
+        .about(EXPORT_ABOUT)
+        .after_help(EXPORT_HELP)
+        .arg(compact)?
+        .arg(path)
+}

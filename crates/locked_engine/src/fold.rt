@@ -1,0 +1,195 @@
+//! Folding what was accepted while other threads put: it is sealed at one moment, added up without a lock, and settled
+//! by an exchange of pointers.
+ghost use Rattle.std.specs.Prelude.{◌≡◌, ◌↔◌, ◌+◌, ◌≤◌, ◌<◌, None, Ok, IfOk, IfSome, OnOk, OnErr, IsSome, IsTrue, false, true, length};
+ghost use Rattle.std.specs.Prelude.{vec_len, vec_capacity};
+ghost use Rattle.locked_engine.specs.Folders.{nothing_sealed, IsMade};
+
+use crate::engine::Engine;
+use crate::folder::Folder;
+use crate::names::Named;
+use batch_store::{BookFold, ReleasedBatches, ReleasedRecord, ShardFold};
+use std::alloc::{AllocError, Global};
+use std::sync::atomic::Ordering;
+use std::sync::ledger::Ledger;
+use std::sync::{Arc, MutexGuard, Wait};
+
+/// What the next fold would be made of, for whoever decides when to fold.
+#[derive(Clone, Copy, Debug, PartialEq, Eq)]
+pub struct Backlog {
+    /// The number of folded batches.
+    pub folded: u64,
+    /// How many entries the base has, the sum of the folded batches.
+    pub base: u64,
+    /// How many cells the batches have together that are neither folded nor sealed; 2^64 - 1 where they have more.
+    pub cells: u64,
+}
+
+/// The batches of the book that were sealed, and the place up to which they reach.
+pub struct SealedBook {
+    pub place: u64,
+    pub fold: Arc<BookFold>,
+}
+
+impl<N: Named, H: Ledger> Engine<N, H> {
+    /// The engine's folder, for whoever asks first; None for all others. It waits for nobody and takes no memory.
+    pub fn folder(&self, alloc: Global) -> Option<Folder>
+        ensures { IfSome result (λ f. f ≡ nothing_sealed) }
+    {
+        if self.has_folder.swap(false, Ordering::SeqCst) {
+            Some(Folder::new(alloc))
+        } else {
+            None
+        }
+    }
+
+    /// What the next fold would be made of, as the book has it under its lock. Constant time.
+    pub fn backlog<R: Wait>(&self, rt: &R) -> Backlog
+        ensures { length N.opened.folded ≤ result.folded }
+    {
+        let locked = self.book.lock(rt);
+        let backlog = locked.backlog();
+        let _ = MutexGuard::unlock(locked);
+        backlog
+    }
+
+    /// Folds all that was accepted at a moment of the call: the batches go into the book's base, and their parts into
+    /// those of the shards; of each batch its entry, its place and its reply are kept, and its cells are let go of. It
+    /// answers whether anything was sealed and is settled now; false: there was nothing to fold. No verdict, cell, row,
+    /// export or status changes by it, and no seat.
+    ///
+    /// It is `begin_fold`, `Folder::run` and `settle_fold` one after the other, and goes on with what the folder had
+    /// sealed before, if it had. Whoever keeps a log calls these three, and settles once the log has what was sealed.
+    ///
+    /// # Errors
+    ///
+    /// A growth was refused. What was sealed stays sealed in the folder, and the next call goes on with it.
+    pub fn fold<R: Wait>(
+        &self,
+        rt: &R,
+        alloc: Global,
+        folder: &mut Folder,
+    ) -> Result<bool, AllocError>
+        ensures ok { OnOk result (folder.new ≡ nothing_sealed) }
+        ensures nothing { result ≡ Ok false → folder.old.place ≡ None }
+        ensures err { OnErr result (IsSome folder.old.place → folder.new.place ≡ folder.old.place) }
+    {
+        if self.begin_fold(rt, alloc, folder)?.is_none() {
+            return Ok(false);
+        }
+        folder.run(alloc)?;
+        Ok(self.settle_fold(rt, alloc, folder))
+    }
+
+    /// Seals all that was accepted, at one moment: all locks are taken at once, those of the shards in rising order and
+    /// then the book's, as by a put of a batch that concerns every shard. Under them pointers are moved, at most nine
+    /// for each shard, and no cell is read or copied. It answers up to which place of the book all batches are sealed
+    /// (`Folder::place`); None where there is nothing to fold. Where the folder has sealed something that isn't settled
+    /// yet, that stays sealed, and nothing else is.
+    ///
+    /// What the engine has accepted and what it answers stays, also on an error. Puts that come later stand behind what
+    /// is sealed.
+    ///
+    /// # Errors
+    ///
+    /// A growth was refused. Nothing is sealed then.
+    pub fn begin_fold<R: Wait>(
+        &self,
+        rt: &R,
+        alloc: Global,
+        folder: &mut Folder,
+    ) -> Result<Option<u64>, AllocError>
+        ensures place { IfOk result (λ place. place ≡ folder.new.place) }
+        ensures kept { IsSome folder.old.place → folder.new ≡ folder.old }
+        ensures nothing { result ≡ Ok None → (folder.old ≡ nothing_sealed) × (folder.new ≡ nothing_sealed) }
+        ensures err { OnErr result (folder.new ≡ folder.old) }
+    {
+        if let Some(place) = folder.place() {
+            return Ok(Some(place));
+        }
+        let mut shards = Vec::with_capacity(alloc, self.setup.shards() as usize)?;
+        let Some(SealedBook { place, fold }) = self.seal_from(rt, alloc, &mut shards, 0)? else {
+            return Ok(None);
+        };
+        folder.take_in(place, shards, fold);
+        Ok(Some(place))
+    }
+
+    /// Puts what was made in place of what it was made of, where the folder has sealed something and all sums are made
+    /// (`Folder::is_made`); else nothing is done. Each lock is taken once more, one after the other, and pointers are
+    /// exchanged under it, which takes no memory and can't be refused. What is let go of is freed when no lock is held.
+    /// Puts and readers go on meanwhile, and are answered as before.
+    pub fn settle_fold<R: Wait>(&self, rt: &R, alloc: Global, folder: &mut Folder) -> bool
+        ensures exactly { IsTrue result ↔ IsMade folder.old }
+        ensures settled { result ≡ true → folder.new ≡ nothing_sealed }
+        ensures kept { result ≡ false → folder.new ≡ folder.old }
+    {
+        if !folder.is_made() {
+            return false;
+        }
+        'shards: for s in 0..self.setup.shards() {
+            let released = self.settle_shard(rt, alloc, s);
+            drop(released);
+        }
+        let released = self.settle_book(rt);
+        drop(released);
+        folder.let_go();
+        true
+    }
+
+    // Seals the shards from s on and then the book, each under its lock, which is held until all are sealed. Where one
+    // can't be, those before it are unsealed. It calls itself once for each shard.
+    fn seal_from<R: Wait>(
+        &self,
+        rt: &R,
+        alloc: Global,
+        folds: &mut Vec<ShardFold>,
+        s: u64,
+    ) -> Result<Option<SealedBook>, AllocError>
+        requires place { s ≤ N.setup.shards }
+        requires room { vec_len folds.old + N.setup.shards ≤ vec_capacity folds.old + s }
+        ensures pushed { vec_len folds.new + s ≤ vec_len folds.old + N.setup.shards }
+        ensures capacity { vec_capacity folds.new ≡ vec_capacity folds.old }
+    {
+        if s == self.setup.shards() {
+            return self.seal_book(rt, alloc);
+        }
+        let mut guard = self.shards[s as usize].lock(rt);
+        let locked = &mut *guard;
+        let begun = locked.begin_fold(alloc)?;
+        let is_sealed = begun.is_some();
+        if let Some(fold) = begun {
+            folds.push_reserved(fold);
+        }
+        let sealed = self.seal_from(rt, alloc, folds, s + 1);
+        if is_sealed && !matches!(sealed, Ok(Some(_))) {
+            locked.unseal();
+        }
+        sealed
+    }
+
+    // Seals the book under its lock.
+    fn seal_book<R: Wait>(&self, rt: &R, alloc: Global) -> Result<Option<SealedBook>, AllocError> {
+        let mut locked = self.book.lock(rt);
+        let sealed = locked.begin_fold(alloc);
+        let _ = MutexGuard::unlock(locked);
+        sealed
+    }
+
+    // Settles shard s under its lock.
+    fn settle_shard<R: Wait>(&self, rt: &R, alloc: Global, s: u64) -> Option<ReleasedRecord>
+        requires { s < N.setup.shards }
+    {
+        let mut guard = self.shards[s as usize].lock(rt);
+        let released = guard.settle_fold(alloc);
+        let _ = MutexGuard::unlock(guard);
+        released
+    }
+
+    // Settles the book under its lock.
+    fn settle_book<R: Wait>(&self, rt: &R) -> Option<ReleasedBatches> {
+        let mut locked = self.book.lock(rt);
+        let released = locked.settle_fold();
+        let _ = MutexGuard::unlock(locked);
+        released
+    }
+}

@@ -1,0 +1,17 @@
+//! What a server counts, for whoever asks what it does.
+//!
+//! Threads count by atomic additions, and wait for nobody. Each number is exact once those who count it rest; numbers
+//! that are read while they are counted may be of moments that lie side by side.
+#![tactic(auto)]
+
+mod codes;
+mod counters;
+mod frame_scan;
+mod machine;
+mod sessions;
+
+pub use codes::{CODES, KINDS, KindName, VERSION};
+pub use counters::{Counters, LastSave};
+pub use frame_scan::{FrameScan, Seen, Way};
+pub use machine::Machine;
+pub use sessions::{SessionCounters, SessionCounts};

@@ -1,0 +1,164 @@
+//! What a server counts: the frames in streams that come in any pieces, and what each call adds.
+
+use server_counters::{CODES, Counters, FrameScan, KINDS, LastSave, Seen, SessionCounts, Way};
+use std::process::Abort;
+use std::time::Clock;
+use test_support::{same, same_at};
+
+/// A cell, a status, a row, a put of one cell, and a Stats.
+static REQUESTS: &[u8] = b"\0\0\0\x10\x02................\
+\0\0\0\0\x04\
+\0\0\0\x08\x03........\
+\0\0\0\x28\x08........................................\
+\0\0\0\0\x0c";
+
+static ASKED: &[Seen] = &[
+    Seen::Kind(2),
+    Seen::Kind(4),
+    Seen::Kind(3),
+    Seen::Kind(8),
+    Seen::Kind(12),
+];
+
+/// A status, a refusal with code 31 and the detail 7, a save of 258 batches, a text, and a refusal with code 1.
+static REPLIES: &[u8] = b"\0\0\0\x10\x84................\
+\0\0\0\x0a\xff\0\x1f\0\0\0\0\0\0\0\x07\
+\0\0\0\x08\x86\0\0\0\0\0\0\x01\x02\
+\0\0\0\x03\x85ab\n\
+\0\0\0\x0a\xff\0\x01\0\0\0\0\0\0\0\0";
+
+static ANSWERED: &[Seen] = &[
+    Seen::Kind(0x84),
+    Seen::Refused(31),
+    Seen::Saved(258),
+    Seen::Kind(0x85),
+    Seen::Refused(1),
+];
+
+// How many of the frames that are wanted have been seen once these bytes went by, where so many had before; None where
+// another one is seen.
+fn seen_on(scan: &mut FrameScan, bytes: &[u8], wanted: &[Seen], before: usize) -> Option<usize> {
+    let mut count = before;
+    let mut rest = bytes;
+    for _ in 0..bytes.len() {
+        let (seen, behind) = scan.next(rest);
+        rest = behind;
+        let Some(seen) = seen else {
+            break;
+        };
+        if wanted.get(count) != Some(&seen) {
+            return None;
+        }
+        count = count.saturating_add(1);
+    }
+    Some(count)
+}
+
+// The same of bytes that come in two pieces, of which the first has so many.
+fn seen_in_halves(way: Way, bytes: &[u8], wanted: &[Seen], at: usize) -> Option<usize> {
+    let mut scan = FrameScan::new(way);
+    let (first, second) = bytes.split_at_checked(at)?;
+    let count = seen_on(&mut scan, first, wanted, 0)?;
+    seen_on(&mut scan, second, wanted, count)
+}
+
+// The same of bytes that come one by one.
+fn seen_by_bytes(way: Way, bytes: &[u8], wanted: &[Seen]) -> Option<usize> {
+    let mut scan = FrameScan::new(way);
+    let mut count = 0usize;
+    for piece in bytes.chunks(1) {
+        count = seen_on(&mut scan, piece, wanted, count)?;
+    }
+    Some(count)
+}
+
+#[test]
+fn frames_are_seen_in_any_pieces(rt: HostRuntime) {
+    for (way, bytes, wanted) in [(Way::In, REQUESTS, ASKED), (Way::Out, REPLIES, ANSWERED)] {
+        for at in 0..bytes.len() {
+            let found = seen_in_halves(way, bytes, wanted, at);
+            assert!(rt; same_at(&rt, &at, &found, &Some(5)));
+        }
+        let found = seen_by_bytes(way, bytes, wanted);
+        assert!(rt; same(&rt, &found, &Some(5)));
+    }
+}
+
+// Counters that nothing was added to.
+fn fresh<R: Clock + Abort>(rt: &R, alloc: std::alloc::Global) -> Counters {
+    Counters::new(rt, alloc, 3).expect(rt, "memory")
+}
+
+#[test]
+fn each_call_adds_to_its_number(rt: HostRuntime) {
+    let counters = fresh(&rt, rt.alloc());
+    assert!(rt; same(&rt, &(counters.workers(), counters.accepted(7)), &(3, 7)));
+    counters.note_start(5);
+    assert!(rt; same(&rt, &(counters.accepted(7), counters.accepted(3)), &(2, 0)));
+    counters.note_batch(10);
+    counters.note_batch(0);
+    counters.note_batch(4);
+    counters.note_repeat();
+    counters.note_received(100);
+    counters.note_sent(30);
+    counters.note_sent(3);
+    let found = (
+        counters.cells(),
+        counters.repeats(),
+        counters.received(),
+        counters.sent(),
+    );
+    assert!(rt; same(&rt, &found, &(14, 1, 100, 33)));
+}
+
+#[test]
+fn requests_and_replies_are_counted_by_what_they_are(rt: HostRuntime) {
+    let counters = fresh(&rt, rt.alloc());
+    counters.note_requests(8, 3);
+    counters.note_requests(99, 5);
+    for place in 0..KINDS.len() {
+        let wanted = if KINDS[place].kind == 8 { 3 } else { 0 };
+        assert!(rt; same_at(&rt, &place, &counters.requests(place), &wanted));
+    }
+    for reply in ANSWERED {
+        counters.note_reply(&rt, *reply);
+    }
+    counters.note_reply(&rt, Seen::Refused(42));
+    counters.note_reply(&rt, Seen::Refused(999));
+    for place in 0..CODES.len() {
+        let wanted = match CODES[place] {
+            1 | 31 | 42 => 1,
+            _ => 0,
+        };
+        assert!(rt; same_at(&rt, &place, &counters.refusals(place), &wanted));
+    }
+    let Some(LastSave { batches, age }) = counters.last_save(&rt) else {
+        assert!(rt; false);
+        return;
+    };
+    let found = (
+        counters.saves(),
+        counters.failed_saves(),
+        batches,
+        age.is_some(),
+    );
+    assert!(rt; same(&rt, &found, &(1, 1, 258, true)));
+}
+
+#[test]
+fn connections_come_are_served_and_end(rt: HostRuntime) {
+    let counters = fresh(&rt, rt.alloc());
+    for _ in 0..5u8 {
+        counters.sessions.note_connection();
+    }
+    for _ in 0..3u8 {
+        counters.sessions.note_worker();
+    }
+    counters.sessions.note_end();
+    let wanted = SessionCounts {
+        served: 3,
+        open: 2,
+        waiting: 2,
+    };
+    assert!(rt; same(&rt, &counters.sessions.counts(), &wanted));
+}

@@ -1,0 +1,6 @@
+pub mod SeveralLemmas
+pub mod LineLemmas
+pub mod LabelLemmas
+pub mod CompactLemmas
+pub mod SavedLemmas
+pub mod LawLemmas

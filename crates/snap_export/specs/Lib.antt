@@ -1,0 +1,7 @@
+pub mod Several
+pub mod Steps
+pub mod Labels
+pub mod Compact
+pub mod Saved
+pub mod Files
+pub mod Told

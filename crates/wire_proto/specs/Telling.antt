@@ -1,0 +1,79 @@
+-- What a store tells of itself, and its text: ASCII lines, each a name, a space, a number and LF.
+--     Telling         the setup, one status, how many of its batches are folded, and further lines
+--     figure_text     a further line: between name and space may stand one or two labels in braces, each a key, =, and
+--                     its value in quotation marks
+--     stats_text      the lines of all, those of the setup and of the status in front
+use Rattle.std.specs.Prelude.{ℕ, ◌+◌, ◌/◌, ◌%◌, List, [], ◌∷◌, ◌++◌, length, flat_map, codes, decimal}
+use Rattle.batch_store.specs.Setups.{Setting}
+use Rattle.plain_engine.specs.declared.status.Status.{Status}
+use Rattle.wire_proto.specs.declared.figures.Amount.{Amount}
+use Rattle.wire_proto.specs.declared.figures.Amount.TheVariants.{Count, Millis, Word}
+use Rattle.wire_proto.specs.declared.figures.Label.{Label}
+use Rattle.wire_proto.specs.declared.figures.Labels.{Labels}
+use Rattle.wire_proto.specs.declared.figures.Labels.TheVariants.{None as NoLabel, One, Two}
+use Rattle.wire_proto.specs.declared.figures.Figure.{Figure}
+
+pub record Telling : Type 0 where
+  pub setup : Setting
+  pub status : Status
+  pub folded : ℕ
+  pub figures : List Figure
+
+abbrev pub telling : Setting → Status → ℕ → List Figure → Telling
+telling setup status folded figures = record { setup = setup; status = status; folded = folded; figures = figures }
+
+-- the last decimal digit
+abbrev pub digit : ℕ → ℕ
+digit n = 48 + n % 10
+
+abbrev pub amount_text : Amount → List ℕ
+amount_text (Count n) = decimal n
+amount_text (Millis n) = decimal (n / 1000) ++ 46 ∷ digit (n / 100) ∷ digit (n / 10) ∷ digit n ∷ []
+amount_text (Word word) = word.now
+
+abbrev pub label_text : Label → List ℕ
+label_text l = l.key.now ++ 61 ∷ 34 ∷ amount_text l.value ++ 34 ∷ []
+
+abbrev pub labels_text : Labels → List ℕ
+labels_text NoLabel = []
+labels_text (One l) = 123 ∷ label_text l ++ 125 ∷ []
+labels_text (Two l m) = 123 ∷ label_text l ++ 44 ∷ label_text m ++ 125 ∷ []
+
+unfoldable pub figure_text : Figure → List ℕ
+figure_text f = f.name.now ++ labels_text f.labels ++ 32 ∷ amount_text f.amount ++ 10 ∷ []
+
+-- a line without labels
+unfoldable pub number_line : List ℕ → ℕ → List ℕ
+number_line name n = name ++ 32 ∷ decimal n ++ 10 ∷ []
+
+-- a line whose last label is the number of a layer: what stands before that number, and the cut
+unfoldable pub cut_line : List ℕ → ℕ → ℕ → List ℕ
+cut_line front layer cut = front ++ decimal layer ++ 34 ∷ 125 ∷ 32 ∷ decimal cut ++ 10 ∷ []
+
+-- the cut of each layer, from this one on
+abbrev pub cut_lines : ℕ → List ℕ → List ℕ
+cut_lines layer [] = []
+cut_lines layer (cut ∷ cuts) =
+    cut_line (codes "layer_cut_entries{layer=\"") layer cut ++ cut_lines (layer + 1) cuts
+
+unfoldable pub setup_text : Setting → List ℕ
+setup_text v =
+    number_line (codes "rows") v.rows
+    ++ number_line (codes "cols") v.cols
+    ++ number_line (codes "cuts") (length v.cuts)
+    ++ cut_lines 1 v.cuts
+    ++ number_line (codes "shards") v.shards
+    ++ number_line (codes "limit") v.limit
+    ++ number_line (codes "max_batches") v.max_batches
+
+unfoldable pub status_text : Status → ℕ → List ℕ
+status_text s folded =
+    number_line (codes "batches") s.batches
+    ++ number_line (codes "folded") folded
+    ++ number_line (codes "total") s.total
+
+unfoldable pub figures_text : List Figure → List ℕ
+figures_text figures = flat_map figure_text figures
+
+unfoldable pub stats_text : Telling → List ℕ
+stats_text t = setup_text t.setup ++ status_text t.status t.folded ++ figures_text t.figures

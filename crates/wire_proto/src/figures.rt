@@ -1,0 +1,35 @@
+//! The lines of what a store tells of itself.
+
+/// What stands behind a name.
+#[derive(Clone, Copy)]
+pub enum Amount {
+    /// A whole number.
+    Count(u64),
+    /// So many thousandths, written with three digits behind the point.
+    Millis(u64),
+    /// A word, as a version. It has no space in it, no quotation mark and no end of a line.
+    Word(&'static str),
+}
+
+/// What a number is of, as the code of a refusal.
+#[derive(Clone, Copy)]
+pub struct Label {
+    pub key: &'static str,
+    pub value: Amount,
+}
+
+/// What tells a number from others of the same name.
+#[derive(Clone, Copy)]
+pub enum Labels {
+    None,
+    One(Label),
+    Two(Label, Label),
+}
+
+/// A line: a name of letters, digits and `_`, its labels, and its number.
+#[derive(Clone, Copy)]
+pub struct Figure {
+    pub name: &'static str,
+    pub labels: Labels,
+    pub amount: Amount,
+}

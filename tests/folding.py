@@ -1,0 +1,274 @@
+#!/usr/bin/env python3
+"""Starts the built program so that it folds what was accepted while it serves, and compares all that it answers.
+
+    python3 tests/folding.py PATH-TO-HHM [--measure CELLS [RATE]]
+
+Each server with a low `--fold-above` is fed, asked, saved, killed, stopped and started again. What is wanted is what a
+plain dictionary says of the same batches: folding changes no answer. That a server has folded is seen in its snapshot,
+which tells how many batches are folded. With `--measure` nothing is compared: so many cells, of which few are distinct,
+go to a server that folds and to one that doesn't, as fast as they are taken or RATE cells a second, and the memory, the
+time, the longest wait and the processor time of each are printed.
+
+It prints a line for each check that fails and at the end `N passed, M failed`; the status is 1 where one fails. Linux,
+and nothing but Python's own library, the client of clients/python and the server of tests/server.py.
+"""
+import contextlib
+import os
+import random
+import signal
+import struct
+import sys
+import tempfile
+import threading
+import time
+
+import server as servers
+from generated import SAVE, added_up, spelled
+from hhm_client import Refused, put_cells_frame
+from server import Server, check, program
+
+ROWS, COLS = 400, 50
+SIZE = ["--rows", str(ROWS), "--cols", str(COLS), "--cuts", "64,4096", "--shards", "3"]
+BATCHES, CELLS = 200, 100
+ROUNDS = 12
+# What a measured stream has: cells in a batch, and places that are distinct.
+BATCH, PLACES = 10_000, 400_000
+
+
+def cells_of(number, count=CELLS):
+    """The cells of a batch: some places far more often than others, and counts of 0 too."""
+    draw = random.Random(number)
+    return [(int(ROWS * draw.random() ** 3), draw.randrange(COLS), draw.randrange(5)) for _ in range(count)]
+
+
+def sum_of(batches):
+    """The sum of many batches' cells."""
+    return added_up({place: total for place, total in sums_of(cells).items()} for cells in batches)
+
+
+def sums_of(cells):
+    sums = {}
+    for row, col, count in cells:
+        sums[row, col] = sums.get((row, col), 0) + count
+    return sums
+
+
+def total_of(batches):
+    return sum(count for cells in batches for _, _, count in cells)
+
+
+def folded_in(path):
+    """How many batches of a snapshot aren't folded, and how many are."""
+    with open(path, "rb") as file:
+        data = file.read()
+    # Behind the mark, the version, the dimensions and the cuts: shards, limit, most batches, batches, total, a check.
+    at = 29 + 8 * data[28]
+    _, _, _, rest, _, _, folded = struct.unpack_from(">BQQQQIQ", data, at)
+    return rest, folded
+
+
+def fed(server, batches, first=0):
+    """Puts the batches from a number on, and compares what each is answered."""
+    total = total_of(batches[:first])
+    with server.client(client=7) as hhm:
+        for number, cells in list(enumerate(batches))[first:]:
+            total += total_of([cells])
+            check(f"batch {number}", tuple(hhm.put(number, cells)), (number, total))
+
+
+def asked(name, server, batches):
+    """Compares a status, cells, rows and an export with what the batches say, and puts some of them again."""
+    sums, total = sum_of(batches), total_of(batches)
+    with server.client(client=7) as hhm:
+        check(f"{name}: status", tuple(hhm.status()), (len(batches), total))
+        for place in [*list(sums)[::97], (ROWS - 1, COLS - 1)]:
+            check(f"{name}: cell {place}", hhm.cell(*place), sums.get(place))
+        for row in range(0, ROWS, 37):
+            counts = [count for place, count in sums.items() if place[0] == row]
+            check(f"{name}: row {row}", tuple(hhm.row(row)), (len(counts), sum(counts)))
+        check(f"{name}: export", bytes(hhm.export()), spelled(ROWS, COLS, sums))
+        for number in range(0, len(batches), 31):
+            before = total_of(batches[: number + 1])
+            check(f"{name}: {number} again", tuple(hhm.put(number, batches[number])), (number, before))
+            other = [*batches[number], (0, 0, 1)]
+            try:
+                answer = hhm.put(number, other)
+            except Refused as refused:
+                answer = refused.code
+            check(f"{name}: other cells under {number}", answer, 30)
+
+
+def entries_line(batches):
+    """The line of `hhm check`."""
+    return (f"rows {ROWS} cols {COLS} shards 3 batches {len(batches)} total {total_of(batches)} "
+            f"entries {len(sum_of(batches))}\n")  # fmt: skip
+
+
+def answers_are_as_without(name, more, logged):
+    """A server is fed 200 batches of 100 cells, asked, saved, stopped, started and asked again."""
+    batches = [cells_of(number) for number in range(BATCHES)]
+    path = os.path.join(servers.FOLDER, name)
+    words = [*SIZE, *more, "--snapshot", path, *(["--log", path + ".log"] if logged else [])]
+    with Server(words) as server:
+        fed(server, batches)
+        asked(name, server, batches)
+        with server.client() as hhm:
+            check(f"{name}: save", hhm.save(), BATCHES)
+        rest, folded = folded_in(path)
+        check(f"{name}: batches of the snapshot", rest + folded, BATCHES)
+        check(f"{name}: some are folded", folded > 0, "0" not in more)
+        check(f"{name}: check of the file", program("check", path), (entries_line(batches), "", 0))
+        server.stop(name, BATCHES, total_of(batches))
+    check(f"{name}: check at the end", program("check", path), (entries_line(batches), "", 0))
+    with Server(words) as server:
+        asked(f"{name}, started again", server, batches)
+        more_batches = [*batches, *(cells_of(number) for number in range(BATCHES, BATCHES + 50))]
+        fed(server, more_batches, BATCHES)
+        asked(f"{name}, fed again", server, more_batches)
+        server.stop(name, len(more_batches), total_of(more_batches))
+    check(f"{name}: the text", program("export", path), (spelled(ROWS, COLS, sum_of(more_batches)).decode(), "", 0))
+
+
+def numbers_are_refused():
+    """Words that are no number of cells."""
+    for word in ["", "x", "-1", "18446744073709551616"]:
+        line = program("serve", *SIZE, "--unix", os.path.join(servers.FOLDER, "no"), f"--fold-above={word}")
+        check(f"--fold-above={word}", line, ("", "hhm: settings: BadNumber\n", 2))
+
+
+def ask(link, stream, frame):
+    """What is answered to a frame: its kind and its body."""
+    link.sendall(frame)
+    size, kind = struct.unpack(">IB", stream.read(5))
+    return kind, stream.read(size)
+
+
+def put_until_killed(server, numbers, answered):
+    """Puts until the connection breaks, and notes the place and the total that each batch was answered."""
+    with contextlib.suppress(OSError, struct.error), server.link() as link, link.makefile("rb") as stream:
+        for number in numbers:
+            kind, body = ask(link, stream, put_cells_frame(7, number, cells_of(number)))
+            answered[number] = struct.unpack(">QQ", body) if kind == 0x81 else (kind, body)
+
+
+def save_until_killed(server, saved):
+    """Saves until the connection breaks, and notes how many batches each save had, or how it was refused."""
+    with contextlib.suppress(OSError, struct.error), server.link() as link, link.makefile("rb") as stream:
+        while True:
+            kind, body = ask(link, stream, SAVE)
+            saved.append(struct.unpack(">Q", body)[0] if kind == 0x86 else body.hex())
+
+
+def kills_lose_nothing(logged):
+    """Servers are killed at drawn moments amid folds and saves, and begin again with all that was promised."""
+    name = "killed with a log" if logged else "killed"
+    draw = random.Random(name)
+    path = os.path.join(servers.FOLDER, name.replace(" ", "-"))
+    words = [*SIZE, "--snapshot", path, "--fold-above", "300", *(["--log", path + ".log"] if logged else [])]
+    told, count = {}, 0
+    for life in range(ROUNDS):
+        answered, saved = {}, []
+        with Server(words) as server:
+            threads = [threading.Thread(target=put_until_killed, args=(server, range(count, 10**6), answered)),
+                       threading.Thread(target=save_until_killed, args=(server, saved))]  # fmt: skip
+            for thread in threads:
+                thread.start()
+            time.sleep(draw.uniform(0.05, 0.6))
+            server.process.send_signal(signal.SIGKILL)
+            for thread in threads:
+                thread.join()
+        told.update(answered)
+        check(f"{name}, life {life}: each save ended well", [it for it in saved if isinstance(it, str)], [])
+        least = max([*(it for it in saved if isinstance(it, int)), count, *(number + 1 for number in answered if logged)])
+        with Server(words) as server:
+            with server.client() as hhm:
+                count = hhm.status().batches
+            check(f"{name}, life {life}: what was promised is there", least <= count, True)
+            asked(f"{name}, life {life}", server, [cells_of(number) for number in range(count)])
+            server.process.send_signal(signal.SIGKILL)
+        wrong = {number: place for number, (place, _) in told.items() if number < count and place != number}
+        check(f"{name}, life {life}: places", wrong, {})
+
+
+def frames_of(cells):
+    """Frames of a stream whose places are few."""
+    draw = random.Random(cells)
+    places = [(draw.randrange(1 << 32), draw.randrange(1 << 32)) for _ in range(PLACES)]
+    for number in range(cells // BATCH):
+        yield put_cells_frame(number % 2, number, [(*place, 1) for place in draw.choices(places, k=BATCH)])
+
+
+def put_frames(server, frames, pause, waits):
+    """Puts frames one by one, each so long behind the last at the least, and notes how long each is waited for."""
+    with server.link() as link, link.makefile("rb") as stream:
+        first = time.monotonic()
+        for turn, frame in enumerate(frames):
+            time.sleep(max(0, first + turn * pause - time.monotonic()))
+            begun = time.monotonic()
+            ask(link, stream, frame)
+            waits.append(time.monotonic() - begun)
+
+
+def watch_memory(server, ended, seen):
+    while not ended.is_set():
+        seen.append(server.memory())
+        time.sleep(0.05)
+
+
+def processor_seconds(server):
+    """The processor time that a server has used."""
+    with open(f"/proc/{server.process.pid}/stat") as file:
+        user, system = file.read().rsplit(")", 1)[1].split()[11:13]
+    return (int(user) + int(system)) / os.sysconf("SC_CLK_TCK")
+
+
+def measured(name, more, frames, rate):
+    """Feeds a server over two connections, and tells how long that takes and how much memory it uses."""
+    words = ["--rows", str(1 << 32), "--cols", str(1 << 32), *more]
+    with Server(words) as server:
+        waits, seen, ended = [], [], threading.Event()
+        watcher = threading.Thread(target=watch_memory, args=(server, ended, seen))
+        watcher.start()
+        begun = time.monotonic()
+        pause = 2 * BATCH / rate if rate else 0
+        threads = [threading.Thread(target=put_frames, args=(server, frames[n::2], pause, waits)) for n in range(2)]
+        for thread in threads:
+            thread.start()
+        for thread in threads:
+            thread.join()
+        seconds = time.monotonic() - begun
+        ended.set()
+        watcher.join()
+        last, used = server.memory(), processor_seconds(server)
+        with server.client() as hhm:
+            total = hhm.status().total
+        server.stop(name, len(frames), total)
+    waits.sort()
+    cells = len(frames) * BATCH
+    print(f"{name}: {cells:,} cells in {seconds:.2f} s, {cells / seconds / 1e6:.2f} million a second; memory "
+          f"{last / 1e6:.0f} MB at the end, {max(seen) / 1e6:.0f} MB at most; a put waited {waits[len(waits) // 2] * 1e3:.1f} "
+          f"ms in the middle, {waits[len(waits) * 99 // 100] * 1e3:.1f} at 99 of 100, {waits[-1] * 1e3:.1f} at most; "
+          f"processor {used:.2f} s; load {os.getloadavg()[0]:.1f}", flush=True)  # fmt: skip
+
+
+def main():
+    servers.PROGRAM = os.path.abspath(sys.argv[1])
+    with tempfile.TemporaryDirectory() as servers.FOLDER:
+        if "--measure" in sys.argv:
+            cells, *rate = map(int, sys.argv[sys.argv.index("--measure") + 1 :])
+            frames = list(frames_of(cells))
+            for above in [0, 1_000_000, 4_194_304]:
+                measured(f"fold above {above}", ["--fold-above", str(above)], frames, *rate or [0])
+            return 0
+        numbers_are_refused()
+        answers_are_as_without("never-folded", ["--fold-above", "0"], logged=False)
+        answers_are_as_without("folded", ["--fold-above", "1000"], logged=False)
+        answers_are_as_without("folded-with-a-log", ["--fold-above", "1000"], logged=True)
+        kills_lose_nothing(logged=False)
+        kills_lose_nothing(logged=True)
+    print(f"{servers.passed} passed, {servers.failed} failed")
+    return 1 if servers.failed else 0
+
+
+if __name__ == "__main__":
+    sys.exit(main())
