@@ -132,10 +132,7 @@ fn requests_and_replies_are_counted_by_what_they_are(rt: HostRuntime) {
         };
         assert!(rt; same_at(&rt, &place, &counters.refusals(place), &wanted));
     }
-    let Some(LastSave { batches, age }) = counters.last_save(&rt) else {
-        assert!(rt; false);
-        return;
-    };
+    let LastSave { batches, age } = counters.last_save(&rt).expect(&rt, "a save");
     let found = (
         counters.saves(),
         counters.failed_saves(),
