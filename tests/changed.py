@@ -20,10 +20,10 @@ sys.dont_write_bytecode = True
 from attacks import RT, SOURCES, TOP, copy_parts, crates_below, lines_of_list
 
 HHM_TESTS = (
-    "asking.py", "stats.py", "watching.py", "folding.py",
-    "program.py", "questions.py", "log_check.py", "server.py", "generated.py", "server_faults.py", "server_log.py",
-    "server_log_faults.py", "log_events.py", "log_torture.py", "server_paths.py", "server_ends.py", "progress.py",
-    "server_clients.py", "refused.py", "clients.py", "loading.py", "packages.py", "cluster.py", "install.py",
+    "program.py", "questions.py", "exports.py", "log_check.py", "clients.py", "asking.py", "stats.py", "loading.py",
+    "packages.py", "cluster.py", "bridges.py", "pictures.py", "analysis.py", "watching.py", "server.py", "generated.py",
+    "folding.py", "server_faults.py", "server_log.py", "server_log_faults.py", "log_events.py", "log_torture.py",
+    "server_paths.py", "server_ends.py", "progress.py", "server_clients.py", "install.py", "refused.py",
 )  # fmt: skip
 # Of each program the words and the input of a run once it is built, and the scripts of tests/ that are run on it.
 PROGRAMS = {

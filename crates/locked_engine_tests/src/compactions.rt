@@ -295,7 +295,8 @@ fn compact_until<N: Named, H: Ledger, R: Wait>(
     false
 }
 
-fn compact_each<N: Named, H: Ledger, R: Wait>(
+/// Adds up once what is due in these layers of each shard.
+pub fn compact_each<N: Named, H: Ledger, R: Wait>(
     rt: &R,
     alloc: Global,
     engine: &Engine<N, H>,

@@ -2,6 +2,7 @@
 
 use crate::batches::{Cells, small_setup};
 use crate::cases::{Act, Case, Listed, NOTHING, play};
+use crate::compactions::compact_each;
 use crate::expected::{expect_count, expect_counts, expect_export, expect_list, expect_status};
 use crate::opened::{Step, put_all, two_seats};
 use crate::versions::{PUTTERS, SUM_OF_ROUNDS, put_from_both, three_seats, watch};
@@ -252,17 +253,10 @@ fn fold_until<N: Named, H: Ledger, R: Wait>(
         if engine.fold(rt, alloc, folder).is_err() {
             return false;
         }
-        compact_each(rt, alloc, engine);
+        compact_each(rt, alloc, engine, (0, usize::MAX));
         if ended.load(Ordering::SeqCst) == PUTTERS {
             return true;
         }
     }
     false
-}
-
-fn compact_each<N: Named, H: Ledger, R: Wait>(rt: &R, alloc: Global, engine: &Engine<N, H>) {
-    let shards = engine.setup().shards();
-    for s in 0..shards {
-        let _ = engine.compact(rt, alloc, s, usize::MAX);
-    }
 }

@@ -116,8 +116,8 @@ fn requests_and_replies_are_counted_by_what_they_are(rt: HostRuntime) {
     let counters = fresh(&rt, rt.alloc());
     counters.note_requests(8, 3);
     counters.note_requests(99, 5);
-    for place in 0..KINDS.len() {
-        let wanted = if KINDS[place].kind == 8 { 3 } else { 0 };
+    for (place, one) in KINDS.iter().enumerate() {
+        let wanted = if one.kind == 8 { 3 } else { 0 };
         assert!(rt; same_at(&rt, &place, &counters.requests(place), &wanted));
     }
     for reply in ANSWERED {
@@ -125,17 +125,14 @@ fn requests_and_replies_are_counted_by_what_they_are(rt: HostRuntime) {
     }
     counters.note_reply(&rt, Seen::Refused(42));
     counters.note_reply(&rt, Seen::Refused(999));
-    for place in 0..CODES.len() {
-        let wanted = match CODES[place] {
+    for (place, code) in CODES.iter().enumerate() {
+        let wanted = match *code {
             1 | 31 | 42 => 1,
             _ => 0,
         };
         assert!(rt; same_at(&rt, &place, &counters.refusals(place), &wanted));
     }
-    let Some(LastSave { batches, age }) = counters.last_save(&rt) else {
-        assert!(rt; false);
-        return;
-    };
+    let LastSave { batches, age } = counters.last_save(&rt).expect(&rt, "a save");
     let found = (
         counters.saves(),
         counters.failed_saves(),

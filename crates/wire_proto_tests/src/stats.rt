@@ -32,7 +32,6 @@ static TOLD: Session = (
 );
 
 static SESSIONS: &[Session] = &[
-    TOLD,
     // Before any batch, twice.
     (
         &[Ask::Stats, Ask::Stats],
