@@ -29,9 +29,10 @@ impl Asked {
 
     // The next request has this kind.
     fn note(&mut self, kind: u8) {
-        let word = &mut self.folds[(self.count / 64 % WORDS) as usize];
+        let place = (self.count / 64 % WORDS) as usize;
         let bit = 1u64 << (self.count % 64);
-        *word = if kind == FOLD { *word | bit } else { *word & !bit };
+        let others = self.folds[place] & !bit;
+        self.folds[place] = if kind == FOLD { others | bit } else { others };
         self.count = self.count.wrapping_add(1);
     }
 
