@@ -426,7 +426,7 @@ puts_same v a b Fold x e h = h
 
 push_same : (a b : Accepted) (x : Submission) → entries_in a ≡ entries_in b →
     entries_in (with_batch a x) ≡ entries_in (with_batch b x)
-push_same a b x e = sym (entries_behind a (x ∷ [])) ∙ ap (λ es. es ++ entries_of (x ∷ [])) e ∙ entries_behind b (x ∷ [])
+push_same a b x e = sym (entries_behind a (x ∷ [])) ∙ ap (λ (es : List Entry). es ++ entries_of (x ∷ [])) e ∙ entries_behind b (x ∷ [])
 
 first_same : (v : Setting) (a b : Accepted) (r : Request) (ms : List Message) (more : List Submission) →
     entries_in a ≡ entries_in b →
