@@ -5,12 +5,14 @@ use Rattle.snap_export.proofs.SeveralLemmas.{next_unread, rows_of_sum, cols_of_s
 use Rattle.snap_export.proofs.several.next_sum.Goals as goal
 
 pub returns-then-not-is_same-clause-err : goal.returns-then-not-is_same-clause-err
-returns-then-not-is_same-clause-err g c = λ earlier is.
-    (refl, (
-      c.in_ok-snapshot.snapshot,
-      c.in_ok-snapshot.ensures.ok,
-      λ both. let t : false ≡ true = c.if-not-is_same.ensures.1 both in absurd (cc),
-    ))
+returns-then-not-is_same-clause-err g c = λ earlier is. (
+  refl,
+  (
+    c.in_ok-snapshot.snapshot,
+    c.in_ok-snapshot.ensures.ok,
+    λ both. let t : false ≡ true = c.if-not-is_same.ensures.1 both in absurd (cc),
+  ),
+)
 
 pub returns-in_err-next-clause-err : goal.returns-in_err-next-clause-err
 returns-in_err-next-clause-err g c =

@@ -26,8 +26,8 @@ returns-in-Ok-clause-ok g c =
           (matrix_text m)) is c.in-Ok.ensures.ok,
     )
 
-pub returns-in-Err-clause-output : goal.returns-in-Err-clause-output
-returns-in-Err-clause-output g c = λ fault result.
+pub returns-in-Some-clause-output : goal.returns-in-Some-clause-output
+returns-in-Some-clause-output g c = λ fault result.
     let held = c.in_ok-found.ensures.ok in
     let is = summed_some held.0 held.1 held.2.xs c.in_ok-found.found c.in-Some.sum c.in-Some.is held.2.sum_is in
     let same : c.in-Err.fault ≡ fault = cc in (
@@ -57,8 +57,8 @@ returns-in_err-found-clause-output g c = λ fault result.
     (passed_is c.from_residual.result c.in_err-found.field-0.0 (Output fault) c.from_residual.ensures.1 result)
     c.in_err-found.ensures.err)
 
-pub returns-in-None-clause-told : goal.returns-in-None-clause-told
-returns-in-None-clause-told g c =
+pub returns-clause-told : goal.returns-clause-told
+returns-clause-told g c =
     let held = c.in_ok-found.ensures.ok in
     all_passed g.F.SnapshotFiles.load_gives c.args.files.now c.sum_of_all.new.files c.args.count held.0 held.1
     c.in_ok-found.found c.in-None.is held.2
