@@ -266,7 +266,8 @@ parts_same rows cols rows' cols' cells cells' d e r c l dr dc up =
     ∙ ap (λ (xs : List ℕ). parts_of (label_lines rows) (label_lines xs) (canonical d e cells')) c
     ∙ ap (parts_of (label_lines rows) (label_lines cols))
     (ap (canonical d e) l ∙ ap (λ (n : ℕ). canonical n e cells) dr
-    ∙ ap (λ (n : ℕ). canonical (dimension rows) n cells) dc ∙ text_of_list (dimension rows) (dimension cols) cells (built_of cells) up refl)
+    ∙ ap (λ (n : ℕ). canonical (dimension rows) n cells) dc
+    ∙ text_of_list (dimension rows) (dimension cols) cells (built_of cells) up refl)
 
 -- ---- read back
 
