@@ -1,6 +1,8 @@
 //! Folds that a session asks for: no answer changes by them.
 
-use crate::asks::{Ask, Cut, Outcome, Session, check_sessions, served_cut, sizes, small_setup, wanted};
+use crate::asks::{
+    Ask, Cut, Outcome, Session, check_sessions, served_cut, sizes, small_setup, wanted,
+};
 use test_support::{same, same_at};
 use wire_proto::Ended;
 
