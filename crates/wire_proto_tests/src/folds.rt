@@ -11,7 +11,7 @@ const CLOSED: Ended = Ended::Closed { rest: 0 };
 const FIRST: Ask = Ask::Cells(7, 1, &[(0, 0, 5)]);
 
 /// A batch, a fold, and what is asked of it then; a second batch and two folds.
-static FOLDED: Session = (
+const FOLDED: Session = (
     &[
         FIRST,
         Ask::Fold,
