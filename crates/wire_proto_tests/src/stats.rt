@@ -12,7 +12,7 @@ const CELLS: Ask = Ask::Cells(7, 1, &[(0, 0, 5)]);
 
 /// A batch, and the lines `rows 3`, `cols 3`, `cuts 2`, `layer_cut_entries{layer="1"} 2`,
 /// `layer_cut_entries{layer="2"} 4`, `shards 2`, `limit 100`, `max_batches 10`, `batches 1`, `folded 0` and `total 5`.
-const TOLD: Session = (
+static TOLD: Session = (
     &[CELLS, Ask::Stats],
     "00000010 81 0000000000000000 0000000000000005
      00000090 8a
@@ -32,7 +32,6 @@ const TOLD: Session = (
 );
 
 static SESSIONS: &[Session] = &[
-    TOLD,
     // Before any batch, twice.
     (
         &[Ask::Stats, Ask::Stats],
