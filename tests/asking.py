@@ -78,6 +78,9 @@ def worked_answers(name, command):
             told = dict(re.findall(r"([a-z_]+(?:\{[^}]*\})?) ([^,]*)", driver.ask("stats")))
             numbers = ("rows", "cols", "batches", "folded", "total", "version", 'frames_total{kind="top"}', 'refused_total{code="44"}')
             check(f"{name}: stats", [told.get(number) for number in numbers], ["3", "3", "1", "0", "16", "0.1.0", "4", "2"])
+        for question, wanted in [("fold", "folded 1"), ("cell 1 1", "8"), ("range 0 2 0 2 3", "0,0,5 0,2,3 1,1,8 2,1,0"),
+                                 ("fold", "folded 1"), ("status", "batches 1 total 16")]:  # fmt: skip
+            check(f"{name}: {question}, folded", driver.ask(*question.split()), wanted)
 
 
 def drawn_answers(name, command):
@@ -123,6 +126,7 @@ LIES = [
     ("stats", frame(0x8A, b"batches 1")), ("stats", frame(0x8A, b"batches\n")), ("stats", frame(0x8A, b" 1\n")),
     ("stats", frame(0x8A, b"batches \n")), ("stats", frame(0x8A, b"b\xc3\xa4 1\n")), ("stats", frame(0x8A, b"\n")),
     ("stats", frame(0x89, b"batches 1\n")),
+    ("fold", frame(0x86)), ("fold", reply(0x86, 1, 2)), ("fold", reply(0x84, 1, 1)),
 ]
 # What is a reply though it is odd.
 ODD = [
@@ -133,6 +137,8 @@ ODD = [
     ("stats", frame(0x8A), ""), ("stats", frame(0x8A, b'a_b{c="d e",f=""} 7\nversion 0.1.0\n'),
                                  'a_b{c="d e",f=""} 7,version 0.1.0'),
     ("stats", server.refused(51), "refused: UnknownKind"), ("top 0 2", server.refused(1), "refused: Memory"),
+    ("fold", server.refused(51), "refused: UnknownKind"), ("fold", server.refused(35), "refused: LogFailed"),
+    ("fold", reply(0x86, 300), "folded 300"),
 ]
 
 
@@ -177,10 +183,11 @@ def the_command_line_asks():
             ("list 10.0.0.1", ("", "10.0.0.1 is an address: give --ip\n", 2)),
             (f"list {1 << 32}", ("", "refused: OutOfRange\n", 1)),
             ("top rows 1000001", ("", "refused: BadCount\n", 1)),
+            ("fold", ("folded 1\n", "", 0)), ("top rows 1", ("7 1 50\n", "", 0)),
         ]:
             check(f"hhmc {words}", hhmc(at, *words.split()), wanted)
         for words in ["top", "top both", "top rows 0", "top rows x", "list", "list 1.2.3", "list x", "list 7 --limit 0",
-                      "stats 1"]:
+                      "stats 1", "fold 1"]:
             output, error, status = hhmc(at, *words.split())
             check(f"hhmc {words}", (output, error.startswith("usage: "), status), ("", True, 2))
         with at.client() as hhm:

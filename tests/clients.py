@@ -215,16 +215,17 @@ def replies_are_lost(unix):
                 wanted = [(n, (n - 1, 8 + sum(range(3, n + 1)))) for n in range(3, 23)]
                 check("lost: many", list(numbers), wanted)
             check("lost: how often", proxy.how_often, 7)
-        with Proxy(at, unix, [0, None] * 7) as proxy:
+        with Proxy(at, unix, [0, None] * 8) as proxy:
             for name, ask, wanted in [
                 ("a cell", lambda hhm: hhm.cell(0, 0), 8), ("no cell", lambda hhm: hhm.cell(2, 2), None),
                 ("a row", lambda hhm: hhm.row(1), (1, 250)), ("status", lambda hhm: hhm.status(), (22, 258)),
                 ("export", lambda hhm: list(cells_of(hhm.export())), [(0, 0, 8), (1, 2, 250)]),
-                ("save", lambda hhm: hhm.save(), 22), ("a repeat", lambda hhm: hhm.put(1, [(0, 0, 5)]), (0, 5)),
+                ("save", lambda hhm: hhm.save(), 22), ("fold", lambda hhm: hhm.fold(), 22),
+                ("a repeat", lambda hhm: hhm.put(1, [(0, 0, 5)]), (0, 5)),
             ]:
                 with Client(client=7, timeout=WAIT, attempts=4, pause=0.001, **proxy.where) as hhm:
                     check(f"lost: {name}", ask(hhm), wanted)
-            check("lost: how often each", proxy.how_often, 7)
+            check("lost: how often each", proxy.how_often, 8)
         with Proxy(at, unix, [0] * 100) as proxy:
             with Client(client=7, timeout=WAIT, attempts=3, pause=0.001, **proxy.where) as hhm:
                 check("lost: given up", fault_of(lambda: hhm.put(90, [(2, 2, 1)])), "ConnectionError")

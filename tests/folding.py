@@ -5,9 +5,10 @@
 
 Each server with a low `--fold-above` is fed, asked, saved, killed, stopped and started again. What is wanted is what a
 plain dictionary says of the same batches: folding changes no answer. That a server has folded is seen in its snapshot,
-which tells how many batches are folded. With `--measure` nothing is compared: so many cells, of which few are distinct,
-go to a server that folds and to one that doesn't, as fast as they are taken or RATE cells a second, and the memory, the
-time, the longest wait and the processor time of each are printed.
+which tells how many batches are folded, and in its stats. Others fold where a client asks for it: alone, beside puts,
+saves and other folds, with a log and without. With `--measure` nothing is compared: so many cells, of which few are
+distinct, go to a server that folds and to one that doesn't, as fast as they are taken or RATE cells a second, and the
+memory, the time, the longest wait and the processor time of each are printed.
 
 It prints a line for each check that fails and at the end `N passed, M failed`; the status is 1 where one fails. Linux,
 and nothing but Python's own library, the client of clients/python and the server of tests/server.py.
@@ -23,7 +24,7 @@ import threading
 import time
 
 import server as servers
-from generated import SAVE, added_up, spelled
+from generated import FOLD, SAVE, added_up, spelled
 from hhm_client import Refused, put_cells_frame
 from server import Server, check, program
 
@@ -127,6 +128,103 @@ def answers_are_as_without(name, more, logged):
         asked(f"{name}, fed again", server, more_batches)
         server.stop(name, len(more_batches), total_of(more_batches))
     check(f"{name}: the text", program("export", path), (spelled(ROWS, COLS, sum_of(more_batches)).decode(), "", 0))
+
+
+def told(hhm, *names):
+    """Some numbers that a server tells of itself."""
+    stats = hhm.stats()
+    return tuple(stats[name] for name in names)
+
+
+def folds_when_asked(name, more, logged):
+    """A server folds all that it has each time it is asked, and that is no save."""
+    batches = [cells_of(number) for number in range(BATCHES)]
+    path = os.path.join(servers.FOLDER, name)
+    words = [*SIZE, *more, "--snapshot", path, *(["--log", path + ".log"] if logged else [])]
+    numbers = ["batches", "folded", "saves_total", "failed_saves_total", 'frames_total{kind="fold"}']
+    with Server(words) as server:
+        with server.client() as hhm:
+            check(f"{name}: a fold of nothing", hhm.fold(), 0)
+        fed(server, batches[:150])
+        with server.client() as hhm:
+            check(f"{name}: 150 are folded", hhm.fold(), 150)
+            check(f"{name}: it is told", told(hhm, *numbers), (150, 150, 0, 0, 2))
+        asked(name, server, batches[:150])
+        fed(server, batches, 150)
+        with server.client() as hhm:
+            check(f"{name}: all are folded", [hhm.fold(), hhm.fold()], [BATCHES, BATCHES])
+            check(f"{name}: save", hhm.save(), BATCHES)
+            check(f"{name}: a fold behind it", hhm.fold(), BATCHES)
+            check(f"{name}: all is told", told(hhm, *numbers, "saved_batches"), (BATCHES, BATCHES, 1, 0, 5, BATCHES))
+        check(f"{name}: the snapshot", folded_in(path), (0, BATCHES))
+        asked(f"{name}, folded", server, batches)
+        server.stop(name, BATCHES, total_of(batches))
+    check(f"{name}: check at the end", program("check", path), (entries_line(batches), "", 0))
+    with Server(words) as server:
+        asked(f"{name}, started again", server, batches)
+        with server.client() as hhm:
+            check(f"{name}: folded again", hhm.fold(), BATCHES)
+        server.stop(name, BATCHES, total_of(batches))
+
+
+def folds_are_told_from_saves():
+    """Folds and saves that are sent together: each is counted as what it is, whatever is asked before it."""
+    path = os.path.join(servers.FOLDER, "together")
+    put = put_cells_frame(7, 0, cells_of(0))
+    asked_for, replies = [put] * 70 + [FOLD, SAVE, SAVE, put, FOLD, FOLD, SAVE, FOLD], []
+    with Server([*SIZE, "--snapshot", path, "--fold-above", "0"]) as server:
+        with server.link() as link, link.makefile("rb") as stream:
+            link.sendall(b"".join(asked_for))
+            for _ in asked_for:
+                size, kind = struct.unpack(">IB", stream.read(5))
+                replies.append((kind, stream.read(size)))
+        first, one = (0x81, struct.pack(">QQ", 0, total_of([cells_of(0)]))), (0x86, struct.pack(">Q", 1))
+        check("together: replies", replies, [first] * 70 + [one] * 3 + [first] + [one] * 4)
+        with server.client() as hhm:
+            check("together: told", told(hhm, "saves_total", 'frames_total{kind="fold"}'), (3, 4))
+        server.stop("together", 1, total_of([cells_of(0)]))
+
+
+def fold_until(server, ended, seen):
+    """Folds again and again, and notes how many batches were folded each time."""
+    with server.client() as hhm:
+        while not ended.is_set():
+            seen.append(hhm.fold())
+
+
+def save_until(server, ended, seen):
+    """The same of saves."""
+    with server.client() as hhm:
+        while not ended.is_set():
+            seen.append(hhm.save())
+
+
+def folds_beside_others(name, more, logged):
+    """Two clients fold, one saves and one puts: what is folded and saved only rises, and holds what was put before."""
+    batches = [cells_of(number) for number in range(BATCHES)]
+    path = os.path.join(servers.FOLDER, name)
+    words = [*SIZE, *more, "--workers", "5", "--snapshot", path, *(["--log", path + ".log"] if logged else [])]
+    ended, seen = threading.Event(), [[], [], []]
+    with Server(words) as server:
+        threads = [threading.Thread(target=does, args=(server, ended, numbers))
+                   for does, numbers in zip([fold_until, fold_until, save_until], seen)]  # fmt: skip
+        for thread in threads:
+            thread.start()
+        fed(server, batches)
+        ended.set()
+        for thread in threads:
+            thread.join()
+        for numbers in seen:
+            check(f"{name}: numbers rise", numbers, sorted(numbers))
+            check(f"{name}: there are some", 0 < len(numbers) and numbers[-1] <= BATCHES, True)
+        with server.client() as hhm:
+            check(f"{name}: all are folded", hhm.fold(), BATCHES)
+            saves = told(hhm, "saves_total")
+            check(f"{name}: each save is told, and no fold", saves, (len(seen[2]),))
+        asked(name, server, batches)
+        server.stop(name, BATCHES, total_of(batches))
+    check(f"{name}: the snapshot", folded_in(path), (0, BATCHES))
+    check(f"{name}: check at the end", program("check", path), (entries_line(batches), "", 0))
 
 
 def numbers_are_refused():
@@ -264,6 +362,12 @@ def main():
         answers_are_as_without("never-folded", ["--fold-above", "0"], logged=False)
         answers_are_as_without("folded", ["--fold-above", "1000"], logged=False)
         answers_are_as_without("folded-with-a-log", ["--fold-above", "1000"], logged=True)
+        folds_when_asked("asked", ["--fold-above", "0"], logged=False)
+        folds_when_asked("asked-with-a-log", ["--fold-above", "0"], logged=True)
+        folds_when_asked("asked-and-of-itself", ["--fold-above", "1000"], logged=True)
+        folds_are_told_from_saves()
+        folds_beside_others("beside", ["--fold-above", "0"], logged=False)
+        folds_beside_others("beside-with-a-log", ["--fold-above", "500"], logged=True)
         kills_lose_nothing(logged=False)
         kills_lose_nothing(logged=True)
     print(f"{servers.passed} passed, {servers.failed} failed")

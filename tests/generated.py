@@ -6,7 +6,8 @@
 The model is a list of what was accepted, searched from the front, and a dictionary of all cells; its replies are
 spelled from docs/FORMATS.md. Frames are mostly puts, as texts and as cells, with repeats, numbers that are used again,
 totals at the limit, full books, texts with faults and bad headers; they are cut anywhere, or end too early. Servers
-fold at drawn numbers of cells while they run, and between two starts a server's snapshot is folded. Of clients that put
+fold at drawn numbers of cells while they run, and where a session asks for it, at drawn moments; between two starts a
+server's snapshot is folded. Of clients that put
 at once some share their cells, and some have cells of their own and read them back, also by ranges. The questions of
 docs/FORMATS.md are asked as they stand there. It prints a line for each check that fails and at the end `N passed, M
 failed`; the status is 1 where one fails. With `--long` there are ten times as many sessions and puts, and clients with
@@ -27,8 +28,8 @@ from hhm_client import BANNER, put_cells_frame, put_frame
 from server import Server, accepted, check, program, refused
 
 ROWS, COLS = 5, 4
-STATUS, EXPORT, SAVE, STOP, STORED = (struct.pack(">IB", 0, kind) for kind in (4, 5, 6, 7, 9))
-LARGE, KIND, LENGTH = bytes.fromhex("0400000104"), bytes.fromhex("000000000d"), bytes.fromhex("0000000104")
+STATUS, EXPORT, SAVE, STOP, STORED, FOLD = (struct.pack(">IB", 0, kind) for kind in (4, 5, 6, 7, 9, 13))
+LARGE, KIND, LENGTH = bytes.fromhex("0400000104"), bytes.fromhex("000000000e"), bytes.fromhex("0000000104")
 
 
 def added(cells):
@@ -125,6 +126,9 @@ class Model:
     def save(self):
         return struct.pack(">IBQ", 8, 0x86, len(self.list)) if self.saves else refused(43)
 
+    def fold(self):
+        return struct.pack(">IBQ", 8, 0x86, len(self.list))
+
 
 def placed(numbers, rows, cols):
     """A cell within these dimensions, with a small count."""
@@ -183,7 +187,7 @@ def drawn_question(draw, model):
 
 def drawn_frame(draw, model):
     """A frame, its reply, and whether the session goes on behind it."""
-    kind = draw.randrange(36)
+    kind = draw.randrange(38)
     if kind == 0:
         frame, code = draw.choice([(LARGE, 50), (KIND, 51), (LENGTH, 52)])
         return frame, refused(code), False
@@ -202,6 +206,8 @@ def drawn_frame(draw, model):
         return struct.pack(">IBQQ", 16, 2, row, col), model.cell(row, col), True
     if kind < 18:
         return *drawn_question(draw, model), True
+    if kind < 20:
+        return FOLD, model.fold(), True
     return *drawn_put(draw, model), True
 
 
@@ -467,6 +473,12 @@ def is_read_back(draw, link, stream, columns, sums):
     return True
 
 
+def has_folded(link, stream, least):
+    """Asks for a fold, and tells whether so many batches are folded then, or more."""
+    kind, body = ask(link, stream, FOLD)
+    return kind == 0x86 and struct.unpack(">Q", body)[0] >= least
+
+
 def put_and_read_back(link, number, puts, sums, faults):
     """Puts into columns of its own, and asks for a cell of each batch once that was answered, and for one of before."""
     draw, stream, places = random.Random(f"own {number}"), link.makefile("rb"), []
@@ -483,6 +495,8 @@ def put_and_read_back(link, number, puts, sums, faults):
             faults.append((number, batch, kind, found))
         if batch % 10 == 9 and not is_read_back(draw, link, stream, columns, sums):
             faults.append((number, batch, "range"))
+        if draw.randrange(25) == 0 and not has_folded(link, stream, batch + 1):
+            faults.append((number, batch, "fold"))
 
 
 def exported_entries(link, stream):
@@ -568,13 +582,14 @@ WORKED = [
     ),
     ("00000009 0b 02 0000000000000003", "0000000a ff 002c 0000000000000000"),
     ("00000009 0b 01 0000000000000000", "0000000a ff 002c 0000000000000000"),
+    ("00000000 0d", "00000008 86 0000000000000001"),
     ("00000008 0b 0100000000000000", "0000000a ff 0034 0000000000000000"),
 ]
 WORKED_WORDS = ["--rows", "3", "--cols", "3", "--cuts", "2,4", "--shards", "2", "--limit", "100", "--max-batches", "10"]
 
 
 def worked_questions_are_answered(unix):
-    """The ranges and tops of docs/FORMATS.md, alone and in one session, which is cut at each byte."""
+    """The ranges, tops and folds of docs/FORMATS.md, alone and in one session, which is cut at each byte."""
     name = "unix" if unix else "tcp"
     asked = [bytes.fromhex(frame) for frame, _ in WORKED]
     told = [bytes.fromhex(reply) for _, reply in WORKED]

@@ -225,7 +225,7 @@ def judged_run(program, run, kind, error, at):
     return None if is_right else ended, met
 
 
-STATUS, EXPORT, SAVE, STOP, STATS = (struct.pack(">IB", 0, kind) for kind in (4, 5, 6, 7, 12))
+STATUS, EXPORT, SAVE, STOP, STATS, FOLD = (struct.pack(">IB", 0, kind) for kind in (4, 5, 6, 7, 12, 13))
 ASKS = put_frame(7, 1, text(5)) + put_frame(8, 1, text(3)) + struct.pack(">IBQQ", 16, 2, 0, 0)
 ASKS += struct.pack(">IBQ", 8, 3, 0) + STATUS + EXPORT + SAVE
 SUM = text(8)
@@ -290,7 +290,9 @@ def ask_for_stats(path):
     for _ in range(TRIES):
         answer = talk(path, STATS)
         if answer[4:5] == b"\x8a" and len(answer) == 5 + int.from_bytes(answer[:4], "big"):
-            return None if {b"batches 2", b"folded 0", b"total 8"} <= set(answer[5:].split(b"\n")) else answer
+            told = set(answer[5:].split(b"\n"))
+            # (a server that folds may have folded both batches, or none)
+            return None if {b"batches 2", b"total 8"} <= told and told & {b"folded 0", b"folded 2"} else answer
         if answer not in (b"", refused(1)):
             return answer
     return "no answer to a Stats"
@@ -322,6 +324,9 @@ def talk_to_server(process, path, saved, before):
     wrong = wrong or ask_for_stats(path)
     if wrong:
         return wrong
+    is_served, wrong = ask_until_answered(path, FOLD, [struct.pack(">IBQ", 8, 0x86, 2)])
+    if wrong or not is_served:
+        return wrong or "no answer to a Fold"
     is_served, wrong = ask_until_answered(path, STOP, [STOPPING])
     if wrong or not is_served:
         return wrong or "no answer to a Stop"

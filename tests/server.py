@@ -223,7 +223,7 @@ def frames_are_answered(unix, more=()):
         for frame, reply in [
             (bytes.fromhex("04000001 04"), refused(50)),
             (bytes.fromhex("01000001 04"), refused(52)),
-            (bytes.fromhex("00000000 0d"), refused(51)),
+            (bytes.fromhex("00000000 0e"), refused(51)),
             (bytes.fromhex("00000001 09 00"), refused(52)),
             (bytes.fromhex("00000000 00"), refused(51)),
             (bytes.fromhex("00000001 04 00"), refused(52)),
@@ -254,7 +254,7 @@ def frames_are_answered(unix, more=()):
             check(f"{name}: the frame {frame[:21].hex()}", server.talk([frame], unix), reply)
         # After a bad header nothing more is answered, and of a session nothing after its Stop.
         status = struct.pack(">IB", 0, 4)
-        check(f"{name}: after a bad header", server.talk([bytes.fromhex("00000000 0d") + status], unix), refused(51))
+        check(f"{name}: after a bad header", server.talk([bytes.fromhex("00000000 0e") + status], unix), refused(51))
         stop = struct.pack(">IB", 0, 7)
         check(f"{name}: Stop and more", server.talk([stop + status], unix), struct.pack(">IB", 0, 0x87))
         server.ends(name, 2, 8)

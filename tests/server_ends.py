@@ -23,7 +23,7 @@ from array import array
 import program
 import server
 from server import SMALL, WAIT, Server, accepted, check, put_frame, refused, text
-from server_faults import SAVE, STATUS, STOP, STOPPING, asked, counts, in_folder, is_silent, received, run, write
+from server_faults import FOLD, SAVE, STATUS, STOP, STOPPING, asked, counts, in_folder, is_silent, received, run, write
 
 from hhm_client import Arrays  # server has its folder on the path
 
@@ -285,6 +285,7 @@ def starts_saves_and_ends_are_told():
     with told_server(["--snapshot", path]) as at:
         os.mkdir(path + ".new")
         with at.link() as link:
+            check("told: a fold is no save", asked(link, FOLD, 13), struct.pack(">IBQ", 8, 0x86, 1))
             check("told: no save", asked(link, SAVE, 15), refused(42))
             check("told: stop again", asked(link, STOP, 5), STOPPING)
         output, error = at.process.communicate(timeout=WAIT)

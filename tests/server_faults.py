@@ -35,7 +35,7 @@ OTHER = 54321
 GROUP = 54322
 
 STATUS = struct.pack(">IB", 0, 4)
-SAVE = struct.pack(">IB", 0, 6)
+SAVE, FOLD = (struct.pack(">IB", 0, kind) for kind in (6, 13))
 STOP = struct.pack(">IB", 0, 7)
 STOPPING = struct.pack(">IB", 0, 0x87)
 

@@ -22,7 +22,7 @@
 #include <time.h>
 #include <unistd.h>
 
-enum { PUT = 0x01, CELL, ROW, STATUS, EXPORT, SAVE, STOP, PUT_CELLS, STORED, RANGE, TOP, STATS };
+enum { PUT = 0x01, CELL, ROW, STATUS, EXPORT, SAVE, STOP, PUT_CELLS, STORED, RANGE, TOP, STATS, FOLD };
 enum { ACCEPTED = 0x81, VALUE, ROW_SUM, COUNTS, TEXT, SAVED, STOPPING, CELLS, ROWS, TOLD, REFUSED = 0xff };
 /* Codes of refusals. */
 enum { LOG_FULL = 34, LOG_FAILED = 35 };
@@ -1048,6 +1048,16 @@ hhm_result hhm_save(hhm_client *hhm, uint64_t *batches)
     hhm_result result = ask(hhm, &it, SAVED, &got);
     if (result == HHM_OK)
         *batches = number_at(got.bytes, 8);
+    return result;
+}
+
+hhm_result hhm_fold(hhm_client *hhm, uint64_t *folded)
+{
+    request it = of_numbers(FOLD, 0, 0, 0);
+    reply got;
+    hhm_result result = ask(hhm, &it, SAVED, &got);
+    if (result == HHM_OK)
+        *folded = number_at(got.bytes, 8);
     return result;
 }
 

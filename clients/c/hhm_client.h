@@ -235,6 +235,10 @@ hhm_result hhm_export(hhm_client *hhm, char **text, size_t *length);
    save may be under way, and it isn't asked for again. */
 hhm_result hhm_save(hhm_client *hhm, uint64_t *batches);
 
+/* Folds what the server has accepted, with a log once that is durable, and gives how many batches are folded then. No
+   answer changes by it. Where no answer comes in time the fold may be under way, and it isn't asked for again. */
+hhm_result hhm_fold(hhm_client *hhm, uint64_t *folded);
+
 /* Tells the server to stop. It serves its open sessions to their ends, and saves, after the answer. Where the answer is
    lost and the server is gone when it is asked again, that is HHM_FAILED. */
 hhm_result hhm_stop(hhm_client *hhm);

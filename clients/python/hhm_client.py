@@ -63,7 +63,7 @@ MAX_DEPTH = 128
 EARLY = 65_536
 BANNER = b"%%MatrixMarket matrix coordinate integer general\n"
 
-PUT, CELL, ROW, STATUS, EXPORT, SAVE, STOP, PUT_CELLS, STORED, RANGE, TOP, STATS = range(1, 13)
+PUT, CELL, ROW, STATUS, EXPORT, SAVE, STOP, PUT_CELLS, STORED, RANGE, TOP, STATS, FOLD = range(1, 14)
 ACCEPTED, VALUE, ROW_SUM, COUNTS, TEXT, SAVED, STOPPING, CELLS, ROWS, TOLD = range(0x81, 0x8B)
 REFUSED = 0xFF
 # What the rows of a top may lead by, each at its number in the request.
@@ -644,6 +644,13 @@ class Client:
         (batches,) = struct.unpack(">Q", self._ask(request(SAVE), SAVED, 8))
         self._kept, self._kept_bytes, self._saved = {}, 0, self._last
         return batches
+
+    def fold(self) -> int:
+        """Folds what the server has accepted, with a log once that is durable, and gives how many batches are folded
+        then. No answer changes by it. Where no answer comes in time the fold may be under way, and it isn't asked for
+        again. A server that doesn't know the request refuses it (UnknownKind)."""
+        (folded,) = struct.unpack(">Q", self._ask(request(FOLD), SAVED, 8))
+        return folded
 
     def stop(self) -> None:
         """Tells the server to stop. It serves its open sessions to their ends, and saves, after the answer.

@@ -35,7 +35,8 @@ def parser() -> argparse.ArgumentParser:
     where.add_argument("--unix", metavar="PATH")
     source = "a snapshot or a Matrix Market text (- for standard input) in place of a server, for plot alone"
     where.add_argument("--from", dest="source", metavar="FILE", help=source)
-    timeout = f"for each answer ({TIMEOUT}; {SAVE_TIMEOUT} for a save, which takes longer the more was accepted)"
+    longer = f"{SAVE_TIMEOUT} for a save or a fold, which takes longer the more was accepted"
+    timeout = f"for each answer ({TIMEOUT}; {longer})"
     words.add_argument("--timeout", type=float, metavar="SECONDS", help=timeout)
     attempts = "how often a request is sent (3, within a moment; of a load 14, for a minute, as a server takes to start)"
     words.add_argument("--attempts", type=int, metavar="N", help=attempts)
@@ -63,6 +64,7 @@ def parser() -> argparse.ArgumentParser:
     asked.add_parser("stored", help="the number of durable batches, which no crash takes back, and their total")
     asked.add_parser("export", help="writes the sum as a Matrix Market text")
     asked.add_parser("save", help="saves a snapshot")
+    asked.add_parser("fold", help="folds what was accepted, so that the server needs less memory for it")
     stop = asked.add_parser("stop", help="saves, where the server has a place for snapshots, and stops the server")
     stop.add_argument("--discard", action="store_true", help="stops it also where saving fails, without trying first")
     return words
@@ -110,6 +112,8 @@ def answer(hhm: Client, given: argparse.Namespace, text: bytes) -> bytes:
         return hhm.export()
     if given.word == "save":
         return b"saved %d\n" % hhm.save()
+    if given.word == "fold":
+        return b"folded %d\n" % hhm.fold()
     stop(hhm, given.discard)
     return b"stopping\n"
 
@@ -125,7 +129,7 @@ def asked(given: argparse.Namespace) -> Iterable[bytes]:
     text = text_to_put(given.file) if given.word == "put" else b""
     place = given.unix if given.tcp is None else given.tcp
     client = given.client if given.word in ("put", "load") else 0
-    usual = SAVE_TIMEOUT if given.word in ("save", "stop") else TIMEOUT
+    usual = SAVE_TIMEOUT if given.word in ("save", "fold", "stop") else TIMEOUT
     attempts = given.attempts or (14 if given.word == "load" else 3)
     limits = {"timeout": usual if given.timeout is None else given.timeout, "attempts": attempts}
     hhm = Client(tcp=given.tcp, unix=given.unix, client=client, **limits)

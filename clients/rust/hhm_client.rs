@@ -653,6 +653,13 @@ impl Client {
         Ok(number_at(&body, 0))
     }
 
+    /// Folds what the server has accepted, with a log once that is durable, and gives how many batches are folded then.
+    /// No answer changes by it. Where no answer comes in time the fold may be under way, and it isn't asked for again.
+    pub fn fold(&mut self) -> Result<u64, Error> {
+        let body = self.ask(&request(13, &[]), SAVED)?;
+        Ok(number_at(&body, 0))
+    }
+
     /// Tells the server to stop. It serves its open sessions to their ends, and saves, after the answer. Where the
     /// answer is lost and the server is gone when it is asked again, that is an `Error::Io`.
     pub fn stop(&mut self) -> Result<(), Error> {

@@ -126,6 +126,15 @@ static hhm_result save(hhm_client *hhm)
     return result;
 }
 
+static hhm_result fold(hhm_client *hhm)
+{
+    uint64_t folded;
+    hhm_result result = hhm_fold(hhm, &folded);
+    if (result == HHM_OK)
+        printf("folded %" PRIu64 "\n", folded);
+    return result;
+}
+
 /* Cells, or rows, which have the same three numbers. */
 static void print_threes(const hhm_cell *cells, size_t count)
 {
@@ -226,6 +235,8 @@ static hhm_result answer(hhm_client *hhm, const char *word, const uint64_t *numb
         return ask_status(hhm);
     if (!strcmp(word, "save"))
         return save(hhm);
+    if (!strcmp(word, "fold"))
+        return fold(hhm);
     if (!strcmp(word, "page"))
         return page(hhm, numbers);
     if (!strcmp(word, "range"))

@@ -70,6 +70,8 @@ def answer(hhm, word, *numbers):
         return "batches %d total %d" % hhm.status()
     if word == "save":
         return f"saved {hhm.save()}"
+    if word == "fold":
+        return f"folded {hhm.fold()}"
     if word == "page":
         page = hhm.page(numbers[0:2], numbers[2:4], tuple(numbers[4:6]), numbers[6])
         return f"more {int(page.has_more)}: {threes(page.cells)}"

@@ -127,6 +127,7 @@ fn answer(hhm: &mut Client, word: &str, numbers: &[u64]) -> Result<String, Error
             format!("batches {} total {}", status.batches, status.total)
         }
         ("save", []) => format!("saved {}", hhm.save()?),
+        ("fold", []) => format!("folded {}", hhm.fold()?),
         ("fork", &[first, count, cells]) => forked(hhm, first, count, cells),
         ("split", &[first, count]) => split(hhm, first, count)?,
         ("page", &[a, b, c, d, row, col, most]) => {

@@ -59,6 +59,10 @@ pub static KINDS: &[KindName] = &[
         kind: 12,
         name: "stats",
     },
+    KindName {
+        kind: 13,
+        name: "fold",
+    },
 ];
 
 /// The codes of refusals, rising.

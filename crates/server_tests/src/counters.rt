@@ -5,12 +5,13 @@ use std::process::Abort;
 use std::time::Clock;
 use test_support::{same, same_at};
 
-/// A cell, a status, a row, a put of one cell, and a Stats.
+/// A cell, a status, a row, a put of one cell, a Stats, and a Fold.
 static REQUESTS: &[u8] = b"\0\0\0\x10\x02................\
 \0\0\0\0\x04\
 \0\0\0\x08\x03........\
 \0\0\0\x28\x08........................................\
-\0\0\0\0\x0c";
+\0\0\0\0\x0c\
+\0\0\0\0\x0d";
 
 static ASKED: &[Seen] = &[
     Seen::Kind(2),
@@ -18,6 +19,7 @@ static ASKED: &[Seen] = &[
     Seen::Kind(3),
     Seen::Kind(8),
     Seen::Kind(12),
+    Seen::Kind(13),
 ];
 
 /// A status, a refusal with code 31 and the detail 7, a save of 258 batches, a text, and a refusal with code 1.
@@ -77,10 +79,10 @@ fn frames_are_seen_in_any_pieces(rt: HostRuntime) {
     for (way, bytes, wanted) in [(Way::In, REQUESTS, ASKED), (Way::Out, REPLIES, ANSWERED)] {
         for at in 0..bytes.len() {
             let found = seen_in_halves(way, bytes, wanted, at);
-            assert!(rt; same_at(&rt, &at, &found, &Some(5)));
+            assert!(rt; same_at(&rt, &at, &found, &Some(wanted.len())));
         }
         let found = seen_by_bytes(way, bytes, wanted);
-        assert!(rt; same(&rt, &found, &Some(5)));
+        assert!(rt; same(&rt, &found, &Some(wanted.len())));
     }
 }
 

@@ -1,6 +1,6 @@
 //! What is asked of a session over a log, and what comes back.
 
-use crate::frames::Ask::{self, Put, Save, Status, Stored};
+use crate::frames::Ask::{self, Fold, Put, Save, Status, Stored};
 use crate::log::{NO_ROOM, NOT_BEGUN, NOT_NAMED, NOT_SYNCED, WELL};
 use crate::sessions::{Case, Found, play};
 use log_desk::FailAt;
@@ -155,6 +155,56 @@ static CASES: &[Case] = &[
                   00000010 81 0000000000000001 0000000000000008
                   00000010 84 0000000000000002 0000000000000008
                   00000010 81 0000000000000002 0000000000000009",
+        found: Found {
+            syncs: 1,
+            durable: 3,
+            ..NOTHING
+        },
+        ..PLAIN
+    },
+    Case {
+        name: "folds of what is durable",
+        pieces: &[&[
+            Put(7, 1, 5),
+            Fold,
+            Put(8, 1, 3),
+            Put(7, 1, 5),
+            Fold,
+            Fold,
+            Stored,
+        ]],
+        replies: "00000010 81 0000000000000000 0000000000000005
+                  00000008 86 0000000000000001
+                  00000010 81 0000000000000001 0000000000000008
+                  00000010 81 0000000000000000 0000000000000005
+                  00000008 86 0000000000000002
+                  00000008 86 0000000000000002
+                  00000010 84 0000000000000002 0000000000000008",
+        found: Found {
+            syncs: 2,
+            durable: 2,
+            ..NOTHING
+        },
+        ..PLAIN
+    },
+    // What couldn't be folded is folded behind the save.
+    Case {
+        name: "a fold where the log has failed",
+        pieces: &[
+            &[Put(7, 1, 5)],
+            &[Put(8, 1, 3)],
+            &[Fold, Save, Fold, Stored],
+            &[Put(9, 1, 1), Fold],
+        ],
+        fail_at: FailAt::Append(1),
+        replies: "00000010 81 0000000000000000 0000000000000005
+                  0000000a ff 0023 0000000000000000
+                  0000000a ff 0023 0000000000000000
+                  00000008 86 0000000000000002
+                  00000008 86 0000000000000002
+                  00000010 84 0000000000000002 0000000000000008
+                  00000010 81 0000000000000002 0000000000000009
+                  00000008 86 0000000000000003",
         found: Found {
             syncs: 1,
             durable: 3,

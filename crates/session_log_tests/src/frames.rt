@@ -16,6 +16,7 @@ pub enum Ask {
     Status,
     Stored,
     Save,
+    Fold,
 }
 
 fn put_frame(client: u8, number: u8, count: u8) -> [u8; 82] {
@@ -35,6 +36,7 @@ fn push_frame(rt: &impl Abort, frames: &mut Vec<u8>, ask: Ask) {
         Ask::Status => frames.extend_from_slice(b"\0\0\0\0\x04"),
         Ask::Save => frames.extend_from_slice(b"\0\0\0\0\x06"),
         Ask::Stored => frames.extend_from_slice(b"\0\0\0\0\x09"),
+        Ask::Fold => frames.extend_from_slice(b"\0\0\0\0\x0d"),
     };
     pushed.expect(rt, "memory");
 }

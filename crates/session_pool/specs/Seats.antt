@@ -36,7 +36,8 @@ use Rattle.locked_engine.specs.Opened.{SharePast}
 use Rattle.locked_engine.specs.Told.{IsTold}
 use Rattle.locked_engine.specs.Versions.{IsVersion, version_status}
 use Rattle.locked_engine.specs.Views.{SeatView}
-use Rattle.wire_proto.specs.Keeping.{Event, put, cell, row, status, export, save, stored, stats}
+use Rattle.wire_proto.specs.Keeping.{Event, put, cell, row, status, export, save, stored, stats, fold}
+use Rattle.wire_proto.specs.declared.keeper.FoldRefusal.TheVariants as no_fold
 use Rattle.wire_proto.specs.declared.keeper.PutRefusal.{PutRefusal}
 use Rattle.wire_proto.specs.declared.keeper.PutRefusal.TheVariants.{Put as Refuses, LogFull, LogFailed}
 use Rattle.wire_proto.specs.declared.keeper.Settled.{Settled}
@@ -105,13 +106,14 @@ IsStored v synced a seen (Some known) =
     (a ≡ version_status known) × synced known × (all : List Entry) × IsVersion v all × IsPrefix known all ×
     IsPrefix seen all
 
--- A put, a status, a save and a Stats show the seat a version, of which the answer is true: a put's is that version's word on
--- the batch, whose total is added to the seat's share where the put was the first; a saved list has just its entries,
--- what was folded when the engine was opened is folded in it, and behind it batches that were folded since. With a log a
--- put is accepted once its entry is known as durable. Where the log was full the put leaves the seat as it is; where it
--- had failed, the batch may be accepted all the same. A cell, a row and the parts of an export are what a shard of the
--- row's number showed under its lock at a moment of the call, over its part of the base that the engine was opened with
--- and of batches that were folded since; they leave the seat as it is.
+-- A put, a status, a save, a Stats and a Fold show the seat a version, of which the answer is true: a put's is that
+-- version's word on the batch, whose total is added to the seat's share where the put was the first; a saved list has
+-- just its entries, what was folded when the engine was opened is folded in it, and behind it batches that were folded
+-- since. With a log a put is accepted once its entry is known as durable. Where the log was full the put leaves the
+-- seat as it is; where it had failed, the batch may be accepted all the same. A cell, a row and the parts of an export
+-- are what a shard of the row's number showed under its lock at a moment of the call, over its part of the base that
+-- the engine was opened with and of batches that were folded since; they leave the seat as it is. What is known as
+-- durable only grows by a Fold, which is told as failed where a log has answered that.
 abbrev pub SeatGives : Setting → Accepted → (Accepted → Type 0) → (List Entry → Type 0) → Type 0 → Type 0 → Sight →
     Event → Sight → Type 0
 SeatGives v opened saved synced failed full s (put batch (Ok kept)) t =
@@ -149,3 +151,12 @@ SeatGives v opened saved synced failed full s (stats (Ok told)) t =
     SharePast a opened × (told.folded ≡ length a.folded)
 SeatGives v opened saved synced failed full s (stats (Err lack)) t =
     (t.known ≡ s.known) × LooksOn s.seat t.seat × (t.seat.first ≡ s.seat.first)
+SeatGives v opened saved synced failed full s (fold (Ok folded)) t =
+    Grows s.known t.known × LooksOn s.seat t.seat × (t.seat.first ≡ s.seat.first) × (a : Accepted) × AreAccepted v a ×
+    (entries_in a ≡ t.seat.seen) × SharePast a opened × (folded ≡ length a.folded)
+SeatGives v opened saved synced failed full s (fold (Err no_fold.Memory)) t =
+    Grows s.known t.known × LooksOn s.seat t.seat × (t.seat.first ≡ s.seat.first)
+SeatGives v opened saved synced failed full s (fold (Err no_fold.LogFailed)) t =
+    (t.seat ≡ s.seat) × Grows s.known t.known × IsLogged t.known × failed
+SeatGives v opened saved synced failed full s (fold (Err no_fold.RecordsDiffer)) t =
+    (t.seat ≡ s.seat) × Grows s.known t.known × IsLogged t.known

@@ -1,13 +1,16 @@
 //! Folding what an engine has accepted, beside the workers of a pool.
-ghost use Rattle.std.specs.Prelude.{◌≡◌, ◌↔◌, ◌<◌, IsTrue};
+ghost use Rattle.std.specs.Prelude.{◌≡◌, ◌↔◌, ◌<◌, Err, IsTrue};
+ghost use Rattle.session_pool.specs.Seats.{Grows, IsLogged};
 
 use crate::saver::Saver;
+use crate::session_log::SessionLog;
 use locked_engine::{Backlog, Engine, Folder, Named};
 use log_desk::{Log, LogDesk};
 use std::alloc::Global;
 use std::mem;
 use std::sync::ledger::Ledger;
 use std::sync::{Mutex, Wait};
+use wire_proto::FoldRefusal;
 
 /// From how many cells on what was accepted is folded unasked, and the engine's folder, which one thread at a time has:
 /// it is held for as long as a fold takes.
@@ -17,6 +20,60 @@ pub(crate) struct Folding {
     above: u64,
     // None where no pool runs, or somebody else has the engine's folder.
     folder: Mutex<Option<Folder>>,
+}
+
+// Settles what was sealed up to a place and summed up. With a log all of that is made durable first.
+fn settle<N: Named, H: Ledger, L: Log, R: Wait>(
+    rt: &R,
+    alloc: Global,
+    engine: &Engine<N, H>,
+    saver: &Saver,
+    log: &mut Option<SessionLog<'_, N, L>>,
+    folder: &mut Folder,
+    place: u64,
+) -> Result<(), FoldRefusal>
+    ensures grows { Grows log.old log.new }
+    ensures failed { result ≡ Err FoldRefusal.LogFailed → IsLogged log.new × L.has_failed }
+    ensures differ { result ≡ Err FoldRefusal.RecordsDiffer → IsLogged log.new }
+{
+    let Some(log) = log else {
+        let desk: Option<&LogDesk<N, L>> = None;
+        let _ = saver.settle_fold(rt, alloc, engine, desk, folder);
+        return Ok(());
+    };
+    if let Err(refusal) = log.reach(rt, engine, place) {
+        return Err(refusal);
+    }
+    if saver.settle_fold(rt, alloc, engine, Some(log.desk()), folder) {
+        Ok(())
+    } else {
+        Err(FoldRefusal::RecordsDiffer)
+    }
+}
+
+// Folds what the folder has sealed, or, where that is nothing, what was accepted by now.
+fn fold_once<N: Named, H: Ledger, L: Log, R: Wait>(
+    rt: &R,
+    alloc: Global,
+    engine: &Engine<N, H>,
+    saver: &Saver,
+    log: &mut Option<SessionLog<'_, N, L>>,
+    folder: &mut Folder,
+) -> Result<(), FoldRefusal>
+    ensures grows { Grows log.old log.new }
+    ensures failed { result ≡ Err FoldRefusal.LogFailed → IsLogged log.new × L.has_failed }
+    ensures differ { result ≡ Err FoldRefusal.RecordsDiffer → IsLogged log.new }
+{
+    let Ok(begun) = engine.begin_fold(rt, alloc, folder) else {
+        return Err(FoldRefusal::Memory);
+    };
+    let Some(place) = begun else {
+        return Ok(());
+    };
+    if folder.run(alloc).is_err() {
+        return Err(FoldRefusal::Memory);
+    }
+    settle(rt, alloc, engine, saver, log, folder, place)
 }
 
 impl Folding {
@@ -61,6 +118,37 @@ impl Folding {
     pub(crate) fn end<R: Wait>(&self, rt: &R) {
         let mut folder = self.folder.lock(rt);
         drop(mem::replace(&mut *folder, None));
+    }
+
+    /// Folds all that was accepted by now, with a log once it is durable; where another fold runs it waits for the end
+    /// of that one. What isn't folded where it is refused stays sealed for the next call. It takes the engine's folder
+    /// where there is none here yet, as where no pool runs; where somebody else has that, nothing is folded.
+    pub(crate) fn fold_now<N: Named, H: Ledger, L: Log, R: Wait>(
+        &self,
+        rt: &R,
+        alloc: Global,
+        engine: &Engine<N, H>,
+        saver: &Saver,
+        log: &mut Option<SessionLog<'_, N, L>>,
+    ) -> Result<(), FoldRefusal>
+        ensures grows { Grows log.old log.new }
+        ensures failed { result ≡ Err FoldRefusal.LogFailed → IsLogged log.new × L.has_failed }
+        ensures differ { result ≡ Err FoldRefusal.RecordsDiffer → IsLogged log.new }
+    {
+        let mut guard = self.folder.lock(rt);
+        if guard.is_none() {
+            *guard = engine.folder(alloc);
+        }
+        let Some(folder) = &mut *guard else {
+            return Ok(());
+        };
+        // What was sealed earlier is settled first: what came since stands behind it.
+        if folder.place().is_some() {
+            if let Err(refusal) = fold_once(rt, alloc, engine, saver, log, folder) {
+                return Err(refusal);
+            }
+        }
+        fold_once(rt, alloc, engine, saver, log, folder)
     }
 
     /// Folds where a fold is due, or goes on with what was sealed before and couldn't be folded. Where memory is refused,

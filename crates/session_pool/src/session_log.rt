@@ -12,7 +12,7 @@ use std::marker::Model;
 use std::sync::ledger::Ledger;
 use std::sync::{Arc, Wait};
 use std::{mem, slice};
-use wire_proto::{PutRefusal, Settled};
+use wire_proto::{FoldRefusal, PutRefusal, Settled};
 
 /// The desk of a log, what a session knows to be durable, and what it was promised for the puts that it has begun.
 ///
@@ -172,6 +172,31 @@ impl<'a, N: Named, L: Log> SessionLog<'a, N, L> {
         let answer = self.wait(rt, engine, place);
         self.settle_one(rt);
         self.settled(seat, place, answer)
+    }
+
+    /// Waits until all batches in front of a place are durable, as `settle` does.
+    ///
+    /// # Errors
+    ///
+    /// - `LogFailed`: a write to the log has failed.
+    /// - `RecordsDiffer`: the book and the log don't belong together.
+    pub(crate) fn reach<H: Ledger, R: Wait>(
+        &mut self,
+        rt: &R,
+        engine: &Engine<N, H>,
+        place: u64,
+    ) -> Result<(), FoldRefusal>
+        ensures later { IsPrefix self.old self.new }
+        ensures failed { result ≡ Err FoldRefusal.LogFailed → L.has_failed }
+    {
+        let Some(last) = place.checked_sub(1) else {
+            return Ok(());
+        };
+        match self.wait(rt, engine, last) {
+            Ok(()) => Ok(()),
+            Err(DeskFault::LogFailed) => Err(FoldRefusal::LogFailed),
+            Err(DeskFault::LogFull | DeskFault::HistoriesDiffer) => Err(FoldRefusal::RecordsDiffer),
+        }
     }
 
     /// How many of the batches are durable, and their total.

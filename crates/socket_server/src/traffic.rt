@@ -3,11 +3,54 @@
 use server_counters::{Counters, FrameScan, Seen, Way};
 use std::time::Clock;
 
+/// The kind of a request to fold.
+const FOLD: u8 = 13;
+
+/// How many words of 64 bits there are for requests that aren't answered yet. All that stand whole in what was read are
+/// answered before more is read, which is at most 65,536 bytes: some 13,000 requests, of five bytes at least.
+const WORDS: u64 = 256;
+
+/// The requests of one connection, of which the last 16,384 are known to be a Fold or not. The answer to a Fold looks
+/// as that to a save does.
+#[derive(Drop)]
+struct Asked {
+    count: u64,
+    folds: [u64; WORDS as usize],
+}
+
+impl Asked {
+    // No request.
+    fn new() -> Asked {
+        Asked {
+            count: 0,
+            folds: [0; WORDS as usize],
+        }
+    }
+
+    // The next request has this kind.
+    fn note(&mut self, kind: u8) {
+        let place = (self.count / 64 % WORDS) as usize;
+        let bit = 1u64 << (self.count % 64);
+        let others = self.folds[place] & !bit;
+        self.folds[place] = if kind == FOLD { others | bit } else { others };
+        self.count = self.count.wrapping_add(1);
+    }
+
+    // Whether the request of this number, counted from 0, is a Fold.
+    fn is_fold(&self, number: u64) -> bool {
+        let word = self.folds[(number / 64 % WORDS) as usize];
+        word >> (number % 64) & 1 == 1
+    }
+}
+
 /// The streams of requests and replies of one connection.
 #[derive(Drop)]
 pub struct Traffic {
     requests: FrameScan,
     replies: FrameScan,
+    asked: Asked,
+    // How many requests are answered.
+    answered: u64,
 }
 
 // Requests of one kind that have come one behind the other.
@@ -41,6 +84,8 @@ impl Traffic {
         Traffic {
             requests: FrameScan::new(Way::In),
             replies: FrameScan::new(Way::Out),
+            asked: Asked::new(),
+            answered: 0,
         }
     }
 
@@ -56,9 +101,15 @@ impl Traffic {
             let Some(Seen::Kind(kind)) = seen else {
                 break;
             };
+            self.asked.note(kind);
             run = run.with(counters, kind);
         }
         run.end(counters);
+    }
+
+    /// Whether a reply answers a Fold that comes behind those that were counted and so many more.
+    pub fn is_fold(&self, ahead: u64) -> bool {
+        self.asked.is_fold(self.answered.wrapping_add(ahead))
     }
 
     /// Counts bytes that were written, and the refusals and saves that begin among them.
@@ -71,7 +122,11 @@ impl Traffic {
             let Some(seen) = seen else {
                 break;
             };
-            counters.note_reply(clock, seen);
+            let is_fold = self.is_fold(0);
+            self.answered = self.answered.wrapping_add(1);
+            if !is_fold || !matches!(seen, Seen::Saved(_)) {
+                counters.note_reply(clock, seen);
+            }
         }
     }
 }

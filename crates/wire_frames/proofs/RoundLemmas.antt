@@ -8,7 +8,7 @@ use Rattle.wire_frames.specs.Frames.{front, frame, head_bytes, number, head_len,
 use Rattle.wire_frames.specs.Frames.{length_fits, request_of, number_at, request_frame, HasFrame, AreNumbers, pair, range_at}
 use Rattle.wire_frames.specs.declared.request.Request.{Request}
 use Rattle.wire_frames.specs.declared.request.Request.TheVariants.{Put, Cell, Row, Status, Export, Save, Stop}
-use Rattle.wire_frames.specs.declared.request.Request.TheVariants.{PutCells, Stored, Range, Top, Stats}
+use Rattle.wire_frames.specs.declared.request.Request.TheVariants.{PutCells, Stored, Range, Top, Stats, Fold}
 use Rattle.wire_frames.proofs.FrontLemmas.{front_whole}
 
 pub kind_read : (k : ℕ) (body more : List ℕ) → head_kind (frame k body ++ more) ≡ k
@@ -181,5 +181,6 @@ front_again (Range rows cols start most) more h =
     front_of_frame 10 (pair rows ++ pair cols ++ pair start ++ number most) more h.short (range_fits rows cols start most)
     ∙ ap (λ x. Some (Ok x, more)) (range_read rows cols start most h.numbers)
 front_again Stats more h = front_of_frame 12 [] more h.short refl
+front_again Fold more h = front_of_frame 13 [] more h.short refl
 front_again (Top by most) more h = front_of_frame 11 (by ∷ number most) more h.short (top_fits by most) ∙
     ap (λ x. Some (Ok x, more)) (top_read by most h.numbers.1)

@@ -5,7 +5,7 @@ use Rattle.std.specs.Prelude.{Result, Ok, Err}
 use Rattle.std.specs.Int.{w32, w64, to_be_bytes, from_be_bytes}
 use Rattle.wire_frames.specs.declared.request.Request.{Request}
 use Rattle.wire_frames.specs.declared.request.Request.TheVariants.{Put, Cell, Row, Status, Export, Save, Stop}
-use Rattle.wire_frames.specs.declared.request.Request.TheVariants.{PutCells, Stored, Range, Top, Stats}
+use Rattle.wire_frames.specs.declared.request.Request.TheVariants.{PutCells, Stored, Range, Top, Stats, Fold}
 use Rattle.wire_frames.specs.declared.request.FrameFault.{FrameFault}
 use Rattle.wire_frames.specs.declared.request.FrameFault.TheVariants.{Memory, TooLarge, UnknownKind, BadLength}
 
@@ -34,6 +34,7 @@ kind_of Stored = 9
 kind_of (Range rows cols start most) = 10
 kind_of (Top by most) = 11
 kind_of Stats = 12
+kind_of Fold = 13
 
 abbrev pub pair : ℕ × ℕ → List ℕ
 pair p = number p.0 ++ number p.1
@@ -51,6 +52,7 @@ body_of Stored = []
 body_of (Range rows cols start most) = pair rows ++ pair cols ++ pair start ++ number most
 body_of (Top by most) = by ∷ number most
 body_of Stats = []
+body_of Fold = []
 
 abbrev pub request_frame : Request → List ℕ
 request_frame r = frame (kind_of r) (body_of r)
@@ -71,6 +73,7 @@ AreNumbers (Range rows cols start most) =
     (start.1 < 2 ^ 64) × (most < 2 ^ 64)
 AreNumbers (Top by most) = (by < 2 ^ 8) × (most < 2 ^ 64)
 AreNumbers Stats = Unit {0}
+AreNumbers Fold = Unit {0}
 
 -- a whole number of cells, of 24 bytes each
 abbrev pub IsWhole : List ℕ → Type 0
@@ -97,6 +100,7 @@ length_fits kind len =
     else if kind == 10 then Some (len == 56)
     else if kind == 11 then Some (len == 9)
     else if kind == 12 then Some (len == 0)
+    else if kind == 13 then Some (len == 0)
     else None
 
 abbrev pub fault_of_kind : Option Bool → Option FrameFault
@@ -132,7 +136,8 @@ request_of kind body =
     else if kind == 9 then Stored
     else if kind == 10 then range_at body
     else if kind == 11 then Top (slice_index body 0) (number_at 1 body)
-    else Stats
+    else if kind == 12 then Stats
+    else Fold
 
 unfoldable pub head_len : List ℕ → ℕ
 head_len bytes = from_be_bytes w32 (take 4 bytes)

@@ -105,7 +105,8 @@ fn open(kind: u8, mut body: Bytes) -> Request
             let most = body.get_u64();
             Request::Top { by, most }
         }
-        _ => Request::Stats,
+        12 => Request::Stats,
+        _ => Request::Fold,
     }
 }
 

@@ -56,6 +56,7 @@ fn fits(head: Head) -> Option<bool>
         10 => Some(head.len == 56),
         11 => Some(head.len == 9),
         12 => Some(head.len == 0),
+        13 => Some(head.len == 0),
         _ => None,
     }
 }

@@ -47,6 +47,7 @@ pub enum Request {
         most: u64,
     },
     Stats,
+    Fold,
 }
 
 /// What is wrong with the bytes of a link, or that memory ran out.
@@ -115,6 +116,7 @@ fn kind(request: &Request) -> u8
         Request::Range { .. } => 10,
         Request::Top { .. } => 11,
         Request::Stats => 12,
+        Request::Fold => 13,
     }
 }
 
@@ -135,7 +137,8 @@ fn body_len(request: &Request) -> usize
         | Request::Save
         | Request::Stop
         | Request::Stored
-        | Request::Stats => 0,
+        | Request::Stats
+        | Request::Fold => 0,
     }
 }
 
@@ -198,7 +201,8 @@ fn push_body(out: &mut Vec<u8>, request: &Request) -> Result<(), AllocError>
         | Request::Save
         | Request::Stop
         | Request::Stored
-        | Request::Stats => Ok(()),
+        | Request::Stats
+        | Request::Fold => Ok(()),
     }
 }
 

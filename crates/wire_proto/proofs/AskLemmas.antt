@@ -3,13 +3,14 @@ use Rattle.std.proofs.Common.{◌≡◌, ℕ, ◌<◌, ◌≤◌, List, length, 
 use Rattle.std.proofs.lemmas.Bool.{lt-ltb, le-ltb, cases_lt}
 use Rattle.hyper_rows.specs.declared.search.RowSum.{RowSum}
 use Rattle.wire_frames.specs.Frames.{frame, head_bytes, number}
-use Rattle.wire_proto.specs.Keeping.{Event, cell, row, status, export, save, stored, stats}
+use Rattle.wire_proto.specs.Keeping.{Event, cell, row, status, export, save, stored, stats, fold}
 use Rattle.wire_proto.specs.Telling.{Telling, stats_text}
-use Rattle.wire_proto.specs.Replies.{value, row_sum, counts, save_reply, text, text_reply, refused, lines_reply}
+use Rattle.wire_proto.specs.Replies.{value, row_sum, counts, save_reply, fold_reply, text, text_reply, refused}
+use Rattle.wire_proto.specs.Replies.{lines_reply}
 use Rattle.mm_laws.specs.MatrixText.{matrix_text}
 use Rattle.std.proofs.Common.{OnErr, IfOk, Err, subst}
 use Rattle.std.specs.declared.alloc.AllocError.{AllocError}
-use Rattle.wire_frames.specs.declared.request.Request.TheVariants.{Range, Top, Stats}
+use Rattle.wire_frames.specs.declared.request.Request.TheVariants.{Range, Top, Stats, Fold}
 use Rattle.wire_proto.specs.Questions.{AreBounds, IsCount}
 use Rattle.wire_proto.specs.Answering.{Answers, asked, RunsOut, in_call}
 use Rattle.hyper_matrix.specs.Matrix.{Matrix}
@@ -18,6 +19,7 @@ use Rattle.batch_store.specs.Setups.{Setting}
 use Rattle.wire_proto.proofs.SendLemmas.{length_text}
 use Rattle.plain_engine.specs.declared.status.Status.{Status as Counted}
 use Rattle.wire_proto.specs.declared.keeper.SaveRefusal.{SaveRefusal}
+use Rattle.wire_proto.specs.declared.keeper.FoldRefusal.{FoldRefusal}
 
 pub cell_answered : {S : Type 0} (gives : S → Event → S → Type 0) (setup : Setting) (s t : S) (r c : ℕ)
     (count : Option ℕ) (reply : List ℕ) →
@@ -45,6 +47,11 @@ pub save_answered : {S : Type 0} (gives : S → Event → S → Type 0) (setup :
     (answer : Result ℕ SaveRefusal) (reply : List ℕ) →
     gives s (save answer) t → save_reply answer ≡ Some reply → Answers gives setup Save reply s t
 save_answered gives setup s t answer reply h e = asked (save answer) (answer, refl) h e
+
+pub fold_answered : {S : Type 0} (gives : S → Event → S → Type 0) (setup : Setting) (s t : S)
+    (answer : Result ℕ FoldRefusal) (reply : List ℕ) →
+    gives s (fold answer) t → fold_reply answer ≡ Some reply → Answers gives setup Fold reply s t
+fold_answered gives setup s t answer reply h e = asked (fold answer) (answer, refl) h e
 
 pub export_answered : {S : Type 0} (gives : S → Event → S → Type 0) (setup : Setting) (s t : S) (m : Matrix)
     (reply : List ℕ) →

@@ -12,4 +12,5 @@ pub mod CellLemmas
 pub mod PlainLemmas
 pub mod DecodeLemmas
 pub mod OneAnswer
+pub mod FoldedLemmas
 pub mod Repeats

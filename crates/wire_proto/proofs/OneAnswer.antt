@@ -14,7 +14,7 @@ use Rattle.hyper_matrix.specs.Matrix.{Matrix, matrix}
 use Rattle.std.specs.declared.alloc.AllocError.{AllocError}
 use Rattle.batch_store.specs.Setups.{Setting}
 use Rattle.batch_store.specs.Batches.{Submission, submission, batch_total}
-use Rattle.batch_store.specs.Accepted.{Accepted, count_in, total_in}
+use Rattle.batch_store.specs.Accepted.{Accepted, count_in, total_in, summed, folded_into}
 use Rattle.batch_store.specs.Verdicts.{kept}
 use Rattle.batch_store.specs.Lists.{RefusesList}
 use Rattle.batch_store.specs.declared.fault.CellsFault.{CellsFault}
@@ -30,7 +30,7 @@ use Rattle.plain_engine.specs.declared.fault.PutFault.TheVariants as fault
 use Rattle.wire_proto.specs.declared.keeper.PutRefusal.{PutRefusal}
 use Rattle.wire_proto.specs.declared.keeper.PutRefusal.TheVariants.{Put as Refuses, LogFull, LogFailed}
 use Rattle.wire_frames.specs.Frames.{Message}
-use Rattle.wire_proto.specs.Keeping.{Event, put, cell, row, status, export, save, stored, stats}
+use Rattle.wire_proto.specs.Keeping.{Event, put, cell, row, status, export, save, stored, stats, fold}
 use Rattle.wire_proto.specs.Telling.{Telling}
 use Rattle.wire_proto.specs.Replies.{put_reply, reply_of, refused}
 use Rattle.wire_proto.specs.Answering.{put_limits, kind_number, PutsBatch, RefusesText, faulty, differs, too_large}
@@ -38,9 +38,11 @@ use Rattle.wire_proto.specs.Answering.{Answers, asked, unasked, of_sum, PutsCell
 use Rattle.wire_proto.specs.CellBytes.{cells_of}
 use Rattle.wire_proto.specs.Plain.{PlainGives, IsAnswered, plain_told}
 use Rattle.wire_proto.specs.declared.keeper.SaveRefusal.TheVariants.{SaveOff}
+use Rattle.wire_proto.specs.declared.keeper.FoldRefusal.{FoldRefusal}
+use Rattle.wire_proto.specs.declared.keeper.FoldRefusal.TheVariants as no_fold
 use Rattle.wire_frames.specs.declared.request.Request.{Request}
 use Rattle.wire_frames.specs.declared.request.Request.TheVariants.{Put, Cell as CellAt, Row, Status, Export, Save, Stop}
-use Rattle.wire_frames.specs.declared.request.Request.TheVariants.{PutCells, Stored, Range, Top, Stats}
+use Rattle.wire_frames.specs.declared.request.Request.TheVariants.{PutCells, Stored, Range, Top, Stats, Fold}
 use Rattle.std.specs.FinMap.{entries, entries_sorted}
 use Rattle.cell_queries.specs.Tallies.{tallies}
 use Rattle.cell_queries.specs.Tops.{IsTop}
@@ -186,6 +188,14 @@ told_is : (v : Setting) (state : Accepted) (a : Result Telling AllocError) (t : 
 told_is v state (Ok told) t w h i = (ap (λ x. Ok x) h.0, h.1)
 told_is v state (Err e) t w h i = absurd (cc)
 
+-- a fold that is replied to has folded all
+fold_is : (v : Setting) (state : Accepted) (a : Result ℕ FoldRefusal) (t : Accepted) (w : List ℕ) →
+    PlainGives v state (fold a) t → reply_of (fold a) ≡ Some w →
+    (a ≡ Ok (count_in state)) × (t ≡ folded_into (summed state) state)
+fold_is v state (Ok n) t w h i = (ap (λ x. Ok x) h.0, h.1)
+fold_is v state (Err refusal) t w h i =
+    let none = subst (λ (x : FoldRefusal). reply_of (fold (Err x)) ≡ Some w) h.0 i in absurd (cc)
+
 -- of puts of one batch, one reply
 one_put : (v : Setting) (state : Accepted) (e e' : Event) (b b' : Submission) (a a' : Result Kept PutRefusal)
     (w w' : List ℕ) (t t' : Accepted) → b ≡ b' → e ≡ put b a → e' ≡ put b' a' → PlainGives v state e t →
@@ -265,6 +275,16 @@ one_answer v state Stats w w' t t' (asked e a h i) (asked e' a' h' i') =
     event_once v state e e' w w' t t' (a.1 ∙ ap stats (g.0 ∙ sym g'.0) ∙ sym a'.1) (g.1 ∙ sym g'.1) i i'
 one_answer v state Stats w w' t t' (asked e a h i) (unasked a' i') = absurd a'
 one_answer v state Stats w w' t t' (unasked a i) other = absurd a
+one_answer v state Fold w w' t t' (asked e a h i) (asked e' a' h' i') =
+    let g = fold_is v state a.0 t w (subst (λ x. PlainGives v state x t) a.1 h)
+    (subst (λ x. reply_of x ≡ Some w) a.1 i) in
+    let g' = fold_is v state a'.0 t' w' (subst (λ x. PlainGives v state x t') a'.1 h')
+    (subst (λ x. reply_of x ≡ Some w') a'.1 i') in
+    event_once v state e e' w w' t t' (a.1 ∙ ap fold (g.0 ∙ sym g'.0) ∙ sym a'.1) (g.1 ∙ sym g'.1) i i'
+one_answer v state Fold w w' t t' (asked e a h i) (unasked a' i') = absurd a'
+one_answer v state Fold w w' t t' (unasked a i) other = absurd a
+one_answer v state Fold w w' t t' (of_sum m b g) other = absurd b
+one_answer v state Fold w w' t t' (asked e a h i) (of_sum m b g) = absurd b
 one_answer v state Stop w w' t t' (asked e a h i) other = absurd a
 one_answer v state Stop w w' t t' (unasked a i) other = absurd a
 one_answer v state (PutCells c n bytes) w w' t t' (asked e a h i) (asked e' a' h' i') =
@@ -366,6 +386,8 @@ answered_once v state (Ok (Range x y z n) ∷ ms) w w' t t' a b = then_one v sta
 answered_once v state (Ok (Top x n) ∷ ms) w w' t t' a b = then_one v state (Top x n) ms w w' t t'
     (λ m p q c d. answered_once v m ms p q t t' c d) a b
 answered_once v state (Ok Stats ∷ ms) w w' t t' a b = then_one v state Stats ms w w' t t'
+    (λ m p q c d. answered_once v m ms p q t t' c d) a b
+answered_once v state (Ok Fold ∷ ms) w w' t t' a b = then_one v state Fold ms w w' t t'
     (λ m p q c d. answered_once v m ms p q t t' c d) a b
 
 -- ---- and there is one
@@ -574,3 +596,6 @@ has_answers v state (Ok (Top x n) ∷ ms) = let h = then_some v state (Top x n) 
 has_answers v state (Ok Stats ∷ ms) = let h = then_some v state Stats ms
     (_, state, asked (stats (Ok (plain_told v state))) (_, refl) (refl, refl) refl) (λ m. has_answers v m ms) in
     (h.0, h.1, (h.2, h.3, h.4, h.5, h.6, h.7))
+has_answers v state (Ok Fold ∷ ms) = let h = then_some v state Fold ms
+    (_, folded_into (summed state) state, asked (fold (Ok (count_in state))) (_, refl) (refl, refl) refl)
+    (λ m. has_answers v m ms) in (h.0, h.1, (h.2, h.3, h.4, h.5, h.6, h.7))

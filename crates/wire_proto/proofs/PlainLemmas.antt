@@ -6,7 +6,7 @@ use Rattle.byte_io.specs.Streams.{Answer}
 use Rattle.batch_store.specs.Setups.{Setting}
 use Rattle.batch_store.specs.Accepted.{Accepted}
 use Rattle.wire_frames.specs.Frames.{Message, Gives, messages}
-use Rattle.wire_proto.specs.Keeping.{Event, put, cell, row, status, export, save, stored, stats}
+use Rattle.wire_proto.specs.Keeping.{Event, put, cell, row, status, export, save, stored, stats, fold}
 use Rattle.plain_engine.specs.declared.fault.PutFault.TheVariants as fault
 use Rattle.wire_proto.specs.declared.keeper.PutRefusal.TheVariants.{Put as Refuses, LogFull, LogFailed}
 use Rattle.wire_proto.specs.Replies.{refused, reply_of}
@@ -19,7 +19,7 @@ use Rattle.wire_proto.specs.Plain.{PutsUnsent}
 use Rattle.wire_proto.specs.Plain.{EndsPlain}
 use Rattle.wire_frames.specs.declared.request.Request.{Request}
 use Rattle.wire_frames.specs.declared.request.Request.TheVariants.{Put, Cell, Row, Status, Export, Save, Stop}
-use Rattle.wire_frames.specs.declared.request.Request.TheVariants.{PutCells, Stored, Range, Top, Stats}
+use Rattle.wire_frames.specs.declared.request.Request.TheVariants.{PutCells, Stored, Range, Top, Stats, Fold}
 use Rattle.wire_proto.specs.declared.ended.Ended.{Ended}
 use Rattle.wire_proto.specs.declared.ended.Ended.TheVariants.{Closed, ReadFault, WriteFault, BadFrame, Memory, Stopped}
 use Rattle.wire_proto.specs.declared.ended.Ended.TheVariants.{TooManyTurns}
@@ -43,6 +43,7 @@ module _ {S : Type 0} (gives : S → Event → S → Type 0) (setup : Setting) w
   one_more s m t (Range x y z w) reply more ms bytes n a e b = (m, reply, more, a, e, b)
   one_more s m t (Top x w) reply more ms bytes n a e b = (m, reply, more, a, e, b)
   one_more s m t Stats reply more ms bytes n a e b = (m, reply, more, a, e, b)
+  one_more s m t Fold reply more ms bytes n a e b = (m, reply, more, a, e, b)
   one_more s m t Stop reply more ms bytes n a e b = absurd (n refl)
 
   -- requests, and then other messages
@@ -122,6 +123,8 @@ memory_keeps v l l' (save answer) h n = h.1
 memory_keeps v l l' (stored s) h n = h.1
 memory_keeps v l l' (stats (Ok told)) h n = h.1
 memory_keeps v l l' (stats (Err e)) h n = h
+memory_keeps v l l' (fold (Ok folded)) h n = absurd (cc)
+memory_keeps v l l' (fold (Err refusal)) h n = h.1
 
 module _ {S N : Type 0} (name : S → N) (setup_of : S → Setting) (state : S → Accepted) where
   runs_out_seen : (v : Setting) (r : Request) (s t : S) → setup_of s ≡ v → RunsOut (Steps name setup_of state) v r s t →
@@ -260,6 +263,7 @@ module _ {L S N : Type 0} (reads : L → Answer → L → Type 0) (writes : L �
   put_goes_on (Range x y z n) h is = h
   put_goes_on (Top x n) h is = h
   put_goes_on Stats h is = h
+  put_goes_on Fold h is = h
 
   ended_seen : (m t : S) → setup_of m ≡ v →
       ((t ≡ m) ⊎ ((r : Request) × RunsOut (Steps name setup_of state) v r m t)) →

@@ -8,7 +8,7 @@ use Rattle.std.proofs.lemmas.Bool.Decides.{nat_tests}
 use Rattle.batch_store.specs.Setups.{Setting}
 use Rattle.batch_store.specs.Batches.{Submission, entry_of, entries_of, batch_total}
 use Rattle.batch_store.specs.Accepted.{Accepted, accepted as state_with, entries_in, count_in, total_in, with_batch}
-use Rattle.batch_store.specs.Verdicts.{kept, total_of_entries, same_pair, verdict_at}
+use Rattle.batch_store.specs.Verdicts.{kept, total_of_entries, same_pair, verdict_at, verdict_of}
 use Rattle.batch_store.specs.declared.verdict.Entry.{Entry}
 use Rattle.batch_store.specs.declared.verdict.Kept.{Kept}
 use Rattle.batch_store.specs.declared.verdict.Verdict.{Verdict}
@@ -21,19 +21,22 @@ use Rattle.plain_engine.specs.declared.fault.PutFault.{PutFault}
 use Rattle.plain_engine.specs.declared.fault.PutFault.TheVariants as fault
 use Rattle.wire_proto.specs.declared.keeper.PutRefusal.{PutRefusal}
 use Rattle.wire_proto.specs.declared.keeper.PutRefusal.TheVariants.{Put as Refuses, LogFull, LogFailed}
-use Rattle.wire_proto.specs.Keeping.{Event, put, export, stats}
+use Rattle.wire_proto.specs.Keeping.{Event, put, export, stats, fold}
 use Rattle.wire_proto.specs.Telling.{Telling}
 use Rattle.wire_proto.specs.Replies.{accepted, refused, put_reply, reply_of}
 use Rattle.wire_proto.specs.Answering.{PutsBatch, PutsCells, Answers, asked, unasked, of_sum}
 use Rattle.wire_frames.specs.Frames.{Message}
 use Rattle.wire_proto.specs.Plain.{PlainGives, IsAnswered, AreAnswered, FreshPuts, PutsFresh, GoOn, IsPut, with_batches}
+use Rattle.wire_proto.specs.Plain.{IsFolded, NoneFolds}
+use Rattle.wire_proto.specs.declared.keeper.FoldRefusal.{FoldRefusal}
 use Rattle.wire_proto.proofs.DecodeLemmas.{frame_kind}
 use Rattle.wire_proto.specs.Decoding.{accepted as says_accepted, refused as says_refused}
 use Rattle.wire_proto.proofs.OneAnswer.{one_batch, never_both, put_is, one_cells_batch, never_both_cells}
 use Rattle.wire_proto.proofs.PlainLemmas.{one_more}
+use Rattle.wire_proto.proofs.FoldedLemmas.{folded_same, folded_all, folded_behind, folded_on, folded_entries}
 use Rattle.wire_frames.specs.declared.request.Request.{Request}
 use Rattle.wire_frames.specs.declared.request.Request.TheVariants.{Put, PutCells, Cell, Row, Status, Export, Save, Stop}
-use Rattle.wire_frames.specs.declared.request.Request.TheVariants.{Stored, Range, Top, Stats}
+use Rattle.wire_frames.specs.declared.request.Request.TheVariants.{Stored, Range, Top, Stats, Fold}
 
 -- ---- batches behind what was accepted
 none_behind : (state : Accepted) → with_batches state [] ≡ state
@@ -124,6 +127,16 @@ stored_more state more c n k s =
       found = subst (λ (es : List Entry). position_or_len (pair_test c n) es < length es) e both.0;
       is = subst (λ (es : List Entry). k ≡ kept (position_or_len (pair_test c n) es)
           (total_of_entries (take (position_or_len (pair_test c n) es + 1) es))) e both.1;
+    }
+
+-- so does it where what was accepted is folded
+stored_folded : (a t : Accepted) (c n : ℕ) (k : Kept) → IsFolded a t → IsKept a c n k → IsKept t c n k
+stored_folded a t c n k h s =
+    let e = sym (folded_entries a t h) in
+    record {
+      found = subst (λ (es : List Entry). position_or_len (pair_test c n) es < length es) e s.found;
+      is = subst (λ (es : List Entry). k ≡ kept (position_or_len (pair_test c n) es)
+          (total_of_entries (take (position_or_len (pair_test c n) es + 1) es))) e s.is;
     }
 
 -- so there is one
@@ -269,6 +282,7 @@ put_stored v state t c n Save w k p a e = absurd p
 put_stored v state t c n Stop w k p a e = absurd p
 put_stored v state t c n Stored w k p a e = absurd p
 put_stored v state t c n Stats w k p a e = absurd p
+put_stored v state t c n Fold w k p a e = absurd p
 
 -- ---- what a session adds to what was accepted
 -- P: it is the one batch of a put
@@ -287,9 +301,14 @@ by_fresh P one v state t b (verdict.OverTotal total) is p h = inl
 by_fresh P one v state t b verdict.BookFull is p h = inl
     ((λ x f. let same = ap (verdict_in v state) (one x b f.0 p) in let fresh = f.1 in cc), h)
 
-abbrev Adds : Setting → Accepted → Request → Accepted → Type 0
-Adds v state r t = (((x : Submission) → PutsFresh v state r x → ⊥) × (t ≡ state)) ⊎
+abbrev AddsOne : Setting → Accepted → Request → Accepted → Type 0
+AddsOne v state r t = (((x : Submission) → PutsFresh v state r x → ⊥) × (t ≡ state)) ⊎
     ((x : Submission) × PutsFresh v state r x × (t ≡ with_batch state x))
+
+-- a Fold folds, and each other request adds a batch or none
+abbrev Adds : Setting → Accepted → Request → Accepted → Type 0
+Adds v state Fold t = IsFolded state t
+Adds v state r t = AddsOne v state r t
 
 export_keeps : (v : Setting) (state t : Accepted) (e : Event) (a : Result Matrix AllocError) → e ≡ export a →
     PlainGives v state e t → t ≡ state
@@ -301,6 +320,11 @@ stats_keeps : (v : Setting) (state t : Accepted) (e : Event) (a : Result Telling
     PlainGives v state e t → t ≡ state
 stats_keeps v state t e (Ok told) is h = (subst (λ x. PlainGives v state x t) is h).1
 stats_keeps v state t e (Err lack) is h = subst (λ x. PlainGives v state x t) is h
+
+fold_leaves : (v : Setting) (state t : Accepted) (e : Event) (a : Result ℕ FoldRefusal) → e ≡ fold a →
+    PlainGives v state e t → IsFolded state t
+fold_leaves v state t e (Ok n) is h = folded_all state t (subst (λ x. PlainGives v state x t) is h).1
+fold_leaves v state t e (Err x) is h = folded_same state t (subst (λ x. PlainGives v state x t) is h).1
 
 adds : (v : Setting) (state t : Accepted) (r : Request) (w : List ℕ) → Answers (PlainGives v) v r w state t →
     Adds v state r t
@@ -347,6 +371,9 @@ adds v state t (Top x n) w (of_sum m b g) = inl ((λ x f. f), g.1)
 adds v state t Stats w (asked ev a h i) = inl ((λ x f. f), stats_keeps v state t ev a.0 a.1 h)
 adds v state t Stats w (unasked a i) = inl ((λ x f. f), i)
 adds v state t Stats w (of_sum m b g) = absurd b
+adds v state t Fold w (asked ev a h i) = fold_leaves v state t ev a.0 a.1 h
+adds v state t Fold w (unasked a i) = absurd a
+adds v state t Fold w (of_sum m b g) = absurd b
 
 -- a request that is answered, and then other messages
 abbrev OneFirst : Setting → Accepted → Request → List Message → List Submission → Type 0
@@ -355,56 +382,159 @@ OneFirst v state r ms more =
     ⊎ ((x : Submission) × (rest : List Submission) × PutsFresh v state r x × (more ≡ x ∷ rest) ×
     FreshPuts v (with_batch state x) ms rest)
 
-then_adds : (v : Setting) (state m t : Accepted) (r : Request) (ms : List Message) (w : List ℕ) →
-    Answers (PlainGives v) v r w state m →
-    (more : List Submission) × (t ≡ with_batches m more) × FreshPuts v m ms more →
-    (more : List Submission) × (t ≡ with_batches state more) × OneFirst v state r ms more
-then_adds v state m t r ms w h a = elim (adds v state m r w h) [
-  | inl same ↦ (
-    a.0,
-    a.1 ∙ ap (λ s. with_batches s a.0) same.1,
-    inl (same.0, subst (λ l. FreshPuts v l ms a.0) same.1 a.2),
-  )
-  | inr one ↦ (
-    one.0 ∷ a.0,
-    a.1 ∙ ap (λ s. with_batches s a.0) one.2 ∙ more_behind state (one.0 ∷ []) a.0,
-    inr (one.0, a.0, one.1, refl, subst (λ l. FreshPuts v l ms a.0) one.2 a.2),
-  )
-]
+-- what messages add, and that they fold only where one of them is a Fold
+abbrev Leaves : Accepted → Accepted → List Message → List Submission → Type 0
+Leaves state t ms more = IsFolded (with_batches state more) t × (NoneFolds ms → t ≡ with_batches state more)
+
+then_adds : (v : Setting) (state m t : Accepted) (r : Request) (ms : List Message) → AddsOne v state r m →
+    (more : List Submission) × Leaves m t ms more × FreshPuts v m ms more →
+    (more : List Submission) × Leaves state t (Ok r ∷ ms) more × OneFirst v state r ms more
+then_adds v state m t r ms (inl same) a = (
+  a.0,
+  (
+    subst (λ s. IsFolded (with_batches s a.0) t) same.1 a.1.0,
+    (λ n. a.1.1 n.1 ∙ ap (λ s. with_batches s a.0) same.1),
+  ),
+  inl (same.0, subst (λ l. FreshPuts v l ms a.0) same.1 a.2),
+)
+then_adds v state m t r ms (inr one) a =
+    let is : with_batches m a.0 ≡ with_batches state (one.0 ∷ a.0) =
+    ap (λ s. with_batches s a.0) one.2 ∙ more_behind state (one.0 ∷ []) a.0 in (
+      one.0 ∷ a.0,
+      (subst (λ s. IsFolded s t) is a.1.0, (λ n. a.1.1 n.1 ∙ is)),
+      inr (one.0, a.0, one.1, refl, subst (λ l. FreshPuts v l ms a.0) one.2 a.2),
+    )
+
+-- ---- which batches are fresh follows from the entries
+puts_same : (v : Setting) (a b : Accepted) (r : Request) (x : Submission) → entries_in a ≡ entries_in b →
+    PutsFresh v a r x → PutsFresh v b r x
+puts_same v a b (Put c n bytes) x e h =
+    (h.0, subst (λ (es : List Entry). verdict_of v.limit v.max_batches es (entry_of x) ≡ verdict.Fresh) e h.1)
+puts_same v a b (PutCells c n bytes) x e h =
+    (h.0, subst (λ (es : List Entry). verdict_of v.limit v.max_batches es (entry_of x) ≡ verdict.Fresh) e h.1)
+puts_same v a b (Cell r c) x e h = h
+puts_same v a b (Row r) x e h = h
+puts_same v a b Status x e h = h
+puts_same v a b Export x e h = h
+puts_same v a b Save x e h = h
+puts_same v a b Stop x e h = h
+puts_same v a b Stored x e h = h
+puts_same v a b (Range i j k n) x e h = h
+puts_same v a b (Top i n) x e h = h
+puts_same v a b Stats x e h = h
+puts_same v a b Fold x e h = h
+
+push_same : (a b : Accepted) (x : Submission) → entries_in a ≡ entries_in b →
+    entries_in (with_batch a x) ≡ entries_in (with_batch b x)
+push_same a b x e =
+    sym (entries_behind a (x ∷ [])) ∙ ap (λ (es : List Entry). es ++ entries_of (x ∷ [])) e ∙
+    entries_behind b (x ∷ [])
+
+first_same : (v : Setting) (a b : Accepted) (r : Request) (ms : List Message) (more : List Submission) →
+    entries_in a ≡ entries_in b →
+    ((c d : Accepted) (rest : List Submission) → entries_in c ≡ entries_in d → FreshPuts v c ms rest →
+    FreshPuts v d ms rest) → OneFirst v a r ms more → OneFirst v b r ms more
+first_same v a b r ms more e again (inl h) = inl
+    ((λ x f. h.0 x (puts_same v b a r x (sym e) f)), again a b more e h.1)
+first_same v a b r ms more e again (inr h) = inr (
+  h.0,
+  h.1,
+  puts_same v a b r h.0 e h.2,
+  h.3,
+  again (with_batch a h.0) (with_batch b h.0) h.1 (push_same a b h.0 e) h.4,
+)
+
+fresh_same : (v : Setting) (a b : Accepted) (ms : List Message) (more : List Submission) →
+    entries_in a ≡ entries_in b → FreshPuts v a ms more → FreshPuts v b ms more
+fresh_same v a b [] more e h = h
+fresh_same v a b (Ok Stop ∷ ms) more e h = h
+fresh_same v a b (Err f ∷ ms) more e h = h
+fresh_same v a b (Ok (Put c n x) ∷ ms) more e h = first_same v a b (Put c n x) ms more e
+    (λ c d rest same f. fresh_same v c d ms rest same f) h
+fresh_same v a b (Ok (PutCells c n x) ∷ ms) more e h = first_same v a b (PutCells c n x) ms more e
+    (λ c d rest same f. fresh_same v c d ms rest same f) h
+fresh_same v a b (Ok (Cell x y) ∷ ms) more e h = first_same v a b (Cell x y) ms more e
+    (λ c d rest same f. fresh_same v c d ms rest same f) h
+fresh_same v a b (Ok (Row x) ∷ ms) more e h = first_same v a b (Row x) ms more e
+    (λ c d rest same f. fresh_same v c d ms rest same f) h
+fresh_same v a b (Ok Status ∷ ms) more e h = first_same v a b Status ms more e
+    (λ c d rest same f. fresh_same v c d ms rest same f) h
+fresh_same v a b (Ok Export ∷ ms) more e h = first_same v a b Export ms more e
+    (λ c d rest same f. fresh_same v c d ms rest same f) h
+fresh_same v a b (Ok Save ∷ ms) more e h = first_same v a b Save ms more e
+    (λ c d rest same f. fresh_same v c d ms rest same f) h
+fresh_same v a b (Ok Stored ∷ ms) more e h = first_same v a b Stored ms more e
+    (λ c d rest same f. fresh_same v c d ms rest same f) h
+fresh_same v a b (Ok (Range x y z n) ∷ ms) more e h = first_same v a b (Range x y z n) ms more e
+    (λ c d rest same f. fresh_same v c d ms rest same f) h
+fresh_same v a b (Ok (Top x n) ∷ ms) more e h = first_same v a b (Top x n) ms more e
+    (λ c d rest same f. fresh_same v c d ms rest same f) h
+fresh_same v a b (Ok Stats ∷ ms) more e h = first_same v a b Stats ms more e
+    (λ c d rest same f. fresh_same v c d ms rest same f) h
+fresh_same v a b (Ok Fold ∷ ms) more e h = first_same v a b Fold ms more e
+    (λ c d rest same f. fresh_same v c d ms rest same f) h
+
+then_folds : (v : Setting) (state m t : Accepted) (ms : List Message) → IsFolded state m →
+    (more : List Submission) × Leaves m t ms more × FreshPuts v m ms more →
+    (more : List Submission) × Leaves state t (Ok Fold ∷ ms) more × OneFirst v state Fold ms more
+then_folds v state m t ms h a = (
+  a.0,
+  (
+    folded_on (with_batches state a.0) (with_batches m a.0) t (folded_behind state m a.0 h) a.1.0,
+    (λ n. absurd (n.0 refl)),
+  ),
+  inl ((λ x f. f), fresh_same v m state ms a.0 (folded_entries state m h) a.2),
+)
 
 -- nothing more
-ends_here : (state t : Accepted) → t ≡ state → (more : List Submission) × (t ≡ with_batches state more) × (more ≡ [])
-ends_here state t e = ([], e ∙ sym (none_behind state), refl)
+ends_here : (state t : Accepted) (ms : List Message) → t ≡ state →
+    (more : List Submission) × Leaves state t ms more × (more ≡ [])
+ends_here state t ms e =
+    let is = e ∙ sym (none_behind state) in ([], (folded_same (with_batches state []) t is, (λ n. is)), refl)
 
 pub all_adds : (v : Setting) (state t : Accepted) (ms : List Message) (w : List ℕ) →
-    IsAnswered v state ms w t → (more : List Submission) × (t ≡ with_batches state more) × FreshPuts v state ms more
-all_adds v state t [] w a = ends_here state t a.1
+    IsAnswered v state ms w t → (more : List Submission) × Leaves state t ms more × FreshPuts v state ms more
+all_adds v state t [] w a = ends_here state t [] a.1
 all_adds v state t (Ok (Put c n x) ∷ ms) w a =
-    then_adds v state a.0 t (Put c n x) ms a.1 a.3 (all_adds v a.0 t ms a.2 a.5)
+    then_adds v state a.0 t (Put c n x) ms (adds v state a.0 (Put c n x) a.1 a.3) (all_adds v a.0 t ms a.2 a.5)
 all_adds v state t (Ok (PutCells c n x) ∷ ms) w a =
-    then_adds v state a.0 t (PutCells c n x) ms a.1 a.3 (all_adds v a.0 t ms a.2 a.5)
+    then_adds v state a.0 t (PutCells c n x) ms (adds v state a.0 (PutCells c n x) a.1 a.3)
+    (all_adds v a.0 t ms a.2 a.5)
 all_adds v state t (Ok (Cell x y) ∷ ms) w a =
-    then_adds v state a.0 t (Cell x y) ms a.1 a.3 (all_adds v a.0 t ms a.2 a.5)
-all_adds v state t (Ok (Row x) ∷ ms) w a = then_adds v state a.0 t (Row x) ms a.1 a.3 (all_adds v a.0 t ms a.2 a.5)
-all_adds v state t (Ok Status ∷ ms) w a = then_adds v state a.0 t Status ms a.1 a.3 (all_adds v a.0 t ms a.2 a.5)
-all_adds v state t (Ok Export ∷ ms) w a = then_adds v state a.0 t Export ms a.1 a.3 (all_adds v a.0 t ms a.2 a.5)
-all_adds v state t (Ok Save ∷ ms) w a = then_adds v state a.0 t Save ms a.1 a.3 (all_adds v a.0 t ms a.2 a.5)
-all_adds v state t (Ok Stored ∷ ms) w a = then_adds v state a.0 t Stored ms a.1 a.3 (all_adds v a.0 t ms a.2 a.5)
+    then_adds v state a.0 t (Cell x y) ms (adds v state a.0 (Cell x y) a.1 a.3) (all_adds v a.0 t ms a.2 a.5)
+all_adds v state t (Ok (Row x) ∷ ms) w a =
+    then_adds v state a.0 t (Row x) ms (adds v state a.0 (Row x) a.1 a.3) (all_adds v a.0 t ms a.2 a.5)
+all_adds v state t (Ok Status ∷ ms) w a =
+    then_adds v state a.0 t Status ms (adds v state a.0 Status a.1 a.3) (all_adds v a.0 t ms a.2 a.5)
+all_adds v state t (Ok Export ∷ ms) w a =
+    then_adds v state a.0 t Export ms (adds v state a.0 Export a.1 a.3) (all_adds v a.0 t ms a.2 a.5)
+all_adds v state t (Ok Save ∷ ms) w a =
+    then_adds v state a.0 t Save ms (adds v state a.0 Save a.1 a.3) (all_adds v a.0 t ms a.2 a.5)
+all_adds v state t (Ok Stored ∷ ms) w a =
+    then_adds v state a.0 t Stored ms (adds v state a.0 Stored a.1 a.3) (all_adds v a.0 t ms a.2 a.5)
 all_adds v state t (Ok (Range x y z n) ∷ ms) w a =
-    then_adds v state a.0 t (Range x y z n) ms a.1 a.3 (all_adds v a.0 t ms a.2 a.5)
-all_adds v state t (Ok (Top x n) ∷ ms) w a = then_adds v state a.0 t (Top x n) ms a.1 a.3 (all_adds v a.0 t ms a.2 a.5)
-all_adds v state t (Ok Stats ∷ ms) w a = then_adds v state a.0 t Stats ms a.1 a.3 (all_adds v a.0 t ms a.2 a.5)
-all_adds v state t (Ok Stop ∷ ms) w a = ends_here state t a.1
-all_adds v state t (Err f ∷ ms) w a = ends_here state t a.1
+    then_adds v state a.0 t (Range x y z n) ms (adds v state a.0 (Range x y z n) a.1 a.3) (all_adds v a.0 t ms a.2 a.5)
+all_adds v state t (Ok (Top x n) ∷ ms) w a =
+    then_adds v state a.0 t (Top x n) ms (adds v state a.0 (Top x n) a.1 a.3) (all_adds v a.0 t ms a.2 a.5)
+all_adds v state t (Ok Stats ∷ ms) w a =
+    then_adds v state a.0 t Stats ms (adds v state a.0 Stats a.1 a.3) (all_adds v a.0 t ms a.2 a.5)
+all_adds v state t (Ok Fold ∷ ms) w a =
+    then_folds v state a.0 t ms (adds v state a.0 Fold a.1 a.3) (all_adds v a.0 t ms a.2 a.5)
+all_adds v state t (Ok Stop ∷ ms) w a = ends_here state t (Ok Stop ∷ ms) a.1
+all_adds v state t (Err f ∷ ms) w a = ends_here state t (Err f ∷ ms) a.1
 
 -- sessions add to what was accepted, and take nothing away
 all_grow : (v : Setting) (state t : Accepted) (sessions : List (List Message)) → AreAnswered v state sessions t →
-    (more : List Submission) × (t ≡ with_batches state more)
-all_grow v state t [] e = ([], e ∙ sym (none_behind state))
+    (more : List Submission) × IsFolded (with_batches state more) t
+all_grow v state t [] e = ([], folded_same (with_batches state []) t (e ∙ sym (none_behind state)))
 all_grow v state t (ms ∷ sessions) a =
     let one = all_adds v state a.1 ms a.0 a.2 in
-    let rest = all_grow v a.1 t sessions a.3 in
-    (one.0 ++ rest.0, rest.1 ∙ ap (λ s. with_batches s rest.0) one.1 ∙ more_behind state one.0 rest.0)
+    let rest = all_grow v a.1 t sessions a.3 in (
+      one.0 ++ rest.0,
+      subst (λ s. IsFolded s t) (more_behind state one.0 rest.0)
+          (folded_on (with_batches (with_batches state one.0) rest.0) (with_batches a.1 rest.0) t
+          (folded_behind (with_batches state one.0) a.1 rest.0 one.1.0) rest.1),
+    )
 
 -- ---- messages that are answered in parts
 -- the first of them, which isn't a Stop
@@ -423,6 +553,7 @@ first_answered v state t Stored ms w n a = a
 first_answered v state t (Range x y z i) ms w n a = a
 first_answered v state t (Top x i) ms w n a = a
 first_answered v state t Stats ms w n a = a
+first_answered v state t Fold ms w n a = a
 first_answered v state t Stop ms w n a = absurd (n refl)
 
 -- requests, none of them a Stop, and then other messages
@@ -468,6 +599,7 @@ alone_stored v state t c n Stored w k p a e = absurd p
 alone_stored v state t c n (Range x y z i) w k p a e = absurd p
 alone_stored v state t c n (Top x i) w k p a e = absurd p
 alone_stored v state t c n Stats w k p a e = absurd p
+alone_stored v state t c n Fold w k p a e = absurd p
 
 pub repeat_replied : (v : Setting) (state a b t : Accepted) (c n : ℕ) (r r' : Request) (w w' : List ℕ)
     (between : List (List Message)) (k k' : Kept) → IsPut c n r → IsPut c n r' →
@@ -478,7 +610,8 @@ repeat_replied v state a b t c n r r' w w' between k k' p p' one e all two e' =
     let second = alone_stored v b t c n r' w' k' p' two e' in
     let grown = all_grow v a b between all in
     let last = all_adds v b t (Ok r' ∷ []) w' two in
-    let s = stored_more b last.0 c n first.0 (subst (λ l. IsKept l c n first.0) (sym grown.1)
+    let s = stored_more b last.0 c n first.0 (stored_folded (with_batches a grown.0) b c n first.0 grown.1
     (stored_more a grown.0 c n first.0 first.2)) in
-    let same = stored_once t c n first.0 second.0 (subst (λ l. IsKept l c n first.0) (sym last.1) s) second.2 in
+    let same = stored_once t c n first.0 second.0
+    (stored_folded (with_batches b last.0) t c n first.0 last.1.0 s) second.2 in
     first.1 ∙ ap accepted same ∙ sym second.1

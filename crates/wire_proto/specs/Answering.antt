@@ -24,15 +24,16 @@ use Rattle.batch_store.specs.Lists.{MakesBatch, LeavesAt, PassesSum}
 use Rattle.batch_store.specs.declared.verdict.Kept.{Kept}
 use Rattle.plain_engine.specs.declared.status.Status.{Status as Counted}
 use Rattle.wire_proto.specs.CellBytes.{cells_of}
-use Rattle.wire_proto.specs.Keeping.{Event, put, cell, row, status, export, save, stored, stats}
+use Rattle.wire_proto.specs.Keeping.{Event, put, cell, row, status, export, save, stored, stats, fold}
 use Rattle.wire_proto.specs.Telling.{Telling}
 use Rattle.wire_proto.specs.Replies.{reply_of, refused}
 use Rattle.wire_proto.specs.Questions.{AreBounds, IsCount, Tells}
 use Rattle.wire_frames.specs.declared.request.Request.{Request}
 use Rattle.wire_frames.specs.declared.request.Request.TheVariants.{Put, Cell as CellAt, Row, Status, Export, Save, Stop}
-use Rattle.wire_frames.specs.declared.request.Request.TheVariants.{PutCells, Stored, Range, Top, Stats}
+use Rattle.wire_frames.specs.declared.request.Request.TheVariants.{PutCells, Stored, Range, Top, Stats, Fold}
 use Rattle.wire_proto.specs.declared.keeper.PutRefusal.{PutRefusal}
 use Rattle.wire_proto.specs.declared.keeper.SaveRefusal.{SaveRefusal}
+use Rattle.wire_proto.specs.declared.keeper.FoldRefusal.{FoldRefusal}
 
 -- the limits of a Put's text
 abbrev pub put_limits : TextLimits
@@ -101,6 +102,7 @@ Asks setup (Range rows cols start most) e =
     AreBounds setup rows cols × IsCount most × (lack : AllocError) × (e ≡ export (Err lack))
 Asks setup (Top by most) e = (by ≤ 1) × IsCount most × (lack : AllocError) × (e ≡ export (Err lack))
 Asks setup Stats e = (answer : Result Telling AllocError) × (e ≡ stats answer)
+Asks setup Fold e = (answer : Result ℕ FoldRefusal) × (e ≡ fold answer)
 
 abbrev pub Refuses : Setting → Request → List ℕ → Type 0
 Refuses setup (Put client n bytes) reply =
@@ -119,6 +121,7 @@ Refuses setup (Range rows cols start most) reply =
     ⊎ (AreBounds setup rows cols × (IsCount most → ⊥) × (reply ≡ refused 44 0))
 Refuses setup (Top by most) reply = ((by ≤ 1) × IsCount most → ⊥) × (reply ≡ refused 44 0)
 Refuses setup Stats reply = ⊥
+Refuses setup Fold reply = ⊥
 
 -- `gives s e t`: the keeper may answer this call in state s, and then stands in state t.
 pub data Answers {S : Type 0} (gives : S → Event → S → Type 0) (setup : Setting) (r : Request) (reply : List ℕ)

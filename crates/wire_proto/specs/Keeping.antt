@@ -13,6 +13,7 @@ use Rattle.plain_engine.specs.declared.status.Status.{Status}
 use Rattle.wire_proto.specs.declared.keeper.PutRefusal.{PutRefusal}
 use Rattle.wire_proto.specs.declared.keeper.PutRefusal.TheVariants.{Put, LogFailed}
 use Rattle.wire_proto.specs.declared.keeper.SaveRefusal.{SaveRefusal}
+use Rattle.wire_proto.specs.declared.keeper.FoldRefusal.{FoldRefusal}
 use Rattle.wire_proto.specs.declared.keeper.Settled.{Settled}
 use Rattle.wire_proto.specs.declared.keeper.Settled.TheVariants as place_is
 use Rattle.wire_proto.specs.Telling.{Telling}
@@ -26,6 +27,7 @@ pub data Event : Type 0 where
   save : Result ℕ SaveRefusal → Event
   stored : Status → Event
   stats : Result Telling AllocError → Event
+  fold : Result ℕ FoldRefusal → Event
 
 abbrev pub settled : Kept → Settled → Result Kept PutRefusal
 settled kept place_is.Durable = Ok kept

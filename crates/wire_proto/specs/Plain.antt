@@ -2,6 +2,8 @@
 --     with_batches        what was accepted with these batches behind it
 --     plain_told          what the engine tells of itself
 --     PlainGives          what the engine answers to a call, and the state that it leaves; it has no log
+--     IsFolded a t        t is what was accepted as a has it, of which some first batches more are folded
+--     NoneFolds           no message is a Fold
 --     AnswersMessages     these bytes answer the messages, one after another: each request as a keeper does, a Stop and
 --                         a bad header as the last
 --     IsAnswered          the same over the engine of one thread: of the state before and the messages, the bytes and
@@ -15,20 +17,22 @@ use Rattle.byte_io.specs.declared.fault.DeviceFault.{DeviceFault}
 use Rattle.byte_io.specs.Writing.{HasStopped}
 use Rattle.batch_store.specs.Setups.{Setting}
 use Rattle.batch_store.specs.Batches.{Submission}
-use Rattle.batch_store.specs.Accepted.{Accepted, accepted, with_batch}
+use Rattle.batch_store.specs.Accepted.{Accepted, accepted, with_batch, count_in, summed, folded_into}
+use Rattle.batch_store.specs.BookFolds.{folded_to}
 use Rattle.plain_engine.specs.Object.{Puts, verdict_in, cell_of, row_sum_of, export_of, status_of}
 use Rattle.batch_store.specs.declared.verdict.Verdict.TheVariants.{Fresh}
 use Rattle.wire_frames.specs.Frames.{Message, front, Gives, messages}
-use Rattle.wire_proto.specs.Keeping.{Event, put, cell, row, status, export, save, stored, stats}
+use Rattle.wire_proto.specs.Keeping.{Event, put, cell, row, status, export, save, stored, stats, fold}
 use Rattle.wire_proto.specs.Telling.{Telling, telling}
 use Rattle.wire_proto.specs.Replies.{stopping, refused, fault_code}
 use Rattle.wire_proto.specs.Answering.{Answers, PutsBatch, PutsCells}
 use Rattle.wire_proto.specs.Sessions.{Talks, AllPut}
 use Rattle.wire_frames.specs.declared.request.Request.{Request}
-use Rattle.wire_frames.specs.declared.request.Request.TheVariants.{Put, PutCells, Stop}
+use Rattle.wire_frames.specs.declared.request.Request.TheVariants.{Put, PutCells, Stop, Fold}
 use Rattle.wire_frames.specs.declared.request.FrameFault.{FrameFault}
 use Rattle.wire_proto.specs.declared.keeper.PutRefusal.TheVariants.{Put as Refuses, LogFull, LogFailed}
 use Rattle.wire_proto.specs.declared.keeper.SaveRefusal.TheVariants.{SaveOff}
+use Rattle.wire_proto.specs.declared.keeper.FoldRefusal.TheVariants as no_fold
 use Rattle.wire_proto.specs.declared.ended.Ended.{Ended}
 use Rattle.wire_proto.specs.declared.ended.Ended.TheVariants.{Closed, ReadFault, WriteFault, BadFrame, Memory, Stopped}
 use Rattle.wire_proto.specs.declared.ended.Ended.TheVariants.{TooManyTurns}
@@ -53,6 +57,15 @@ PlainGives v state (save answer) after = (answer ≡ Err SaveOff) × (after ≡ 
 PlainGives v state (stored s) after = (s ≡ status_of state) × (after ≡ state)
 PlainGives v state (stats (Ok told)) after = (told ≡ plain_told v state) × (after ≡ state)
 PlainGives v state (stats (Err e)) after = after ≡ state
+PlainGives v state (fold (Ok folded)) after = (folded ≡ count_in state) × (after ≡ folded_into (summed state) state)
+PlainGives v state (fold (Err refusal)) after = (refusal ≡ no_fold.Memory) × (after ≡ state)
+
+-- What was accepted is the same, and of the batches that weren't folded so many first ones are: their entries and the
+-- sum of all stay.
+pub record IsFolded (a t : Accepted) : Type 0 where
+  pub count : ℕ
+  pub within : count ≤ length a.list
+  pub state : t ≡ folded_to count a
 
 abbrev pub AnswersMessages : {S : Type 0} → (S → Event → S → Type 0) → Setting → S → List Message → List ℕ → S → Type 0
 AnswersMessages gives setup s [] bytes t = (bytes ≡ []) × (t ≡ s)
@@ -94,6 +107,11 @@ abbrev pub IsPut : ℕ → ℕ → Request → Type 0
 IsPut client number (Put c n bytes) = (c ≡ client) × (n ≡ number)
 IsPut client number (PutCells c n bytes) = (c ≡ client) × (n ≡ number)
 IsPut client number r = ⊥
+
+-- none of these messages is a Fold
+abbrev pub NoneFolds : List Message → Type 0
+NoneFolds [] = Unit {0}
+NoneFolds (m ∷ ms) = (m ≡ Ok Fold → ⊥) × NoneFolds ms
 
 -- these are requests, none of them a Stop
 abbrev pub GoOn : List Request → Type 0

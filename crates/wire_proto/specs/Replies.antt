@@ -11,7 +11,7 @@ use Rattle.plain_engine.specs.declared.fault.PutFault.TheVariants.{Memory, Numbe
 use Rattle.plain_engine.specs.declared.fault.PutFault.TheVariants.{RecordsDiffer}
 use Rattle.wire_frames.specs.Frames.{frame, number}
 use Rattle.mm_laws.specs.MatrixText.{matrix_text}
-use Rattle.wire_proto.specs.Keeping.{Event, put, cell, row, status, export, save, stored, stats}
+use Rattle.wire_proto.specs.Keeping.{Event, put, cell, row, status, export, save, stored, stats, fold}
 use Rattle.wire_proto.specs.Telling.{Telling, stats_text}
 use Rattle.wire_frames.specs.declared.request.FrameFault.{FrameFault}
 use Rattle.wire_frames.specs.declared.request.FrameFault.TheVariants.{Memory as NoMemory, TooLarge, UnknownKind}
@@ -20,6 +20,8 @@ use Rattle.wire_proto.specs.declared.keeper.PutRefusal.{PutRefusal}
 use Rattle.wire_proto.specs.declared.keeper.PutRefusal.TheVariants.{Put, LogFull, LogFailed}
 use Rattle.wire_proto.specs.declared.keeper.SaveRefusal.{SaveRefusal}
 use Rattle.wire_proto.specs.declared.keeper.SaveRefusal.TheVariants.{Memory as SaveMemory, SaveOff, SaveFailed}
+use Rattle.wire_proto.specs.declared.keeper.FoldRefusal.{FoldRefusal}
+use Rattle.wire_proto.specs.declared.keeper.FoldRefusal.TheVariants as no_fold
 
 abbrev pub accepted : Kept → List ℕ
 accepted kept = frame 129 (number kept.index ++ number kept.total_after)
@@ -85,6 +87,13 @@ abbrev pub stats_reply : Result Telling AllocError → Option (List ℕ)
 stats_reply (Ok told) = Some (lines_reply (stats_text told))
 stats_reply (Err e) = None
 
+-- a fold is answered as a save is, by the number of folded batches
+abbrev pub fold_reply : Result ℕ FoldRefusal → Option (List ℕ)
+fold_reply (Ok folded) = Some (saved folded)
+fold_reply (Err no_fold.Memory) = None
+fold_reply (Err no_fold.LogFailed) = Some (refused 35 0)
+fold_reply (Err no_fold.RecordsDiffer) = Some (refused 33 0)
+
 abbrev pub reply_of : Event → Option (List ℕ)
 reply_of (put batch answer) = put_reply answer
 reply_of (cell r c count) = Some (value count)
@@ -94,3 +103,4 @@ reply_of (export answer) = export_reply answer
 reply_of (save answer) = save_reply answer
 reply_of (stored s) = Some (counts s)
 reply_of (stats answer) = stats_reply answer
+reply_of (fold answer) = fold_reply answer

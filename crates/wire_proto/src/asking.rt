@@ -7,7 +7,7 @@ ghost use Rattle.wire_proto.specs.Settling.{Begins, BeginsOut, begun_as};
 
 use crate::cell_bodies::batch_of_cells;
 use crate::held::Begun;
-use crate::keeper::{Keeper, PutRefusal, SaveRefusal};
+use crate::keeper::{FoldRefusal, Keeper, PutRefusal, SaveRefusal};
 use crate::questions::{Answer, ask_range, ask_top};
 use crate::replies::{Short, counts, refused, row_sum, saved, value};
 use crate::telling::ask_stats;
@@ -75,6 +75,23 @@ pub fn ask_save<K: Keeper>(alloc: Global, keeper: &mut K) -> Result<Answer, Allo
         Err(SaveRefusal::Memory) => Err(AllocError),
         Err(SaveRefusal::SaveOff) => Ok(Answer::Short(refused(43, 0))),
         Err(SaveRefusal::SaveFailed) => Ok(Answer::Short(refused(42, 0))),
+    }
+}
+
+pub fn ask_fold<K: Keeper>(alloc: Global, keeper: &mut K) -> Result<Answer, AllocError>
+    requires { K.fact keeper.old }
+    ensures reply { IfOk result (λ reply. Answers K.gives
+        (K.setup_of keeper.old) Request.Fold (bytes_of reply) keeper.old keeper.new) }
+    ensures few { IfOk result (λ reply. length (bytes_of reply) ≤ 2 ^ 27) }
+    ensures none { OnErr result (RunsOut K.gives (K.setup_of keeper.old) Request.Fold keeper.old keeper.new) }
+    ensures fact { K.fact keeper.new }
+    ensures setup { K.setup_of keeper.new ≡ K.setup_of keeper.old }
+{
+    match keeper.fold(alloc) {
+        Ok(folded) => Ok(Answer::Short(saved(folded))),
+        Err(FoldRefusal::Memory) => Err(AllocError),
+        Err(FoldRefusal::LogFailed) => Ok(Answer::Short(refused(35, 0))),
+        Err(FoldRefusal::RecordsDiffer) => Ok(Answer::Short(refused(33, 0))),
     }
 }
 
@@ -209,6 +226,7 @@ pub fn ask<K: Keeper>(alloc: Global, keeper: &mut K, request: Request) -> Result
         } => ask_range(alloc, keeper, rows, cols, start, most),
         Request::Top { by, most } => ask_top(alloc, keeper, by, most),
         Request::Stats => ask_stats(alloc, keeper),
+        Request::Fold => ask_fold(alloc, keeper),
         Request::Put { .. } | Request::PutCells { .. } | Request::Export | Request::Stop => {
             unreachable!()
         }

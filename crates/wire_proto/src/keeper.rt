@@ -9,7 +9,7 @@ ghost use Rattle.batch_store.specs.Batches.{Submission};
 ghost use Rattle.batch_store.specs.declared.verdict.Kept.{Kept};
 ghost use Rattle.wire_proto.specs.Keeping.{Event, put as putting, cell as looking, row as summing, status as counting};
 ghost use Rattle.wire_proto.specs.Keeping.{export as exporting, save as saving, stored as telling, settled};
-ghost use Rattle.wire_proto.specs.Keeping.{stats as told_by};
+ghost use Rattle.wire_proto.specs.Keeping.{stats as told_by, fold as folding};
 ghost use Rattle.wire_proto.specs.Telling.{Telling};
 ghost use Rattle.wire_proto.specs.declared.keeper.PutRefusal.{PutRefusal};
 ghost use Rattle.wire_proto.specs.declared.keeper.Settled.{Settled};
@@ -72,6 +72,20 @@ pub enum SaveRefusal {
     /// rename, what was to be saved.
     #[error("the save failed")]
     SaveFailed,
+}
+
+/// Why a fold wasn't answered with a number.
+#[derive(Clone, Copy, Debug, PartialEq, Eq, Error)]
+pub enum FoldRefusal {
+    /// A growth was refused.
+    #[error("no memory for a fold")]
+    Memory,
+    /// A write to the log has failed, now or earlier. What isn't known to be durable is not folded.
+    #[error("the log has failed")]
+    LogFailed,
+    /// The store's book and its log don't belong together, so that nothing is known to be durable.
+    #[error("the log and what was accepted differ")]
+    RecordsDiffer,
 }
 
 /// A store of batches as a session sees it.
@@ -179,6 +193,14 @@ pub trait Keeper {
     fn stats(&mut self, alloc: Global) -> Result<Told, AllocError>
         requires fact { fact self.old }
         ensures gives { gives self.old (told_by result) self.new }
+        ensures fact { fact self.new }
+        ensures setup { setup_of self.new ≡ setup_of self.old };
+
+    /// Folds what was accepted, and answers how many batches are folded then. What is read, and what a put is answered,
+    /// is the same before and after.
+    fn fold(&mut self, alloc: Global) -> Result<u64, FoldRefusal>
+        requires fact { fact self.old }
+        ensures gives { gives self.old (folding result) self.new }
         ensures fact { fact self.new }
         ensures setup { setup_of self.new ≡ setup_of self.old };
 

@@ -37,7 +37,7 @@ mod told;
 pub use decoding::{Reply, decode_reply};
 pub use ended::Ended;
 pub use figures::{Amount, Figure, Label, Labels};
-pub use keeper::{Keeper, PutRefusal, SaveRefusal, Settled};
+pub use keeper::{FoldRefusal, Keeper, PutRefusal, SaveRefusal, Settled};
 pub use laws::{
     cells_are_read_again, messages_are_answered_in_parts, messages_have_one_answer,
     repeats_get_their_reply, sessions_accept_fresh_batches, sessions_answer_messages,

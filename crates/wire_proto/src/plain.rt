@@ -5,7 +5,7 @@ ghost use Rattle.wire_proto.specs.Settling.{SettlesAtOnce, settled_at_once, earl
 ghost use Rattle.wire_proto.specs.Plain.{PlainGives, EndsPlain};
 
 use crate::ended::Ended;
-use crate::keeper::{Keeper, PutRefusal, SaveRefusal, Settled};
+use crate::keeper::{FoldRefusal, Keeper, PutRefusal, SaveRefusal, Settled};
 use crate::serving::serve;
 use crate::told::Told;
 use batch_store::{Batch, Kept, Setup};
@@ -13,7 +13,9 @@ use byte_io::Link;
 use hyper_matrix::RowSum;
 use plain_engine::{PlainEngine, Status, ViewedSum};
 use std::alloc::{AllocError, Global};
+use std::random::RandomSource;
 use std::sync::Arc;
+use std::{io, mem};
 
 /// An engine of one thread, lent to a session. It has no log, so that a batch is settled as it is accepted.
 ///
@@ -109,6 +111,34 @@ impl<'a> Keeper for PlainKeeper<'a> {
             folded: self.engine.folded(),
             figures: Vec::new(alloc),
         })
+    }
+
+    /// All that was accepted is folded.
+    fn fold(&mut self, alloc: Global) -> Result<u64, FoldRefusal> {
+        let setup = self.engine.setup();
+        // An engine folds by value: an empty one stands in its place meanwhile.
+        let Ok(spare) = PlainEngine::new(&NoSeeds, alloc, setup) else {
+            return Err(FoldRefusal::Memory);
+        };
+        match mem::replace(self.engine, spare).fold(alloc) {
+            Ok(folded) => {
+                *self.engine = folded;
+                Ok(self.engine.folded())
+            }
+            Err((same, _)) => {
+                *self.engine = same;
+                Err(FoldRefusal::Memory)
+            }
+        }
+    }
+}
+
+// The seeds of an engine into which nothing is put.
+struct NoSeeds;
+
+impl RandomSource for NoSeeds {
+    fn fill_bytes(&self, _buf: &mut [u8]) -> io::Result<()> {
+        Ok(())
     }
 }
 

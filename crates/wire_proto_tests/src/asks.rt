@@ -39,6 +39,7 @@ pub enum Ask {
     /// By what, and how many rows.
     Top(u8, u64),
     Stats,
+    Fold,
     /// These bytes, in hexadecimal digits.
     Raw(&'static str),
 }
@@ -133,6 +134,7 @@ fn short_request(ask: Ask) -> Option<Request>
         }),
         Ask::Top(by, most) => Some(Request::Top { by, most }),
         Ask::Stats => Some(Request::Stats),
+        Ask::Fold => Some(Request::Fold),
         Ask::Put(..) | Ask::Text(..) | Ask::Cells(..) | Ask::Raw(_) => None,
     }
 }

@@ -14,7 +14,7 @@ use std::process::Abort;
 use std::random::RandomSource;
 use std::sync::Arc;
 use test_support::{same, same_at};
-use wire_proto::{Ended, Keeper, PutRefusal, SaveRefusal, Settled, Told, serve};
+use wire_proto::{Ended, FoldRefusal, Keeper, PutRefusal, SaveRefusal, Settled, Told, serve};
 
 // An engine, and how much of what it accepted was synced. A sync makes all durable that is accepted by then. After so
 // many syncs one fails, and from then on none is tried.
@@ -97,6 +97,10 @@ impl Keeper for Logged {
 
     fn stats(&mut self, _alloc: Global) -> Result<Told, AllocError> {
         Err(AllocError)
+    }
+
+    fn fold(&mut self, _alloc: Global) -> Result<u64, FoldRefusal> {
+        Err(FoldRefusal::Memory)
     }
 }
 

@@ -61,7 +61,10 @@ static HEADERS: &[(&str, Result<Option<u8>, FrameFault>)] = &[
     ("00000000 0c", Ok(Some(12))),
     ("00000001 0c", Err(FrameFault::BadLength)),
     ("04000001 0c", Err(FrameFault::TooLarge)),
-    ("00000000 0d", Err(FrameFault::UnknownKind)),
+    ("00000000 0d", Ok(Some(13))),
+    ("00000001 0d", Err(FrameFault::BadLength)),
+    ("04000001 0d", Err(FrameFault::TooLarge)),
+    ("00000000 0e", Err(FrameFault::UnknownKind)),
     ("01000000 81", Err(FrameFault::UnknownKind)),
     ("00000010 81", Err(FrameFault::UnknownKind)),
     ("00000000 ff", Err(FrameFault::UnknownKind)),
@@ -81,6 +84,7 @@ fn kind(request: &Request) -> u8 {
         Request::Range { .. } => 10,
         Request::Top { .. } => 11,
         Request::Stats => 12,
+        Request::Fold => 13,
     }
 }
 
@@ -228,6 +232,7 @@ static SPELLED: &[(Ask, &str)] = &[
     ),
     (Ask::Top(1, 258), "00000009 0b 01 0000000000000102"),
     (Ask::Stats, "00000000 0c"),
+    (Ask::Fold, "00000000 0d"),
     (
         Ask::Cells(9, 1, &[(0, 1, 5), (2, 0, u64::MAX)]),
         "00000040 08 0000000000000009 0000000000000001

@@ -14,6 +14,8 @@ mod durable;
 #[cfg(test)]
 mod failures;
 #[cfg(test)]
+mod folds;
+#[cfg(test)]
 mod frames;
 #[cfg(test)]
 mod hex;

@@ -137,13 +137,13 @@ static SESSIONS: &[Session] = &[
         (0, 0),
     ),
     (
-        &[Ask::Raw("04000001 0d")],
+        &[Ask::Raw("04000001 0e")],
         "0000000a ff 0032 0000000000000000",
         Ended::BadFrame,
         (0, 0),
     ),
     (
-        &[Ask::Raw("00000000 0d"), Ask::Status],
+        &[Ask::Raw("00000000 0e"), Ask::Status],
         "0000000a ff 0033 0000000000000000",
         Ended::BadFrame,
         (0, 0),

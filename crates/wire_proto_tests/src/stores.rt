@@ -14,11 +14,13 @@ use std::sync::Arc;
 use std::test::Fail;
 use test_support::same_at;
 use wire_proto::{
-    Amount, Ended, Figure, Keeper, Label, Labels, PutRefusal, SaveRefusal, Settled, serve,
+    Amount, Ended, Figure, FoldRefusal, Keeper, Label, Labels, PutRefusal, SaveRefusal, Settled,
+    serve,
 };
 
-// A store that keeps nothing. It refuses each batch, and answers a save as it was told to; it has no memory to export,
-// and tells three batches as durable.
+// A store that keeps nothing. It refuses each batch, and answers a save as it was told to, and by the same a fold, for
+// which its log has failed or differs where a save is off or fails; it has no memory to export, and tells three batches
+// as durable.
 #[derive(Clone, Copy, Drop)]
 struct Told {
     setup: Setup,
@@ -106,6 +108,15 @@ impl Keeper for Told {
             figures: Vec::from_slice(alloc, FIGURES)?,
         })
     }
+
+    fn fold(&mut self, _alloc: Global) -> Result<u64, FoldRefusal> {
+        match self.saved {
+            Ok(folded) => Ok(folded),
+            Err(SaveRefusal::Memory) => Err(FoldRefusal::Memory),
+            Err(SaveRefusal::SaveOff) => Err(FoldRefusal::LogFailed),
+            Err(SaveRefusal::SaveFailed) => Err(FoldRefusal::RecordsDiffer),
+        }
+    }
 }
 
 // A line of each kind of amounts and of labels.
@@ -176,6 +187,41 @@ type Case = (
 );
 
 static CASES: &[Case] = &[
+    (
+        PutRefusal::Put(PutFault::Memory),
+        Ok(300),
+        Ask::Fold,
+        "00000008 86 000000000000012c",
+        ON,
+    ),
+    (
+        PutRefusal::Put(PutFault::Memory),
+        Ok(u64::MAX),
+        Ask::Fold,
+        "00000008 86 ffffffffffffffff",
+        ON,
+    ),
+    (
+        PutRefusal::Put(PutFault::Memory),
+        Err(SaveRefusal::Memory),
+        Ask::Fold,
+        "0000000a ff 0001 0000000000000000",
+        Ended::Memory,
+    ),
+    (
+        PutRefusal::Put(PutFault::Memory),
+        Err(SaveRefusal::SaveFailed),
+        Ask::Fold,
+        "0000000a ff 0021 0000000000000000",
+        ON,
+    ),
+    (
+        PutRefusal::Put(PutFault::Memory),
+        Err(SaveRefusal::SaveOff),
+        Ask::Fold,
+        "0000000a ff 0023 0000000000000000",
+        ON,
+    ),
     (
         PutRefusal::Put(PutFault::Memory),
         Ok(10),

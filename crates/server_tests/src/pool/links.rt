@@ -1,7 +1,7 @@
 //! Links for the sessions of a pool.
 
 use crate::pool::frames::{TWO_PUTS_AND_A_CELL, put_frame};
-use crate::sockets::frames::SAVE;
+use crate::sockets::frames::{FOLD, SAVE};
 use byte_io::Script;
 use std::alloc::Global;
 use std::process::Abort;
@@ -13,6 +13,8 @@ pub enum Kind {
     Put,
     /// The same, and a Save.
     PutAndSave,
+    /// The same Put, and a Fold.
+    PutAndFold,
     /// The same Put, and one that each link gives. Read number 0 gives the first, number 1 the second, number 2 the
     /// end; the one with the link's number modulo 4 fails.
     FailedRead,
@@ -29,6 +31,7 @@ fn pieces_of(rt: &impl Abort, alloc: Global, kind: Kind, number: u8) -> Vec<Vec<
     let (first, second): (&[u8], &[u8]) = match kind {
         Kind::Put => (&own, &[]),
         Kind::PutAndSave => (&own, SAVE),
+        Kind::PutAndFold => (&own, FOLD),
         Kind::FailedRead | Kind::FailedWrite => (&own, &shared),
         Kind::FailedWriteOfAll => (TWO_PUTS_AND_A_CELL, &[]),
     };
@@ -46,7 +49,7 @@ fn pieces_of(rt: &impl Abort, alloc: Global, kind: Kind, number: u8) -> Vec<Vec<
 fn faults_of(kind: Kind, number: u8) -> (Option<u64>, Option<u64>) {
     let number = u64::from(number);
     match kind {
-        Kind::Put | Kind::PutAndSave => (None, None),
+        Kind::Put | Kind::PutAndSave | Kind::PutAndFold => (None, None),
         Kind::FailedRead => (Some(number % 4), None),
         Kind::FailedWrite | Kind::FailedWriteOfAll => (None, Some(number)),
     }

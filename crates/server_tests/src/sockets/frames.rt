@@ -60,6 +60,9 @@ pub const EXPORT: Turn = (
 /// A Save.
 pub const SAVE: &[u8] = b"\0\0\0\0\x06";
 
+/// A Fold.
+pub const FOLD: &[u8] = b"\0\0\0\0\x0d";
+
 /// Two batches were saved.
 pub const SAVED_TWO: &[u8] = b"\0\0\0\x08\x86\0\0\0\0\0\0\0\x02";
 
