@@ -6,9 +6,9 @@
 Each server with a low `--fold-above` is fed, asked, saved, killed, stopped and started again. What is wanted is what a
 plain dictionary says of the same batches: folding changes no answer. That a server has folded is seen in its snapshot,
 which tells how many batches are folded, and in its stats. Others fold where a client asks for it: alone, beside puts,
-saves and other folds, with a log and without. With `--measure` nothing is compared: so many cells, of which few are distinct,
-go to a server that folds and to one that doesn't, as fast as they are taken or RATE cells a second, and the memory, the
-time, the longest wait and the processor time of each are printed.
+saves and other folds, with a log and without. With `--measure` nothing is compared: so many cells, of which few are
+distinct, go to a server that folds and to one that doesn't, as fast as they are taken or RATE cells a second, and the
+memory, the time, the longest wait and the processor time of each are printed.
 
 It prints a line for each check that fails and at the end `N passed, M failed`; the status is 1 where one fails. Linux,
 and nothing but Python's own library, the client of clients/python and the server of tests/server.py.

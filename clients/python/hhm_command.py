@@ -35,7 +35,8 @@ def parser() -> argparse.ArgumentParser:
     where.add_argument("--unix", metavar="PATH")
     source = "a snapshot or a Matrix Market text (- for standard input) in place of a server, for plot alone"
     where.add_argument("--from", dest="source", metavar="FILE", help=source)
-    timeout = f"for each answer ({TIMEOUT}; {SAVE_TIMEOUT} for a save or a fold, which takes longer the more was accepted)"
+    longer = f"{SAVE_TIMEOUT} for a save or a fold, which takes longer the more was accepted"
+    timeout = f"for each answer ({TIMEOUT}; {longer})"
     words.add_argument("--timeout", type=float, metavar="SECONDS", help=timeout)
     attempts = "how often a request is sent (3, within a moment; of a load 14, for a minute, as a server takes to start)"
     words.add_argument("--attempts", type=int, metavar="N", help=attempts)

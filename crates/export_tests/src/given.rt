@@ -92,8 +92,7 @@ impl<'a> Given<'a> {
 }
 
 /// The bytes as a source gives them, in pieces of seven.
-fn script(alloc: Global, bytes: &[u8]) -> Option<Script>
-{
+fn script(alloc: Global, bytes: &[u8]) -> Option<Script> {
     match pieces(alloc, bytes, 7) {
         Ok(list) => Some(Script::new(alloc, list, None, None)),
         Err(_) => None,

@@ -46,7 +46,11 @@ struct Outcome {
 fn queued<R: Wait + Abort>(rt: &R, alloc: Global, count: u8) -> Receiver<Session<Script>, Global> {
     let (sender, receiver) = bounded(alloc, count as usize).expect(rt, "channel");
     for number in 0..count {
-        let link = link_of(rt, alloc, &[&[Ask::Put(7, number, 1), Ask::Fold, Ask::Save]]);
+        let link = link_of(
+            rt,
+            alloc,
+            &[&[Ask::Put(7, number, 1), Ask::Fold, Ask::Save]],
+        );
         assert!(rt; Sink::failures(&link) == 0);
         let sent = sender.send(rt, Session::new(number as u64, link));
         let is_sent = sent.is_ok();

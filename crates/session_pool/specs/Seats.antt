@@ -107,13 +107,13 @@ IsStored v synced a seen (Some known) =
     IsPrefix seen all
 
 -- A put, a status, a save, a Stats and a Fold show the seat a version, of which the answer is true: a put's is that
--- version's word on the batch, whose total is added to the seat's share where the put was the first; a saved list has just its entries,
--- what was folded when the engine was opened is folded in it, and behind it batches that were folded since. With a log a
--- put is accepted once its entry is known as durable. Where the log was full the put leaves the seat as it is; where it
--- had failed, the batch may be accepted all the same. A cell, a row and the parts of an export are what a shard of the
--- row's number showed under its lock at a moment of the call, over its part of the base that the engine was opened with
--- and of batches that were folded since; they leave the seat as it is. What is known as durable only grows by a Fold,
--- which is told as failed where a log has answered that.
+-- version's word on the batch, whose total is added to the seat's share where the put was the first; a saved list has
+-- just its entries, what was folded when the engine was opened is folded in it, and behind it batches that were folded
+-- since. With a log a put is accepted once its entry is known as durable. Where the log was full the put leaves the
+-- seat as it is; where it had failed, the batch may be accepted all the same. A cell, a row and the parts of an export
+-- are what a shard of the row's number showed under its lock at a moment of the call, over its part of the base that
+-- the engine was opened with and of batches that were folded since; they leave the seat as it is. What is known as
+-- durable only grows by a Fold, which is told as failed where a log has answered that.
 abbrev pub SeatGives : Setting → Accepted → (Accepted → Type 0) → (List Entry → Type 0) → Type 0 → Type 0 → Sight →
     Event → Sight → Type 0
 SeatGives v opened saved synced failed full s (put batch (Ok kept)) t =

@@ -120,9 +120,9 @@ impl Folding {
         drop(mem::replace(&mut *folder, None));
     }
 
-    /// Folds all that was accepted by now, with a log once it is durable; where another fold runs it waits for that one's
-    /// end. What isn't folded where it is refused stays sealed for the next call. It takes the engine's folder where there
-    /// is none here yet, as where no pool runs; where somebody else has that, nothing is folded.
+    /// Folds all that was accepted by now, with a log once it is durable; where another fold runs it waits for the end
+    /// of that one. What isn't folded where it is refused stays sealed for the next call. It takes the engine's folder
+    /// where there is none here yet, as where no pool runs; where somebody else has that, nothing is folded.
     pub(crate) fn fold_now<N: Named, H: Ledger, L: Log, R: Wait>(
         &self,
         rt: &R,

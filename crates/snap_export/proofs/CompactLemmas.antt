@@ -1,11 +1,13 @@
 -- A list of cells in order with its rows and columns numbered anew, and the matrix that it builds.
-use Rattle.std.proofs.Common.{◌≡◌, ℕ, zero, suc, ◌+◌, ◌<◌, Bool, true, false, cond, List, [], ◌∷◌, length}
+use Rattle.std.proofs.Common.{◌≡◌, ℕ, zero, suc, ◌+◌, ◌<◌, ◌≤◌, Bool, true, false, cond, List, [], ◌∷◌, length}
 use Rattle.std.proofs.Common.{get_or, map, refl, sym, ◌∙◌, ap, subst, arith, Option, Some, IsSome, unwrap_or}
 use Rattle.std.proofs.Common.{Contains, eqb, ◌&&◌, T, Result, Ok, Err, IfOk}
-use Rattle.std.proofs.lemmas.List.{get_or-map, length-map, get_or_default}
+use Rattle.std.proofs.Common.{take, drop, ◌++◌, append-nil}
+use Rattle.std.proofs.lemmas.List.{get_or-map, length-map, get_or_default, drop_all, take_all}
 use Rattle.std.specs.FinMap.{get, entries, entries_sorted, is_sorted}
+use Rattle.std.specs.List.Sorted.{IsStrictlyIncreasing}
 use Rattle.cells.specs.declared.cell.Cell.{Cell}
-use Rattle.cells.specs.Bounds.{AreWithin}
+use Rattle.cells.specs.Bounds.{AreWithin, IsDimension}
 use Rattle.cells.specs.Sums.{stands_at, sum_at, cell_total}
 use Rattle.hyper_rows.proofs.BuiltOfLaws.{told_cells, get-built_of}
 use Rattle.cells.specs.Order.{Rise}
@@ -20,7 +22,7 @@ use Rattle.mm_text.specs.Canonical.{canonical}
 use Rattle.mm_laws.proofs.CellsBuilt.{text_of_list}
 use Rattle.snap_export.specs.Files.{parts_of}
 use Rattle.snap_export.specs.Told.{ReadsBack, compact_parts}
-use Rattle.snap_export.proofs.LabelLemmas.{sum_back}
+use Rattle.snap_export.proofs.LabelLemmas.{sum_back, label_less}
 
 plain : (cs : List Cell) → unwrap_or (told_cells cs) 0 ≡ cell_total cs
 plain [] = refl
@@ -160,6 +162,95 @@ pub list_rises : (m : Counts) (cells : List Cell) → map entry_of cells ≡ ent
 list_rises m cells is =
     rises cells (subst (λ (es : List (Place × ℕ)). T (is_sorted place_cmp es)) (sym is) (entries_sorted m))
 
+-- ---- a list that was relabelled where it stands
+
+module _ (rows cols used_rows used_cols : List ℕ) (given lent new : List Cell) (len : ℕ) (r : used_rows ≡ rows)
+    (c : used_cols ≡ cols) (lends : lent ≡ given) (long : length lent ≡ len)
+    (same : map (back used_rows used_cols) new ≡ lent) where
+  whole : take len (new ++ drop (length new) given) ≡ new
+  whole =
+      let count : length new ≡ len = omega (arith, ap length same, length-map new (back used_rows used_cols), long) in
+      let all : length given ≡ length new = omega (arith, count, long, ap length lends) in
+      ap (λ (l : List Cell). take len (new ++ l)) (drop_all (length new) given (omega (arith, all)))
+      ∙ ap (take len) (append-nil new) ∙ take_all len new (omega (arith, count))
+
+  pub relabelled_within : AreWithin (length used_rows) (length used_cols) new →
+      AreWithin (length rows) (length cols) (take len (new ++ drop (length new) given))
+  relabelled_within all = subst (AreWithin (length rows) (length cols)) (sym whole)
+      (subst (λ (ls : List ℕ). AreWithin (length rows) (length ls) new) c
+      (subst (λ (ls : List ℕ). AreWithin (length ls) (length used_cols) new) r all))
+
+  pub relabelled_back : map (back rows cols) (take len (new ++ drop (length new) given)) ≡ given
+  relabelled_back = ap (map (back rows cols)) whole ∙ sym (ap (λ (ls : List ℕ). map (back ls cols) new) r)
+      ∙ sym (ap (λ (ls : List ℕ). map (back used_rows ls) new) c) ∙ same ∙ lends
+
+-- ---- how many labels there are
+
+place_reached : (labels : List ℕ) → IsStrictlyIncreasing labels → (i : ℕ) → i < length labels → i ≤ label labels i
+place_reached labels up zero h = omega arith
+place_reached labels up (suc i) h = omega (
+  arith,
+  place_reached labels up i (omega (arith, h)),
+  label_less labels up i (suc i) (omega arith) h,
+)
+
+few_labels : (labels : List ℕ) (most : ℕ) → IsStrictlyIncreasing labels →
+    ((n : ℕ) → Contains labels n → n < most) → length labels ≤ most
+few_labels [] most up below = omega arith
+few_labels (first ∷ others) most up below =
+    let labels = first ∷ others in
+    let last = length others in
+    let within : last < length labels = omega arith in
+    omega (
+      arith,
+      place_reached labels up last within,
+      below (label labels last) (last, within, get_or_default labels last (label labels last) 0 within),
+    )
+
+few_dimension : (labels : List ℕ) (most : ℕ) → IsDimension most → length labels ≤ most → IsDimension (dimension labels)
+few_dimension [] most is le = (omega arith, omega (arith, is.0, is.1))
+few_dimension (first ∷ others) most is le = (omega arith, omega (arith, is.1, le))
+
+row_below : (cells : List Cell) (rows cols row : ℕ) → AreWithin rows cols cells →
+    Contains (numbers_of Axis.Rows cells) row → row < rows
+row_below cells rows cols row all h =
+    let at = place_at Axis.Rows cells row h in
+    omega (arith, (all h.0 no_cell at.0).0, at.1)
+
+col_below : (cells : List Cell) (rows cols col : ℕ) → AreWithin rows cols cells →
+    Contains (numbers_of Axis.Cols cells) col → col < cols
+col_below cells rows cols col all h =
+    let at = place_at Axis.Cols cells col h in
+    omega (arith, (all h.0 no_cell at.0).1, at.1)
+
+-- the labels of cells within dimensions are no more than those
+pub few_of : (cells : List Cell) (rows cols : ℕ) (row_labels col_labels : List ℕ) → IsDimension rows →
+    IsDimension cols → AreWithin rows cols cells → AreLabels (Contains (numbers_of Axis.Rows cells)) row_labels →
+    AreLabels (Contains (numbers_of Axis.Cols cells)) col_labels →
+    IsDimension (dimension row_labels) × IsDimension (dimension col_labels)
+few_of cells rows cols row_labels col_labels is_rows is_cols all r c = (
+  few_dimension row_labels rows is_rows
+      (few_labels row_labels rows r.rise (λ n h. row_below cells rows cols n all (r.none_else n h))),
+  few_dimension col_labels cols is_cols
+      (few_labels col_labels cols c.rise (λ n h. col_below cells rows cols n all (c.none_else n h))),
+)
+
+dimension_holds : (labels : List ℕ) → length labels ≤ dimension labels
+dimension_holds [] = omega arith
+dimension_holds (first ∷ others) = omega arith
+
+-- cells whose rows and columns have labels lie within the dimensions of these
+pub within_dimensions : (rows cols : List ℕ) (cells used : List Cell) (d e : ℕ) → d ≡ dimension rows →
+    e ≡ dimension cols → used ≡ cells → IsDimension (dimension rows) × IsDimension (dimension cols) →
+    AreWithin (length rows) (length cols) cells → IsDimension d × IsDimension e × AreWithin d e used
+within_dimensions rows cols cells used d e dr dc is few all = (
+  subst IsDimension (sym dr) few.0,
+  subst IsDimension (sym dc) few.1,
+  subst (AreWithin d e) (sym is) (λ k cell lt.
+      let h = all k cell lt in
+      (omega (arith, h.0, dimension_holds rows, dr), omega (arith, h.1, dimension_holds cols, dc))),
+)
+
 -- what is so of an answer by four things that are
 pub if_ok_four : {T E : Type 0} (r : Result T E) {P Q R S U : T → Type 0} →
     ((x : T) → P x → Q x → R x → S x → U x) → IfOk r P → IfOk r Q → IfOk r R → IfOk r S → IfOk r U
@@ -175,7 +266,8 @@ parts_same rows cols rows' cols' cells cells' d e r c l dr dc up =
     ∙ ap (λ (xs : List ℕ). parts_of (label_lines rows) (label_lines xs) (canonical d e cells')) c
     ∙ ap (parts_of (label_lines rows) (label_lines cols))
     (ap (canonical d e) l ∙ ap (λ (n : ℕ). canonical n e cells) dr
-    ∙ ap (λ (n : ℕ). canonical (dimension rows) n cells) dc ∙ text_of_list (dimension rows) (dimension cols) cells (built_of cells) up refl)
+    ∙ ap (λ (n : ℕ). canonical (dimension rows) n cells) dc
+    ∙ text_of_list (dimension rows) (dimension cols) cells (built_of cells) up refl)
 
 -- ---- read back
 

@@ -210,6 +210,21 @@ pub if_err_with : {T E : Type 0} (r : Result T E) {P Q : E → Type 0} → ((e :
 if_err_with (Ok x) f h = tt
 if_err_with (Err e) f h = f e h
 
+-- which fault was passed on
+pub passed_is : {T E : Type 0} (r : Result T E) (fault other : E) → IsErrAnd r (λ e. e ≡ fault) → r ≡ Err other →
+    fault ≡ other
+passed_is (Ok x) fault other is told = absurd is
+passed_is (Err e) fault other is told =
+    let same : e ≡ other = cc in
+    sym is ∙ same
+
+-- what holds of every fault of a save
+pub each_saved : {T : Type 0} (r : Result T ExportFault) (P : SaveFault → Type 0) (Q : ExportFault → Type 0) →
+    ((why : SaveFault) → Q (fault.Save why)) → IfErr r (λ f. (why : SaveFault) × (f ≡ fault.Save why) × P why) →
+    IfErr r Q
+each_saved (Ok x) P Q each told = tt
+each_saved (Err f) P Q each told = subst Q (sym told.1) (each told.0)
+
 -- a fault of a save that was told
 pub why_saved : {T : Type 0} (r : Result T ExportFault) (P : SaveFault → Type 0) (K : Type 0) (why : SaveFault) →
     r ≡ Err (fault.Save why) → IfErr r (λ f. (w : SaveFault) × (f ≡ fault.Save w) × P w) →

@@ -1,8 +1,8 @@
 -- What one snapshot more does to those before it.
 use Rattle.std.proofs.Common.{◌≡◌, ◌≢◌, ℕ, ◌+◌, ◌<◌, ◌≤◌, ◌^◌, List, [], ◌∷◌, ◌++◌, length, Result, Ok, Err, Option}
-use Rattle.std.proofs.Common.{Some}
+use Rattle.std.proofs.Common.{Some, None}
 use Rattle.std.proofs.Common.{refl, sym, ◌∙◌, ap, subst, arith, inl, inr}
-use Rattle.std.proofs.Common.{Bool, true, false, ltb, IsTrue, ◌↔◌, OnErr}
+use Rattle.std.proofs.Common.{Bool, true, false, ltb, IsTrue, ◌↔◌, OnErr, IfSome}
 use Rattle.std.proofs.lemmas.Bool.{ltb-false, ltb-true}
 use Rattle.std.proofs.lemmas.List.{length-append}
 use Rattle.std.specs.FinMap.{empty}
@@ -17,8 +17,9 @@ use Rattle.snap_file.specs.declared.fault.SnapFault.TheVariants as snap
 use Rattle.snap_file.specs.declared.fault.FileFault.{FileFault}
 use Rattle.snap_file.specs.declared.fault.FileFault.TheVariants as file
 use Rattle.snap_report.specs.Kept.{HasLoaded, most_bytes}
-use Rattle.snap_export.specs.Several.{added_up, HaveLoaded, AreUnsummed}
+use Rattle.snap_export.specs.Several.{added_up, HaveLoaded, AreUnsummed, CountsPass, Tells}
 use Rattle.snap_export.specs.Steps.{IsSumOf, AddsNext, TellsNext, HaveSummed, TellsRead, IsUnread}
+use Rattle.snap_export.specs.Told.{CompactTells}
 use Rattle.snap_export.specs.declared.fault.ExportFault.{ExportFault}
 use Rattle.snap_export.specs.declared.fault.ExportFault.TheVariants as fault
 
@@ -56,6 +57,17 @@ sum_total rows cols xs m is = ap (λ (n : Matrix). total n.counts) is
 pub summed_some : (rows cols : ℕ) (xs : List Saved) (sum : Option Matrix) (m : Matrix) → sum ≡ Some m →
     IsSumOf rows cols xs sum → m ≡ matrix rows cols (added_up xs)
 summed_some rows cols xs sum m is h = subst (IsSumOf rows cols xs) is h
+
+-- a sum that is held has the dimensions in which it was summed
+pub rows_of_sum : (rows cols n : ℕ) (xs : List Saved) (sum : Option Matrix) → IsSumOf rows cols xs sum → n ≡ rows →
+    IfSome sum (λ m. n ≡ m.rows)
+rows_of_sum rows cols n xs (Some m) is same = same ∙ sym (ap (λ (x : Matrix). x.rows) is)
+rows_of_sum rows cols n xs None is same = tt
+
+pub cols_of_sum : (rows cols n : ℕ) (xs : List Saved) (sum : Option Matrix) → IsSumOf rows cols xs sum → n ≡ cols →
+    IfSome sum (λ m. n ≡ m.cols)
+cols_of_sum rows cols n xs (Some m) is same = same ∙ sym (ap (λ (x : Matrix). x.cols) is)
+cols_of_sum rows cols n xs None is same = tt
 
 -- a snapshot was added to a sum
 pub sum_grown : (rows cols : ℕ) (xs : List Saved) (x : Saved) (m next : Matrix) (counts : Counts) → counts ≡ own x →
@@ -150,6 +162,16 @@ module _ {F : Type 0} (loads : F → ℕ → Result Saved FileFault → F → Ty
   told_behind s t u number rows cols xs some count before (fault.Output told) h = absurd h
   told_behind s t u number rows cols xs some count before (fault.Save told) h = absurd h
 
+  -- what is told of the next
+  pub next_unread : (s t : F) (number rows cols : ℕ) (xs : List Saved) (told : ExportFault) →
+      IsUnread loads s t number told → TellsNext loads xs s t rows cols number told
+  next_unread s t number rows cols xs (fault.File at why) h = h
+  next_unread s t number rows cols xs fault.Memory h = inl h
+  next_unread s t number rows cols xs (fault.DimensionsDiffer at) h = absurd h
+  next_unread s t number rows cols xs fault.SumTooLarge h = absurd h
+  next_unread s t number rows cols xs (fault.Output why) h = absurd h
+  next_unread s t number rows cols xs (fault.Save why) h = absurd h
+
   -- what is told of the first
   pub first_unread : (s t : F) (told : ExportFault) → IsUnread loads s t 0 told → TellsRead loads s t told
   first_unread s t (fault.File at told) h = (
@@ -193,3 +215,34 @@ module _ {F : Type 0} (loads : F → ℕ → Result Saved FileFault → F → Ty
     loaded = (t, h, r, c, refl);
     sum_is = is;
   }
+
+  -- all were loaded, and there is no sum
+  pub all_passed : (s t : F) (count rows cols : ℕ) (sum : Option Matrix) → sum ≡ None →
+      HaveSummed loads s t count rows cols sum → CountsPass loads s t count
+  all_passed s t count rows cols sum none h = record {
+    rows = rows;
+    cols = cols;
+    xs = h.xs;
+    count_is = h.count_is;
+    loaded = h.loaded;
+    passes = subst (IsSumOf rows cols h.xs) none h.sum_is;
+  }
+
+  -- what is told of the loads is told of an export
+  pub read_told : (s t : F) (count : ℕ) (told : ExportFault) → TellsRead loads s t told → Tells loads s t count told
+  read_told s t count (fault.File number why) h = h
+  read_told s t count (fault.DimensionsDiffer number) h = h
+  read_told s t count fault.Memory h = h
+  read_told s t count fault.SumTooLarge h = absurd h
+  read_told s t count (fault.Output why) h = absurd h
+  read_told s t count (fault.Save why) h = absurd h
+
+  -- and of a compact one
+  pub compact_told : (s t : F) (count : ℕ) (told : ExportFault) → TellsRead loads s t told →
+      CompactTells loads s t count told
+  compact_told s t count (fault.File number why) h = h
+  compact_told s t count (fault.DimensionsDiffer number) h = h
+  compact_told s t count fault.Memory h = h
+  compact_told s t count fault.SumTooLarge h = absurd h
+  compact_told s t count (fault.Output why) h = absurd h
+  compact_told s t count (fault.Save why) h = absurd h

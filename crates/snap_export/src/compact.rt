@@ -72,6 +72,8 @@ fn compact_of(alloc: Global, sum: Hyper) -> Result<Compact, AllocError>
     ensures within { IfOk result (λ c. AreWithin (length c.rows.items) (length c.cols.items) c.cells.items) }
     ensures few { IfOk result (λ c. IsDimension (dimension c.rows.items) × IsDimension (dimension c.cols.items)) }
 {
+    // They are at most 2^60, and labels no more.
+    let _dims = sum.dims();
     let cells = sum.cells(alloc)?;
     // The matrix goes before labels take memory.
     drop(sum);
@@ -156,7 +158,8 @@ pub fn run_compact<F: SnapshotFiles, D: Folder>(
     ensures told { IfErr result (λ fault. CompactTells F.load_gives files.old files.new count fault) }
     ensures untouched { IfErr result (λ fault. LeavesFiles fault ⊎ (folder.new ≡ folder.old)) }
 {
-    match sum_of_all(alloc, files, count)? {
+    let found = sum_of_all(alloc, files, count)?;
+    match found {
         Some(sum) => {
             // It is below 2^64.
             let _total = sum.total();

@@ -212,7 +212,8 @@ pub fn run_export_of<F: SnapshotFiles, W: Sink>(
     ensures told { IfErr result (λ fault. Tells F.load_gives files.old files.new count fault) }
     ensures unwritten { IfErr result (λ fault. LeavesText fault ⊎ (w.new ≡ w.old)) }
 {
-    match sum_of_all(alloc, files, count)? {
+    let found = sum_of_all(alloc, files, count)?;
+    match found {
         Some(sum) => {
             // It is below 2^64.
             let _total = sum.total();

@@ -10,8 +10,8 @@ const FOLD: u8 = 13;
 /// answered before more is read, which is at most 65,536 bytes: some 13,000 requests, of five bytes at least.
 const WORDS: u64 = 256;
 
-/// The requests of one connection, of which the last 16,384 are known to be a Fold or not. The answer to a Fold looks as
-/// that to a save does.
+/// The requests of one connection, of which the last 16,384 are known to be a Fold or not. The answer to a Fold looks
+/// as that to a save does.
 #[derive(Drop)]
 struct Asked {
     count: u64,

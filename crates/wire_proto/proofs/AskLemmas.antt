@@ -5,7 +5,8 @@ use Rattle.hyper_rows.specs.declared.search.RowSum.{RowSum}
 use Rattle.wire_frames.specs.Frames.{frame, head_bytes, number}
 use Rattle.wire_proto.specs.Keeping.{Event, cell, row, status, export, save, stored, stats, fold}
 use Rattle.wire_proto.specs.Telling.{Telling, stats_text}
-use Rattle.wire_proto.specs.Replies.{value, row_sum, counts, save_reply, fold_reply, text, text_reply, refused, lines_reply}
+use Rattle.wire_proto.specs.Replies.{value, row_sum, counts, save_reply, fold_reply, text, text_reply, refused}
+use Rattle.wire_proto.specs.Replies.{lines_reply}
 use Rattle.mm_laws.specs.MatrixText.{matrix_text}
 use Rattle.std.proofs.Common.{OnErr, IfOk, Err, subst}
 use Rattle.std.specs.declared.alloc.AllocError.{AllocError}

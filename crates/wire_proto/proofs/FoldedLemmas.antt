@@ -31,7 +31,7 @@ folded_behind a t more h =
       within = omega (arith, h.within, length-append a.list more);
       state = ap (λ s. with_batches s more) h.state
           ∙ (λ i. accepted (ewise_add a.base (list_sum (sym front i))) (a.folded ++ entries_of (sym front i))
-              (sym behind i));
+          (sym behind i));
     }
 
 -- one fold behind the other

@@ -426,7 +426,9 @@ puts_same v a b Fold x e h = h
 
 push_same : (a b : Accepted) (x : Submission) → entries_in a ≡ entries_in b →
     entries_in (with_batch a x) ≡ entries_in (with_batch b x)
-push_same a b x e = sym (entries_behind a (x ∷ [])) ∙ ap (λ (es : List Entry). es ++ entries_of (x ∷ [])) e ∙ entries_behind b (x ∷ [])
+push_same a b x e =
+    sym (entries_behind a (x ∷ [])) ∙ ap (λ (es : List Entry). es ++ entries_of (x ∷ [])) e ∙
+    entries_behind b (x ∷ [])
 
 first_same : (v : Setting) (a b : Accepted) (r : Request) (ms : List Message) (more : List Submission) →
     entries_in a ≡ entries_in b →
@@ -496,7 +498,8 @@ all_adds v state t [] w a = ends_here state t [] a.1
 all_adds v state t (Ok (Put c n x) ∷ ms) w a =
     then_adds v state a.0 t (Put c n x) ms (adds v state a.0 (Put c n x) a.1 a.3) (all_adds v a.0 t ms a.2 a.5)
 all_adds v state t (Ok (PutCells c n x) ∷ ms) w a =
-    then_adds v state a.0 t (PutCells c n x) ms (adds v state a.0 (PutCells c n x) a.1 a.3) (all_adds v a.0 t ms a.2 a.5)
+    then_adds v state a.0 t (PutCells c n x) ms (adds v state a.0 (PutCells c n x) a.1 a.3)
+    (all_adds v a.0 t ms a.2 a.5)
 all_adds v state t (Ok (Cell x y) ∷ ms) w a =
     then_adds v state a.0 t (Cell x y) ms (adds v state a.0 (Cell x y) a.1 a.3) (all_adds v a.0 t ms a.2 a.5)
 all_adds v state t (Ok (Row x) ∷ ms) w a =

@@ -3,7 +3,8 @@ ghost use Rattle.std.specs.Prelude.{◌≡◌, ◌≢◌, ℕ, All, List, [], �
 ghost use Rattle.wire_frames.specs.Frames.{Message, front, Gives, messages};
 ghost use Rattle.wire_proto.specs.CellBytes.{cells_of, spelled_cells, FitsBytes};
 ghost use Rattle.cells.specs.declared.cell.Cell.{Cell};
-ghost use Rattle.wire_proto.specs.Plain.{IsAnswered, AreAnswered, FreshPuts, GoOn, IsPut, IsFolded, NoneFolds, with_batches};
+ghost use Rattle.wire_proto.specs.Plain.{IsAnswered, AreAnswered, FreshPuts, GoOn, IsPut, with_batches};
+ghost use Rattle.wire_proto.specs.Plain.{IsFolded, NoneFolds};
 ghost use Rattle.wire_proto.specs.Replies.{accepted};
 ghost use Rattle.batch_store.specs.declared.verdict.Kept.{Kept};
 ghost use Rattle.batch_store.specs.Batches.{Submission};
@@ -44,8 +45,8 @@ pub fn messages_have_one_answer()
         (bytes ≡ bytes') × (after ≡ after') }
 {}
 
-/// What a session adds to what was accepted: the batches of its puts that were fresh, in order, each once. Only where it
-/// asks for a fold more of them are folded.
+/// What a session adds to what was accepted: the batches of its puts that were fresh, in order, each once. Only where
+/// it asks for a fold more of them are folded.
 pub fn sessions_accept_fresh_batches()
     ensures { (setup : Setting) (state after : Accepted) (ms : List Message) (bytes : List ℕ) →
         IsAnswered setup state ms bytes after →

@@ -1,6 +1,8 @@
 //! Folds that a session asks for: no answer changes by them.
 
-use crate::asks::{Ask, Cut, Outcome, Session, check_sessions, served_cut, sizes, small_setup, wanted};
+use crate::asks::{
+    Ask, Cut, Outcome, Session, check_sessions, served_cut, sizes, small_setup, wanted,
+};
 use test_support::{same, same_at};
 use wire_proto::Ended;
 
@@ -9,7 +11,7 @@ const CLOSED: Ended = Ended::Closed { rest: 0 };
 const FIRST: Ask = Ask::Cells(7, 1, &[(0, 0, 5)]);
 
 /// A batch, a fold, and what is asked of it then; a second batch and two folds.
-static FOLDED: Session = (
+const FOLDED: Session = (
     &[
         FIRST,
         Ask::Fold,

@@ -14,7 +14,8 @@ use std::sync::Arc;
 use std::test::Fail;
 use test_support::same_at;
 use wire_proto::{
-    Amount, Ended, Figure, FoldRefusal, Keeper, Label, Labels, PutRefusal, SaveRefusal, Settled, serve,
+    Amount, Ended, Figure, FoldRefusal, Keeper, Label, Labels, PutRefusal, SaveRefusal, Settled,
+    serve,
 };
 
 // A store that keeps nothing. It refuses each batch, and answers a save as it was told to, and by the same a fold, for

@@ -14,8 +14,8 @@ use std::test::Fail;
 use std::thread::Threads;
 use test_support::{same, same_at};
 
-// What a pool did that folds above so many cells, over 100 sessions of a Put of a count of 1 at one place, and what else
-// is asked, the count there and the number of folded batches.
+// What a pool did that folds above so many cells, over 100 sessions of a Put of a count of 1 at one place and of what
+// else is asked, the count there and the number of folded batches.
 fn folded_by_pool<
     R: Threads + Wait + Disk + Machine + LogPlace<FileLog> + RandomSource + Abort + Sync,
 >(
