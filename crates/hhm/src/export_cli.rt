@@ -4,7 +4,8 @@ use clap::builder::ValueParser;
 use clap::{Arg, ArgAction, Command};
 use std::alloc::{AllocError, Global};
 
-const EXPORT_ABOUT: &str = "Read snapshots, and write the canonical text of the sum of their batches";
+const EXPORT_ABOUT: &str =
+    "Read snapshots, and write the canonical text of the sum of their batches";
 
 const EXPORT_HELP: &str = "\
 Reads the snapshots in the files PATH to their ends, one after the other, and

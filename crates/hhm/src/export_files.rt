@@ -21,11 +21,7 @@ pub struct NamedSnapshots<'a, R: Files, W: Watch> {
 
 impl<'a, R: Files, W: Watch> NamedSnapshots<'a, R, W> {
     /// The snapshots in these files, of which none is loaded yet.
-    pub fn new(
-        rt: &'a R,
-        names: &'a [&'a str],
-        watch: &'a mut W,
-    ) -> NamedSnapshots<'a, R, W> {
+    pub fn new(rt: &'a R, names: &'a [&'a str], watch: &'a mut W) -> NamedSnapshots<'a, R, W> {
         NamedSnapshots {
             rt,
             names,

@@ -36,15 +36,13 @@ fn settle<N: Named, H: Ledger, L: Log, R: Wait>(
     ensures failed { result ≡ Err FoldRefusal.LogFailed → IsLogged log.new × L.has_failed }
     ensures differ { result ≡ Err FoldRefusal.RecordsDiffer → IsLogged log.new }
 {
-    let Some(log) = log else {
-        let desk: Option<&LogDesk<N, L>> = None;
-        let _ = saver.settle_fold(rt, alloc, engine, desk, folder);
-        return Ok(());
-    };
-    if let Err(refusal) = log.reach(rt, engine, place) {
-        return Err(refusal);
+    if let Some(log) = log {
+        if let Err(refusal) = log.reach(rt, engine, place) {
+            return Err(refusal);
+        }
     }
-    if saver.settle_fold(rt, alloc, engine, Some(log.desk()), folder) {
+    let desk = log.as_ref().map(|log| log.desk());
+    if saver.settle_fold(rt, alloc, engine, desk, folder) || log.is_none() {
         Ok(())
     } else {
         Err(FoldRefusal::RecordsDiffer)

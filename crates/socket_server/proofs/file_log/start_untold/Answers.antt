@@ -5,7 +5,7 @@ use Rattle.socket_server.proofs.file_log.start_untold.Goals as goal
 
 -- the log's batches stand behind the known ones, and nothing was folded
 pub returns-in-Ok-new-clause-later : goal.returns-in-Ok-new-clause-later
-returns-in-Ok-new-clause-later c =
+returns-in-Ok-new-clause-later g c =
     let told = c.in-Ok.ensures in
     record {
       entries = told.begins;
