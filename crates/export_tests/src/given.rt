@@ -1,5 +1,5 @@
 //! Snapshots in memory, as files that keep them.
-ghost use Rattle.std.specs.Prelude.{⊤};
+ghost use Rattle.std.specs.Prelude.{◌≡◌, ⊤, IfSome};
 
 use byte_io::Script;
 use byte_io_tests::pieces;
@@ -92,7 +92,9 @@ impl<'a> Given<'a> {
 }
 
 /// The bytes as a source gives them, in pieces of seven.
-fn script(alloc: Global, bytes: &[u8]) -> Option<Script> {
+fn script(alloc: Global, bytes: &[u8]) -> Option<Script>
+    ensures { IfSome result (λ script. script.failures ≡ 0) }
+{
     match pieces(alloc, bytes, 7) {
         Ok(list) => Some(Script::new(alloc, list, None, None)),
         Err(_) => None,

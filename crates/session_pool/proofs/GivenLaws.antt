@@ -1,5 +1,5 @@
 -- What a keeper over a seat gives.
-use Rattle.std.proofs.Common.{◌≡◌, ◌%◌, ℕ, List, [], length, Option, Some, None, refl, sym, subst, ap, append-nil}
+use Rattle.std.proofs.Common.{◌≡◌, ◌%◌, ℕ, List, length, Option, Some, None, refl, sym, subst}
 use Rattle.std.specs.Prelude.{IfSome, IfOk, Result, Ok, Err, String, string_bytes}
 use mathlib.Core.List.{IsPrefix}
 use Rattle.std.specs.FinMap.{get}
@@ -11,18 +11,15 @@ use Rattle.batch_store.specs.Books.{AreAccepted}
 use Rattle.batch_store.specs.Shards.{Holding}
 use Rattle.locked_engine.specs.Moments.{IsShardOf}
 use Rattle.locked_engine.specs.Opened.{SharePast}
-use Rattle.wire_proto.specs.Keeping.{cell, save, stats, fold}
+use Rattle.wire_proto.specs.Keeping.{cell, save, stats}
 use Rattle.wire_proto.specs.Telling.{telling}
 use Rattle.wire_proto.specs.declared.figures.Figure.{Figure}
 use Rattle.std.specs.declared.alloc.AllocError.{AllocError}
 use Rattle.plain_engine.specs.declared.status.Status.{Status}
 use Rattle.locked_engine.specs.Versions.{version_status}
-use Rattle.locked_engine.specs.Views.{SeatView}
 use Rattle.wire_proto.specs.declared.keeper.SaveRefusal.{SaveRefusal}
-use Rattle.wire_proto.specs.declared.keeper.FoldRefusal.{FoldRefusal}
-use Rattle.wire_proto.specs.declared.keeper.FoldRefusal.TheVariants as no_fold
 use Rattle.session_pool.specs.Saves.{IsSaved}
-use Rattle.session_pool.specs.Seats.{Sight, SeatGives, Grows, IsLogged}
+use Rattle.session_pool.specs.Seats.{Sight, SeatGives}
 
 module _ (v : Setting) (opened : Accepted) (saved : Accepted → Type 0) (synced : List Entry → Type 0)
     (failed full : Type 0) where
@@ -76,36 +73,6 @@ module _ (v : Setting) (opened : Accepted) (saved : Accepted → Type 0) (synced
       IsPrefix s.seat.seen t.seat.seen → t.seat.first ≡ s.seat.first →
       SeatGives v opened saved synced failed full s (stats (Err e)) t
   gives_untold s t e known number later first = (known, (number, later), first)
-
-  -- a fold shows the seat the entries of the list that its number is of
-  pub gives_folded : (s t : Sight) (folded : ℕ) → Grows s.known t.known → t.seat.number ≡ s.seat.number →
-      IsPrefix s.seat.seen t.seat.seen → t.seat.first ≡ s.seat.first →
-      (a : Accepted) × AreAccepted v a × (entries_in a ≡ t.seat.seen) × SharePast a opened
-      × (folded ≡ length a.folded) →
-      SeatGives v opened saved synced failed full s (fold (Ok folded)) t
-  gives_folded s t folded known number later first h = (known, (number, later), first, h.0, h.1, h.2, h.3, h.4)
-
-  -- where it isn't known how many are folded it is as if memory were refused
-  pub gives_unfolded : (s t : Sight) → Grows s.known t.known → t.seat.number ≡ s.seat.number →
-      IsPrefix s.seat.seen t.seat.seen → t.seat.first ≡ s.seat.first →
-      SeatGives v opened saved synced failed full s (fold (Err no_fold.Memory)) t
-  gives_unfolded s t known number later first = (known, (number, later), first)
-
-  -- a refusal leaves the seat
-  pub refuses_fold : (s t : Sight) (r : FoldRefusal) → Grows s.known t.known → t.seat ≡ s.seat →
-      (r ≡ no_fold.LogFailed → IsLogged t.known × failed) →
-      (r ≡ no_fold.RecordsDiffer → IsLogged t.known) →
-      SeatGives v opened saved synced failed full s (fold (Err r)) t
-  refuses_fold s t no_fold.Memory known same f d = (
-    known,
-    (
-      ap (λ (x : SeatView). x.number) same,
-      subst (λ (x : SeatView). IsPrefix s.seat.seen x.seen) (sym same) ([], append-nil s.seat.seen),
-    ),
-    ap (λ (x : SeatView). x.first) same,
-  )
-  refuses_fold s t no_fold.LogFailed known same f d = (same, known, f refl)
-  refuses_fold s t no_fold.RecordsDiffer known same f d = (same, known, d refl)
 
 -- what a disk has answered as saved, in the words of the saver
 pub is_saved : {D Z : Type 0} (saves : D → List ℕ → Setting → Accepted → Type 0) (d : D) (o : Option (String Z))

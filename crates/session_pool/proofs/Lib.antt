@@ -1,3 +1,2 @@
 pub mod GivenLaws
 pub mod PlaceLaws
-pub mod GrowthLaws
