@@ -89,18 +89,38 @@ fn folds_change_no_answer(rt: HostRuntime) {
     check_sessions(&rt, rt.alloc(), small_setup(&rt), SESSIONS);
 }
 
+/// Two batches and folds behind them: it is answered so too where it comes again.
+const AGAIN: Session = (
+    &[
+        FIRST,
+        Ask::Cells(8, 1, &[(1, 2, 3), (0, 0, 1)]),
+        Ask::Fold,
+        Ask::Status,
+        Ask::Fold,
+        Ask::Row(0),
+    ],
+    "00000010 81 0000000000000000 0000000000000005
+     00000010 81 0000000000000001 0000000000000009
+     00000008 86 0000000000000002
+     00000010 84 0000000000000002 0000000000000009
+     00000008 86 0000000000000002
+     00000010 83 0000000000000001 0000000000000006",
+    CLOSED,
+    (2, 9),
+);
+
 #[test]
-fn the_frames_have_284_bytes_and_their_replies_208(rt: HostRuntime) {
-    let found = sizes(&rt, rt.alloc(), &FOLDED);
-    assert!(rt; same(&rt, &found, &(284, 208)));
+fn the_frames_have_142_bytes_and_their_replies_110(rt: HostRuntime) {
+    let found = sizes(&rt, rt.alloc(), &AGAIN);
+    assert!(rt; same(&rt, &found, &(142, 110)));
 }
 
 const WHOLE: Outcome = (CLOSED, true, (2, 9));
 
 #[test]
 fn folds_are_asked_for_in_any_pieces(rt: HostRuntime) {
-    for at in 0..284usize {
-        let found = served_cut(&rt, rt.alloc(), &FOLDED, Cut::Halves(at), (None, None), 208);
-        assert!(rt; same_at(&rt, &at, &found, &(WHOLE, wanted(&FOLDED))));
+    for at in 0..142usize {
+        let found = served_cut(&rt, rt.alloc(), &AGAIN, Cut::Halves(at), (None, None), 110);
+        assert!(rt; same_at(&rt, &at, &found, &(WHOLE, wanted(&AGAIN))));
     }
 }
