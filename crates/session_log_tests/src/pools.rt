@@ -11,7 +11,7 @@ use locked_engine::{Engine, Named, Names};
 use log_desk::{FailAt, LogDesk, MemoryLog, NoPause};
 use plain_engine::PlainEngine;
 use server_counters::Machine;
-use session_pool::{Disk, Gate, LogPlace, PoolFault, PoolReport, Session, run_pool};
+use session_pool::{Disk, Gate, LogPlace, PoolFault, PoolReport, Saver, Session, run_pool};
 use std::alloc::Global;
 use std::marker::Brand;
 use std::process::Abort;
@@ -65,15 +65,7 @@ fn play<
     N: Named + Send + Sync,
     H: Ledger + Send + Sync,
     R: Threads + Wait + Disk + Machine + LogPlace<TestLog> + Abort + Sync,
->(
-    rt: &R,
-    alloc: Global,
-    plain: PlainEngine,
-    names: Names,
-    count: u8,
-    fold_above: u64,
-    path: &str,
-) -> Outcome
+>(rt: &R, alloc: Global, plain: PlainEngine, names: Names, count: u8, saver: Saver) -> Outcome
     requires named { NamesEngine names N.setup N.seats N.history N.name N.parts H.name H.parts }
     requires made_from { plain.setup ≡ names.setup }
     requires opened { plain.book.state ≡ N.opened }
@@ -87,7 +79,6 @@ fn play<
     let desk = LogDesk::open(alloc, TestLog { log }, nothing(first), first.version()).expect(
         rt, "memory",
     );
-    let saver = saver_to(rt, alloc, path, WELL).folding_above(fold_above);
     let sessions = queued(rt, alloc, count);
     let report = run_pool(
         rt,
@@ -127,7 +118,8 @@ fn played<R: Threads + Wait + Disk + Machine + LogPlace<TestLog> + RandomSource 
 ) -> Outcome {
     let plain = PlainEngine::new(rt, alloc, small_setup(rt)).expect(rt, "memory");
     let names = Names::new(rt, alloc, &plain, 4).expect(rt, "names");
-    play::<Brand, Brand, R>(rt, alloc, plain, names, 20, fold_above, path)
+    let saver = saver_to(rt, alloc, path, WELL).folding_above(fold_above);
+    play::<Brand, Brand, R>(rt, alloc, plain, names, 20, saver)
 }
 
 // What becomes of 20 sessions that four workers serve.
