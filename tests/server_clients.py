@@ -24,7 +24,7 @@ from server import SMALL, WAIT, Server, accepted, check, put_frame, refused, tex
 from server_faults import END_WAIT, SAVE, STATUS, STOP, STOPPING, asked, counts, ends_soon, in_folder, is_silent
 from server_faults import received
 
-BAD_KIND = struct.pack(">IB", 0, 13)
+BAD_KIND = struct.pack(">IB", 0, 14)
 EXPORT = struct.pack(">IB", 0, 5)
 LARGE = 1 << 60
 CELLS = 20_000
