@@ -136,6 +136,14 @@ def told(hhm, *names):
     return tuple(stats[name] for name in names)
 
 
+def told_at_last(hhm, wanted, *names):
+    """What is told once it is as wanted, or ten seconds have passed: a reply is counted behind its write."""
+    end = time.monotonic() + 10
+    while (found := told(hhm, *names)) != wanted and time.monotonic() < end:
+        time.sleep(0.01)
+    return found
+
+
 def folds_when_asked(name, more, logged):
     """A server folds all that it has each time it is asked, and that is no save."""
     batches = [cells_of(number) for number in range(BATCHES)]
@@ -181,7 +189,8 @@ def folds_are_told_from_saves():
         first, one = (0x81, struct.pack(">QQ", 0, total_of([cells_of(0)]))), (0x86, struct.pack(">Q", 1))
         check("together: replies", replies, [first] * 70 + [one] * 3 + [first] + [one] * 4)
         with server.client() as hhm:
-            check("together: told", told(hhm, "saves_total", 'frames_total{kind="fold"}'), (3, 4))
+            names = ["saves_total", 'frames_total{kind="fold"}']
+            check("together: told", told_at_last(hhm, (3, 4), *names), (3, 4))
         server.stop("together", 1, total_of([cells_of(0)]))
 
 
@@ -219,8 +228,8 @@ def folds_beside_others(name, more, logged):
             check(f"{name}: there are some", 0 < len(numbers) and numbers[-1] <= BATCHES, True)
         with server.client() as hhm:
             check(f"{name}: all are folded", hhm.fold(), BATCHES)
-            saves = told(hhm, "saves_total")
-            check(f"{name}: each save is told, and no fold", saves, (len(seen[2]),))
+            saved = (len(seen[2]),)
+            check(f"{name}: each save is told, and no fold", told_at_last(hhm, saved, "saves_total"), saved)
         asked(name, server, batches)
         server.stop(name, BATCHES, total_of(batches))
     check(f"{name}: the snapshot", folded_in(path), (0, BATCHES))

@@ -458,11 +458,12 @@ def compactors_that_start(most, words, threads):
 
 
 def compactors_are_started():
-    """Where the second thread that compacts can't be started, or neither, a server sums all the same."""
-    # The main thread, an acceptor, a worker, and those that compact.
+    """Where the second thread that compacts can't be started, or neither, or the one that folds, a server sums all."""
+    # The main thread, an acceptor, a worker, those that compact, and the one that folds.
     if os.getuid() == 0:
-        for most, words, threads in [(3, [], 3), (4, [], 4), (5, [], 5), (9, [], 5), (9, ["--compactors", "2"], 5),
-                                     (9, ["--compactors", "1"], 4), (3, ["--compactors", "1"], 3)]:  # fmt: skip
+        for most, words, threads in [(3, [], 3), (4, [], 4), (5, [], 5), (9, [], 6), (9, ["--compactors", "2"], 6),
+                                     (9, ["--compactors", "1"], 5), (3, ["--compactors", "1"], 3),
+                                     (9, ["--fold-above", "0"], 5)]:  # fmt: skip
             compactors_that_start(most, words, threads)
 
 
