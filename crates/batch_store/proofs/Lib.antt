@@ -8,7 +8,7 @@ pub mod BookLaws
 pub mod ShardLaws
 pub mod ShardFoldLaws
 pub mod BookFoldLaws
-pub mod WalkLaws
+pub mod BatchSumLaws
 pub mod FileLaws
 pub mod ListLaws
 pub mod VerdictMeaning

@@ -4,7 +4,6 @@ ghost use Rattle.std.specs.Arc.{arc_value};
 ghost use Rattle.cells.specs.Bounds.{IsDimension};
 ghost use Rattle.hyper_matrix.specs.Counts.{ewise_add, total};
 ghost use Rattle.hyper_matrix.specs.Matrix.{matrix};
-ghost use Rattle.merged_cells.specs.Within.{LieWithin};
 ghost use Rattle.layer_compaction.specs.Due.{numbers_of};
 ghost use Rattle.batch_store.specs.Accepted.{list_sum};
 ghost use Rattle.batch_store.specs.Batches.{values};
@@ -12,10 +11,10 @@ ghost use Rattle.batch_store.specs.Books.{HaveDims};
 ghost use Rattle.batch_store.specs.BookFolds.{front_of, due_fold};
 
 use crate::batch::Batch;
+use crate::batch_sum::with_batches;
 use crate::fold_place::BasePlace;
 use boxcar::tag::{Names, Tag};
 use hyper_matrix::Hyper;
-use merged_cells::{MergedCells, Sources};
 use std::alloc::{AllocError, Global};
 use std::marker::Model;
 use std::sync::Arc;
@@ -82,31 +81,13 @@ impl Front {
         self.batches
     }
 
-    // The way through the cells of the sum.
-    fn cells(&self, alloc: Global) -> Result<MergedCells<'_>, AllocError>
-        ensures sum { IfOk result (λ cells. cells ≡ self.now.sum.counts) }
-        ensures within { IfOk result (λ cells. LieWithin self.now.sum.rows self.now.sum.cols cells) }
-    {
-        let mut sources = Sources::new(alloc);
-        'batches: for batch in &self.batches {
-            sources.add(&batch.matrix)?;
-        }
-        sources.add(&self.base)?;
-        Ok(sources.merged())
-    }
-
     // The sum.
     fn sum(&self, alloc: Global) -> Result<Hyper, AllocError>
         ensures { IfOk result (λ m. m ≡ self.now.sum) }
     {
-        let mut list = Vec::new(alloc);
-        'cells: for cell in self.cells(alloc)? {
-            list.push(cell)?;
-        }
-        match Hyper::build(alloc, self.rows, self.cols, &list) {
-            Ok(sum) => Ok(sum),
-            Err(_) => Err(AllocError),
-        }
+        let base = self.base.copy(alloc)?;
+        let sum = with_batches(alloc, base, &self.batches)?;
+        Ok(sum)
     }
 }
 

@@ -16,6 +16,7 @@
 
 mod batch;
 mod batch_parts;
+mod batch_sum;
 mod book;
 mod book_fold;
 mod book_list;
@@ -37,6 +38,7 @@ mod view;
 mod view_reads;
 
 pub use batch::Batch;
+pub use batch_sum::with_batches;
 pub use book::{Book, ReleasedBatches};
 pub use book_fold::BookFold;
 pub use book_list::BookList;

@@ -15,7 +15,7 @@
 --                         seen before and t after; saved says of what was accepted that a disk has answered that it was
 --                         saved, synced of entries that a log has answered so, and failed and full that a log has
 --                         answered that
-use Rattle.std.specs.Prelude.{◌≡◌, ◌⊎◌, ℕ, ◌+◌, ◌%◌, List, length, slice_get, Option, Some, None, Result, Ok, Err}
+use Rattle.std.specs.Prelude.{◌≡◌, ◌≤◌, ◌⊎◌, ℕ, ◌+◌, ◌%◌, List, length, slice_get, Option, Some, None, Result, Ok, Err}
 use Rattle.std.specs.FinMap.{get}
 use mathlib.Core.List.{IsPrefix}
 use Rattle.hyper_matrix.specs.Matrix.{matrix}
@@ -113,7 +113,8 @@ IsStored v synced a seen (Some known) =
 -- seat as it is; where it had failed, the batch may be accepted all the same. A cell, a row and the parts of an export
 -- are what a shard of the row's number showed under its lock at a moment of the call, over its part of the base that
 -- the engine was opened with and of batches that were folded since; they leave the seat as it is. What is known as
--- durable only grows by a Fold, which is told as failed where a log has answered that.
+-- durable only grows by a Fold, which is told as failed where a log has answered that, and else answers that at least
+-- as many are folded as the seat had been shown before.
 abbrev pub SeatGives : Setting → Accepted → (Accepted → Type 0) → (List Entry → Type 0) → Type 0 → Type 0 → Sight →
     Event → Sight → Type 0
 SeatGives v opened saved synced failed full s (put batch (Ok kept)) t =

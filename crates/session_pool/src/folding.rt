@@ -1,5 +1,5 @@
 //! Folding what an engine has accepted, beside the workers of a pool.
-ghost use Rattle.std.specs.Prelude.{◌≡◌, ◌↔◌, ◌<◌, Err, IsTrue};
+ghost use Rattle.std.specs.Prelude.{◌≡◌, ◌↔◌, ◌<◌, ◌≤◌, Err, IfSome, IsTrue, OnOk, length};
 ghost use Rattle.session_pool.specs.Seats.{Grows, IsLogged};
 
 use crate::saver::Saver;
@@ -33,6 +33,7 @@ fn settle<N: Named, H: Ledger, L: Log, R: Wait>(
     place: u64,
 ) -> Result<(), FoldRefusal>
     ensures grows { Grows log.old log.new }
+    ensures durable { OnOk result (IfSome log.new (λ known. place ≤ length known)) }
     ensures failed { result ≡ Err FoldRefusal.LogFailed → IsLogged log.new × L.has_failed }
     ensures differ { result ≡ Err FoldRefusal.RecordsDiffer → IsLogged log.new }
 {

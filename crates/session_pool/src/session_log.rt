@@ -1,5 +1,5 @@
 //! A log that threads share, as one session uses it.
-ghost use Rattle.std.specs.Prelude.{◌≡◌, ◌⊎◌, ◌<◌, [], ◌∷◌, length, Some, Err, IfSome, IfNone, OnOk};
+ghost use Rattle.std.specs.Prelude.{◌≡◌, ◌⊎◌, ◌<◌, ◌≤◌, [], ◌∷◌, length, Some, Err, IfSome, IfNone, OnOk};
 ghost use Rattle.std.specs.Arc.{arc_value};
 ghost use mathlib.Core.List.{IsPrefix};
 ghost use Rattle.session_pool.specs.Seats.{sight, SeatBegins, SeatSettles, IsStored};
@@ -187,6 +187,7 @@ impl<'a, N: Named, L: Log> SessionLog<'a, N, L> {
         place: u64,
     ) -> Result<(), FoldRefusal>
         ensures later { IsPrefix self.old self.new }
+        ensures ok { OnOk result (place ≤ length self.new) }
         ensures failed { result ≡ Err FoldRefusal.LogFailed → L.has_failed }
     {
         let Some(last) = place.checked_sub(1) else {

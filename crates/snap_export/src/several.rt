@@ -1,9 +1,8 @@
 //! `export` of several snapshots: loads one behind the other, and writes the canonical text of the sum of all.
 //!
-//! Memory goes to the sum, a matrix, to one snapshot, and to a list of the cells of its sum: a snapshot is let go of
-//! before its cells are added, and each is loaded once the one before is gone. Batches stand in a snapshot in the order
-//! in which they came, so that all of it must be there before its first cell is known. The text is written from the
-//! matrix, a line at a time.
+//! Memory goes to the sum, a matrix, to one snapshot, and to a part of its cells, which are added a part at a time: each
+//! snapshot is loaded once the one before is gone. Batches stand in a snapshot in the order in which they came, so that
+//! all of it must be there before its first cell is known. The text is written from the matrix, a line at a time.
 ghost use Rattle.std.specs.Prelude.{◌≡◌, ◌≢◌, ℕ, ◌+◌, ◌<◌, ◌≤◌, ◌^◌, ◌⊎◌, ◌↔◌, List, [], ◌∷◌, ◌++◌, length};
 ghost use Rattle.std.specs.Prelude.{Option, Some, None, Result, Ok, Err, OnOk, OnErr, IfOk, IfErr, IfSome, IsTrue};
 ghost use Rattle.byte_io.specs.Writing.{HasTaken, HasStopped};
@@ -22,11 +21,12 @@ ghost use Rattle.snap_export.specs.Steps.{IsUnread, IsSumOf, Grows, FitsBehind, 
 ghost use Rattle.snap_export.specs.Steps.{HaveSummed, TellsRead};
 
 use crate::fault::ExportFault;
+use batch_store::with_batches;
 use byte_io::{Sink, WriteFault};
 use hyper_matrix::Hyper;
 use mm_text::TextWriter;
 use snap_file::{FileFault, Snapshot};
-use snap_report::{SNAPSHOT_BYTES, sum_of_list, total_of_list};
+use snap_report::{SNAPSHOT_BYTES, total_of_list};
 use std::alloc::{AllocError, Global};
 
 /// Files, one behind the other, in each of which a snapshot is kept.
@@ -66,7 +66,7 @@ fn fits_beside(sum: &Hyper, more: u64) -> bool
     sum.total().checked_add(more).is_some()
 }
 
-// The sum with the cells of a snapshot's sum added, or None where the counts don't fit 64 bits together.
+// The sum with all cells of a snapshot added, or None where the counts don't fit 64 bits together.
 fn grown(alloc: Global, sum: Hyper, snapshot: Snapshot) -> Result<Option<Hyper>, AllocError>
     requires rows { snapshot.setup.rows ≡ sum.rows }
     requires cols { snapshot.setup.cols ≡ sum.cols }
@@ -77,10 +77,9 @@ fn grown(alloc: Global, sum: Hyper, snapshot: Snapshot) -> Result<Option<Hyper>,
     if !fits_beside(&sum, total) {
         return Ok(None);
     }
-    let cells = sum_of_list(alloc, &snapshot.setup, &snapshot.list)?;
-    // The batches go before the sum takes memory.
-    drop(snapshot);
-    let next = sum.into_sum_with_cells(alloc, &cells)?;
+    let base = snapshot.list.base.copy(alloc)?;
+    let with_base = sum.into_sum(alloc, base)?;
+    let next = with_batches(alloc, with_base, &snapshot.list.batches)?;
     Ok(Some(next))
 }
 
