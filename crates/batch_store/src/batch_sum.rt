@@ -40,11 +40,7 @@ fn with_cells(alloc: Global, m: Hyper, cells: Vec<Cell>) -> Result<Hyper, AllocE
 /// # Errors
 ///
 /// A growth was refused, or the sum passes 2^64 - 1. The matrix is gone then.
-pub fn with_batches(
-    alloc: Global,
-    m: Hyper,
-    batches: &[Arc<Batch>],
-) -> Result<Hyper, AllocError>
+pub fn with_batches(alloc: Global, m: Hyper, batches: &[Arc<Batch>]) -> Result<Hyper, AllocError>
     requires { HaveDims m.rows m.cols (values batches.now) }
     ensures { IfOk result (λ sum.
         sum ≡ record m { counts = ewise_add m.counts (list_sum (values batches.now)) }) }
