@@ -21,7 +21,7 @@ ghost use Rattle.snap_export.specs.Steps.{IsUnread, IsSumOf, Grows, FitsBehind, 
 ghost use Rattle.snap_export.specs.Steps.{HaveSummed, TellsRead};
 
 use crate::fault::ExportFault;
-use batch_store::with_batches;
+use batch_store::{BookList, Setup, with_batches};
 use byte_io::{Sink, WriteFault};
 use hyper_matrix::Hyper;
 use mm_text::TextWriter;
@@ -66,6 +66,22 @@ fn fits_beside(sum: &Hyper, more: u64) -> bool
     sum.total().checked_add(more).is_some()
 }
 
+// A matrix with all cells of a list of batches added.
+fn with_list(alloc: Global, m: Hyper, setup: &Setup, list: &BookList) -> Result<Hyper, AllocError>
+    requires accepted { AreAccepted setup.now (accepted_in list.now) }
+    requires based { HasBase setup.now list.now }
+    requires rows { setup.now.rows ≡ m.rows }
+    requires cols { setup.now.cols ≡ m.cols }
+    requires fits { total m.counts + total (summed (accepted_in list.now)) < 2 ^ 64 }
+    ensures { IfOk result (λ sum.
+        sum ≡ record m { counts = ewise_add m.counts (summed (accepted_in list.now)) }) }
+{
+    let base = list.base.copy(alloc)?;
+    let with_base = m.into_sum(alloc, base)?;
+    let sum = with_batches(alloc, with_base, &list.batches)?;
+    Ok(sum)
+}
+
 // The sum with all cells of a snapshot added, or None where the counts don't fit 64 bits together.
 fn grown(alloc: Global, sum: Hyper, snapshot: Snapshot) -> Result<Option<Hyper>, AllocError>
     requires rows { snapshot.setup.rows ≡ sum.rows }
@@ -77,9 +93,7 @@ fn grown(alloc: Global, sum: Hyper, snapshot: Snapshot) -> Result<Option<Hyper>,
     if !fits_beside(&sum, total) {
         return Ok(None);
     }
-    let base = snapshot.list.base.copy(alloc)?;
-    let with_base = sum.into_sum(alloc, base)?;
-    let next = with_batches(alloc, with_base, &snapshot.list.batches)?;
+    let next = with_list(alloc, sum, &snapshot.setup, &snapshot.list)?;
     Ok(Some(next))
 }
 
