@@ -15,11 +15,14 @@ use Rattle.hyper_rows.specs.Counts.{Place, place_cmp, Counts, plus, ewise_add}
 use Rattle.hyper_rows.proofs.CountLaws.{exact_places, same_counts, get-ewise_add, plus-none, ewise_add_comm, tied}
 use Rattle.hyper_rows.proofs.CountLaws.{T_second}
 use Rattle.cell_queries.specs.declared.tally.RowTally.{RowTally}
+use Rattle.cell_queries.specs.declared.top.TopBy.{TopBy}
+use Rattle.cell_queries.specs.Heaps.{Leading, AreLed}
 use Rattle.cell_queries.specs.Rows.{RowsRise, HasRow}
 use Rattle.cell_queries.specs.Shards.{LieInShard, LieBelow}
 use Rattle.cell_queries.specs.Tallies.{tally, joined, tallies}
 use Rattle.cell_queries.proofs.RowLaws.{all_rows, not_lower, rows_rise, rows_told, weaker}
 use Rattle.cell_queries.proofs.TallyLaws.{same_row, other_row}
+use Rattle.cell_queries.proofs.TopLaws.{led_in_any_order}
 
 abbrev rows_where : (ℕ → Bool) → List RowTally → List RowTally
 rows_where p ts = filter (λ t. p t.row) ts
@@ -182,6 +185,15 @@ shard_joins s k a b below here =
     below)
     (weaker (λ t. t.row % k ≡ s) (λ t. ltb (t.row % k) s ≡ false)
     (λ t h. le-ltb (t.row % k) s (omega (arith, h))) (tallies (entries b)) here)
+
+-- the first of both are those of the sum
+pub led_joined : (by : TopBy) (most s k : ℕ) (a b : Counts) (l : Leading) → LieBelow s k (tallies (entries a)) →
+    LieInShard s k (tallies (entries b)) → AreLed by most (tallies (entries a) ++ tallies (entries b)) l →
+    AreLed by most (tallies (entries (ewise_add a b))) l
+led_joined by most s k a b l below here led =
+    led_in_any_order by most (tallies (entries a) ++ tallies (entries b)) (tallies (entries (ewise_add a b))) l
+    (IsPermutation-sym (tallies (entries (ewise_add a b))) (tallies (entries a) ++ tallies (entries b))
+    (shard_joins s k a b below here)) led
 
 pub still_below : (s k : ℕ) (a b : Counts) → LieBelow s k (tallies (entries a)) →
     LieInShard s k (tallies (entries b)) → LieBelow (s + 1) k (tallies (entries (ewise_add a b)))

@@ -95,12 +95,13 @@ impl ViewedSum {
         ensures { IfOk result (λ found. IfSome found (λ rows.
             IsTop by most (tallies (entries self.now.counts)) rows.items)) }
     {
+        let k = self.views.len() as u64;
         let mut leaders = Leaders::new(alloc, by, most);
         'views: for (s, view) in self.views.iter().enumerate() {
             let mut sources = Sources::new(alloc);
             view.add_to(&mut sources)?;
             let mut cells = sources.merged();
-            if !leaders.offer_shard(&mut cells, s as u64, self.views.len() as u64)? {
+            if !leaders.offer_shard(&mut cells, s as u64, k)? {
                 return Ok(None);
             }
         }
