@@ -4,3 +4,4 @@ pub mod TopLaws
 pub mod DegreeLaws
 pub mod RowLaws
 pub mod OneTop
+pub mod ApartLaws

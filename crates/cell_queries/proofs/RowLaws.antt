@@ -22,12 +22,12 @@ joined_all Q t (u ∷ us) one all = elim (cases_eq u.row t.row) [
   | inr other ↦ subst (AllByRecursion (λ v. Q v.row)) (sym (other_row t u us other)) (one, all)
 ]
 
-all_rows : (Q : ℕ → Type 0) (es : List (Place × ℕ)) → AllPlaces (λ p. Q p.0) es →
+pub all_rows : (Q : ℕ → Type 0) (es : List (Place × ℕ)) → AllPlaces (λ p. Q p.0) es →
     AllByRecursion (λ t. Q t.row) (tallies es)
 all_rows Q [] h = tt
 all_rows Q (e ∷ es) h = joined_all Q (tally e.0.0 1 e.1) (tallies es) h.0 (all_rows Q es h.1)
 
-weaker : (P Q : RowTally → Type 0) → ((t : RowTally) → P t → Q t) → (ts : List RowTally) → AllByRecursion P ts →
+pub weaker : (P Q : RowTally → Type 0) → ((t : RowTally) → P t → Q t) → (ts : List RowTally) → AllByRecursion P ts →
     AllByRecursion Q ts
 weaker P Q f [] h = tt
 weaker P Q f (t ∷ ts) h = (f t h.0, weaker P Q f ts h.1)
@@ -40,7 +40,7 @@ strictly {m} {n} le differ = elim (cases_order m n) [
 ]
 
 -- no cell behind another stands in a row before it
-not_lower : (e : Place × ℕ) (es : List (Place × ℕ)) → T (is_sorted place_cmp (e ∷ es)) →
+pub not_lower : (e : Place × ℕ) (es : List (Place × ℕ)) → T (is_sorted place_cmp (e ∷ es)) →
     AllPlaces (λ p. e.0.0 ≤ p.0) es
 not_lower e es sorted = all_map (Less e.0) (λ p. e.0.0 ≤ p.0) further es (to_all e.0 es (T_first _ _ sorted))
   where

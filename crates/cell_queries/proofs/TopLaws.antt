@@ -3,7 +3,7 @@ use Rattle.std.proofs.Common.{◌≡◌, ℕ, ◌+◌, ◌<◌, ◌≤◌, ◌�
 use Rattle.std.proofs.Common.{refl, sym, ◌∙◌}
 use Rattle.std.proofs.Common.{ap, subst, inl, inr, arith, length-append}
 use Rattle.std.proofs.Common.{Option, Some, None, Bor, Ordering, Result, Ok, Err, IfOk}
-use Rattle.std.specs.Prelude.{All, IfSome, IfNone, IsSome, option_map}
+use Rattle.std.specs.Prelude.{All, IfSome, IfNone, IsSome, option_map, min}
 use Rattle.std.specs.Ordering.{is_lt, is_ge}
 use Rattle.std.proofs.lemmas.Bool.{false≢true}
 use Rattle.std.specs.List.{Contains}
@@ -24,7 +24,7 @@ use Rattle.cell_queries.specs.declared.top.TopBy.{TopBy}
 use Rattle.cell_queries.specs.declared.top.Ranked.{Ranked}
 use Rattle.cell_queries.specs.Tops.{number_of, IsAhead, IsTop}
 use Rattle.cell_queries.specs.Heaps.{ranked, ranked_cmp, StandsAhead, FallBehind, Joins, StaysOut, Displaces, IsOffered}
-use Rattle.cell_queries.specs.Heaps.{Leads}
+use Rattle.cell_queries.specs.Heaps.{Leading, Leads, AreLed}
 
 -- what comparisons say
 pub not_before : (r s : Ranked) → is_lt (ranked_cmp s r) ≡ false → StandsAhead r s
@@ -196,6 +196,33 @@ module _ (by : TopBy) (most : ℕ) (done : List RowTally) (items after : List Ra
   leads_more (inl j) = leads_joined j
   leads_more (inr (inl s)) = leads_same s
   leads_more (inr (inr d)) = leads_displaced d
+
+pub led_more : (by : TopBy) (most : ℕ) (rows : List RowTally) (old : Leading) (items : List Ranked) (t : RowTally)
+    (r : Ranked) → AreLed by most rows old → r ≡ ranked old.by t → IsOffered old.most r old.items items →
+    AreLed by most (rows ++ t ∷ []) (record { by = old.by; most = old.most; items = items })
+led_more by most rows old items t r led is offered = record {
+  by_is = led.by_is;
+  most_is = led.most_is;
+  leads = leads_more by most rows old.items items t led.leads
+      (subst (λ n. IsOffered n (ranked by t) old.items items) led.most_is
+      (subst (λ (s : Ranked). IsOffered old.most s old.items items) (is ∙ ap (λ b. ranked b t) led.by_is) offered));
+}
+
+-- rows lead in whatever order they were offered
+pub led_in_any_order : (by : TopBy) (most : ℕ) (rows others : List RowTally) (l : Leading) → IsPermutation rows others →
+    AreLed by most rows l → AreLed by most others l
+led_in_any_order by most rows others l same led = record {
+  by_is = led.by_is;
+  most_is = led.most_is;
+  leads = record {
+    dropped = led.leads.dropped;
+    all = IsPermutation-trans (map (ranked by) others) (map (ranked by) rows) (l.items ++ led.leads.dropped)
+        (IsPermutation-sym (map (ranked by) rows) (map (ranked by) others)
+        (IsPermutation-map (ranked by) rows others same)) led.leads.all;
+    ahead = led.leads.ahead;
+    long = led.leads.long ∙ ap (min most) (sym (length_permutation rows others same));
+  };
+}
 
 -- each of the rows with its number
 abbrev IsRanked : TopBy → Ranked → Type 0

@@ -2,6 +2,7 @@
 --     ranked by t              a row with the number that it is compared by
 --     StandsAhead r s          r has the higher number, or the same and the lower row
 --     FallBehind rs            each stands ahead of the next
+--     AreLed by most rows l    l has the first `most` of the rows
 --     IsOffered most r rs ss   r was given its place among the first `most`, which were rs and are ss
 use Rattle.std.specs.Prelude.{ℕ, ◌≡◌, ◌<◌, ◌≤◌, ◌+◌, ◌⊎◌, List, ◌∷◌, ◌++◌, length, map, min, All, slice_index_or}
 use Rattle.std.specs.declared.cmp.Ordering.{Ordering}
@@ -55,3 +56,14 @@ pub record Leads (by : TopBy) (most : ℕ) (done : List RowTally) (items : List 
   pub all : IsPermutation (map (ranked by) done) (items ++ dropped)
   pub ahead : All (λ r. All (StandsAhead r) dropped) items
   pub long : length items ≡ min most (length done)
+
+-- what leads: by which number, how many at most, and the rows in their heap
+pub record Leading : Type 0 where
+  pub by : TopBy
+  pub most : ℕ
+  pub items : List Ranked
+
+pub record AreLed (by : TopBy) (most : ℕ) (rows : List RowTally) (l : Leading) : Type 0 where
+  pub by_is : l.by ≡ by
+  pub most_is : l.most ≡ most
+  pub leads : Leads by most rows l.items

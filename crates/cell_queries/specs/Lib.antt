@@ -4,3 +4,4 @@ pub mod Rows
 pub mod Tops
 pub mod Heaps
 pub mod Degrees
+pub mod Shards

@@ -1,11 +1,13 @@
 //! Laws of the rows of cells, and of those that lead.
-ghost use Rattle.std.specs.Prelude.{◌≡◌, ◌≤◌, ◌⊎◌, ℕ, T, List, All};
+ghost use Rattle.std.specs.Prelude.{◌≡◌, ◌≤◌, ◌⊎◌, ◌++◌, ℕ, T, Bool, true, false, List, All};
 ghost use Rattle.std.specs.List.{AllByRecursion, Contains};
-ghost use Rattle.std.specs.FinMap.{is_sorted};
-ghost use Rattle.hyper_rows.specs.Counts.{Place, place_cmp};
+ghost use Rattle.std.specs.List.Sorted.{IsPermutation};
+ghost use Rattle.std.specs.FinMap.{entries, is_sorted};
+ghost use Rattle.hyper_rows.specs.Counts.{Place, place_cmp, Counts, ewise_add};
 ghost use Rattle.cell_queries.specs.declared.tally.RowTally.{RowTally};
 ghost use Rattle.cell_queries.specs.declared.top.TopBy.{TopBy};
 ghost use Rattle.cell_queries.specs.Rows.{HasRow, IsRight, RowsRise};
+ghost use Rattle.cell_queries.specs.Shards.{LieBelow, LieInShard};
 ghost use Rattle.cell_queries.specs.Tallies.{tallies};
 ghost use Rattle.cell_queries.specs.Tops.{IsTop, number_of};
 
@@ -22,6 +24,20 @@ pub fn rows_tell_entries_and_totals()
 /// The row of each cell is one of them.
 pub fn every_row_is_told()
     ensures { (es : List (Place × ℕ)) → AllByRecursion (λ e. HasRow e.0.0 (tallies es)) es }
+{}
+
+/// Where a test tells the rows of two matrices apart, the rows of their sum are those of the one and of the other.
+pub fn rows_apart_join()
+    ensures { (p : ℕ → Bool) (a b : Counts) → AllByRecursion (λ t. p t.row ≡ true) (tallies (entries a)) →
+        AllByRecursion (λ t. p t.row ≡ false) (tallies (entries b)) →
+        IsPermutation (tallies (entries (ewise_add a b))) (tallies (entries a) ++ tallies (entries b)) }
+{}
+
+/// So are those of shards and of the next: the number of each row of the first leaves less than `s` when divided by
+/// `k`, that of each row of the second leaves `s`.
+pub fn rows_of_shards_join()
+    ensures { (s k : ℕ) (a b : Counts) → LieBelow s k (tallies (entries a)) → LieInShard s k (tallies (entries b)) →
+        IsPermutation (tallies (entries (ewise_add a b))) (tallies (entries a) ++ tallies (entries b)) }
 {}
 
 /// Each row of a top has at least the number of each that isn't in it.

@@ -15,11 +15,12 @@ mod top;
 
 pub use degrees::{Degree, degrees_of};
 pub use laws::{
-    every_row_is_told, rows_stand_once, rows_tell_entries_and_totals, tops_are_one,
-    tops_have_rows_alone, tops_lead, tops_leave_nothing_out,
+    every_row_is_told, rows_apart_join, rows_of_shards_join, rows_stand_once,
+    rows_tell_entries_and_totals, tops_are_one, tops_have_rows_alone, tops_lead,
+    tops_leave_nothing_out,
 };
 pub use listed::ListedCells;
 pub use range::{CellRange, RangePage, Span, range_of};
 pub use source::CellSource;
 pub use tally::RowTally;
-pub use top::{TopBy, top_of};
+pub use top::{Leaders, TopBy, top_of};

@@ -1,12 +1,15 @@
 //! The sum of what shards hold, as a view of each: it is never built, but gone through cell by cell.
-ghost use Rattle.std.specs.Prelude.{◌≡◌, IfOk};
+ghost use Rattle.std.specs.Prelude.{◌≡◌, IfOk, IfSome};
 ghost use Rattle.std.specs.FinMap.{entries};
+ghost use Rattle.cell_queries.specs.Tallies.{tallies};
+ghost use Rattle.cell_queries.specs.Tops.{IsTop};
 ghost use Rattle.cells.specs.Bounds.{IsDimension};
 ghost use Rattle.hyper_matrix.specs.Matrix.{matrix};
 ghost use Rattle.merged_cells.specs.Within.{LieWithin};
 ghost use Rattle.plain_engine.specs.Views.{Show, HaveSize, sights_content};
 
 use batch_store::{Setup, Shard, ShardView};
+use cell_queries::{Leaders, RowTally, TopBy, top_of};
 use cells::Cell;
 use hyper_matrix::Hyper;
 use merged_cells::{MergedCells, Sources};
@@ -80,6 +83,48 @@ impl ViewedSum {
             view.add_to(&mut sources)?;
         }
         Ok(sources.merged())
+    }
+
+    // The first `most` rows by this number, as `top`, where each view has the rows of the shard at its place alone.
+    fn top_of_shards(
+        &self,
+        alloc: Global,
+        by: TopBy,
+        most: usize,
+    ) -> Result<Option<Vec<RowTally>>, AllocError>
+        ensures { IfOk result (λ found. IfSome found (λ rows.
+            IsTop by most (tallies (entries self.now.counts)) rows.items)) }
+    {
+        let k = self.views.len() as u64;
+        let mut leaders = Leaders::new(alloc, by, most);
+        'views: for (s, view) in self.views.iter().enumerate() {
+            let mut sources = Sources::new(alloc);
+            view.add_to(&mut sources)?;
+            let mut cells = sources.merged();
+            if !leaders.offer_shard(&mut cells, s as u64, k)? {
+                return Ok(None);
+            }
+        }
+        Ok(Some(leaders.into_rows(alloc)?))
+    }
+
+    /// The first `most` rows that have an entry, or all, by this number: the highest first, and equal ones by row.
+    ///
+    /// A row lies in one shard, so the rows of one shard after the other are gone through: rows of several shards lie
+    /// between one another, and a merge of all would go from shard to shard at nearly each row. Views of other rows
+    /// are merged. It takes memory for the rows, and for some 100 bytes for each matrix of one view.
+    ///
+    /// # Errors
+    ///
+    /// A growth was refused, or the views' totals together pass 2^64 - 1.
+    pub fn top(&self, alloc: Global, by: TopBy, most: usize) -> Result<Vec<RowTally>, AllocError>
+        ensures { IfOk result (λ rows. IsTop by most (tallies (entries self.now.counts)) rows.items) }
+    {
+        if let Some(rows) = self.top_of_shards(alloc, by, most)? {
+            return Ok(rows);
+        }
+        let mut cells = self.cells(alloc)?;
+        top_of(alloc, &mut cells, by, most)
     }
 
     /// The matrix itself: a list of its cells is made on the way, of 24 bytes each.

@@ -7,3 +7,4 @@ mod loads;
 mod lookups;
 mod parts;
 mod puts;
+mod tops;

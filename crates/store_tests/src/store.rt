@@ -7,5 +7,5 @@ mod lists;
 mod queues;
 mod sealed;
 pub mod setups;
-mod shards;
+pub mod shards;
 pub mod views;

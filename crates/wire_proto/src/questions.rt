@@ -10,7 +10,7 @@ use crate::limits::MOST;
 use crate::long_replies::{cells_reply, rows_reply};
 use crate::replies::{Short, refused};
 use batch_store::Setup;
-use cell_queries::{CellRange, Span, TopBy, range_of, top_of};
+use cell_queries::{CellRange, Span, TopBy, range_of};
 use plain_engine::ViewedSum;
 use std::alloc::{AllocError, Global};
 use wire_frames::Request;
@@ -72,14 +72,13 @@ fn page_of_sum(
     cells_reply(alloc, &page)
 }
 
-/// The reply to a Top. It takes memory for the rows, for their bytes, and some 100 bytes for each matrix of the sum.
+/// The reply to a Top. It takes memory for the rows, for their bytes, and some 100 bytes for each matrix of one shard.
 fn top_of_sum(alloc: Global, sum: &ViewedSum, by: TopBy, most: u64) -> Result<Vec<u8>, AllocError>
     requires { most ≤ 1000000 }
     ensures bytes { IfOk result (λ reply. TellsTop by most sum.now reply.items) }
     ensures few { IfOk result (λ reply. length reply.items ≤ 2 ^ 27) }
 {
-    let mut cells = sum.cells(alloc)?;
-    let rows = top_of(alloc, &mut cells, by, most as usize)?;
+    let rows = sum.top(alloc, by, most as usize)?;
     rows_reply(alloc, &rows)
 }
 
