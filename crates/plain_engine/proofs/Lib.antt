@@ -12,3 +12,4 @@ pub mod LoadLaws
 mod WalkLaws
 pub mod FoldTogetherLaws
 pub mod RoundLaws
+pub mod BaseLaws

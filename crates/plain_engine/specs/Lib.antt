@@ -8,3 +8,4 @@ pub mod Puts
 pub mod Loads
 pub mod Folds
 pub mod Known
+pub mod Bases

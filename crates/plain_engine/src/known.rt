@@ -1,13 +1,13 @@
 //! An engine from parts of which it is known where they come from: `join_parts` without a look at a batch's cells, and
 //! where nothing was folded since without one at any.
-ghost use Rattle.std.specs.Prelude.{◌≡◌, ◌<◌, ◌↔◌, IfOk, IfErr, IsOk, IsTrue, false, true, length};
-ghost use Rattle.hyper_matrix.specs.Counts.{part};
+ghost use Rattle.std.specs.Prelude.{◌≡◌, ◌<◌, ◌≤◌, ◌↔◌, IfOk, IfErr, IsOk, IsTrue, false, true, length};
 ghost use Rattle.plain_engine.specs.Records.{Follows};
+ghost use Rattle.plain_engine.specs.Bases.{AreNumbered};
 ghost use Rattle.plain_engine.specs.Known.{IsFromBehind, AllFromBehind, AreBased};
 ghost use Rattle.plain_engine.specs.Standing.{standing, HaveSetup, AreTogether, Stand};
 
+use crate::bases::bases_follow;
 use crate::engine::PlainEngine;
-use crate::same::is_part;
 use batch_store::{Batch, Book, Setup, Shard};
 
 // Whether two batches have the same client and number.
@@ -46,14 +46,30 @@ fn known_follows(shard: &Shard, book: &Book, s: u64, k: u64) -> bool
     next == shard.record_len()
 }
 
-// Whether a shard's base is the book's cut to the rows of shard s of k. It is compared cell by cell where it is `rebased`,
-// and known else.
-fn base_follows(shard: &Shard, book: &Book, s: u64, k: u64, rebased: bool) -> bool
-    requires some { 0 < k }
-    requires based { rebased ≡ false → shard.now.base ≡ part book.now.state.base s k }
-    ensures { IsTrue result ↔ (shard.now.base ≡ part book.now.state.base s k) }
+// Whether each shard has its place for its number.
+fn are_numbered(shards: &[Shard]) -> bool
+    ensures { IsTrue result ↔ AreNumbered 0 shards.now }
 {
-    !rebased || is_part(shard.base(), book.base(), s, k)
+    let mut place = 0u64;
+    'shards: for shard in shards {
+        if shard.number() != place {
+            return false;
+        }
+        place += 1;
+    }
+    true
+}
+
+// Whether each shard's base is the book's cut to its rows. They are compared cell by cell where they are `rebased`, and
+// known else.
+fn are_based(shards: &[Shard], book: &Book, rebased: bool) -> bool
+    requires some { 0 < length shards.now }
+    requires few { length shards.now ≤ 64 }
+    requires numbered { AreNumbered 0 shards.now }
+    requires based { rebased ≡ false → AreBased book.now.state (length shards.now) shards.now }
+    ensures { IsTrue result ↔ AreBased book.now.state (length shards.now) shards.now }
+{
+    !rebased || bases_follow(shards, book)
 }
 
 /// An engine of a book and its shards, which were made with this setup, where each batch in a record is known to be the
@@ -94,6 +110,7 @@ pub fn join_known(
 
 // Whether each shard has its place for its number, and its base and its record follow the book.
 fn known_together(setup: &Setup, book: &Book, shards: &[Shard], rebased: bool) -> bool
+    requires count { length shards.now ≡ setup.now.shards }
     requires made { HaveSetup setup.now shards.now }
     requires based { rebased ≡ false → AreBased book.now.state setup.now.shards shards.now }
     requires known { AllFromBehind book.now.state.list shards.now }
@@ -101,18 +118,16 @@ fn known_together(setup: &Setup, book: &Book, shards: &[Shard], rebased: bool) -
     ensures exactly { IsTrue result ↔ AreTogether setup.now.shards book.now.state 0 shards.now }
 {
     let k = setup.shards();
-    let mut place = 0u64;
+    if !are_numbered(shards) {
+        return false;
+    }
+    if !are_based(shards, book, rebased) {
+        return false;
+    }
     'shards: for shard in shards {
-        if shard.number() != place {
+        if !known_follows(shard, book, shard.number(), k) {
             return false;
         }
-        if !base_follows(shard, book, place, k, rebased) {
-            return false;
-        }
-        if !known_follows(shard, book, place, k) {
-            return false;
-        }
-        place += 1;
     }
     true
 }

@@ -10,6 +10,7 @@
 //! of what they leave.
 #![tactic(auto)]
 
+mod bases;
 mod engine;
 mod export;
 mod fault;

@@ -1,10 +1,31 @@
 use Rattle.std.proofs.Common.{◌≡◌, ◌++◌, ◌∙◌, sym, subst, arith, ℕ}
 use Rattle.hyper_matrix.specs.Counts.{part}
+use Rattle.batch_store.specs.Parts.{concerned}
 use Rattle.plain_engine.specs.Records.{Follows}
 use Rattle.plain_engine.specs.Standing.{AreTogether}
+use Rattle.plain_engine.specs.Known.{AreBased}
 use Rattle.plain_engine.proofs.StandLaws.{stand_next, together_next}
 use Rattle.plain_engine.proofs.KnownLaws.{from_here, based_place}
+use Rattle.plain_engine.proofs.BaseLaws.{numbered_place, together_numbered, together_based}
 use Rattle.plain_engine.proofs.known.known_together.Goals as goal
+
+pub returns-then-not-are_numbered-clause-exactly : goal.returns-then-not-are_numbered-clause-exactly
+returns-then-not-are_numbered-clause-exactly c = (
+  λ h. absurd cc,
+  λ all. sym c.if-not-are_numbered.true ∙ c.are_numbered.ensures.1 (together_numbered c.args.setup.now.shards
+      c.args.book.now.state 0 c.args.shards.now all),
+)
+
+pub returns-then-not-are_based-clause-exactly : goal.returns-then-not-are_based-clause-exactly
+returns-then-not-are_based-clause-exactly c = (
+  λ h. absurd cc,
+  λ all.
+      let a = c.args.book.now.state in
+      let xs = c.args.shards.now in
+      let based = together_based c.args.setup.now.shards a 0 xs all in
+      sym c.if-not-are_based.true
+      ∙ c.are_based.ensures.1 (subst (λ (k : ℕ). AreBased a k xs) (sym c.requires.count) based),
+)
 
 -- the record of the shard at this place is from the book
 pub known_follows-requires-clause-known : goal.known_follows-requires-clause-known
@@ -16,17 +37,6 @@ known_follows-requires-clause-known c =
           c.shards-test.true c.shard-item.is,
     )
 
--- where nothing was folded since, its base is known to be its part
-pub base_follows-requires-clause-based : goal.base_follows-requires-clause-based
-base_follows-requires-clause-based c = λ kept.
-    let v = c.args.setup.now in
-    let a = c.args.book.now.state in
-    let x = c.shard-item.result in
-    let number : x.number ≡ c.shards.place = omega (arith, c.number.ensures.value, c.if-number-place.false) in
-    based_place a v.shards c.args.shards.now c.shards.shard-index x (c.requires.based kept) c.shards-test.true
-    c.shard-item.is
-    ∙ (λ j. part a.base (number j) (sym c.shards-k.ensures.value j))
-
 pub shards-preserved : goal.shards-preserved
 shards-preserved c =
     let v = c.args.setup.now in
@@ -35,16 +45,18 @@ shards-preserved c =
     let x = c.shard-item.result in
     let i = c.shards.shard-index in
     let inv = c.shards.invariant in
-    let number : x.number ≡ i = omega (arith, c.number.ensures.value, c.if-number-place.false, inv.at) in
-    let told : Follows c.shards.place c.shards-k.result x.record_list a.list =
-    c.known_follows.ensures.0 c.if-not-known_follows.false in
+    let numbered = c.are_numbered.ensures.0 c.if-not-are_numbered.false in
+    let number : x.number ≡ i =
+    omega (arith, numbered_place 0 xs i x numbered c.shards-test.true c.shard-item.is) in
+    let all : AreBased a v.shards xs = subst (λ (k : ℕ). AreBased a k xs) c.requires.count
+    (c.are_based.ensures.0 c.if-not-are_based.false) in
+    let based : x.base ≡ part a.base i v.shards = based_place a v.shards xs i x all c.shards-test.true c.shard-item.is
+    ∙ (λ j. part a.base (number j) v.shards) in
+    let place : c.number.result ≡ i = c.number.ensures.value ∙ number in
+    let told = c.known_follows.ensures.0 c.if-not-known_follows.false in
     let follows : Follows i v.shards x.record_list a.list =
-    subst (λ (n : ℕ). Follows n v.shards x.record_list a.list) inv.at
-    (subst (λ (k : ℕ). Follows c.shards.place k x.record_list a.list) c.shards-k.ensures.value told) in
-    let based : x.base ≡ part a.base i v.shards = c.base_follows.ensures.0 c.if-not-base_follows.false
-    ∙ (λ j. part a.base (inv.at j) (c.shards-k.ensures.value j)) in
+    told ∙ (λ j. concerned (place j) (c.shards-k.ensures.value j) a.list) in
     record {
-      at = omega (arith, inv.at);
       stand = stand_next v a xs i x c.shards-test.true c.shard-item.is number based follows c.requires.made
           c.number.ensures.kept inv.stand;
       rest = together_next v a xs i x c.shards-test.true c.shard-item.is number based follows
