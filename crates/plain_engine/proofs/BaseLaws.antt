@@ -1,6 +1,6 @@
 -- The bases of shards beside the whole base that they are parts of.
-use Rattle.std.proofs.Common.{◌≡◌, ℕ, zero, suc, ◌+◌, ◌<◌, ◌≤◌, ◌%◌, ◌↔◌, Bool, true, false, cond, eqb, not, ◌&&◌}
-use Rattle.std.proofs.Common.{List, [], ◌∷◌, length, get_or, set, map, take, refl, sym, ◌∙◌, ap, arith}
+use Rattle.std.proofs.Common.{◌≡◌, ℕ, zero, suc, ◌+◌, ◌<◌, ◌%◌, ◌↔◌, Bool, true, false, cond, eqb, not, ◌&&◌}
+use Rattle.std.proofs.Common.{List, [], ◌∷◌, length, get_or, set, take, sym, ◌∙◌, ap, arith}
 use Rattle.std.proofs.lemmas.Bool.{and_parts, eq-eqb, eqb-true, ne_eqb, not-false}
 use Rattle.std.specs.FinMap.{entries}
 use Rattle.hyper_matrix.specs.Counts.{Place, part}

@@ -1,5 +1,4 @@
 use Rattle.std.proofs.Common.{◌≡◌, ◌∙◌, ◌%◌, ◌∷◌, [], sym, ap, subst, arith, length}
-use Rattle.std.proofs.lemmas.List.{length-set}
 use Rattle.hyper_rows.specs.Cells.{entry_of}
 use Rattle.hyper_rows.specs.Parts.{part_entries}
 use Rattle.plain_engine.specs.Bases.{AreParts}
@@ -14,7 +13,7 @@ returns-then-ne c = (
       let e = entry_of c.in-Some.cell in
       let all = subst (AreParts 0 k c.cells.left) c.in-Some.ensures.steps (c.cells.invariant.rest.0 parts) in
       let first = parts_first k e c.next.new.self 0 c.shard_of.result c.cells.left c.index-left-shard_of.result
-      (omega (arith, c.shard_of.ensures)) (omega (arith, c.cells.invariant.count, c.shard_of.ensures, c.requires)) all in
+      (omega (arith, c.shard_of.ensures)) (omega (arith, c.cells.auto.left, c.shard_of.ensures, c.requires)) all in
       absurd (cells_differ c.in-Some-next.other c.in-Some.cell (sym c.ne.ensures ∙ c.if-ne.true)
       (heads (sym c.in-Some-next.ensures.steps ∙ first))),
 )
@@ -28,13 +27,12 @@ cells-preserved c =
     let inv = c.cells.invariant in
     let same = cells_agree c.in-Some-next.other c.in-Some.cell (sym c.ne.ensures ∙ c.if-ne.false) in
     let next = parts_next k e c.next.new.self 0 j left c.index-left-shard_of.result c.next-in-cells.new.self
-    (omega (arith, c.shard_of.ensures)) (omega (arith, inv.count, c.shard_of.ensures, c.requires))
+    (omega (arith, c.shard_of.ensures)) (omega (arith, c.cells.auto.left, c.shard_of.ensures, c.requires))
     (c.in-Some-next.ensures.steps ∙ ap (λ x. x ∷ c.next-in-cells.new.self) same) in
     let here = c.in-Some.ensures.steps in
     record {
       can = tt;
       finite = tt;
-      count = length-set left j c.next-in-cells.new.self ∙ inv.count;
       rest = (
         λ parts. next.0 (subst (AreParts 0 k left) here (inv.rest.0 parts)),
         λ parts. inv.rest.1 (subst (AreParts 0 k left) (sym here) (next.1 parts)),
@@ -49,7 +47,7 @@ returns-in-None-next c = (
       let e = entry_of c.in-Some.cell in
       let all = subst (AreParts 0 k c.cells.left) c.in-Some.ensures.steps (c.cells.invariant.rest.0 parts) in
       let first = parts_first k e c.next.new.self 0 c.shard_of.result c.cells.left c.index-left-shard_of.result
-      (omega (arith, c.shard_of.ensures)) (omega (arith, c.cells.invariant.count, c.shard_of.ensures, c.requires)) all in
+      (omega (arith, c.shard_of.ensures)) (omega (arith, c.cells.auto.left, c.shard_of.ensures, c.requires)) all in
       let none : e ∷ part_entries (e.0.0 % k) k c.next.new.self ≡ [] = sym first ∙ c.in-None-next.ensures.steps.0 in
       absurd cc,
 )
