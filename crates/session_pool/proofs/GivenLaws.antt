@@ -1,5 +1,5 @@
 -- What a keeper over a seat gives.
-use Rattle.std.proofs.Common.{◌≡◌, ◌%◌, ℕ, List, length, Option, Some, None, refl, sym, subst}
+use Rattle.std.proofs.Common.{◌≡◌, ◌≤◌, ◌%◌, ℕ, List, length, Option, Some, None, refl, sym, subst}
 use Rattle.std.specs.Prelude.{IfSome, IfOk, Result, Ok, Err, String, string_bytes}
 use mathlib.Core.List.{IsPrefix}
 use Rattle.std.specs.FinMap.{get}
@@ -11,7 +11,7 @@ use Rattle.batch_store.specs.Books.{AreAccepted}
 use Rattle.batch_store.specs.Shards.{Holding}
 use Rattle.locked_engine.specs.Moments.{IsShardOf}
 use Rattle.locked_engine.specs.Opened.{SharePast}
-use Rattle.wire_proto.specs.Keeping.{cell, save, stats}
+use Rattle.wire_proto.specs.Keeping.{cell, save, stats, fold}
 use Rattle.wire_proto.specs.Telling.{telling}
 use Rattle.wire_proto.specs.declared.figures.Figure.{Figure}
 use Rattle.std.specs.declared.alloc.AllocError.{AllocError}
@@ -19,7 +19,7 @@ use Rattle.plain_engine.specs.declared.status.Status.{Status}
 use Rattle.locked_engine.specs.Versions.{version_status}
 use Rattle.wire_proto.specs.declared.keeper.SaveRefusal.{SaveRefusal}
 use Rattle.session_pool.specs.Saves.{IsSaved}
-use Rattle.session_pool.specs.Seats.{Sight, SeatGives}
+use Rattle.session_pool.specs.Seats.{Sight, Grows, SeatGives}
 
 module _ (v : Setting) (opened : Accepted) (saved : Accepted → Type 0) (synced : List Entry → Type 0)
     (failed full : Type 0) where
@@ -67,6 +67,24 @@ module _ (v : Setting) (opened : Accepted) (saved : Accepted → Type 0) (synced
     h.2,
     h.3,
     h.4,
+  )
+
+  -- a Fold shows the seat the entries of a list, of which at least as many are folded as the seat had been shown
+  pub gives_folded : (s t : Sight) (folded : ℕ) → Grows s.known t.known → t.seat.number ≡ s.seat.number →
+      IsPrefix s.seat.seen t.seat.seen → t.seat.first ≡ s.seat.first →
+      (a : Accepted) × AreAccepted v a × (entries_in a ≡ t.seat.seen) × SharePast a opened
+      × (folded ≡ length a.folded) → length s.seat.seen ≤ folded →
+      SeatGives v opened saved synced failed full s (fold (Ok folded)) t
+  gives_folded s t folded grows number later first h shown = (
+    grows,
+    (number, later),
+    first,
+    h.0,
+    h.1,
+    h.2,
+    h.3,
+    h.4,
+    shown,
   )
 
   pub gives_untold : (s t : Sight) (e : AllocError) → t.known ≡ s.known → t.seat.number ≡ s.seat.number →

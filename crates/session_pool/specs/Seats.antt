@@ -154,7 +154,7 @@ SeatGives v opened saved synced failed full s (stats (Err lack)) t =
     (t.known ≡ s.known) × LooksOn s.seat t.seat × (t.seat.first ≡ s.seat.first)
 SeatGives v opened saved synced failed full s (fold (Ok folded)) t =
     Grows s.known t.known × LooksOn s.seat t.seat × (t.seat.first ≡ s.seat.first) × (a : Accepted) × AreAccepted v a ×
-    (entries_in a ≡ t.seat.seen) × SharePast a opened × (folded ≡ length a.folded)
+    (entries_in a ≡ t.seat.seen) × SharePast a opened × (folded ≡ length a.folded) × (length s.seat.seen ≤ folded)
 SeatGives v opened saved synced failed full s (fold (Err no_fold.Memory)) t =
     Grows s.known t.known × LooksOn s.seat t.seat × (t.seat.first ≡ s.seat.first)
 SeatGives v opened saved synced failed full s (fold (Err no_fold.LogFailed)) t =
