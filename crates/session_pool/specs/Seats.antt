@@ -113,8 +113,8 @@ IsStored v synced a seen (Some known) =
 -- seat as it is; where it had failed, the batch may be accepted all the same. A cell, a row and the parts of an export
 -- are what a shard of the row's number showed under its lock at a moment of the call, over its part of the base that
 -- the engine was opened with and of batches that were folded since; they leave the seat as it is. What is known as
--- durable only grows by a Fold, which is told as failed where a log has answered that, and else answers that at least
--- as many are folded as the seat had been shown before.
+-- durable only grows by a Fold. It answers a number where it has folded, at least as many batches as the seat had been
+-- shown before; it is told as failed where a log has answered that, and nothing is said of one that is told as Memory.
 abbrev pub SeatGives : Setting → Accepted → (Accepted → Type 0) → (List Entry → Type 0) → Type 0 → Type 0 → Sight →
     Event → Sight → Type 0
 SeatGives v opened saved synced failed full s (put batch (Ok kept)) t =

@@ -170,6 +170,32 @@ fn bind_path<R: Host + Net, W: Sink>(
     Ok((watched, waker, own))
 }
 
+// The same where a path is given.
+fn bind_given_path<R: Host + Net, W: Sink>(
+    rt: &R,
+    alloc: Global,
+    path: Option<String>,
+    out: &mut W,
+    written: &mut u128,
+) -> Result<
+    (
+        Option<WatchedListener<UnixListener>>,
+        Option<Waker>,
+        Option<OwnPath>,
+    ),
+    ServerFault,
+>
+    requires { W.failure_count out.old + 1 < 2 ^ 64 }
+    ensures failures { OnOk result (W.failure_count out.new ≡ W.failure_count out.old) }
+    ensures met { IfErr result IsMetServing }
+{
+    let Some(path) = path else {
+        return Ok((None, None, None));
+    };
+    let (watched, waker, own) = bind_path(rt, alloc, path, out, written)?;
+    Ok((Some(watched), Some(waker), Some(own)))
+}
+
 // The listener and the waker, apart.
 fn parted<L>(
     made: Option<(WatchedListener<L>, Waker)>,
@@ -205,13 +231,7 @@ pub fn bind_listeners<R: Host + Net<Listener = TcpListener, Stream = TcpStream>,
         counters,
     } = places;
     let (tcp, tcp_waker) = parted(bind_tcp(rt, alloc, tcp, out, written)?);
-    let (unix, unix_waker, own) = match unix {
-        Some(path) => {
-            let (watched, waker, own) = bind_path(rt, alloc, path, out, written)?;
-            (Some(watched), Some(waker), Some(own))
-        }
-        None => (None, None, None),
-    };
+    let (unix, unix_waker, own) = bind_given_path(rt, alloc, unix, out, written)?;
     let shared = Shared {
         gate: StopGate::new(
             tcp_waker,
