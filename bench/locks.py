@@ -2,7 +2,7 @@
 """Measures how long the locks of `hhm serve` are held while batches are put.
 
     python3 bench/locks.py PATH-TO-HHM [--cells N] [--batches "1000 100000"] [--stream powerlaw|uniform]
-                                       [--connections W]
+                                       [--connections W] [--fold-above CELLS]
 
 It generates a stream, cuts it into frames as bench/serve.py does, and puts them over W connections, one on the way on
 each, while bpftrace (Debian's package of that name; run as root) takes the times at which some functions of the program
@@ -16,6 +16,7 @@ milliseconds of all calls together:
     ask        the book's lock, from the wait for it on: the verdict, the book's entries
     admit      the book's lock, from the wait for it on: the acceptance, its reply, what readers are shown
     put_from   from the wait for the first shard's lock to the return of the last: with all waits between
+    seal       all locks at once, from the wait for the first one on: what the next fold is made of is put aside
 
 Linux, and nothing but Python's own library beside bpftrace.
 """
@@ -40,6 +41,7 @@ CALLS = {
     "ask": "locked_engine::engine::Engine::ask",
     "admit": "locked_engine::engine::Engine::admit",
     "put_from": "locked_engine::engine::Engine::put_from",
+    "seal": "locked_engine::engine::Engine::begin_fold",
 }
 
 
@@ -86,6 +88,7 @@ def main():
     parser.add_argument("--batches", default="1000 100000")
     parser.add_argument("--stream", default="powerlaw")
     parser.add_argument("--connections", type=int, default=2)
+    parser.add_argument("--fold-above", default="4194304")
     arguments = parser.parse_args()
     names = symbols(arguments.hhm)
     if len(names) < len(CALLS):
@@ -96,6 +99,7 @@ def main():
         command = [generator, arguments.stream, str(arguments.cells)]
         lines = subprocess.run(command, stdout=subprocess.PIPE, check=True).stdout.splitlines(keepends=True)[2:]
     (_, server), = commands(arguments.hhm, None, arguments.connections)
+    server = [*server, "--fold-above", arguments.fold_above]
     for batch in map(int, arguments.batches.split()):
         frames = cut(lines, batch)
         seconds, times = traced(server, frames, arguments.connections, probes(arguments.hhm, names))

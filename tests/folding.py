@@ -1,14 +1,14 @@
 #!/usr/bin/env python3
 """Starts the built program so that it folds what was accepted while it serves, and compares all that it answers.
 
-    python3 tests/folding.py PATH-TO-HHM [--measure CELLS [RATE]]
+    python3 tests/folding.py PATH-TO-HHM [--measure CELLS [RATE [PLACES]]]
 
 Each server with a low `--fold-above` is fed, asked, saved, killed, stopped and started again. What is wanted is what a
 plain dictionary says of the same batches: folding changes no answer. That a server has folded is seen in its snapshot,
 which tells how many batches are folded, and in its stats. Others fold where a client asks for it: alone, beside puts,
 saves and other folds, with a log and without. With `--measure` nothing is compared: so many cells, of which few are
-distinct, go to a server that folds and to one that doesn't, as fast as they are taken or RATE cells a second, and the
-memory, the time, the longest wait and the processor time of each are printed.
+distinct (400,000, or PLACES), go to a server that folds and to one that doesn't, as fast as they are taken (RATE 0) or
+RATE cells a second, and the memory, the time, the longest wait and the processor time of each are printed.
 
 It prints a line for each check that fails and at the end `N passed, M failed`; the status is 1 where one fails. Linux,
 and nothing but Python's own library, the client of clients/python and the server of tests/server.py.
@@ -32,7 +32,7 @@ ROWS, COLS = 400, 50
 SIZE = ["--rows", str(ROWS), "--cols", str(COLS), "--cuts", "64,4096", "--shards", "3"]
 BATCHES, CELLS = 200, 100
 ROUNDS = 12
-# What a measured stream has: cells in a batch, and places that are distinct.
+# What a measured stream has: cells in a batch, and, where nothing else is said, places that are distinct.
 BATCH, PLACES = 10_000, 400_000
 
 
@@ -297,10 +297,10 @@ def kills_lose_nothing(logged):
         check(f"{name}, life {life}: places", wrong, {})
 
 
-def frames_of(cells):
-    """Frames of a stream whose places are few."""
+def frames_of(cells, count):
+    """Frames of a stream that has so many places."""
     draw = random.Random(cells)
-    places = [(draw.randrange(1 << 32), draw.randrange(1 << 32)) for _ in range(PLACES)]
+    places = [(draw.randrange(1 << 32), draw.randrange(1 << 32)) for _ in range(count)]
     for number in range(cells // BATCH):
         yield put_cells_frame(number % 2, number, [(*place, 1) for place in draw.choices(places, k=BATCH)])
 
@@ -362,10 +362,11 @@ def main():
     servers.PROGRAM = os.path.abspath(sys.argv[1])
     with tempfile.TemporaryDirectory() as servers.FOLDER:
         if "--measure" in sys.argv:
-            cells, *rate = map(int, sys.argv[sys.argv.index("--measure") + 1 :])
-            frames = list(frames_of(cells))
+            cells, *more = map(int, sys.argv[sys.argv.index("--measure") + 1 :])
+            rate, places = (*more, *(0, PLACES)[len(more) :])
+            frames = list(frames_of(cells, places))
             for above in [0, 1_000_000, 4_194_304]:
-                measured(f"fold above {above}", ["--fold-above", str(above)], frames, *rate or [0])
+                measured(f"fold above {above}", ["--fold-above", str(above)], frames, rate)
             return 0
         numbers_are_refused()
         answers_are_as_without("never-folded", ["--fold-above", "0"], logged=False)

@@ -5,7 +5,7 @@
 #
 # PREFIX is ~/.local, or /usr/local for root, where it is left out. Before anything is installed, hhm is built:
 #
-#     (by default)      with all its proofs, in half an hour to an hour where nothing is proved yet
+#     (by default)      with all its proofs, in one to two hours where nothing is proved yet
 #     --unproved        without them, in some two minutes: about as fast, but nothing is proved of it, and it checks
 #                       nothing while it runs
 #     --program FILE    not at all: FILE is an hhm that was built before, as crates/hhm/out/hhm
@@ -69,7 +69,7 @@ mkdir -p "$root/bin" || fail "can't write below $root"
 
 case $how in
     proved)
-        echo "Building hhm with all its proofs: half an hour to an hour, where nothing was proved here before."
+        echo "Building hhm with all its proofs: one to two hours, where nothing was proved here before."
         (cd "$top/crates/hhm" && rt run -- --version >/dev/null) || fail "hhm wasn't proved, and nothing is installed"
         program=$top/crates/hhm/out/hhm
         ;;
