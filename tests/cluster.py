@@ -14,6 +14,7 @@ import signal
 import struct
 import subprocess
 import sys
+import threading
 
 import cluster_clients
 import mirrors
@@ -24,7 +25,7 @@ from server import check
 sys.path.insert(0, os.path.join(os.path.dirname(os.path.abspath(__file__)), "..", "clients", "python"))
 from hhm_client import Arrays, Refused, RowSum  # noqa: E402
 from hhm_cluster import (  # noqa: E402
-    MARKER, Cluster, Full, Half, OtherMap, WentBack, cut, marker_of, merged, place_of_row,
+    MARKER, Cluster, Full, Half, OtherMap, Several, WentBack, cut, marker_of, merged, place_of_row,
 )
 from hosts import SIZE, Feeder, Hosts, added, batch, sum_in, until  # noqa: E402
 from peers import Liar  # noqa: E402
@@ -345,7 +346,8 @@ def ring(*_):
 
 
 def interrupted_calls_are_made_again():
-    """A call that waits for a server is left by a signal, and made again: each batch counts once."""
+    """A call that waits for a server is left by a signal, and made again while that server still doesn't answer: each
+    batch counts once."""
     signal.signal(signal.SIGALRM, ring)
     try:
         for place in range(2):
@@ -360,11 +362,65 @@ def interrupted_calls_are_made_again():
                     pass
                 finally:
                     signal.setitimer(signal.ITIMER_REAL, 0)
-                    hosts[place].process.send_signal(signal.SIGCONT)
+                    threading.Timer(0.2, hosts[place].process.send_signal, [signal.SIGCONT]).start()
                 check(f"rang at {place}: again", len(hhm.put(2, ones(range(8)))), 2)
                 check(f"rang at {place}: once", (hhm.status(), hhm.cell(3, 0)), ((2, 16), 2))
     finally:
         signal.signal(signal.SIGALRM, signal.SIG_DFL)
+
+
+class Slow:
+    """What is asked as a server, which answers once `gate` is set, and before that has the main thread interrupted."""
+
+    def __init__(self, place, gate):
+        self.place, self.gate, self.events = place, gate, []
+
+    def ask(self):
+        self.events.append("begins")
+        if not self.gate.is_set():
+            signal.pthread_kill(threading.main_thread().ident, signal.SIGINT)
+        self.gate.wait()
+        self.events.append("ends")
+        return self.place
+
+    def close(self):
+        self.events.append("is closed")
+
+
+def ask_all(hhm):
+    return hhm._ask(hhm.parts, Slow.ask)
+
+
+def ask_after_a_fork(hhm):
+    """Asks all in a process that is made meanwhile, which waits for none of this one's threads."""
+    child = os.fork()
+    if not child:
+        try:
+            hhm.parts[1].gate.set()
+            os._exit(0 if ask_all(hhm) == [0, 1] else 1)
+        finally:
+            os._exit(1)
+    check("asked after a fork", os.waitpid(child, 0)[1], 0)
+    ask_all(hhm)
+
+
+def one_call_comes_after_the_other():
+    """A call, and a close, begins with no server that an interrupted one still asks."""
+    before = signal.signal(signal.SIGINT, signal.default_int_handler)
+    for then, wanted in [(ask_all, ["begins", "ends"]), (ask_after_a_fork, ["begins", "ends"]),
+                         (Several.close, ["is closed"])]:
+        gate, is_open = threading.Event(), threading.Event()
+        is_open.set()
+        hhm = Several([Slow(0, is_open), Slow(1, gate)])
+        try:
+            ask_all(hhm)
+            check("interrupted", False, True)
+        except KeyboardInterrupt:
+            pass
+        threading.Timer(0.1, gate.set).start()
+        then(hhm)
+        check(f"one after the other, then {wanted[0]}", hhm.parts[1].events, ["begins", "ends", *wanted])
+    signal.signal(signal.SIGINT, before)
 
 
 def all_are_tried():
@@ -383,6 +439,7 @@ def all_are_tried():
     a_refused_marker_is_told()
     a_half_batch_is_told()
     a_used_number_is_told_by_an_empty_part()
+    one_call_comes_after_the_other()
     interrupted_calls_are_made_again()
     hours_are_summed()
     mirrors.all_are_tried()

@@ -32,6 +32,7 @@ import queue
 import struct
 import sys
 import threading
+from concurrent.futures import Future
 from typing import Any, Callable, Dict, Iterable, Iterator, List, NamedTuple, Optional, Sequence, Tuple, Union
 
 from hhm_client import (
@@ -275,14 +276,17 @@ class Several:
 
     def __init__(self, parts: List[Part]):
         self.parts = parts
-        self._threads: List[threading.Thread] = []
+        # One for each thread that asks a part, until it is known to have ended. (After an exception of a signal's
+        # handler in the midst of it, `Thread.join` tells threads that still run as ended, up to Python 3.12.)
+        self._asked: List["Future[None]"] = []
+        self._process = os.getpid()
 
     def __exit__(self, *_) -> None:
         self.close()
 
     def close(self) -> None:
         """Lets all connections go. What was accepted stays accepted."""
-        self._wait()
+        self._end_interrupted()
         for part in self.parts:
             part.close()
 
@@ -303,7 +307,7 @@ class Several:
     def _at_once(self, parts: List[Part], call: Callable[[Part], Any], then: Callable[[], Any] = int) -> Outcome:
         """Makes a call of several parts at once, that of the first in this thread; `then` is called behind that one,
         however it ends."""
-        self._wait()
+        self._end_interrupted()
         outcome = Outcome()
 
         def run(part: Part) -> None:
@@ -312,22 +316,33 @@ class Several:
             except Exception as fault:
                 outcome.faults[part.place] = fault
 
+        def run_aside(part: Part, asked: "Future[None]") -> None:
+            if asked.set_running_or_notify_cancel():
+                try:
+                    run(part)
+                finally:
+                    asked.set_result(None)
+
         try:
             for part in parts[1:]:
-                thread = threading.Thread(target=run, args=(part,), daemon=True)
-                thread.start()
-                self._threads.append(thread)
+                self._asked.append(Future())
+                threading.Thread(target=run_aside, args=(part, self._asked[-1]), daemon=True).start()
             run(parts[0])
         finally:
             then()
-            self._wait()
+        for asked in self._asked:
+            asked.result()
+        self._asked = []
         return outcome
 
-    def _wait(self) -> None:
-        """Waits for the parts that are still asked: those of a call that was interrupted, too."""
-        while self._threads:
-            self._threads[-1].join()
-            self._threads.pop()
+    def _end_interrupted(self) -> None:
+        """Waits for the parts that a call which was interrupted still asks; those that it hasn't begun to ask it never
+        will. What another process asked before a fork stays there."""
+        if self._process == os.getpid():
+            for asked in self._asked:
+                if not asked.cancel():
+                    asked.result()
+        self._asked, self._process = [], os.getpid()
 
 
 class Cluster(Several):
