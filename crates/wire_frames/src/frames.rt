@@ -69,8 +69,7 @@ fn open(kind: u8, mut body: Bytes) -> Request
 {
     match kind {
         1 => {
-            let client = body.get_u64();
-            let number = body.get_u64();
+            let (client, number) = get_pair(&mut body);
             Request::Put {
                 client,
                 number,
@@ -78,8 +77,7 @@ fn open(kind: u8, mut body: Bytes) -> Request
             }
         }
         2 => {
-            let row = body.get_u64();
-            let col = body.get_u64();
+            let (row, col) = get_pair(&mut body);
             Request::Cell { row, col }
         }
         3 => Request::Row {
@@ -90,8 +88,7 @@ fn open(kind: u8, mut body: Bytes) -> Request
         6 => Request::Save,
         7 => Request::Stop,
         8 => {
-            let client = body.get_u64();
-            let number = body.get_u64();
+            let (client, number) = get_pair(&mut body);
             Request::PutCells {
                 client,
                 number,

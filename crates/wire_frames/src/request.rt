@@ -150,6 +150,15 @@ fn push_pair(out: &mut Vec<u8>, pair: (u64, u64)) -> Result<(), AllocError>
     push_number(out, pair.1)
 }
 
+/// Appends what a batch is told apart by, and what it is.
+fn push_batch(out: &mut Vec<u8>, client: u64, batch: u64, content: &Bytes) -> Result<(), AllocError>
+    ensures { OnOk result (out.new.items ≡ out.old.items ++ number client ++ number batch ++ content.now) }
+{
+    push_pair(out, (client, batch))?;
+    out.extend_from_slice(content.as_slice())?;
+    Ok(())
+}
+
 /// Appends the body.
 fn push_body(out: &mut Vec<u8>, request: &Request) -> Result<(), AllocError>
     ensures { OnOk result (out.new.items ≡ out.old.items ++ body_of request.now) }
@@ -159,27 +168,13 @@ fn push_body(out: &mut Vec<u8>, request: &Request) -> Result<(), AllocError>
             client,
             number,
             text,
-        } => {
-            push_number(out, *client)?;
-            push_number(out, *number)?;
-            out.extend_from_slice(text.as_slice())?;
-            Ok(())
-        }
+        } => push_batch(out, *client, *number, text),
         Request::PutCells {
             client,
             number,
             cells,
-        } => {
-            push_number(out, *client)?;
-            push_number(out, *number)?;
-            out.extend_from_slice(cells.as_slice())?;
-            Ok(())
-        }
-        Request::Cell { row, col } => {
-            push_number(out, *row)?;
-            push_number(out, *col)?;
-            Ok(())
-        }
+        } => push_batch(out, *client, *number, cells),
+        Request::Cell { row, col } => push_pair(out, (*row, *col)),
         Request::Row { row } => push_number(out, *row),
         Request::Range {
             rows,
