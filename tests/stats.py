@@ -72,6 +72,12 @@ def told(link):
     return dict(lines_of(link))
 
 
+def numbers_until(link, names, wanted):
+    """What these names have, once that is what is wanted or it was waited long for: a reply to another connection is
+    counted when it was written, and so may be read before."""
+    return until(lambda: [told(link)[name] for name in names], wanted)
+
+
 def with_labels(name, key, values):
     return [f'{name}{{{key}="{value}"}}' for value in values]
 
@@ -199,8 +205,8 @@ def bad_frames_are_counted():
             check(f"bad {bad.hex()}", at.talk([bad])[:5], struct.pack(">IB", 10, 0xFF))
         with at.link() as link:
             found = told(link)
-        counts = [found[f'refused_total{{code="{code}"}}'] for code in (50, 51, 52)]
-        check("bad frames", counts, ["1", "1", "2"])
+            names = [f'refused_total{{code="{code}"}}' for code in (50, 51, 52)]
+            check("bad frames", numbers_until(link, names, ["1", "1", "2"]), ["1", "1", "2"])
         # (their header says of which kind they were)
         kinds = [found[f'frames_total{{kind="{kind}"}}'] for kind in ("put", "status", "stats")]
         check("their kinds", kinds, ["1", "1", "2"])
@@ -242,13 +248,13 @@ def saves_are_told():
             except Refused as why:
                 check("a save that fails", why.name, "SaveFailed")
             os.rename(aside, folder)
-            found = told(link)
             names = ("saves_total", "failed_saves_total", "saved_batches", 'refused_total{code="42"}')
-            check("a failed save", [found[name] for name in names], ["1", "1", "1", "1"])
+            check("a failed save", numbers_until(link, names, ["1", "1", "1", "1"]), ["1", "1", "1", "1"])
+            found = told(link)
             time.sleep(1.1)
             hhm.save()
+            check("another save", numbers_until(link, names, ["2", "1", "2", "1"]), ["2", "1", "2", "1"])
             later = told(link)
-            check("another save", [later[name] for name in names], ["2", "1", "2", "1"])
             check("a younger one", float(later["save_age_seconds"]) < float(found["save_age_seconds"]) + 1, True)
             check("the time goes on", float(later["uptime_seconds"]) > float(found["uptime_seconds"]) + 1, True)
         at.stop("saves", 2, 11)
