@@ -15,6 +15,7 @@ import struct
 import subprocess
 import sys
 import threading
+import time
 
 import cluster_clients
 import mirrors
@@ -27,7 +28,7 @@ from hhm_client import Arrays, Refused, RowSum  # noqa: E402
 from hhm_cluster import (  # noqa: E402
     MARKER, Cluster, Full, Half, OtherMap, Several, WentBack, cut, marker_of, merged, place_of_row,
 )
-from hosts import SIZE, Feeder, Hosts, added, batch, sum_in, until  # noqa: E402
+from hosts import SIZE, WAIT, Feeder, Hosts, added, batch, sum_in, until  # noqa: E402
 from peers import Liar  # noqa: E402
 
 WAYS = ("source", "rows")
@@ -370,18 +371,28 @@ def interrupted_calls_are_made_again():
 
 
 class Slow:
-    """What is asked as a server, which answers once `gate` is set, and before that has the main thread interrupted."""
+    """What is asked as a server. Where it doesn't answer at once it has the main thread interrupted, and answers once it
+    is given up."""
 
-    def __init__(self, place, gate):
-        self.place, self.gate, self.events = place, gate, []
+    def __init__(self, place, is_slow):
+        self.place, self.events, self.may_go_on = place, [], threading.Event()
+        if not is_slow:
+            self.may_go_on.set()
 
     def ask(self):
         self.events.append("begins")
-        if not self.gate.is_set():
+        if not self.may_go_on.is_set():
             signal.pthread_kill(threading.main_thread().ident, signal.SIGINT)
-        self.gate.wait()
+        self.may_go_on.wait()
         self.events.append("ends")
         return self.place
+
+    def give_up(self):
+        self.events.append("is given up")
+        self.may_go_on.set()
+
+    def begin_again(self):
+        self.events.append("begins again")
 
     def close(self):
         self.events.append("is closed")
@@ -396,8 +407,8 @@ def ask_after_a_fork(hhm):
     child = os.fork()
     if not child:
         try:
-            hhm.parts[1].gate.set()
-            os._exit(0 if ask_all(hhm) == [0, 1] else 1)
+            hhm.parts[1].may_go_on.set()
+            os._exit(0 if ask_all(hhm) == [0, 1] and "is given up" not in hhm.parts[1].events else 1)
         finally:
             os._exit(1)
     check("asked after a fork", os.waitpid(child, 0)[1], 0)
@@ -409,18 +420,43 @@ def one_call_comes_after_the_other():
     before = signal.signal(signal.SIGINT, signal.default_int_handler)
     for then, wanted in [(ask_all, ["begins", "ends"]), (ask_after_a_fork, ["begins", "ends"]),
                          (Several.close, ["is closed"])]:
-        gate, is_open = threading.Event(), threading.Event()
-        is_open.set()
-        hhm = Several([Slow(0, is_open), Slow(1, gate)])
+        hhm = Several([Slow(0, False), Slow(1, True)])
         try:
             ask_all(hhm)
             check("interrupted", False, True)
         except KeyboardInterrupt:
             pass
-        threading.Timer(0.1, gate.set).start()
         then(hhm)
-        check(f"one after the other, then {wanted[0]}", hhm.parts[1].events, ["begins", "ends", *wanted])
+        check(f"one after the other, then {wanted[0]}", hhm.parts[1].events,
+              ["begins", "is given up", "ends", "begins again", *wanted])
     signal.signal(signal.SIGINT, before)
+
+
+def an_interrupted_call_ends_soon():
+    """One that waits for a server which answers nothing: at what was sent, between two attempts, or at a greeting."""
+    for place, is_there, is_known in [(0, True, True), (1, True, True), (1, True, False), (1, False, True)]:
+        name = f"ends soon {place} {is_there} {is_known}"
+        with Hosts(name, 2) as hosts:
+            hhm = hosts.cluster(1, by="rows", pause=WAIT, timeout=WAIT)
+            hhm.put(1, ones(range(8)))
+            if is_there:
+                hosts[place].hold()
+            else:
+                hosts[place].kill()
+            if not is_known:
+                hhm.parts[place].close()
+            begun = time.monotonic()
+            signal.signal(signal.SIGALRM, ring)
+            signal.setitimer(signal.ITIMER_REAL, 0.5)
+            try:
+                hhm.put(2, ones(range(8)))
+                check(f"{name}: a call that waits", False, True)
+            except Rang:
+                pass
+            signal.signal(signal.SIGALRM, signal.SIG_DFL)
+            hhm.close()
+            check(f"{name}: in time", time.monotonic() - begun < WAIT / 2, True)
+            hosts[place].process.send_signal(signal.SIGCONT)
 
 
 def all_are_tried():
@@ -440,6 +476,7 @@ def all_are_tried():
     a_half_batch_is_told()
     a_used_number_is_told_by_an_empty_part()
     one_call_comes_after_the_other()
+    an_interrupted_call_ends_soon()
     interrupted_calls_are_made_again()
     hours_are_summed()
     mirrors.all_are_tried()

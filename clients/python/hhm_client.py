@@ -421,6 +421,11 @@ class Link:
         """Lets the connection go. One that another process made too stays open for that one."""
         self._socket.close()
 
+    def end(self) -> None:
+        """Ends the connection, for another thread that waits at it too."""
+        with contextlib.suppress(OSError):
+            self._socket.shutdown(socket.SHUT_RDWR)
+
     def send(self, frame: bytes) -> None:
         """Sends a request. Replies that come meanwhile are read, since a server reads nothing while it can't write.
         That it closed the connection is found out when its last reply was read."""
@@ -815,9 +820,13 @@ class Client:
         pause = self.pause
         for attempt in range(self.attempts):
             if attempt:
-                time.sleep(pause)
+                self._rest(pause)
                 pause = min(2 * pause, 10)
             yield attempt
+
+    def _rest(self, seconds: float) -> None:
+        """Waits between two attempts."""
+        time.sleep(seconds)
 
     def _send_ahead(self, frames: List[bytes], connects: bool = False) -> None:
         """Sends the last of these requests, whose replies are read later, where there is a connection to send it over,

@@ -19,6 +19,7 @@ refuses is put nowhere, and is a `Refused`; what another refuses is in the sum i
 is no half of a batch. Until its put has come back, readers may see a part of a batch.
 
 A fault of a connection is an `OSError`, as a `Client` has it; the same call may be made again, with the same numbers.
+So may one that was interrupted, as by Ctrl-C: what it still asks is given up before the next one, or before the end.
 Where servers began again without what they had accepted, that is a `WentBack`. Who puts a batch keeps it, or can make
 it again, until each server with a part of it has made it durable: one with a log by its answer, one without by a save
 after it.
@@ -222,21 +223,51 @@ def address_in(path: str) -> Callable[[], str]:
     return address
 
 
+class GivenUp(Exception):
+    """What a call that was given up ends with, in the thread that made it."""
+
+
 class Part(Client):
     """The client of one of several servers, which puts the map's marker, where there is a map, over each new connection
-    before anything else."""
+    before anything else. Another thread can give up the call that one makes."""
 
     def __init__(self, server: Place, place: int, marker: Optional[int] = None, **how: Any):
         super().__init__(unix="", **how)
         self.server, self.place, self.marker = server, place, marker
+        self._is_given_up = threading.Event()
+        # The connection that was made last, whether anything came over it yet or not.
+        self._newest: Optional[Link] = None
+
+    def give_up(self) -> None:
+        """Has a call that another thread makes end soon: by a fault at its connection, at the end of a pause, or once
+        a connection that it makes is there or isn't to be had."""
+        self._is_given_up.set()
+        newest = self._newest
+        if newest is not None:
+            newest.end()
+
+    def begin_again(self) -> None:
+        """Once a call that was given up has ended: others can be made."""
+        self._is_given_up.clear()
+
+    def _judge_given_up(self) -> None:
+        if self._is_given_up.is_set():
+            raise GivenUp
+
+    def _rest(self, seconds: float) -> None:
+        self._is_given_up.wait(seconds)
 
     def _linked(self) -> Link:
+        self._judge_given_up()
         if self._link is None or self._link.process != os.getpid():
             address = self.server() if callable(self.server) else self.server
             self.tcp, self.unix = (None, address) if "/" in address else (address, None)
         return super()._linked()
 
     def _greet(self, link: Link) -> None:
+        # (in this order, since `give_up` does the two in the other one)
+        self._newest = link
+        self._judge_given_up()
         if self.marker is not None:
             self._put_marker(link, self.marker)
         super()._greet(link)
@@ -276,9 +307,9 @@ class Several:
 
     def __init__(self, parts: List[Part]):
         self.parts = parts
-        # One for each thread that asks a part, until it is known to have ended. (After an exception of a signal's
-        # handler in the midst of it, `Thread.join` tells threads that still run as ended, up to Python 3.12.)
-        self._asked: List["Future[None]"] = []
+        # The parts that threads ask, until these are known to have ended. (After an exception of a signal's handler in
+        # the midst of it, `Thread.join` tells threads that still run as ended, up to Python 3.12.)
+        self._asked: List[Tuple[Part, "Future[None]"]] = []
         self._process = os.getpid()
 
     def __exit__(self, *_) -> None:
@@ -325,23 +356,29 @@ class Several:
 
         try:
             for part in parts[1:]:
-                self._asked.append(Future())
-                threading.Thread(target=run_aside, args=(part, self._asked[-1]), daemon=True).start()
+                asked: "Future[None]" = Future()
+                self._asked.append((part, asked))
+                threading.Thread(target=run_aside, args=(part, asked), daemon=True).start()
             run(parts[0])
         finally:
             then()
-        for asked in self._asked:
+        for _, asked in self._asked:
             asked.result()
         self._asked = []
         return outcome
 
     def _end_interrupted(self) -> None:
-        """Waits for the parts that a call which was interrupted still asks; those that it hasn't begun to ask it never
-        will. What another process asked before a fork stays there."""
+        """Gives up what a call that was interrupted still asks, and waits for the threads that do. What another process
+        asked before a fork stays there."""
         if self._process == os.getpid():
-            for asked in self._asked:
-                if not asked.cancel():
-                    asked.result()
+            # (those that haven't begun never will)
+            begun = [(part, asked) for part, asked in self._asked if not asked.cancel()]
+            for part, asked in begun:
+                if not asked.done():
+                    part.give_up()
+            for part, asked in begun:
+                asked.result()
+                part.begin_again()
         self._asked, self._process = [], os.getpid()
 
 
