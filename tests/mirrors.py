@@ -13,6 +13,8 @@ CLIENTS = os.path.join(HERE, "..", "clients", "python")
 from hhm_mirror import Mirror  # noqa: E402 (server.py has put the client's folder on the path)
 from hosts import Hosts, added, batch, sum_in, until  # noqa: E402
 from peers import Gate, fault_of  # noqa: E402
+from program import snapshot  # noqa: E402
+from server_faults import write  # noqa: E402
 
 WAIT = 60
 
@@ -117,7 +119,8 @@ def mirrors_that_differ_are_told():
         with Hosts("differ new", 1) as new:
             lines = [f"FOLDED (1, {number}): B lacks it, and A has its cells no more" for number in range(1, 6)]
             lines += ["batches 5 lacked 5 put 0 not compared 0", ""]
-            check("differ: B lacks what is folded", brought_up(a, new[0]), ("\n".join(lines), "", 1))
+            why = "nothing was put: A has folded what B lacks, so B must begin from a copy of A's file\n"
+            check("differ: B lacks what is folded", brought_up(a, new[0]), ("\n".join(lines), why, 1))
             check("differ: nothing is put", new.books(), [(0, 0)])
         check("differ: no snapshot", script("hhm_mirror.py", "/nowhere", snap(b), b.tcp)[::2], ("", 4))
 
@@ -177,6 +180,12 @@ def relays_count_once():
         relays_are_refused(edges[0], root)
 
 
+def gained(before, more):
+    """The cells by which a sum of batches grows, with their counts."""
+    old, new = added(*before), added(*before, *more)
+    return {place: count - old.get(place, 0) for place, count in new.items() if count != old.get(place)}
+
+
 def relay_line(cells, first, end):
     return f"batches {first} to {end}: cells {len(cells)} parts {-(-len(cells) // 100)}\n"
 
@@ -225,7 +234,9 @@ def relays_are_refused(edge, root):
     shutil.copy(snap(edge), whole)
     hhm("fold", snap(edge))
     edge.start()
-    check("relay: folded", relay(edge, root, 0)[1:], ("FOLDED: batch (10, 19) was folded before it was shipped\n", 1))
+    line = relay_line(gained([batch(10, number) for number in range(19)], [batch(10, 19)]), 19, 20)
+    output, *ended = relay(edge, root, 0)
+    check("relay: folded", (output.splitlines(True)[-1:], *ended), ([line], "", 0))
     edge.kill()
     shutil.copy(old, snap(edge))
     edge.start()
@@ -234,8 +245,61 @@ def relays_are_refused(edge, root):
     check("relay: diverged", relay(edge, root, 0)[1:], (told, 1))
 
 
+def an_edge_that_folds_is_shipped():
+    """An edge that folds of itself, and where it is asked to, between the steps: the root has its sum after each."""
+    with Hosts("folds", 1, more=["--fold-above", "60"]) as (edge,), Hosts("root of folds", 1) as (root,):
+        shipped = 0
+        for end in [3, 4, 9, 10, 11, 20, 33]:
+            put_from(edge, 10, shipped, end)
+            if end % 2:
+                with edge.client() as link:
+                    check(f"folds: {end}", link.fold(), end)
+            output, error, status = relay(edge, root, 0, *(["--drop"] if end in (4, 11) else []))
+            check(f"folds: step to {end}", (f"batches {shipped} to {end}: " in output, error, status), (True, "", 0))
+            wanted = added(*(batch(10, number) for number in range(end)))
+            check(f"folds: the root's sum at {end}", sums([root]) == [wanted], True)
+            if end == 20:
+                root.restart()
+            shipped = end
+
+
+def steps_between_sums():
+    """What a step ships of two files where the second has folded batches of it, and what it is told where such a file
+    counts less than the one before: it isn't kept then."""
+    one, two, three = (7, 1, 2, 5), (7, 2, 2, 1), (8, 1, [(0, 1, 3), (2, 2, 0)])
+    more = [one, two, (8, 1, 2, 3), (8, 2, 1, 7), (9, 1, 1, 2)]
+    less = "DIVERGED: the edge counts less at {} than was shipped\n"
+    with Hosts("sums", 1) as (root,):
+        path, lines, wanted = root.base + ".edge", "", {}
+        for name, held, line, gain, fault in [
+            ("folded before the first step", snapshot([], 5, past=([one], [(0, 0, 5), (2, 2, 0)])),
+             "batches 0 to 1: cells 2 parts 1\n", {(0, 0): 5, (2, 2): 0}, ""),
+            ("folded in part", snapshot([three], 9, past=([one, two], [(0, 0, 6), (1, 1, 0), (2, 2, 0)])),
+             "batches 1 to 3: cells 3 parts 1\n", {(0, 0): 1, (1, 1): 0, (0, 1): 3}, ""),
+            ("not folded",
+             snapshot([three, (8, 2, [(0, 0, 7)])], 16, past=([one, two], [(0, 0, 6), (1, 1, 0), (2, 2, 0)])),
+             "batches 3 to 4: cells 1 parts 1\n", {(0, 0): 7}, ""),
+            ("a count that is less",
+             snapshot([], 18, past=(more, [(0, 0, 12), (0, 1, 3), (0, 2, 3), (1, 1, 0), (2, 2, 0)])),
+             "", {}, less.format((0, 0))),
+            ("a cell that is gone", snapshot([], 18, past=(more, [(0, 0, 13), (0, 1, 3), (0, 2, 2), (2, 2, 0)])),
+             "", {}, less.format((1, 1))),
+            ("as it should be", snapshot([], 18, past=(more, [(0, 0, 13), (0, 1, 3), (0, 2, 2), (1, 1, 0), (2, 2, 0)])),
+             "batches 4 to 5: cells 1 parts 1\n", {(0, 2): 2}, ""),
+        ]:
+            write(path, held)
+            lines += line
+            told = ("", fault, 1) if fault else (lines, "", 0)
+            check(f"sums, {name}", script("hhm_relay.py", "-", path, root.base + ".spool", root.tcp, 5), told)
+            for place, count in gain.items():
+                wanted[place] = wanted.get(place, 0) + count
+            check(f"sums, {name}: the root", sums([root]), [wanted])
+
+
 def all_are_tried():
     mirrors_are_brought_up()
     mirrors_that_differ_are_told()
     a_mirror_needs_both()
     relays_count_once()
+    an_edge_that_folds_is_shipped()
+    steps_between_sums()

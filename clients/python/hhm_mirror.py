@@ -14,9 +14,11 @@ Save both servers first (`hhmc save`), so that the files have what the servers h
 meanwhile. It puts each batch of A that B lacks, in A's order and under its own numbers, and tells
 - CONFLICT: both have the pair, with another number of cells or another total; a server would answer NumberReused;
 - SILENT: both have the pair, with as many cells and the same total, and other cells: no server can tell that;
-- FOLDED: B lacks the batch, and A has its cells no more. Nothing is put then: begin B anew from a copy of A's file.
+- FOLDED: B lacks the batch, and A has its cells no more. Nothing is put then: run it the other way, so that A has what
+  B has, save A, stop B, and start it from a copy of A's file, with no log or snapshot of its own.
 Its status is 1 where it told one of these or a server refused, 2 for bad words, and 4 where something can't be read or
-reached. Run it the other way too where both were put to alone. Fold a snapshot only once the mirror has all of it.
+reached. Run it the other way too where both were put to alone. A server folds of itself once it has more cells that
+aren't folded than its `--fold-above` says: give both 0, or more than may come while one is away.
 """
 import argparse
 import itertools
@@ -168,6 +170,8 @@ def mirror(given: argparse.Namespace) -> int:
         lines = lines + refused
     for line in lines:
         print(line)
+    if found.is_folded:
+        print("nothing was put: A has folded what B lacks, so B must begin from a copy of A's file", file=sys.stderr)
     print(f"batches {len(a.batches)} lacked {len(found.lacks)} put {put} not compared {found.uncompared}")
     return 1 if lines else 0
 

@@ -9,20 +9,24 @@ large batches. Run it by a timer on the edge's machine, one at a time:
 1. The edge saves, and its snapshot is copied into the folder SPOOL, as B.snap, B being its number of batches.
 2. Of each two files of SPOOL that follow each other, the batches that the second has more than the first are summed,
    and put to the root in parts of 1,000,000 cells (`--part`), under the client HOST: part j behind batch B has the
-   number B * 2^20 + j. A file that is there is never made anew, so what is put again is the same.
+   number B * 2^20 + j. A file that is there is never made anew, so what is put again is the same. Where the edge has
+   folded one of these batches, the two files' sums are compared, which goes over all of their cells.
 3. With `--drop` the root saves, and all files of SPOOL but the newest go.
 
 HOST is a number of this edge alone, for as long as its book and SPOOL live: a new book is a new edge, with an empty
 folder. The part's size belongs to SPOOL, where it is kept. Killed at any place it is run again with the same words. The
 edge may be fed, killed and started again meanwhile, and its clients go by the rules of docs/CLUSTER.md. Its book is
-never emptied between two runs, or a batch that is sent again would count twice. To fold it, stop it, run this with `-`
-for its address, so that it is asked for no save, and then fold.
+never emptied between two runs, or a batch that is sent again would count twice. With `-` for its address an edge that is
+stopped is asked for no save.
 
 The status is 1 for a refusal of the root, and for what needs a person: DIVERGED, where the edge lacks what was shipped
-(it is to begin again from the newest file of SPOOL), and FOLDED, where batches were folded before they were shipped. 2
-are bad words, and 4 is what can't be read, written or reached.
+(it is to begin again from the newest file of SPOOL). 2 are bad words, and 4 is what can't be read, written or reached.
 """
 import argparse
+import collections
+import heapq
+import itertools
+import operator
 import os
 import shutil
 import struct
@@ -37,6 +41,8 @@ from hhm_snapshot import Batch, Snapshot  # noqa: E402
 PART = 1_000_000
 # The most parts of one step, and what a batch's place is multiplied by: a book has at most 1,000,000 batches.
 PARTS = 1 << 20
+# A cell of a sum: its row and column, and its count.
+Sum = Tuple[Tuple[int, int], int]
 
 
 class Spool:
@@ -78,7 +84,9 @@ class Spool:
             os.fsync(file.fileno())
         taken, counts = checked(self.program, copy), self.counts()
         if counts:
-            judge_front(self.snapshot(counts[-1]), taken)
+            newest = self.snapshot(counts[-1])
+            judge_front(newest, taken)
+            judge_sum(newest, taken)
         if len(taken.batches) in counts:
             os.remove(copy)
         else:
@@ -114,15 +122,59 @@ def judge_front(old: Snapshot, new: Snapshot) -> None:
             raise Ended(1, f"DIVERGED: the edge lacks batch {at}, {batch.pair()}, which was shipped")
 
 
-def added(batches: List[Batch]) -> List[Tuple[Tuple[int, int], int]]:
-    """The sum of batches, its cells in order."""
+def added(batches: List[Batch]) -> List[Sum]:
+    """The sum of batches that aren't folded, its cells in order."""
     sums: Dict[Tuple[int, int], int] = {}
     for batch in batches:
-        if batch.cells is None:
-            raise Ended(1, f"FOLDED: batch {batch.pair()} was folded before it was shipped")
-        for row, col, count in struct.iter_unpack(">QQQ", batch.cells):
+        for row, col, count in struct.iter_unpack(">QQQ", batch.cells or b""):
             sums[row, col] = sums.get((row, col), 0) + count
     return sorted(sums.items())
+
+
+def summed(snapshot: Snapshot) -> Iterator[Sum]:
+    """The cells of a snapshot's sum, in order."""
+    folded = (((row, col), count) for row, col, count in struct.iter_unpack(">QQQ", snapshot.base))
+    others = added(snapshot.batches)
+    if not others:
+        yield from folded
+        return
+    for place, same in itertools.groupby(heapq.merge(folded, others), key=operator.itemgetter(0)):
+        yield place, sum(count for _, count in same)
+
+
+def gained(before: Snapshot, now: Snapshot) -> Iterator[Sum]:
+    """The cells that the sum of a snapshot has and that of an older one hasn't, and how much it has more of others."""
+    olds = summed(before)
+    old = next(olds, None)
+    for place, count in summed(now):
+        if old is None or place < old[0]:
+            yield place, count
+            continue
+        if place > old[0] or count < old[1]:
+            break
+        if count > old[1]:
+            yield place, count - old[1]
+        old = next(olds, None)
+    if old is not None:
+        raise Ended(1, f"DIVERGED: the edge counts less at {old[0]} than was shipped")
+
+
+def has_folded_since(before: Snapshot, now: Snapshot) -> bool:
+    """Whether a snapshot has folded batches that an older one hasn't."""
+    return any(batch.cells is None for batch in now.batches[len(before.batches) :])
+
+
+def judge_sum(before: Snapshot, now: Snapshot) -> None:
+    """Ends where a snapshot counts less than an older one, as far as a step needs their sums."""
+    if has_folded_since(before, now):
+        collections.deque(gained(before, now), maxlen=0)
+
+
+def since(before: Snapshot, now: Snapshot) -> List[Sum]:
+    """The sum of the batches that a snapshot has more than an older one."""
+    if has_folded_since(before, now):
+        return list(gained(before, now))
+    return added(now.batches[len(before.batches) :])
 
 
 def steps(spool: Spool, host: int, size: int) -> Iterator[Tuple[str, List[Tuple[int, bytes]]]]:
@@ -130,23 +182,23 @@ def steps(spool: Spool, host: int, size: int) -> Iterator[Tuple[str, List[Tuple[
     first, *others = spool.counts()
     before = spool.snapshot(first)
     if not spool.is_dropped():
-        yield step(before.batches, 0, host, size)
+        yield step(before._replace(batches=[], base=before.base[:0]), before, host, size)
     for count in others:
         now = spool.snapshot(count)
         judge_front(before, now)
-        yield step(now.batches, len(before.batches), host, size)
+        yield step(before, now, host, size)
         before = now
 
 
-def step(batches: List[Batch], first: int, host: int, size: int) -> Tuple[str, List[Tuple[int, bytes]]]:
-    """The step of all batches from the place `first` on."""
-    cells, frames = added(batches[first:]), []
+def step(before: Snapshot, now: Snapshot, host: int, size: int) -> Tuple[str, List[Tuple[int, bytes]]]:
+    """The step from one snapshot to the next."""
+    first, cells, frames = len(before.batches), since(before, now), []
     for part, begin in enumerate(range(0, len(cells), size)):
         body = b"".join(struct.pack(">QQQ", *at, count) for at, count in cells[begin : begin + size])
         frames.append((first * PARTS + part, request(PUT_CELLS, host, first * PARTS + part, body=body)))
     if len(frames) > PARTS:
         raise ValueError(f"{len(frames)} parts: at most {PARTS} have numbers")
-    return f"batches {first} to {len(batches)}: cells {len(cells)} parts {len(frames)}", frames
+    return f"batches {first} to {len(now.batches)}: cells {len(cells)} parts {len(frames)}", frames
 
 
 def ship(spool: Spool, root: Client, size: int) -> None:

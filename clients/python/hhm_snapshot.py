@@ -26,11 +26,13 @@ class Batch(NamedTuple):
 
 
 class Snapshot(NamedTuple):
-    """The numbers of rows and columns, and the batches in order of acceptance."""
+    """The numbers of rows and columns, the batches in order of acceptance, and the cells of the sum of those that are
+    folded, which are the first of them."""
 
     rows: int
     cols: int
     batches: List[Batch]
+    base: memoryview
 
 
 class Fields:
@@ -74,12 +76,13 @@ def parsed(file: Fields) -> Snapshot:
     file.bytes(8 * cuts + 1)
     _, _, unfolded, _ = file.take("QQQQ")
     file.bytes(check)
-    batches = []
+    batches, base = [], file.bytes(0)
     if version > 1:
         (folded,) = file.take("Q")
         batches = [Batch(*file.take("QQQQ"), None) for _ in range(folded)]
-        (base,) = file.take("Q")
-        file.bytes(24 * base + check)
+        (entries,) = file.take("Q")
+        base = file.bytes(24 * entries)
+        file.bytes(check)
     for _ in range(unfolded):
         client, number, entries = file.take("QQQ")
         cells = file.bytes(24 * entries)
@@ -87,4 +90,4 @@ def parsed(file: Fields) -> Snapshot:
         batches.append(Batch(client, number, entries, total_of(cells), cells))
     if file.at != len(file.data):
         raise ValueError(f"{file.path}: {len(file.data) - file.at} bytes too many")
-    return Snapshot(rows, cols, batches)
+    return Snapshot(rows, cols, batches, base)
