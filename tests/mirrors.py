@@ -171,7 +171,7 @@ def relays_count_once():
         check("relay: the sum", sums([root]) == [wanted], True)
         check("relay: drops", relay(edges[0], root, 0, "--drop")[1:], ("", 0))
         files = sorted(os.listdir(edges[0].base + ".spool"))
-        check("relay: the newest file stays", files, ["0000015.snap", "dropped", "part"])
+        check("relay: the newest file stays", files, ["0000015.snap", "dropped", "lock", "part"])
         put_from(edges[0], 10, 15, 17)
         line = relay_line(added(batch(10, 15), batch(10, 16)), 15, 17)
         check("relay: a step behind it", relay(edges[0], root, 0), (line, "", 0))
@@ -211,6 +211,8 @@ def a_relay_is_killed(edge, root):
         given = [sys.executable, os.path.join(CLIENTS, "hhm_relay.py"), *words, "--program", server.PROGRAM]
         with subprocess.Popen(given, stdout=subprocess.DEVNULL, stderr=subprocess.DEVNULL) as process:
             check("relay: it is amid a step", gate.is_full.wait(WAIT), True)
+            check("relay: one at a time", relay(edge, root, 0),
+                  ("", f"failed: {edge.base}.spool: another run has it\n", 4))
             process.kill()
     with root.client() as link:
         amid = until(lambda: link.status().batches - before)

@@ -4,7 +4,7 @@
     hhm_relay.py EDGE_ADDRESS EDGE_SNAPSHOT SPOOL ROOT_ADDRESS HOST
 
 Many sources put to a server beside them, the edge, and what it has since the last time goes to a root server as few
-large batches. Run it by a timer on the edge's machine, one at a time:
+large batches. Run it by a timer on the edge's machine; a run that begins beside another one of its SPOOL ends at once:
 
 1. The edge saves, and its snapshot is copied into the folder SPOOL, as B.snap, B being its number of batches.
 2. Of each two files of SPOOL that follow each other, the batches that the second has more than the first are summed,
@@ -24,6 +24,7 @@ The status is 1 for a refusal of the root, and for what needs a person: DIVERGED
 """
 import argparse
 import collections
+import fcntl
 import heapq
 import itertools
 import operator
@@ -51,6 +52,12 @@ class Spool:
     def __init__(self, path: str, program: str):
         os.makedirs(path, exist_ok=True)
         self.path, self.program = path, program
+        # Held for as long as this process lives: another one would write the same copy.
+        self._lock = open(os.path.join(path, "lock"), "w")
+        try:
+            fcntl.flock(self._lock, fcntl.LOCK_EX | fcntl.LOCK_NB)
+        except BlockingIOError:
+            raise ValueError(f"{path}: another run has it") from None
 
     def counts(self) -> List[int]:
         return sorted(int(name[:-5]) for name in os.listdir(self.path) if name.endswith(".snap"))
