@@ -8,7 +8,7 @@
 # that they connect (`address_in` of hhm_cluster.py): Slurm begins it again wherever there is room. RUN is on a file
 # system that all nodes have. The lock of RUN/I.snap.lock keeps a second server away where one lives on, on a node that
 # is cut off: that one is told Busy, and is requeued. On a file system without locks use a path of its own for each start
-# (RUN/I.$SLURM_RESTART_COUNT) and hhm_mirror.py.
+# (RUN/I.$SLURM_RESTART_COUNT), `--fold-above 0` and hhm_mirror.py.
 #
 # A minute before the time limit, and at `scancel --batch --signal=USR1 JOB`, the server saves and stops, and the task has
 # ended well. A plain scancel leaves no time for that: what was accepted is in the log all the same.
