@@ -376,9 +376,10 @@ class Several:
             for part, asked in begun:
                 if not asked.done():
                     part.give_up()
-            for part, asked in begun:
+            for _, asked in begun:
                 asked.result()
-                part.begin_again()
+        for part, _ in self._asked:
+            part.begin_again()
         self._asked, self._process = [], os.getpid()
 
 

@@ -15,7 +15,7 @@ meanwhile. It puts each batch of A that B lacks, in A's order and under its own 
 - CONFLICT: both have the pair, with another number of cells or another total; a server would answer NumberReused;
 - SILENT: both have the pair, with as many cells and the same total, and other cells: no server can tell that;
 - FOLDED: B lacks the batch, and A has its cells no more. Nothing is put then: run it the other way, so that A has what
-  B has, save A, stop B, and start it from a copy of A's file, with no log or snapshot of its own.
+  B has, save A, stop B, start it from a copy of A's file, with no log or snapshot of its own, and bring it up once more.
 Its status is 1 where it told one of these or a server refused, 2 for bad words, and 4 where something can't be read or
 reached. Run it the other way too where both were put to alone. A server folds of itself once it has more cells that
 aren't folded than its `--fold-above` says: give both 0, or more than may come while one is away.
