@@ -1,8 +1,9 @@
 #!/usr/bin/env python3
 """Tries wrong bodies that the prover must refuse: the edits crates/NAME/attacks/*.edit, which are no part of the gate.
 
-Run it anywhere in the repository: tests/attacks.py [--all] [NAME..]. It takes the named crates, or each that has edits;
-with --all those of must-fail/ too, which the gate tries as well. An edit has the form that `rt must-fail` reads.
+Run it anywhere in the repository: tests/attacks.py [--all] [--note] [NAME..]. It takes the named crates, or each that
+has edits; with --all those of must-fail/ too, which the gate tries as well. An edit has the form that `rt must-fail`
+reads. With --note, tests/attack_times.txt gets the processor time of each crate's edits.
 
 A crate is checked first as it stands. Then the edits are tried in a copy of it, over the work that checks have kept,
 many in one check: a function is proved by what its callees promise, so a wrong body of one leaves the others as they
@@ -12,8 +13,10 @@ read, that isn't a body (its types don't fit, or it breaks a rule of borrows), o
 file names what it took away; and so does one whose function is still proved. The last line is `N passed, M failed`, and
 the status 0 exactly where nothing failed. The environment's RT, if set, is run in place of `rt`.
 """
+import fcntl
 import os
 import re
+import resource
 import shutil
 import subprocess
 import sys
@@ -24,6 +27,7 @@ from pathlib import Path
 TOP = Path(__file__).resolve().parent.parent
 RT = os.environ.get("RT", "rt")
 SOURCES = ("src", "specs", "proofs")
+TIMES = TOP / "tests" / "attack_times.txt"
 FUNCTION = re.compile(r"^( *)(?:pub(?:\([\w:]+\))? )?(?:const )?(?:unsafe )?fn (\w+)")
 IMPL = re.compile(r"^impl\b(?:<[^{]*?>)?\s+(?:(\w+)(?:<.*?>)? for )?[&']*(\w+)")
 # What a proof file says where an edit took away a name that it cites: that alone says little of the contract.
@@ -296,6 +300,28 @@ def try_together(edits, folder, crate, tell):
     return passed, failed, rest
 
 
+def processor_seconds():
+    used = resource.getrusage(resource.RUSAGE_CHILDREN)
+    return used.ru_utime + used.ru_stime
+
+
+def times():
+    """Returns the processor seconds that each crate's edits took when they were last noted."""
+    lines = [it for it in TIMES.read_text(encoding="utf-8").splitlines() if not it.startswith("#")]
+    return {name: int(seconds) for name, seconds in map(str.split, lines)}
+
+
+def note(taken):
+    """Notes the processor seconds of some crates' edits beside those of the others."""
+    with open(TIMES, "r+", encoding="utf-8") as file:
+        fcntl.flock(file, fcntl.LOCK_EX)
+        head = [it for it in file if it.startswith("#")]
+        rows = sorted({**times(), **taken}.items())
+        file.seek(0)
+        file.writelines([*head, *(f"{name} {seconds:.0f}\n" for name, seconds in rows)])
+        file.truncate()
+
+
 def attack(crate, with_gate, tell):
     """Tries a crate's edits, and returns how many passed and how many failed."""
     edits, failed = load(crate, with_gate, tell)
@@ -317,15 +343,20 @@ def attack(crate, with_gate, tell):
 
 
 def main(words):
-    with_gate = "--all" in words
-    names = [it for it in words if it != "--all"]
+    with_gate, is_noted = "--all" in words, "--note" in words
+    names = [it for it in words if it not in ("--all", "--note")]
     lines = lines_of_list()
     if unknown := [it for it in names if it not in lines]:
         print(f"attacks: {unknown[0]} is no crate of crates.txt", file=sys.stderr)
         return 2
     tell = lambda text: print(text, flush=True)
-    results = [attack(it, with_gate, tell) for it in lines if not names or it in names]
-    passed, failed = sum(it[0] for it in results), sum(it[1] for it in results)
+    passed = failed = 0
+    for crate in [it for it in lines if not names or it in names]:
+        before = processor_seconds()
+        well, ill = attack(crate, with_gate, tell)
+        passed, failed = passed + well, failed + ill
+        if is_noted and well + ill:
+            note({crate: processor_seconds() - before})
     print(f"{passed} passed, {failed} failed")
     return 1 if failed else 0
 

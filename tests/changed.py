@@ -17,20 +17,14 @@ import time
 from pathlib import Path
 
 sys.dont_write_bytecode = True
-from attacks import RT, SOURCES, TOP, copy_parts, crates_below, lines_of_list
+from attacks import RT, SOURCES, TOP, copy_parts, crates_below, lines_of_list, times
+from suite import LAST_LINE, OF_GROWTHS, OF_HHM
 
-HHM_TESTS = (
-    "program.py", "questions.py", "exports.py", "log_check.py", "clients.py", "asking.py", "stats.py", "loading.py",
-    "packages.py", "cluster.py", "bridges.py", "pictures.py", "analysis.py", "watching.py", "server.py", "generated.py",
-    "folding.py", "server_faults.py", "server_log.py", "server_log_faults.py", "log_events.py", "log_torture.py",
-    "server_paths.py", "server_ends.py", "progress.py", "server_clients.py", "install.py", "refused.py",
-)  # fmt: skip
 # Of each program the words and the input of a run once it is built, and the scripts of tests/ that are run on it.
 PROGRAMS = {
-    "hhm": (["sum"], "examples/packets.mtx", HHM_TESTS),
-    "refuse_growths": ([], "/dev/null", ("refused_libraries.py",)),
+    "hhm": (["sum"], "examples/packets.mtx", OF_HHM),
+    "refuse_growths": ([], "/dev/null", OF_GROWTHS),
 }
-LAST_LINE = re.compile(r"(\d+) passed, (\d+) failed")
 
 
 def git(*words):
@@ -133,6 +127,8 @@ def main(words):
     proved = prove(touched, lines, tally)
     to_attack = [it for it in lines if it in sources & proved or it in edits - touched]
     if to_attack:
+        minutes = sum(times().get(it, 0) for it in to_attack) / 60
+        print(f"wrong bodies of {' '.join(to_attack)}: {minutes:.0f} processor minutes when last noted", flush=True)
         tally.run_counted("wrong bodies", [sys.executable, TOP / "tests/attacks.py", "--all", *to_attack])
     for program, run in PROGRAMS.items():
         if program in proved or any(it.startswith(("tests/", "clients/", "tools/", "examples/")) for it in others):

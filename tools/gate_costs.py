@@ -18,7 +18,8 @@ import threading
 from collections import defaultdict
 from pathlib import Path
 
-KINDS = ("proofs", "tests", "wrong bodies", "scripts", "the rest")
+OF_CRATES = ("proofs", "tests", "wrong bodies")
+KINDS = (*OF_CRATES, "scripts", "the rest")
 DEAREST = 10
 PERIOD = 0.5
 TICKS = os.sysconf("SC_CLK_TCK")
@@ -105,17 +106,21 @@ def run(file, words):
     return status
 
 
+def minutes(rows, kind, name=None):
+    return sum(it[2] for it in rows if it[0] == kind and name in (None, it[1])) / 60
+
+
 def table(file):
-    """Prints the processor minutes of each kind and of the dearest rows."""
+    """Prints the processor minutes of each kind, and those of the crates that took most."""
     rows = [json.loads(it) for it in Path(file).read_text(encoding="utf-8").splitlines()]
-    print("Processor minutes of this run (what was kept from earlier runs took none):")
+    print("processor minutes (what earlier runs kept takes none):")
     for kind in KINDS:
-        seconds = [it[2] for it in rows if it[0] == kind]
-        print(f"{sum(seconds) / 60:8.1f}  {kind} ({len(seconds)})")
+        print(f"{minutes(rows, kind):8.1f}  {kind} ({sum(it[0] == kind for it in rows)})")
     print(f"{sum(it[2] for it in rows) / 60:8.1f}  in all")
-    print("The dearest:")
-    for kind, name, seconds in sorted(rows, key=lambda it: -it[2])[:DEAREST]:
-        print(f"{seconds / 60:8.1f}  {name}: {kind}")
+    print(f"the {DEAREST} crates that took most: {', '.join(OF_CRATES)}:")
+    crates = {it[1]: [minutes(rows, kind, it[1]) for kind in OF_CRATES] for it in rows if it[0] in OF_CRATES}
+    for name, spent in sorted(crates.items(), key=lambda it: -sum(it[1]))[:DEAREST]:
+        print(f"{''.join(f'{it:8.1f}' for it in spent)}  {name}")
 
 
 def main(words):

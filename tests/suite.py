@@ -1,0 +1,67 @@
+#!/usr/bin/env python3
+"""Runs all Python tests of the built programs, one after the other.
+
+    tests/suite.py HHM GROWTHS [COSTS]
+
+HHM is the program, and GROWTHS that of crates/refuse_growths. With COSTS, a file, `tools/gate_costs.py` appends the
+processor time of each script to it. A script ends after half an hour at most, and its servers end with it. The last
+line is `N passed, M failed`, and the status is 0 exactly where nothing failed.
+"""
+import re
+import subprocess
+import sys
+from pathlib import Path
+
+TOP = Path(__file__).resolve().parent.parent
+OF_HHM = (
+    "program.py", "questions.py", "exports.py", "log_check.py", "clients.py", "asking.py", "stats.py", "loading.py",
+    "packages.py", "cluster.py", "bridges.py", "pictures.py", "analysis.py", "watching.py", "server.py", "generated.py",
+    "folding.py", "server_faults.py", "server_log.py", "server_log_faults.py", "log_events.py", "log_torture.py",
+    "server_paths.py", "server_ends.py", "progress.py", "server_clients.py", "install.py", "refused.py",
+)  # fmt: skip
+OF_GROWTHS = ("refused_libraries.py",)
+OF_BENCH = ("run.py", "serve.py")
+LAST_LINE = re.compile(r"(\d+) passed, (\d+) failed")
+LIMIT = ("timeout", "--kill-after=10", "1800")
+
+
+def commands(hhm, growths):
+    """Returns the command of each script, in the order in which they run."""
+    python = sys.executable
+    return [
+        *[(python, f"tests/{it}", hhm) for it in OF_HHM],
+        *[(python, f"tests/{it}", growths) for it in OF_GROWTHS],
+        *[(python, f"bench/{it}", hhm, "--check") for it in OF_BENCH],
+    ]
+
+
+def counts_of(words):
+    """Runs a command, shows what it writes as it comes, and returns the two counts of its last line.
+
+    A command without that line is one failure, and so is one that reports no failure and ends with another status.
+    """
+    last = ""
+    with subprocess.Popen(words, cwd=TOP, stdout=subprocess.PIPE, text=True, errors="replace") as script:
+        for line in script.stdout:
+            print(line, end="", flush=True)
+            last = line.rstrip("\n")
+    found = LAST_LINE.fullmatch(last)
+    if found and (script.returncode == 0 or found[2] != "0"):
+        return int(found[1]), int(found[2])
+    print(f"FAILED {' '.join(words)}: status {script.returncode}", flush=True)
+    return (int(found[1]) if found else 0), 1
+
+
+def main(words):
+    if len(words) not in (2, 3):
+        sys.exit(__doc__)
+    programs = [str(Path(it).absolute()) for it in words[:2]]
+    measured = (sys.executable, "tools/gate_costs.py", "run", str(Path(words[2]).absolute())) if words[2:] else ()
+    counts = [counts_of([*measured, *LIMIT, *it]) for it in commands(*programs)]
+    passed, failed = sum(it[0] for it in counts), sum(it[1] for it in counts)
+    print(f"{passed} passed, {failed} failed")
+    return 1 if failed else 0
+
+
+if __name__ == "__main__":
+    sys.exit(main(sys.argv[1:]))
