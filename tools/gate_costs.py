@@ -6,8 +6,8 @@
 
 A row is a JSON list: kind, name, processor seconds. A script gets one row, for itself and all that it starts. `rt` gets
 a row for each crate's proof, for each crate's tests, and for each crate's wrong bodies. `rt` reports no times, so this
-script reads those of its provers from /proc, twice a second. The row `the rest` has what no reading saw: the last half
-second of each prover, compilers, and `rt` itself.
+script reads those of its provers from /proc, once a second. The row `the rest` has what no reading saw: the last second
+of each prover, compilers, and `rt` itself.
 """
 import json
 import os
@@ -21,7 +21,7 @@ from pathlib import Path
 OF_CRATES = ("proofs", "tests", "wrong bodies")
 KINDS = (*OF_CRATES, "scripts", "the rest")
 DEAREST = 10
-PERIOD = 0.5
+PERIOD = 1.0
 TICKS = os.sysconf("SC_CLK_TCK")
 
 
