@@ -2,11 +2,11 @@
 ghost use Rattle.std.specs.Prelude.{◌≡◌, ⊤, IfSome};
 
 use byte_io::Script;
-use byte_io_tests::pieces;
 use snap_export::SnapshotFiles;
 use snap_file::{FileFault, Snapshot, read_snapshot};
 use std::alloc::Global;
 use std::process::Abort;
+use test_support::pieces;
 
 /// In version 1: the head of 3 rows, 3 columns, cuts 2 and 4, 2 shards, limit 100, at most 10 batches; 1 batch, total
 /// 5. Then client 7, number 1, 1 cell: row 0, column 0, count 5.

@@ -3,13 +3,12 @@ ghost use Rattle.std.specs.Prelude.{◌≡◌};
 
 use crate::sources::source;
 use byte_io::{Script, Sink, Source, WriteFault};
-use byte_io_tests::Full;
 use mm_sum::{SumFault, run_sum};
 use mm_text::{MmFault, MmKind};
 use std::alloc::Global;
 use std::io::Eprint;
 use std::process::Abort;
-use test_support::{same, same_at};
+use test_support::{Full, same, same_at};
 
 const TEXT: &str =
     "%%MatrixMarket matrix coordinate integer general\n3 3 4\n1 1 5\n3 2 7\n1 1 2\n2 3 0\n";

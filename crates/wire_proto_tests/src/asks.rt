@@ -5,7 +5,6 @@ ghost use Rattle.wire_frames.specs.Frames.{HasWholeCells};
 use crate::hex::bytes_of;
 use crate::replies::spells_replies;
 use batch_store::Setup;
-use byte_io_tests::{halves, pieces};
 use bytes::Bytes;
 use mm_text::Script;
 use plain_engine::PlainEngine;
@@ -13,7 +12,7 @@ use std::alloc::Global;
 use std::io::Eprint;
 use std::process::Abort;
 use std::random::RandomSource;
-use test_support::same_at;
+use test_support::{halves, pieces, same_at};
 use wire_proto::{Ended, Request, encode_request, serve_engine};
 
 const BANNER: &str = "%%MatrixMarket matrix coordinate integer general\n";

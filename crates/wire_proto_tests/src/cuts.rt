@@ -1,8 +1,7 @@
 //! One session cut in every way gives the same bytes.
 
 use crate::asks::{Ask, Cut, Outcome, Session, frames, served_cut, served_twice, sizes, wanted};
-use byte_io_tests::pieces;
-use test_support::{same, same_at};
+use test_support::{pieces, same, same_at};
 use wire_proto::Ended;
 
 /// Two puts and a query.

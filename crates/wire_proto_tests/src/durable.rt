@@ -5,7 +5,6 @@ use crate::asks::{Ask, cells_frame, frame, frames};
 use crate::cuts::TWO_PUTS;
 use crate::hex::bytes_of;
 use batch_store::{Batch, Kept, Setup};
-use byte_io_tests::{halves, pieces};
 use hyper_matrix::RowSum;
 use mm_text::Script;
 use plain_engine::{PlainEngine, Status, ViewedSum};
@@ -13,7 +12,7 @@ use std::alloc::{AllocError, Global};
 use std::process::Abort;
 use std::random::RandomSource;
 use std::sync::Arc;
-use test_support::{same, same_at};
+use test_support::{halves, pieces, same, same_at};
 use wire_proto::{Ended, FoldRefusal, Keeper, PutRefusal, SaveRefusal, Settled, Told, serve};
 
 // An engine, and how much of what it accepted was synced. A sync makes all durable that is accepted by then. After so

@@ -2,8 +2,7 @@
 
 use crate::asks::{Ask, Checked, Cut, Outcome, Session, frame, served_cut, served_twice, wanted};
 use crate::cuts::TWO_PUTS;
-use byte_io_tests::pieces;
-use test_support::{same, same_at};
+use test_support::{pieces, same, same_at};
 use wire_proto::Ended;
 
 // What becomes of the session where the write fails behind so many bytes, and of the session again: whatever failed

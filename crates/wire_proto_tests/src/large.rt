@@ -4,12 +4,11 @@
 use crate::asks::{Ask, Checked, Session, cells_frame, frames, run, told, wanted};
 use crate::replies::text_len;
 use batch_store::Setup;
-use byte_io_tests::pieces;
 use plain_engine::PlainEngine;
 use std::alloc::Global;
 use std::process::Abort;
 use std::random::RandomSource;
-use test_support::same;
+use test_support::{pieces, same};
 use wire_proto::Ended;
 
 // How many rows and columns there are: a number of 19 digits, as that of each column with a cell.

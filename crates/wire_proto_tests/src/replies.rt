@@ -3,13 +3,12 @@
 use crate::asks::{Ask, frames, run, small_engine};
 use crate::hex::bytes_of;
 use batch_store::Kept;
-use byte_io_tests::pieces;
 use hyper_matrix::RowSum;
 use plain_engine::Status;
 use std::alloc::Global;
 use std::process::Abort;
 use std::random::RandomSource;
-use test_support::{holds_at, same, same_at};
+use test_support::{holds_at, pieces, same, same_at};
 use wire_proto::{Reply, decode_reply};
 
 /// The first frame of some bytes, and what stands behind it, where it is whole.

@@ -5,12 +5,11 @@ use crate::asks::{
     small_setup, told_anew, wanted,
 };
 use batch_store::Setup;
-use byte_io_tests::pieces;
 use mm_text::Script;
 use std::alloc::Global;
 use std::process::Abort;
 use std::random::RandomSource;
-use test_support::{same, same_at};
+use test_support::{pieces, same, same_at};
 use wire_proto::{Ended, serve_engine};
 
 const FIVE: &str = "3 3 1\n1 1 5\n";

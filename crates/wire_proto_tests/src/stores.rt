@@ -4,7 +4,6 @@ ghost use Rattle.std.specs.Prelude.{◌≡◌, ⊤};
 use crate::asks::{Ask, frame, small_setup};
 use crate::hex::bytes_of;
 use batch_store::{Batch, Kept, Setup};
-use byte_io_tests::pieces;
 use hyper_matrix::RowSum;
 use mm_text::Script;
 use plain_engine::{PutFault, Status, ViewedSum};
@@ -12,7 +11,7 @@ use std::alloc::{AllocError, Global};
 use std::process::Abort;
 use std::sync::Arc;
 use std::test::Fail;
-use test_support::same_at;
+use test_support::{pieces, same_at};
 use wire_proto::{
     Amount, Ended, Figure, FoldRefusal, Keeper, Label, Labels, PutRefusal, SaveRefusal, Settled,
     serve,

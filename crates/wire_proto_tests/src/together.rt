@@ -4,11 +4,10 @@ ghost use Rattle.std.specs.Prelude.{◌≡◌, ◌+◌, ◌<◌, ◌^◌};
 use crate::asks::{Ask, frame, small_engine};
 use crate::hex::bytes_of;
 use byte_io::{Link, Once, Script, Sink};
-use byte_io_tests::pieces;
 use plain_engine::PlainEngine;
 use std::alloc::Global;
 use std::process::Abort;
-use test_support::same_at;
+use test_support::{pieces, same_at};
 use wire_proto::{Ended, serve_engine};
 
 const FIVE: Ask = Ask::Put(7, 1, "3 3 1\n1 1 5\n");

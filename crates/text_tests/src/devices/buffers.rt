@@ -4,11 +4,10 @@ ghost use Rattle.std.specs.Prelude.{◌≤◌};
 use byte_io::{
     DeviceFault, READ_CAPACITY, ReadBuffer, Script, Source, WRITE_CAPACITY, WriteBuffer, WriteFault,
 };
-use byte_io_tests::push_piece;
 use std::alloc::Global;
 use std::io::Eprint;
 use std::process::Abort;
-use test_support::{same, same_at};
+use test_support::{push_piece, same, same_at};
 
 // A script that gives these pieces, of which one read fails.
 fn giving(rt: &impl Abort, alloc: Global, given: &[&str], fail_read: Option<u64>) -> Script {

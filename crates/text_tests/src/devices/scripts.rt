@@ -2,11 +2,10 @@
 ghost use Rattle.std.specs.Prelude.{◌≡◌, ℕ, ◌+◌, ◌<◌, ◌≤◌, ◌^◌, length, vec_len, IfOk};
 
 use byte_io::{DeviceFault, Script, Sink, Source};
-use byte_io_tests::push_piece;
 use std::alloc::{AllocError, Global};
 use std::io::Eprint;
 use std::process::Abort;
-use test_support::{holds_at, same};
+use test_support::{holds_at, push_piece, same};
 
 /// The pieces of a text that is cut at each `/`.
 fn cut(rt: &impl Abort, alloc: Global, text: &str) -> Vec<Vec<u8>> {

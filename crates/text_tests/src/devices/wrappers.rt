@@ -3,11 +3,10 @@ ghost use Rattle.std.specs.Prelude.{◌≡◌, ◌≢◌, ℕ, ◌+◌, ◌-◌,
 
 use crate::devices::scripts::reads_as;
 use byte_io::{DeviceFault, Link, Once, Script, Sink, Source, Trickle, WriteFault, write_all};
-use byte_io_tests::halves;
 use std::alloc::Global;
 use std::io::Eprint;
 use std::process::Abort;
-use test_support::{holds_at, same, same_at};
+use test_support::{halves, holds_at, same, same_at};
 
 // A script that gives `abc` and `de`, and takes so many bytes.
 fn two_pieces(rt: &impl Abort, alloc: Global, room: Option<u64>) -> Script

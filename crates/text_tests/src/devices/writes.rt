@@ -2,11 +2,10 @@
 ghost use Rattle.std.specs.Prelude.{◌≤◌};
 
 use byte_io::{Script, Sink, WriteFault, write_all};
-use byte_io_tests::{Full, OneByte};
 use std::alloc::Global;
 use std::io::Eprint;
 use std::process::Abort;
-use test_support::{same, same_at};
+use test_support::{Full, OneByte, same, same_at};
 
 // A text is written byte by byte.
 fn expect_whole(rt: &(impl Abort + Eprint), alloc: Global) {

@@ -1,11 +1,10 @@
 //! A text that is read in blocks.
 use crate::texts::cases::WIDE;
 use byte_io::{Script, Source};
-use byte_io_tests::pieces;
 use mm_text::{Cell, Size, TextReader};
 use std::alloc::Global;
 use std::process::Abort;
-use test_support::same;
+use test_support::{pieces, same};
 
 const ENTRIES: u64 = 10_000;
 

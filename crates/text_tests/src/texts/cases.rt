@@ -1,10 +1,9 @@
 //! A text with its answer, and the ways to read it.
-use byte_io_tests::{halves, pieces};
 use mm_text::{Cell, MmFault, MmFile, MmKind, Script, TextLimits, read_matrix, read_text};
 use std::alloc::{AllocError, Global};
 use std::io::Eprint;
 use std::process::Abort;
-use test_support::holds_at;
+use test_support::{halves, holds_at, pieces};
 
 pub const GENERAL: &str = "%%MatrixMarket matrix coordinate integer general\n";
 

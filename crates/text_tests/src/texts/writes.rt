@@ -4,13 +4,12 @@ ghost use Rattle.cells.specs.Bounds.{AreWithin, IsDimension};
 
 use crate::texts::cases::{GENERAL, joined};
 use byte_io::{Counted, Script, Sink, WriteFault};
-use byte_io_tests::{Full, OneByte};
 use cells::Cell;
 use mm_text::{TextWriter, write_matrix};
 use std::alloc::Global;
 use std::io::Eprint;
 use std::process::Abort;
-use test_support::{same, same_at};
+use test_support::{Full, OneByte, same, same_at};
 
 const LARGEST: u64 = 1_152_921_504_606_846_976;
 
