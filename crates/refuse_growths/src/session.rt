@@ -4,10 +4,10 @@ use crate::examples::small_setup;
 use crate::show::{say, tell};
 use crate::stop::Stop;
 use byte_io::Script;
-use byte_io_tests::pieces;
 use plain_engine::PlainEngine;
 use std::alloc::Global;
 use std::random::RandomSource;
+use test_support::pieces;
 use wire_proto::{Ended, serve_engine};
 
 /// Client 7 puts 5 at row 0 and column 0 under its number 1, client 8 puts 3 there, and the count there is asked for,

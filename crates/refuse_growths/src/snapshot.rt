@@ -4,13 +4,13 @@ ghost use Rattle.std.specs.Prelude.{◌≡◌, ◌+◌, ◌<◌, ◌^◌};
 use crate::show::{say, tell};
 use crate::stop::Stop;
 use byte_io::{Script, WriteFault};
-use byte_io_tests::pieces;
 use snap_file::{
     FileFault, SaveFault, SnapFault, Snapshot, load, read_snapshot, save, write_snapshot,
 };
 use std::alloc::Global;
 use std::fs;
 use std::rt::Files;
+use test_support::pieces;
 
 /// Three rows, three columns, cuts 2 and 4, 2 shards, a limit of 100 and at most 10 batches; 2 batches, total 12, 1 of
 /// them folded: client 8, number 1, 1 cell, total 7. The base: 1 cell, row 1, column 2, count 7. Then client 7, number

@@ -1,11 +1,18 @@
-//! What the tests of the other crates compare values by. Each call answers whether what a test wants holds, and where
-//! it doesn't, writes why to standard error; the test passes the answer to a plain `assert!`, which ends it and names
-//! the line. So the text of a failure is put together here alone, and proved once: `assert_eq!`, and an `assert!` with
-//! a text, are proved anew wherever they stand.
+//! What the tests of the other crates share: comparisons of values, and what they give to devices, which is bytes in
+//! pieces (`pieces`, `halves`, `push_piece`) and sinks that take less than they are offered (`OneByte`, `Full`).
+//!
+//! Each comparison answers whether what a test wants holds. Where it doesn't hold, it writes why to standard error. The
+//! test passes the answer to a plain `assert!`, which ends the test and names the line. So the text of a failure is put
+//! together here alone, and proved once: `assert_eq!`, and an `assert!` with a text, are proved anew wherever they are.
 #![tactic(auto)]
 
 ghost use Rattle.std.specs.Prelude.{◌≡◌};
 
+mod sinks;
+mod splits;
+
+pub use sinks::{Full, OneByte};
+pub use splits::{halves, pieces, push_piece};
 use std::fmt::Debug;
 use std::io::Eprint;
 

@@ -1,4 +1,4 @@
-//! Devices, run over pieces that are given and taken as tables say.
+//! Tests of `byte_io`: each device and each buffer, over bytes that a table gives.
 
 mod buffers;
 mod counted;

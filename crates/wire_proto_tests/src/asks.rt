@@ -1,11 +1,9 @@
 //! What a client sends, and the session that answers it.
-ghost use Rattle.std.specs.Prelude.{IfSome};
+ghost use Rattle.std.specs.Prelude.{◌≡◌, IfSome};
 ghost use Rattle.wire_frames.specs.Frames.{HasWholeCells};
 
 use crate::hex::bytes_of;
-use crate::replies::spells_replies;
 use batch_store::Setup;
-use byte_io_tests::{halves, pieces};
 use bytes::Bytes;
 use mm_text::Script;
 use plain_engine::PlainEngine;
@@ -13,7 +11,7 @@ use std::alloc::Global;
 use std::io::Eprint;
 use std::process::Abort;
 use std::random::RandomSource;
-use test_support::same_at;
+use test_support::{pieces, same_at};
 use wire_proto::{Ended, Request, encode_request, serve_engine};
 
 const BANNER: &str = "%%MatrixMarket matrix coordinate integer general\n";
@@ -21,7 +19,7 @@ const BANNER: &str = "%%MatrixMarket matrix coordinate integer general\n";
 /// A frame of a table: a request, or bytes that are none.
 #[derive(Clone, Copy)]
 pub enum Ask {
-    /// Client, number, and the text behind the banner line.
+    /// Client, number, and the text after the banner line.
     Put(u64, u64, &'static str),
     /// Client, number, and the whole text.
     Text(u64, u64, &'static str),
@@ -47,74 +45,55 @@ pub enum Ask {
 /// A session of a table: what is sent, what comes back, how it ends, and what the engine has accepted then.
 pub type Session = (&'static [Ask], &'static str, Ended, (u64, u64));
 
-/// Three rows, three columns, two shards, a limit of 100 and at most 10 batches.
-pub fn small_setup(rt: &impl Abort) -> Setup {
-    Setup::new(3, 3, &[2, 4], 2, 100, 10).expect(rt, "a setup")
-}
-
-/// The request of a put of this text.
-pub fn put_request(rt: &impl Abort, alloc: Global, pair: (u64, u64), text: &[u8]) -> Request
+/// The request of a put of a text in two parts.
+pub fn put_request(
+    rt: &impl Abort,
+    alloc: Global,
+    pair: (u64, u64),
+    front: &str,
+    tail: &[u8],
+) -> Request
     ensures { HasWholeCells result }
 {
-    let text = Bytes::copy_from_slice(alloc, text).expect(rt, "memory");
+    let mut text = Vec::from_slice(alloc, front.as_bytes()).expect(rt, "memory");
+    text.extend_from_slice(tail).expect(rt, "memory");
+    let bytes = Bytes::copy_from_slice(alloc, text.as_slice());
+    drop(text);
     Request::Put {
         client: pair.0,
         number: pair.1,
-        text,
+        text: bytes.expect(rt, "memory"),
     }
 }
 
-/// The frame of a put of this text.
-pub fn text_frame(rt: &impl Abort, alloc: Global, pair: (u64, u64), text: &[u8]) -> Vec<u8> {
-    let request = put_request(rt, alloc, pair, text);
-    let answer = encode_request(alloc, &request);
-    drop(request);
-    answer.expect(rt, "a frame")
-}
-
-/// The frame of a put whose text is these bytes behind the banner line.
-pub fn put_frame(rt: &impl Abort, alloc: Global, pair: (u64, u64), tail: &[u8]) -> Vec<u8> {
-    let mut text = Vec::from_slice(alloc, BANNER.as_bytes()).expect(rt, "memory");
-    text.extend_from_slice(tail).expect(rt, "memory");
-    let whole = text_frame(rt, alloc, pair, text.as_slice());
-    drop(text);
-    whole
-}
-
-// The bytes of cells: row, column and count of each, the high byte first.
-fn bytes_of_cells(rt: &impl Abort, alloc: Global, cells: &[(u64, u64, u64)]) -> Bytes {
+// The request of a put of cells: row, column and count of each, the high byte first.
+fn cells_request(
+    rt: &impl Abort,
+    alloc: Global,
+    pair: (u64, u64),
+    list: &[(u64, u64, u64)],
+) -> Request
+    ensures { HasWholeCells result }
+{
     let mut bytes = Vec::new(alloc);
-    for (row, col, count) in cells {
+    for (row, col, count) in list {
         let numbers = [row.to_be_bytes(), col.to_be_bytes(), count.to_be_bytes()];
         bytes
             .extend_from_slice(numbers.as_flattened())
             .expect(rt, "memory");
     }
-    let answer = Bytes::copy_from_slice(alloc, bytes.as_slice());
+    let cells = Bytes::copy_from_slice(alloc, bytes.as_slice());
     drop(bytes);
-    answer.expect(rt, "memory")
-}
-
-/// The frame of a put of these cells.
-pub fn cells_frame(
-    rt: &impl Abort,
-    alloc: Global,
-    pair: (u64, u64),
-    list: &[(u64, u64, u64)],
-) -> Vec<u8> {
-    let cells = bytes_of_cells(rt, alloc, list);
+    let cells = cells.expect(rt, "memory");
     assert!(rt; cells.len() % 24 == 0);
-    let request = Request::PutCells {
+    Request::PutCells {
         client: pair.0,
         number: pair.1,
         cells,
-    };
-    let answer = encode_request(alloc, &request);
-    drop(request);
-    answer.expect(rt, "a frame")
+    }
 }
 
-// The request of a frame that has no text.
+// The request of a frame that has no text and no cells.
 fn short_request(ask: Ask) -> Option<Request>
     ensures { IfSome result (λ request. HasWholeCells request) }
 {
@@ -139,8 +118,10 @@ fn short_request(ask: Ask) -> Option<Request>
     }
 }
 
-fn short_frame(rt: &impl Abort, alloc: Global, ask: Ask) -> Vec<u8> {
-    let request = short_request(ask).expect(rt, "a request without text");
+// The bytes of a request's frame.
+fn encoded(rt: &impl Abort, alloc: Global, request: Request) -> Vec<u8>
+    requires { HasWholeCells request }
+{
     let answer = encode_request(alloc, &request);
     drop(request);
     answer.expect(rt, "a frame")
@@ -148,16 +129,19 @@ fn short_frame(rt: &impl Abort, alloc: Global, ask: Ask) -> Vec<u8> {
 
 /// The bytes of a table's frame.
 pub fn frame(rt: &impl Abort, alloc: Global, ask: Ask) -> Vec<u8> {
-    match ask {
-        Ask::Put(client, number, tail) => put_frame(rt, alloc, (client, number), tail.as_bytes()),
-        Ask::Text(client, number, text) => text_frame(rt, alloc, (client, number), text.as_bytes()),
-        Ask::Cells(client, number, cells) => cells_frame(rt, alloc, (client, number), cells),
-        Ask::Raw(digits) => bytes_of(rt, alloc, digits),
-        short => short_frame(rt, alloc, short),
-    }
+    let request = match ask {
+        Ask::Put(client, number, tail) => {
+            put_request(rt, alloc, (client, number), BANNER, tail.as_bytes())
+        }
+        Ask::Text(client, number, text) => { put_request(rt, alloc, (client, number), text, b"") }
+        Ask::Cells(client, number, cells) => cells_request(rt, alloc, (client, number), cells),
+        Ask::Raw(digits) => return bytes_of(rt, alloc, digits),
+        short => short_request(short).expect(rt, "a request without text"),
+    };
+    encoded(rt, alloc, request)
 }
 
-/// The frames of a table, one behind another.
+/// The frames of a table, one after another.
 pub fn frames(rt: &impl Abort, alloc: Global, asks: &[Ask]) -> Vec<u8> {
     let mut all = Vec::new(alloc);
     for ask in asks {
@@ -168,78 +152,32 @@ pub fn frames(rt: &impl Abort, alloc: Global, asks: &[Ask]) -> Vec<u8> {
     all
 }
 
-/// How many bytes the frames and the replies of a session have.
-pub fn sizes(rt: &impl Abort, alloc: Global, session: &Session) -> (usize, usize) {
-    let sent = frames(rt, alloc, session.0);
-    let replies = bytes_of(rt, alloc, session.1);
-    let lens = (sent.len(), replies.len());
-    drop(replies);
+/// A link that gives these frames in pieces of this size.
+pub fn link_of(rt: &impl Abort, alloc: Global, asks: &[Ask], size: usize) -> Script
+    ensures { result.failures ≡ 0 }
+{
+    let sent = frames(rt, alloc, asks);
+    let list = pieces(alloc, sent.as_slice(), size).expect(rt, "memory");
     drop(sent);
-    lens
+    Script::new(alloc, list, None, None)
 }
 
-/// How the frames of a session come.
-#[derive(Clone, Copy)]
-pub enum Cut {
-    /// In pieces of this size.
-    Pieces(usize),
-    /// In two pieces, of which the first has so many bytes.
-    Halves(usize),
-}
-
-/// The frames of a session in pieces.
-pub fn cut_frames(rt: &impl Abort, alloc: Global, session: &Session, cut: Cut) -> Vec<Vec<u8>> {
-    let sent = frames(rt, alloc, session.0);
-    let answer = match cut {
-        Cut::Pieces(size) => pieces(alloc, sent.as_slice(), size),
-        Cut::Halves(at) => halves(alloc, sent.as_slice(), at),
-    };
-    drop(sent);
-    answer.expect(rt, "memory")
-}
-
-/// A new engine of the small setup.
-pub fn small_engine<R: RandomSource + Abort>(rt: &R, alloc: Global) -> PlainEngine {
-    PlainEngine::new(rt, alloc, small_setup(rt)).expect(rt, "memory")
-}
-
-/// What fails of a link's calls: the read with this number, and writes after so many bytes.
-pub type Failing = (Option<u64>, Option<u64>);
-
-/// The most reads of a session: more than any of these tables needs.
-const TURNS: u64 = 1_000_000;
-
-/// Serves these pieces over an engine: how the session ended, and the link with what was written.
-pub fn run(
-    alloc: Global,
-    engine: &mut PlainEngine,
-    list: Vec<Vec<u8>>,
-    failing: Failing,
-) -> (Ended, Script) {
-    let mut link = Script::new(alloc, list, failing.0, failing.1);
-    let ended = serve_engine(alloc, &mut link, engine, TURNS);
-    (ended, link)
-}
-
-/// How a session ended, whether all that it wrote was what is expected, and how many batches the engine has accepted
+/// How a session ended, whether all that it wrote is what is expected, and how many batches the engine has accepted
 /// then and their total.
 pub type Outcome = (Ended, bool, (u64, u64));
 
-/// What is to be written: so many of the bytes that these digits spell.
-pub type Front<'a> = (&'a str, usize);
-
-/// Serves these pieces over an engine.
+/// What becomes of a table's session over an engine: in pieces of this size, with so many reads at most.
 pub fn served(
     rt: &impl Abort,
     alloc: Global,
     engine: &mut PlainEngine,
-    list: Vec<Vec<u8>>,
-    failing: Failing,
-    front: Front,
+    session: &Session,
+    size: usize,
+    turns: u64,
 ) -> Outcome {
-    let mut expected = bytes_of(rt, alloc, front.0);
-    expected.truncate(front.1);
-    let (ended, link) = run(alloc, engine, list, failing);
+    let expected = bytes_of(rt, alloc, session.1);
+    let mut link = link_of(rt, alloc, session.0, size);
+    let ended = serve_engine(alloc, &mut link, engine, turns);
     let status = engine.status();
     let is_it = link.written() == expected.as_slice();
     drop(link);
@@ -247,98 +185,22 @@ pub fn served(
     (ended, is_it, (status.batches, status.total))
 }
 
-/// Serves these bytes in one piece. What these digits spell is expected.
-pub fn answered(
-    rt: &impl Abort,
-    alloc: Global,
-    engine: &mut PlainEngine,
-    sent: &[u8],
-    digits: &str,
-) -> Outcome {
-    let list = pieces(alloc, sent, sent.len()).expect(rt, "memory");
-    served(rt, alloc, engine, list, (None, None), (digits, usize::MAX))
-}
-
 /// The same over a new engine.
-pub fn answered_anew<R: RandomSource + Abort>(
+pub fn served_anew<R: RandomSource + Abort>(
     rt: &R,
     alloc: Global,
     setup: Setup,
-    sent: &[u8],
-    digits: &str,
+    session: &Session,
+    size: usize,
+    turns: u64,
 ) -> Outcome {
     let mut engine = PlainEngine::new(rt, alloc, setup).expect(rt, "memory");
-    let outcome = answered(rt, alloc, &mut engine, sent, digits);
+    let outcome = served(rt, alloc, &mut engine, session, size, turns);
     drop(engine);
     outcome
 }
 
-/// What becomes of a session, and whether each frame that its table expects is a reply.
-pub type Checked = (Outcome, bool);
-
-/// What becomes of a table's session over an engine.
-pub fn told(
-    rt: &impl Abort,
-    alloc: Global,
-    engine: &mut PlainEngine,
-    session: &Session,
-) -> Checked {
-    let list = cut_frames(rt, alloc, session, Cut::Pieces(usize::MAX));
-    let all = (session.1, usize::MAX);
-    let outcome = served(rt, alloc, engine, list, (None, None), all);
-    (outcome, spells_replies(rt, alloc, session.1))
-}
-
-/// The same over a new engine.
-pub fn told_anew<R: RandomSource + Abort>(
-    rt: &R,
-    alloc: Global,
-    setup: Setup,
-    session: &Session,
-) -> Checked {
-    let mut engine = PlainEngine::new(rt, alloc, setup).expect(rt, "memory");
-    let checked = told(rt, alloc, &mut engine, session);
-    drop(engine);
-    checked
-}
-
-/// What is to become of a table's session.
-pub fn wanted(session: &Session) -> Checked {
-    ((session.2, true, session.3), true)
-}
-
-/// What becomes of these pieces of a table's frames over a new engine and a link whose calls fail, and of the whole
-/// session behind it. So many bytes of the replies are expected of the first.
-pub fn served_twice<R: RandomSource + Abort>(
-    rt: &R,
-    alloc: Global,
-    session: &Session,
-    list: Vec<Vec<u8>>,
-    failing: Failing,
-    len: usize,
-) -> (Outcome, Checked) {
-    let mut engine = small_engine(rt, alloc);
-    let front = (session.1, len);
-    let first = served(rt, alloc, &mut engine, list, failing, front);
-    let second = told(rt, alloc, &mut engine, session);
-    drop(engine);
-    (first, second)
-}
-
-/// The same where the frames of the whole session come so.
-pub fn served_cut<R: RandomSource + Abort>(
-    rt: &R,
-    alloc: Global,
-    session: &Session,
-    cut: Cut,
-    failing: Failing,
-    len: usize,
-) -> (Outcome, Checked) {
-    let list = cut_frames(rt, alloc, session, cut);
-    served_twice(rt, alloc, session, list, failing, len)
-}
-
-/// Compares what becomes of each of these sessions over a new engine.
+/// Compares what becomes of each of these sessions over a new engine, in one piece.
 pub fn check_sessions<R: RandomSource + Abort + Eprint>(
     rt: &R,
     alloc: Global,
@@ -346,7 +208,7 @@ pub fn check_sessions<R: RandomSource + Abort + Eprint>(
     sessions: &[Session],
 ) {
     for session in sessions {
-        let found = told_anew(rt, alloc, setup, session);
-        assert!(rt; same_at(rt, &session.1, &found, &wanted(session)));
+        let found = served_anew(rt, alloc, setup, session, usize::MAX, 1_000);
+        assert!(rt; same_at(rt, &session.1, &found, &(session.2, true, session.3)));
     }
 }

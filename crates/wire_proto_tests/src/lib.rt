@@ -6,29 +6,15 @@
 #[cfg(test)]
 mod asks;
 #[cfg(test)]
-mod cell_puts;
-#[cfg(test)]
-mod cuts;
-#[cfg(test)]
-mod durable;
-#[cfg(test)]
-mod failures;
-#[cfg(test)]
-mod folds;
-#[cfg(test)]
 mod frames;
 #[cfg(test)]
 mod hex;
-#[cfg(test)]
-mod large;
 #[cfg(test)]
 mod questions;
 #[cfg(test)]
 mod replies;
 #[cfg(test)]
 mod sessions;
-#[cfg(test)]
-mod stats;
 #[cfg(test)]
 mod stores;
 #[cfg(test)]

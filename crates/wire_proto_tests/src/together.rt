@@ -1,14 +1,15 @@
 //! Puts that come at once are answered together.
 ghost use Rattle.std.specs.Prelude.{◌≡◌, ◌+◌, ◌<◌, ◌^◌};
 
-use crate::asks::{Ask, frame, small_engine};
+use crate::asks::{Ask, frame};
 use crate::hex::bytes_of;
-use byte_io::{Link, Once, Script, Sink};
-use byte_io_tests::pieces;
+use crate::wrapped::expect_new;
+use byte_io::{Once, Script};
 use plain_engine::PlainEngine;
 use std::alloc::Global;
 use std::process::Abort;
-use test_support::same_at;
+use test_batches::small_setup;
+use test_support::{pieces, same_at};
 use wire_proto::{Ended, serve_engine};
 
 const FIVE: Ask = Ask::Put(7, 1, "3 3 1\n1 1 5\n");
@@ -25,20 +26,13 @@ fn repeated(rt: &impl Abort, alloc: Global, bytes: &[u8], times: u64) -> Vec<u8>
 }
 
 // One put so many times, in one piece.
-fn link_of(rt: &impl Abort, alloc: Global, puts: u64) -> Once<Script> {
+fn link_of_puts(rt: &impl Abort, alloc: Global, puts: u64) -> Once<Script> {
     let one = frame(rt, alloc, FIVE);
     let sent = repeated(rt, alloc, one.as_slice(), puts);
     let list = pieces(alloc, sent.as_slice(), 1_000_000).expect(rt, "memory");
     drop(one);
     drop(sent);
     Once::new(Script::new(alloc, list, None, None), 1_000_000)
-}
-
-// A link that hasn't failed yet.
-fn expect_new<L: Link>(rt: &impl Abort, link: &L)
-    ensures { L.Sink.failure_count link.now ≡ 0 }
-{
-    assert!(rt; Sink::failures(link) == 0);
 }
 
 // How a session of so many puts ends, how many calls its link had, and whether it took just their replies.
@@ -50,7 +44,7 @@ fn answered(
 ) -> (Ended, u64, bool) {
     let reply = bytes_of(rt, alloc, ACCEPTED);
     let replies = repeated(rt, alloc, reply.as_slice(), puts);
-    let mut link = link_of(rt, alloc, puts);
+    let mut link = link_of_puts(rt, alloc, puts);
     expect_new(rt, &link);
     let ended = serve_engine(alloc, &mut link, engine, 1_000_000);
     let calls = link.calls();
@@ -65,7 +59,8 @@ fn answered(
 #[test]
 fn replies_to_puts_that_came_at_once_are_sent_together(rt: HostRuntime) {
     for (puts, writes) in [(1u64, 1u64), (2, 1), (64, 1), (65, 2), (130, 3)] {
-        let mut engine = small_engine(&rt, rt.alloc());
+        let setup = small_setup(&rt);
+        let mut engine = PlainEngine::new(&rt, rt.alloc(), setup).expect(&rt, "memory");
         let found = answered(&rt, rt.alloc(), &mut engine, puts);
         drop(engine);
         let whole = (Ended::Closed { rest: 0 }, writes + 2, true);

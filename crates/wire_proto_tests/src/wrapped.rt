@@ -1,28 +1,36 @@
-//! A session over a link that moves one byte a call, and of which each call fails in turn.
+//! A session over a link that moves one byte a call, and of which each call fails in turn; and the same session again.
 ghost use Rattle.std.specs.Prelude.{◌≡◌, ◌+◌, ◌-◌, ◌<◌, ◌≤◌, ◌^◌};
 
-use crate::asks::{Checked, Cut, cut_frames, small_engine, told, wanted};
-use crate::cuts::TWO_PUTS;
+use crate::asks::{Ask, Outcome, Session, link_of, served};
 use crate::hex::bytes_of;
-use byte_io::{Link, Once, Script, Sink, Source, Trickle};
+use byte_io::{Link, Once, Sink, Source, Trickle};
 use plain_engine::PlainEngine;
 use std::alloc::Global;
 use std::process::Abort;
 use std::random::RandomSource;
-use test_support::{same, same_at};
+use test_batches::small_setup;
+use test_support::same_at;
 use wire_proto::{Ended, serve_engine};
 
 // More reads than the session has.
 const TURNS: u64 = 1_000_000;
 
-// The two puts and the query in one piece, a byte a call.
-fn slow_link(rt: &impl Abort, alloc: Global) -> Trickle<Script> {
-    let list = cut_frames(rt, alloc, &TWO_PUTS, Cut::Pieces(1_000));
-    Trickle::new(Script::new(alloc, list, None, None), 1)
-}
+/// Two puts and a query: their frames have 82, 82 and 21 bytes, and their replies 21, 21 and 14.
+static TWO_PUTS: Session = (
+    &[
+        Ask::Put(7, 1, "3 3 1\n1 1 5\n"),
+        Ask::Put(8, 1, "3 3 1\n1 1 3\n"),
+        Ask::Cell(0, 0),
+    ],
+    "00000010 81 0000000000000000 0000000000000005
+     00000010 81 0000000000000001 0000000000000008
+     00000009 82 01 0000000000000008",
+    Ended::Closed { rest: 0 },
+    (2, 8),
+);
 
-// A link that hasn't failed yet.
-fn expect_new<L: Link>(rt: &impl Abort, link: &L)
+/// A link that hasn't failed yet.
+pub fn expect_new<L: Link>(rt: &impl Abort, link: &L)
     ensures { L.Sink.failure_count link.now ≡ 0 }
 {
     assert!(rt; Sink::failures(link) == 0);
@@ -33,9 +41,10 @@ fn expect_new<L: Link>(rt: &impl Abort, link: &L)
 type Slow = (Ended, (u64, u64), (u64, bool));
 
 // Serves the session over a link whose call fails.
-fn served(rt: &impl Abort, alloc: Global, engine: &mut PlainEngine, call: u32) -> Slow {
+fn served_slowly(rt: &impl Abort, alloc: Global, engine: &mut PlainEngine, call: u32) -> Slow {
     let replies = bytes_of(rt, alloc, TWO_PUTS.1);
-    let mut once = Once::new(slow_link(rt, alloc), u64::from(call));
+    let slow = Trickle::new(link_of(rt, alloc, TWO_PUTS.0, 1_000), 1);
+    let mut once = Once::new(slow, u64::from(call));
     expect_new(rt, &once);
     let ended = serve_engine(alloc, &mut once, engine, TURNS);
     let calls = (once.calls(), Source::failures(&once));
@@ -47,27 +56,20 @@ fn served(rt: &impl Abort, alloc: Global, engine: &mut PlainEngine, call: u32) -
     (ended, calls, (len, begins))
 }
 
-// What became of the session, what was accepted then, and what became of one behind it over a link that doesn't fail.
-type Found = (Slow, (u64, u64), Checked);
+// What became of the session, what was accepted then, and what became of one after it over a link that doesn't fail.
+type Found = (Slow, (u64, u64), Outcome);
 
 // Serves both over a new engine.
-fn served_anew<R: RandomSource + Abort>(rt: &R, alloc: Global, call: u32) -> Found {
-    let mut engine = small_engine(rt, alloc);
-    let slow = served(rt, alloc, &mut engine, call);
+fn served_twice<R: RandomSource + Abort>(rt: &R, alloc: Global, call: u32) -> Found {
+    let mut engine = PlainEngine::new(rt, alloc, small_setup(rt)).expect(rt, "memory");
+    let slow = served_slowly(rt, alloc, &mut engine, call);
     let status = engine.status();
-    let behind = told(rt, alloc, &mut engine, &TWO_PUTS);
+    let after = served(rt, alloc, &mut engine, &TWO_PUTS, 100, TURNS);
     drop(engine);
-    (slow, (status.batches, status.total), behind)
+    (slow, (status.batches, status.total), after)
 }
 
-#[test]
-fn a_session_byte_by_byte(rt: HostRuntime) {
-    let found = served_anew(&rt, rt.alloc(), 1_000_000);
-    let slow = (Ended::Closed { rest: 0 }, (242, 0), (56, true));
-    assert!(rt; same(&rt, &found, &(slow, (2, 8), wanted(&TWO_PUTS))));
-}
-
-// How a session ends behind so many bytes.
+// How a session ends after so many bytes.
 fn write_fault(written: u64) -> Ended {
     Ended::WriteFault {
         written: u128::from(written),
@@ -76,8 +78,7 @@ fn write_fault(written: u64) -> Ended {
 
 /// How a session ends whose call with this number fails, how many bytes are written, and what is accepted.
 ///
-/// The frames have 82, 82 and 21 bytes, their replies 21, 21 and 14, and each reply is written before more is read; the
-/// last read gives none.
+/// Each reply is written before more is read; the last read gives none.
 fn failing(call: u64) -> (Ended, u64, (u64, u64)) {
     match call {
         0..=81 => (Ended::ReadFault, 0, (0, 0)),
@@ -91,18 +92,20 @@ fn failing(call: u64) -> (Ended, u64, (u64, u64)) {
     }
 }
 
-// A session whose call with this number fails ends at that call, and makes no further one.
+// A session whose call with this number fails ends at that call, and makes no further one. Whatever failed, the batches
+// of the session after it are repeats or fresh, and its replies are the same.
 fn ends_at(call: u32) -> Found {
     let call = u64::from(call);
     let end = failing(call);
     let calls = (call.min(241) + 1, u64::from(call < 242));
-    ((end.0, calls, (end.1, true)), end.2, wanted(&TWO_PUTS))
+    let after = (TWO_PUTS.2, true, TWO_PUTS.3);
+    ((end.0, calls, (end.1, true)), end.2, after)
 }
 
 #[test]
 fn each_call_fails_in_turn(rt: HostRuntime) {
     for call in 0..=242u32 {
-        let found = served_anew(&rt, rt.alloc(), call);
+        let found = served_twice(&rt, rt.alloc(), call);
         assert!(rt; same_at(&rt, &call, &found, &ends_at(call)));
     }
 }

@@ -5,7 +5,6 @@ use crate::pool::frames::TWO_PUTS_AND_A_CELL;
 use crate::pool::gates::OpenGate;
 use crate::pool::links::{Kind, links};
 use byte_io::Script;
-use byte_io_tests::pieces;
 use crossbeam_channel::bounded;
 use server_counters::Machine;
 use session_pool::{Disk, LogPlace, PoolFault, PoolReport, Saver};
@@ -16,7 +15,7 @@ use std::random::RandomSource;
 use std::sync::Wait;
 use std::test::Fail;
 use std::thread::Threads;
-use test_support::same_at;
+use test_support::{pieces, same_at};
 
 // A Cell at row 0 and column 0.
 const CELL: &[u8] = b"\0\0\0\x10\x02\0\0\0\0\0\0\0\0\0\0\0\0\0\0\0\0";

@@ -3,7 +3,6 @@
 
 use crate::pool::engines::{Accepted, InTurn, sessions_in_turn};
 use byte_io::{Once, Script, Source, Trickle};
-use byte_io_tests::pieces;
 use server_counters::Machine;
 use session_pool::{Disk, LogPlace};
 use socket_server::FileLog;
@@ -12,7 +11,7 @@ use std::process::Abort;
 use std::random::RandomSource;
 use std::sync::Wait;
 use std::test::Fail;
-use test_support::same_at;
+use test_support::{pieces, same_at};
 use wire_proto::Ended;
 
 // A Put of client 7, number 1, with one count of 5 at row 0 and column 0, and what it is answered.

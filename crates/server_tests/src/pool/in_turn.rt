@@ -4,7 +4,6 @@ use crate::pool::engines::{Accepted, InTurn, sessions_in_turn};
 use crate::pool::frames::{REPLIES, TWO_PUTS_AND_A_CELL};
 use crate::pool::gates::end_after;
 use byte_io::Script;
-use byte_io_tests::pieces;
 use server_counters::Machine;
 use session_pool::{Disk, LogPlace};
 use socket_server::FileLog;
@@ -13,7 +12,7 @@ use std::process::Abort;
 use std::random::RandomSource;
 use std::sync::Wait;
 use std::test::Fail;
-use test_support::same_at;
+use test_support::{pieces, same_at};
 use wire_proto::Ended;
 
 // What fails of a session's calls, how it ends, how many bytes of the replies are taken, and what is accepted then.

@@ -1,23 +1,13 @@
 //! Buffers in front of a source and of a sink.
 ghost use Rattle.std.specs.Prelude.{◌≤◌};
 
+use crate::devices::scripts::script;
 use byte_io::{
-    DeviceFault, READ_CAPACITY, ReadBuffer, Script, Source, WRITE_CAPACITY, WriteBuffer, WriteFault,
+    DeviceFault, READ_CAPACITY, ReadBuffer, Script, Sink, Source, WRITE_CAPACITY, WriteBuffer,
+    WriteFault,
 };
-use byte_io_tests::push_piece;
 use std::alloc::Global;
-use std::io::Eprint;
-use std::process::Abort;
 use test_support::{same, same_at};
-
-// A script that gives these pieces, of which one read fails.
-fn giving(rt: &impl Abort, alloc: Global, given: &[&str], fail_read: Option<u64>) -> Script {
-    let mut pieces = Vec::new(alloc);
-    for piece in given {
-        push_piece(&mut pieces, alloc, piece.as_bytes()).expect(rt, "memory");
-    }
-    Script::new(alloc, pieces, fail_read, None)
-}
 
 // One read of at most so many bytes, and whether just these are pending then.
 fn fill_leaves(
@@ -33,51 +23,36 @@ fn fill_leaves(
     (came, buffer.pending() == pending.as_bytes())
 }
 
-// Uses so many bytes, where so many are pending, and tells whether just these are left.
-fn use_leaves(buffer: &mut ReadBuffer, count: usize, left: &str) -> bool {
-    if count > buffer.pending().len() {
+// Keeps the first bytes of those that are pending, of which it uses some, and tells whether just these are left.
+fn use_leaves(buffer: &mut ReadBuffer, kept: usize, used: usize, left: &str) -> bool {
+    if used > kept || kept > buffer.pending().len() {
         return false;
     }
-    buffer.consume(count);
+    buffer.truncate(kept);
+    buffer.consume(used);
     buffer.pending() == left.as_bytes()
 }
 
 // Bytes that are pending stay in front of those that come, also where a read fails.
 #[test]
 fn reads_wait_in_front(rt: HostRuntime) {
-    let mut script = giving(&rt, rt.alloc(), &["abcd", "efg"], Some(2));
+    let mut script = script(&rt, rt.alloc(), &["abcd", "efg"], Some(2), None);
     let mut buffer = ReadBuffer::new(rt.alloc()).expect(&rt, "memory");
     let first = fill_leaves(&mut buffer, &mut script, 3, "abc");
-    let used = use_leaves(&mut buffer, 2, "c");
+    let used = use_leaves(&mut buffer, 3, 2, "c");
     let second = fill_leaves(&mut buffer, &mut script, 9, "cd");
     let third = fill_leaves(&mut buffer, &mut script, 9, "cd");
-    let used_up = use_leaves(&mut buffer, 2, "");
+    let cut = use_leaves(&mut buffer, 1, 0, "c");
     drop(buffer);
     drop(script);
-    assert!(rt; same(&rt, &(first, used), &((Ok(3), true), true)));
+    let reads = [(Ok(3), true), (Ok(1), true), (Err(DeviceFault), true)];
     assert!(rt;
         same(
             &rt,
-            &(second, third),
-            &((Ok(1), true), (Err(DeviceFault), true))
+            &([first, second, third], used, cut),
+            &(reads, true, true)
         )
     );
-    assert!(rt; used_up);
-}
-
-// The end of a source gives nothing, and what was cut off at the back is gone.
-#[test]
-fn ends_and_cuts(rt: HostRuntime) {
-    let mut script = giving(&rt, rt.alloc(), &["abc"], None);
-    let mut buffer = ReadBuffer::new(rt.alloc()).expect(&rt, "memory");
-    let first = fill_leaves(&mut buffer, &mut script, 9, "abc");
-    if buffer.pending().len() == 3 {
-        buffer.truncate(2);
-    }
-    let last = fill_leaves(&mut buffer, &mut script, 9, "ab");
-    drop(buffer);
-    drop(script);
-    assert!(rt; same(&rt, &(first, last), &((Ok(3), true), (Ok(0), true))));
 }
 
 // A text pushed in two parts to a sink that takes so many bytes: the end, and what the sink has.
@@ -99,19 +74,13 @@ fn parts_are_one_text(rt: HostRuntime) {
     assert!(rt; same(&rt, &whole, &(Ok(()), 9, true)));
     for limit in 0..9u64 {
         let written = u128::from(limit);
-        let want = (Err(WriteFault { written }), limit as usize, true);
-        assert!(rt;
-            same_at(
-                &rt,
-                &limit,
-                &written_by_parts(rt.alloc(), Some(limit)),
-                &want
-            )
-        );
+        let wanted = (Err(WriteFault { written }), limit as usize, true);
+        let found = written_by_parts(rt.alloc(), Some(limit));
+        assert!(rt; same_at(&rt, &limit, &found, &wanted));
     }
 }
 
-// How many bytes the sink has before room is made for so many more behind two, and then.
+// How many bytes the sink has before room is made for so many more after two, and then.
 fn room_made(alloc: Global, len: usize) -> (usize, Result<(), WriteFault>, usize)
     requires { len ≤ WRITE_CAPACITY }
 {
@@ -120,15 +89,14 @@ fn room_made(alloc: Global, len: usize) -> (usize, Result<(), WriteFault>, usize
     buffer.push(b"ab");
     let before = script.written().len();
     let outcome = buffer.make_room(&mut script, len);
-    let behind = script.written().len();
+    let after = script.written().len();
     drop(script);
-    (before, outcome, behind)
+    (before, outcome, after)
 }
 
 #[test]
 fn room_is_made_where_it_lacks(rt: HostRuntime) {
-    let alloc = rt.alloc();
-    let fits = room_made(alloc, WRITE_CAPACITY - 2);
-    let lacks = room_made(alloc, WRITE_CAPACITY - 1);
-    assert!(rt; same(&rt, &(fits, lacks), &((0, Ok(()), 0), (0, Ok(()), 2))));
+    let fits = room_made(rt.alloc(), WRITE_CAPACITY - 2);
+    let lacks = room_made(rt.alloc(), WRITE_CAPACITY - 1);
+    assert!(rt; same(&rt, &[fits, lacks], &[(0, Ok(()), 0), (0, Ok(()), 2)]));
 }

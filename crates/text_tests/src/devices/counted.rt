@@ -1,8 +1,8 @@
 //! Readers and writers of std that are counted: what they move, and how often each is called where a call fails.
 ghost use Rattle.std.specs.Prelude.{◌≡◌, ℕ, ◌+◌, ◌<◌, ◌≤◌, ◌^◌, length, IfOk};
 
-use crate::devices::scripts::reads_as;
-use byte_io::{Counted, DeviceFault, Link, Sink, Source};
+use crate::devices::scripts::four_reads;
+use byte_io::{Counted, DeviceFault, Sink, Source};
 use std::alloc::Global;
 use std::io;
 use std::io::{Error, ErrorKind, Read, Write};
@@ -52,33 +52,33 @@ static KINDS: &[ErrorKind] = &[
     ErrorKind::Other,
 ];
 
-/// What two calls answer, the failures behind the first, and how often the device inside was called.
+/// What two calls answer, the failures after the first, and how often the device inside was called.
 type Ends = ([Result<usize, DeviceFault>; 2], u64, u64);
 
 const FAILED_ONCE: Ends = ([Err(DeviceFault), Ok(0)], 1, 2);
 
-// A read that fails, and one that gives nothing.
-fn reads(kind: ErrorKind) -> Ends {
-    let mut reader = Counted::new(FailsOnce { kind, calls: 0 });
-    let first = reader.read(&mut [0u8; 4]);
-    let failures = Source::failures(&reader);
-    let second = reader.read(&mut [0u8; 4]);
-    ([first, second], failures, reader.into_inner().calls)
+// A read that fails, and a write that takes nothing.
+fn read_and_write(kind: ErrorKind) -> Ends {
+    let mut device = Counted::new(FailsOnce { kind, calls: 0 });
+    let first = device.read(&mut [0u8; 4]);
+    let failures = Sink::failures(&device);
+    let second = device.write(b"ab");
+    ([first, second], failures, device.into_inner().calls)
 }
 
-// A write that fails, and one that takes nothing.
-fn writes(kind: ErrorKind) -> Ends {
-    let mut writer = Counted::new(FailsOnce { kind, calls: 0 });
-    let first = writer.write(b"ab");
-    let failures = Sink::failures(&writer);
-    let second = writer.write(b"ab");
-    ([first, second], failures, writer.into_inner().calls)
+// A write that fails, and a read that gives nothing.
+fn write_and_read(kind: ErrorKind) -> Ends {
+    let mut device = Counted::new(FailsOnce { kind, calls: 0 });
+    let first = device.write(b"ab");
+    let failures = Source::failures(&device);
+    let second = device.read(&mut [0u8; 4]);
+    ([first, second], failures, device.into_inner().calls)
 }
 
 #[test]
 fn errors_are_failures(rt: HostRuntime) {
     for kind in KINDS {
-        let found = [reads(*kind), writes(*kind)];
+        let found = [read_and_write(*kind), write_and_read(*kind)];
         assert!(rt; same_at(&rt, kind, &found, &[FAILED_ONCE, FAILED_ONCE]));
     }
 }
@@ -94,42 +94,11 @@ fn list_takes(alloc: Global, bytes: &[u8]) -> (Result<usize, DeviceFault>, u64, 
     (taken, failures, is_whole)
 }
 
-// What room for two bytes takes of three, and then of one more.
-fn room_takes() -> [Result<usize, DeviceFault>; 2] {
-    let mut room = [0u8; 2];
-    let mut short = Counted::new(room.as_mut_slice());
-    [short.write(b"abc"), short.write(b"c")]
-}
-
 #[test]
-fn counted_devices(rt: HostRuntime) {
-    let mut reader = Counted::new(b"abc".as_slice());
-    let is_read = reads_as(&rt, rt.alloc(), &mut reader, 2, b"ab|c|");
-    let found = (is_read, list_takes(rt.alloc(), b"abc"), room_takes());
-    assert!(rt; same(&rt, &found, &(true, (Ok(3), 0, true), [Ok(2), Ok(0)])));
-}
-
-/// A device for both ways: what it read is written back, until a call fails.
-fn echo<L: Link>(link: &mut L) -> bool
-    requires { L.Source.failure_count link.old + 1 < 2 ^ 64 }
-{
-    let mut byte = [0u8; 1];
-    match link.read(&mut byte) {
-        Ok(1) => link.write(&byte).is_ok(),
-        _ => false,
-    }
-}
-
-// Whether a link that fails at once echoes a byte, and its failures as a source and as a sink.
-fn echoes(kind: ErrorKind) -> (bool, u64, u64) {
-    let mut link = Counted::new(FailsOnce { kind, calls: 0 });
-    let is_echoed = echo(&mut link);
-    (is_echoed, Source::failures(&link), Sink::failures(&link))
-}
-
-#[test]
-fn failures_of_a_link(rt: HostRuntime) {
-    for kind in KINDS {
-        assert!(rt; same_at(&rt, kind, &echoes(*kind), &(false, 1, 1)));
-    }
+fn readers_and_writers_are_devices(rt: HostRuntime) {
+    let reads = four_reads(&mut Counted::new(b"abcde".as_slice()));
+    let found = (reads, list_takes(rt.alloc(), b"abc"));
+    let buffers = [*b"abcd", *b"e\0\0\0", [0; 4], [0; 4]];
+    let wanted = ([Ok(4), Ok(1), Ok(0), Ok(0)], buffers);
+    assert!(rt; same(&rt, &found, &(wanted, (Ok(3), 0, true))));
 }

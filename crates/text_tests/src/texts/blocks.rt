@@ -1,85 +1,53 @@
 //! A text that is read in blocks.
-use crate::texts::cases::WIDE;
+use crate::texts::cases::{SYMMETRIC, WIDE, joined};
 use byte_io::{Script, Source};
-use byte_io_tests::pieces;
-use mm_text::{Cell, Size, TextReader};
+use mm_text::{Cell, MmFault, TextReader};
 use std::alloc::Global;
 use std::process::Abort;
-use test_support::same;
+use test_support::{pieces, same};
 
-const ENTRIES: u64 = 10_000;
-
-/// A symmetric text.
-fn text(rt: &impl Abort, alloc: Global) -> Vec<u8> {
-    let head = "%%MatrixMarket matrix coordinate integer symmetric\n9 9 10000\n";
-    let mut text = head.as_bytes().to_vec(alloc).expect(rt, "memory");
-    for _ in 0..ENTRIES {
-        text.extend_from_slice(b"9 1 3\n").expect(rt, "memory");
-    }
-    text
-}
-
-/// Reads the next block, and tells whether it is not the last.
+// Reads the next block of up to three cells: how many it has, and whether it is not the last.
 fn read_next(
     rt: &impl Abort,
     source: &mut Script,
     reader: &mut TextReader,
     block: &mut Vec<Cell>,
-) -> bool {
+) -> (usize, Result<bool, MmFault>) {
     block.clear();
     assert!(rt; source.failures() == 0);
-    let more = reader.read_block(source, block, 4095);
-    assert!(rt; more.is_ok());
-    more == Ok(true)
+    let more = reader.read_block(source, block, 3);
+    (block.len(), more)
 }
 
-/// Reads all blocks of a source, and counts their cells. The two cells of an entry never part, and the last block is
-/// not full.
-fn count_blocks(
+// Reads a symmetric text of three entries, one of them on the diagonal, in three blocks.
+fn read_blocks(
     rt: &impl Abort,
-    source: &mut Script,
+    alloc: Global,
     reader: &mut TextReader,
-    block: &mut Vec<Cell>,
-) -> u64 {
-    let mut cells = 0u64;
-    for _ in 0..ENTRIES {
-        let more = read_next(rt, source, reader, block);
-        cells = cells.saturating_add(block.len() as u64);
-        if !more {
-            break;
-        }
-        assert!(rt; block.len() == 4094);
-    }
-    cells
-}
-
-/// Reads the text.
-fn count_cells(rt: &impl Abort, alloc: Global, reader: &mut TextReader) -> u64 {
-    let text = text(rt, alloc);
+) -> [(usize, Result<bool, MmFault>); 3] {
+    let text = joined(rt, alloc, SYMMETRIC, &[("9 9 3\n9 1 3\n2 2 4\n9 1 3\n", 1)]);
     let pieces = pieces(alloc, &text, 6).expect(rt, "memory");
     drop(text);
     let mut source = Script::new(alloc, pieces, None, None);
-    let mut block = Vec::with_capacity(alloc, 4095).expect(rt, "memory");
-    let cells = count_blocks(rt, &mut source, reader, &mut block);
+    let mut block = Vec::new(alloc);
+    let first = read_next(rt, &mut source, reader, &mut block);
+    let second = read_next(rt, &mut source, reader, &mut block);
+    let third = read_next(rt, &mut source, reader, &mut block);
     drop(source);
     drop(block);
-    cells
+    [first, second, third]
 }
 
-/// Whether it is the size of the text.
-fn is_declared(size: Option<Size>) -> bool {
-    match size {
-        Some(size) => size.rows == 9 && size.entries == ENTRIES,
-        None => false,
-    }
-}
-
+// The two cells of an entry come together, so that a block may have one cell fewer than it has room for.
 #[test]
 fn blocks(rt: HostRuntime) {
     let mut reader = TextReader::new(rt.alloc(), WIDE).expect(&rt, "memory");
-    let before = reader.size().is_none();
-    let cells = count_cells(&rt, rt.alloc(), &mut reader);
-    let behind = is_declared(reader.size());
+    let is_unknown = reader.size().is_none();
+    let found = read_blocks(&rt, rt.alloc(), &mut reader);
+    let size = reader
+        .size()
+        .map(|size| (size.rows, size.cols, size.entries));
     drop(reader);
-    assert!(rt; same(&rt, &(before, cells, behind), &(true, 2 * ENTRIES, true)));
+    assert!(rt; same(&rt, &found, &[(2, Ok(true)), (3, Ok(true)), (0, Ok(false))]));
+    assert!(rt; same(&rt, &(is_unknown, size), &(true, Some((9, 9, 3)))));
 }

@@ -3,14 +3,12 @@ ghost use Rattle.std.specs.Prelude.{◌≡◌, ℕ, ◌+◌, ◌<◌, ◌≤◌,
 ghost use Rattle.cells.specs.Bounds.{AreWithin, IsDimension};
 
 use crate::texts::cases::{GENERAL, joined};
-use byte_io::{Counted, Script, Sink, WriteFault};
-use byte_io_tests::{Full, OneByte};
+use byte_io::{Counted, Script, WriteFault};
 use cells::Cell;
 use mm_text::{TextWriter, write_matrix};
 use std::alloc::Global;
-use std::io::Eprint;
 use std::process::Abort;
-use test_support::{same, same_at};
+use test_support::same_at;
 
 const LARGEST: u64 = 1_152_921_504_606_846_976;
 
@@ -24,15 +22,7 @@ fn cell(row: u64, col: u64, count: u64) -> Cell {
     Cell { row, col, count }
 }
 
-/// A matrix that is written.
-#[derive(Clone, Copy)]
-struct Matrix<'a> {
-    rows: u64,
-    cols: u64,
-    cells: &'a [Cell],
-}
-
-/// Whether there are such matrices.
+// Whether there are such matrices.
 fn is_matrix(rows: u64, cols: u64, cells: &[Cell]) -> bool
     ensures rows { IsTrue result → IsDimension rows }
     ensures cols { IsTrue result → IsDimension cols }
@@ -41,89 +31,11 @@ fn is_matrix(rows: u64, cols: u64, cells: &[Cell]) -> bool
     1 <= rows && rows <= LARGEST && 1 <= cols && cols <= LARGEST && are_within(rows, cols, cells)
 }
 
-fn write<W: Sink>(rt: &impl Abort, sink: &mut W, matrix: Matrix) -> Result<(), WriteFault>
-    requires { W.failure_count sink.old + 1 < 2 ^ 64 }
-{
-    assert!(rt; is_matrix(matrix.rows, matrix.cols, matrix.cells));
-    write_matrix(sink, matrix.rows, matrix.cols, matrix.cells)
-}
+/// Rows, columns and cells, and the text after the banner.
+type Row = (u64, u64, &'static [Cell], &'static str);
 
-/// How a text of this length ends in a sink that takes so many bytes: it fails once if that is not all.
-fn end_of(len: usize, limit: usize) -> (Result<(), WriteFault>, u64) {
-    if limit < len {
-        let written = limit as u128;
-        (Err(WriteFault { written }), 1)
-    } else {
-        (Ok(()), 0)
-    }
-}
-
-/// Writes a matrix into a sink that takes so many bytes. It must take the front of the text, and fail once if that is
-/// not all.
-fn check_limit(
-    rt: &(impl Abort + Eprint),
-    alloc: Global,
-    matrix: Matrix,
-    want: &[u8],
-    limit: usize,
-) {
-    let mut script = Script::new(alloc, Vec::new(alloc), None, Some(limit as u64));
-    let outcome = write(rt, &mut script, matrix);
-    let end = (outcome, Sink::failures(&script));
-    let is_front = script.written() == &want[..want.len().min(limit)];
-    drop(script);
-    assert!(rt;
-        same_at(
-            rt,
-            &limit,
-            &(end, is_front),
-            &(end_of(want.len(), limit), true)
-        )
-    );
-}
-
-/// Writes a matrix into a sink of short writes.
-fn check_slow(rt: &(impl Abort + Eprint), alloc: Global, matrix: Matrix, want: &[u8]) {
-    let mut slow = OneByte {
-        inner: Script::new(alloc, Vec::new(alloc), None, None),
-    };
-    let outcome = write(rt, &mut slow, matrix);
-    let is_whole = slow.inner.written() == want;
-    drop(slow);
-    assert!(rt; same(rt, &(outcome, is_whole), &(Ok(()), true)));
-}
-
-/// Writes a matrix and compares its text, also with a sink that fails at each byte and with one of short writes.
-fn check_text(
-    rt: &(impl Abort + Eprint),
-    alloc: Global,
-    rows: u64,
-    cols: u64,
-    cells: &[Cell],
-    tail: &str,
-) {
-    let matrix = Matrix { rows, cols, cells };
-    let want = joined(rt, alloc, GENERAL, &[(tail, 1)]);
-    for limit in 0..=want.len() {
-        check_limit(rt, alloc, matrix, &want, limit);
-    }
-    check_slow(rt, alloc, matrix, &want);
-    drop(want);
-}
-
-/// Rows, columns and cells, and the text behind the banner.
-static SMALL: &[(u64, u64, &[Cell], &str)] = &[
+static ROWS: &[Row] = &[
     (3, 3, &[], "3 3 0\n"),
-    (
-        3,
-        4,
-        &[Cell {
-            row: 0,
-            col: 1,
-            count: 5,
-        }],
-        "3 4 1\n1 2 5\n",
-    ),
     (
         3,
         3,
@@ -163,44 +75,41 @@ static SMALL: &[(u64, u64, &[Cell], &str)] = &[
     ),
 ];
 
+// Writes a matrix into a sink that takes so many bytes: how it ends, and whether the sink has the front of the text.
+fn written(
+    rt: &impl Abort,
+    alloc: Global,
+    row: &Row,
+    room: usize,
+) -> (Result<(), WriteFault>, bool) {
+    assert!(rt; is_matrix(row.0, row.1, row.2));
+    let text = joined(rt, alloc, GENERAL, &[(row.3, 1)]);
+    let mut script = Script::new(alloc, Vec::new(alloc), None, Some(room as u64));
+    let outcome = write_matrix(&mut script, row.0, row.1, row.2);
+    let is_front = script.written() == &text[..room.min(text.len())];
+    drop(script);
+    drop(text);
+    (outcome, is_front)
+}
+
 #[test]
-fn small_texts(rt: HostRuntime) {
-    for (rows, cols, cells, tail) in SMALL {
-        check_text(&rt, rt.alloc(), *rows, *cols, cells, tail);
+fn matrices_are_written(rt: HostRuntime) {
+    for row in ROWS {
+        let found = written(&rt, rt.alloc(), row, 1_000);
+        assert!(rt; same_at(&rt, &row.3, &found, &(Ok(()), true)));
     }
 }
 
-const MANY: usize = 4097;
-
-/// So many cells at one place.
-fn many_cells(rt: &impl Abort, alloc: Global) -> Vec<Cell> {
-    let mut cells = Vec::new(alloc);
-    for _ in 0..MANY {
-        cells.push(cell(0, 2, 1)).expect(rt, "memory");
-    }
-    cells
-}
-
-/// Their text.
-fn many_lines(rt: &impl Abort, alloc: Global) -> Vec<u8> {
-    joined(rt, alloc, GENERAL, &[("3 3 4097\n", 1), ("1 3 1\n", MANY)])
-}
-
-/// A text that is handed on in several calls.
+// The first text has 55 bytes.
 #[test]
-fn long_text(rt: HostRuntime) {
-    let cells = many_cells(&rt, rt.alloc());
-    let want = many_lines(&rt, rt.alloc());
-    let matrix = Matrix {
-        rows: 3,
-        cols: 3,
-        cells: cells.as_slice(),
-    };
-    for limit in [16_320, 16_384, 16_385, 24_000, 30_000] {
-        check_limit(&rt, rt.alloc(), matrix, &want, limit);
+fn a_sink_fails_after_each_byte(rt: HostRuntime) {
+    for room in 0..55usize {
+        let fault = WriteFault {
+            written: room as u128,
+        };
+        let found = written(&rt, rt.alloc(), &ROWS[0], room);
+        assert!(rt; same_at(&rt, &room, &found, &(Err(fault), true)));
     }
-    drop(cells);
-    drop(want);
 }
 
 /// Writes three cells in two blocks, of which one is empty, and one by one.
@@ -230,10 +139,4 @@ fn blocks_of_cells(rt: HostRuntime) {
     let is_wanted = text.as_slice() == want.as_bytes();
     drop(text);
     assert!(rt; is_wanted);
-}
-
-#[test]
-fn a_full_sink_is_told(rt: HostRuntime) {
-    let refused = write_matrix(&mut Full, 1, 1, &[]);
-    assert!(rt; same(&rt, &refused, &Err(WriteFault { written: 0 })));
 }

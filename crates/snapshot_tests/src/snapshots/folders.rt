@@ -2,12 +2,12 @@
 ghost use Rattle.std.specs.Prelude.{◌≡◌, ◌+◌, ◌<◌, ◌^◌};
 
 use crate::snapshots::bytes::{CHECKED_ONE, ONE, read};
-use byte_io::{DeviceFault, WriteFault};
+use byte_io::WriteFault;
 use snap_file::{Folder, MemoryFolder, SaveFault, Snapshot, save_in};
 use std::alloc::Global;
 use std::io::Eprint;
 use std::process::Abort;
-use test_support::{same, same_at};
+use test_support::same_at;
 
 // A folder of files, of which call number `fail_at` fails.
 fn folder(
@@ -43,7 +43,8 @@ fn holds(f: &MemoryFolder, name: &str, bytes: &[u8]) -> bool {
     }
 }
 
-// What a save is answered in a folder whose call number `fail_at` fails, and what stands under `a` and `b` then.
+// What a save is answered in a folder whose call number `fail_at` fails, and what `a` and `b` hold then. A file that was
+// left over has the name of the new one.
 fn expect_save(
     rt: &(impl Abort + Eprint),
     alloc: Global,
@@ -52,7 +53,8 @@ fn expect_save(
     expected: Result<(), SaveFault>,
     held: &[u8],
 ) {
-    let mut f = folder(rt, alloc, &[("a", b"old"), ("b", b"other")], fail_at);
+    let files: [(&str, &[u8]); 3] = [("a", b"old"), ("a.new", b"left over"), ("b", b"other")];
+    let mut f = folder(rt, alloc, &files, fail_at);
     let answer = saved(alloc, &mut f, snapshot);
     let are_held = [holds(&f, "a", held), holds(&f, "b", b"other")];
     let failures = f.failures();
@@ -76,70 +78,5 @@ fn each_call_fails_in_turn(rt: HostRuntime) {
         expect_save(&rt, rt.alloc(), &snapshot, Some(*call), Err(*fault), b"old");
     }
     expect_save(&rt, rt.alloc(), &snapshot, Some(4), Ok(()), CHECKED_ONE);
-    expect_save(&rt, rt.alloc(), &snapshot, None, Ok(()), CHECKED_ONE);
     drop(snapshot);
-}
-
-#[test]
-fn what_was_left_over_is_written_over(rt: HostRuntime) {
-    let snapshot = read(&rt, rt.alloc(), ONE, ONE.len());
-    let mut f = folder(
-        &rt,
-        rt.alloc(),
-        &[("a.new", b"left over"), ("a", b"old")],
-        None,
-    );
-    let answer = saved(rt.alloc(), &mut f, &snapshot);
-    drop(snapshot);
-    let is_saved = holds(&f, "a", CHECKED_ONE);
-    let is_moved = f.file("a.new").is_none();
-    drop(f);
-    assert!(rt; same(&rt, &(answer, is_saved, is_moved), &(Ok(()), true, true)));
-}
-
-// A file is made in the place of one that has its name.
-#[test]
-fn a_created_file_is_empty(rt: HostRuntime) {
-    let mut f = folder(&rt, rt.alloc(), &[("new", b"was there")], None);
-    let found = (f.create("new"), holds(&f, "new", b""));
-    drop(f);
-    assert!(rt; same(&rt, &found, &(Ok(()), true)));
-}
-
-// The first of two files of one name is told.
-#[test]
-fn the_first_of_a_name_counts(rt: HostRuntime) {
-    let f = folder(
-        &rt,
-        rt.alloc(),
-        &[("name", b"first"), ("name", b"second")],
-        None,
-    );
-    let found = (
-        holds(&f, "name", b"first"),
-        f.file("other").is_none(),
-        f.failures(),
-    );
-    drop(f);
-    assert!(rt; same(&rt, &found, &(true, true, 0)));
-}
-
-// Call number 1 fails, and no other; it leaves the file.
-#[test]
-fn one_call_fails(rt: HostRuntime) {
-    let mut f = folder(&rt, rt.alloc(), &[("name", b"old")], Some(1));
-    let first = f.create("new");
-    let second = f.create("name");
-    let is_left = holds(&f, "name", b"old");
-    let third = f.create("name");
-    let failures = f.failures();
-    drop(f);
-    assert!(rt;
-        same(
-            &rt,
-            &[first, second, third],
-            &[Ok(()), Err(DeviceFault), Ok(())]
-        )
-    );
-    assert!(rt; same(&rt, &(is_left, failures), &(true, 1)));
 }

@@ -1,8 +1,6 @@
 //! Real files, in a folder of their own below the system's one for temporary files.
 
-use crate::snapshots::bytes::{
-    CHECKED_FOLDED, CHECKED_ONE, CHECKED_TWO, FOLDED, MAX_BYTES, ONE, TWO, read,
-};
+use crate::snapshots::bytes::{BOTH, CHECKED_BOTH, CHECKED_ONE, MAX_BYTES, ONE, read};
 use snap_file::{FileFault, SaveFault, SnapFault, Snapshot, load, lock, save, try_save};
 use std::fs::Permissions;
 use std::os::unix::fs::{MetadataExt, PermissionsExt, symlink};
@@ -52,11 +50,7 @@ fn is_whole(rt: &HostRuntime, path: &str, bytes: &[u8], batches: usize) -> bool 
 #[test]
 fn what_is_saved_is_loaded(rt: HostRuntime) {
     let path = "/tmp/hhm_snap_file_saved";
-    for (bytes, written, batches) in [
-        (TWO, CHECKED_TWO, 2),
-        (FOLDED, CHECKED_FOLDED, 1),
-        (ONE, CHECKED_ONE, 1),
-    ] {
+    for (bytes, written, batches) in [(BOTH, CHECKED_BOTH, 2), (ONE, CHECKED_ONE, 1)] {
         let snapshot = read(&rt, rt.alloc(), bytes, bytes.len());
         let answer = saved(&rt, path, &snapshot);
         drop(snapshot);

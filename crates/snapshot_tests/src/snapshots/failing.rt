@@ -1,9 +1,6 @@
 //! Reads and writes that fail in mid-stream.
 
-use crate::snapshots::bytes::{
-    BOTH, CHECKED_BOTH, CHECKED_FOLDED, CHECKED_ONE, CHECKED_TWO, MAX_BYTES, NEW_ONE, ONE, TWO,
-    read,
-};
+use crate::snapshots::bytes::{CHECKED_BOTH, MAX_BYTES, read};
 use crate::sources::source;
 use byte_io::{Script, Source, WriteFault};
 use snap_file::{SnapFault, Snapshot, read_snapshot, write_snapshot};
@@ -25,23 +22,16 @@ fn fault_failing(
     (fault, failures)
 }
 
+// One byte a read, one read more at the end, and no read after that.
 #[test]
 fn each_read_fails_in_turn(rt: HostRuntime) {
-    for bytes in [ONE, TWO, NEW_ONE, BOTH, CHECKED_BOTH] {
-        // One byte a read, and one read more at the end.
-        for failing in 0..=bytes.len() as u64 {
-            let found = fault_failing(&rt, rt.alloc(), bytes, failing);
-            assert!(rt; same_at(&rt, &failing, &found, &(Some(SnapFault::Read), 1)));
-        }
+    let len = CHECKED_BOTH.len() as u64;
+    for failing in 0..=len {
+        let found = fault_failing(&rt, rt.alloc(), CHECKED_BOTH, failing);
+        assert!(rt; same_at(&rt, &failing, &found, &(Some(SnapFault::Read), 1)));
     }
-}
-
-#[test]
-fn no_read_follows_the_end(rt: HostRuntime) {
-    for bytes in [ONE, TWO, NEW_ONE, BOTH, CHECKED_BOTH] {
-        let found = fault_failing(&rt, rt.alloc(), bytes, bytes.len() as u64 + 1);
-        assert!(rt; same(&rt, &found, &(None, 0)));
-    }
+    let found = fault_failing(&rt, rt.alloc(), CHECKED_BOTH, len + 1);
+    assert!(rt; same(&rt, &found, &(None, 0)));
 }
 
 // Whether the writing of a snapshot whose file these bytes are stops where the sink takes no more than `room`.
@@ -60,11 +50,15 @@ fn stops_at(alloc: Global, snapshot: &Snapshot, bytes: &[u8], room: usize) -> bo
 
 #[test]
 fn each_write_fails_in_turn(rt: HostRuntime) {
-    for bytes in [CHECKED_ONE, CHECKED_TWO, CHECKED_FOLDED, CHECKED_BOTH] {
-        let snapshot = read(&rt, rt.alloc(), bytes, bytes.len());
-        for room in 0..bytes.len() {
-            assert!(rt; holds_at(&rt, &room, stops_at(rt.alloc(), &snapshot, bytes, room)));
-        }
-        drop(snapshot);
+    let snapshot = read(&rt, rt.alloc(), CHECKED_BOTH, 64);
+    for room in 0..CHECKED_BOTH.len() {
+        assert!(rt;
+            holds_at(
+                &rt,
+                &room,
+                stops_at(rt.alloc(), &snapshot, CHECKED_BOTH, room)
+            )
+        );
     }
+    drop(snapshot);
 }

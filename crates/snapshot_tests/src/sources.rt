@@ -2,9 +2,9 @@
 ghost use Rattle.std.specs.Prelude.{◌≡◌};
 
 use byte_io::Script;
-use byte_io_tests::pieces;
 use std::alloc::Global;
 use std::process::Abort;
+use test_support::pieces;
 
 /// A script that gives these bytes in pieces of `size`, and whose reads fail from `fail_read` on.
 pub fn source(

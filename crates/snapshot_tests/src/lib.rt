@@ -1,8 +1,11 @@
-//! Snapshots, and sums of texts, over devices in memory each of whose calls fails in turn, and snapshots in real files.
+//! Snapshots as bytes and as files, sums of texts, and exports of snapshots: over devices in memory each of whose calls
+//! fails in turn, and over real files.
 //!
 //! What is to be read and written was worked out by hand from the formats, not taken from a run.
 #![tactic(auto)]
 
+#[cfg(test)]
+mod exports;
 #[cfg(test)]
 mod snapshots;
 #[cfg(test)]

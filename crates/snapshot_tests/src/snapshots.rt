@@ -1,0 +1,9 @@
+//! Tests of `snap_file`: worked examples in each version, each fault of their bytes, reads, writes and calls of a folder
+//! that fail in turn, and real files.
+
+pub mod bytes;
+mod examples;
+mod failing;
+mod faults;
+mod files;
+mod folders;

@@ -1,0 +1,84 @@
+//! The worked examples: read, and written again.
+
+use crate::snapshots::bytes::{BOTH, CHECKED_BOTH, CHECKED_ONE, ONE, read};
+use batch_store::{BookList, Entry, Setup};
+use byte_io::Script;
+use snap_file::write_snapshot;
+use std::alloc::Global;
+use std::process::Abort;
+use test_support::same_at;
+
+// Whether this is the setup of the examples.
+fn is_setup(setup: &Setup) -> bool {
+    (setup.rows(), setup.cols(), setup.shards()) == (3, 3, 2)
+        && setup.cuts() == [2u64, 4].as_slice()
+        && (setup.limit(), setup.max_batches()) == (100, 10)
+}
+
+// The client, number and total of the first batch that isn't folded.
+fn first_batch(list: &BookList) -> Option<(u64, u64, u64)> {
+    let batch = list.batches.first()?;
+    Some((batch.client, batch.number, batch.total))
+}
+
+// The first folded batch, the base's number of cells, total, and count in row 0, column 0.
+type Folded = (Option<Entry>, u64, u64, Option<u64>);
+
+// What is told of these bytes, in pieces of 7: whether it is the setup of the examples, how many batches are folded and
+// how many are not, what is folded, and the first batch that isn't.
+type Told = (bool, [usize; 2], Folded, Option<(u64, u64, u64)>);
+
+fn told_of(rt: &impl Abort, alloc: Global, bytes: &[u8]) -> Told {
+    let snapshot = read(rt, alloc, bytes, 7);
+    let list = &snapshot.list;
+    let folded = (
+        list.folded.first().copied(),
+        list.base.entries(),
+        list.base.total(),
+        list.base.get(0, 0),
+    );
+    let counts = [list.folded.len(), list.batches.len()];
+    let told = (is_setup(&snapshot.setup), counts, folded, first_batch(list));
+    drop(snapshot);
+    told
+}
+
+// The entry of the one folded batch of `BOTH`.
+const ENTRY: Entry = Entry {
+    client: 7,
+    number: 1,
+    cells: 1,
+    total: 5,
+};
+
+#[test]
+fn examples_are_read(rt: HostRuntime) {
+    let one = (true, [0, 1], (None, 0, 0, None), Some((7, 1, 5)));
+    let both = (true, [1, 1], (Some(ENTRY), 1, 5, Some(5)), Some((8, 1, 3)));
+    for bytes in [ONE, CHECKED_ONE] {
+        assert!(rt; same_at(&rt, &bytes, &told_of(&rt, rt.alloc(), bytes), &one));
+    }
+    for bytes in [BOTH, CHECKED_BOTH] {
+        assert!(rt; same_at(&rt, &bytes, &told_of(&rt, rt.alloc(), bytes), &both));
+    }
+}
+
+// Whether bytes that are read are written as these.
+fn come_as(rt: &impl Abort, alloc: Global, bytes: &[u8], expected: &[u8]) -> bool {
+    let snapshot = read(rt, alloc, bytes, 7);
+    let mut script = Script::new(alloc, Vec::new(alloc), None, None);
+    // Any call on it tells what it keeps.
+    let list = &snapshot.list;
+    let answer = write_snapshot(&mut script, &snapshot.setup, list);
+    let comes = answer == Ok(()) && script.written() == expected;
+    drop(script);
+    drop(snapshot);
+    comes
+}
+
+#[test]
+fn what_is_read_is_written_in_version_three(rt: HostRuntime) {
+    for (bytes, expected) in [(ONE, CHECKED_ONE), (BOTH, CHECKED_BOTH)] {
+        assert!(rt; come_as(&rt, rt.alloc(), bytes, expected));
+    }
+}
