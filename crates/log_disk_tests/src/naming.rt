@@ -2,18 +2,20 @@
 
 use log_disk::MemoryDisk;
 use log_folder::{MemoryLogFolder, NumberedFile, RotateFault, begin_named};
-use std::alloc::{AllocError, Global};
+use std::alloc::Global;
+use std::io::Eprint;
+use std::process::Abort;
 use test_support::{holds_at, same_at};
 
 const OLD: [u8; 4096] = [65; 4096];
 
 const NEW: [u8; 4096] = [66; 4096];
 
-/// What fails, of the folder's calls or of those of the new file, and what is answered then.
+/// What fails, of the folder's calls or of those of the new file, and the fault then.
 struct Row {
     folder: Option<u64>,
     disk: Option<u64>,
-    answer: Result<(), RotateFault>,
+    fault: Option<RotateFault>,
 }
 
 /// The calls are: the new file is made, written and synced, it takes the name, and the names are synced.
@@ -21,55 +23,51 @@ const ROWS: [Row; 8] = [
     Row {
         folder: Some(0),
         disk: None,
-        answer: Err(RotateFault::Create),
+        fault: Some(RotateFault::Create),
     },
     Row {
         folder: None,
         disk: Some(0),
-        answer: Err(RotateFault::Write),
+        fault: Some(RotateFault::Write),
     },
     Row {
         folder: None,
         disk: Some(1),
-        answer: Err(RotateFault::Sync),
+        fault: Some(RotateFault::Sync),
     },
     Row {
         folder: Some(1),
         disk: None,
-        answer: Err(RotateFault::Rename),
+        fault: Some(RotateFault::Rename),
     },
     Row {
         folder: Some(2),
         disk: None,
-        answer: Err(RotateFault::Rename),
+        fault: Some(RotateFault::Rename),
     },
     Row {
         folder: Some(3),
         disk: None,
-        answer: Ok(()),
+        fault: None,
     },
     Row {
         folder: None,
         disk: Some(2),
-        answer: Ok(()),
+        fault: None,
     },
     Row {
         folder: None,
         disk: None,
-        answer: Ok(()),
+        fault: None,
     },
 ];
 
-/// What stands under the name after all calls: the number of the file, and how many others a loss of power may leave
-/// there. The old file has the number 0, the new one 1.
-fn stands(folder: &MemoryLogFolder) -> (Option<u64>, usize) {
-    (folder.named(), folder.older().len())
-}
-
-/// Whether what stands fits the answer.
+/// Whether what stands under the name after all calls fits the answer. The old file has the number 0, the new one 1; a
+/// loss of power may leave so many others there.
 fn fits(
     answer: &Result<NumberedFile<MemoryDisk>, RotateFault>,
-    (named, others): (Option<u64>, usize),
+    named: Option<u64>,
+    others: usize,
 ) -> bool {
     match answer {
         Ok(file) => {
@@ -86,40 +84,34 @@ fn fits(
 }
 
 /// Whether the answer and what stands are those of the row, for this seed; and whether the new file stands there.
-fn run(rt: &impl Eprint, alloc: Global, row: &Row, seed: u64) -> Result<(bool, bool), AllocError> {
-    let old = MemoryDisk::new(alloc, &OLD, seed, None)?;
+fn run(rt: &(impl Abort + Eprint), alloc: Global, row: &Row, seed: u64) -> (bool, bool) {
+    let old = MemoryDisk::new(alloc, &OLD, seed, None).expect(rt, "memory");
     let mut folder = MemoryLogFolder::new(alloc, Some(old), seed, row.folder, row.disk);
     let answer = begin_named(&mut folder, &NEW);
-    let told = match &answer {
-        Ok(_) => Ok(()),
-        Err(fault) => Err(*fault),
-    };
+    let fits = fits(&answer, folder.named(), folder.older().len());
     let place = (row.folder, row.disk, seed);
-    let holds = same_at(rt, &place, &told, &row.answer)
-        && holds_at(rt, &place, fits(&answer, stands(&folder)));
-    Ok((holds, folder.named() == Some(1)))
+    let holds = holds_at(rt, &place, fits) && same_at(rt, &place, &answer.err(), &row.fault);
+    (holds, folder.named() == Some(1))
 }
 
 #[test]
-fn each_call_fails_in_turn(rt: HostRuntime) -> Result<(), AllocError> {
+fn each_call_fails_in_turn(rt: HostRuntime) {
     for row in &ROWS {
         for seed in 0..16u64 {
-            let (holds, _) = run(&rt, rt.alloc(), row, seed)?;
+            let (holds, _) = run(&rt, rt.alloc(), row, seed);
             assert!(rt; holds);
         }
     }
-    Ok(())
 }
 
 #[test]
-fn a_rename_that_fails_may_be_done(rt: HostRuntime) -> Result<(), AllocError> {
+fn a_rename_that_fails_may_be_done(rt: HostRuntime) {
     let mut done = 0u64;
     for seed in 0..64u64 {
-        let (_, is_new) = run(&rt, rt.alloc(), &ROWS[3], seed)?;
+        let (_, is_new) = run(&rt, rt.alloc(), &ROWS[3], seed);
         if is_new && done < 64 {
             done += 1;
         }
     }
     assert!(rt; done > 0 && done < 64);
-    Ok(())
 }

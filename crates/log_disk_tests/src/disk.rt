@@ -1,21 +1,22 @@
 //! A disk that doesn't tell what it holds, as a real one: what the contracts say of such a one is when it failed, and
 //! the rest is for the tests.
-ghost use Rattle.std.specs.Prelude.{◌≡◌, ℕ, List, []};
+ghost use Rattle.std.specs.Prelude.{⊤};
+ghost use Rattle.log_disk_tests.specs.Untold.{no_bytes};
 
 use byte_io::DeviceFault;
-use log_disk::LogDisk;
+use log_disk::{LogDisk, MemoryDisk};
 
 #[derive(Drop)]
-pub struct Untold<D: LogDisk> {
-    pub disk: D,
+pub struct Untold {
+    pub disk: MemoryDisk,
 }
 
-impl<D: LogDisk> LogDisk for Untold<D> {
+impl LogDisk for Untold {
     ghost telling = { ⊥ };
 
     ghost tells = { λ _. ⊥ };
 
-    ghost written = { λ _. [] };
+    ghost written = { λ _. no_bytes };
 
     ghost may_leave = { λ _ _. ⊥ };
 
@@ -25,11 +26,11 @@ impl<D: LogDisk> LogDisk for Untold<D> {
 
     ghost left_since = { λ _ _ _. ⊥ };
 
-    ghost failure_count = { λ d. D.failure_count d.disk };
+    ghost failure_count = { λ d. d.disk.calls.failed };
 
-    ghost in_doubt = { λ d. D.in_doubt d.disk };
+    ghost in_doubt = { λ d. d.disk.calls.in_doubt };
 
-    ghost lost_name = { D.lost_name };
+    ghost lost_name = { ⊤ };
 
     ghost counts_now = { λ file t left le now. now };
 
