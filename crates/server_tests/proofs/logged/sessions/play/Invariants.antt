@@ -1,5 +1,5 @@
 use Rattle.std.proofs.Common.{◌+◌}
-use Rattle.session_log_tests.proofs.sessions.play.Given as goal
+use Rattle.server_tests.proofs.logged.sessions.play.Given as goal
 
 -- the engine that these names name
 abbrev pub ghosts-play_named-N-Ledger : goal.ghosts-play_named-N-Ledger

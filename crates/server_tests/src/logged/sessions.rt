@@ -2,9 +2,9 @@
 ghost use Rattle.std.specs.Prelude.{◌≡◌, []};
 ghost use Rattle.locked_engine.specs.Opened.{NamesEngine};
 
-use crate::frames::{Ask, bytes_of, frames};
-use crate::log::TestLog;
-use batch_store::Setup;
+use crate::logged::frames::{Ask, frames};
+use crate::logged::log::TestLog;
+use crate::pool::engines::{closed, opened, unopened};
 use byte_io::{Script, Sink};
 use locked_engine::{Engine, Named, Names, Seat};
 use log_desk::{Durable, FailAt, Log, LogDesk, MemoryLog, NoPause};
@@ -28,7 +28,7 @@ pub struct Case {
     pub pages: u64,
     pub fail_at: FailAt,
     pub path: &'static str,
-    pub replies: &'static str,
+    pub replies: &'static [u8],
     pub found: Found,
 }
 
@@ -42,19 +42,13 @@ pub struct Found {
     pub has_failed: bool,
 }
 
-/// Three rows and columns, two shards, a limit of 1,000 and at most 100 batches.
-pub fn small_setup(rt: &impl Abort) -> Setup {
-    Setup::new(3, 3, &[2, 4], 2, 1000, 100).expect(rt, "setup")
-}
-
 /// Plays a session over a new engine and an empty log.
 pub fn play<R: Wait + Disk + Machine + LogPlace<TestLog> + RandomSource + Abort>(
     rt: &R,
     alloc: Global,
     case: &Case,
 ) -> Found {
-    let plain = PlainEngine::new(rt, alloc, small_setup(rt)).expect(rt, "memory");
-    let names = Names::new(rt, alloc, &plain, 1).expect(rt, "names");
+    let (plain, names) = unopened(rt, alloc, 1);
     play_named::<Brand, Brand, R>(rt, alloc, plain, names, case)
 }
 
@@ -69,16 +63,10 @@ fn play_named<N: Named, H: Ledger, R: Wait + Disk + Machine + LogPlace<TestLog> 
     requires made_from { plain.setup ≡ names.setup }
     requires opened { plain.book.state ≡ N.opened }
 {
-    let (engine, mut seats) = match Engine::<N, H>::open(alloc, plain, names) {
-        Ok(opened) => opened,
-        Err(_) => panic!(rt; "open"),
-    };
+    let (engine, mut seats) = opened::<N, H>(rt, alloc, plain, names);
     let seat = seats.first_mut().expect(rt, "a seat");
     let found = serve_case(rt, alloc, &engine, seat, case);
-    match engine.close(rt, alloc, seats) {
-        Ok(closed) => drop(closed),
-        Err(_) => panic!(rt; "close"),
-    }
+    drop(closed(rt, alloc, engine, seats));
     found
 }
 
@@ -130,9 +118,7 @@ fn serve_case<'x, N: Named, H: Ledger, R: Wait + Disk + Machine + LogPlace<TestL
     let ended = serve(alloc, &mut link, &mut keeper, 1 << 40);
     keeper.end();
     drop(saver);
-    let expected = bytes_of(rt, alloc, case.replies);
-    let is_answered = ended == Ended::Closed { rest: 0 } && link.written() == expected.as_slice();
-    drop(expected);
+    let is_answered = ended == Ended::Closed { rest: 0 } && link.written() == case.replies;
     drop(link);
     let (log, durable) = desk.close().expect(rt, "the turn");
     let found = Found {

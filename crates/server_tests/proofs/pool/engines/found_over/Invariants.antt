@@ -1,5 +1,5 @@
 use Rattle.std.proofs.Common.{◌+◌}
-use Rattle.server_tests.proofs.pool.engines.pool_beside.Given as goal
+use Rattle.server_tests.proofs.pool.engines.found_over.Given as goal
 
 -- the engine that these names name
 abbrev pub ghosts-pooled-N-Ledger : goal.ghosts-pooled-N-Ledger

@@ -1,5 +1,5 @@
 use Rattle.std.proofs.Common.{◌+◌}
-use Rattle.session_log_tests.proofs.pools.played.Given as goal
+use Rattle.server_tests.proofs.logged.pools.played.Given as goal
 
 -- the engine that these names name
 abbrev pub ghosts-play-N-Ledger : goal.ghosts-play-N-Ledger
