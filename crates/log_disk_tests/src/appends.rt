@@ -1,5 +1,5 @@
 //! The bytes that a log writes, and the room that its blocks take.
-ghost use Rattle.std.specs.Prelude.{◌≡◌};
+ghost use Rattle.std.specs.Prelude.{◌≡◌, ◌≤◌};
 ghost use Rattle.stored_log.specs.Kept.{number_of};
 
 use batch_store::{Batch, Book};
@@ -42,12 +42,14 @@ pub fn put(log: &mut StoredLog<MemoryDisk>, batch: Arc<Batch>) -> bool
     log.append(&batches).is_ok()
 }
 
-/// Whether a file has these pages and no others, all of them durable.
-fn has_pages(log: &StoredLog<MemoryDisk>, pages: &[[u8; PAGE]]) -> bool {
+/// Whether a file has these pages, zeros after them up to so many pages, and nothing more, all of it durable.
+fn has_pages(log: &StoredLog<MemoryDisk>, pages: &[[u8; PAGE]], count: usize) -> bool
+    requires { count ≤ 1000 }
+{
     let Some(disk) = log.disk() else {
         return false;
     };
-    if disk.durable_bytes() != disk.bytes() {
+    if disk.durable_bytes() != disk.bytes() || disk.bytes().len() != PAGE * count {
         return false;
     }
     let mut rest = disk.bytes();
@@ -61,25 +63,24 @@ fn has_pages(log: &StoredLog<MemoryDisk>, pages: &[[u8; PAGE]]) -> bool {
         }
         rest = after;
     }
-    rest.is_empty()
+    rest.iter().all(|byte| *byte == 0)
 }
 
-// A file has at most 268,435,456 pages.
+// Room is written in calls of 16 pages at most. A file has at most 268,435,456 pages.
 #[test]
 fn blocks_take_their_room(rt: HostRuntime) {
     let alloc = rt.alloc();
     let setup = small_setup(&rt);
-    let blank = [0; PAGE];
     let mut folder = MemoryLogFolder::new(alloc, None, 1, None, None);
     let mut log = begun(&rt, alloc, &mut folder);
-    assert!(rt; has_pages(&log, &[head()]));
-    assert!(rt; !log.is_failed() && log.make_room(3).is_ok());
-    assert!(rt; has_pages(&log, &[head(), blank, blank, blank]));
+    assert!(rt; has_pages(&log, &[head()], 1));
+    assert!(rt; !log.is_failed() && log.make_room(19).is_ok());
+    assert!(rt; has_pages(&log, &[head()], 20));
     assert!(rt; put(&mut log, one_cell(&rt, alloc, &setup, 7, 5)));
-    assert!(rt; has_pages(&log, &[head(), b1(), blank, blank]));
+    assert!(rt; has_pages(&log, &[head(), b1()], 20));
     assert!(rt; put(&mut log, one_cell(&rt, alloc, &setup, 8, 3)));
-    assert!(rt; has_pages(&log, &[head(), b1(), b2(), blank]));
+    assert!(rt; has_pages(&log, &[head(), b1(), b2()], 20));
     assert!(rt; !log.is_failed() && log.make_room(268_435_456) == Err(RoomFault::Full));
-    assert!(rt; log.room() == 1);
+    assert!(rt; log.room() == 17);
     drop(log);
 }
