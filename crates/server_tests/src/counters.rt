@@ -1,8 +1,6 @@
 //! What a server counts: the frames in streams that come in any pieces, and what each call adds.
 
 use server_counters::{CODES, Counters, FrameScan, KINDS, LastSave, Seen, SessionCounts, Way};
-use std::process::Abort;
-use std::time::Clock;
 use test_support::{same, same_at};
 
 /// A cell, a status, a row, a put of one cell, a Stats, and a Fold.
@@ -43,8 +41,8 @@ fn seen_on(scan: &mut FrameScan, bytes: &[u8], wanted: &[Seen], before: usize) -
     let mut count = before;
     let mut rest = bytes;
     for _ in 0..bytes.len() {
-        let (seen, behind) = scan.next(rest);
-        rest = behind;
+        let (seen, after) = scan.next(rest);
+        rest = after;
         let Some(seen) = seen else {
             break;
         };
@@ -56,19 +54,11 @@ fn seen_on(scan: &mut FrameScan, bytes: &[u8], wanted: &[Seen], before: usize) -
     Some(count)
 }
 
-// The same of bytes that come in two pieces, of which the first has so many.
-fn seen_in_halves(way: Way, bytes: &[u8], wanted: &[Seen], at: usize) -> Option<usize> {
-    let mut scan = FrameScan::new(way);
-    let (first, second) = bytes.split_at_checked(at)?;
-    let count = seen_on(&mut scan, first, wanted, 0)?;
-    seen_on(&mut scan, second, wanted, count)
-}
-
-// The same of bytes that come one by one.
-fn seen_by_bytes(way: Way, bytes: &[u8], wanted: &[Seen]) -> Option<usize> {
+// The same of bytes that come in pieces of this size.
+fn seen_in_pieces(way: Way, bytes: &[u8], wanted: &[Seen], size: usize) -> Option<usize> {
     let mut scan = FrameScan::new(way);
     let mut count = 0usize;
-    for piece in bytes.chunks(1) {
+    for piece in bytes.chunks(size) {
         count = seen_on(&mut scan, piece, wanted, count)?;
     }
     Some(count)
@@ -77,45 +67,48 @@ fn seen_by_bytes(way: Way, bytes: &[u8], wanted: &[Seen]) -> Option<usize> {
 #[test]
 fn frames_are_seen_in_any_pieces(rt: HostRuntime) {
     for (way, bytes, wanted) in [(Way::In, REQUESTS, ASKED), (Way::Out, REPLIES, ANSWERED)] {
-        for at in 0..bytes.len() {
-            let found = seen_in_halves(way, bytes, wanted, at);
-            assert!(rt; same_at(&rt, &at, &found, &Some(wanted.len())));
+        for size in 1..=bytes.len() {
+            let found = seen_in_pieces(way, bytes, wanted, size);
+            assert!(rt; same_at(&rt, &size, &found, &Some(wanted.len())));
         }
-        let found = seen_by_bytes(way, bytes, wanted);
-        assert!(rt; same(&rt, &found, &Some(wanted.len())));
     }
-}
-
-// Counters that nothing was added to.
-fn fresh<R: Clock + Abort>(rt: &R, alloc: std::alloc::Global) -> Counters {
-    Counters::new(rt, alloc, 3).expect(rt, "memory")
 }
 
 #[test]
 fn each_call_adds_to_its_number(rt: HostRuntime) {
-    let counters = fresh(&rt, rt.alloc());
+    let counters = Counters::new(&rt, rt.alloc(), 3).expect(&rt, "memory");
     assert!(rt; same(&rt, &(counters.workers(), counters.accepted(7)), &(3, 7)));
     counters.note_start(5);
     assert!(rt; same(&rt, &(counters.accepted(7), counters.accepted(3)), &(2, 0)));
     counters.note_batch(10);
-    counters.note_batch(0);
     counters.note_batch(4);
     counters.note_repeat();
     counters.note_received(100);
     counters.note_sent(30);
-    counters.note_sent(3);
     let found = (
         counters.cells(),
         counters.repeats(),
         counters.received(),
         counters.sent(),
     );
-    assert!(rt; same(&rt, &found, &(14, 1, 100, 33)));
+    assert!(rt; same(&rt, &found, &(14, 1, 100, 30)));
+    for _ in 0..3u8 {
+        counters.sessions.note_connection();
+    }
+    counters.sessions.note_worker();
+    counters.sessions.note_worker();
+    counters.sessions.note_end();
+    let wanted = SessionCounts {
+        served: 2,
+        open: 1,
+        waiting: 1,
+    };
+    assert!(rt; same(&rt, &counters.sessions.counts(), &wanted));
 }
 
 #[test]
 fn requests_and_replies_are_counted_by_what_they_are(rt: HostRuntime) {
-    let counters = fresh(&rt, rt.alloc());
+    let counters = Counters::new(&rt, rt.alloc(), 3).expect(&rt, "memory");
     counters.note_requests(8, 3);
     counters.note_requests(99, 5);
     for (place, one) in KINDS.iter().enumerate() {
@@ -142,22 +135,4 @@ fn requests_and_replies_are_counted_by_what_they_are(rt: HostRuntime) {
         age.is_some(),
     );
     assert!(rt; same(&rt, &found, &(1, 1, 258, true)));
-}
-
-#[test]
-fn connections_come_are_served_and_end(rt: HostRuntime) {
-    let counters = fresh(&rt, rt.alloc());
-    for _ in 0..5u8 {
-        counters.sessions.note_connection();
-    }
-    for _ in 0..3u8 {
-        counters.sessions.note_worker();
-    }
-    counters.sessions.note_end();
-    let wanted = SessionCounts {
-        served: 3,
-        open: 2,
-        waiting: 2,
-    };
-    assert!(rt; same(&rt, &counters.sessions.counts(), &wanted));
 }

@@ -1,20 +1,16 @@
-//! The threads that compact beside a pool's workers: which sessions wake them, and that their sums change no answer.
+//! Which sessions wake the threads that compact beside a pool's workers.
 
-use crate::pool::engines::{Accepted, pool_beside, sessions_in_turn};
+use crate::pool::engines::{Accepted, sessions_in_turn};
 use crate::pool::frames::TWO_PUTS_AND_A_CELL;
-use crate::pool::gates::OpenGate;
-use crate::pool::links::{Kind, links};
 use byte_io::Script;
 use crossbeam_channel::bounded;
 use server_counters::Machine;
-use session_pool::{Disk, LogPlace, PoolFault, PoolReport, Saver};
+use session_pool::{Disk, LogPlace};
 use socket_server::FileLog;
 use std::alloc::Global;
 use std::process::Abort;
 use std::random::RandomSource;
 use std::sync::Wait;
-use std::test::Fail;
-use std::thread::Threads;
 use test_support::{pieces, same_at};
 
 // A Cell at row 0 and column 0.
@@ -51,43 +47,9 @@ fn waking<R: Wait + Disk + Machine + LogPlace<FileLog> + RandomSource + Abort>(
 }
 
 #[test]
-fn accepted_puts_wake_whoever_compacts(rt: HostRuntime) -> Result<(), Fail> {
-    let mut i = 0u64;
-    for (frames, accepted, messages) in WAKES {
+fn accepted_puts_wake_whoever_compacts(rt: HostRuntime) {
+    for (i, (frames, accepted, messages)) in WAKES.iter().enumerate() {
         let found = waking(&rt, rt.alloc(), frames);
         assert!(rt; same_at(&rt, &i, &found, &(*accepted, *messages)));
-        i = i.saturating_add(1);
     }
-    Ok(())
-}
-
-// What a pool did over so many Puts of a count of 1 at one place, and the count there and in the next column then.
-fn put_by_pool<
-    R: Threads + Wait + Disk + Machine + LogPlace<FileLog> + RandomSource + Abort + Sync,
->(
-    rt: &R,
-    alloc: Global,
-    count: u8,
-    compactors: u64,
-) -> (Result<PoolReport, PoolFault>, [Option<u64>; 2]) {
-    let saver = Saver::new(None);
-    let links = links(rt, alloc, Kind::Put, count);
-    let (report, closed) = pool_beside(rt, alloc, 4, 4, &OpenGate, &saver, links, compactors);
-    let counts = [closed.cell(0, 0), closed.cell(0, 1)];
-    drop(closed);
-    drop(saver);
-    (report, counts)
-}
-
-#[test]
-fn sums_beside_puts_change_no_count(rt: HostRuntime) -> Result<(), Fail> {
-    let report = PoolReport {
-        started: 4,
-        served: 100,
-    };
-    for compactors in [1u64, 2] {
-        let found = put_by_pool(&rt, rt.alloc(), 100, compactors);
-        assert!(rt; same_at(&rt, &compactors, &found, &(Ok(report), [Some(100), None])));
-    }
-    Ok(())
 }

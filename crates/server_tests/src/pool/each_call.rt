@@ -10,7 +10,6 @@ use std::alloc::Global;
 use std::process::Abort;
 use std::random::RandomSource;
 use std::sync::Wait;
-use std::test::Fail;
 use test_support::{pieces, same_at};
 use wire_proto::Ended;
 
@@ -94,31 +93,7 @@ static TURNS: &[Turn] = &[
 ];
 
 // How a session ends, how many bytes of the replies are taken, and what is accepted then.
-#[derive(Clone, Copy)]
-struct End {
-    ended: Ended,
-    taken: u64,
-    accepted: Accepted,
-}
-
-// The end at a failed read, or at a write that fails behind so many bytes.
-fn failed_read(taken: u64, accepted: Accepted) -> End {
-    End {
-        ended: Ended::ReadFault,
-        taken,
-        accepted,
-    }
-}
-
-fn failed_write(taken: u64, accepted: Accepted) -> End {
-    End {
-        ended: Ended::WriteFault {
-            written: u128::from(taken),
-        },
-        taken,
-        accepted,
-    }
-}
+type End = (Ended, u64, Accepted);
 
 // The most bytes that the link moves in a call.
 const STEP: u64 = 8;
@@ -127,7 +102,7 @@ const STEP: u64 = 8;
 const LAST: u64 = 96;
 
 // How the session ends whose call with this number fails. A frame is answered once it was read to its end, whatever
-// came behind it, and its reply is written before more is read.
+// came after it, and its reply is written before more is read.
 fn end_at(call: u64) -> End {
     let mut left = call;
     let (mut read, mut needed) = (0u64, 0u64);
@@ -137,26 +112,24 @@ fn end_at(call: u64) -> End {
         needed = needed.saturating_add(frame.len() as u64);
         let asked = needed.div_ceil(STEP).saturating_sub(read);
         if left < asked {
-            return failed_read(taken, accepted);
+            return (Ended::ReadFault, taken, accepted);
         }
         left -= asked;
         read = read.saturating_add(asked);
         accepted = *after;
         let replied = (reply.len() as u64).div_ceil(STEP);
         if left < replied {
-            return failed_write(taken.saturating_add(left.saturating_mul(STEP)), accepted);
+            let taken = taken.saturating_add(left.saturating_mul(STEP));
+            let written = u128::from(taken);
+            return (Ended::WriteFault { written }, taken, accepted);
         }
         left -= replied;
         taken = taken.saturating_add(reply.len() as u64);
     }
     if left == 0 {
-        return failed_read(taken, accepted);
+        return (Ended::ReadFault, taken, accepted);
     }
-    End {
-        ended: Ended::Closed { rest: 0 },
-        taken,
-        accepted,
-    }
+    (Ended::Closed { rest: 0 }, taken, accepted)
 }
 
 // All frames, or all replies.
@@ -185,11 +158,11 @@ fn taken_of(rt: &impl Abort, alloc: Global, link: &Script) -> Option<u64> {
     begins.then_some(link.written().len() as u64)
 }
 
-// What became of the session and of the one behind it, how many calls the link of the first had and how many of them
+// What became of the session and of the one after it, how many calls the link of the first had and how many of them
 // failed, and how many bytes of the replies each link took.
 type Found = (InTurn, (u64, u64), [Option<u64>; 2]);
 
-// The session whose call with this number fails, and behind it, where asked for, the session without a failure.
+// The session whose call with this number fails, and after it, where asked for, the session without a failure.
 fn found_at<R: Wait + Disk + Machine + LogPlace<FileLog> + RandomSource + Abort>(
     rt: &R,
     alloc: Global,
@@ -211,38 +184,30 @@ fn found_at<R: Wait + Disk + Machine + LogPlace<FileLog> + RandomSource + Abort>
     (sessions, calls, taken)
 }
 
-// The session ends at the call that fails, and makes no further call. One behind it gets all 277 bytes of the replies.
+// The session ends at the call that fails, and makes no further call. One after it gets all 277 bytes of the replies.
 fn wanted(call: u32, again: bool) -> Found {
-    let end = end_at(u64::from(call));
+    let (ended, taken, accepted) = end_at(u64::from(call));
     let calls = (
         u64::from(call).min(LAST) + 1,
         u64::from(u64::from(call) <= LAST),
     );
-    let first = (end.ended, end.accepted);
+    let first = (ended, accepted);
     if again {
         let second = (Ended::Closed { rest: 0 }, (3, 10));
         let sessions = (first, Some(second), (3, 10), Some(10));
-        (sessions, calls, [Some(end.taken), Some(277)])
+        (sessions, calls, [Some(taken), Some(277)])
     } else {
-        let sessions = (first, None, end.accepted, Some(end.accepted.1));
-        (sessions, calls, [Some(end.taken), Some(0)])
+        let sessions = (first, None, accepted, Some(accepted.1));
+        (sessions, calls, [Some(taken), Some(0)])
     }
 }
 
 #[test]
-fn each_call_fails_in_turn(rt: HostRuntime) -> Result<(), Fail> {
-    for call in 0..=97u32 {
-        let found = found_at(&rt, rt.alloc(), call, false);
-        assert!(rt; same_at(&rt, &call, &found, &wanted(call, false)));
+fn each_call_fails_in_turn(rt: HostRuntime) {
+    for again in [false, true] {
+        for call in 0..=97u32 {
+            let found = found_at(&rt, rt.alloc(), call, again);
+            assert!(rt; same_at(&rt, &(call, again), &found, &wanted(call, again)));
+        }
     }
-    Ok(())
-}
-
-#[test]
-fn a_session_behind_a_failed_one_gets_all_replies(rt: HostRuntime) -> Result<(), Fail> {
-    for call in 0..=97u32 {
-        let found = found_at(&rt, rt.alloc(), call, true);
-        assert!(rt; same_at(&rt, &call, &found, &wanted(call, true)));
-    }
-    Ok(())
 }

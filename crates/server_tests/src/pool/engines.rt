@@ -23,9 +23,13 @@ use std::sync::ledger::Ledger;
 use std::thread::Threads;
 use wire_proto::{Ended, serve};
 
-// An engine without batches that is to be opened with this many seats: three rows, three columns, two shards, a limit
-// of 1,000 and at most 100 batches.
-fn unopened<R: RandomSource + Abort>(rt: &R, alloc: Global, seats: usize) -> (PlainEngine, Names)
+/// An engine without batches that is to be opened with this many seats: three rows, three columns, two shards, a limit
+/// of 1,000 and at most 100 batches.
+pub fn unopened<R: RandomSource + Abort>(
+    rt: &R,
+    alloc: Global,
+    seats: usize,
+) -> (PlainEngine, Names)
     ensures { result.0.setup ≡ result.1.setup }
 {
     let setup = Setup::new(3, 3, &[2, 4], 2, 1000, 100).expect(rt, "setup");
@@ -34,8 +38,8 @@ fn unopened<R: RandomSource + Abort>(rt: &R, alloc: Global, seats: usize) -> (Pl
     (plain, names)
 }
 
-// The engine of several threads that has these names, and its seats.
-fn opened<N: Named, H: Ledger>(
+/// The engine of several threads that has these names, and its seats.
+pub fn opened<N: Named, H: Ledger>(
     rt: &impl Abort,
     alloc: Global,
     plain: PlainEngine,
@@ -51,8 +55,8 @@ fn opened<N: Named, H: Ledger>(
     }
 }
 
-// The engine of one thread again, with all seats given back.
-fn closed<N: Named, H: Ledger, R: Wait + Abort>(
+/// The engine of one thread again, with all seats given back.
+pub fn closed<N: Named, H: Ledger, R: Wait + Abort>(
     rt: &R,
     alloc: Global,
     engine: Engine<N, H>,
@@ -66,12 +70,6 @@ fn closed<N: Named, H: Ledger, R: Wait + Abort>(
 
 /// The number of accepted batches and their total.
 pub type Accepted = (u64, u64);
-
-/// The number of accepted batches and their total.
-pub fn accepted_by(closed: &PlainEngine) -> Accepted {
-    let status = closed.status();
-    (status.batches, status.total)
-}
 
 // Sends a session over a link that hasn't failed.
 fn send_session<R: Wait + Abort>(
@@ -87,8 +85,8 @@ fn send_session<R: Wait + Abort>(
     assert!(rt; is_sent);
 }
 
-// A closed channel with sessions over these links, numbered in order.
-fn queued<R: Wait + Abort>(
+/// A closed channel with sessions over these links, numbered in order.
+pub fn queued<R: Wait + Abort>(
     rt: &R,
     alloc: Global,
     links: Vec<Script>,
@@ -103,10 +101,17 @@ fn queued<R: Wait + Abort>(
     receiver
 }
 
-/// What a pool did over sessions, or why it did nothing, and the engine of one thread once all seats were given back.
-pub type Outcome = (Result<PoolReport, PoolFault>, PlainEngine);
+/// What a pool did over sessions, or why it did nothing; and what is accepted once all seats were given back, how many of
+/// the batches are folded, and the count at row 0 and column 0.
+#[derive(Clone, Copy)]
+pub struct Found {
+    pub report: Result<PoolReport, PoolFault>,
+    pub accepted: Accepted,
+    pub folded: u64,
+    pub count: Option<u64>,
+}
 
-// Opens an engine, serves sessions by a pool with the first `workers` of its seats, and closes it.
+// Opens an engine, serves sessions by a pool with all of its seats, and closes it.
 fn pooled<
     N: Named + Send + Sync,
     H: Ledger + Send + Sync,
@@ -117,24 +122,22 @@ fn pooled<
     alloc: Global,
     plain: PlainEngine,
     names: Names,
-    workers: usize,
     gate: &G,
     saver: &Saver,
     sessions: &Receiver<Session<Script>, Global>,
     compactors: u64,
-) -> Outcome
+) -> Found
     requires named { NamesEngine names N.setup N.seats N.history N.name N.parts H.name H.parts }
     requires made_from { plain.setup ≡ names.setup }
     requires opened { plain.book.state ≡ N.opened }
 {
     let (engine, mut seats) = opened::<N, H>(rt, alloc, plain, names);
-    let (serving, _) = seats.split_at_mut_checked(workers).expect(rt, "seats");
     let desk: Option<LogDesk<N, FileLog>> = None;
     let report = run_pool(
         rt,
         alloc,
         &engine,
-        serving,
+        &mut seats,
         sessions,
         gate,
         saver,
@@ -142,73 +145,39 @@ fn pooled<
         compactors,
     );
     drop(desk);
-    (report, closed(rt, alloc, engine, seats))
+    let closed = closed(rt, alloc, engine, seats);
+    let status = closed.status();
+    let found = Found {
+        report,
+        accepted: (status.batches, status.total),
+        folded: closed.folded(),
+        count: closed.cell(0, 0),
+    };
+    drop(closed);
+    found
 }
 
-/// Serves sessions over these links, numbered in order, by a pool with the first `workers` of an engine's seats and two
-/// threads that compact.
-pub fn pool_over<
+/// Serves sessions over these links, numbered in order, by a pool with all seats of an engine and so many threads that
+/// compact.
+pub fn found_over<
     G: Gate<R> + Sync,
     R: Threads + Wait + Disk + Machine + LogPlace<FileLog> + RandomSource + Abort + Sync,
 >(
     rt: &R,
     alloc: Global,
     seats: usize,
-    workers: usize,
-    gate: &G,
-    saver: &Saver,
-    links: Vec<Script>,
-) -> Outcome {
-    pool_beside(rt, alloc, seats, workers, gate, saver, links, 2)
-}
-
-/// The same with so many threads that compact.
-pub fn pool_beside<
-    G: Gate<R> + Sync,
-    R: Threads + Wait + Disk + Machine + LogPlace<FileLog> + RandomSource + Abort + Sync,
->(
-    rt: &R,
-    alloc: Global,
-    seats: usize,
-    workers: usize,
     gate: &G,
     saver: &Saver,
     links: Vec<Script>,
     compactors: u64,
-) -> Outcome {
+) -> Found {
     let sessions = queued(rt, alloc, links);
     let (plain, names) = unopened(rt, alloc, seats);
-    let outcome = pooled::<Brand, Brand, G, R>(
-        rt, alloc, plain, names, workers, gate, saver, &sessions, compactors,
+    let found = pooled::<Brand, Brand, G, R>(
+        rt, alloc, plain, names, gate, saver, &sessions, compactors,
     );
     drop(sessions);
-    outcome
-}
-
-/// What a pool did over sessions, or why it did nothing, and what is accepted then.
-pub type Found = (Result<PoolReport, PoolFault>, Accepted);
-
-/// The plain values of an outcome.
-pub fn found_of(outcome: &Outcome) -> Found {
-    (outcome.0, accepted_by(&outcome.1))
-}
-
-/// Serves sessions over these links by a pool with the first `workers` of an engine's seats and without snapshots.
-pub fn found_over<
-    G: Gate<R> + Sync,
-    R: Threads + Wait + Disk + Machine + LogPlace<FileLog> + RandomSource + Abort + Sync,
->(rt: &R, alloc: Global, seats: usize, workers: usize, gate: &G, links: Vec<Script>) -> Found {
-    let saver = Saver::new(None);
-    let outcome = pool_over(rt, alloc, seats, workers, gate, &saver, links);
-    let found = found_of(&outcome);
-    drop(outcome);
-    drop(saver);
     found
-}
-
-/// A pool started so many workers, which served so many sessions, and the engine has accepted this.
-pub fn served_by(started: u64, served: u64, accepted: Accepted) -> Found {
-    (Ok(PoolReport { started, served }), accepted)
 }
 
 /// How a session ended, and what was accepted then.
@@ -241,7 +210,7 @@ fn total_of_shards(closed: &PlainEngine) -> Option<u64> {
     first.checked_add(second)
 }
 
-/// What became of a session and of the one behind it, if there is one, and what the engine has accepted once it is
+/// What became of a session and of the one after it, if there is one, and what the engine has accepted once it is
 /// closed, in its book and in its shards.
 pub type InTurn = (After, Option<After>, Accepted, Option<u64>);
 
@@ -272,7 +241,8 @@ fn served_in_turn<
         None => None,
     };
     let closed = closed(rt, alloc, engine, seats);
-    let accepted = accepted_by(&closed);
+    let status = closed.status();
+    let accepted = (status.batches, status.total);
     let total = total_of_shards(&closed);
     drop(closed);
     (after_first, after_second, accepted, total)

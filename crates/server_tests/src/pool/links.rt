@@ -18,22 +18,20 @@ pub enum Kind {
     /// The same Put, and one that each link gives. Read number 0 gives the first, number 1 the second, number 2 the
     /// end; the one with the link's number modulo 4 fails.
     FailedRead,
-    /// The same two Puts. The link takes as many bytes as its number.
-    FailedWrite,
     /// Two Puts and a Cell that each link gives, in one piece. The link takes as many bytes as its number.
-    FailedWriteOfAll,
+    FailedWrite,
 }
 
 // The pieces that a link gives.
 fn pieces_of(rt: &impl Abort, alloc: Global, kind: Kind, number: u8) -> Vec<Vec<u8>> {
-    let own = put_frame(7, number);
-    let shared = put_frame(8, 0);
+    let own = put_frame(7, number, 1);
+    let shared = put_frame(8, 0, 1);
     let (first, second): (&[u8], &[u8]) = match kind {
         Kind::Put => (&own, &[]),
         Kind::PutAndSave => (&own, SAVE),
         Kind::PutAndFold => (&own, FOLD),
-        Kind::FailedRead | Kind::FailedWrite => (&own, &shared),
-        Kind::FailedWriteOfAll => (TWO_PUTS_AND_A_CELL, &[]),
+        Kind::FailedRead => (&own, &shared),
+        Kind::FailedWrite => (TWO_PUTS_AND_A_CELL, &[]),
     };
     let mut pieces = Vec::new(alloc);
     let piece = first.to_vec(alloc).expect(rt, "memory");
@@ -51,7 +49,7 @@ fn faults_of(kind: Kind, number: u8) -> (Option<u64>, Option<u64>) {
     match kind {
         Kind::Put | Kind::PutAndSave | Kind::PutAndFold => (None, None),
         Kind::FailedRead => (Some(number % 4), None),
-        Kind::FailedWrite | Kind::FailedWriteOfAll => (None, Some(number)),
+        Kind::FailedWrite => (None, Some(number)),
     }
 }
 

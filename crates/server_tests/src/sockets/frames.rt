@@ -45,9 +45,6 @@ pub const STATUS: &[u8] = b"\0\0\0\0\x04";
 /// Nothing was accepted.
 pub const COUNTS_NONE: &[u8] = b"\0\0\0\x10\x84\0\0\0\0\0\0\0\0\0\0\0\0\0\0\0\0";
 
-/// One batch was accepted, and the total is 5.
-pub const COUNTS_ONE: &[u8] = b"\0\0\0\x10\x84\0\0\0\0\0\0\0\x01\0\0\0\0\0\0\0\x05";
-
 /// Two batches were accepted, and the total is 8.
 pub const COUNTS_TWO: &[u8] = b"\0\0\0\x10\x84\0\0\0\0\0\0\0\x02\0\0\0\0\0\0\0\x08";
 
@@ -65,9 +62,6 @@ pub const FOLD: &[u8] = b"\0\0\0\0\x0d";
 
 /// Two batches were saved.
 pub const SAVED_TWO: &[u8] = b"\0\0\0\x08\x86\0\0\0\0\0\0\0\x02";
-
-/// Refused, since the snapshot wasn't written.
-pub const SAVE_FAILED: &[u8] = b"\0\0\0\x0a\xff\0\x2a\0\0\0\0\0\0\0\0";
 
 /// Refused, since there is no place for snapshots.
 pub const SAVE_OFF: &[u8] = b"\0\0\0\x0a\xff\0\x2b\0\0\0\0\0\0\0\0";

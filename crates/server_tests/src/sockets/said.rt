@@ -27,8 +27,8 @@ impl<'a, R: Wait> Write for Said<'a, R> {
     }
 }
 
-// What stands between these words and the end of their line, once that is there.
-fn behind(alloc: Global, text: &str, words: &str) -> Result<Option<String>, AllocError> {
+// What is between these words and the end of their line, once that is there.
+fn line_after(alloc: Global, text: &str, words: &str) -> Result<Option<String>, AllocError> {
     let Some((_, rest)) = text.split_once(words) else {
         return Ok(None);
     };
@@ -47,7 +47,7 @@ fn said_until_now<R: Wait>(
 ) -> Result<Option<String>, AllocError> {
     let guard = bytes.lock(rt);
     let found = match std::str::from_utf8(guard.as_slice()) {
-        Ok(text) => behind(alloc, text, words),
+        Ok(text) => line_after(alloc, text, words),
         Err(_) => Ok(None),
     };
     drop(guard);

@@ -1,9 +1,10 @@
 //! Servers with a client in another thread.
 
+use crate::pool::saves::saved_batches;
 use crate::sockets::clients::{Over, is_served};
 use crate::sockets::frames::{
-    ACCEPTED_FIRST, ACCEPTED_SECOND, CELL, COUNTS_NONE, COUNTS_ONE, COUNTS_TWO, EXPORT, FIVE,
-    NUMBER_REUSED, ROW, SAVE, SAVE_FAILED, SAVE_OFF, SAVED_TWO, SIX, STATUS, STOP, THREE, Turn,
+    ACCEPTED_FIRST, ACCEPTED_SECOND, CELL, COUNTS_NONE, COUNTS_TWO, EXPORT, FIVE, NUMBER_REUSED,
+    ROW, SAVE, SAVE_OFF, SAVED_TWO, SIX, STATUS, STOP, THREE, Turn,
 };
 use crate::sockets::said::Said;
 use crate::sockets::settings::{ANY_PORT, PLAIN, Plan, settings};
@@ -11,13 +12,11 @@ use byte_io::Counted;
 use locked_engine::Status;
 use server_counters::Machine;
 use session_pool::{Disk, LogPlace};
-use snap_file::SaveFault;
 use socket_server::{FileLog, Host, LogHost, ServerFault, Settings, run_server};
 use std::alloc::Global;
 use std::net::{Net, TcpListener, TcpStream};
 use std::process::Abort;
 use std::random::RandomSource;
-use std::rt::Files;
 use std::sync::{Mutex, Wait};
 use std::test::Fail;
 use std::thread::Threads;
@@ -99,39 +98,7 @@ const PUT_AND_SAVED: &[Turn] = &[
     STOP,
 ];
 
-#[test]
-fn batches_over_tcp_are_answered_and_saved(rt: HostRuntime) -> Result<(), Fail> {
-    let path = "tcp_test.snapshot";
-    let plan = Plan {
-        tcp: Some(ANY_PORT),
-        snapshot: Some(path),
-        ..PLAIN
-    };
-    let outcome = outcome_of(&rt, rt.alloc(), &plan, Over::Tcp, PUT_AND_SAVED);
-    assert!(&rt; is_outcome(outcome, accepted(2, 8)));
-    assert!(&rt; saved_batches(&rt, rt.alloc(), path) == 2);
-    fs::remove_file(&rt, path)?;
-    fs::remove_file(&rt, "tcp_test.snapshot.lock")?;
-    Ok(())
-}
-
-// How many batches were saved.
-fn saved_batches<R: Files + Abort>(rt: &R, alloc: Global, path: &str) -> usize {
-    let saved = snap_file::load(rt, alloc, path, 1 << 20).expect(rt, "load");
-    let batches = saved.list.batches.len();
-    drop(saved);
-    batches
-}
-
-// Two puts and a save to a first server over a Unix socket.
-const PUT_FIRST: &[Turn] = &[
-    (FIVE, ACCEPTED_FIRST),
-    (THREE, ACCEPTED_SECOND),
-    (SAVE, SAVED_TWO),
-    STOP,
-];
-
-// A second one goes on from there.
+// A second server goes on from there.
 const PUT_AGAIN: &[Turn] = &[
     (STATUS, COUNTS_TWO),
     (FIVE, ACCEPTED_FIRST),
@@ -141,27 +108,27 @@ const PUT_AGAIN: &[Turn] = &[
 ];
 
 #[test]
-fn a_saved_server_goes_on_over_a_unix_socket(rt: HostRuntime) -> Result<(), Fail> {
-    let path = "unix_test/socket";
-    let snapshot = "unix_test/snapshot";
+fn a_saved_server_goes_on_over_another_socket(rt: HostRuntime) -> Result<(), Fail> {
+    let path = "saved_test.socket";
+    let snapshot = "saved_test.snapshot";
     let plan = Plan {
+        tcp: Some(ANY_PORT),
         unix: Some(path),
         snapshot: Some(snapshot),
         ..PLAIN
     };
-    fs::create_dir(&rt, "unix_test")?;
-    for turns in [PUT_FIRST, PUT_AGAIN] {
-        let outcome = outcome_of(&rt, rt.alloc(), &plan, Over::Unix, turns);
+    for (over, turns) in [(Over::Tcp, PUT_AND_SAVED), (Over::Unix, PUT_AGAIN)] {
+        let outcome = outcome_of(&rt, rt.alloc(), &plan, over, turns);
         assert!(&rt; is_outcome(outcome, accepted(2, 8)));
-        assert!(&rt; !fs::exists(&rt, path).expect(&rt, "exists"));
+        assert!(&rt; saved_batches(&rt, rt.alloc(), snapshot) == 2);
+        assert!(&rt; !fs::exists(&rt, path)?);
     }
     fs::remove_file(&rt, snapshot)?;
-    fs::remove_file(&rt, "unix_test/snapshot.lock")?;
-    fs::remove_dir(&rt, "unix_test")?;
+    fs::remove_file(&rt, "saved_test.snapshot.lock")?;
     Ok(())
 }
 
-// A server that has no place for snapshots says so.
+// A server that has no path for snapshots refuses a save.
 const NOT_SAVED: &[Turn] = &[(STATUS, COUNTS_NONE), (SAVE, SAVE_OFF)];
 
 #[test]
@@ -175,28 +142,6 @@ fn the_last_session_ends_both_acceptors(rt: HostRuntime) -> Result<(), Fail> {
     };
     let outcome = outcome_of(&rt, rt.alloc(), &plan, Over::Tcp, NOT_SAVED);
     assert!(&rt; is_outcome(outcome, accepted(0, 0)));
-    assert!(&rt; !fs::exists(&rt, path).expect(&rt, "exists"));
-    Ok(())
-}
-
-// A save that fails is told to the client.
-const SAVE_FAILS: &[Turn] = &[
-    (FIVE, ACCEPTED_FIRST),
-    (SAVE, SAVE_FAILED),
-    (STATUS, COUNTS_ONE),
-    STOP,
-];
-
-// It is told at the end, too.
-#[test]
-fn a_save_without_its_folder_fails(rt: HostRuntime) -> Result<(), Fail> {
-    let plan = Plan {
-        tcp: Some(ANY_PORT),
-        snapshot: Some("no_such_folder/snapshot"),
-        ..PLAIN
-    };
-    let outcome = outcome_of(&rt, rt.alloc(), &plan, Over::Tcp, SAVE_FAILS);
-    let wanted = (true, Err(ServerFault::Save(SaveFault::Create)));
-    assert!(&rt; is_outcome(outcome, wanted));
+    assert!(&rt; !fs::exists(&rt, path)?);
     Ok(())
 }

@@ -1,0 +1,90 @@
+//! Head pages and links: their bytes, which were worked out by hand, and the faults of heads that were changed.
+
+use batch_store::Entry;
+use log_blocks::LogKind;
+use log_head::{Link, LogHead, decode_head, encode_head, link_of};
+use log_page::PAGE;
+use test_batches::{head, head_after, small_setup};
+use test_support::{holds_at, same, same_at};
+
+/// The batch number 1 of client 7, one cell with a count of 5, and that of client 8, one with a count of 3.
+const SEVEN: Entry = Entry {
+    client: 7,
+    number: 1,
+    cells: 1,
+    total: 5,
+};
+
+const EIGHT: Entry = Entry {
+    client: 8,
+    number: 1,
+    cells: 1,
+    total: 3,
+};
+
+#[test]
+fn entries_are_linked(rt: HostRuntime) {
+    let mut link = Link::new();
+    assert!(rt; same(&rt, &link.value(), &0));
+    link.add(&SEVEN);
+    assert!(rt; same(&rt, &link.value(), &0xde34_5a72));
+    assert!(rt; same(&rt, &link_of(&[SEVEN, EIGHT]), &0xec64_96c9));
+}
+
+// The page of a head, over other bytes.
+fn spelled(head: &LogHead) -> [u8; PAGE] {
+    let mut page = [0xff; PAGE];
+    encode_head(&mut page, head);
+    page
+}
+
+// A log with nothing before it, and one after the batch of client 7.
+#[test]
+fn heads_are_written_and_read(rt: HostRuntime) {
+    let after = head_after(
+        [
+            0x0000_0000_0001_0000,
+            0x0000_0000_0005_de34,
+            0x5a72_0000_0000_0000,
+        ],
+        0x5aa3_e14d,
+    );
+    for (page, first, total, link) in [(head(), 0, 0, 0), (after, 1, 5, 0xde34_5a72)] {
+        let setup = small_setup(&rt);
+        let written = spelled(&LogHead {
+            setup,
+            first,
+            total,
+            link,
+        });
+        assert!(rt; holds_at(&rt, &first, written == page));
+        let read = decode_head(&page).expect(&rt, "a head");
+        assert!(rt;
+            same(
+                &rt,
+                &(read.first, read.total, read.link),
+                &(first, total, link)
+            )
+        );
+        assert!(rt; holds_at(&rt, &first, spelled(&read) == page));
+    }
+}
+
+// A byte of a head, what it becomes, and the fault: of the mark, the version, the number of shards, and the checksum.
+const FAULTS: [(usize, u8, LogKind); 4] = [
+    (7, 0, LogKind::BadMark),
+    (11, 2, LogKind::BadVersion),
+    (45, 0, LogKind::BadHead),
+    (4095, 1, LogKind::HeadCheck),
+];
+
+#[test]
+fn changed_heads_are_refused(rt: HostRuntime) {
+    for (at, byte, why) in FAULTS {
+        let mut page = head();
+        if at < PAGE {
+            page[at] = byte;
+        }
+        assert!(rt; same_at(&rt, &at, &decode_head(&page).err(), &Some(why)));
+    }
+}

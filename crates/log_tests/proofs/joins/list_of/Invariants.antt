@@ -1,5 +1,0 @@
-use Rattle.std.proofs.Common.{◌≡◌}
-use Rattle.log_tests.proofs.joins.list_of.Given as goal
-
-abbrev pub invariant-rows : goal.invariant-rows
-invariant-rows g l = l.book.setup ≡ l.setup
