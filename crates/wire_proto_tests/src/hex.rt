@@ -12,7 +12,7 @@ fn digit(byte: u8) -> Option<u8> {
     }
 }
 
-/// The bytes that pairs of digits spell; whatever else stands in the text is skipped.
+/// The bytes that pairs of digits spell; whatever else is in the text is skipped.
 pub fn bytes_of(rt: &impl Abort, alloc: Global, text: &str) -> Vec<u8> {
     let mut bytes = Vec::new(alloc);
     let mut high = None;

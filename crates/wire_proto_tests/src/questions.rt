@@ -1,5 +1,5 @@
-//! Ranges of cells, rows that lead, what an engine tells of itself, and folds, of an engine of three rows and columns:
-//! what is asked, and what comes back.
+//! Ranges of cells, rows that lead, what an engine reports of itself, and folds, of an engine of three rows and
+//! columns: what is asked, and what comes back.
 
 use crate::asks::{Ask, Session, check_sessions};
 use test_batches::small_setup;
@@ -112,7 +112,7 @@ static FOLDS: &[Session] = &[
         CLOSED,
         (2, 9),
     ),
-    // What is told of one: `rows 3`, `cols 3`, `cuts 2`, `layer_cut_entries{layer="1"} 2`,
+    // What is reported: `rows 3`, `cols 3`, `cuts 2`, `layer_cut_entries{layer="1"} 2`,
     // `layer_cut_entries{layer="2"} 4`, `shards 2`, `limit 100`, `max_batches 10`, `batches 1`, `folded 1`, `total 5`.
     (
         &[Ask::Fold, ONE, Ask::Fold, Ask::Stats],

@@ -63,7 +63,7 @@ static TEXTS: &[Session] = &[
         CLOSED,
         (1, 5),
     ),
-    // Totals at the limit and past it; the accepted total is told.
+    // Totals at the limit and past it; the refusal has the accepted total.
     (
         &[
             Ask::Put(1, 1, "3 3 1\n1 1 90\n"),
@@ -147,7 +147,7 @@ static CELLS: &[Session] = &[
         CLOSED,
         (3, 6),
     ),
-    // Refusals, each told of the first cell that has a fault: its place in the list, or the running total.
+    // Refusals, each of the first cell that has a fault, with the index of the cell in the list.
     (
         &[
             Ask::Cells(9, 2, &[(0, 3, 1)]),
@@ -231,7 +231,7 @@ static ONE_BATCH: &[Session] = &[(
 
 // A book that holds one batch.
 #[test]
-fn a_full_book_is_told_last(rt: HostRuntime) {
+fn a_full_book_is_judged_last(rt: HostRuntime) {
     let setup = setup_up_to(&rt, 100, 1);
     check_sessions(&rt, rt.alloc(), setup, ONE_BATCH);
 }

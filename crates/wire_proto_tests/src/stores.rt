@@ -330,7 +330,7 @@ static REFUSING: &[Case] = &[
 ];
 
 static SETTLING: &[Case] = &[
-    // A request that isn't a put has those before it settled first; a refusal comes in its place, and a repeat waits.
+    // A request that isn't a put has those before it settled first; a refusal comes in order, and a repeat waits.
     (
         (None, OFF, 10),
         &[

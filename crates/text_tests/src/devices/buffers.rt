@@ -23,7 +23,7 @@ fn fill_leaves(
     (came, buffer.pending() == pending.as_bytes())
 }
 
-// Keeps the first bytes of those that are pending, of which it uses some, and tells whether just these are left.
+// Keeps the first bytes of those that are pending, uses some of them, and returns whether just these are left.
 fn use_leaves(buffer: &mut ReadBuffer, kept: usize, used: usize, left: &str) -> bool {
     if used > kept || kept > buffer.pending().len() {
         return false;
