@@ -61,12 +61,9 @@ fn other_blocks_are_refused(rt: HostRuntime) {
     for (what, pages, numbers) in REFUSED {
         let mut bytes = [0; 2 * CHUNK];
         put_numbers(&mut bytes, 0, numbers);
-        let block = if *pages == 2 {
-            &bytes[..]
-        } else {
-            &bytes[..CHUNK]
-        };
-        let refused = matches!(reader.read(alloc, block), Err(LogKind::BadBlock));
+        let length = if *pages == 2 { 2 * CHUNK } else { CHUNK };
+        let read = reader.read(alloc, &bytes[..length]);
+        let refused = matches!(read, Err(LogKind::BadBlock));
         assert!(rt; holds_at(&rt, what, refused));
     }
 }

@@ -23,9 +23,11 @@ const BYTES: usize = 3 * PAGE;
 /// A head and two pages.
 fn log_of(first: &[u8; PAGE], second: &[u8; PAGE]) -> [u8; BYTES] {
     let mut bytes = [0; BYTES];
-    bytes[..PAGE].copy_from_slice(&head());
-    bytes[PAGE..2 * PAGE].copy_from_slice(first);
-    bytes[2 * PAGE..].copy_from_slice(second);
+    let (front, rest) = bytes.split_at_mut(PAGE);
+    front.copy_from_slice(&head());
+    let (middle, back) = rest.split_at_mut(PAGE);
+    middle.copy_from_slice(first);
+    back.copy_from_slice(second);
     bytes
 }
 
