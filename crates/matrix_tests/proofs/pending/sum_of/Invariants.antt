@@ -1,5 +1,5 @@
 use Rattle.std.proofs.Common.{◌≡◌, ◌^◌}
-use Rattle.layer_tests.proofs.pending.sum_of.Given as goal
+use Rattle.matrix_tests.proofs.pending.sum_of.Given as goal
 
 abbrev pub invariant-loop-number : goal.invariant-loop-number
 invariant-loop-number l = record {
