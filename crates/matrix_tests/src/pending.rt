@@ -110,9 +110,9 @@ fn sum_of(
 }
 
 /// Streams, with the cuts and how many cells are expected: the number of places, and all counts together. The first
-/// three stay in the list. Of the fourth more than 131,072 cells may not wait: two matrices go into the last layer, side
-/// by side, and the rest waits, with places of the first that come again. In the last one each list is longer than the
-/// list that is added up first.
+/// three stay in the list. Of the fourth no more than 131,072 cells may wait: two matrices go into the last layer, side
+/// by side, and the rest waits, with places of the first that come again. In the last one each list has more cells than
+/// may wait before the first sum.
 static STREAMS: &[(Stream, &[u64], u64, (usize, u64))] = &[
     (
         Stream {

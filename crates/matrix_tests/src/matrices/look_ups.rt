@@ -1,5 +1,5 @@
-//! Look-ups in the matrix {(0, 0): 3, (0, 1): 0, (2, 2): 4} of 3 by 3, and in the empty matrix; and its cells after those
-//! that a list has.
+//! Look-ups in the matrix {(0, 0): 3, (0, 1): 0, (2, 2): 4} of 3 by 3, and in the empty matrix. Its cells are also pushed
+//! to a list that has others.
 use crate::fixtures::{Triple, cell, cells_of, small};
 use hyper_matrix::{Entry, Hyper, RowSum};
 use std::alloc::Global;

@@ -90,7 +90,8 @@ fn folded_batches_are_known_again(rt: HostRuntime) {
     assert!(rt; same(&rt, &([once, between, twice], has_sum), &(want, true)));
 }
 
-// What is loaded of the folded batches of an engine, under another setup of its dimensions, with these batches after them.
+// What is loaded of the folded batches of an engine under another setup of its dimensions, with these batches after
+// them.
 fn loaded<R: RandomSource + Abort>(
     rt: &R,
     alloc: Global,

@@ -1,7 +1,6 @@
 //! Groups of puts that share a sync.
 
-use crate::cases::{Case, play, small_setup};
-use crate::puts::{NONE, Tally, UntilAdmitted, batch_of, expect_log, nothing, put_all};
+use crate::logs::puts::{NONE, Tally, UntilAdmitted, batch_of, expect_log, nothing, put_all};
 use locked_engine::{Engine, Named, Seat};
 use log_desk::{Durable, FailAt, Log, LogDesk, MemoryLog, NoPause};
 use std::alloc::Global;
@@ -10,16 +9,9 @@ use std::process::Abort;
 use std::sync::Wait;
 use std::sync::atomic::AtomicU64;
 use std::sync::ledger::Ledger;
-use std::test::Fail;
 use std::thread::Threads;
 use std::time::Clock;
 use test_support::same;
-
-#[test]
-fn four_puts_share_two_syncs(rt: HostRuntime) -> Result<(), Fail> {
-    play(&rt, rt.alloc(), small_setup()?, 4, Case::Share);
-    Ok(())
-}
 
 /// One put from each seat, of which the first waits in its sync for the others.
 pub fn share_a_sync<
@@ -46,12 +38,6 @@ pub fn share_a_sync<
     drop(log);
 }
 
-#[test]
-fn nobody_waits_for_ever(rt: HostRuntime) -> Result<(), Fail> {
-    play(&rt, rt.alloc(), small_setup()?, 8, Case::PutMany);
-    Ok(())
-}
-
 /// Fifty puts from each of eight seats, with room for each.
 pub fn put_many<
     N: Named + Send + Sync,
@@ -69,12 +55,6 @@ pub fn put_many<
     let seat = seats.first_mut().expect(rt, "a seat");
     expect_log(rt, alloc, engine, seat, &log, 400);
     drop(log);
-}
-
-#[test]
-fn pipelined_puts_share_one_sync(rt: HostRuntime) -> Result<(), Fail> {
-    play(&rt, rt.alloc(), small_setup()?, 1, Case::Pipeline);
-    Ok(())
 }
 
 /// Sixteen puts of one seat that are begun, and then settled.
@@ -107,8 +87,8 @@ fn settle_all<N: Named, H: Ledger, L: Log, R: Wait + Abort>(
     desk: &LogDesk<N, L>,
     known: &mut Durable<N, L>,
 ) {
-    for place in 0..16 {
-        assert!(rt; desk.wait(rt, engine, known, place).is_ok());
-        assert!(rt; known.count() > place);
+    for index in 0..16 {
+        assert!(rt; desk.wait(rt, engine, known, index).is_ok());
+        assert!(rt; known.count() > index);
     }
 }

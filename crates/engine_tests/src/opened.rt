@@ -3,8 +3,6 @@ ghost use Rattle.std.specs.Prelude.{◌≡◌};
 ghost use Rattle.batch_store.specs.Accepted.{entries_in};
 ghost use Rattle.locked_engine.specs.Opened.{NamesEngine};
 
-use crate::batches::{Cells, batch};
-use batch_store::Setup;
 use locked_engine::{CloseFault, Engine, Named, Names, PutFault, Seat};
 use plain_engine::PlainEngine;
 use std::alloc::Global;
@@ -12,9 +10,10 @@ use std::io::Eprint;
 use std::process::Abort;
 use std::sync::Wait;
 use std::sync::ledger::Ledger;
-use test_support::same;
+use test_batches::{Cells, batch};
+use test_support::same_at;
 
-/// The place and the total of a kept reply, or why there is none.
+/// The index and the total of a kept reply, or why there is none.
 pub type Answer = Result<(u64, u64), PutFault>;
 
 /// The client, the number and the cells of a batch that is put, and what is answered.
@@ -50,20 +49,7 @@ pub fn closed<N: Named, H: Ledger, R: Wait + Abort>(
     }
 }
 
-// Closes an engine without one of its seats: it is handed back with the others.
-fn not_without_all<N: Named, H: Ledger, R: Wait + Abort>(
-    rt: &R,
-    alloc: Global,
-    engine: Engine<N, H>,
-    seats: Vec<Seat<N, H>>,
-) -> (Engine<N, H>, Vec<Seat<N, H>>) {
-    match engine.close(rt, alloc, seats) {
-        Err(CloseFault::SeatsMissing { engine, seats }) => (engine, seats),
-        _ => panic!(rt; "a seat is missing"),
-    }
-}
-
-/// The engine of one thread again, where the last seat is kept back at first: it is missed.
+/// The engine of one thread again, where the last seat is kept back at first: the engine comes back with the others.
 pub fn close_at_last<N: Named, H: Ledger, R: Wait + Abort>(
     rt: &R,
     alloc: Global,
@@ -72,9 +58,14 @@ pub fn close_at_last<N: Named, H: Ledger, R: Wait + Abort>(
 ) -> PlainEngine {
     let mut seats = seats;
     let last = seats.pop().expect(rt, "a seat");
-    let (engine, mut seats) = not_without_all(rt, alloc, engine, seats);
-    seats.push(last).expect(rt, "memory");
-    closed(rt, alloc, engine, seats)
+    match engine.close(rt, alloc, seats) {
+        Err(CloseFault::SeatsMissing { engine, seats }) => {
+            let mut seats = seats;
+            seats.push(last).expect(rt, "memory");
+            closed(rt, alloc, engine, seats)
+        }
+        _ => panic!(rt; "a seat is missing"),
+    }
 }
 
 /// The first of these seats.
@@ -99,6 +90,17 @@ pub fn two_seats<'a, N: Named, H: Ledger>(
     }
 }
 
+/// The first three of these seats.
+pub fn three_seats<'a, N: Named, H: Ledger>(
+    rt: &impl Abort,
+    seats: &'a mut [Seat<N, H>],
+) -> (&'a mut Seat<N, H>, &'a mut Seat<N, H>, &'a mut Seat<N, H>) {
+    match seats {
+        [first, second, third, ..] => (first, second, third),
+        _ => panic!(rt; "three seats"),
+    }
+}
+
 /// Puts the batch of these cells.
 pub fn put<N: Named, H: Ledger, R: Wait + Abort>(
     rt: &R,
@@ -109,7 +111,7 @@ pub fn put<N: Named, H: Ledger, R: Wait + Abort>(
     cells: &[(u64, u64, u64)],
 ) -> Answer {
     let setup = engine.setup();
-    let b = batch(rt, alloc, &setup, pair.0, pair.1, cells);
+    let b = batch(rt, alloc, &setup, pair, cells);
     let kept = engine.put(rt, alloc, seat, b)?;
     Ok((kept.index, kept.total_after))
 }
@@ -124,6 +126,6 @@ pub fn put_all<N: Named, H: Ledger, R: Wait + Abort + Eprint>(
 ) {
     for (client, number, cells, expected) in steps {
         let answer = put(rt, alloc, engine, seat, (*client, *number), cells);
-        assert!(rt; same(rt, &answer, expected));
+        assert!(rt; same_at(rt, &(*client, *number, cells), &answer, expected));
     }
 }

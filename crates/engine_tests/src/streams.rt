@@ -10,7 +10,7 @@ pub const COLS: u64 = 40;
 pub const SHARDS: u64 = 4;
 
 /// How many batches each client puts.
-pub const ROUNDS: u64 = 200;
+pub const ROUNDS: u64 = 400;
 
 /// The cells of a client's batch of a round: one in each shard, in columns whose numbers leave the client's, 0 or 1,
 /// when divided by two. The counts are 1 to 4, another one in each shard round by round.

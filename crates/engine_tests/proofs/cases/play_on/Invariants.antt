@@ -1,5 +1,5 @@
 use Rattle.std.proofs.Common.{◌+◌}
-use Rattle.locked_engine_tests.proofs.cases.play_on.Given as goal
+use Rattle.engine_tests.proofs.cases.play_on.Given as goal
 
 -- the engine that these names name
 abbrev pub ghosts-closed_after-N-Ledger : goal.ghosts-closed_after-N-Ledger

@@ -1,8 +1,7 @@
 //! Two threads, two seats: what one has put the other reads, and a shard that is held keeps nobody from another.
 
-use crate::batches::{Cells, small_setup};
 use crate::cases::{Act, Case, Listed, NOTHING, play};
-use crate::expected::{expect_counts, expect_export, expect_list, expect_row, expect_status};
+use crate::expected::{expect_counts, expect_export, expect_list, expect_status};
 use crate::opened::{Answer, put, put_all, two_seats};
 use locked_engine::{Engine, Named, Seat};
 use std::alloc::Global;
@@ -11,28 +10,24 @@ use std::process::Abort;
 use std::sync::Wait;
 use std::sync::atomic::{AtomicU64, Ordering};
 use std::sync::ledger::Ledger;
-use std::test::Fail;
 use std::thread;
 use std::thread::Threads;
 use std::time::{Clock, Duration};
+use test_batches::{Cells, small_setup};
 use test_support::same;
 
 // The most turns that a thread waits, each a sleep of one millisecond.
 const MAX_TURNS: u64 = 10_000;
 
-// Waits until a flag has a value, and tells whether it came to have it.
+// Waits until a flag has a value. Whether it came to have it.
 fn comes_to(clock: &impl Clock, flag: &AtomicU64, wanted: u64) -> bool {
     for _ in 0..MAX_TURNS {
         if flag.load(Ordering::SeqCst) == wanted {
             return true;
         }
-        pause(clock);
+        thread::sleep(clock, Duration::from_millis(1));
     }
     false
-}
-
-fn pause(clock: &impl Clock) {
-    thread::sleep(clock, Duration::from_millis(1));
 }
 
 const HELD: u64 = 1;
@@ -49,9 +44,8 @@ static BESIDE: Case = Case {
 };
 
 #[test]
-fn a_shard_that_is_held_keeps_nobody_from_another(rt: HostRuntime) -> Result<(), Fail> {
-    play(&rt, rt.alloc(), small_setup()?, &BESIDE);
-    Ok(())
+fn a_shard_that_is_held_keeps_nobody_from_another(rt: HostRuntime) {
+    play(&rt, rt.alloc(), small_setup(&rt), &BESIDE);
 }
 
 /// While one thread holds shard 0, the other's put into shard 1 is answered.
@@ -85,7 +79,7 @@ fn hold_shard_0<N: Named, H: Ledger, R: Wait + Clock>(
     engine: &Engine<N, H>,
     flag: &AtomicU64,
 ) -> Option<bool> {
-    // Any call on a setup tells that there is a shard 0.
+    // A setup has at least one shard, as any call on it shows.
     let _shards = engine.setup().shards();
     engine.look(rt, 0, |_shard| {
         flag.store(HELD, Ordering::SeqCst);
@@ -123,43 +117,24 @@ static READ: Case = Case {
 };
 
 #[test]
-fn seats_read_what_was_put(rt: HostRuntime) -> Result<(), Fail> {
-    play(&rt, rt.alloc(), small_setup()?, &READ);
-    Ok(())
+fn seats_read_what_was_put(rt: HostRuntime) {
+    play(&rt, rt.alloc(), small_setup(&rt), &READ);
 }
 
-/// Two threads put a batch each, and each seat reads both.
+/// One thread puts a batch and then another thread the next, and each seat reads both.
 pub fn put_and_read<
     N: Named + Send + Sync,
     H: Ledger + Send + Sync,
     R: Threads + Wait + Abort + Eprint + Sync,
 >(rt: &R, alloc: Global, engine: &Engine<N, H>, seats: &mut [Seat<N, H>]) {
     let (first, second) = two_seats(rt, seats);
-    put_first(rt, alloc, engine, first);
-    put_second(rt, alloc, engine, second);
+    put_all(rt, alloc, engine, first, &[(7, 1, FIRST, Ok((0, 5)))]);
+    expect_status(rt, engine, first, 1, 5);
+    expect_status(rt, engine, second, 1, 5);
+    let (answer, ()) = thread::join(rt, || put(rt, alloc, engine, second, (8, 1), SECOND), || {});
+    assert!(rt; same(rt, &answer, &Ok((1, 12))));
     read_both(rt, alloc, engine, first);
     read_both(rt, alloc, engine, second);
-}
-
-fn put_first<N: Named, H: Ledger, R: Wait + Abort + Eprint>(
-    rt: &R,
-    alloc: Global,
-    engine: &Engine<N, H>,
-    seat: &mut Seat<N, H>,
-) {
-    put_all(rt, alloc, engine, seat, &[(7, 1, FIRST, Ok((0, 5)))]);
-    expect_status(rt, engine, seat, 1, 5);
-    expect_counts(rt, engine, &[(0, 0, Some(5))]);
-}
-
-// Puts the second batch from a thread of its own.
-fn put_second<
-    N: Named + Send + Sync,
-    H: Ledger + Send + Sync,
-    R: Threads + Wait + Abort + Eprint + Sync,
->(rt: &R, alloc: Global, engine: &Engine<N, H>, seat: &mut Seat<N, H>) {
-    let (answer, ()) = thread::join(rt, || put(rt, alloc, engine, seat, (8, 1), SECOND), || {});
-    assert!(rt; same(rt, &answer, &Ok((1, 12))));
 }
 
 static COUNTS: &[(u64, u64, Option<u64>)] = &[
@@ -178,10 +153,10 @@ fn read_both<N: Named, H: Ledger, R: Wait + Abort + Eprint>(
 ) {
     expect_status(rt, engine, seat, 2, 12);
     expect_counts(rt, engine, COUNTS);
-    expect_row(rt, engine, 0, 2, 8);
-    expect_row(rt, engine, 3, 0, 0);
+    let (row, none) = (engine.row(rt, 0), engine.row(rt, 3));
+    let found = [(row.entries, row.total), (none.entries, none.total)];
+    assert!(rt; same(rt, &found, &[(2, 8), (0, 0)]));
     expect_export(rt, alloc, engine, SUM);
     let list = engine.batch_list(rt, alloc, seat).expect(rt, "memory");
-    expect_list(rt, alloc, &list, TWO);
-    drop(list);
+    expect_list(rt, alloc, list, TWO);
 }

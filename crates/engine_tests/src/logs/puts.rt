@@ -24,7 +24,7 @@ pub enum Refusal {
     Desk(DeskFault),
 }
 
-/// The place that a put was told, or why it was refused.
+/// The index of a batch that was put, or why it was refused.
 pub type Answer = Result<u64, Refusal>;
 
 /// How many puts were answered with what.

@@ -3,10 +3,11 @@ ghost use Rattle.std.specs.Prelude.{◌≡◌};
 ghost use Rattle.batch_store.specs.Accepted.{entries_in};
 ghost use Rattle.locked_engine.specs.Opened.{NamesEngine};
 
-use crate::batches::Cells;
-use crate::expected::{expect_batches, expect_closed};
+use crate::beside::Work;
+use crate::expected::{expect_closed, expect_list};
+use crate::logs::Story;
 use crate::opened::{Step, close_at_last, closed, opened};
-use crate::{compactions, folding, folds, looks, puts, queues, seats, several, versions};
+use crate::{beside, compactions, folding, held, logs, puts, queues, seats, several};
 use batch_store::Setup;
 use locked_engine::{Engine, Named, Names, Seat};
 use plain_engine::PlainEngine;
@@ -19,6 +20,7 @@ use std::sync::Wait;
 use std::sync::ledger::Ledger;
 use std::thread::Threads;
 use std::time::Clock;
+use test_batches::Cells;
 use test_support::same;
 
 /// What is done from an engine's seats.
@@ -26,40 +28,24 @@ use test_support::same;
 pub enum Act {
     /// The batches of a table are put from the first seat.
     Put(&'static [Step]),
-    /// Batches are put behind folded ones.
-    PutBehindFolded,
-    /// Batches are read from places on, folded ones among them.
-    ReadFromPlaces,
-    /// Each shard is looked at.
-    Look,
+    /// Batches are put after folded ones, and read from indices on.
+    PutAfterFolded,
     /// Two threads put sixty each.
     PutSixtyTwice,
-    /// The status is asked for at both seats.
-    SeeStatus,
     /// A batch is put while another shard is held.
     PutBesideALook,
     /// Two threads put a batch each, and both are read from both seats.
     PutAndRead,
-    /// Cells are looked up while their shard is held.
+    /// What reads answer while a shard is held.
     ReadInsideALook,
-    /// Batches are put that pass the cuts, and read after each.
-    PutAndFind,
-    /// Two threads put while a third reads.
-    Watch,
-    /// Two threads put small batches while a third compacts.
-    CompactBesidePuts,
-    /// Two threads put small batches while two others compact, each layers of its own.
-    CompactByDepthBesidePuts,
-    /// Both seats put small batches, and then the shards are compacted.
-    CompactAfterPuts,
+    /// Two threads put, a third reads, and others do this work.
+    PutBeside(Work),
     /// Small batches are put and compacted, twice.
     CompactTwice,
-    /// Batches are put and folded, twice.
-    FoldBetweenPuts,
     /// Batches are put between the steps of a fold.
     FoldInSteps,
-    /// Two threads put while a third reads and a fourth folds.
-    FoldBesidePuts,
+    /// Batches are put over a log.
+    Log(Story),
 }
 
 /// The client, the number and the cells of a batch.
@@ -115,7 +101,8 @@ pub fn play_on<R: Threads + Wait + Clock + RandomSource + Abort + Eprint + Sync>
     expect_closed(rt, &closed, case.accepted, case.shards);
     assert!(rt; same(rt, &closed.folded(), &case.folded));
     if let Some(batches) = case.batches {
-        expect_batches(rt, alloc, &closed, batches);
+        let list = closed.batches(alloc).expect(rt, "memory");
+        expect_list(rt, alloc, list, batches);
     }
     drop(closed);
 }
@@ -146,24 +133,14 @@ fn perform<
 >(rt: &R, alloc: Global, engine: &Engine<N, H>, seats: &mut [Seat<N, H>], case: &Case) {
     match case.act {
         Act::Put(steps) => puts::put_steps(rt, alloc, engine, seats, steps, case.accepted),
-        Act::PutBehindFolded => folds::put_from_both(rt, alloc, engine, seats),
-        Act::ReadFromPlaces => queues::read_from_places(rt, alloc, engine, seats),
-        Act::Look => looks::put_and_look(rt, alloc, engine, seats),
+        Act::PutAfterFolded => queues::put_after_folded(rt, alloc, engine, seats),
         Act::PutSixtyTwice => seats::put_sixty_twice(rt, alloc, engine, seats),
-        Act::SeeStatus => seats::see_from_both(rt, alloc, engine, seats),
         Act::PutBesideALook => several::put_beside_a_look(rt, alloc, engine, seats),
         Act::PutAndRead => several::put_and_read(rt, alloc, engine, seats),
-        Act::ReadInsideALook => versions::read_inside_a_look(rt, alloc, engine, seats),
-        Act::PutAndFind => versions::put_and_find(rt, alloc, engine, seats),
-        Act::Watch => versions::watch_from_seats(rt, alloc, engine, seats),
-        Act::CompactBesidePuts => compactions::compact_beside_puts(rt, alloc, engine, seats),
-        Act::CompactByDepthBesidePuts => {
-            compactions::compact_by_depth_beside_puts(rt, alloc, engine, seats)
-        }
-        Act::CompactAfterPuts => compactions::compact_after_puts(rt, alloc, engine, seats),
+        Act::ReadInsideALook => held::read_inside_a_look(rt, alloc, engine, seats),
+        Act::PutBeside(work) => beside::put_beside(rt, alloc, engine, seats, work),
         Act::CompactTwice => compactions::compact_twice(rt, alloc, engine, seats),
-        Act::FoldBetweenPuts => folding::fold_between_puts(rt, alloc, engine, seats),
         Act::FoldInSteps => folding::fold_in_steps(rt, alloc, engine, seats),
-        Act::FoldBesidePuts => folding::fold_beside_puts(rt, alloc, engine, seats),
+        Act::Log(story) => logs::play(rt, alloc, engine, seats, story),
     }
 }

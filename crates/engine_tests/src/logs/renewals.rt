@@ -1,9 +1,8 @@
 //! A fresh log in the place of one that has failed.
 ghost use Rattle.std.specs.Prelude.{⊤};
 
-use crate::cases::{Case, play, small_setup};
-use crate::puts::Refusal::Desk;
-use crate::puts::{expect_log, expect_puts, nothing, sizes};
+use crate::logs::puts::Refusal::Desk;
+use crate::logs::puts::{expect_log, expect_puts, nothing, sizes};
 use locked_engine::{Engine, Named, Seat, Version};
 use log_desk::DeskFault::LogFailed;
 use log_desk::{Durable, FailAt, Group, LogDesk, MemoryLog, NoPause, TurnWork};
@@ -13,7 +12,6 @@ use std::io::Eprint;
 use std::process::Abort;
 use std::sync::Wait;
 use std::sync::ledger::Ledger;
-use std::test::Fail;
 use test_support::same;
 
 // Puts a fresh log in place, which has the book's batches as one block.
@@ -64,12 +62,6 @@ impl<'a, N: Named, H: Ledger, R: Wait> TurnWork<N, MemoryLog<NoPause>, bool>
     }
 }
 
-#[test]
-fn a_fresh_log_takes_puts_again(rt: HostRuntime) -> Result<(), Fail> {
-    play(&rt, rt.alloc(), small_setup()?, 1, Case::Renew);
-    Ok(())
-}
-
 /// Two puts, of which the second fails, and once a fresh log is in place the second again and a third.
 pub fn renew<N: Named, H: Ledger, R: Wait + Abort + Eprint>(
     rt: &R,
@@ -83,6 +75,11 @@ pub fn renew<N: Named, H: Ledger, R: Wait + Abort + Eprint>(
     let desk = LogDesk::open(alloc, log, known.again(), seat.version()).expect(rt, "memory");
     let failed = [(7, Ok(0)), (8, Err(Desk(LogFailed)))];
     expect_puts(rt, alloc, engine, &desk, seat, &mut known, &failed);
+    assert!(rt; same(rt, &sizes(rt, engine, &desk, seat), &(2, 1)));
+    // What is durable is answered without the log, what isn't is refused.
+    let first = desk.wait(rt, engine, &mut known, 0);
+    let second = desk.wait(rt, engine, &mut known, 1);
+    assert!(rt; same(rt, &(first, second), &(Ok(()), Err(LogFailed))));
     let work = Renewal {
         rt,
         alloc,
