@@ -1,6 +1,5 @@
-//! Tests of the sort of cells and of what is made of it, beside std's sort and plain maps.
+//! Tests of the order of cells, of their sort and of their sums: worked lists, and a sort that is refused its memory.
 
 mod adding_up;
 mod order;
-mod shapes;
 mod sorting;

@@ -1,7 +1,5 @@
 //! Worked examples of the engine of one thread.
 
-mod batches;
-mod expected;
 mod folds;
 mod loads;
 mod lookups;

@@ -17,21 +17,11 @@ static PAIRS: &[((u64, u64), (u64, u64), bool, bool)] = &[
     ((HIGH, HIGH), (HIGH - 1, HIGH), false, false),
 ];
 
-// Whether the second place is not below the first, and whether it is above it.
-fn order_of(p: (u64, u64), q: (u64, u64)) -> (bool, bool) {
-    let pair = [cell((p.0, p.1, 1)), cell((q.0, q.1, 1))];
-    (is_in_order(&pair), rises(&pair))
-}
-
 #[test]
 fn pairs(rt: HostRuntime) {
     for (p, q, follows, precedes) in PAIRS {
-        assert!(rt; same_at(&rt, &(*p, *q), &order_of(*p, *q), &(*follows, *precedes)));
+        let pair = [cell((p.0, p.1, 1)), cell((q.0, q.1, 1))];
+        let found = (is_in_order(&pair), rises(&pair));
+        assert!(rt; same_at(&rt, &(*p, *q), &found, &(*follows, *precedes)));
     }
-}
-
-#[test]
-fn short_lists(rt: HostRuntime) {
-    let one = [cell((5, 5, 5))];
-    assert!(rt; is_in_order(&[]) && rises(&[]) && is_in_order(&one) && rises(&one));
 }

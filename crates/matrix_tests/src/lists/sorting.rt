@@ -1,117 +1,68 @@
-//! The sort of a list that is lent and of one that is given away, beside std's.
-use crate::lists::shapes::{COUNTS, GREAT_COUNTS, LONG_COUNTS, SHAPES, Shape, listed};
-use cells::{Cell, into_sorted, is_in_order, sorted};
+//! The sort of a list that is lent and of one that is given away.
+use crate::fixtures::{Triple, cell, cells_of, mixed};
+use cells::{Cell, into_sorted, sorted};
 use std::alloc::Global;
 use std::io::Eprint;
 use std::process::Abort;
 use test_support::{holds_at, same_at};
 
-// Orders a list by place and, at one place, by count.
-fn order(list: &mut [Cell]) {
-    list.sort_unstable_by_key(|c| (c.row, c.col, c.count));
-}
+/// A list, and its cells in order.
+static SORTED: &[(&[Triple], &[Triple])] = &[
+    (&[], &[]),
+    (
+        &[(2, 1, 3), (0, 2, 1), (2, 0, 0), (0, 0, 9)],
+        &[(0, 0, 9), (0, 2, 1), (2, 0, 0), (2, 1, 3)],
+    ),
+    (
+        &[(1, 1, 4), (0, u64::MAX, 2), (1, 1, 4)],
+        &[(0, u64::MAX, 2), (1, 1, 4), (1, 1, 4)],
+    ),
+];
 
-// Whether a sorted list has the cells of an ordered one, whatever the order of cells at one place.
-fn is_sorted_to(list: Vec<Cell>, want: &[Cell]) -> bool {
-    let mut list = list;
-    let in_order = is_in_order(&list);
-    order(&mut list);
-    let same = list.as_slice() == want;
-    drop(list);
-    in_order && same
-}
-
-// Whether a list is sorted to what std's sort makes of it, lent and given away.
-fn sorts(rt: &impl Abort, alloc: Global, cells: &[Cell]) -> bool {
-    let mut want = Vec::from_slice(alloc, cells).expect(rt, "memory");
-    order(&mut want);
-    let lent = is_sorted_to(sorted(alloc, cells).expect(rt, "memory"), &want);
-    let copy = Vec::from_slice(alloc, cells).expect(rt, "memory");
-    let given = is_sorted_to(into_sorted(copy), &want);
+// Whether a list is sorted to these cells, lent and given away.
+fn sorts(rt: &impl Abort, alloc: Global, triples: &[Triple], want: &[Triple]) -> bool {
+    let cells = cells_of(rt, alloc, triples);
+    let want = cells_of(rt, alloc, want);
+    let lent = sorted(alloc, &cells).expect(rt, "memory");
+    let given = into_sorted(cells);
+    let are_sorted = lent.as_slice() == want.as_slice() && given.as_slice() == want.as_slice();
+    drop(lent);
+    drop(given);
     drop(want);
-    lent && given
+    are_sorted
 }
 
-// Checks a list of so many cells.
-fn check_count(rt: &(impl Abort + Eprint), alloc: Global, shape: Shape, count: u64) {
-    let cells = listed(rt, alloc, shape, count);
-    let sorts = sorts(rt, alloc, &cells);
-    drop(cells);
-    assert!(rt; holds_at(rt, &(shape, count), sorts));
-}
-
-// Checks lists of these lengths, of each of these shapes.
-fn check_shapes(rt: &(impl Abort + Eprint), alloc: Global, shapes: &[Shape], counts: &[u64]) {
-    for shape in shapes {
-        for count in counts {
-            check_count(rt, alloc, *shape, *count);
-        }
+#[test]
+fn worked_lists(rt: HostRuntime) {
+    for (triples, want) in SORTED {
+        assert!(rt; holds_at(&rt, triples, sorts(&rt, rt.alloc(), triples, want)));
     }
 }
 
-#[test]
-fn lists_of_each_shape(rt: HostRuntime) {
-    check_shapes(&rt, rt.alloc(), SHAPES, COUNTS);
+// So many cells at places that lie anywhere.
+fn scattered(rt: &impl Abort, alloc: Global, count: u64) -> Vec<Cell> {
+    let mut cells = Vec::new(alloc);
+    for k in 0..count {
+        let row = mixed(k);
+        cells.push(cell((row, mixed(row), k))).expect(rt, "memory");
+    }
+    cells
 }
 
-#[test]
-fn lists_at_the_upper_bound(rt: HostRuntime) {
-    let shapes = [Shape::Within(1 << 60, 1 << 60), Shape::Crowded];
-    check_shapes(&rt, rt.alloc(), &shapes, GREAT_COUNTS);
-}
-
-#[test]
-fn long_lists_spread_evenly(rt: HostRuntime) {
-    check_shapes(
-        &rt,
-        rt.alloc(),
-        &[Shape::Within(1 << 60, 1 << 60)],
-        LONG_COUNTS,
-    );
-}
-
-#[test]
-fn long_lists_of_one_row(rt: HostRuntime) {
-    check_shapes(&rt, rt.alloc(), &[Shape::Within(1, 1 << 60)], LONG_COUNTS);
-}
-
-// Most of the cells stand in few buckets.
-#[test]
-fn long_lists_of_few_rows(rt: HostRuntime) {
-    check_shapes(&rt, rt.alloc(), &[Shape::Powers], LONG_COUNTS);
-    check_shapes(&rt, rt.alloc(), &[Shape::Crowded], &LONG_COUNTS[..2]);
-}
-
-#[test]
-fn long_lists_in_order_and_in_falling_order(rt: HostRuntime) {
-    check_shapes(
-        &rt,
-        rt.alloc(),
-        &[Shape::Rising, Shape::Falling],
-        LONG_COUNTS,
-    );
-}
-
-#[test]
-fn long_lists_of_few_places(rt: HostRuntime) {
-    let shapes = [Shape::Same, Shape::Within(3, 2), Shape::Within(90, 90)];
-    check_shapes(&rt, rt.alloc(), &shapes, &LONG_COUNTS[..2]);
-}
-
-// `rt try --test --fail-alloc N` refuses the Nth growth. The list is lent, and so as it was; the next sort succeeds.
+// `rt try --test --fail-alloc N` refuses the Nth growth. The list is lent, and the next sort succeeds.
 #[test]
 fn refused_sort(rt: HostRuntime) {
-    let cells = listed(&rt, rt.alloc(), Shape::Within(1 << 60, 1 << 60), 4096);
+    let cells = scattered(&rt, rt.alloc(), 4096);
     let first = sorted(rt.alloc(), &cells);
-    let holds = first.is_ok() || sorts(&rt, rt.alloc(), &cells);
+    let sorts = first.is_ok() || sorted(rt.alloc(), &cells).is_ok();
     drop(first);
     drop(cells);
-    assert!(rt; holds);
+    assert!(rt; sorts);
 }
 
 // A list that is given away stays in its memory, of which it takes no more.
 fn check_room(rt: &(impl Abort + Eprint), alloc: Global, count: u64) {
-    let cells = listed(rt, alloc, Shape::Within(1 << 60, 1 << 60), count);
+    let cells = scattered(rt, alloc, count);
     let room = cells.capacity();
     let list = into_sorted(cells);
     let taken = list.capacity();
@@ -119,10 +70,12 @@ fn check_room(rt: &(impl Abort + Eprint), alloc: Global, count: u64) {
     assert!(rt; same_at(rt, &count, &taken, &room));
 }
 
+/// Numbers of cells on both sides of each change of the way to sort them.
+static COUNTS: &[u64] = &[0, 1, 2, 511, 512, 16_384, 16_385, 100_000];
+
 #[test]
 fn lists_given_away(rt: HostRuntime) {
     for count in COUNTS {
         check_room(&rt, rt.alloc(), *count);
     }
-    check_room(&rt, rt.alloc(), 100_000);
 }

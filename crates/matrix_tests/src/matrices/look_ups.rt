@@ -1,8 +1,10 @@
-//! Look-ups in the matrix {(0, 0): 3, (0, 1): 0, (2, 2): 4} of 3 by 3, and in the empty matrix.
-use crate::fixtures::{Triple, cell, small};
+//! Look-ups in the matrix {(0, 0): 3, (0, 1): 0, (2, 2): 4} of 3 by 3, and in the empty matrix. Its cells are also pushed
+//! to a list that has others.
+use crate::fixtures::{Triple, cell, cells_of, small};
 use hyper_matrix::{Entry, Hyper, RowSum};
 use std::alloc::Global;
 use std::process::Abort;
+use test_support::{holds_at, same};
 
 /// A question and its answer.
 #[derive(Clone, Copy, Debug)]
@@ -18,7 +20,6 @@ enum LookUp {
 }
 
 use LookUp::{CellAt, FirstInRow, Get, RowTotal};
-use test_support::holds_at;
 
 static SMALL: &[Triple] = &[(2, 2, 4), (0, 1, 0), (0, 0, 1), (0, 0, 2)];
 
@@ -98,4 +99,20 @@ fn small_tables(rt: HostRuntime) {
         first_wrong(&rt, rt.alloc(), &[], IN_NONE),
     ];
     assert!(rt; holds_at(&rt, &wrong, wrong[0].is_none() && wrong[1].is_none()));
+}
+
+#[test]
+fn cells_are_pushed(rt: HostRuntime) {
+    let m = small(&rt, rt.alloc(), SMALL);
+    let mut list = cells_of(&rt, rt.alloc(), &[(7, 7, 7)]);
+    m.push_cells(&mut list).expect(&rt, "memory");
+    drop(m);
+    let want = cells_of(
+        &rt,
+        rt.alloc(),
+        &[(7, 7, 7), (0, 0, 3), (0, 1, 0), (2, 2, 4)],
+    );
+    assert!(rt; same(&rt, &list, &want));
+    drop(want);
+    drop(list);
 }

@@ -1,11 +1,11 @@
-//! The rows that lead of several sources, which are offered one behind the other.
+//! The rows that lead of several sources, which are offered one after the other.
 use crate::fixtures::Triple;
 use crate::merges::matrices::{matrix, merged};
 use cell_queries::{Leaders, RowTally, TopBy};
 use hyper_matrix::Hyper;
 use std::alloc::Global;
 use std::process::Abort;
-use test_support::{holds_at, same};
+use test_support::{same, same_at};
 
 static EVEN: &[Triple] = &[(0, 5, 9), (2, 1, 20), (4, 0, 1), (4, 7, 1), (4, 8, 1)];
 
@@ -91,40 +91,37 @@ fn shards_offer_their_rows_in_turn(rt: HostRuntime) {
         let mut leaders = Leaders::new(rt.alloc(), top.0, top.1);
         let first = offered(&rt, rt.alloc(), &mut leaders, &even, 0);
         let second = offered(&rt, rt.alloc(), &mut leaders, &odd, 1);
-        assert!(rt; same(&rt, &(first, second), &(true, true)));
         let are_those = are(&rt, rt.alloc(), leaders, top.2);
-        assert!(rt; holds_at(&rt, &(top.0, top.1), are_those));
-    }
-    drop(odd);
-    drop(even);
-}
-
-#[test]
-fn rows_of_another_shard_are_told(rt: HostRuntime) {
-    let even = one(&rt, rt.alloc(), EVEN);
-    let mut leaders = Leaders::new(rt.alloc(), TopBy::Total, 3);
-    let lies_there = offered(&rt, rt.alloc(), &mut leaders, &even, 1);
-    drop(leaders);
-    drop(even);
-    assert!(rt; !lies_there);
-}
-
-#[test]
-fn all_rows_of_a_source_are_offered(rt: HostRuntime) {
-    let (even, odd) = (one(&rt, rt.alloc(), EVEN), one(&rt, rt.alloc(), ODD));
-    for top in TOPS {
-        let mut leaders = Leaders::new(rt.alloc(), top.0, top.1);
-        let (mut first, mut second) = (
-            merged(&rt, rt.alloc(), &odd),
-            merged(&rt, rt.alloc(), &even),
+        assert!(rt;
+            same_at(
+                &rt,
+                &(top.0, top.1),
+                &(first, second, are_those),
+                &(true, true, true)
+            )
         );
-        leaders.offer_all(&mut first).expect(&rt, "memory");
-        leaders.offer_all(&mut second).expect(&rt, "memory");
-        let are_those = are(&rt, rt.alloc(), leaders, top.2);
-        drop(second);
-        drop(first);
-        assert!(rt; holds_at(&rt, &(top.0, top.1), are_those));
     }
     drop(odd);
     drop(even);
+}
+
+// The rows of a matrix as those of another shard, and then all of them: whether they are said to lie there, and
+// whether the row 2 leads.
+fn offered_wrongly(rt: &impl Abort, alloc: Global, all: &[Hyper]) -> (bool, bool) {
+    let mut others = Leaders::new(alloc, TopBy::Total, 3);
+    let lies_there = offered(rt, alloc, &mut others, all, 1);
+    drop(others);
+    let mut leaders = Leaders::new(alloc, TopBy::Total, 1);
+    let mut cells = merged(rt, alloc, all);
+    leaders.offer_all(&mut cells).expect(rt, "memory");
+    drop(cells);
+    (lies_there, are(rt, alloc, leaders, &[(2, 1, 20)]))
+}
+
+#[test]
+fn rows_of_another_shard_are_reported(rt: HostRuntime) {
+    let even = one(&rt, rt.alloc(), EVEN);
+    let found = offered_wrongly(&rt, rt.alloc(), &even);
+    drop(even);
+    assert!(rt; same(&rt, &found, &(false, true)));
 }

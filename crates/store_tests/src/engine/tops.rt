@@ -1,15 +1,9 @@
-//! The rows that lead of what was put, and of views that aren't those of an engine.
-ghost use Rattle.std.specs.Prelude.{◌≡◌};
-
+//! The rows that lead of what was put.
 use crate::engine::puts::{Step, engine_of};
-use crate::store::setups::small_setup;
-use crate::store::shards;
-use crate::store::shards::shard_after;
-use batch_store::{Setup, Shard};
+use batch_store::Setup;
 use cell_queries::{RowTally, TopBy};
 use plain_engine::ViewedSum;
 use std::alloc::Global;
-use std::io::Eprint;
 use std::process::Abort;
 use test_support::holds_at;
 
@@ -75,14 +69,14 @@ fn tallies_of(rt: &impl Abort, alloc: Global, table: &[(u64, u64, u64)]) -> Vec<
     rows
 }
 
-// The rows that lead of a sum are those of a table.
-fn expect_top(rt: &(impl Abort + Eprint), alloc: Global, sum: &ViewedSum, top: &Top) {
+// Whether the rows that lead of a sum are those of a table.
+fn leads(rt: &impl Abort, alloc: Global, sum: &ViewedSum, top: &Top) -> bool {
     let rows = sum.top(alloc, top.0, top.1).expect(rt, "memory");
     let wanted = tallies_of(rt, alloc, top.2);
     let is_same = rows.as_slice() == wanted.as_slice();
     drop(wanted);
     drop(rows);
-    assert!(rt; holds_at(rt, &(top.0, top.1), is_same));
+    is_same
 }
 
 #[test]
@@ -92,34 +86,8 @@ fn rows_lead_over_all_shards(rt: HostRuntime) {
     let sum = engine.viewed(rt.alloc()).expect(&rt, "memory");
     drop(engine);
     for top in TOPS {
-        expect_top(&rt, rt.alloc(), &sum, top);
+        let is_same = leads(&rt, rt.alloc(), &sum, top);
+        assert!(rt; holds_at(&rt, &(top.0, top.1), is_same));
     }
-    drop(sum);
-}
-
-// The sum of a shard and of the same shard once more.
-fn twice(rt: &impl Abort, alloc: Global, setup: &Setup, shard: &Shard) -> ViewedSum
-    requires { shard.now.setup ≡ setup.now }
-{
-    let mut views = Vec::new(alloc);
-    let view = shard.view(alloc).expect(rt, "memory");
-    views.push(view).expect(rt, "memory");
-    let again = shard.view(alloc).expect(rt, "memory");
-    views.push(again).expect(rt, "memory");
-    ViewedSum::new(*setup, views)
-}
-
-// Shard 0 of 2 has the even rows. Where it stands for shard 1 too, its rows come from two views.
-static SIX: &[shards::Step] = &[(9, 1, "3 3 3\n1 1 2\n2 1 7\n3 1 4\n", Ok(6))];
-
-static BOTH: Top = (TopBy::Total, 3, &[(2, 1, 8), (0, 1, 4)]);
-
-#[test]
-fn views_of_other_rows_are_merged(rt: HostRuntime) {
-    let setup = small_setup(&rt);
-    let shard = shard_after(&rt, rt.alloc(), &setup, SIX);
-    let sum = twice(&rt, rt.alloc(), &setup, &shard);
-    drop(shard);
-    expect_top(&rt, rt.alloc(), &sum, &BOTH);
     drop(sum);
 }

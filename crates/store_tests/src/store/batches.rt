@@ -1,21 +1,17 @@
-//! Batches made of texts.
-ghost use Rattle.std.specs.Prelude.{◌≡◌};
-ghost use Rattle.std.specs.Arc.{arc_value};
-
-use crate::store::setups::small_setup;
-use batch_store::{Batch, BatchFault, Setup};
+//! Batches made of texts, and the parts of a batch.
+use batch_store::{Batch, BatchFault};
 use mm_text::{MmFile, Script, TextLimits, read_matrix};
 use std::alloc::Global;
 use std::process::Abort;
-use std::sync::Arc;
-use test_support::{holds_at, same};
+use test_batches::{Cells, batch, small_setup};
+use test_support::{holds_at, same, same_at};
 
 const WIDE: TextLimits = TextLimits {
     max_bytes: 1_000_000,
     max_entries: 1_000_000,
 };
 
-// The file of a text behind the banner.
+// The file of a text that follows the banner.
 fn file(rt: &impl Abort, alloc: Global, tail: &str) -> MmFile {
     let mut text = Vec::new(alloc);
     let banner = b"%%MatrixMarket matrix coordinate integer general\n";
@@ -27,31 +23,6 @@ fn file(rt: &impl Abort, alloc: Global, tail: &str) -> MmFile {
     let answer = read_matrix(alloc, &mut script, WIDE);
     drop(script);
     answer.expect(rt, "a file")
-}
-
-/// The batch of a text behind the banner.
-pub fn batch(
-    rt: &impl Abort,
-    alloc: Global,
-    setup: &Setup,
-    pair: (u64, u64),
-    tail: &str,
-) -> Arc<Batch>
-    ensures rows { (arc_value result).matrix.rows ≡ setup.now.rows }
-    ensures cols { (arc_value result).matrix.cols ≡ setup.now.cols }
-{
-    let file = file(rt, alloc, tail);
-    let answer = Batch::make(alloc, setup, pair.0, pair.1, &file);
-    drop(file);
-    answer.expect(rt, "a batch")
-}
-
-// Why a text makes no batch.
-fn fault(rt: &impl Abort, alloc: Global, setup: &Setup, tail: &str) -> Option<BatchFault> {
-    let file = file(rt, alloc, tail);
-    let answer = Batch::make(alloc, setup, 7, 1, &file);
-    drop(file);
-    answer.err()
 }
 
 static FAULTS: &[(&str, Option<BatchFault>)] = &[
@@ -78,45 +49,37 @@ static FAULTS: &[(&str, Option<BatchFault>)] = &[
 fn files_are_judged(rt: HostRuntime) {
     let setup = small_setup(&rt);
     for (tail, expected) in FAULTS {
-        let found = fault(&rt, rt.alloc(), &setup, tail);
-        assert!(rt; same(&rt, &found, expected));
+        let file = file(&rt, rt.alloc(), tail);
+        let found = Batch::make(rt.alloc(), &setup, 7, 1, &file).err();
+        drop(file);
+        assert!(rt; same_at(&rt, tail, &found, expected));
     }
 }
 
 #[test]
 fn a_batch_has_each_place_once(rt: HostRuntime) {
-    let setup = small_setup(&rt);
-    let tail = "3 3 3\n2 1 4\n2 3 0\n2 1 5\n";
-    let b = batch(&rt, rt.alloc(), &setup, (7, 1), tail);
+    let file = file(&rt, rt.alloc(), "3 3 3\n2 1 4\n2 3 0\n2 1 5\n");
+    let answer = Batch::make(rt.alloc(), &small_setup(&rt), 7, 1, &file);
+    drop(file);
+    let b = answer.expect(&rt, "a batch");
     let fields = (b.client, b.number, b.total);
     let counts = (b.matrix.entries(), b.matrix.get(1, 0), b.matrix.get(1, 2));
     let concerns = [b.concerns(0, 1), b.concerns(0, 2), b.concerns(1, 2)];
     drop(b);
-    assert!(rt; same(&rt, &fields, &(7, 1, 9)));
-    assert!(rt; same(&rt, &counts, &(2, Some(9), Some(0))));
-    assert!(rt; same(&rt, &concerns, &[true, false, true]));
+    let want = ((7, 1, 9), (2, Some(9), Some(0)), [true, false, true]);
+    assert!(rt; same(&rt, &(fields, counts, concerns), &want));
 }
 
-#[test]
-fn a_batch_without_cells_concerns_no_shard(rt: HostRuntime) {
-    let setup = small_setup(&rt);
-    let b = batch(&rt, rt.alloc(), &setup, (9, 1), "3 3 0\n");
-    let size = (b.matrix.entries(), b.total);
-    let concerns = [b.concerns(0, 2), b.concerns(1, 2)];
-    drop(b);
-    assert!(rt; same(&rt, &(size, concerns), &((0, 0), [false; 2])));
-}
+/// A batch, and of its part in each of so many shards the number of cells and the total; None where no cell lies there.
+type Parts = (Cells, &'static [Option<(u64, u64)>]);
 
-/// A text, and of its part in each of so many shards the number of cells and the total; None where no cell lies there.
-type Parts = (&'static str, &'static [Option<(u64, u64)>]);
-
-const ROWS: &str = "3 3 3\n1 1 5\n1 2 0\n3 1 4\n";
+const ROWS: Cells = &[(0, 0, 5), (0, 1, 0), (2, 0, 4)];
 
 static PARTS: &[Parts] = &[
-    ("3 3 0\n", &[None]),
-    ("3 3 0\n", &[None, None]),
+    (&[], &[None]),
+    (&[], &[None, None]),
     // A stored zero is a cell.
-    ("3 3 1\n2 1 0\n", &[None, Some((1, 0))]),
+    (&[(1, 0, 0)], &[None, Some((1, 0))]),
     (ROWS, &[Some((3, 9))]),
     (ROWS, &[Some((3, 9)), None]),
     (ROWS, &[Some((2, 5)), None, Some((1, 4))]),
@@ -148,10 +111,10 @@ fn has_shares(rt: &impl Abort, alloc: Global, b: &Batch, want: &[Option<(u64, u6
 #[test]
 fn a_batch_is_cut_by_rows(rt: HostRuntime) {
     let setup = small_setup(&rt);
-    for (tail, want) in PARTS {
-        let b = batch(&rt, rt.alloc(), &setup, (7, 1), tail);
+    for (cells, want) in PARTS {
+        let b = batch(&rt, rt.alloc(), &setup, (7, 1), cells);
         let has = has_shares(&rt, rt.alloc(), &b, want);
         drop(b);
-        assert!(rt; holds_at(&rt, &(tail, want), has));
+        assert!(rt; holds_at(&rt, &(cells, want), has));
     }
 }

@@ -1,34 +1,41 @@
-//! Books: what each put of a table is answered.
+//! Books: what each put of a table is answered, what a book lists then, and what it shares from an index on.
 ghost use Rattle.std.specs.Prelude.{◌≡◌};
 
-use crate::store::batches::batch;
-use crate::store::setups::small_setup;
-use batch_store::Verdict::{BookFull, Known, NumberReused, OverTotal};
-use batch_store::{Book, Kept, Setup, Verdict};
+use batch_store::Verdict::{BookFull, NumberReused, OverTotal};
+use batch_store::{Book, Setup, Verdict};
 use std::alloc::Global;
 use std::io::Eprint;
 use std::process::Abort;
 use std::random::RandomSource;
-use test_support::same;
+use test_batches::{Cells, batch, setup_up_to, small_setup};
+use test_support::same_at;
 
-/// The client, the number and the text of a batch that is put, and what the book answers.
-pub type Put = (u64, u64, &'static str, Verdict);
+/// The index of an accepted batch and the total with it, or the verdict on one that isn't accepted.
+type Answer = Result<(u64, u64), Verdict>;
+
+/// The client, the number and the cells of a batch that is put, and what the book answers.
+pub type Put = (u64, u64, Cells, Answer);
 
 // The verdict on one batch of a table; one that is fresh is admitted, and answered as a repeat of it would be.
-fn answer(rt: &impl Abort, alloc: Global, setup: &Setup, book: &mut Book, step: &Put) -> Verdict
+fn answer(rt: &impl Abort, alloc: Global, setup: &Setup, book: &mut Book, step: &Put) -> Answer
     requires { book.old.setup ≡ setup.now }
     ensures { book.new.setup ≡ setup.now }
 {
-    let (client, number, tail, _) = *step;
-    let b = batch(rt, alloc, setup, (client, number), tail);
+    let (client, number, cells, _) = *step;
+    let b = batch(rt, alloc, setup, (client, number), cells);
     match book.look(&b) {
         Verdict::Fresh => {
             book.reserve(&b).expect(rt, "memory");
-            Verdict::Known(book.admit(b))
+            let kept = book.admit(b);
+            Ok((kept.index, kept.total_after))
+        }
+        Verdict::Known(kept) => {
+            drop(b);
+            Ok((kept.index, kept.total_after))
         }
         verdict => {
             drop(b);
-            verdict
+            Err(verdict)
         }
     }
 }
@@ -45,200 +52,12 @@ pub fn put_all(
     ensures { book.new.setup ≡ setup.now }
 {
     'steps: for step in steps {
-        let verdict = answer(rt, alloc, setup, book, step);
-        assert!(rt; same(rt, &verdict, &step.3));
+        let found = answer(rt, alloc, setup, book, step);
+        assert!(rt; same_at(rt, &(step.0, step.1, step.2), &found, &step.3));
     }
 }
 
-// With a limit of 100.
-static WITHIN_100: &[Put] = &[
-    (
-        7,
-        1,
-        "3 3 1\n1 1 90\n",
-        Known(Kept {
-            index: 0,
-            total_after: 90,
-        }),
-    ),
-    (8, 1, "3 3 1\n1 1 11\n", OverTotal { accepted: 90 }),
-    (
-        8,
-        1,
-        "3 3 1\n1 1 10\n",
-        Known(Kept {
-            index: 1,
-            total_after: 100,
-        }),
-    ),
-    (
-        9,
-        1,
-        "3 3 1\n1 1 0\n",
-        Known(Kept {
-            index: 2,
-            total_after: 100,
-        }),
-    ),
-    (
-        7,
-        1,
-        "3 3 1\n1 1 90\n",
-        Known(Kept {
-            index: 0,
-            total_after: 90,
-        }),
-    ),
-    (
-        9,
-        1,
-        "3 3 1\n1 1 0\n",
-        Known(Kept {
-            index: 2,
-            total_after: 100,
-        }),
-    ),
-    (9, 2, "3 3 1\n1 1 1\n", OverTotal { accepted: 100 }),
-];
-
-// Repeats, and numbers used for other batches: another total, or as many counts in other places.
-static REPEATS: &[Put] = &[
-    (
-        7,
-        1,
-        "3 3 1\n1 1 5\n",
-        Known(Kept {
-            index: 0,
-            total_after: 5,
-        }),
-    ),
-    (
-        8,
-        1,
-        "3 3 1\n1 1 3\n",
-        Known(Kept {
-            index: 1,
-            total_after: 8,
-        }),
-    ),
-    (
-        7,
-        1,
-        "3 3 1\n1 1 5\n",
-        Known(Kept {
-            index: 0,
-            total_after: 5,
-        }),
-    ),
-    (7, 1, "3 3 1\n1 1 6\n", NumberReused),
-    (7, 1, "3 3 2\n1 1 5\n1 2 0\n", NumberReused),
-    (
-        7,
-        1,
-        "3 3 1\n3 3 5\n",
-        Known(Kept {
-            index: 0,
-            total_after: 5,
-        }),
-    ),
-    (
-        8,
-        1,
-        "3 3 1\n1 1 3\n",
-        Known(Kept {
-            index: 1,
-            total_after: 8,
-        }),
-    ),
-    (
-        7,
-        2,
-        "3 3 1\n1 1 5\n",
-        Known(Kept {
-            index: 2,
-            total_after: 13,
-        }),
-    ),
-];
-
-// Batches without cells.
-static NOTHING: &[Put] = &[
-    (
-        9,
-        1,
-        "3 3 0\n",
-        Known(Kept {
-            index: 0,
-            total_after: 0,
-        }),
-    ),
-    (
-        9,
-        1,
-        "3 3 0\n",
-        Known(Kept {
-            index: 0,
-            total_after: 0,
-        }),
-    ),
-    (9, 1, "3 3 1\n1 1 0\n", NumberReused),
-];
-
-// With room for one batch.
-static ONE_BATCH: &[Put] = &[
-    (
-        7,
-        1,
-        "3 3 1\n1 1 5\n",
-        Known(Kept {
-            index: 0,
-            total_after: 5,
-        }),
-    ),
-    (8, 1, "3 3 1\n1 1 3\n", BookFull),
-    (8, 1, "3 3 1\n1 1 96\n", OverTotal { accepted: 5 }),
-    (
-        7,
-        1,
-        "3 3 1\n1 1 5\n",
-        Known(Kept {
-            index: 0,
-            total_after: 5,
-        }),
-    ),
-    (7, 1, "3 3 1\n1 1 101\n", NumberReused),
-];
-
-// The largest total that a limit may allow.
-static LARGEST: &[Put] = &[
-    (
-        7,
-        1,
-        "3 3 2\n1 1 9223372036854775808\n1 2 9223372036854775807\n",
-        Known(Kept {
-            index: 0,
-            total_after: u64::MAX,
-        }),
-    ),
-    (
-        7,
-        2,
-        "3 3 1\n1 1 0\n",
-        Known(Kept {
-            index: 1,
-            total_after: u64::MAX,
-        }),
-    ),
-    (7, 3, "3 3 1\n1 1 1\n", OverTotal { accepted: u64::MAX }),
-    (
-        7,
-        4,
-        "3 3 1\n1 1 18446744073709551615\n",
-        OverTotal { accepted: u64::MAX },
-    ),
-];
-
-/// A book of three rows and columns to which the batches of a table were put, each with its answer.
+/// A book to which the batches of a table were put, each with its answer.
 pub fn book_after<R: RandomSource + Abort + Eprint>(
     rt: &R,
     alloc: Global,
@@ -252,66 +71,138 @@ pub fn book_after<R: RandomSource + Abort + Eprint>(
     book
 }
 
-// How many batches it has then, and their total.
-fn size_after<R: RandomSource + Abort + Eprint>(
-    rt: &R,
+// With a limit of 100.
+const WITHIN_100: &[Put] = &[
+    (7, 1, &[(0, 0, 90)], Ok((0, 90))),
+    (8, 1, &[(0, 0, 11)], Err(OverTotal { accepted: 90 })),
+    (8, 1, &[(0, 0, 10)], Ok((1, 100))),
+    (9, 1, &[(0, 0, 0)], Ok((2, 100))),
+    (7, 1, &[(0, 0, 90)], Ok((0, 90))),
+    (9, 1, &[(0, 0, 0)], Ok((2, 100))),
+    (9, 2, &[(0, 0, 1)], Err(OverTotal { accepted: 100 })),
+];
+
+// Repeats, and numbers used for other batches: another total, or as many counts at other places.
+const REPEATS: &[Put] = &[
+    (7, 1, &[(0, 0, 5)], Ok((0, 5))),
+    (8, 1, &[(0, 0, 3)], Ok((1, 8))),
+    (7, 1, &[(0, 0, 5)], Ok((0, 5))),
+    (7, 1, &[(0, 0, 6)], Err(NumberReused)),
+    (7, 1, &[(0, 0, 5), (0, 1, 0)], Err(NumberReused)),
+    (7, 1, &[(2, 2, 5)], Ok((0, 5))),
+    (8, 1, &[(0, 0, 3)], Ok((1, 8))),
+    (7, 2, &[(0, 0, 5)], Ok((2, 13))),
+];
+
+// Batches without cells.
+const NOTHING: &[Put] = &[
+    (9, 1, &[], Ok((0, 0))),
+    (9, 1, &[], Ok((0, 0))),
+    (9, 1, &[(0, 0, 0)], Err(NumberReused)),
+];
+
+// With room for one batch.
+const ONE_BATCH: &[Put] = &[
+    (7, 1, &[(0, 0, 5)], Ok((0, 5))),
+    (8, 1, &[(0, 0, 3)], Err(BookFull)),
+    (8, 1, &[(0, 0, 96)], Err(OverTotal { accepted: 5 })),
+    (7, 1, &[(0, 0, 5)], Ok((0, 5))),
+    (7, 1, &[(0, 0, 101)], Err(NumberReused)),
+];
+
+// The largest total that a limit may allow.
+const LARGEST: &[Put] = &[
+    (
+        7,
+        1,
+        &[(0, 0, 1 << 63), (0, 1, (1 << 63) - 1)],
+        Ok((0, u64::MAX)),
+    ),
+    (7, 2, &[(0, 0, 0)], Ok((1, u64::MAX))),
+    (7, 3, &[(0, 0, 1)], Err(OverTotal { accepted: u64::MAX })),
+    (
+        7,
+        4,
+        &[(0, 0, u64::MAX)],
+        Err(OverTotal { accepted: u64::MAX }),
+    ),
+];
+
+// A limit, the most batches, what is put, and how many batches the book has then, and their total.
+static PUTS: &[(u64, u64, &[Put], (u64, u64))] = &[
+    (100, 10, WITHIN_100, (3, 100)),
+    (100, 10, REPEATS, (3, 13)),
+    (100, 10, NOTHING, (1, 0)),
+    (100, 1, ONE_BATCH, (1, 5)),
+    (u64::MAX, 10, LARGEST, (2, u64::MAX)),
+];
+
+#[test]
+fn puts_are_answered(rt: HostRuntime) {
+    for (limit, most, steps, size) in PUTS {
+        let setup = setup_up_to(&rt, *limit, *most);
+        let book = book_after(&rt, rt.alloc(), &setup, steps);
+        let found = (book.len(), book.total());
+        drop(book);
+        assert!(rt; same_at(&rt, &(*limit, *most), &found, size));
+    }
+}
+
+// Batches of two cells, of one and of three.
+static BATCHES: &[Put] = &[
+    (7, 1, &[(0, 0, 5), (0, 1, 0)], Ok((0, 5))),
+    (8, 1, &[(0, 0, 3)], Ok((1, 8))),
+    (9, 1, &[(0, 0, 1), (1, 1, 1), (2, 2, 1)], Ok((2, 11))),
+];
+
+// The clients of the first three batches.
+type Clients = (Option<u64>, Option<u64>, Option<u64>);
+
+// From where, at most how many cells, room for how many batches, and the clients of those that are shared.
+static SHARED: &[(u64, u64, usize, Clients)] = &[
+    (0, 100, 8, (Some(7), Some(8), Some(9))),
+    (1, 100, 8, (Some(8), Some(9), None)),
+    (2, 100, 8, (Some(9), None, None)),
+    // Nothing comes after the end.
+    (3, 100, 8, (None, None, None)),
+    (u64::MAX, 100, 8, (None, None, None)),
+    // As far as there is room.
+    (0, 100, 1, (Some(7), None, None)),
+    (0, 100, 2, (Some(7), Some(8), None)),
+    // As many as have at most so many cells together, and the first in any case.
+    (0, 6, 8, (Some(7), Some(8), Some(9))),
+    (0, 5, 8, (Some(7), Some(8), None)),
+    (0, 3, 8, (Some(7), Some(8), None)),
+    (0, 2, 8, (Some(7), None, None)),
+    (0, 0, 8, (Some(7), None, None)),
+    (2, 0, 8, (Some(9), None, None)),
+];
+
+// The clients of the first three batches that a book shares, and whether these are all.
+fn clients(
+    rt: &impl Abort,
     alloc: Global,
-    steps: &[Put],
-) -> (u64, u64) {
-    let book = book_after(rt, alloc, &small_setup(rt), steps);
-    let size = (book.len(), book.total());
-    drop(book);
-    size
-}
-
-#[test]
-fn a_limit_is_kept_exactly(rt: HostRuntime) {
-    assert!(rt; same(&rt, &size_after(&rt, rt.alloc(), WITHIN_100), &(3, 100)));
-}
-
-#[test]
-fn repeats_get_the_reply_of_then(rt: HostRuntime) {
-    assert!(rt; same(&rt, &size_after(&rt, rt.alloc(), REPEATS), &(3, 13)));
-}
-
-#[test]
-fn batches_without_cells_are_accepted(rt: HostRuntime) {
-    assert!(rt; same(&rt, &size_after(&rt, rt.alloc(), NOTHING), &(1, 0)));
-}
-
-// The client and the total of the batch that a book lists, where it lists one alone.
-fn listed(rt: &impl Abort, alloc: Global, book: &Book) -> Option<(u64, u64)> {
-    let list = book.list(alloc).expect(rt, "memory");
-    let found = match list.as_slice() {
-        [b] => Some((b.client, b.total)),
-        _ => None,
-    };
-    drop(list);
+    book: &Book,
+    from: u64,
+    most_cells: u64,
+    room: usize,
+) -> (Clients, bool) {
+    assert!(rt; room > 0 && book.folded() <= from);
+    let mut out = Vec::with_capacity(alloc, room).expect(rt, "memory");
+    assert!(rt; book.share_from(from, most_cells, &mut out));
+    let client = |i: usize| -> Option<u64> { Some(out.get(i)?.client) };
+    let found = ((client(0), client(1), client(2)), out.len() <= 3);
+    drop(out);
     found
 }
 
 #[test]
-fn a_full_book_knows_its_batches(rt: HostRuntime) {
-    let setup = Setup::new(3, 3, &[2, 4], 2, 100, 1).expect(&rt, "a setup");
-    let book = book_after(&rt, rt.alloc(), &setup, ONE_BATCH);
-    let found = listed(&rt, rt.alloc(), &book);
-    drop(book);
-    assert!(rt; same(&rt, &found, &Some((7, 5))));
-}
-
-/// The total of the batch at a place of a book.
-pub fn total_at(book: &Book, i: u64) -> Option<u64> {
-    match book.at(i) {
-        Some(b) => Some(b.total),
-        None => None,
+fn a_book_shares_batches_from_an_index_on(rt: HostRuntime) {
+    let book = book_after(&rt, rt.alloc(), &small_setup(&rt), BATCHES);
+    for (from, most_cells, room, expected) in SHARED {
+        let found = clients(&rt, rt.alloc(), &book, *from, *most_cells, *room);
+        let place = (*from, *most_cells, *room);
+        assert!(rt; same_at(&rt, &place, &found, &(*expected, true)));
     }
-}
-
-#[test]
-fn the_largest_total_is_accepted(rt: HostRuntime) {
-    let setup = Setup::new(3, 3, &[2, 4], 2, u64::MAX, 10).expect(&rt, "a setup");
-    let book = book_after(&rt, rt.alloc(), &setup, LARGEST);
-    let totals = [total_at(&book, 0), total_at(&book, 1), total_at(&book, 2)];
     drop(book);
-    assert!(rt; same(&rt, &totals, &[Some(u64::MAX), Some(0), None]));
 }

@@ -1,27 +1,37 @@
 //! Setups, good and bad.
-ghost use Rattle.std.specs.Prelude.{◌≡◌, [], ◌∷◌};
-ghost use Rattle.batch_store.specs.Setups.{setting};
-
 use batch_store::{Setup, SetupFault};
-use std::process::Abort;
-use test_support::same;
+use test_batches::small_setup;
+use test_support::{same, same_at};
 
-// Three rows, three columns, two shards and a limit of 100.
-pub fn small_setup(rt: &impl Abort) -> Setup
-    ensures { result ≡ setting 3 3 (2 ∷ 4 ∷ []) 2 100 10 }
-{
-    Setup::new(3, 3, &[2, 4], 2, 100, 10).expect(rt, "a setup")
-}
+const MOST: u64 = 1 << 60;
 
-/// The values of a setup that is refused, in the order of `Setup::new`, and why.
-type Refused = (u64, u64, &'static [u64], u64, u64, u64, SetupFault);
+/// The values of a setup in the order of `Setup::new`, and why it is refused.
+type Judged = (u64, u64, &'static [u64], u64, u64, u64, Option<SetupFault>);
 
-static REFUSED: &[Refused] = &[
-    (0, 3, &[2, 4], 2, 100, 10, SetupFault::BadDimension),
-    (3, 0, &[2, 4], 2, 100, 10, SetupFault::BadDimension),
-    (3, 1 << 61, &[2, 4], 2, 100, 10, SetupFault::BadDimension),
-    (3, 3, &[4, 4], 2, 100, 10, SetupFault::BadCuts),
-    (3, 3, &[0, 4], 2, 100, 10, SetupFault::BadCuts),
+static JUDGED: &[Judged] = &[
+    // The widest one.
+    (
+        MOST,
+        MOST,
+        &[1, 2, 3, 4, 5, 6, 1 << 40],
+        64,
+        u64::MAX,
+        1_000_000,
+        None,
+    ),
+    (0, 3, &[2, 4], 2, 100, 10, Some(SetupFault::BadDimension)),
+    (3, 0, &[2, 4], 2, 100, 10, Some(SetupFault::BadDimension)),
+    (
+        3,
+        1 << 61,
+        &[2, 4],
+        2,
+        100,
+        10,
+        Some(SetupFault::BadDimension),
+    ),
+    (3, 3, &[4, 4], 2, 100, 10, Some(SetupFault::BadCuts)),
+    (3, 3, &[0, 4], 2, 100, 10, Some(SetupFault::BadCuts)),
     (
         3,
         3,
@@ -29,51 +39,44 @@ static REFUSED: &[Refused] = &[
         2,
         100,
         10,
-        SetupFault::BadCuts,
+        Some(SetupFault::BadCuts),
     ),
-    (3, 3, &[2, 4], 0, 100, 10, SetupFault::BadShards),
-    (3, 3, &[2, 4], 65, 100, 10, SetupFault::BadShards),
-    (3, 3, &[2, 4], 2, 0, 10, SetupFault::BadLimit),
-    (3, 3, &[2, 4], 2, 100, 0, SetupFault::BadBatches),
-    (3, 3, &[2, 4], 2, 100, 1_000_001, SetupFault::BadBatches),
-    // The first of several faults is told.
-    (0, 3, &[2, 4], 2, 0, 10, SetupFault::BadDimension),
-    (3, 3, &[4, 4], 65, 0, 0, SetupFault::BadCuts),
-    (3, 3, &[2, 4], 65, 0, 0, SetupFault::BadShards),
-    (3, 3, &[2, 4], 2, 0, 0, SetupFault::BadLimit),
+    (3, 3, &[2, 4], 0, 100, 10, Some(SetupFault::BadShards)),
+    (3, 3, &[2, 4], 65, 100, 10, Some(SetupFault::BadShards)),
+    (3, 3, &[2, 4], 2, 0, 10, Some(SetupFault::BadLimit)),
+    (3, 3, &[2, 4], 2, 100, 0, Some(SetupFault::BadBatches)),
+    (
+        3,
+        3,
+        &[2, 4],
+        2,
+        100,
+        1_000_001,
+        Some(SetupFault::BadBatches),
+    ),
+    // The first of several faults is reported.
+    (0, 3, &[2, 4], 2, 0, 10, Some(SetupFault::BadDimension)),
+    (3, 3, &[4, 4], 65, 0, 0, Some(SetupFault::BadCuts)),
+    (3, 3, &[2, 4], 65, 0, 0, Some(SetupFault::BadShards)),
+    (3, 3, &[2, 4], 2, 0, 0, Some(SetupFault::BadLimit)),
 ];
 
-fn is_refused(case: &Refused) -> bool {
-    let (rows, cols, cuts, shards, limit, max_batches, fault) = *case;
-    Setup::new(rows, cols, cuts, shards, limit, max_batches).err() == Some(fault)
-}
-
 #[test]
-fn values_out_of_range_are_refused_in_order(rt: HostRuntime) {
-    for case in REFUSED {
-        assert!(rt; is_refused(case));
+fn values_are_judged_in_order(rt: HostRuntime) {
+    for (rows, cols, cuts, shards, limit, max_batches, fault) in JUDGED {
+        let found = Setup::new(*rows, *cols, cuts, *shards, *limit, *max_batches).err();
+        assert!(rt; same_at(&rt, &(*rows, *cols, *shards), &found, fault));
     }
 }
 
 #[test]
 fn a_setup_gives_its_values(rt: HostRuntime) {
     let setup = small_setup(&rt);
-    let copy = setup;
-    assert!(rt;
-        same(
-            &rt,
-            &(setup.rows(), setup.cols(), setup.shards()),
-            &(3, 3, 2)
-        )
+    let sides = (setup.rows(), setup.cols(), setup.shards());
+    let bounds = (
+        setup.limit(),
+        setup.max_batches(),
+        setup.cuts() == [2, 4].as_slice(),
     );
-    assert!(rt; same(&rt, &(copy.limit(), copy.max_batches()), &(100, 10)));
-    assert!(rt; same(&rt, &setup.cuts(), &[2, 4].as_slice()));
-}
-
-#[test]
-fn the_widest_setup_is_taken(rt: HostRuntime) {
-    let most = 1 << 60;
-    let cuts = [1, 2, 3, 4, 5, 6, 1 << 40];
-    let setup = Setup::new(most, most, &cuts, 64, u64::MAX, 1_000_000);
-    assert!(rt; setup.is_ok());
+    assert!(rt; same(&rt, &(sides, bounds), &((3, 3, 2), (100, 10, true))));
 }

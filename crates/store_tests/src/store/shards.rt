@@ -1,17 +1,16 @@
 //! Shards: what is taken in, what is refused, and where the cells lie.
 ghost use Rattle.std.specs.Prelude.{◌≡◌};
 
-use crate::store::batches::batch;
-use crate::store::setups::small_setup;
 use batch_store::{Setup, Shard, ShardFault};
 use std::alloc::Global;
 use std::io::Eprint;
 use std::process::Abort;
 use std::random::RandomSource;
-use test_support::same;
+use test_batches::{Cells, batch, small_setup};
+use test_support::{same, same_at};
 
-/// The client, the number and the text of a batch that is taken in, and the total of its part or why it isn't.
-pub type Step = (u64, u64, &'static str, Result<u64, ShardFault>);
+/// The client, the number and the cells of a batch that is taken in, and the total of its part or why it isn't.
+pub type Step = (u64, u64, Cells, Result<u64, ShardFault>);
 
 // Prepares one batch of a table, and takes it in.
 fn answer(
@@ -24,8 +23,8 @@ fn answer(
     requires { shard.old.setup ≡ setup.now }
     ensures { shard.new.setup ≡ setup.now }
 {
-    let (client, number, tail, _) = *step;
-    let b = batch(rt, alloc, setup, (client, number), tail);
+    let (client, number, cells, _) = *step;
+    let b = batch(rt, alloc, setup, (client, number), cells);
     let prepared = shard.prepare(alloc, &b);
     drop(b);
     match prepared {
@@ -51,26 +50,9 @@ pub fn take_all(
 {
     'steps: for step in steps {
         let taken = answer(rt, alloc, setup, shard, step);
-        assert!(rt; same(rt, &taken, &step.3));
+        assert!(rt; same_at(rt, &(step.0, step.1, step.2), &taken, &step.3));
     }
 }
-
-// Of shard 0 of 2: rows 1 and 3 of a text.
-static STEPS: &[Step] = &[
-    (7, 1, "3 3 2\n1 1 60\n2 1 4\n", Ok(60)),
-    (
-        7,
-        1,
-        "3 3 2\n1 1 60\n2 1 4\n",
-        Err(ShardFault::AlreadyThere),
-    ),
-    // The pair comes before the total.
-    (7, 1, "3 3 1\n1 1 60\n", Err(ShardFault::AlreadyThere)),
-    (8, 1, "3 3 1\n1 1 60\n", Err(ShardFault::Over)),
-    (8, 1, "3 3 1\n3 1 41\n", Err(ShardFault::Over)),
-    (8, 1, "3 3 3\n3 1 40\n2 2 900\n1 2 0\n", Ok(40)),
-    (9, 1, "3 3 0\n", Ok(0)),
-];
 
 /// A new shard with number 0 that took in the batches of a table, each with its answer.
 pub fn shard_after<R: RandomSource + Abort + Eprint>(
@@ -81,45 +63,33 @@ pub fn shard_after<R: RandomSource + Abort + Eprint>(
 ) -> Shard
     ensures { result.setup ≡ setup.now }
 {
-    // Any call on it tells that it has a shard.
+    // A setup has at least one shard, as any call on it shows.
     let _shards = setup.shards();
     let mut shard = Shard::new(rt, alloc, setup, 0).expect(rt, "a shard");
     take_all(rt, alloc, setup, &mut shard, steps);
     shard
 }
 
-/// Its total, and how many batches it has.
-pub fn size(shard: &Shard) -> (u64, u64) {
-    (shard.total(), shard.record_len())
-}
-
-// Which of these batches it has.
-fn held(shard: &Shard, pairs: [(u64, u64); 3]) -> [bool; 3] {
-    let [first, second, third] = pairs;
-    [
-        shard.holds(first.0, first.1),
-        shard.holds(second.0, second.1),
-        shard.holds(third.0, third.1),
-    ]
-}
-
-#[test]
-fn a_shard_takes_each_batch_once(rt: HostRuntime) {
-    let shard = shard_after(&rt, rt.alloc(), &small_setup(&rt), STEPS);
-    let held = held(&shard, [(7, 1), (9, 1), (7, 2)]);
-    let found = (shard.number(), size(&shard), held);
-    drop(shard);
-    assert!(rt; same(&rt, &found, &(0, (100, 3), [true, true, false])));
-}
+// Of shard 0 of 2, which has the rows 0 and 2.
+static STEPS: &[Step] = &[
+    (7, 1, &[(0, 0, 60), (1, 0, 4)], Ok(60)),
+    (
+        7,
+        1,
+        &[(0, 0, 60), (1, 0, 4)],
+        Err(ShardFault::AlreadyThere),
+    ),
+    // The pair comes before the total.
+    (7, 1, &[(0, 0, 60)], Err(ShardFault::AlreadyThere)),
+    (8, 1, &[(0, 0, 60)], Err(ShardFault::Over)),
+    (8, 1, &[(2, 0, 41)], Err(ShardFault::Over)),
+    (8, 1, &[(2, 0, 40), (1, 1, 900), (0, 1, 0)], Ok(40)),
+    (9, 1, &[], Ok(0)),
+];
 
 // The counts at these places.
 fn counts(shard: &Shard, places: [(u64, u64); 3]) -> [Option<u64>; 3] {
-    let [first, second, third] = places;
-    [
-        shard.get(first.0, first.1),
-        shard.get(second.0, second.1),
-        shard.get(third.0, third.1),
-    ]
+    places.map(|(row, col)| shard.get(row, col))
 }
 
 // The entries and the total of a row.
@@ -128,47 +98,38 @@ fn row(shard: &Shard, row: u64) -> (u64, u64) {
     (sum.entries, sum.total)
 }
 
-// The counts at three places of shard 0, and the entries and the total of its first row; the same of rows of others:
-// row 1 is of shard 1, and there is no row 4.
-type Looked = ([Option<u64>; 3], (u64, u64));
-
-fn own_and_others(shard: &Shard) -> (Looked, Looked) {
-    let own = counts(shard, [(0, 0), (0, 1), (2, 0)]);
-    let others = counts(shard, [(1, 0), (1, 1), (4, 0)]);
-    ((own, row(shard, 0)), (others, row(shard, 1)))
-}
-
 #[test]
-fn a_shard_has_its_own_rows(rt: HostRuntime) {
-    let own = ([Some(60), Some(0), Some(40)], (2, 60));
-    let others = ([None, None, None], (0, 0));
+fn a_shard_takes_each_batch_once(rt: HostRuntime) {
     let shard = shard_after(&rt, rt.alloc(), &small_setup(&rt), STEPS);
-    let found = own_and_others(&shard);
+    let size = (shard.number(), shard.total(), shard.record_len());
+    let held = [shard.holds(7, 1), shard.holds(9, 1), shard.holds(7, 2)];
+    assert!(rt; same(&rt, &(size, held), &((0, 100, 3), [true, true, false])));
+    let own = (counts(&shard, [(0, 0), (0, 1), (2, 0)]), row(&shard, 0));
+    assert!(rt; same(&rt, &own, &([Some(60), Some(0), Some(40)], (2, 60))));
+    // Row 1 is of shard 1, and there is no row 4.
+    let others = (counts(&shard, [(1, 0), (1, 1), (4, 0)]), row(&shard, 1));
+    assert!(rt; same(&rt, &others, &([None; 3], (0, 0))));
+    let layers = [0, 1, 2, 3, 4].map(|i: usize| shard.layer_entries(i));
+    assert!(rt; same(&rt, &layers, &[None, Some(0), Some(3), Some(0), None]));
     drop(shard);
-    assert!(rt; same(&rt, &found, &(own, others)));
 }
 
-static FIVE: &[Step] = &[(7, 1, "3 3 1\n1 1 5\n", Ok(5))];
+static FIVE: &[Step] = &[(7, 1, &[(0, 0, 5)], Ok(5))];
 
-// Prepares the batch of 5, gives it up, and tells the total of its part.
-fn given_up(rt: &impl Abort, alloc: Global, setup: &Setup, shard: &mut Shard) -> Option<u64>
-    requires { shard.old.setup ≡ setup.now }
-    ensures { shard.new.setup ≡ setup.now }
-{
-    let b = batch(rt, alloc, setup, (7, 1), "3 3 1\n1 1 5\n");
-    let prepared = shard.prepare(alloc, &b);
-    drop(b);
-    prepared.ok().map(|p| p.amount())
-}
+static THREE: &[Step] = &[(8, 1, &[(0, 0, 3)], Ok(3))];
 
+// A view of the batch of 5 shows the same once the batch of 3 was taken in.
 #[test]
-fn what_is_prepared_may_be_dropped(rt: HostRuntime) {
+fn a_view_stays_as_it_was(rt: HostRuntime) {
     let setup = small_setup(&rt);
-    let mut shard = shard_after(&rt, rt.alloc(), &setup, &[]);
-    let amount = given_up(&rt, rt.alloc(), &setup, &mut shard);
-    let before = (size(&shard), shard.holds(7, 1));
-    take_all(&rt, rt.alloc(), &setup, &mut shard, FIVE);
-    let found = (amount, before, size(&shard));
+    let mut shard = shard_after(&rt, rt.alloc(), &setup, FIVE);
+    let view = shard.view(rt.alloc()).expect(&rt, "memory");
+    take_all(&rt, rt.alloc(), &setup, &mut shard, THREE);
+    let size = (shard.total(), shard.record_len());
     drop(shard);
-    assert!(rt; same(&rt, &found, &(Some(5), ((0, 0), false), (5, 1))));
+    let sum = view.sum(rt.alloc()).expect(&rt, "memory");
+    let seen = (view.record_len(), sum.entries(), sum.total());
+    drop(sum);
+    drop(view);
+    assert!(rt; same(&rt, &(seen, size), &((1, 1, 5), (8, 2))));
 }
