@@ -47,7 +47,12 @@ static IN_STEPS: Case = Case {
 
 #[test]
 fn folds_leave_every_answer(rt: HostRuntime) {
-    play(&rt, rt.alloc(), small_setup(&rt), &IN_STEPS);
+    play(
+        &rt,
+        rt.alloc(),
+        small_setup().expect(&rt, "a setup"),
+        &IN_STEPS,
+    );
 }
 
 // The number of folded batches, the entries of the base, and the cells of the batches that wait.

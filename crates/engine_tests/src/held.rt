@@ -24,7 +24,7 @@ static HELD: Case = Case {
 
 #[test]
 fn reads_are_answered_while_a_shard_is_held(rt: HostRuntime) {
-    play(&rt, rt.alloc(), small_setup(&rt), &HELD);
+    play(&rt, rt.alloc(), small_setup().expect(&rt, "a setup"), &HELD);
 }
 
 /// Reads a shard inside a look at it, of which any call that takes the shard's lock would never end.

@@ -63,7 +63,12 @@ fn puts_are_durable_once_they_are_answered(rt: HostRuntime) {
             accepted: (*accepted, *accepted),
             ..NOTHING
         };
-        cases::play(&rt, rt.alloc(), setup_up_to(&rt, 1_000, 500), &case);
+        cases::play(
+            &rt,
+            rt.alloc(),
+            setup_up_to(1_000, 500).expect(&rt, "a setup"),
+            &case,
+        );
     }
 }
 

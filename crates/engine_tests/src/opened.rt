@@ -111,7 +111,7 @@ pub fn put<N: Named, H: Ledger, R: Wait + Abort>(
     cells: &[(u64, u64, u64)],
 ) -> Answer {
     let setup = engine.setup();
-    let b = batch(rt, alloc, &setup, pair, cells);
+    let b = batch(alloc, &setup, pair, cells).expect(rt, "a batch");
     let kept = engine.put(rt, alloc, seat, b)?;
     Ok((kept.index, kept.total_after))
 }

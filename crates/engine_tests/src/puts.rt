@@ -85,7 +85,12 @@ static CASES: &[(u64, Case)] = &[
 #[test]
 fn puts_are_answered_as_by_one_thread(rt: HostRuntime) {
     for (most, case) in CASES {
-        play(&rt, rt.alloc(), setup_up_to(&rt, 100, *most), case);
+        play(
+            &rt,
+            rt.alloc(),
+            setup_up_to(100, *most).expect(&rt, "a setup"),
+            case,
+        );
     }
 }
 

@@ -38,7 +38,7 @@ fn accept(
     requires setup { plain.old.setup ≡ setup.now }
     ensures setup { plain.new.setup ≡ plain.old.setup }
 {
-    let b = batch(rt, alloc, setup, (client, 1), cells);
+    let b = batch(alloc, setup, (client, 1), cells).expect(rt, "a batch");
     let _kept = plain.put(alloc, b).expect(rt, "put");
 }
 
@@ -81,7 +81,7 @@ static QUEUED: Case = Case {
 
 #[test]
 fn batches_are_put_and_read_after_folded_ones(rt: HostRuntime) {
-    let plain = folded_two(&rt, rt.alloc(), small_setup(&rt));
+    let plain = folded_two(&rt, rt.alloc(), small_setup().expect(&rt, "a setup"));
     play_on(&rt, rt.alloc(), plain, &QUEUED);
 }
 

@@ -29,7 +29,9 @@ static JUDGED: &[(usize, Option<OpenFault>)] = &[
 
 #[test]
 fn there_are_1_to_32_seats(rt: HostRuntime) {
-    let plain = PlainEngine::new(&rt, rt.alloc(), small_setup(&rt)).expect(&rt, "memory");
+    let plain = PlainEngine::new(&rt, rt.alloc(), small_setup().expect(&rt, "a setup")).expect(
+        &rt, "memory",
+    );
     for (seats, fault) in JUDGED {
         let found = Names::new(&rt, rt.alloc(), &plain, *seats).err();
         assert!(rt; same_at(&rt, seats, &found, fault));
@@ -48,7 +50,12 @@ static SHARED: Case = Case {
 
 #[test]
 fn two_threads_share_the_limit(rt: HostRuntime) {
-    play(&rt, rt.alloc(), small_setup(&rt), &SHARED);
+    play(
+        &rt,
+        rt.alloc(),
+        small_setup().expect(&rt, "a setup"),
+        &SHARED,
+    );
 }
 
 static SIXTY: &[(u64, u64, u64)] = &[(0, 0, 40), (1, 0, 20)];

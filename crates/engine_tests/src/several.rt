@@ -45,7 +45,12 @@ static BESIDE: Case = Case {
 
 #[test]
 fn a_shard_that_is_held_keeps_nobody_from_another(rt: HostRuntime) {
-    play(&rt, rt.alloc(), small_setup(&rt), &BESIDE);
+    play(
+        &rt,
+        rt.alloc(),
+        small_setup().expect(&rt, "a setup"),
+        &BESIDE,
+    );
 }
 
 /// While one thread holds shard 0, the other's put into shard 1 is answered.
@@ -118,7 +123,7 @@ static READ: Case = Case {
 
 #[test]
 fn seats_read_what_was_put(rt: HostRuntime) {
-    play(&rt, rt.alloc(), small_setup(&rt), &READ);
+    play(&rt, rt.alloc(), small_setup().expect(&rt, "a setup"), &READ);
 }
 
 /// One thread puts a batch and then another thread the next, and each seat reads both.

@@ -22,11 +22,11 @@ fn is_page(bytes: &[u8], want: &[u8; PAGE]) -> bool {
 #[test]
 fn a_known_block_is_written_and_read(rt: HostRuntime) {
     let alloc = rt.alloc();
-    let setup = small_setup(&rt);
+    let setup = small_setup().expect(&rt, "a setup");
     let mut out = [AFTER; PAGE + 8];
     let batches = [
-        one_cell(&rt, alloc, &setup, 7, 5),
-        one_cell(&rt, alloc, &setup, 8, 3),
+        one_cell(alloc, &setup, 7, 5).expect(&rt, "a batch"),
+        one_cell(alloc, &setup, 8, 3).expect(&rt, "a batch"),
     ];
     assert!(rt; block_pages(&batches) == 1);
     assert!(rt; same(&rt, &encode_block(&mut out, 0, &batches), &1));
@@ -57,7 +57,9 @@ static REFUSED: &[(&str, usize, &[u64])] = &[
 #[test]
 fn other_blocks_are_refused(rt: HostRuntime) {
     let alloc = rt.alloc();
-    let mut reader = BlockReader::new(alloc, &small_setup(&rt)).expect(&rt, "memory");
+    let mut reader = BlockReader::new(alloc, &small_setup().expect(&rt, "a setup")).expect(
+        &rt, "memory",
+    );
     for (what, pages, numbers) in REFUSED {
         let mut bytes = [0; 2 * CHUNK];
         put_numbers(&mut bytes, 0, numbers);

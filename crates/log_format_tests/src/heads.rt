@@ -50,7 +50,7 @@ fn heads_are_written_and_read(rt: HostRuntime) {
         0x5aa3_e14d,
     );
     for (page, first, total, link) in [(head(), 0, 0, 0), (after, 1, 5, 0xde34_5a72)] {
-        let setup = small_setup(&rt);
+        let setup = small_setup().expect(&rt, "a setup");
         let written = spelled(&LogHead {
             setup,
             first,

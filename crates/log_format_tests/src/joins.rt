@@ -97,8 +97,8 @@ fn joined<R: Abort + RandomSource>(
     alloc: Global,
     case: &Case,
 ) -> Result<BookList, JoinFault> {
-    let setup = small_setup(rt);
-    let list = list_of(rt, alloc, &setup, case.known);
+    let setup = small_setup().expect(rt, "a setup");
+    let list = list_of(rt, alloc, &setup, case.known).expect(rt, "a list");
     let (first, total, link) = case.before;
     let head = LogHead {
         setup,
@@ -108,8 +108,8 @@ fn joined<R: Abort + RandomSource>(
     };
     let [one, two] = case.log;
     let batches = [
-        one_cell(rt, alloc, &setup, one.0, one.1),
-        one_cell(rt, alloc, &setup, two.0, two.1),
+        one_cell(alloc, &setup, one.0, one.1).expect(rt, "a batch"),
+        one_cell(alloc, &setup, two.0, two.1).expect(rt, "a batch"),
     ];
     join_log(alloc, &setup, list, &head, &batches)
 }

@@ -138,10 +138,10 @@ static FOLDS: &[Session] = &[
 
 #[test]
 fn questions_are_answered(rt: HostRuntime) {
-    check_sessions(&rt, rt.alloc(), small_setup(&rt), RANGES);
+    check_sessions(&rt, rt.alloc(), small_setup().expect(&rt, "a setup"), RANGES);
 }
 
 #[test]
 fn folds_change_no_answer(rt: HostRuntime) {
-    check_sessions(&rt, rt.alloc(), small_setup(&rt), FOLDS);
+    check_sessions(&rt, rt.alloc(), small_setup().expect(&rt, "a setup"), FOLDS);
 }

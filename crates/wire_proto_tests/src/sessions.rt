@@ -200,14 +200,14 @@ static BAD_FRAMES: &[Session] = &[
 
 #[test]
 fn sessions_are_answered(rt: HostRuntime) {
-    let setup = small_setup(&rt);
+    let setup = small_setup().expect(&rt, "a setup");
     check_sessions(&rt, rt.alloc(), setup, TEXTS);
     check_sessions(&rt, rt.alloc(), setup, CELLS);
 }
 
 #[test]
 fn puts_and_frames_are_refused(rt: HostRuntime) {
-    let setup = small_setup(&rt);
+    let setup = small_setup().expect(&rt, "a setup");
     check_sessions(&rt, rt.alloc(), setup, REFUSED_TEXTS);
     check_sessions(&rt, rt.alloc(), setup, BAD_FRAMES);
 }
@@ -232,7 +232,7 @@ static ONE_BATCH: &[Session] = &[(
 // A book that holds one batch.
 #[test]
 fn a_full_book_is_judged_last(rt: HostRuntime) {
-    let setup = setup_up_to(&rt, 100, 1);
+    let setup = setup_up_to(100, 1).expect(&rt, "a setup");
     check_sessions(&rt, rt.alloc(), setup, ONE_BATCH);
 }
 
@@ -240,7 +240,7 @@ static FOUR_BYTES: Session = (&[Ask::Raw("00000000")], "", Ended::TooManyTurns, 
 
 #[test]
 fn turns_are_counted(rt: HostRuntime) {
-    let setup: Setup = small_setup(&rt);
+    let setup: Setup = small_setup().expect(&rt, "a setup");
     let found = served_anew(&rt, rt.alloc(), setup, &FOUR_BYTES, 1, 3);
     assert!(rt; same(&rt, &found, &(Ended::TooManyTurns, true, (0, 0))));
 }

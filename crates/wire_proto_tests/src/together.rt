@@ -59,7 +59,7 @@ fn answered(
 #[test]
 fn replies_to_puts_that_came_at_once_are_sent_together(rt: HostRuntime) {
     for (puts, writes) in [(1u64, 1u64), (2, 1), (64, 1), (65, 2), (130, 3)] {
-        let setup = small_setup(&rt);
+        let setup = small_setup().expect(&rt, "a setup");
         let mut engine = PlainEngine::new(&rt, rt.alloc(), setup).expect(&rt, "memory");
         let found = answered(&rt, rt.alloc(), &mut engine, puts);
         drop(engine);
