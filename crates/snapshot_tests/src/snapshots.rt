@@ -1,5 +1,5 @@
-//! Tests of `snap_file`: worked examples in each version, each fault of their bytes, reads, writes and calls of a folder
-//! that fail in turn, and real files.
+//! Tests of `snap_file`: worked examples in each version, each fault of their bytes, real files, and reads, writes and
+//! calls of a folder that fail in turn.
 
 pub mod bytes;
 mod examples;

@@ -28,7 +28,7 @@ pub static TWO: &[u8] = b"HHMSNAP\n\0\0\0\x01\
 \0\0\0\0\0\0\0\0\0\0\0\0\0\0\0\0\0\0\0\0\0\0\0\x03";
 
 /// In version 2, with the batch of `ONE` folded and total 8: after the head 1 folded batch, client 7, number 1, 1 cell,
-/// total 5, and the base of 1 cell: row 0, column 0, count 5. Then client 8, number 1, 1 cell: row 0, column 0, count 3.
+/// total 5; the base of 1 cell, row 0, column 0, count 5; and client 8, number 1, 1 cell, row 0, column 0, count 3.
 pub static BOTH: &[u8] = b"HHMSNAP\n\0\0\0\x02\
 \0\0\0\0\0\0\0\x03\0\0\0\0\0\0\0\x03\
 \x02\0\0\0\0\0\0\0\x02\0\0\0\0\0\0\0\x04\

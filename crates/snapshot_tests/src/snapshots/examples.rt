@@ -24,7 +24,7 @@ fn first_batch(list: &BookList) -> Option<(u64, u64, u64)> {
 // The first folded batch, the base's number of cells, total, and count in row 0, column 0.
 type Folded = (Option<Entry>, u64, u64, Option<u64>);
 
-// What is told of these bytes, in pieces of 7: whether it is the setup of the examples, how many batches are folded and
+// What these bytes are read as, in pieces of 7: whether with the setup of the examples, how many batches are folded and
 // how many are not, what is folded, and the first batch that isn't.
 type Told = (bool, [usize; 2], Folded, Option<(u64, u64, u64)>);
 
@@ -67,7 +67,7 @@ fn examples_are_read(rt: HostRuntime) {
 fn come_as(rt: &impl Abort, alloc: Global, bytes: &[u8], expected: &[u8]) -> bool {
     let snapshot = read(rt, alloc, bytes, 7);
     let mut script = Script::new(alloc, Vec::new(alloc), None, None);
-    // Any call on it tells what it keeps.
+    // Any call on it gives the facts that it keeps.
     let list = &snapshot.list;
     let answer = write_snapshot(&mut script, &snapshot.setup, list);
     let comes = answer == Ok(()) && script.written() == expected;

@@ -37,7 +37,7 @@ fn each_read_fails_in_turn(rt: HostRuntime) {
 // Whether the writing of a snapshot whose file these bytes are stops where the sink takes no more than `room`.
 fn stops_at(alloc: Global, snapshot: &Snapshot, bytes: &[u8], room: usize) -> bool {
     let mut script = Script::new(alloc, Vec::new(alloc), None, Some(room as u64));
-    // Any use of it tells what it keeps.
+    // Any use of it gives the facts that it keeps.
     let list = &snapshot.list;
     let answer = write_snapshot(&mut script, &snapshot.setup, list);
     let fault = WriteFault {

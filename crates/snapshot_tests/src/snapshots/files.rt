@@ -9,7 +9,7 @@ use std::{fs, io};
 use test_support::same;
 
 fn saved(rt: &HostRuntime, path: &str, snapshot: &Snapshot) -> Result<(), SaveFault> {
-    // Any use of it tells what it keeps.
+    // Any use of it gives the facts that it keeps.
     let list = &snapshot.list;
     save(rt, rt.alloc(), path, &snapshot.setup, list)
 }
@@ -69,7 +69,7 @@ fn a_save_without_its_folder_fails(rt: HostRuntime) {
     assert!(rt; same(&rt, &answer, &Err(SaveFault::Create)));
 }
 
-// Saves under a name of a folder, which can't be made a file, and tells whether a file is left beside it.
+// Saves under a name of a folder, which can't be made a file, and returns whether a file is left beside it.
 fn saved_as_folder(
     rt: &HostRuntime,
     snapshot: &Snapshot,
@@ -87,7 +87,7 @@ fn a_folder_is_not_replaced(rt: HostRuntime) {
     assert!(rt; same(&rt, &answer, &(Err(SaveFault::Rename), false)));
 }
 
-// Saves while a folder stands under the other name.
+// Saves while a folder has the other name.
 fn saved_beside_folder(
     rt: &HostRuntime,
     path: &str,
@@ -111,7 +111,7 @@ fn a_save_that_fails_leaves_the_file(rt: HostRuntime) {
     fs::remove_file(&rt, path).expect(&rt, "removed");
 }
 
-// Saves while a link to the other file stands under the name of the new one.
+// Saves while a link to the other file has the name of the new one.
 fn saved_beside_link(
     rt: &HostRuntime,
     path: &str,

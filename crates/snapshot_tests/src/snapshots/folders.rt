@@ -30,7 +30,7 @@ fn folder(
 fn saved(alloc: Global, folder: &mut MemoryFolder, snapshot: &Snapshot) -> Result<(), SaveFault>
     requires { folder.old.failures + 1 < 2 ^ 64 }
 {
-    // Any use of it tells what it keeps.
+    // Any use of it gives the facts that it keeps.
     let list = &snapshot.list;
     save_in(alloc, folder, "a", &snapshot.setup, list)
 }
@@ -43,8 +43,8 @@ fn holds(f: &MemoryFolder, name: &str, bytes: &[u8]) -> bool {
     }
 }
 
-// What a save is answered in a folder whose call number `fail_at` fails, and what `a` and `b` hold then. A file that was
-// left over has the name of the new one.
+// What a save is answered in a folder whose call number `fail_at` fails, and what `a` and `b` hold then. A file was
+// left over under the name of the new one.
 fn expect_save(
     rt: &(impl Abort + Eprint),
     alloc: Global,
