@@ -76,7 +76,7 @@ static SUM: Cells = &[(0, 0, 10), (1, 2, 0)];
 
 #[test]
 fn folded_batches_are_known_again(rt: HostRuntime) {
-    let setup = small_setup(&rt);
+    let setup = small_setup().expect(&rt, "a setup");
     let mut engine = engine_as(&rt, rt.alloc(), setup, TWO, true);
     let once = size(&rt, rt.alloc(), &engine);
     put_all(&rt, rt.alloc(), &setup, &mut engine, AFTER_TWO);
@@ -155,7 +155,13 @@ fn setup_within(rt: &impl Abort, limit: u64, most: u64) -> Setup
 
 #[test]
 fn folded_batches_are_judged_first(rt: HostRuntime) {
-    let engine = engine_as(&rt, rt.alloc(), small_setup(&rt), TWO, true);
+    let engine = engine_as(
+        &rt,
+        rt.alloc(),
+        small_setup().expect(&rt, "a setup"),
+        TWO,
+        true,
+    );
     for (limit, most, more, expected) in LOADS {
         let setup = setup_within(&rt, *limit, *most);
         let found = loaded(&rt, rt.alloc(), &engine, setup, more);

@@ -21,7 +21,7 @@ pub fn list_of(rt: &impl Abort, alloc: Global, setup: &Setup, table: Batches) ->
 {
     let mut list = Vec::new(alloc);
     'batches: for (client, number, cells) in table {
-        let b = batch(rt, alloc, setup, (*client, *number), cells);
+        let b = batch(alloc, setup, (*client, *number), cells).expect(rt, "a batch");
         list.push(b).expect(rt, "memory");
     }
     list
@@ -80,7 +80,7 @@ fn loaded<R: RandomSource + Abort>(
     most: u64,
     table: Batches,
 ) -> Result<Status, LoadFault> {
-    let setup = setup_up_to(rt, 100, most);
+    let setup = setup_up_to(100, most).expect(rt, "a setup");
     let list = list_of(rt, alloc, &setup, table);
     let answer = PlainEngine::from_batches(rt, alloc, setup, &list);
     drop(list);

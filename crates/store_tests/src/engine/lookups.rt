@@ -50,7 +50,7 @@ pub fn exports(
 ) -> bool {
     let sum = engine.export(alloc).expect(rt, "memory");
     let cells = sum.cells(alloc).expect(rt, "memory");
-    let expected = cells_of(rt, alloc, table);
+    let expected = cells_of(alloc, table).expect(rt, "memory");
     let has = sum.dims() == (3, 3) && cells.as_slice() == expected.as_slice();
     drop(expected);
     drop(cells);
@@ -65,7 +65,7 @@ fn shard_sizes(engine: &PlainEngine, s: u64) -> Option<(u64, u64, u64)> {
 
 #[test]
 fn look_ups_are_those_of_the_sum(rt: HostRuntime) {
-    let engine = engine_of(&rt, rt.alloc(), small_setup(&rt), THREE);
+    let engine = engine_of(&rt, rt.alloc(), small_setup().expect(&rt, "a setup"), THREE);
     for (row, col, count) in PLACES {
         assert!(rt; same_at(&rt, &(*row, *col), &engine.cell(*row, *col), count));
     }

@@ -114,7 +114,7 @@ fn joined<R: RandomSource + Abort + Eprint>(
     first: Engine,
     second: Engine,
 ) -> Joined {
-    let setup = small_setup(rt);
+    let setup = small_setup().expect(rt, "a setup");
     let (_, book, own) = engine_as(rt, alloc, setup, first.0, first.1).parts();
     drop(own);
     let (_, other, shards) = engine_as(rt, alloc, setup, second.0, second.1).parts();

@@ -28,7 +28,10 @@ fn put(
     requires { engine.old.setup ≡ setup.now }
     ensures { engine.new.setup ≡ setup.now }
 {
-    match engine.put(alloc, batch(rt, alloc, setup, (step.0, step.1), step.2)) {
+    match engine.put(
+        alloc,
+        batch(alloc, setup, (step.0, step.1), step.2).expect(rt, "a batch"),
+    ) {
         Ok(kept) => Ok((kept.index, kept.total_after)),
         Err(fault) => Err(fault),
     }
@@ -128,7 +131,7 @@ static PUTS: &[(u64, u64, &[Step], (u64, u64))] = &[
 #[test]
 fn puts_are_answered(rt: HostRuntime) {
     for (limit, most, steps, accepted) in PUTS {
-        let setup = setup_up_to(&rt, *limit, *most);
+        let setup = setup_up_to(*limit, *most).expect(&rt, "a setup");
         let engine = engine_of(&rt, rt.alloc(), setup, steps);
         let status = engine.status();
         drop(engine);

@@ -47,7 +47,7 @@ static FAULTS: &[(&str, Option<BatchFault>)] = &[
 
 #[test]
 fn files_are_judged(rt: HostRuntime) {
-    let setup = small_setup(&rt);
+    let setup = small_setup().expect(&rt, "a setup");
     for (tail, expected) in FAULTS {
         let file = file(&rt, rt.alloc(), tail);
         let found = Batch::make(rt.alloc(), &setup, 7, 1, &file).err();
@@ -59,7 +59,13 @@ fn files_are_judged(rt: HostRuntime) {
 #[test]
 fn a_batch_has_each_place_once(rt: HostRuntime) {
     let file = file(&rt, rt.alloc(), "3 3 3\n2 1 4\n2 3 0\n2 1 5\n");
-    let answer = Batch::make(rt.alloc(), &small_setup(&rt), 7, 1, &file);
+    let answer = Batch::make(
+        rt.alloc(),
+        &small_setup().expect(&rt, "a setup"),
+        7,
+        1,
+        &file,
+    );
     drop(file);
     let b = answer.expect(&rt, "a batch");
     let fields = (b.client, b.number, b.total);
@@ -110,9 +116,9 @@ fn has_shares(rt: &impl Abort, alloc: Global, b: &Batch, want: &[Option<(u64, u6
 
 #[test]
 fn a_batch_is_cut_by_rows(rt: HostRuntime) {
-    let setup = small_setup(&rt);
+    let setup = small_setup().expect(&rt, "a setup");
     for (cells, want) in PARTS {
-        let b = batch(&rt, rt.alloc(), &setup, (7, 1), cells);
+        let b = batch(rt.alloc(), &setup, (7, 1), cells).expect(&rt, "a batch");
         let has = has_shares(&rt, rt.alloc(), &b, want);
         drop(b);
         assert!(rt; holds_at(&rt, &(cells, want), has));

@@ -22,7 +22,7 @@ fn answer(rt: &impl Abort, alloc: Global, setup: &Setup, book: &mut Book, step: 
     ensures { book.new.setup ≡ setup.now }
 {
     let (client, number, cells, _) = *step;
-    let b = batch(rt, alloc, setup, (client, number), cells);
+    let b = batch(alloc, setup, (client, number), cells).expect(rt, "a batch");
     match book.look(&b) {
         Verdict::Fresh => {
             book.reserve(&b).expect(rt, "memory");
@@ -140,7 +140,7 @@ static PUTS: &[(u64, u64, &[Put], (u64, u64))] = &[
 #[test]
 fn puts_are_answered(rt: HostRuntime) {
     for (limit, most, steps, size) in PUTS {
-        let setup = setup_up_to(&rt, *limit, *most);
+        let setup = setup_up_to(*limit, *most).expect(&rt, "a setup");
         let book = book_after(&rt, rt.alloc(), &setup, steps);
         let found = (book.len(), book.total());
         drop(book);
@@ -198,7 +198,12 @@ fn clients(
 
 #[test]
 fn a_book_shares_batches_from_an_index_on(rt: HostRuntime) {
-    let book = book_after(&rt, rt.alloc(), &small_setup(&rt), BATCHES);
+    let book = book_after(
+        &rt,
+        rt.alloc(),
+        &small_setup().expect(&rt, "a setup"),
+        BATCHES,
+    );
     for (from, most_cells, room, expected) in SHARED {
         let found = clients(&rt, rt.alloc(), &book, *from, *most_cells, *room);
         let place = (*from, *most_cells, *room);

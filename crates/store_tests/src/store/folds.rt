@@ -102,7 +102,7 @@ fn listed(rt: &impl Abort, alloc: Global, book: &Book) -> (usize, usize, usize, 
 
 #[test]
 fn a_book_of_folded_batches_knows_them(rt: HostRuntime) {
-    let setup = small_setup(&rt);
+    let setup = small_setup().expect(&rt, "a setup");
     let mut book = given_book(&rt, rt.alloc(), &setup);
     put_all(&rt, rt.alloc(), &setup, &mut book, AFTER_TWO);
     let base = (1, 8, Some(8));
@@ -150,7 +150,7 @@ pub static SIX: &[Step] = &[(9, 1, &[(0, 0, 2), (1, 0, 7), (2, 0, 4)], Ok(6))];
 // What a shard with a base holds, and what it holds once it took a batch in.
 #[test]
 fn a_shard_begins_with_its_base(rt: HostRuntime) {
-    let setup = small_setup(&rt);
+    let setup = small_setup().expect(&rt, "a setup");
     let eight = Cell {
         row: 0,
         col: 0,
@@ -181,7 +181,7 @@ fn rebase(rt: &impl Abort, alloc: Global, shard: &mut Shard)
 
 #[test]
 fn a_shard_is_rebased_to_what_it_holds(rt: HostRuntime) {
-    let mut shard = shard_after(&rt, rt.alloc(), &small_setup(&rt), FIVE);
+    let mut shard = shard_after(&rt, rt.alloc(), &small_setup().expect(&rt, "a setup"), FIVE);
     let before = held(&shard);
     rebase(&rt, rt.alloc(), &mut shard);
     let after = held(&shard);

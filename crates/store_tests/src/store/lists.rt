@@ -75,9 +75,9 @@ fn made(
 
 #[test]
 fn lists_are_judged(rt: HostRuntime) {
-    let setup = small_setup(&rt);
+    let setup = small_setup().expect(&rt, "a setup");
     for (list, expected) in FAULTS {
-        let cells = cells_of(&rt, rt.alloc(), list);
+        let cells = cells_of(rt.alloc(), list).expect(&rt, "memory");
         let lent = made(&rt, rt.alloc(), &setup, &cells, false).err();
         let given = made(&rt, rt.alloc(), &setup, &cells, true).err();
         drop(cells);
@@ -106,10 +106,10 @@ fn told(b: Arc<Batch>) -> Told {
 
 #[test]
 fn a_batch_of_a_list_has_each_place_once(rt: HostRuntime) {
-    let setup = small_setup(&rt);
+    let setup = small_setup().expect(&rt, "a setup");
     for list in SAME {
         for is_given in [false, true] {
-            let cells = cells_of(&rt, rt.alloc(), list);
+            let cells = cells_of(rt.alloc(), list).expect(&rt, "memory");
             let b = made(&rt, rt.alloc(), &setup, &cells, is_given).expect(&rt, "a batch");
             drop(cells);
             let want = ((7, 3, 9), 2, [Some(9), Some(0)]);
@@ -120,7 +120,7 @@ fn a_batch_of_a_list_has_each_place_once(rt: HostRuntime) {
 
 #[test]
 fn a_list_has_at_most_1048576_cells(rt: HostRuntime) {
-    let setup = small_setup(&rt);
+    let setup = small_setup().expect(&rt, "a setup");
     let one = Cell {
         row: 2,
         col: 1,

@@ -90,7 +90,7 @@ fn fold_beside(
 
 #[test]
 fn a_book_is_folded_beside_what_it_takes(rt: HostRuntime) {
-    let setup = small_setup(&rt);
+    let setup = small_setup().expect(&rt, "a setup");
     let mut book = book_after(&rt, rt.alloc(), &setup, TWO);
     let (steps, sizes) = fold_beside(&rt, rt.alloc(), &setup, &mut book);
     let (_count, fold) = seal(&rt, rt.alloc(), &mut book, u64::MAX);
@@ -112,7 +112,7 @@ fn a_book_is_folded_beside_what_it_takes(rt: HostRuntime) {
 // A book without batches has none to seal.
 #[test]
 fn an_empty_book_seals_nothing(rt: HostRuntime) {
-    let mut book = book_after(&rt, rt.alloc(), &small_setup(&rt), &[]);
+    let mut book = book_after(&rt, rt.alloc(), &small_setup().expect(&rt, "a setup"), &[]);
     let (none, fold) = seal(&rt, rt.alloc(), &mut book, u64::MAX);
     drop(fold);
     drop(book);
@@ -199,7 +199,7 @@ const REST: Told = (
 
 #[test]
 fn a_shard_is_folded_beside_what_it_takes(rt: HostRuntime) {
-    let setup = small_setup(&rt);
+    let setup = small_setup().expect(&rt, "a setup");
     let mut shard = shard_after(&rt, rt.alloc(), &setup, FIVE);
     let found = fold_shard_beside(&rt, rt.alloc(), &setup, &mut shard);
     drop(shard);
@@ -210,7 +210,7 @@ fn a_shard_is_folded_beside_what_it_takes(rt: HostRuntime) {
 // A seal is taken back where no batch came since, and then another is had; where one came, nothing changes.
 #[test]
 fn a_seal_is_taken_back(rt: HostRuntime) {
-    let setup = small_setup(&rt);
+    let setup = small_setup().expect(&rt, "a setup");
     let mut shard = shard_after(&rt, rt.alloc(), &setup, FIVE);
     let first = seal_shard(&rt, rt.alloc(), &mut shard).is_some();
     shard.unseal();

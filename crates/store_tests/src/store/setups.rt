@@ -71,7 +71,7 @@ fn values_are_judged_in_order(rt: HostRuntime) {
 
 #[test]
 fn a_setup_gives_its_values(rt: HostRuntime) {
-    let setup = small_setup(&rt);
+    let setup = small_setup().expect(&rt, "a setup");
     let sides = (setup.rows(), setup.cols(), setup.shards());
     let bounds = (
         setup.limit(),

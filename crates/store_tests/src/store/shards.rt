@@ -24,7 +24,7 @@ fn answer(
     ensures { shard.new.setup ≡ setup.now }
 {
     let (client, number, cells, _) = *step;
-    let b = batch(rt, alloc, setup, (client, number), cells);
+    let b = batch(alloc, setup, (client, number), cells).expect(rt, "a batch");
     let prepared = shard.prepare(alloc, &b);
     drop(b);
     match prepared {
@@ -100,7 +100,12 @@ fn row(shard: &Shard, row: u64) -> (u64, u64) {
 
 #[test]
 fn a_shard_takes_each_batch_once(rt: HostRuntime) {
-    let shard = shard_after(&rt, rt.alloc(), &small_setup(&rt), STEPS);
+    let shard = shard_after(
+        &rt,
+        rt.alloc(),
+        &small_setup().expect(&rt, "a setup"),
+        STEPS,
+    );
     let size = (shard.number(), shard.total(), shard.record_len());
     let held = [shard.holds(7, 1), shard.holds(9, 1), shard.holds(7, 2)];
     assert!(rt; same(&rt, &(size, held), &((0, 100, 3), [true, true, false])));
@@ -121,7 +126,7 @@ static THREE: &[Step] = &[(8, 1, &[(0, 0, 3)], Ok(3))];
 // A view of the batch of 5 shows the same once the batch of 3 was taken in.
 #[test]
 fn a_view_stays_as_it_was(rt: HostRuntime) {
-    let setup = small_setup(&rt);
+    let setup = small_setup().expect(&rt, "a setup");
     let mut shard = shard_after(&rt, rt.alloc(), &setup, FIVE);
     let view = shard.view(rt.alloc()).expect(&rt, "memory");
     take_all(&rt, rt.alloc(), &setup, &mut shard, THREE);
