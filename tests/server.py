@@ -250,6 +250,8 @@ def frames_are_answered(unix, more=()):
             (put_frame(9, 1, b""), refused(103, 1)),
             (put_frame(9, 1, BANNER + b"3 3 1\n1 1 -1\n"), refused(111, 3)),
             (put_frame(9, 1, BANNER + b"3 3 1048577\n"), refused(109, 2)),
+            (put_frame(9, 1, BANNER + b" " * 1025), refused(105, 2)),
+            (struct.pack(">IBQQ", 16 + 24 * 1048577, 8, 9, 2) + bytes(24 * 1048577), refused(23)),
         ]:
             check(f"{name}: the frame {frame[:21].hex()}", server.talk([frame], unix), reply)
         # After a bad header nothing more is answered, and of a session nothing after its Stop.
