@@ -1,5 +1,5 @@
 //! What a start makes of a log that is whole, torn or too short, or of none, beside a snapshot.
-ghost use Rattle.std.specs.Prelude.{◌≡◌};
+ghost use Rattle.std.specs.Prelude.{◌≡◌, List, []};
 
 use crate::disk::Untold;
 use crate::folder::{Call, TestFolder};
@@ -100,7 +100,7 @@ pub fn start_in<R: Abort + RandomSource>(
     rt: &R,
     alloc: Global,
     setup: &Setup,
-    known: Rows,
+    known: &[(u64, u64)],
     folder: &mut TestFolder,
 ) -> Result<Started<Untold>, StartFault>
     requires { folder.old.failed ≡ 0 }
