@@ -24,7 +24,7 @@ pub fn begun<R: Abort + RandomSource>(
     ensures failures { folder.new.calls.failed ≡ 0 }
     ensures made { folder.new.made ≡ number_of result.in_use }
 {
-    let setup = small_setup(rt);
+    let setup = small_setup().expect(rt, "a setup");
     let book = Book::new(rt, alloc, &setup).expect(rt, "memory");
     let list = book.book_list(alloc).expect(rt, "memory");
     begin_stored(folder, alloc, &setup, &list).expect(rt, "a log")
@@ -70,15 +70,25 @@ fn has_pages(log: &StoredLog<MemoryDisk>, pages: &[[u8; PAGE]], count: usize) ->
 #[test]
 fn blocks_take_their_room(rt: HostRuntime) {
     let alloc = rt.alloc();
-    let setup = small_setup(&rt);
+    let setup = small_setup().expect(&rt, "a setup");
     let mut folder = MemoryLogFolder::new(alloc, None, 1, None, None);
     let mut log = begun(&rt, alloc, &mut folder);
     assert!(rt; has_pages(&log, &[head()], 1));
     assert!(rt; !log.is_failed() && log.make_room(19).is_ok());
     assert!(rt; has_pages(&log, &[head()], 20));
-    assert!(rt; put(&mut log, one_cell(&rt, alloc, &setup, 7, 5)));
+    assert!(rt;
+        put(
+            &mut log,
+            one_cell(alloc, &setup, 7, 5).expect(&rt, "a batch")
+        )
+    );
     assert!(rt; has_pages(&log, &[head(), b1()], 20));
-    assert!(rt; put(&mut log, one_cell(&rt, alloc, &setup, 8, 3)));
+    assert!(rt;
+        put(
+            &mut log,
+            one_cell(alloc, &setup, 8, 3).expect(&rt, "a batch")
+        )
+    );
     assert!(rt; has_pages(&log, &[head(), b1(), b2()], 20));
     assert!(rt; !log.is_failed() && log.make_room(268_435_456) == Err(RoomFault::Full));
     assert!(rt; log.room() == 17);

@@ -53,13 +53,19 @@ fn failing<R: Abort + RandomSource>(
     call: u64,
     seed: u64,
 ) -> (Answers, Option<u64>) {
-    let setup = small_setup(rt);
+    let setup = small_setup().expect(rt, "a setup");
     let mut folder = MemoryLogFolder::new(alloc, None, seed, None, Some(call));
     let mut log = begun(rt, alloc, &mut folder);
     assert!(rt; !log.is_failed());
     let room = log.make_room(1);
-    let first = put(&mut log, one_cell(rt, alloc, &setup, 7, 5));
-    let second = put(&mut log, one_cell(rt, alloc, &setup, 8, 3));
+    let first = put(
+        &mut log,
+        one_cell(alloc, &setup, 7, 5).expect(rt, "a batch"),
+    );
+    let second = put(
+        &mut log,
+        one_cell(alloc, &setup, 8, 3).expect(rt, "a batch"),
+    );
     let disk = log.disk().expect(rt, "a disk");
     let left = disk
         .crash(alloc, &mut Picks::new(seed), None)

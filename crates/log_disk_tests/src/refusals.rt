@@ -55,7 +55,7 @@ fn other_logs_are_refused(rt: HostRuntime) {
     for (known, most, pages, why) in REFUSED {
         let file = file_of(&rt, alloc, &pages, 0, 2 * PAGE);
         let mut folder = TestFolder::new(alloc, Some(file), None, None);
-        let setup = setup_up_to(&rt, 100, most);
+        let setup = setup_up_to(100, most).expect(&rt, "a setup");
         let got = start_in(&rt, alloc, &setup, known, &mut folder).err();
         assert!(rt; same(&rt, &got, &Some(why)));
         assert!(rt; same(&rt, &&folder.calls[..], &GOES_ON));
@@ -76,7 +76,7 @@ const FAILS: [(Option<u64>, Option<u64>, Option<StartFault>); 8] = [
 
 #[test]
 fn calls_of_a_beginning_fail(rt: HostRuntime) {
-    let setup = small_setup(&rt);
+    let setup = small_setup().expect(&rt, "a setup");
     for (folder_fails, disk_fails, why) in FAILS {
         let mut folder = TestFolder::new(rt.alloc(), None, folder_fails, disk_fails);
         let got = start_in(&rt, rt.alloc(), &setup, FIRST, &mut folder).err();
@@ -89,7 +89,7 @@ fn calls_of_a_beginning_fail(rt: HostRuntime) {
 #[test]
 fn calls_of_a_file_fail(rt: HostRuntime) {
     let alloc = rt.alloc();
-    let setup = small_setup(&rt);
+    let setup = small_setup().expect(&rt, "a setup");
     let bytes = bytes_of(&rt, alloc, &[Page::Head, Page::B1]);
     let mut is_unread = false;
     let mut unsettled: u64 = 0;

@@ -24,7 +24,7 @@ fn rotate<R: Abort + RandomSource>(
     let mut folder = MemoryLogFolder::new(alloc, None, 1, fail_at, None);
     let mut in_use = begun(rt, alloc, &mut folder);
     let mut new = begun(rt, alloc, &mut folder);
-    let batch = one_cell(rt, alloc, &small_setup(rt), 7, 5);
+    let batch = one_cell(alloc, &small_setup().expect(rt, "a setup"), 7, 5).expect(rt, "a batch");
     assert!(rt; put(&mut new, batch));
     assert!(rt; !new.is_failed());
     let answer = name_stored(&mut folder, &mut in_use, new);
@@ -54,7 +54,7 @@ fn a_new_log_may_be_given_up(rt: HostRuntime) {
     let mut in_use = begun(&rt, alloc, &mut folder);
     let new = begun(&rt, alloc, &mut folder);
     abandon_stored(&mut folder, new);
-    let batch = one_cell(&rt, alloc, &small_setup(&rt), 7, 5);
+    let batch = one_cell(alloc, &small_setup().expect(&rt, "a setup"), 7, 5).expect(&rt, "a batch");
     assert!(rt; put(&mut in_use, batch));
     assert!(rt; folder.named() == None);
     drop(in_use);

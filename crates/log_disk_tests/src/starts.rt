@@ -95,6 +95,13 @@ pub fn file_of(
     disk.kill(alloc, None).expect(rt, "memory")
 }
 
+/// What a start has made, and the clients and the counts of its list.
+#[derive(Drop)]
+pub struct Begun {
+    rows: Vec<(u64, u64)>,
+    started: Started<Untold>,
+}
+
 /// Starts the log of a folder after a snapshot of these batches.
 pub fn start_in<R: Abort + RandomSource>(
     rt: &R,
@@ -102,11 +109,13 @@ pub fn start_in<R: Abort + RandomSource>(
     setup: &Setup,
     known: &[(u64, u64)],
     folder: &mut TestFolder,
-) -> Result<Started<Untold>, StartFault>
+) -> Result<Begun, StartFault>
     requires { folder.old.failed ≡ 0 }
 {
-    let list = list_of(rt, alloc, setup, known);
-    start_log(folder, alloc, setup, list)
+    let list = list_of(rt, alloc, setup, known).expect(rt, "a list");
+    let started = start_log(folder, alloc, setup, list)?;
+    let rows = rows_of(rt, alloc, &started.list);
+    Ok(Begun { rows, started })
 }
 
 /// The batches of a snapshot; the pages of a log's file, none where there is no file, how many of their last bytes are
@@ -218,15 +227,14 @@ fn rows_of(rt: &impl Abort, alloc: Global, list: &BookList) -> Vec<(u64, u64)> {
 fn has_made<R: Abort + Eprint>(
     rt: &R,
     alloc: Global,
-    started: &Started<Untold>,
+    begun: &Begun,
     row: &Row,
 ) -> bool {
-    let disk = &started.log.file.disk.disk;
-    let mark = started.log.writer.mark();
+    let disk = &begun.started.log.file.disk.disk;
+    let mark = begun.started.log.writer.mark();
     let ends = (row.list.len() as u64, row.left.len() as u64);
-    let rows = rows_of(rt, alloc, &started.list);
     let bytes = bytes_of(rt, alloc, row.left);
-    same(rt, &&rows[..], &row.list)
+    same(rt, &&begun.rows[..], &row.list)
         && holds_at(rt, &"bytes", disk.bytes() == &bytes[..])
         && holds_at(rt, &"durable", disk.durable_bytes() == &bytes[..])
         && same(rt, &(mark.next, mark.page), &ends)
@@ -235,7 +243,7 @@ fn has_made<R: Abort + Eprint>(
 #[test]
 fn logs_go_on_or_are_begun(rt: HostRuntime) {
     let alloc = rt.alloc();
-    let setup = small_setup(&rt);
+    let setup = small_setup().expect(&rt, "a setup");
     for (i, row) in ROWS.iter().enumerate() {
         let stored = match row.pages {
             [] => None,

@@ -138,7 +138,12 @@ static FOLDS: &[Session] = &[
 
 #[test]
 fn questions_are_answered(rt: HostRuntime) {
-    check_sessions(&rt, rt.alloc(), small_setup().expect(&rt, "a setup"), RANGES);
+    check_sessions(
+        &rt,
+        rt.alloc(),
+        small_setup().expect(&rt, "a setup"),
+        RANGES,
+    );
 }
 
 #[test]

@@ -412,7 +412,14 @@ static SETTLING: &[Case] = &[
 fn check<R: RandomSource + Abort + Eprint>(rt: &R, alloc: Global, cases: &[Case]) {
     for case in cases {
         let link = link_of(rt, alloc, case.1, usize::MAX);
-        let found = served(rt, alloc, small_setup().expect(rt, "a setup"), case.0, link, case.2);
+        let found = served(
+            rt,
+            alloc,
+            small_setup().expect(rt, "a setup"),
+            case.0,
+            link,
+            case.2,
+        );
         assert!(rt; same_at(rt, &case.2, &found, &(case.3, true, case.4)));
     }
 }
@@ -444,7 +451,14 @@ fn syncs_of<R: RandomSource + Abort>(
     drop(sent);
     let link = Script::new(alloc, list, None, None);
     let answers = (None, OFF, u64::MAX);
-    let found = served(rt, alloc, setup_up_to(1000, 100).expect(rt, "a setup"), answers, link, "");
+    let found = served(
+        rt,
+        alloc,
+        setup_up_to(1000, 100).expect(rt, "a setup"),
+        answers,
+        link,
+        "",
+    );
     (found.0, found.2)
 }
 

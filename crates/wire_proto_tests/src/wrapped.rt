@@ -61,7 +61,9 @@ type Found = (Slow, (u64, u64), Outcome);
 
 // Serves both over a new engine.
 fn served_twice<R: RandomSource + Abort>(rt: &R, alloc: Global, call: u32) -> Found {
-    let mut engine = PlainEngine::new(rt, alloc, small_setup().expect(rt, "a setup")).expect(rt, "memory");
+    let mut engine = PlainEngine::new(rt, alloc, small_setup().expect(rt, "a setup")).expect(
+        rt, "memory",
+    );
     let slow = served_slowly(rt, alloc, &mut engine, call);
     let status = engine.status();
     let after = served(rt, alloc, &mut engine, &TWO_PUTS, 100, TURNS);
