@@ -1,0 +1,8 @@
+use Rattle.std.proofs.Common.{[]}
+use Rattle.log_start_tests.proofs.starts.append_one.Given as goal
+
+abbrev pub ghost-start_log : goal.ghost-start_log
+ghost-start_log g a = (record { head = []; first = 0; blocks = [] }, [])
+
+abbrev pub ghost-append : goal.ghost-append
+ghost-append g a = (record { head = []; first = 0; blocks = [] }, [])
