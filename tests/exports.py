@@ -373,14 +373,17 @@ def other_tools(folder):
     if shutil.which("Rscript") is None:
         print("not tried: there is no R")
         return
-    code = "library(Matrix); m <- readMM(paste0(commandArgs(TRUE)[1], '/matrix.mtx')); cat(dim(m), sum(m), '\\n')"
+    # By itself `cat` rounds to seven digits.
+    code = (
+        "library(Matrix); m <- readMM(paste0(commandArgs(TRUE)[1], '/matrix.mtx'))\n"
+        "cat(dim(m), sprintf('%.0f', sum(m)))"
+    )
     ended = subprocess.run(["Rscript", "-e", code, target], capture_output=True, text=True, timeout=WAIT)
     if ended.returncode != 0:
         print("not tried: R has no package Matrix")
         return
     rows, cols = (len({place[at] for place in counts}) for at in (0, 1))
-    found = ended.stdout.split()
-    check("R", (int(found[0]), int(found[1]), float(found[2])), (rows, cols, float(total)))
+    check("R", list(map(int, ended.stdout.split())), [rows, cols, total])
 
 
 def main():
