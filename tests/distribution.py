@@ -332,7 +332,7 @@ def tour_of(text):
 
 
 def tour_is_as_written(name, prefix):
-    """All sessions of README.md, one after another in one shell, write what stands below their commands."""
+    """All sessions of README.md, one after another in one shell, write what is below their commands."""
     sessions, programs = tour_of(content(f"{TOP}/README.md").decode())
     check("README.md: programs", sorted(programs), ["ask.c", "ask.py", "ask.rs"])
     folder = os.path.join(server.FOLDER, name)

@@ -89,7 +89,7 @@ def by_pip():
     own = os.path.join(server.FOLDER, "venv")
     made = run([sys.executable, "-m", "venv", own])
     check("pip: a place of its own", made[2], 0)
-    # No index and no cache stands for no network; nothing of this machine's packages is seen.
+    # Without index and cache pip has what it has without a network; this machine's packages aren't seen.
     words = ["install", "--quiet", "--disable-pip-version-check", "--no-index", "--no-cache-dir", copied("python")]
     check("pip install", run([os.path.join(own, "bin", "pip"), *words])[1:], ("", 0))
     hhmc = os.path.join(own, "bin", "hhmc")

@@ -7,7 +7,7 @@
     tools/build_record.py PROGRAM unknown         it isn't known how PROGRAM was built
 
 It fails where the log of a gate doesn't say that all is proved and nothing failed. `rt run` prints its lines of the
-proof only where it proves anew, so that log may lack them; whoever calls this has seen that it ended with status 0.
+proof only where it proves again, so that log may lack them; whoever calls this has seen that it ended with status 0.
 """
 import hashlib
 import re

@@ -15,7 +15,7 @@ Item = Tuple[str, str]
 
 
 class Option(NamedTuple):
-    """An option: its names as they are typed, what stands for its value, empty where it has none, and its text."""
+    """An option: its names as they are typed, the word for its value, empty where it has none, and its text."""
 
     names: List[str]
     value: str

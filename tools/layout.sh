@@ -1,5 +1,5 @@
 #!/usr/bin/env bash
-# Lays out the files of hhm in the folder TREE, as they stand below a prefix.
+# Lays out the files of hhm in the folder TREE, as they are below a prefix.
 #
 #     tools/layout.sh PROGRAM BUILD TREE
 #

@@ -52,7 +52,10 @@ class Version(argparse.Action):
         super().__init__(nargs=0, **how)
 
     def __call__(self, words: argparse.ArgumentParser, *_: Any) -> None:
-        text, status = hhm_version.version()
+        try:
+            text, status = hhm_version.version()
+        except OSError as fault:
+            words.exit(4, f"failed: {fault.filename}: {fault.strerror}\n")
         print(text)
         words.exit(status)
 
