@@ -24,9 +24,11 @@ from install import FILES, TOP, content, files_below
 from server import SMALL, Server, check
 
 WAIT = 300
-NAME = "hhm-0.1.0-unproved-x86_64-linux"
-DEB = "hhm_0.1.0~unproved_amd64.deb"
-WHEEL = "share/hhm/hhm_client-0.1.0-py3-none-any.whl"
+# The version of the clients, which is the program's (`versions_are_one`).
+VERSION = re.search(r'^version = "(.*)"$', content(f"{TOP}/clients/python/pyproject.toml").decode(), re.M)[1]
+NAME = f"hhm-{VERSION}-unproved-x86_64-linux"
+DEB = f"hhm_{VERSION}~unproved_amd64.deb"
+WHEEL = f"share/hhm/hhm_client-{VERSION}-py3-none-any.whl"
 COMMANDS = {"hhm": "sum check export fold top list degrees serve".split(),
             "hhmc": "put load plot top list stats watch metrics cell row status stored export save fold stop".split()}
 # The files of the tree that the Debian package has elsewhere, below /usr.
@@ -134,7 +136,7 @@ def deb_has_its_files(made):
 def deb_has_its_control(made):
     fields = dict(it.split(": ", 1) for it in content(f"{made.control}/control").decode().splitlines() if ": " in it)
     told = {it: fields.get(it) for it in ("Package", "Version", "Architecture")}
-    check("deb: control", told, {"Package": "hhm", "Version": "0.1.0~unproved", "Architecture": "amd64"})
+    check("deb: control", told, {"Package": "hhm", "Version": f"{VERSION}~unproved", "Architecture": "amd64"})
     check("deb: it says that it isn't proved", b"WITHOUT PROOFS" in content(f"{made.control}/control"), True)
     check("deb: conffiles", content(f"{made.control}/conffiles"), b"/etc/default/hhm\n")
     for name in ["postinst", "prerm", "postrm"]:
@@ -199,12 +201,14 @@ def program_needs_an_old_glibc():
 
 
 def versions_are_one():
-    """Each package of a client has the program's version."""
+    """Each package of a client has the program's version, and so have the packages that README.md names."""
     version = ran(server.PROGRAM, "--version")[1].split()[1]
     for name, pattern in [("python/pyproject.toml", r'^version = "(.*)"$'), ("rust/Cargo.toml", r'^version = "(.*)"$'),
                           ("c/Makefile", r"^VERSION *[:?]?= *(\S+)$")]:
         found = re.search(pattern, content(f"{TOP}/clients/{name}").decode(), re.M)
         check(f"version of clients/{name}", found and found[1], version)
+    named = set(re.findall(r"\bhhm[-_](\d[\d.]*\d)[-_]", content(f"{TOP}/README.md").decode()))
+    check("version in README.md", named, {version})
 
 
 @functools.lru_cache(None)
@@ -449,11 +453,11 @@ def proved_packages_need_their_record(folder):
         file.write(record)
     open(f"{top}/changed", "w").close()
     status, _, error = package(*words, top=top)
-    check("package: changes", (status, "differ from their commit" in error), (1, True))
+    check("package: changes", (status, "differ from their commit, as changed" in error), (1, True))
     os.remove(f"{top}/changed")
     status, _, error = package(*words, top=top)
     check("package: proved", (status, error, sorted(os.listdir(out))),
-          (0, "", ["SHA256SUMS", "hhm-0.1.0-x86_64-linux.tar.gz"]))
+          (0, "", ["SHA256SUMS", f"hhm-{VERSION}-x86_64-linux.tar.gz"]))
 
 
 def bad_words_pack_nothing(folder):

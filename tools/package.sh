@@ -64,7 +64,7 @@ record=$made/BUILD
 
 # Takes the record beside the program, or fails where it doesn't say that the gate proved this program at this commit.
 take_record() {
-    local beside sum commit why="run .ci/run at this commit, or say --unproved"
+    local beside sum commit changes why="run .ci/run at this commit, or say --unproved"
     beside=$(dirname "$program")/BUILD
     [[ -f $program ]] || fail "there is no $program: $why"
     [[ -f $beside ]] || fail "there is no record $beside of the gate: $why"
@@ -73,7 +73,8 @@ take_record() {
     grep -q "^program: sha256 $sum$" "$beside" || fail "$beside is of another program: $why"
     grep -q '^proved: yes, by the gate$' "$beside" || fail "$beside doesn't say that the gate proved it: $why"
     grep -q "^commit: $commit$" "$beside" || fail "$beside is of another commit: $why"
-    [[ -z $(git -C "$top" status --porcelain) ]] || fail "files of $top differ from their commit: $why"
+    changes=$(git -C "$top" status --porcelain | head -n 1)
+    [[ -z $changes ]] || fail "files of $top differ from their commit, as${changes:2}: $why"
     cp "$beside" "$record"
 }
 
@@ -136,11 +137,15 @@ lay_out_deb() {
 
 # Writes what dpkg reads of the package, from tools/debian.
 write_control() {
-    local deb=$1 said="The gate has proved this program: /usr/share/doc/hhm/BUILD says what."
+    local deb=$1 size control said="The gate has proved this program: /usr/share/doc/hhm/BUILD says what."
     [[ -n $is_proved ]] || said="This is a build WITHOUT PROOFS: nothing is proved of this program."
+    size=$(find "$deb" -type f -printf '%s\n' | awk '{ all += int(($1 + 1023) / 1024) } END { print all }')
     mkdir "$deb/DEBIAN"
-    sed -e "s/@VERSION@/$deb_version/" -e "s/@MAINTAINER@/$maintainer/" -e "s|@PROVED@|$said|" \
-        -e "s/@SIZE@/$(du -k --apparent-size -s "$deb" | cut -f1)/" "$top/tools/debian/control" >"$deb/DEBIAN/control"
+    control=$(<"$top/tools/debian/control")
+    control=${control//@VERSION@/"$deb_version"}
+    control=${control//@MAINTAINER@/"$maintainer"}
+    control=${control//@PROVED@/"$said"}
+    printf '%s\n' "${control//@SIZE@/"$size"}" >"$deb/DEBIAN/control"
     install -m 755 "$top"/tools/debian/{postinst,prerm,postrm} "$deb/DEBIAN/"
     install -m 644 "$top/tools/debian/templates" "$deb/DEBIAN/templates"
     echo /etc/default/hhm >"$deb/DEBIAN/conffiles"
