@@ -15,15 +15,15 @@ import os
 import re
 import shutil
 import stat
-import subprocess
 import sys
 import tempfile
 
+import install
 import server
 from install import FILES, TOP, content, files_below
 from server import SMALL, Server, check
 
-WAIT = 300
+ran = functools.partial(install.ran, timeout=300)
 # The version of the clients, which is the program's (`versions_are_one`).
 VERSION = re.search(r'^version = "(.*)"$', content(f"{TOP}/clients/python/pyproject.toml").decode(), re.M)[1]
 NAME = f"hhm-{VERSION}-unproved-x86_64-linux"
@@ -36,12 +36,6 @@ MOVED = {**{f"share/man/man1/{it}.1": f"share/man/man1/{it}.1.gz" for it in ("hh
          **{f"share/zsh/site-functions/_{it}": f"share/zsh/vendor-completions/_{it}" for it in COMMANDS}}
 OF_DEBIAN = ["etc/default/hhm", "usr/share/lintian/overrides/hhm", "usr/share/doc/hhm/copyright",
              "usr/share/doc/hhm/changelog.gz"]
-
-
-def ran(*words, **how):
-    """The status of a command and what it writes to both outputs."""
-    ended = subprocess.run(words, stdout=subprocess.PIPE, stderr=subprocess.PIPE, text=True, timeout=WAIT, **how)
-    return ended.returncode, ended.stdout, ended.stderr
 
 
 def lacks(tool, what):

@@ -24,8 +24,9 @@ import server
 from server import SMALL, check
 
 TOP = os.path.dirname(server.HERE)
-# The most seconds that an end after a signal takes, or a run that serves nobody.
+# The most seconds that an end after a signal takes, or a run that serves nobody, and those of an install.
 WAIT = 20
+INSTALL_WAIT = 120
 
 # What hhm-run says at the first signal, and at one that comes later.
 ENDS = "hhm-run: the server saves and ends once its sessions are served; a further signal kills it\n"
@@ -68,14 +69,14 @@ def content(path):
         return file.read()
 
 
-def ran(*words, **how):
+def ran(*words, timeout=WAIT, **how):
     """The status of a command and what it writes to both outputs."""
-    ended = subprocess.run(words, capture_output=True, text=True, timeout=WAIT, **how)
+    ended = subprocess.run(words, capture_output=True, text=True, timeout=timeout, **how)
     return ended.returncode, ended.stdout, ended.stderr
 
 
 def install(*words, **how):
-    return ran(os.path.join(TOP, "tools", "install.sh"), *words, **how)
+    return ran(os.path.join(TOP, "tools", "install.sh"), *words, timeout=INSTALL_WAIT, **how)
 
 
 def files_below(folder):
@@ -155,7 +156,7 @@ def only_what_was_built_is_installed():
             with open(rt, "w") as file:
                 file.write(f"{script}{status}\n")
             os.chmod(rt, 0o755)
-            ended = ran(os.path.join(top, "tools", "install.sh"), prefix, env=found)
+            ended = ran(os.path.join(top, "tools", "install.sh"), prefix, env=found, timeout=INSTALL_WAIT)
             check(f"a proof that ends with {status}", (ended[0], files_below(prefix)), (status, wanted))
             check("what is proved", content(asked).decode(), f"{top}/crates/hhm run -- --version\n")
         check("it is said", ["proofs" in ended[1], ended[2]], [True, ""])
