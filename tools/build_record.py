@@ -3,7 +3,8 @@
 
     tools/build_record.py PROGRAM gate LOG        LOG is what .ci/run wrote, and the gate built PROGRAM
     tools/build_record.py PROGRAM rt LOG          LOG is what `rt run` wrote, which proved and built PROGRAM
-    tools/build_record.py PROGRAM unproved        PROGRAM was built without proofs
+    tools/build_record.py PROGRAM unproved        PROGRAM was built here without proofs
+    tools/build_record.py PROGRAM given           PROGRAM was built elsewhere, and is to be called unproved
     tools/build_record.py PROGRAM unknown         it isn't known how PROGRAM was built
 
 It fails where the log of a gate doesn't say that all is proved and nothing failed. `rt run` prints its lines of the
@@ -20,6 +21,7 @@ PROVED = {
     "gate": "yes, by the gate",
     "rt": "yes, by rt run; the gate's tests and wrong bodies weren't run",
     "unproved": "no",
+    "given": "no",
     "unknown": "unknown: the program was built elsewhere, without a record",
 }
 SAME = "To see whether a program is the one of this file: hhmc --version, or sha256sum."
@@ -89,7 +91,7 @@ def record(program, how, log):
     if not re.fullmatch(r"hhm \d+\.\d+\.\d+\S*", version):
         fail(f"{program} isn't hhm: it says no version")
     digest = hashlib.sha256(Path(program).read_bytes()).hexdigest()
-    of = " (of the other files)" if how == "unknown" else ""
+    of = " (of the other files)" if how in ("given", "unknown") else ""
     lines = [version, f"commit: {commit()}{of}", f"proved: {PROVED[how]}", f"program: sha256 {digest}"]
     if how in OF_LOGS:
         lines += [f"toolchain: {said('rt', 'version') or 'unknown: there is no rt'}", *OF_LOGS[how](log)]

@@ -82,13 +82,15 @@ if [[ -n $is_proved ]]; then
     program=${program:-$top/crates/hhm/out/hhm}
     take_record
 else
+    how=given
     if [[ -z $program ]]; then
+        how=unproved
         program=$made/hhm
         echo "Building hhm without proofs, some two minutes"
         python3 "$top/tools/quick_build.py" "$program" || fail "hhm wasn't built"
     fi
     [[ -f $program && -x $program ]] || fail "$program is no program"
-    python3 "$top/tools/build_record.py" "$program" unproved >"$record" || fail "$program isn't hhm"
+    python3 "$top/tools/build_record.py" "$program" "$how" >"$record" || fail "$program isn't hhm"
 fi
 version=$(head -n 1 "$record" | cut -d' ' -f2)
 epoch=${SOURCE_DATE_EPOCH:-$(git -C "$top" log -1 --format=%ct 2>/dev/null || stat -c %Y "$program")}
