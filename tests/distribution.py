@@ -250,7 +250,7 @@ def shells_complete(tree):
     """Bash offers commands, options and values; the files of zsh and fish can be read by these."""
     asked = [("hhm se", "serve"), ("hhm serve --fold", "--fold-above"), ("hhmc --unix x lo", "load"),
              ("hhmc --unix x load --ma", "--map"), ("hhmc load --map i", "ip int"),
-             ("hhmc --unix x top --by e", "entries")]
+             ("hhmc --unix x top --by e", "entries"), ("hhm top --by t", "total")]
     for line, wanted in asked:
         name, words = line.split()[0], line.split()
         script = (f"source {tree}/share/bash-completion/completions/{name}; COMP_WORDS=({line}); "

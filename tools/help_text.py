@@ -23,8 +23,8 @@ class Option(NamedTuple):
 
     def choices(self) -> List[str]:
         """The values that it may have, where the help names each."""
-        found = re.fullmatch(r"\{(.*)\}", self.value)
-        return found[1].split(",") if found else []
+        found = re.fullmatch(r"\{(.*)\}", self.value) or re.search(r"\[possible values: (.*?)\]", self.text)
+        return re.split(", ?", found[1]) if found else []
 
 
 class Help:
