@@ -101,6 +101,8 @@ def by_pip():
     module = [os.path.join(own, "bin", "python"), "-m", "hhm_client"]
     helps = [run([*it, "--help"], cwd=server.FOLDER) for it in ([hhmc], module)]
     check("python -m hhm_client", (helps[0] == helps[1], helps[1][1:]), (True, ("", 0)))
+    told, error, status = run([hhmc, "--version"])
+    check("hhmc --version", (told.splitlines()[0], error, status), ("hhmc 0.1.0", "", 0))
     with Server(SMALL, tcp=False) as at:
         status = run([*module, "--unix", at.path, "status"])
         check("python -m hhm_client status", status, ("batches 0 total 0\n", "", 0))

@@ -35,12 +35,22 @@ def comparison(build: str) -> Tuple[str, int]:
     return f"the program in use, {program}, has another sum, {found}: this BUILD says nothing of it", 1
 
 
+def name_with_version() -> str:
+    """The name of the command, with the version of the clients' package where pip has installed it."""
+    from importlib import metadata
+
+    try:
+        return f"hhmc {metadata.version('hhm-client')}"
+    except metadata.PackageNotFoundError:
+        return "hhmc"
+
+
 def version() -> Tuple[str, int]:
     """The text of `hhmc --version`, and its status. An OSError where a file can't be read."""
     try:
         with open(BUILD, encoding="utf-8") as file:
             build = file.read()
     except FileNotFoundError:
-        return f"hhmc without a package: there is no {BUILD}, so nothing is known of a program's proof", 0
+        return f"{name_with_version()}\nthere is no {BUILD}, so nothing is known of a program's proof", 0
     line, status = comparison(build)
     return f"{build}\n{line}", status
