@@ -388,8 +388,9 @@ class Cluster(Several):
     """Several servers as one, by a map that stays as it is.
 
     `servers` are their addresses in order, as `where_of` reads them ("tcp:host:port", "unix:path", "host:port" or a
-    path with a slash), or functions that give one and are asked for each connection. `generation` is the map's number, which belongs to these servers, to
-    this order and to this way for ever. `client` is the client's number, below 2^64 - 1, which no other program uses.
+    path with a slash), or functions that give one and are asked for each connection. `generation` is the map's number,
+    which belongs to these servers, to this order and to this way for ever. `client` is the client's number, below
+    2^64 - 1, which no other program uses.
 
     `size`, the servers' numbers of rows and columns, has a cell beyond them found out before anything is sent; by rows
     give it, since a server that refuses its part leaves a half batch. `max_batches` is what the servers take
