@@ -129,20 +129,6 @@ def talkers_of(counts, most):
     return [f"{ipaddress.ip_address(row)} {entries} {total}" for row, (entries, total) in rows]
 
 
-def readme_names_top_talkers(folder):
-    """The three commands of README, with a log of fewer lines: the ten sources that sent most."""
-    readme = content(os.path.join(TOP, "README.md"))
-    [block] = [it for it in re.findall(r"^```\n(.*?)^```$", readme, re.M | re.S) if "top rows" in it]
-    commands = block.splitlines()
-    os.remove(os.path.join(folder, "served"))
-    check("README: three commands", [it.split()[0] for it in commands], ["hhm", "hhmc", "hhmc"])
-    written, error, status = walked(folder, [*commands, "hhmc --unix flows.sock stop"])
-    check("README: their end", (error, status), ("", 0))
-    counts = sum_of_log(os.path.join(folder, "flows.csv"))
-    wanted = [["listening unix flows.sock"], [f"new {LINES // 10_000} repeats 0 events {LINES}"], talkers_of(counts, 10)]
-    check("README: top talkers", written[:3], wanted)
-
-
 def pictures_are_there(folder, document):
     """The document shows pictures that are in docs/, and the walk has drawn the same ones of fewer lines."""
     shown = re.findall(r"!\[[^]]+\]\(([^)]+)\)", document)
@@ -165,7 +151,6 @@ def all_are_tried():
     os.symlink(os.path.join(TOP, "examples"), os.path.join(folder, "examples"))
     document = content(DOCUMENT)
     the_walk_is_right(folder, document)
-    readme_names_top_talkers(folder)
     pictures_are_there(folder, document)
 
 

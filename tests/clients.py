@@ -31,7 +31,7 @@ HERE = os.path.dirname(os.path.abspath(__file__))
 CLIENTS = os.path.join(HERE, "..", "clients")
 import client_faults  # noqa: E402 (server.py has put the client's folder on the path)
 import hhm_client  # noqa: E402
-from hhm_client import MAX_CELLS, Arrays, BadReply, Client, Status, cells_of  # noqa: E402
+from hhm_client import MAX_CELLS, Arrays, BadReply, Client, Status, cells_of, where_of  # noqa: E402
 from peers import WAIT, Liar, Proxy, fault_of, run, started, until  # noqa: E402
 
 LARGE = ["--rows", str(1 << 32), "--cols", str(1 << 32)]
@@ -100,6 +100,44 @@ def frames_are_spelled():
         given = Arrays(column, longs(*cols), array.array("L", counts))
         check(f"a column of {name}", hhm_client.put_cells_frame(9, 2, given), wanted)
     check("tuples", hhm_client.put_cells_frame(9, 2, iter(cells)), wanted)
+
+
+def addresses_are_exact():
+    """The addresses of clusters and of tools: with `unix:` and `tcp:`, and without where only one is meant."""
+    for word, wanted in [("unix:socket", {"unix": "socket"}), ("unix:./7000", {"unix": "./7000"}),
+                         ("unix:a:7000", {"unix": "a:7000"}), ("tcp:unix:7000", {"tcp": "unix:7000"}),
+                         ("tcp:[::1]:7", {"tcp": "[::1]:7"}), ("/run/hhm.sock", {"unix": "/run/hhm.sock"}),
+                         ("./a:7000", {"unix": "./a:7000"}), ("a:7000", {"tcp": "a:7000"})]:
+        check(f"the address {word}", where_of(word), wanted)
+    for word, told in [("socket", "has no slash as a path has: write unix:PATH or tcp:HOST:PORT"),
+                       ("unix:7000", "may be a path or a host: write unix:./7000 or tcp:unix:7000"),
+                       ("tcp:7000", "'7000' isn't HOST:PORT"), ("tcp:/run/x", "'/run/x' isn't HOST:PORT"),
+                       ("unix:", "isn't unix:PATH or tcp:HOST:PORT"), ("", "has no slash as a path has")]:
+        try:
+            check(f"the address {word!r}", where_of(word), "refused")
+        except ValueError as fault:
+            check(f"the address {word!r}", told in str(fault), True)
+
+
+def a_wait_is_told_and_ends():
+    """After two seconds without a server a client says so, once, and goes on; `wait` ends that, with 0 at once."""
+    path = os.path.join(server.FOLDER, "late")
+    script = ("import sys, time; from hhm_client import Client\nwait, begin = float(sys.argv[2]), time.monotonic()\n"
+              "try:\n    Client(unix=sys.argv[1], wait=wait).status()\nexcept OSError as fault:\n"
+              "    print(type(fault).__name__, wait <= time.monotonic() - begin < wait + 5)\n")
+    how = {"cwd": os.path.join(CLIENTS, "python"), "capture_output": True, "text": True, "timeout": WAIT}
+    for wait, wanted in [("0", ("FileNotFoundError True\n", "")),
+                         ("3", ("FileNotFoundError True\n", f"waiting for the server at {path}\n"))]:
+        ended = subprocess.run([sys.executable, "-c", script, path, wait], **how)
+        check(f"wait={wait}", (ended.stdout, ended.stderr), wanted)
+    for wait in [-1, float("nan")]:
+        try:
+            Client(unix=path, wait=wait)
+            check(f"wait={wait}", "taken", "refused")
+        except ValueError as fault:
+            check(f"wait={wait}", str(fault), f"wait is a number of seconds from 0, and not {wait}")
+    with Server(SMALL) as at, at.client(wait=0) as hhm:
+        check("wait=0: a server", hhm.status(), (0, 0))
 
 
 def what_is_no_batch_is_not_sent(unix):
@@ -521,6 +559,8 @@ def main():
             replies_are_lost(unix)
             examples_ask_all(unix, examples)
             flows_are_fed(unix, commands)
+        addresses_are_exact()
+        a_wait_is_told_and_ends()
         lies_are_told(examples)
         a_log_is_told_of(examples)
         wrong_words_are_told(examples, commands)

@@ -210,6 +210,21 @@ def refused_markers_are_told(language, command):
                 check(f"{language}: a marker, refused by {code}", driver.put(1, [(0, 0, 1)]), wanted)
 
 
+def addresses_are_exact(language, command):
+    """An address with `unix:` or `tcp:` is one of that kind; nothing begins where it may be a path or a host."""
+    with Liar(server.refused(34)) as liar:
+        liar.tcp = f"unix:{liar.path}"
+        with Asked(command, [liar], "rows") as driver:
+            check(f"{language}: {liar.tcp}", driver.put(1, [(0, 0, 1)]), "Refused 0 34")
+    with Hosts(f"kinds {language}", 1) as hosts:
+        hosts[0].tcp = f"tcp:{hosts[0].tcp}"
+        with Asked(command, hosts, "rows") as driver:
+            check(f"{language}: {hosts[0].tcp}", driver.put(1, [(0, 0, 1)]).split()[0] in ("index", "put"), True)
+    words = [command, "unix:7000", "rows", "7", "1", str(SIZE[0]), "1000000", "10000"]
+    ended = subprocess.run(words, input="status\n", capture_output=True, text=True)
+    check(f"{language}: unix:7000", (ended.returncode != 0, ended.stdout), (True, ""))
+
+
 def books_are_full(language, command, by):
     name, place = f"{language} {by}", 0 if by == "rows" else 1
     with Hosts(f"full {name}", 2, more=["--max-batches", "20"]) as hosts:
@@ -252,6 +267,7 @@ def all_are_tried():
             books_are_full(language, command, by)
         halves_are_told(language, command)
         refused_markers_are_told(language, command)
+        addresses_are_exact(language, command)
 
 
 if __name__ == "__main__":

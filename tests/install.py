@@ -24,25 +24,43 @@ import server
 from server import SMALL, check
 
 TOP = os.path.dirname(server.HERE)
-# The most seconds that an end after a signal takes, or a run that serves nobody.
+# The most seconds that an end after a signal takes, or a run that serves nobody, and those of an install.
 WAIT = 20
+INSTALL_WAIT = 120
 
 # What hhm-run says at the first signal, and at one that comes later.
 ENDS = "hhm-run: the server saves and ends once its sessions are served; a further signal kills it\n"
 KILLED = "hhm-run: the server is killed\n"
 
 PYTHON = sorted(it for it in os.listdir(os.path.join(TOP, "clients", "python")) if it.endswith(".py"))
+DOCUMENTS = ["README.md", "CHANGELOG.md", "LICENSES", "clients/README.md",
+             *(f"docs/{it}" for it in os.listdir(os.path.join(TOP, "docs")))]
+EXAMPLES = [os.path.relpath(os.path.join(at, it), TOP) for at, _, names in os.walk(os.path.join(TOP, "examples"))
+            for it in names if "__pycache__" not in at]
+
+
+def mode_of(name):
+    return 0o755 if os.access(os.path.join(TOP, name), os.X_OK) else 0o644
+
+
 # Each installed file, its mode, and where it comes from; no source where it is made.
 FILES = {
     "bin/hhm": (0o755, None),
     "bin/hhm-run": (0o755, "tools/hhm-run"),
-    **{f"lib/hhm/{it}": (0o755, f"clients/python/{it}") for it in PYTHON},
+    **{f"lib/hhm/{it}": (mode_of(f"clients/python/{it}"), f"clients/python/{it}") for it in PYTHON},
     "bin/hhmc": (0o755, "clients/python/hhm_client.py"),
     **{f"include/{it}.h": (0o644, f"clients/c/{it}.h") for it in ("hhm_client", "hhm_cluster")},
     **{f"share/hhm/{it}.c": (0o644, f"clients/c/{it}.c") for it in ("hhm_client", "hhm_cluster")},
     **{f"share/hhm/{it}.rs": (0o644, f"clients/rust/{it}.rs") for it in ("hhm_client", "hhm_cluster")},
     "lib/systemd/system/hhm.service": (0o644, None),
-    "share/man/man1/hhm.1": (0o644, None),
+    **{f"share/man/man1/{it}.1": (0o644, None) for it in ("hhm", "hhmc", "hhm-run")},
+    **{f"share/bash-completion/completions/{it}": (0o644, None) for it in ("hhm", "hhmc")},
+    **{f"share/zsh/site-functions/_{it}": (0o644, None) for it in ("hhm", "hhmc")},
+    **{f"share/fish/vendor_completions.d/{it}.fish": (0o644, None) for it in ("hhm", "hhmc")},
+    **{f"share/hhm/{it}": (0o644, None) for it in ("BUILD", "FILES")},
+    "share/doc/hhm/BUILD": (0o644, None),
+    **{f"share/doc/hhm/{it}": (0o644, it) for it in DOCUMENTS},
+    **{f"share/doc/hhm/{it}": (mode_of(it), it) for it in EXAMPLES},
 }
 
 
@@ -51,14 +69,14 @@ def content(path):
         return file.read()
 
 
-def ran(*words, **how):
+def ran(*words, timeout=WAIT, **how):
     """The status of a command and what it writes to both outputs."""
-    ended = subprocess.run(words, capture_output=True, text=True, timeout=WAIT, **how)
+    ended = subprocess.run(words, capture_output=True, text=True, timeout=timeout, **how)
     return ended.returncode, ended.stdout, ended.stderr
 
 
 def install(*words, **how):
-    return ran(os.path.join(TOP, "tools", "install.sh"), *words, **how)
+    return ran(os.path.join(TOP, "tools", "install.sh"), *words, timeout=INSTALL_WAIT, **how)
 
 
 def files_below(folder):
@@ -72,7 +90,7 @@ def all_files_are_there(prefix):
     check("install", (status, error), (0, ""))
     check("all files", files_below(prefix), set(FILES))
     told = {it.strip() for it in output.splitlines() if it.startswith("  ")}
-    check("all are told", told, {f"{prefix}/{it}" for it in FILES})
+    check("all are told", told, {f"{prefix}/{it}" for it in FILES if it != "share/hhm/FILES"})
     check("the path is told", f"{prefix}/bin isn't on your PATH" in output, True)
     for name, (mode, source) in FILES.items():
         path = os.path.join(prefix, name)
@@ -124,21 +142,25 @@ def only_what_was_built_is_installed():
     """The two ways that build, with an `rt` that only says that it proved, or that it didn't."""
     with tempfile.TemporaryDirectory() as folder:
         top, prefix, asked = (os.path.join(folder, it) for it in ["top", "prefix", "asked"])
-        for name in ["tools", "clients"]:
+        for name in ["tools", "clients", "docs", "examples"]:
             shutil.copytree(os.path.join(TOP, name), os.path.join(top, name))
+        for name in ["README.md", "CHANGELOG.md", "LICENSES"]:
+            shutil.copy(os.path.join(TOP, name), top)
         os.makedirs(os.path.join(top, "crates", "hhm"))
         os.mkdir(os.path.join(folder, "bin"))
         rt = os.path.join(folder, "bin", "rt")
         found = {**os.environ, "PATH": f"{folder}/bin:{os.environ['PATH']}"}
-        script = f"#!/bin/sh\necho \"$PWD $*\" > {asked}\nmkdir -p out && cp {server.PROGRAM} out/hhm\nexit "
+        script = (f"#!/bin/sh\n[ $1 = version ] && exit 1\necho \"$PWD $*\" > {asked}\n"
+                  f"mkdir -p out && cp {server.PROGRAM} out/hhm\nexit ")
         for status, wanted in [(1, set()), (0, set(FILES))]:
             with open(rt, "w") as file:
                 file.write(f"{script}{status}\n")
             os.chmod(rt, 0o755)
-            ended = ran(os.path.join(top, "tools", "install.sh"), prefix, env=found)
+            ended = ran(os.path.join(top, "tools", "install.sh"), prefix, env=found, timeout=INSTALL_WAIT)
             check(f"a proof that ends with {status}", (ended[0], files_below(prefix)), (status, wanted))
             check("what is proved", content(asked).decode(), f"{top}/crates/hhm run -- --version\n")
         check("it is said", ["proofs" in ended[1], ended[2]], [True, ""])
+        check("BUILD", b"\nproved: yes, by rt run; " in content(f"{prefix}/share/hhm/BUILD"), True)
         shutil.rmtree(prefix)
         ended = ran(os.path.join(top, "tools", "install.sh"), "--unproved", prefix, env=found)
         check("no build without a toolchain", (ended[0], files_below(prefix)), (1, set()))
@@ -196,20 +218,6 @@ def heed_signals():
     """A shell can't trap what is ignored where it starts, as SIGINT is in the background and SIGHUP under nohup."""
     for number in [signal.SIGTERM, signal.SIGINT, signal.SIGHUP]:
         signal.signal(number, signal.SIG_DFL)
-
-
-def the_session_of_the_readme(prefix):
-    """The commands of README.md's block that starts a server, in one shell, write what stands there below them."""
-    text = content(os.path.join(TOP, "README.md")).decode()
-    block = next(it for it in re.findall(r"^```\n(.*?)^```$", text, re.M | re.S) if it.startswith("$ hhm serve "))
-    commands = [it[2:] for it in block.splitlines() if it.startswith("$ ")]
-    wanted = [it for it in block.splitlines() if not it.startswith("$ ")]
-    with tempfile.TemporaryDirectory() as folder:
-        os.symlink(os.path.join(TOP, "examples"), os.path.join(folder, "examples"))
-        found = {**os.environ, "PATH": f"{prefix}/bin:{os.environ['PATH']}", "XDG_STATE_HOME": folder}
-        status, output, error = ran("bash", "-c", "\n".join([*commands, "wait"]), cwd=folder, env=found)
-    # The server and its clients write side by side.
-    check("README.md: a session", (status, sorted(output.splitlines()), error), (0, sorted(wanted), ""))
 
 
 def server_of(wrapper):
@@ -417,7 +425,7 @@ def statuses_are_those_of_the_program(prefix):
         status, output, error = ran(wrapper, *words)
         check(f"no socket, {words}", (status, output, "--unix PATH is needed" in error), (2, "", True))
     status, output, error = ran(wrapper, "--help")
-    check("help", (status, "--snapshot" in output, error), (0, True, ""))
+    check("help", (status, "Usage: hhm-run --unix <PATH>" in output, error), (0, True, ""))
 
 
 def git(*words):
@@ -456,7 +464,6 @@ def main():
         the_page_has_all_options(prefix)
         the_unit_is_right(os.path.join(server.FOLDER, "plain"))
         the_c_client_is_whole(prefix)
-        the_session_of_the_readme(prefix)
         each_signal_saves_and_stops(prefix)
         the_server_heeds_no_signal_itself(prefix)
         the_umask_decides_who_connects(prefix)

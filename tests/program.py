@@ -861,10 +861,11 @@ def leave_few_files():
 
 
 def the_example(program):
-    """The example of README.md: the block there is what the program writes."""
+    """The example of README.md: what is below its command there is what the program writes."""
     with open(os.path.join(HERE, "..", "README.md"), encoding="utf-8") as readme:
         blocks = readme.read().split("```\n")[1::2]
-    wanted = next((block for block in blocks if block.startswith(BANNER)), "no block with a text")
+    command = "$ hhm sum < packets.mtx\n"
+    wanted = next((block.partition(command)[2] for block in blocks if command in block), "no block with a text")
     case = Case("the example of README.md", ["sum"], "", wanted)
     with open(os.path.join(HERE, "..", "examples", "packets.mtx"), "rb") as text:
         yield case.name, run(program, case, stdin=text)

@@ -1,28 +1,9 @@
-#!/usr/bin/env python3
-"""Writes the man page hhm.1 to standard output, made of what the program's own `--help` says.
-
-    tools/man_page.py PATH-TO-HHM
-"""
+"""The man page of a program, made of what its own `--help` says."""
 import re
-import subprocess
-import sys
 
-HEAD_END = r"""
-.SH SEE ALSO
-.BR hhm\-run (the
-server under a process manager),
-.BR hhmc (the
-client); each says by
-.B \-\-help
-how it is used.
-"""
-# A line `-s, --long <VALUE>  text` of options, or `name  text` of commands and arguments.
-ITEM = re.compile(r"^ {2,6}(?P<name>\S.*?)(?: {2,}(?P<text>\S.*))?$")
-
-
-def help_of(program, *words):
-    """The text that the program prints for these words and `--help`."""
-    return subprocess.run([program, *words, "--help"], capture_output=True, text=True, check=True).stdout
+PROGRAMS = ("hhm", "hhmc", "hhm-run")
+# What each page is found by, in one line.
+NAMES = {"hhmc": "ask a server of hhm"}
 
 
 def escaped(text):
@@ -31,20 +12,8 @@ def escaped(text):
     return re.sub(r"^(?=[.'])", r"\\&", text, flags=re.M)
 
 
-def items_of(block):
-    """The names and texts of a list of options, commands or arguments, whose further lines are indented deeper."""
-    items = []
-    for line in block.splitlines()[1:]:
-        found = ITEM.match(line)
-        if found:
-            items.append([found["name"], found["text"] or ""])
-        else:
-            items[-1][1] = f"{items[-1][1]} {line.strip()}".strip()
-    return items
-
-
-def list_of(block):
-    return "".join(f".TP\n.B {escaped(name)}\n{escaped(text)}\n" for name, text in items_of(block))
+def list_of(items):
+    return "".join(f".TP\n.B {escaped(name)}\n{escaped(text)}\n" for name, text in items)
 
 
 def paragraph(block):
@@ -54,45 +23,37 @@ def paragraph(block):
     return f".PP\n{escaped(block)}\n"
 
 
-def blocks_of(text):
-    return re.split(r"\n{2,}", text.strip("\n"))
+def sentence(text):
+    return escaped(text if text.endswith(".") else f"{text}.")
 
 
-def is_list(block):
-    return block.startswith(("Options:", "Arguments:", "Commands:"))
+def lists_of(said):
+    return "".join(list_of(said.lists.get(it, [])) for it in ("Arguments", "Options"))
 
 
-def usage_of(blocks):
-    return next(it for it in blocks if it.startswith("Usage: "))[len("Usage: ") :]
+def section_of(said, text):
+    """The part of the page on one command; `text` is what the list of commands has of it."""
+    first = said.paragraphs[:1] or [text[:1].upper() + text[1:]]
+    rest = "".join(map(paragraph, said.paragraphs[1:]))
+    return f".SS {escaped(said.usage)}\n{sentence(first[0])}\n{lists_of(said)}{rest}"
 
 
-def section_of(program, word):
-    """The part of the page on one word of the program."""
-    about, *blocks = blocks_of(help_of(program, word))
-    lists = "".join(list_of(it) for it in blocks if is_list(it))
-    rest = "".join(paragraph(it) for it in blocks if not is_list(it) and not it.startswith("Usage: "))
-    return f".SS {escaped(usage_of(blocks))}\n{escaped(about)}.\n{lists}{rest}"
+def see_also(name):
+    others = ",\n".join(f".BR {escaped(it)} (1)" for it in PROGRAMS if it != name)
+    return f".SH SEE ALSO\n{others}\n"
 
 
-def page(program):
-    version = subprocess.run([program, "--version"], capture_output=True, text=True, check=True).stdout.strip()
-    about, *blocks = blocks_of(help_of(program))
-    commands = next(it for it in blocks if it.startswith("Commands:"))
-    words = [name for name, _ in items_of(commands) if name != "help"]
-    usages = "\n.br\n".join(f".B {escaped(usage_of(blocks_of(help_of(program, it))))}" for it in words)
+def page(program, version):
+    """The text of the page of a `help_text.Program`; `version` is what `hhm --version` says."""
+    about, *rest = program.said.paragraphs
+    commands = [(program.helps[name], text) for name, text in program.commands]
+    usages = "\n.br\n".join(f".B {escaped(it.usage)}" for it in [it for it, _ in commands] or [program.said])
+    sections = "".join(section_of(*it) for it in commands)
+    name = escaped(program.name)
     return (
-        f'.TH HHM 1 "" "{version}"\n.SH NAME\nhhm \\- {escaped(about)}\n'
+        f'.TH {name.upper()} 1 "" "{version}"\n'
+        f".SH NAME\n{name} \\- {escaped(NAMES.get(program.name, about))}\n"
         f".SH SYNOPSIS\n{usages}\n"
-        f".SH DESCRIPTION\n{escaped(about)}.\n{list_of(next(it for it in blocks if it.startswith('Options:')))}"
-        f".SH COMMANDS\n{''.join(section_of(program, it) for it in words)}{HEAD_END.lstrip()}"
+        f".SH DESCRIPTION\n{sentence(about)}\n{lists_of(program.said)}{''.join(map(paragraph, rest))}"
+        f"{'.SH COMMANDS' + chr(10) + sections if commands else ''}{see_also(program.name)}"
     )
-
-
-def main():
-    if len(sys.argv) != 2:
-        sys.exit(__doc__)
-    sys.stdout.write(page(sys.argv[1]))
-
-
-if __name__ == "__main__":
-    main()

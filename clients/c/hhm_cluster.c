@@ -53,6 +53,21 @@ uint64_t hhm_marker_of(uint64_t generation, hhm_way way, size_t servers, size_t 
     return digest;
 }
 
+/* A client of the server at an address of hhm_cluster_open; NULL with EINVAL for `unix:` and a number, or nothing. */
+static hhm_client *opened(const char *address, uint64_t client)
+{
+    if (strncmp(address, "unix:", 5) == 0) {
+        const char *path = address + 5;
+        if (path[strspn(path, "0123456789")])
+            return hhm_open_unix(path, client);
+        errno = EINVAL;
+        return NULL;
+    }
+    if (strncmp(address, "tcp:", 4) == 0)
+        return hhm_open_tcp(address + 4, client);
+    return strchr(address, '/') ? hhm_open_unix(address, client) : hhm_open_tcp(address, client);
+}
+
 hhm_cluster *hhm_cluster_open(const char *const *servers, size_t count, uint64_t client, uint64_t generation,
                               hhm_way way)
 {
@@ -74,7 +89,7 @@ hhm_cluster *hhm_cluster_open(const char *const *servers, size_t count, uint64_t
     hhm->rows = hhm->cols = UINT64_MAX;
     hhm->most = 990000;
     for (size_t i = 0; i < count; i++) {
-        made[i] = strchr(servers[i], '/') ? hhm_open_unix(servers[i], client) : hhm_open_tcp(servers[i], client);
+        made[i] = opened(servers[i], client);
         if (!made[i]) {
             int kept = errno;
             hhm_cluster_close(hhm);

@@ -34,9 +34,10 @@ typedef struct hhm_cluster_range hhm_cluster_range;
 typedef enum { HHM_BY_SOURCE = 0, HHM_BY_ROWS = 1 } hhm_way;
 
 /*
- * Makes a cluster of servers, each HOST:PORT or the path of a Unix socket (with a slash), in their order. No other
+ * Makes a cluster of servers in their order, each tcp:HOST:PORT, unix:PATH, HOST:PORT or a path with a slash. No other
  * program puts under the client's number, which is below 2^64 - 1. The generation belongs to these servers, to this
- * order and to this way for ever. Nothing is connected yet. NULL with errno as hhm_open_tcp, EINVAL also for no server.
+ * order and to this way for ever. Nothing is connected yet. NULL with errno as hhm_open_tcp, EINVAL also for no server,
+ * and for an address that may be a path or a host, as unix:7000.
  */
 hhm_cluster *hhm_cluster_open(const char *const *servers, size_t count, uint64_t client, uint64_t generation,
                               hhm_way way);

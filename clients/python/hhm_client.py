@@ -46,6 +46,7 @@ import selectors
 import socket
 import struct
 import sys
+import threading
 import time
 from time import monotonic
 from typing import Any, Callable, Dict, Iterable, Iterator, List, NamedTuple, Optional, Sequence, Tuple, TypeVar, Union
@@ -61,6 +62,8 @@ PAGE, MAX_PAGE = 10_000, 1_000_000
 MAX_DEPTH = 128
 # The bytes of replies that are read at once while a request is sent.
 EARLY = 65_536
+# The seconds without a connection after which a client says that it waits.
+SILENCE = 2
 BANNER = b"%%MatrixMarket matrix coordinate integer general\n"
 
 PUT, CELL, ROW, STATUS, EXPORT, SAVE, STOP, PUT_CELLS, STORED, RANGE, TOP, STATS, FOLD = range(1, 14)
@@ -293,6 +296,36 @@ def host_and_port(word: str) -> Tuple[str, int]:
     return bare, int(port)
 
 
+def where_of(word: str) -> Dict[str, str]:
+    """The address of a word, as `Client` takes it: `{"unix": path}` or `{"tcp": "host:port"}`.
+
+    `unix:PATH` and `tcp:HOST:PORT` are exact. Another word with a slash is a path, and one without is HOST:PORT. A
+    ValueError for a word that is neither, or that may be both.
+    """
+    kind, colon, rest = word.partition(":")
+    if kind == "unix" and rest.isdigit():
+        raise ValueError(f"{word!r} may be a path or a host: write unix:./{rest} or tcp:{word}")
+    if colon and kind in ("unix", "tcp"):
+        return exact_where_of(word)
+    if "/" in word:
+        return {"unix": word}
+    try:
+        host_and_port(word)
+    except ValueError as fault:
+        raise ValueError(f"{fault}, and has no slash as a path has: write unix:PATH or tcp:HOST:PORT") from None
+    return {"tcp": word}
+
+
+def exact_where_of(word: str) -> Dict[str, str]:
+    """The address of a word `unix:PATH` or `tcp:HOST:PORT`. A ValueError for any other."""
+    kind, _, rest = word.partition(":")
+    if kind not in ("unix", "tcp") or not rest:
+        raise ValueError(f"{word!r} isn't unix:PATH or tcp:HOST:PORT")
+    if kind == "tcp":
+        host_and_port(rest)
+    return {kind: rest}
+
+
 def request(kind: int, *numbers: int, body: Text = b"") -> bytes:
     """The frame of a request: numbers, and bytes behind them."""
     try:
@@ -515,7 +548,9 @@ class Client:
     `timeout` is in seconds, for how long the sending of a request, or its answer, may stand still.
     `attempts` is how often a request is sent before a fault of the connection is given up, with `pause` seconds after
     the first fault and twice as many after each further one, at most ten. By the defaults the last attempt comes after
-    62 seconds of pauses, since a server that starts from a million batches answers only after ten or so.
+    62 seconds of pauses, since a server that starts from a million batches answers only after ten or so. With `wait`,
+    in seconds, the number of attempts doesn't matter: none begins later after the first, so 0 fails at the first fault.
+    After two seconds without a connection the client says on standard error that it waits, and goes on waiting.
 
     Over each new connection a client that has put batches asks for the status, and puts the last of them again, which
     it keeps for that; where the server has less than was accepted, or answers another place, that is a `BookWentBack`.
@@ -529,14 +564,19 @@ class Client:
     def __init__(
         self, *, tcp: Optional[str] = None, unix: Optional[str] = None, client: int = 0,
         timeout: Optional[float] = 60, attempts: int = 14, pause: float = 0.05, keep: Optional[int] = None,
+        wait: Optional[float] = None,
     ):
         if (tcp is None) == (unix is None):
             raise ValueError("give tcp or unix, and not both")
         if tcp is not None:
             host_and_port(tcp)
+        if wait is not None and not wait >= 0:
+            raise ValueError(f"wait is a number of seconds from 0, and not {wait}")
         self.tcp, self.unix, self.client = tcp, unix, client
-        self.timeout, self.attempts, self.pause, self.keep = timeout, attempts, pause, keep
+        self.timeout, self.attempts, self.pause, self.keep, self.wait = timeout, attempts, pause, keep, wait
         self._link: Optional[Link] = None
+        # What says that the client waits, from the first try to connect until there is a connection or a fault.
+        self._waiting: Optional[threading.Timer] = None
         self._is_ahead = False
         # The batch with the highest place, and that of those before the last save.
         self._last: Optional[Last] = None
@@ -677,8 +717,11 @@ class Client:
     def _ask(self, frame: bytes, wanted: int, length: Optional[int]) -> bytes:
         """Sends a request and reads its reply."""
         self._begin()
-        self._send_ahead([frame])
-        return self._first_reply([frame], wanted, length)
+        try:
+            self._send_ahead([frame])
+            return self._first_reply([frame], wanted, length)
+        finally:
+            self._end_waiting()
 
     def _ask_for(self, frame: bytes, wanted: int, read: Callable[[bytes], Answer]) -> Answer:
         """Asks for what is read of a reply of any length; one that can't be read leaves no connection."""
@@ -705,6 +748,7 @@ class Client:
                 number, frame = ahead.numbers.pop(0), ahead.frames.pop(0)
                 yield number, self._noted(number, frame, reply)
         finally:
+            self._end_waiting()
             # The replies that nobody will read must not be taken for those of later requests.
             self._is_ahead = False
             if ahead.frames:
@@ -749,7 +793,9 @@ class Client:
         if self._link is not None and self._link.process != os.getpid():
             self.close()
         if self._link is None:
+            self._begin_waiting()
             link = Link(self.tcp, self.unix, self.timeout)
+            self._end_waiting()
             try:
                 self._greet(link)
             except BaseException:
@@ -757,6 +803,20 @@ class Client:
                 raise
             self._link = link
         return self._link
+
+    def _begin_waiting(self) -> None:
+        """Has a line written once there was no connection for two seconds."""
+        if self._waiting is None:
+            place = self.unix if self.tcp is None else self.tcp
+            told = {"file": sys.stderr, "flush": True}
+            self._waiting = threading.Timer(SILENCE, print, [f"waiting for the server at {place}"], told)
+            self._waiting.daemon = True
+            self._waiting.start()
+
+    def _end_waiting(self) -> None:
+        waiting, self._waiting = self._waiting, None
+        if waiting is not None:
+            waiting.cancel()
 
     def _greet(self, link: Link) -> None:
         """Over a new connection: asks whether what was accepted is still there, and puts again what is kept."""
@@ -817,10 +877,13 @@ class Client:
         return body
 
     def _attempts(self) -> Iterator[int]:
-        pause = self.pause
-        for attempt in range(self.attempts):
+        pause, end = self.pause, monotonic() + (float("inf") if self.wait is None else self.wait)
+        for attempt in range(self.attempts) if self.wait is None else itertools.count():
             if attempt:
-                self._rest(pause)
+                left = end - monotonic()
+                if left <= 0:
+                    return
+                self._rest(min(pause, left))
                 pause = min(2 * pause, 10)
             yield attempt
 

@@ -38,8 +38,8 @@ from typing import Any, Callable, Dict, Iterable, Iterator, List, NamedTuple, Op
 
 from hhm_client import (
     ACCEPTED, BANNER, MAX_DEPTH, MAX_PAGE, PAGE, PUT_CELLS, Accepted, Arrays, BookWentBack, Cell, Cells, Client, Link,
-    Page, Refused, RowSum, Status, Text, TopRow, bytes_of, bytes_of_arrays, cells_of, host_and_port, number_by, order_of,
-    paged, request,
+    Page, Refused, RowSum, Status, Text, TopRow, bytes_of, bytes_of_arrays, cells_of, number_by, order_of, paged,
+    request, where_of,
 )
 
 WAYS = ("source", "rows")
@@ -261,7 +261,8 @@ class Part(Client):
         self._judge_given_up()
         if self._link is None or self._link.process != os.getpid():
             address = self.server() if callable(self.server) else self.server
-            self.tcp, self.unix = (None, address) if "/" in address else (address, None)
+            where = where_of(address)
+            self.tcp, self.unix = where.get("tcp"), where.get("unix")
         return super()._linked()
 
     def _greet(self, link: Link) -> None:
@@ -386,9 +387,10 @@ class Several:
 class Cluster(Several):
     """Several servers as one, by a map that stays as it is.
 
-    `servers` are their addresses in order, "host:port" or the path of a Unix socket (with a slash), or functions that
-    give one and are asked for each connection. `generation` is the map's number, which belongs to these servers, to
-    this order and to this way for ever. `client` is the client's number, below 2^64 - 1, which no other program uses.
+    `servers` are their addresses in order, as `where_of` reads them ("tcp:host:port", "unix:path", "host:port" or a
+    path with a slash), or functions that give one and are asked for each connection. `generation` is the map's number,
+    which belongs to these servers, to this order and to this way for ever. `client` is the client's number, below
+    2^64 - 1, which no other program uses.
 
     `size`, the servers' numbers of rows and columns, has a cell beyond them found out before anything is sent; by rows
     give it, since a server that refuses its part leaves a half batch. `max_batches` is what the servers take
@@ -409,8 +411,8 @@ class Cluster(Several):
         if not servers or isinstance(servers, str):
             raise ValueError("give a list of servers")
         for server in servers:
-            if isinstance(server, str) and "/" not in server:
-                host_and_port(server)
+            if isinstance(server, str):
+                where_of(server)
         if not 0 <= client < MARKER or not 0 <= generation <= MARKER:
             raise ValueError("client is a number from 0 to 2^64 - 2, and generation one from 0 to 2^64 - 1")
         if not 0 <= reserve < max_batches:

@@ -3,11 +3,13 @@ beside it: `load` (hhm_load.py), `plot` (hhm_plot.py), `top`, `list` and `stats`
 `metrics` (hhm_metrics.py)."""
 import argparse
 import importlib
+import os
 import sys
 import threading
 from typing import Any, Iterable, Optional
 
-from hhm_client import MAX_BODY, Client, Ended, Refused, address, number
+import hhm_version
+from hhm_client import MAX_BODY, SILENCE, Client, Ended, Refused, address, exact_where_of, number
 
 # Of the command line: the seconds that it waits for an answer, and what it adds to refusals.
 TIMEOUT, SAVE_TIMEOUT = 60, 600
@@ -15,8 +17,14 @@ SPLIT = "put it as several batches, as the word load does with files of events"
 TOO_LONG = "the text has more than 64 MiB: save, and take the snapshot (`hhm export`, `hhmc --from`)"
 UNKNOWN = "this server doesn't know the question"
 ADVICE = {"TooManyEntries": f": {SPLIT}", "ReplyTooLarge": f": {TOO_LONG}", "UnknownKind": f": {UNKNOWN}"}
-# The words that ask for long, and so tell only that they wait for a connection.
+# The words that ask for long, and so don't say that they wait for an answer.
 LONG = ("load", "top", "list", "plot")
+# The variable with the server's address, and what the help says of it.
+SERVER = "HHM_SERVER"
+ENVIRONMENT = (
+    f"Where no address is given, that of the environment variable {SERVER} is used: unix:PATH or tcp:HOST:PORT, as "
+    f"{SERVER}=unix:/run/hhm/hhm.sock."
+)
 KEPT_RUNNING = ": nothing was stopped; `stop --discard` stops the server without what it can't save"
 
 
@@ -28,19 +36,46 @@ def module_of(name: str) -> Any:
         return None
 
 
+class Once(argparse.Action):
+    """An option that may be given once: of two values one would be passed over in silence."""
+
+    def __call__(self, words: Any, given: argparse.Namespace, value: Any, option: Any = None) -> None:
+        if getattr(given, self.dest) is not None:
+            words.error(f"argument {option}: given twice, and one is meant")
+        setattr(given, self.dest, value)
+
+
+class Version(argparse.Action):
+    """Prints what the package says of its proof, and whether the program in use has its sum."""
+
+    def __init__(self, **how: Any):
+        super().__init__(nargs=0, **how)
+
+    def __call__(self, words: argparse.ArgumentParser, *_: Any) -> None:
+        try:
+            text, status = hhm_version.version()
+        except OSError as fault:
+            words.exit(4, f"failed: {fault.filename}: {fault.strerror}\n")
+        print(text)
+        words.exit(status)
+
+
 def parser() -> argparse.ArgumentParser:
-    words = argparse.ArgumentParser(description="Asks a server of hhm. Rows and columns count from 0.")
-    where = words.add_mutually_exclusive_group(required=True)
-    where.add_argument("--tcp", type=address, metavar="HOST:PORT")
-    where.add_argument("--unix", metavar="PATH")
+    about = "Asks a server of hhm. Rows and columns count from 0."
+    words = argparse.ArgumentParser(prog="hhmc", description=about, epilog=ENVIRONMENT)
+    version = "prints the package's file BUILD: version and proof, and whether the program hhm in use has its sum"
+    words.add_argument("--version", action=Version, dest=argparse.SUPPRESS, help=version)
+    where = words.add_mutually_exclusive_group()
+    where.add_argument("--tcp", type=address, action=Once, metavar="HOST:PORT", help="the server's address")
+    where.add_argument("--unix", action=Once, metavar="PATH", help="the path of the server's Unix socket")
     source = "a snapshot or a Matrix Market text (- for standard input) in place of a server, for plot alone"
-    where.add_argument("--from", dest="source", metavar="FILE", help=source)
+    where.add_argument("--from", dest="source", action=Once, metavar="FILE", help=source)
     longer = f"{SAVE_TIMEOUT} for a save or a fold, which takes longer the more was accepted"
     timeout = f"for each answer ({TIMEOUT}; {longer})"
     words.add_argument("--timeout", type=float, metavar="SECONDS", help=timeout)
     attempts = "how often a request is sent (3, within a moment; of a load 14, for a minute, as a server takes to start)"
     words.add_argument("--attempts", type=int, metavar="N", help=attempts)
-    asked = words.add_subparsers(dest="word", required=True)
+    asked = words.add_subparsers(dest="word", required=True, title="commands", metavar="COMMAND")
     put = asked.add_parser("put", help="puts a Matrix Market text as a batch")
     put.add_argument("client", type=number)
     put.add_argument("number", type=number)
@@ -68,6 +103,22 @@ def parser() -> argparse.ArgumentParser:
     stop = asked.add_parser("stop", help="saves, where the server has a place for snapshots, and stops the server")
     stop.add_argument("--discard", action="store_true", help="stops it also where saving fails, without trying first")
     return words
+
+
+def given_words() -> argparse.Namespace:
+    """The words of the command line, with the address of the environment where they have none."""
+    words = parser()
+    given = words.parse_args()
+    if given.source is not None and given.word != "plot":
+        words.error(f"--from is for plot: give --tcp or --unix for {given.word}")
+    if given.tcp is None and given.unix is None and given.source is None:
+        if not os.environ.get(SERVER):
+            words.error(f"one of the arguments --tcp --unix --from is required, or {SERVER} in the environment")
+        try:
+            vars(given).update(exact_where_of(os.environ[SERVER]))
+        except ValueError as fault:
+            words.error(f"{SERVER}: {fault}")
+    return given
 
 
 def text_to_put(path: Optional[str]) -> bytes:
@@ -119,7 +170,8 @@ def answer(hhm: Client, given: argparse.Namespace, text: bytes) -> bytes:
 
 
 def asked(given: argparse.Namespace) -> Iterable[bytes]:
-    """Asks, gives what is to be printed, piece by piece, and tells after two seconds that it waits for an answer."""
+    """Asks, and gives what is to be printed, piece by piece. With a connection it says after two seconds that it waits
+    for an answer; without one the client says so itself."""
     if given.source is not None:
         yield module_of("hhm_plot").plot(None, given).encode()
         return
@@ -135,10 +187,10 @@ def asked(given: argparse.Namespace) -> Iterable[bytes]:
     hhm = Client(tcp=given.tcp, unix=given.unix, client=client, **limits)
 
     def tell() -> None:
-        if given.word not in LONG or hhm._link is None:
+        if given.word not in LONG and hhm._link is not None:
             print(f"waiting for the server at {place}", file=sys.stderr, flush=True)
 
-    waits = threading.Timer(2, tell)
+    waits = threading.Timer(SILENCE, tell)
     waits.daemon = True
     waits.start()
     try:
@@ -154,10 +206,7 @@ def asked(given: argparse.Namespace) -> Iterable[bytes]:
 def main() -> int:
     """The command line. 0; 1 where the server refused; 2 for bad words; 3 for lines that are no events and files that are
     no sum; 4 where it can't be reached or a file read."""
-    words = parser()
-    given = words.parse_args()
-    if given.source is not None and given.word != "plot":
-        words.error(f"--from is for plot: give --tcp or --unix for {given.word}")
+    given = given_words()
     try:
         for piece in asked(given):
             sys.stdout.buffer.write(piece)

@@ -29,7 +29,7 @@ from typing import Any, Dict, Iterable, Iterator, List, Set, Tuple
 
 sys.path.insert(0, os.path.dirname(os.path.abspath(__file__)))
 from hhm_client import (  # noqa: E402
-    MAX_DEPTH, PUT_CELLS, Accepted, BookWentBack, Cells, Client, Refused, put_cells_frame, request,
+    MAX_DEPTH, PUT_CELLS, Accepted, BookWentBack, Cells, Client, Refused, put_cells_frame, request, where_of,
 )
 from hhm_cluster import Half, Outcome, Part, Place, Several  # noqa: E402
 from hhm_snapshot import Batch, Snapshot, read_snapshot  # noqa: E402
@@ -145,8 +145,8 @@ def put_batches(hhm: Client, batches: List[Batch]) -> List[str]:
 
 
 def client_of(place: str, client: int = 0) -> Client:
-    """The client of a server at HOST:PORT, or at the path of a Unix socket."""
-    return Client(unix=place, client=client) if "/" in place else Client(tcp=place, client=client)
+    """The client of a server at an address of `where_of`."""
+    return Client(**where_of(place), client=client)
 
 
 def checked(program: str, path: str) -> Snapshot:

@@ -159,18 +159,29 @@ pub struct Cluster {
     has_met: bool,
 }
 
+/// A client of the server at an address of `Cluster::new`.
+fn opened(address: &str, client: u64) -> Client {
+    if let Some(path) = address.strip_prefix("unix:") {
+        let is_path = path.bytes().any(|it| !it.is_ascii_digit());
+        assert!(is_path, "{address} may be a path or a host: write unix:./{path} or tcp:{address}");
+        return Client::unix(path, client);
+    }
+    match address.strip_prefix("tcp:") {
+        Some(rest) => Client::tcp(rest, client),
+        None if address.contains('/') => Client::unix(address, client),
+        None => Client::tcp(address, client),
+    }
+}
+
 impl Cluster {
-    /// A cluster of servers, each `host:port` or the path of a Unix socket (with a slash), in their order. No other
-    /// program puts under the client's number, which is below 2^64 - 1. `generation` belongs to these servers, to this
-    /// order and to this way for ever. Panics where no server is given, or the client's number is that of markers.
+    /// A cluster of servers in their order, each `tcp:HOST:PORT`, `unix:PATH`, `HOST:PORT` or a path with a slash. No
+    /// other program puts under the client's number, which is below 2^64 - 1. `generation` belongs to these servers, to
+    /// this order and to this way for ever. Panics where no server is given, the client's number is that of markers, or
+    /// an address may be a path or a host, as `unix:7000`.
     pub fn new(servers: &[&str], client: u64, generation: u64, way: Way) -> Cluster {
         assert!(!servers.is_empty() && client < u64::MAX);
         let made = servers.iter().enumerate().map(|(place, address)| {
-            let made = match address.contains('/') {
-                true => Client::unix(*address, client),
-                false => Client::tcp(*address, client),
-            };
-            made.with_marker(marker_of(generation, way, servers.len(), place))
+            opened(address, client).with_marker(marker_of(generation, way, servers.len(), place))
         });
         Cluster {
             servers: made.collect(),

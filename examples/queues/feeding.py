@@ -16,7 +16,7 @@ from typing import Any, Iterable, List, NamedTuple
 
 HERE = os.path.dirname(os.path.abspath(__file__))
 sys.path.insert(0, os.environ.get("HHM_CLIENTS", os.path.join(HERE, "..", "..", "clients", "python")))
-from hhm_client import Client, bytes_of  # noqa: E402
+from hhm_client import Client, bytes_of, where_of  # noqa: E402
 
 
 class Message(NamedTuple):
@@ -35,9 +35,8 @@ class Feeding:
     """Puts messages to a server. `keep` is for one without a log: the bytes that are kept until a save."""
 
     def __init__(self, address: str, logged: bool, keep: int = 1 << 26, **how: Any):
-        where = {"unix": address} if "/" in address else {"tcp": address}
         self.logged = logged
-        self.hhm = Client(**where, keep=None if logged else keep, **how)
+        self.hhm = Client(**where_of(address), keep=None if logged else keep, **how)
 
     def put(self, messages: List[Message]) -> List[Any]:
         """Puts a group, and gives the tokens of all of it once it is durable. A refusal is a fault of the producer, and
