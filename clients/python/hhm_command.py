@@ -3,6 +3,8 @@ beside it: `load` (hhm_load.py), `plot` (hhm_plot.py), `top`, `list` and `stats`
 `metrics` (hhm_metrics.py)."""
 import argparse
 import importlib
+import os
+import signal
 import sys
 import threading
 from typing import Any, Iterable, Optional
@@ -151,6 +153,16 @@ def asked(given: argparse.Namespace) -> Iterable[bytes]:
         waits.cancel()
 
 
+def show(piece: bytes) -> None:
+    """Writes on standard output. Where its reader has gone, as `head` does, SIGPIPE ends the program."""
+    try:
+        sys.stdout.buffer.write(piece)
+        sys.stdout.buffer.flush()
+    except BrokenPipeError:
+        signal.signal(signal.SIGPIPE, signal.SIG_DFL)
+        os.kill(os.getpid(), signal.SIGPIPE)
+
+
 def main() -> int:
     """The command line. 0; 1 where the server refused; 2 for bad words; 3 for lines that are no events and files that are
     no sum; 4 where it can't be reached or a file read."""
@@ -160,8 +172,7 @@ def main() -> int:
         words.error(f"--from is for plot: give --tcp or --unix for {given.word}")
     try:
         for piece in asked(given):
-            sys.stdout.buffer.write(piece)
-            sys.stdout.buffer.flush()
+            show(piece)
     except Ended as ended:
         print(ended, file=sys.stderr)
         return ended.status
