@@ -282,6 +282,51 @@ def ctrl_c_says_how_to_go_on():
         check("Ctrl-C: the sum", sum_of(at), added(cells))
 
 
+def several_values_go_to_servers():
+    """One pass over a file puts packets to one server and bytes to another; a question finds the server of a value."""
+    table = [(row, col, row + 1, 1000 * row + col) for row in range(50) for col in range(7)]
+    lines = [f"0.0.0.{row},0.0.1.{col},{packets},{size}\n" for row, col, packets, size in table]
+    file = written("both.csv", "src,dst,packets,bytes\n" + "".join(lines))
+    other = path_of("other.sock")
+    with Server(LARGE, tcp=False) as at:
+        os.rename(at.path, other)
+        with Server(LARGE, tcp=False) as of_bytes:
+            values = ["--value", f"packets=unix:{other}", "--value", f"bytes=unix:{of_bytes.path}"]
+            given = [*values, "--batch", 100, 620, file]
+            told = f"{file}: row src, column dst, count packets and bytes\n"
+            check("values", hhmc("load", *given), ("new 4 repeats 0 events 350\n", told, 0))
+            check("values again", hhmc("load", *given), ("new 0 repeats 4 events 350\n", told, 0))
+            with Client(unix=other) as hhm:
+                check("packets", hhm.status(), (4, sum(it[2] for it in table)))
+                check("packets of a cell", hhm.cell(49, 256 + 3), 50)
+            with Client(unix=of_bytes.path) as hhm:
+                check("bytes", hhm.status(), (4, sum(it[3] for it in table)))
+                check("bytes of a cell", hhm.cell(49, 256 + 3), 49003)
+            check("top by bytes", hhmc("top", "rows", 1, "--value", "bytes"), ("49 7 343021\n", "", 0))
+            check("top by packets", hhmc("top", "rows", 1, "--value", "packets"), ("49 7 350\n", "", 0))
+            one = [*values[2:], *values[:2], "--batch", 100, 620, file]
+            check("values in another order", hhmc("load", *one)[2], 2)
+            for words in [
+                ["top", "rows", "--value", "flows"], ["load", "--value", "a", "--value", "b", 1, file],
+                ["load", "--value", "packets=x:y", 1, file], ["--unix", other, "load", *given],
+                ["--unix", other, "top", "rows", "--value", "bytes"],
+            ]:
+                check(f"wrong values {words[:4]}", hhmc(*words)[::2], ("", 2))
+            of_bytes.process.kill()
+            of_bytes.process.wait()
+            output, error, status = hhmc("--attempts", 1, "load", *values, "--batch", 100, 621, file)
+            check("a server of two is gone", (output, status), ("", 4))
+        os.rename(other, at.path)
+
+
+def hhmc(*given):
+    """What hhmc writes to both outputs, and its status."""
+    environment = {**os.environ, "XDG_STATE_HOME": path_of("state")}
+    ended = subprocess.run([sys.executable, HHMC, *map(str, given)], capture_output=True, text=True, timeout=WAIT,
+                           env=environment)
+    return ended.stdout, ended.stderr, ended.returncode
+
+
 def killed_and_begun_again(by_names):
     """A load that is killed ten times, and begun again with the same words, counts each event once."""
     lines, cells = flows(5, 200_000)
@@ -368,6 +413,7 @@ def all_are_tried():
     names_keep_their_numbers()
     a_refused_load_writes_no_names()
     ctrl_c_says_how_to_go_on()
+    several_values_go_to_servers()
     killed_and_begun_again(False)
     killed_and_begun_again(True)
     a_server_that_went_back()

@@ -17,8 +17,10 @@ SPLIT = "put it as several batches, as the word load does with files of events"
 TOO_LONG = "the text has more than 64 MiB: save, and take the snapshot (`hhm export`, `hhmc --from`)"
 UNKNOWN = "this server doesn't know the question"
 ADVICE = {"TooManyEntries": f": {SPLIT}", "ReplyTooLarge": f": {TOO_LONG}", "UnknownKind": f": {UNKNOWN}"}
+STATUSES = ("Statuses: 0; 1 where the server refused; 2 for wrong words; 3 for lines that are no events and files that "
+            "are no sum; 4 where the server can't be reached, or a file can't be read; 130 after Ctrl-C.")
 # The words that ask for long, and so tell only that they wait for a connection.
-LONG = ("load", "top", "list", "plot")
+LONG = ("load", "top", "list", "range", "degrees", "row", "export", "plot")
 KEPT_RUNNING = ": nothing was stopped; `stop --discard` stops the server without what it can't save"
 
 
@@ -32,7 +34,7 @@ def module_of(name: str) -> Any:
 
 def parser() -> argparse.ArgumentParser:
     words = argparse.ArgumentParser(description="Asks a server of hhm. Rows and columns count from 0.")
-    where = words.add_mutually_exclusive_group(required=True)
+    where = words.add_mutually_exclusive_group()
     where.add_argument("--tcp", type=address, metavar="HOST:PORT")
     where.add_argument("--unix", metavar="PATH")
     source = "a snapshot or a Matrix Market text (- for standard input) in place of a server, for plot alone"
@@ -57,19 +59,20 @@ def parser() -> argparse.ArgumentParser:
         module.add_words(asked.add_parser("watch", help="shows on a terminal what the server does"))
     if module := module_of("hhm_metrics"):
         module.add_words(asked.add_parser("metrics", help="tells it to Prometheus, and on a page for a browser"))
-    cell = asked.add_parser("cell", help="the count of a cell, or the line `none`")
-    cell.add_argument("row", type=number)
-    cell.add_argument("col", type=number)
-    row = asked.add_parser("row", help="a row's number of cells, and their sum")
-    row.add_argument("row", type=number)
-    asked.add_parser("status", help="the number of accepted batches, and their total")
-    asked.add_parser("stored", help="the number of durable batches, which no crash takes back, and their total")
-    asked.add_parser("export", help="writes the sum as a Matrix Market text")
+    export = asked.add_parser("export", help="writes the sum as a Matrix Market text, or in a format of other tools")
+    if module := module_of("hhm_export"):
+        module.add_words(export)
     asked.add_parser("save", help="saves a snapshot")
     asked.add_parser("fold", help="folds what was accepted, so that the server needs less memory for it")
+    add_stop(asked)
+    for word in (words, *asked.choices.values()):
+        word.epilog = STATUSES
+    return words
+
+
+def add_stop(asked: argparse._SubParsersAction) -> None:
     stop = asked.add_parser("stop", help="saves, where the server has a place for snapshots, and stops the server")
     stop.add_argument("--discard", action="store_true", help="stops it also where saving fails, without trying first")
-    return words
 
 
 def text_to_put(path: Optional[str]) -> bytes:
@@ -101,17 +104,8 @@ def answer(hhm: Client, given: argparse.Namespace, text: bytes) -> bytes:
         return module_of("hhm_plot").plot(hhm, given).encode()
     if given.word == "put":
         return b"index %d total_after %d\n" % hhm.put_text(given.number, text)
-    if given.word == "cell":
-        count = hhm.cell(given.row, given.col)
-        return b"none\n" if count is None else b"%d\n" % count
-    if given.word == "row":
-        return b"entries %d total %d\n" % hhm.row(given.row)
-    if given.word == "status":
-        return b"batches %d total %d\n" % hhm.status()
-    if given.word == "stored":
-        return b"batches %d total %d\n" % hhm.stored()
     if given.word == "export":
-        return hhm.export()
+        return b"".join(module_of("hhm_export").export(hhm, given))
     if given.word == "save":
         return b"saved %d\n" % hhm.save()
     if given.word == "fold":
@@ -127,6 +121,10 @@ def asked(given: argparse.Namespace) -> Iterable[bytes]:
         return
     if given.word in ("watch", "metrics"):
         yield from module_of(f"hhm_{given.word}").run(given)
+        return
+    if getattr(given, "snapshot", None) is not None:
+        answers = module_of("hhm_export").export if given.word == "export" else module_of("hhm_ask").ANSWERS[given.word]
+        yield from answers(None, given)
         return
     text = text_to_put(given.file) if given.word == "put" else b""
     place = given.unix if given.tcp is None else given.tcp
@@ -168,6 +166,11 @@ def main() -> int:
     no sum; 4 where it can't be reached or a file read."""
     words = parser()
     given = words.parse_args()
+    if getattr(given, "value", None):
+        module_of("hhm_values").choose(given, words.error)
+    places = given.tcp, given.unix, given.source, getattr(given, "snapshot", None)
+    if all(place is None for place in places):
+        words.error("one of the arguments --tcp --unix --from is required")
     if given.source is not None and given.word != "plot":
         words.error(f"--from is for plot: give --tcp or --unix for {given.word}")
     try:

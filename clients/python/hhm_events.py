@@ -18,7 +18,9 @@ from collections import Counter
 from decimal import Decimal, InvalidOperation
 from operator import methodcaller
 from time import monotonic
-from typing import Any, Callable, Dict, Iterable, Iterator, List, NamedTuple, Optional, Sequence, Set, TextIO, Tuple
+from typing import (
+    Any, Callable, Collection, Dict, Iterable, Iterator, List, NamedTuple, Optional, Sequence, Set, TextIO, Tuple,
+)
 
 from hhm_client import Arrays, Ended
 from hhm_heads import (
@@ -128,15 +130,18 @@ def whole_numbers(words: Sequence[str], bad: Set[int]) -> List[int]:
 
 
 def odd_numbers(words: Sequence[str], bad: Set[int]) -> List[int]:
-    """The same where some words aren't digits alone, or are too large."""
-    found = []
-    for place, word in enumerate(words):
+    """The same where some words aren't digits alone, or are too large. `.0` behind digits is cut off at once."""
+    digits = [word[:-2] if word[-2:] == ".0" else word for word in words]
+    odd = [place for place, word in enumerate(digits) if not (word.isdigit() and word.isascii() and len(word) < 20)]
+    for place in odd:
+        digits[place] = "0"
+    numbers = list(map(int, digits))
+    for place in odd:
         try:
-            found.append(int(word) if word.isdigit() and word.isascii() and len(word) < 20 else whole_of(word))
+            numbers[place] = whole_of(words[place])
         except NoEvent:
-            found.append(0)
             bad.add(place)
-    return found
+    return numbers
 
 
 def places_from_one(words: Sequence[str], bad: Set[int]) -> List[int]:
@@ -153,34 +158,26 @@ class Addresses:
         self.table = table
 
     def numbers(self, words: Sequence[str], bad: Set[int]) -> List[int]:
-        try:
-            packed = b"".join(map(socket.inet_pton, itertools.repeat(socket.AF_INET), words))
-        except OSError:
-            return self.odd_addresses(words, bad)
-        return list(struct.unpack(f">{len(words)}I", packed))
-
-    def odd_addresses(self, words: Sequence[str], bad: Set[int]) -> List[int]:
-        """The same where some aren't plain ones of IPv4. The iterator goes on after a word that it refused."""
+        """Those of IPv4 at once. A word that is none is read by itself, and the iterator goes on after it."""
         packed: List[bytes] = []
-        odd: Dict[int, int] = {}
+        odd: List[int] = []
         rest = map(socket.inet_pton, itertools.repeat(socket.AF_INET), words)
         while len(packed) < len(words):
             try:
-                for address in rest:
-                    packed.append(address)
+                packed.extend(rest)
+                break
             except OSError:
-                self.read_odd(words[len(packed)], len(packed), odd, bad)
+                # (a list keeps what it was extended by before a fault)
+                odd.append(len(packed))
                 packed.append(NO_ADDRESS)
+        # (another number of addresses than of words is a struct.error)
         numbers = list(struct.unpack(f">{len(words)}I", b"".join(packed)))
-        for place, number in odd.items():
-            numbers[place] = number
+        for place in odd:
+            try:
+                numbers[place] = self.number_of(words[place])
+            except NoEvent:
+                bad.add(place)
         return numbers
-
-    def read_odd(self, word: str, place: int, odd: Dict[int, int], bad: Set[int]) -> None:
-        try:
-            odd[place] = self.number_of(word)
-        except NoEvent:
-            bad.add(place)
 
     def number_of(self, word: str) -> int:
         """The number of an address between spaces. A NoEvent for another word; an Ended where it needs a table."""
@@ -322,16 +319,15 @@ class Shape(NamedTuple):
     def width_of(self, line: str) -> int:
         return len(line.split(self.separator))
 
-    def fitting(self, lines: List[str], width: int) -> Optional[List[int]]:
-        """The places of the plain lines that have so many words; None where all have."""
+    def unfit(self, lines: List[str], width: int) -> List[int]:
+        """The places of the plain lines that have another number of words."""
         if self.separator is None:
             widths = list(map(len, map(str.split, lines)))
         else:
             widths, width = list(map(methodcaller("count", self.separator), lines)), width - 1
-        if set(widths) == {width} and width:
-            return None
-        fitting = [place for place, found in enumerate(widths) if found == width]
-        return fitting if width else [place for place in fitting if lines[place].rstrip("\r\n")]
+        others = set(widths) - {width}
+        unfit = sorted(place for other in others for place in places_of(widths, other))
+        return unfit if width else [place for place, line in enumerate(lines) if widths[place] or not line.strip("\r\n")]
 
     def columns(self, text: str, width: int, places: Sequence[int]) -> List[List[str]]:
         """The words at some places of each of some plain lines, which have so many words."""
@@ -458,12 +454,12 @@ class Events:
         if not lines:
             return None
         width = self.width_of(map(self.shape.width_of, lines))
-        fitting = self.shape.fitting(lines, width)
-        if fitting is not None:
-            text = "".join([lines[place] for place in fitting]).replace("\r\n", "\n")
+        unfit = self.shape.unfit(lines, width)
+        if unfit:
+            text = "".join(without(unfit, [lines])[0]).replace("\r\n", "\n")
         columns = self.shape.columns(text, width, self.columns.places())
         piece = Piece(lambda place: self.shape.row_of(lines[place]), range(first, first + len(lines)))
-        return self.sifted(number, piece, columns, fitting)
+        return self.sifted(number, piece, columns, unfit)
 
     def next_rows(self, number: int, most: int) -> Optional[Batch]:
         """The same where a row may be on several lines."""
@@ -472,9 +468,10 @@ class Events:
             return None
         numbers, rows = zip(*numbered)
         width = self.width_of(map(len, rows))
-        fitting = [place for place, row in enumerate(rows) if len(row) == width]
-        columns = [[rows[it][place] for it in fitting] for place in self.columns.places()]
-        return self.sifted(number, Piece(rows.__getitem__, numbers), columns, fitting)
+        unfit = [place for place, row in enumerate(rows) if len(row) != width]
+        fitting = [row for row in rows if len(row) == width]
+        columns = [[row[place] for row in fitting] for place in self.columns.places()]
+        return self.sifted(number, Piece(rows.__getitem__, numbers), columns, unfit)
 
     def width_of(self, widths: Iterable[int]) -> int:
         """How many words an event has: as many as the head, or as the first line that has the columns."""
@@ -483,31 +480,37 @@ class Events:
     def fits(self, width: int) -> bool:
         return max(self.columns.places()) < width
 
-    def sifted(self, number: int, piece: Piece, columns: List[List[str]], fitting: Optional[List[int]]) -> Batch:
-        """The events of a piece, of which the words of those that are as wide as they should be are given. All others
-        are judged one by one."""
-        size = len(piece.numbers)
-        places: Sequence[int] = range(size) if fitting is None else fitting
-        places, parts = self.read(places, columns)
-        if len(places) < size:
-            places, parts = self.with_others(piece, places, parts)
+    def sifted(self, number: int, piece: Piece, columns: List[List[str]], unfit: List[int]) -> Batch:
+        """The events of a piece, given the words of the lines that are as wide as they should be. All other lines, and
+        those of words that mean nothing, are judged one by one."""
+        size, lines = len(piece.numbers), piece.numbers
+        bad, parts = self.read(columns)
+        others = unfit
+        if bad:
+            [places] = without(unfit, [range(size)])
+            others = sorted([*unfit, *(places[place] for place in bad)])
+        if others:
+            [lines] = without(others, [piece.numbers])
+            if found := self.with_others(piece, others):
+                lines, *parts = map(list, zip(*sorted([*zip(lines, *parts), *found])))
         else:
             self.tally.lines += size
             self.found += size
-        lines = piece.numbers if len(places) == size else [piece.numbers[place] for place in places]
         return Batch(number, self.source.path, [array.array("Q", part) for part in parts], lines)
 
-    def read(self, places: Sequence[int], columns: List[List[str]]) -> Tuple[Sequence[int], List[List[int]]]:
-        """The rows, columns and counts of lines that are events, and the places of these. Counts are read first, so
-        that no name gets a number by a line without a count."""
+    def read(self, columns: List[List[str]]) -> Tuple[Set[int], List[List[int]]]:
+        """The rows, columns and counts of the lines that are events, and the places of those that aren't. Counts are
+        read first, so that no name gets a number by a line without a count."""
+        without_count: Set[int] = set()
+        counts = [self.counts(words, without_count) for words in columns[2:]] or [[1] * len(columns[0])]
+        row, col = without(without_count, columns[:2])
         bad: Set[int] = set()
-        counts = [self.counts(words, bad) for words in columns[2:]]
-        places, row, col, *counts = without(bad, [places, *columns[:2], *counts])
-        bad = set()
         parts = [self.numbers(words, bad) for words in (row, col)]
-        counts = counts or [[1] * len(places)]
-        places, *parts = without(bad, [places, *parts, *counts])
-        return places, parts
+        counts = without(without_count, counts)
+        if bad and without_count:
+            [places] = without(without_count, [range(len(columns[0]))])
+            return without_count.union(places[place] for place in bad), without(bad, [*parts, *counts])
+        return bad or without_count, without(bad, [*parts, *counts])
 
     def counts(self, words: List[str], bad: Set[int]) -> List[int]:
         """The numbers of counts; one that a log of Zeek doesn't have is 0."""
@@ -515,24 +518,21 @@ class Events:
             words = ["0" if word == UNSET else word for word in words]
         return whole_numbers(words, bad)
 
-    def with_others(self, piece: Piece, places: Sequence[int], parts: List[List[int]]) -> Tuple[
-            Sequence[int], List[List[int]]]:
-        """The same with the lines that are judged one by one, of which some may be events."""
+    def with_others(self, piece: Piece, others: List[int]) -> List[Tuple[int, ...]]:
+        """The lines that are judged one by one and are events: the number of each, its row, column and counts."""
         found: List[Tuple[int, ...]] = []
         before, skipped, size = self.tally.lines, 0, len(piece.numbers)
-        for place in sorted(set(range(size)).difference(places)):
+        for place in others:
             words = piece.rows(place)
             if not words or self.is_no_line(words):
                 skipped += 1
                 continue
             self.tally.lines = before + place + 1 - skipped
             if event := self.judged(words, piece.numbers[place]):
-                found.append((place, *event))
+                found.append((piece.numbers[place], *event))
         self.tally.lines = before + size - skipped
         self.found += size - skipped
-        if found:
-            places, *parts = map(list, zip(*sorted([*zip(places, *parts), *found])))
-        return places, parts
+        return found
 
     def is_no_line(self, words: List[str]) -> bool:
         """Whether these are words that a tool writes between its events. An Ended where they change the columns."""
@@ -576,12 +576,21 @@ def is_summary(words: List[str], head: List[str]) -> bool:
     return words == head or words[0] in ("Summary", "No matched flows") or words[:2] == ["flows", "bytes"] or is_numbers
 
 
-def without(bad: Set[int], lists: List[Sequence[Any]]) -> List[Sequence[Any]]:
+def places_of(values: List[int], wanted: int) -> Iterator[int]:
+    """The places of a number."""
+    place = -1
+    with contextlib.suppress(ValueError):
+        while True:
+            place = values.index(wanted, place + 1)
+            yield place
+
+
+def without(places: Collection[int], lists: Sequence[Sequence[Any]]) -> List[Sequence[Any]]:
     """Some lists without what is at these places."""
-    if not bad:
-        return lists
+    if not places:
+        return list(lists)
     kept = bytearray(b"\1") * len(lists[0])
-    for place in bad:
+    for place in places:
         kept[place] = 0
     return [list(itertools.compress(values, kept)) for values in lists]
 

@@ -19,16 +19,18 @@ import contextlib
 import csv
 import fcntl
 import hashlib
+import itertools
 import json
 import os
 import re
 import sys
 from time import monotonic
-from typing import Any, Callable, Dict, Iterator, List, NamedTuple, Optional, Sequence, Tuple
+from typing import Any, Callable, Dict, Iterator, List, NamedTuple, Optional, Sequence
 
-from hhm_client import MAX_CELLS, Accepted, Arrays, BookWentBack, Client, Ended, Refused
+from hhm_client import MAX_CELLS, BookWentBack, Client, Ended, Refused
 from hhm_events import FORMATS, OF_ADDRESSES, Batch, Events, Limit, Source, Tally, format_of
 from hhm_heads import DIGITS, Wanted
+from hhm_values import Value, folder_of_states, note
 
 MAPS = ("ip", "int", "name")
 # How lines are judged, as the state of a load notes it: another number where other lines would be events.
@@ -189,8 +191,7 @@ def first_batch(path: str) -> bytes:
 
 def usual_state(client: int) -> str:
     """Where the state of a client stands that isn't told a place."""
-    home = os.environ.get("XDG_STATE_HOME") or os.path.join(os.path.expanduser("~"), ".local", "state")
-    return os.path.join(home, "hhm", f"client-{client}.batches")
+    return os.path.join(folder_of_states(), f"client-{client}.batches")
 
 
 class Progress:
@@ -248,9 +249,11 @@ class Options(NamedTuple):
 class Load:
     """One load: it reads the files, and puts their events."""
 
-    def __init__(self, hhm: Client, options: Options):
-        self.hhm, self.options = hhm, options
-        self.state = State(options.state or usual_state(hhm.client), hhm.client)
+    def __init__(self, servers: List[Client], options: Options):
+        # One server for each value, and where it is where there are several.
+        self.servers, self.options, self.place = servers, options, ""
+        client = servers[0].client
+        self.state = State(options.state or usual_state(client), client)
         self.table: Optional[Table] = None
         self.progress = Progress(options.progress)
         self.begin()
@@ -305,7 +308,7 @@ class Load:
             self.say(f"{batch.path}: its first {len(batch.lines)} events were loaded as client {client} too: where "
                      "that was into this server, they count twice")
 
-    def batches(self) -> Iterator[Tuple[int, Arrays]]:
+    def batches(self) -> Iterator[Batch]:
         """The batches of all files, each noted before it is handed on."""
         number = 0
         for path in self.options.files:
@@ -316,23 +319,38 @@ class Load:
                     self.way.append(batch)
                     self.last = batch
                     number += 1
-                    yield batch.number, batch.cells()
+                    yield batch
                     self.progress.tell(self.events, events.source)
                 events.judge_end()
         self.tally.judge(at_end=True)
 
-    def count(self, accepted: Accepted, had: int) -> None:
-        """Counts a reply. A place that the book had before this load is that of a repeat."""
+    def count(self, indexes: Sequence[int], had: Sequence[int]) -> None:
+        """Counts a batch by its places at all servers. Those that the books had before this load are of a repeat."""
         self.events += len(self.way.pop(0).lines)
-        if accepted.index < had:
+        if all(index < before for index, before in zip(indexes, had)):
             self.repeats += 1
         else:
             self.new += 1
 
+    def puts(self, value: int, batches: Iterator[Batch]) -> Iterator[int]:
+        """Puts a value of batches to its server, and gives their places there."""
+        hhm = self.servers[value]
+        try:
+            for _, accepted in hhm.put_all((batch.number, batch.cells(value)) for batch in batches):
+                yield accepted.index
+        except (Refused, OSError):
+            self.place = f"{hhm.unix or hhm.tcp}: " if len(self.servers) > 1 else ""
+            raise
+
     def put_all(self) -> None:
-        had = self.hhm.status().batches
-        for _, accepted in self.hhm.put_all(self.batches()):
-            self.count(accepted, had)
+        """Reads the files once, and puts each value to its server."""
+        had = [hhm.status().batches for hhm in self.servers]
+        batches = itertools.tee(self.batches(), len(self.servers))
+        with contextlib.ExitStack() as puts:
+            ways = [puts.enter_context(contextlib.closing(self.puts(value, batches[value])))
+                    for value in range(len(self.servers))]
+            for indexes in zip(*ways):
+                self.count(indexes, had)
 
     def run(self) -> str:
         """Loads all, and gives the last line. A server that went back is loaded again from the start, if that can be."""
@@ -355,10 +373,13 @@ class Load:
         except KeyboardInterrupt:
             raise self.interrupted() from None
         except (OSError, EOFError) as fault:
-            raise Ended(4, f"failed: {fault}: what was put counts; load again with the same words") from None
+            told = f"failed: {self.place}{fault}: what was put counts; load again with the same words"
+            raise Ended(4, told) from None
         finally:
             self.progress.clear()
             self.state.close()
+            for hhm in self.servers:
+                hhm.close()
             if self.table is not None:
                 self.table.close()
 
@@ -373,14 +394,14 @@ class Load:
     def refusal(self, refused: Refused) -> Ended:
         """What is said of a batch that the server refused."""
         if not self.way:
-            return Ended(1, f"refused: {refused}")
+            return Ended(1, f"{self.place}refused: {refused}")
         batch = self.way[0]
         where, advice = "", ""
         if refused.name == "IndexOutOfRange":
             where = f"{batch.path}: line {batch.lines[refused.detail]}: "
             numbers = [part[refused.detail] for part in batch.parts[:2]]
             advice = SIX if self.table is not None and self.table.first == IPV4 <= max(numbers) else ""
-        return Ended(1, f"{where}batch {batch.number}: refused: {refused}{advice}")
+        return Ended(1, f"{where}{self.place}batch {batch.number}: refused: {refused}{advice}")
 
     def interrupted(self) -> Ended:
         """What is said after Ctrl-C."""
@@ -424,8 +445,9 @@ def add_words(load: argparse.ArgumentParser) -> None:
     cols = ("the columns of row, column and count, by names in the head, or by places from 1 where there is no head "
             "(heads of the usual flow tools are known)")
     load.add_argument("--cols", metavar="ROW,COLUMN[,COUNT]", help=cols)
-    value = "what is counted: packets, bytes or flows by the names that flow tools give them, or a column's own name"
-    load.add_argument("--value", metavar="NAME", help=value)
+    value = ("what is counted: packets, bytes or flows by the names that flow tools give them, or a column's own name; "
+             "several times with a server each, as packets=unix:a.sock")
+    load.add_argument("--value", type=judged(Value.of), action="append", metavar="NAME[=SERVER]", help=value)
     load.add_argument("--map", choices=MAPS, help="what rows and columns are (ip in csv and tsv, else int)")
     load.add_argument("--names", metavar="FILE", help="the table that gives names, and IPv6 addresses, their numbers")
     load.add_argument("--batch", type=judged(batch_size), default=10_000, metavar="N", help="events of a batch (10000)")
@@ -440,6 +462,12 @@ def add_words(load: argparse.ArgumentParser) -> None:
 def load(hhm: Client, given: argparse.Namespace) -> str:
     """Does what the word `load` asks, and gives the line that is to be printed. An Ended where it can't."""
     limit = Limit(0.0, 0) if given.strict else given.skip_at_most
-    wanted = Wanted(given.cols, (given.value,) if given.value else ())
-    return Load(hhm, Options(given.file, given.format, wanted, given.map, given.names, given.state, given.batch, limit,
-                             given.progress)).run()
+    values = given.value or []
+    wanted = Wanted(given.cols, tuple(value.name for value in values))
+    others = [Client(tcp=value.tcp, unix=value.unix, client=hhm.client, timeout=hhm.timeout, attempts=hhm.attempts)
+              for value in values[1:]]
+    if others:
+        note(values)
+    options = Options(given.file, given.format, wanted, given.map, given.names, given.state, given.batch, limit,
+                      given.progress)
+    return Load([hhm, *others], options).run()

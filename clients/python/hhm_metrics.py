@@ -22,6 +22,7 @@ from urllib.parse import parse_qs, urlsplit
 from hhm_client import Refused, TopRow
 from hhm_figures import LABELLED, Degrees, Moment, Watched, asking
 from hhm_page import PAGE
+from hhm_words import Words, add_options
 from hhm_watch import (
     BACK, CELLS, DURABLE, FAILED, GROUP, MEMORY, OPEN, PAGES, PROCESSOR, RECEIVED, REPEATS, ROOM, SAVED, SAVES, SENT,
     SERVED, SINCE, SYNCS, UPTIME, WAITING, WORKERS, words_of, lacking, refusals_of, refused_of, seconds,
@@ -125,13 +126,13 @@ def series_of(moments: List[Moment], since: float, gap: float) -> Dict[str, List
     return found
 
 
-def page_stats(looker: Looker, since: float, is_ip: bool) -> Dict[str, Any]:
+def page_stats(looker: Looker, since: float, words: Words) -> Dict[str, Any]:
     """What the page draws."""
     looker.viewed = time.monotonic()
     moments, seen = looker.seen.moments, looker.seen
     last = moments[-1] if moments else None
     told: Dict[str, Any] = {
-        "place": seen.place, "now": time.time(), "is_ip": is_ip, "fault": looker.fault,
+        "place": seen.place, "now": time.time(), "is_ip": words.is_ip, "fault": looker.fault,
         "answered": last.at if last else None, "series": series_of(moments, since, GAP * looker.every),
         "lacking": [it.partition(":")[0] for it in lacking(seen)],
     }
@@ -149,6 +150,7 @@ def page_stats(looker: Looker, since: float, is_ip: bool) -> Dict[str, Any]:
         "rates": {name: seen.rate(read, BACK) for name, read in rates.items()},
         "layers": [list(it) for it in last.layers()],
         "top": None if looker.top is None else [[whole(number) for number in it] for it in looker.top],
+        "names": [words.name(it.row) for it in looker.top or []],
         "degrees": None if degrees is None else {"at": degrees[0], **degrees[1]._asdict()},
         "stats": [[name, str(value)] for name, value in last.stats.items()],
     })
@@ -185,7 +187,7 @@ class Handler(BaseHTTPRequestHandler):
     """Answers a browser, or Prometheus."""
 
     looker: Looker
-    is_ip = False
+    words = Words()
     protocol_version = "HTTP/1.1"
     server_version, sys_version = "hhmc", ""
     timeout = 30
@@ -197,7 +199,7 @@ class Handler(BaseHTTPRequestHandler):
         elif asked.path == "/":
             self.answer(200, "text/html; charset=utf-8", PAGE)
         elif asked.path == "/stats.json":
-            told = page_stats(self.looker, since_of(asked.query), self.is_ip)
+            told = page_stats(self.looker, since_of(asked.query), self.words)
             self.answer(200, "application/json", json.dumps(told, separators=(",", ":")))
         elif asked.path == "/metrics":
             self.answer(200, "text/plain; version=0.0.4; charset=utf-8", metrics_of(self.looker))
@@ -249,7 +251,7 @@ class Web(ThreadingHTTPServer):
 def run(given: argparse.Namespace) -> Iterable[bytes]:
     """Listens, says where, and serves until it is ended."""
     looker = Looker(Watched(asking(given.tcp, given.unix, given.timeout)), given.every)
-    handler = type("Own", (Handler,), {"looker": looker, "is_ip": given.ip})
+    handler = type("Own", (Handler,), {"looker": looker, "words": Words.of(given)})
     host, port = given.listen
     try:
         web = Web((host, port), handler)
@@ -275,4 +277,4 @@ def add_words(metrics: argparse.ArgumentParser) -> None:
     listen = "where a browser, or Prometheus, asks (127.0.0.1:9100)"
     metrics.add_argument("--listen", type=listened, default=("127.0.0.1", 9100), metavar="HOST:PORT", help=listen)
     metrics.add_argument("--every", type=seconds, default=1.0, metavar="SECONDS", help="between two looks (1)")
-    metrics.add_argument("--ip", action="store_true", help="the page tells rows as IPv4 addresses")
+    add_options(metrics)

@@ -301,7 +301,9 @@ function drawDegrees(degrees) {
 function drawTop(top) {
   if (!top) { at("top").hidden = true; return; }
   const most = Math.max(...top.map((it) => Number(it[2])), 1);
-  const lines = top.map((it) => [cell(row(it[0])), cell(big(it[1])), barred(big(it[2]), Number(it[2]) / most)]);
+  const name = (it, place) => last.names[place] || row(it[0]);
+  const lines = top.map((it, place) => [cell(name(it, place)), cell(big(it[1])),
+    barred(big(it[2]), Number(it[2]) / most)]);
   const box = el("input", {type: "checkbox", id: "ip"});
   box.checked = isIp;
   box.addEventListener("change", () => { isIp = box.checked; drawTop(last.top); at("ip").focus(); });
