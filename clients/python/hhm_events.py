@@ -120,25 +120,32 @@ def whole_of(word: str) -> int:
     raise NoEvent("no number", f"{word!r} is no number")
 
 
-def whole_numbers(words: Sequence[str], bad: Set[int]) -> List[int]:
+def digits_of(word: str) -> int:
+    """A whole number of digits alone, as a Matrix Market text has it. A NoEvent for another word."""
+    if not DIGITS.fullmatch(word):
+        raise NoEvent("no number", f"{word!r} is no number")
+    return whole_of(word)
+
+
+def whole_numbers(words: Sequence[str], bad: Set[int], meaning: Callable[[str], int] = whole_of) -> List[int]:
     """The numbers that words spell."""
     text = "".join(words)
     with contextlib.suppress(ValueError):
         if text.isascii() and text.isdigit() and max(numbers := list(map(int, words))) <= MOST:
             return numbers
-    return odd_numbers(words, bad)
+    return odd_numbers(words, bad, meaning)
 
 
-def odd_numbers(words: Sequence[str], bad: Set[int]) -> List[int]:
-    """The same where some words aren't digits alone, or are too large. `.0` behind digits is cut off at once."""
-    digits = [word[:-2] if word[-2:] == ".0" else word for word in words]
+def odd_numbers(words: Sequence[str], bad: Set[int], meaning: Callable[[str], int]) -> List[int]:
+    """The same where some words aren't digits alone, or are too large. `.0` after digits is cut off at once."""
+    digits = [word[:-2] if word[-2:] == ".0" and meaning is whole_of else word for word in words]
     odd = [place for place, word in enumerate(digits) if not (word.isdigit() and word.isascii() and len(word) < 20)]
     for place in odd:
         digits[place] = "0"
     numbers = list(map(int, digits))
     for place in odd:
         try:
-            numbers[place] = whole_of(words[place])
+            numbers[place] = meaning(words[place])
         except NoEvent:
             bad.add(place)
     return numbers
@@ -146,7 +153,7 @@ def odd_numbers(words: Sequence[str], bad: Set[int]) -> List[int]:
 
 def places_from_one(words: Sequence[str], bad: Set[int]) -> List[int]:
     """Rows and columns of a Matrix Market text, which count from 1."""
-    numbers = whole_numbers(words, bad)
+    numbers = whole_numbers(words, bad, digits_of)
     bad.update(place for place, number in enumerate(numbers) if number == 0)
     return [number - 1 for number in numbers]
 
@@ -326,8 +333,9 @@ class Shape(NamedTuple):
         else:
             widths, width = list(map(methodcaller("count", self.separator), lines)), width - 1
         others = set(widths) - {width}
-        unfit = sorted(place for other in others for place in places_of(widths, other))
-        return unfit if width else [place for place, line in enumerate(lines) if widths[place] or not line.strip("\r\n")]
+        unfit = [place for other in others for place in places_of(widths, other)]
+        blank = [] if width else [place for place, line in enumerate(lines) if not line.strip("\r\n")]
+        return sorted({*unfit, *blank})
 
     def columns(self, text: str, width: int, places: Sequence[int]) -> List[List[str]]:
         """The words at some places of each of some plain lines, which have so many words."""
@@ -375,6 +383,7 @@ class Events:
         self.source, self.kind, self.how, self.tally = source, kind, how, tally
         self.lines, self.shape, self.wanted = Lines(source.text), SHAPES[kind], wanted
         self.numbers = places_from_one if kind == "mtx" else numbers_by(how, table)
+        self.meaning = digits_of if kind == "mtx" else whole_of
         # How many events there are to be, where the file says it.
         self.told: Optional[int] = None
         self.found = 0
@@ -516,7 +525,7 @@ class Events:
         """The numbers of counts; one that a log of Zeek doesn't have is 0."""
         if self.kind == "zeek" and UNSET in words:
             words = ["0" if word == UNSET else word for word in words]
-        return whole_numbers(words, bad)
+        return whole_numbers(words, bad, self.meaning)
 
     def with_others(self, piece: Piece, others: List[int]) -> List[Tuple[int, ...]]:
         """The lines that are judged one by one and are events: the number of each, its row, column and counts."""
@@ -560,7 +569,7 @@ class Events:
         if not self.fits(len(words)):
             raise NoEvent("columns", f"{len(words)} columns")
         row, col, *counts = (words[place] for place in self.columns.places())
-        numbers = [0 if self.kind == "zeek" and word == UNSET else whole_of(word) for word in counts]
+        numbers = [0 if self.kind == "zeek" and word == UNSET else self.meaning(word) for word in counts]
         bad: Set[int] = set()
         found = []
         for word in (row, col):
