@@ -217,7 +217,8 @@ def bad_lines_are_counted():
     read("source,destination,packets\na,b,1\nc,d,x\ne,f,2\n", how="name", table=named)
     check("a line without a count gives no numbers", sorted(named), ["a", "b", "e", "f"])
     text = "%%MatrixMarket matrix coordinate integer general\n9 9 4\n1 1 4\n2.0 1 4\n3 1 4.0\n0 1 4\n"
-    check("a Matrix Market text has digits alone", read(text, "mtx", how="int")[:3], ([(0, 0, 4)], [3], {"no number": 3}))
+    found = read(text, "mtx", how="int")[:3]
+    check("a Matrix Market text has digits alone", found, ([(0, 0, 4)], [3], {"no number": 3}))
     counts = collections.Counter(it for it, _, _ in read("a b\n# told\n0 1\n", "pairs", how="int")[0])
     check("pairs", counts, {0: 1})
 

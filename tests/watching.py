@@ -254,7 +254,7 @@ def a_narrow_screen_is_told():
             check("narrow: a name", screen.until("  1                  www              1                    5"), True)
             check("narrow: a long name", screen.until("  2 a-host-whose-name-i\u2026 "), True)
         check("narrow: q", (screen.status, screen.text.endswith("\x1b[?25h\x1b[?1049l")), (0, True))
-        lines = [re.sub(r"\x1b\[[?0-9]*[A-Za-z]", "", line) for line in re.split(r"\r\n|\x1b\[H", screen.text)]
+        lines = [re.sub(r"\x1b\[[?0-9]*[A-Za-z]|\r", "", line) for line in re.split(r"\n|\x1b\[H", screen.text)]
         check("narrow: no line is longer", [line for line in lines if len(line) > 60], [])
         with Screen(words, ("60", "8"), b"q") as screen:
             check("low: told", screen.until("more lines: the terminal is too low"), True)

@@ -15,7 +15,7 @@ import json
 import sys
 from typing import Any, Callable, Iterable, Iterator, List, Optional, Sequence
 
-# The lines that are written at once, and by which the columns on a terminal get their widths.
+# The lines that are written at once. On a terminal they decide the widths of the columns.
 BLOCK = 1_000
 Row = Sequence[Any]
 

@@ -3,8 +3,8 @@
     table = to_arrow("packets.snap")        # or of a Client, or of a Matrix Market text, as hhm_cells.sum_of reads them
     table.to_pandas(); pyarrow.parquet.write_table(table, "packets.parquet")
 
-The table has the columns `row`, `column` and `count` of unsigned 64-bit numbers, by row and then by column. Its metadata
-has the numbers of rows and columns of the sum, as `hhm.rows` and `hhm.cols`.
+The table has the columns `row`, `column` and `count` of unsigned 64-bit numbers, by row and then by column. Its
+metadata has the numbers of rows and columns of the sum, as `hhm.rows` and `hhm.cols`.
 """
 from hhm_cells import Source, sum_of
 

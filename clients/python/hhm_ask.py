@@ -34,7 +34,7 @@ SCANNED = "a scan of all cells, which takes a while where there are many"
 AXES = {"rows": "row", "cols": "column"}
 
 
-def tell(words: str) -> None:
+def say(words: str) -> None:
     print(words, file=sys.stderr, flush=True)
 
 
@@ -73,7 +73,7 @@ def leading(hhm: Optional[Client], given: argparse.Namespace) -> List[TopRow]:
         return [TopRow(*map(int, line.split())) for line in lines]
     if given.axis == "rows":
         return hhm.top(given.most, given.by)
-    tell(f"columns lead by {SCANNED}")
+    say(f"columns lead by {SCANNED}")
     return top_columns(hhm.range(page=SCAN), given.most, given.by)
 
 
@@ -126,7 +126,7 @@ def meant(words: Words, word: Optional[str]) -> Optional[List[Span]]:
         return None
     spans = words.spans(word)
     if words.table is not None and ("/" in word and word not in words.numbers) and not words.is_plain(spans):
-        tell(f"{word}: {count_of(spans)} of the names in {words.table}")
+        say(f"{word}: {count_of(spans)} of the names in {words.table}")
     return spans
 
 
@@ -146,7 +146,7 @@ def limited(found: Iterator[Cell], limit: Optional[int], what: str) -> Iterator[
     """The first cells. That there are more is said."""
     for place, cell in enumerate(found):
         if place == limit:
-            tell(f"{what} has more cells: give a higher --limit")
+            say(f"{what} has more cells: give a higher --limit")
             return
         yield cell
 
@@ -196,7 +196,7 @@ def degrees(hhm: Optional[Client], given: argparse.Namespace) -> Iterator[bytes]
         lines = run_hhm(given, "degrees", f"--{given.axis}").decode().splitlines()
         found: Iterable[Sequence[Any]] = [tuple(map(int, line.split())) for line in lines]
     else:
-        tell(f"degrees come by {SCANNED}")
+        say(f"degrees come by {SCANNED}")
         axis = 0 if given.axis == "rows" else 1
         entries = Counter(it[axis] for it in hhm.range(page=SCAN))
         powers = Counter(map(int.bit_length, entries.values()))
@@ -208,7 +208,7 @@ def degrees(hhm: Optional[Client], given: argparse.Namespace) -> Iterator[bytes]
 
 
 def counts(hhm: Client, given: argparse.Namespace) -> Iterator[bytes]:
-    """A status, or what is stored."""
+    """A status, or the durable batches."""
     found = hhm.status() if given.word == "status" else hhm.stored()
     return answered(given, Status._fields, [found], lambda it: "batches %d total %d" % it)
 

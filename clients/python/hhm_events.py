@@ -16,7 +16,7 @@ import struct
 import sys
 from collections import Counter
 from decimal import Decimal, InvalidOperation
-from operator import methodcaller
+from operator import methodcaller, ne
 from time import monotonic
 from typing import (
     Any, Callable, Collection, Dict, Iterable, Iterator, List, NamedTuple, Optional, Sequence, Set, TextIO, Tuple,
@@ -30,13 +30,13 @@ from hhm_heads import (
 FORMATS = ("csv", "tsv", "mtx", "pairs", "nfdump", "zeek")
 # The formats whose rows and columns are addresses where nothing else is said.
 OF_ADDRESSES = ("csv", "tsv", "nfdump", "zeek")
-# The events from which on a share of lines that are no events is looked at, and the lines that are told of those.
+# A share of bad lines is judged once so many lines were read; and how many of the bad lines are shown.
 ENOUGH, SHOWN = 1_000, 5
 MOST = (1 << 64) - 1
 # A count as spreadsheets and programs of floats write it.
 DECIMAL = re.compile(r"[0-9]+(\.[0-9]*)?([eE]\+?[0-9]{1,3})?", re.ASCII)
 NO_ADDRESS = bytes(4)
-# What stands for a count that a log of Zeek doesn't have.
+# How a log of Zeek writes a count that it doesn't have.
 UNSET = "-"
 Mapping = Callable[[Sequence[str], Set[int]], List[int]]
 
@@ -75,7 +75,7 @@ class Limit(NamedTuple):
 
 
 class Tally:
-    """What was read: lines, those that were no events by their reasons, and the first of these."""
+    """How many lines were read, how many of them were no events by each reason, and the first of these."""
 
     def __init__(self, limit: Limit):
         self.limit, self.lines = limit, 0
@@ -332,8 +332,9 @@ class Shape(NamedTuple):
             widths = list(map(len, map(str.split, lines)))
         else:
             widths, width = list(map(methodcaller("count", self.separator), lines)), width - 1
-        others = set(widths) - {width}
-        unfit = [place for other in others for place in places_of(widths, other)]
+        if set(widths) == {width} and width:
+            return []
+        unfit = itertools.compress(range(len(lines)), map(ne, widths, itertools.repeat(width)))
         blank = [] if width else [place for place, line in enumerate(lines) if not line.strip("\r\n")]
         return sorted({*unfit, *blank})
 
@@ -405,7 +406,7 @@ class Events:
         return of_csv(self.source.path, self.next_line, wanted, separators)
 
     def next_line(self) -> str:
-        """The next line, nothing behind the last."""
+        """The next line; an empty one after the last."""
         return next(self.lines, "")
 
     def first_line(self) -> str:
@@ -508,8 +509,8 @@ class Events:
         return Batch(number, self.source.path, [array.array("Q", part) for part in parts], lines)
 
     def read(self, columns: List[List[str]]) -> Tuple[Set[int], List[List[int]]]:
-        """The rows, columns and counts of the lines that are events, and the places of those that aren't. Counts are
-        read first, so that no name gets a number by a line without a count."""
+        """The places of the lines that are no events, and the rows, columns and counts of all others. Counts are read
+        first, so that no name gets a number by a line without a count."""
         without_count: Set[int] = set()
         counts = [self.counts(words, without_count) for words in columns[2:]] or [[1] * len(columns[0])]
         row, col = without(without_count, columns[:2])
@@ -580,18 +581,9 @@ class Events:
 
 
 def is_summary(words: List[str], head: List[str]) -> bool:
-    """Whether these are words of the summary that nfdump writes behind its events, or its head once more."""
+    """Whether these are words of the summary that nfdump writes after its events, or its head once more."""
     is_numbers = len(words) == 6 and all(DIGITS.fullmatch(word) for word in words)
     return words == head or words[0] in ("Summary", "No matched flows") or words[:2] == ["flows", "bytes"] or is_numbers
-
-
-def places_of(values: List[int], wanted: int) -> Iterator[int]:
-    """The places of a number."""
-    place = -1
-    with contextlib.suppress(ValueError):
-        while True:
-            place = values.index(wanted, place + 1)
-            yield place
 
 
 def without(places: Collection[int], lists: Sequence[Sequence[Any]]) -> List[Sequence[Any]]:

@@ -4,8 +4,8 @@
     hhmc --unix /run/hhm/hhm.sock export --format csv --ip > sum.csv # row,column,count
     hhmc export --file packets.snap --format parquet > sum.parquet   # a snapshot of whatever size
 
-`npz` has the arrays of a coordinate matrix as `scipy.sparse.save_npz` writes them, and needs numpy. `parquet` and `arrow`
-have the columns row, column and count, and need pyarrow.
+`npz` has the arrays of a coordinate matrix as `scipy.sparse.save_npz` writes them, and needs numpy. `parquet` and
+`arrow` have the columns row, column and count, and need pyarrow.
 """
 import argparse
 import io
@@ -24,7 +24,8 @@ def source_of(hhm: Optional[Client], given: argparse.Namespace) -> Source:
 def csv_of(hhm: Optional[Client], given: argparse.Namespace) -> Iterator[bytes]:
     words = Words.of(given)
     cells = zip(*total_of(hhm, given).cells)
-    for text in csv_lines(("row", "column", "count"), ((words.shown(it[0]), words.shown(it[1]), it[2]) for it in cells)):
+    rows = ((words.shown(row), words.shown(col), count) for row, col, count in cells)
+    for text in csv_lines(("row", "column", "count"), rows):
         yield text.encode("utf-8", "surrogateescape")
 
 

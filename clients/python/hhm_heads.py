@@ -30,7 +30,7 @@ VALUES: Dict[str, FrozenSet[str]] = {
                        "bytessent octetdeltacount octettotalcount networkbytes origipbytes".split()),
     "flows": frozenset("flows flow fl flowcount numflows".split()),
 }
-# Heads of which nothing needs to be said.
+# Heads whose columns aren't reported.
 PLAIN = (["source", "destination"], ["source", "destination", "packets"])
 WANTED = ("give --cols with the columns of the row, the column and, if there is one, the count, by names of the head "
           "or by places from 1")
@@ -146,13 +146,13 @@ class Found(NamedTuple):
 
 
 def without_head(line: str, places: List[int], separators: str) -> Found:
-    """Columns by places: the separator is the first by which the first line has so many words."""
+    """Columns by places. The separator is the first one that gives the first line enough words."""
     fitting = (it for it in separators if len(words_of(line, it)) > max(places))
     return Found(at_places(places, None), next(fitting, separators[0]), [])
 
 
 def with_head(path: str, line: str, wanted: Wanted, separators: str) -> Found:
-    """The columns of a head, with the first separator by which it has them. An Ended where none has."""
+    """The columns of a head, with the first separator that gives it all of them. An Ended where none does."""
     heads = [(it, words_of(line, it)) for it in separators]
     if names := wanted.names():
         separator, head = next((it for it in heads if set(names) <= set(it[1])), heads[0])

@@ -38,7 +38,7 @@ RULES = "2"
 # What the line of options in a state file begins with, and the names of state files.
 OPTIONS = b"options "
 STATE_FILE = re.compile(r"client-([0-9]+)\.batches")
-# The numbers of IPv6 addresses begin behind those of IPv4.
+# The first number of an IPv6 address, after all of IPv4.
 IPV4 = 1 << 32
 SIX = (": addresses of IPv6 have the numbers from 4294967296 on, by the table: start the server with more rows and "
        "columns, as --rows 8589934592 --cols 8589934592")
@@ -325,7 +325,7 @@ class Load:
         self.tally.judge(at_end=True)
 
     def count(self, indexes: Sequence[int], had: Sequence[int]) -> None:
-        """Counts a batch by its places at all servers. Those that the books had before this load are of a repeat."""
+        """Counts a batch by its index at each server. It is a repeat where each server had it before this load."""
         self.events += len(self.way.pop(0).lines)
         if all(index < before for index, before in zip(indexes, had)):
             self.repeats += 1
@@ -404,7 +404,7 @@ class Load:
         return Ended(1, f"{where}{self.place}batch {batch.number}: refused: {refused}{advice}")
 
     def interrupted(self) -> Ended:
-        """What is said after Ctrl-C."""
+        """The report after Ctrl-C."""
         again = "the same words" + (" and the same input" if "-" in self.options.files else "")
         return Ended(130, f"interrupted: new {self.new} repeats {self.repeats} events {self.events} were put and "
                           f"count; to go on, load again with {again}")

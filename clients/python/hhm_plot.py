@@ -360,7 +360,7 @@ def seconds(word: str) -> float:
     return value
 
 
-def picture(word: str) -> str:
+def picture_path(word: str) -> str:
     """The path of a picture, which tells its form."""
     if not word.endswith((".svg", ".png")):
         raise argparse.ArgumentTypeError(f"{word!r} ends neither with .svg nor with .png")
@@ -371,7 +371,7 @@ def add_words(plot: argparse.ArgumentParser) -> None:
     """Adds the words of `plot` to those of the command line."""
     what = "the distribution of degrees, where cells are, or what a server accepts in a second"
     plot.add_argument("what", choices=("degrees", "spy", "rates"), help=what)
-    plot.add_argument("out", type=picture, metavar="OUT.svg|OUT.png", help="the picture, which is written anew")
+    plot.add_argument("out", type=picture_path, metavar="OUT.svg|OUT.png", help="the picture, which is written anew")
     by = "by numbers of cells, or by totals of counts (entries)"
     plot.add_argument("--by", choices=(ENTRIES, TOTAL), default=ENTRIES, help=by)
     rows = "spy: these rows, numbers, addresses or a network (from the first to the last with a cell)"

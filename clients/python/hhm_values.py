@@ -14,7 +14,7 @@ from hhm_client import host_and_port
 
 
 class Value(NamedTuple):
-    """What is counted, and the server that it goes to: at most one of `tcp` and `unix`."""
+    """A value of events, and the server that it goes to: at most one of `tcp` and `unix`."""
 
     name: str
     tcp: Optional[str]

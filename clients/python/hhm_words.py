@@ -20,7 +20,7 @@ from hhm_client import Ended
 
 Address = Union[ipaddress.IPv4Address, ipaddress.IPv6Address]
 Ends = Tuple[Address, Address]
-# The number behind the last IPv4 address, and that behind the last row of any server.
+# How many IPv4 addresses there are, and how many rows a server has at most.
 IPV4, LAST = 1 << 32, 1 << 60
 FORMS = "a number, A-B, an address, a network or, by --names, a name"
 
@@ -74,7 +74,7 @@ def lines_of(path: str) -> List[str]:
             lines = file.read().split("\n")
     except OSError as fault:
         raise Ended(4, f"{path}: {fault.strerror}") from None
-    # (what is behind the last line end is being written)
+    # (a last line without its end is still being written)
     return lines[:-1]
 
 
