@@ -36,7 +36,9 @@ ADDRESS = 10 << 24
 TOLD = {
     "version": "1.2.3", "rows": 1 << 60, "cols": 1 << 60, "batches": 5, "total": (1 << 64) - 1, "unheard_of": 7,
     "odd_seconds": "0.250", 'odd_family{a="b c",d="e\\"f"}': 9, 'odd_family{a="x"}': 8, "odd_total": (1 << 63) + 1,
+    'refused_total{code="30"}': 4,
 }
+REFUSALS = 'refused_total{code="30"}'
 LABEL = r'[a-z_]+="(?:[^"\\]|\\.)*"'
 SAMPLE = re.compile(r"([a-z_0-9]+)(\{" + LABEL + "(?:," + LABEL + r")*\})? ([0-9.e+-]+)")
 
@@ -100,8 +102,12 @@ def what_a_server_tells_is_told():
         # (the server in Python is a thread of this process)
         durable, memory, age, processor = (float(samples.pop(f"hhm_{name}")) for name in OTHERWISE)
         check("told: of the process", (durable, 1e7 < memory < 1e9, age > 0, 0 < processor < 60), (0, True, True, True))
-        wanted = {f"hhm_{name}": str(value) for name, value in TOLD.items() if name != "version"}
-        wanted.update({"hhm_up": "1", 'hhm_info{version="1.2.3"}': "1", "hhm_odd_seconds": "0.25"})
+        start = float(samples.pop("process_start_time_seconds"))
+        check("told: the start", abs(time.time() - age - start) < 10, True)
+        check("told: the start is one number", metrics.samples()["process_start_time_seconds"], f"{start:.2f}")
+        wanted = {f"hhm_{name}": str(value) for name, value in TOLD.items() if name not in ("version", REFUSALS)}
+        wanted.update({"hhm_up": "1", 'hhm_info{version="1.2.3"}': "1", "hhm_odd_seconds": "0.25",
+                       'hhm_build_info{version="1.2.3"}': "1", f'hhm_{REFUSALS[:-1]},name="NumberReused"}}': "4"})
         check("told: samples", samples, wanted)
         told = metrics.json()
         raw = {**{name: str(value) for name, value in TOLD.items()}, "odd_seconds": "0.25"}

@@ -19,8 +19,8 @@ from http.server import BaseHTTPRequestHandler, ThreadingHTTPServer
 from typing import Any, Dict, Iterable, List, Optional, Tuple
 from urllib.parse import parse_qs, urlsplit
 
-from hhm_client import Refused, TopRow
-from hhm_figures import LABELLED, Degrees, Moment, Watched, asking
+from hhm_client import CODES, Refused, TopRow
+from hhm_figures import LABELLED, Degrees, Moment, Watched, asking, labels_of
 from hhm_page import PAGE
 from hhm_words import Words, add_options
 from hhm_watch import (
@@ -31,6 +31,8 @@ from hhm_watch import (
 # The looks for whose time nothing is said of the time between two of them, where so much lies between, and the seconds
 # for which the rows that lead are asked for behind the last page that asked.
 GAP, VIEWED = 3.5, 30.0
+# By how many seconds the start of a server may vary, as it is worked out of its age.
+JITTER = 2.0
 # Numbers from here on are no longer whole in a browser.
 EXACT = 1 << 53
 # What the page may load: nothing but its own script, styles and numbers.
@@ -41,6 +43,8 @@ HELP = {
     "status_seconds": "How long the last status took, as hhmc metrics measured it.",
     "cell_seconds": "How long the last cell took, as hhmc metrics measured it.",
     "batches": "Accepted batches.", "total": "The sum of all counts.", "info": "The version of the server.",
+    "build_info": "The version of the server.",
+    "process_start_time_seconds": "When the server began, in seconds since 1970.",
     "rows": "Rows of the matrix.", "cols": "Columns of the matrix.", "workers": "Connections that are served at once.",
     "cuts": "Cuts between the layers of a shard.", "layer_cut_entries": "Entries above which a layer goes on to the next.",
     "shards": "Shards of the matrix.", "limit": "The highest total that may be accepted.",
@@ -77,6 +81,8 @@ class Looker:
         self.top: Optional[List[TopRow]] = None
         self.degrees: Optional[Tuple[float, Degrees]] = None
         self.viewed = 0.0
+        # When the server began; the same number as long as its age says so but for some jitter.
+        self.start: Optional[float] = None
 
     def run(self) -> None:
         while True:
@@ -86,7 +92,10 @@ class Looker:
 
     def look(self) -> None:
         try:
-            self.seen.look()
+            moment = self.seen.look()
+            age = moment.number(*UPTIME)
+            if age is not None and (self.start is None or abs(moment.at - age - self.start) > JITTER):
+                self.start = moment.at - age
             if time.monotonic() - self.viewed < VIEWED:
                 self.top = self.seen.top()
                 degrees = self.seen.degrees()
@@ -160,7 +169,7 @@ def page_stats(looker: Looker, since: float, words: Words) -> Dict[str, Any]:
 def metrics_of(looker: Looker) -> str:
     """All that is told, in the text format of Prometheus. Of a server that is gone only that it is."""
     moments = looker.seen.moments
-    families: Dict[str, List[str]] = {"up": ["hhm_up " + ("1" if looker.fault is None else "0")]}
+    families: Dict[str, List[str]] = {"hhm_up": ["hhm_up " + ("1" if looker.fault is None else "0")]}
     if looker.fault is None and moments:
         last = moments[-1]
         told: Dict[str, Any] = {"batches": last.batches(), "total": last.total(), **last.stats}
@@ -168,19 +177,30 @@ def metrics_of(looker: Looker) -> str:
         for name, value in told.items():
             found = LABELLED.fullmatch(name)
             if name == "version":
-                families["info"] = [f'hhm_info{{version="{value}"}} 1']
+                families.update({it: [f'{it}{{version="{value}"}} 1'] for it in ("hhm_info", "hhm_build_info")})
             elif found and isinstance(value, (int, float)):
-                families.setdefault(found.group("name"), []).append(f"hhm_{name} {value}")
+                families.setdefault("hhm_" + found.group("name"), []).append(f"hhm_{named(name)} {value}")
+        if looker.start is not None:
+            families["process_start_time_seconds"] = [f"process_start_time_seconds {looker.start:.2f}"]
     lines = []
     for name, samples in families.items():
-        kind = "counter" if f"hhm_{name}".endswith("_total") else "gauge"
-        lines += [f"# HELP hhm_{name} {HELP.get(name, help_of(name))}", f"# TYPE hhm_{name} {kind}", *samples]
+        kind = "counter" if name.endswith("_total") else "gauge"
+        lines += [f"# HELP {name} {help_of(name)}", f"# TYPE {name} {kind}", *samples]
     return "\n".join(lines) + "\n"
 
 
+def named(name: str) -> str:
+    """A name of stats; a refusal's code gets its name beside it."""
+    labels = labels_of(name)
+    if not name.startswith("refused_total{") or not labels.get("code", "").isdigit():
+        return name
+    return f'{name[:-1]},name="{CODES.get(int(labels["code"]), "unknown")}"}}'
+
+
 def help_of(name: str) -> str:
-    """What is said of a name that only the server explains."""
-    return f"{name}, as the server tells it."
+    """The help of a metric; that of a name which only the server explains has the name alone."""
+    bare = name[len("hhm_"):] if name.startswith("hhm_") else name
+    return HELP.get(bare, f"{bare}, as the server tells it.")
 
 
 class Handler(BaseHTTPRequestHandler):
