@@ -38,7 +38,7 @@ DECIMAL = re.compile(r"[0-9]+(\.[0-9]*)?([eE]\+?[0-9]{1,3})?", re.ASCII)
 NO_ADDRESS = bytes(4)
 # How a log of Zeek writes a count that it doesn't have.
 UNSET = "-"
-Mapping = Callable[[Sequence[str], Set[int]], List[int]]
+Mapping = Callable[[Sequence[str], Set[int]], Sequence[int]]
 
 
 class NoEvent(ValueError):
@@ -127,12 +127,12 @@ def digits_of(word: str) -> int:
     return whole_of(word)
 
 
-def whole_numbers(words: Sequence[str], bad: Set[int], meaning: Callable[[str], int] = whole_of) -> List[int]:
+def whole_numbers(words: Sequence[str], bad: Set[int], meaning: Callable[[str], int] = whole_of) -> Sequence[int]:
     """The numbers that words spell."""
     text = "".join(words)
-    with contextlib.suppress(ValueError):
-        if text.isascii() and text.isdigit() and max(numbers := list(map(int, words))) <= MOST:
-            return numbers
+    with contextlib.suppress(ValueError, OverflowError):
+        if text.isascii() and text.isdigit():
+            return array.array("Q", list(map(int, words)))
     return odd_numbers(words, bad, meaning)
 
 
@@ -326,16 +326,19 @@ class Shape(NamedTuple):
     def width_of(self, line: str) -> int:
         return len(line.split(self.separator))
 
+    def widths(self, lines: List[str]) -> Iterator[int]:
+        """How many words each of some plain lines has, or how many separators where there are any."""
+        if self.separator is None:
+            return map(len, map(str.split, lines))
+        return map(methodcaller("count", self.separator), lines)
+
     def unfit(self, lines: List[str], width: int) -> List[int]:
         """The places of the plain lines that have another number of words."""
-        if self.separator is None:
-            widths = list(map(len, map(str.split, lines)))
-        else:
-            widths, width = list(map(methodcaller("count", self.separator), lines)), width - 1
-        if set(widths) == {width} and width:
+        wanted = width if self.separator is None else width - 1
+        if set(self.widths(lines)) == {wanted} and width > 1:
             return []
-        unfit = itertools.compress(range(len(lines)), map(ne, widths, itertools.repeat(width)))
-        blank = [] if width else [place for place, line in enumerate(lines) if not line.strip("\r\n")]
+        unfit = itertools.compress(range(len(lines)), map(ne, self.widths(lines), itertools.repeat(wanted)))
+        blank = [] if width > 1 else [place for place, line in enumerate(lines) if not line.strip("\r\n")]
         return sorted({*unfit, *blank})
 
     def columns(self, text: str, width: int, places: Sequence[int]) -> List[List[str]]:
@@ -346,7 +349,8 @@ class Shape(NamedTuple):
             bare = text[:-1] if text.endswith("\n") else text
             words = bare.replace("\n", self.separator).split(self.separator) if bare else []
         columns = [words[place::width] for place in places]
-        if self.is_padded and (self.separator + " " in text or "\n " in text or text[:1] == " "):
+        # (to look for one sign is ten times as fast as for two)
+        if self.is_padded and " " in text and (self.separator + " " in text or "\n " in text or text[0] == " "):
             return [[word.lstrip(" ") for word in column] for column in columns]
         return columns
 

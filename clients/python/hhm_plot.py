@@ -397,8 +397,9 @@ def page_of(total: Sum, given: argparse.Namespace) -> Page:
     if given.what == "degrees":
         return degrees_page(total, given.by)
     all_rows, all_cols = Span(0, total.rows - 1), Span(0, total.cols - 1)
-    part, meanings = total, Meanings.of(given)
-    asked = [Span(*meanings.span(word)) if word else None for word in (given.rows, given.cols)]
+    # (a picture shows addresses by --ip alone, whatever words ask for its rows)
+    part, meanings, asking = total, Meanings.of(given), Meanings.of(given)
+    asked = [Span(*asking.span(word)) if word else None for word in (given.rows, given.cols)]
     if any(asked):
         part = total._replace(cells=within(total.cells, asked[0] or all_rows, asked[1] or all_cols))
     rows = spanned(asked[0], part.cells.rows, total.rows, given.whole, "rows")
