@@ -281,7 +281,7 @@ def rates_are_drawn():
             seen.look()
         count = len(TOLD) + len(OTHERWISE)
         check("rates: what is kept", (len(seen.moments), len(seen.moments[-1].stats)), (KEPT, count))
-        check("rates: without labels", {len(it.stats) for it in seen.moments[:-1]}, {count - 2})
+        check("rates: without labels", {len(it.stats) for it in seen.moments[:-1]}, {count - 3})
     with Server(LARGE, tcp=False) as at, at.client(8) as hhm:
         path = os.path.join(server.FOLDER, "rates.svg")
         words = [*HHMC, "--unix", at.path, "plot", "rates", "--seconds", "3", path]
