@@ -309,6 +309,7 @@ def answers_have_forms():
             check("degrees", asked("degrees", "cols", "--json")[::2], ('{"from": 1, "to": 1, "cols": 3}\n', 0))
         check("no columns by a file", of_file("top", "cols", "1"), (f"1 1 {1 << 60}\n", "", 0))
         check("no server", run([*PLAIN, "top", "rows"])[2], 2)
+        check("a server and a file", of_file("--unix", at.path, "top", "rows")[2], 2)
         check("a status", hhmc(at, "status", "--json"), ('{"batches": 1, "total": %d}\n' % ((1 << 60) + 9), "", 0))
         check("stats", json.loads(hhmc(at, "stats", "--json")[0])["batches"], 1)
         check("stats as CSV", "batches,1\n" in hhmc(at, "stats", "--csv")[0], True)

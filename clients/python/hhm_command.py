@@ -1,6 +1,6 @@
 """The command line of `hhm_client.py`, which is installed as `hhmc`: one word for each question, and more of modules
-beside it: `load` (hhm_load.py), `plot` (hhm_plot.py), `top`, `list` and `stats` (hhm_ask.py), `watch` (hhm_watch.py) and
-`metrics` (hhm_metrics.py)."""
+beside it: `load` (hhm_load.py), `plot` (hhm_plot.py), all questions (hhm_ask.py), `export` (hhm_export.py), `watch`
+(hhm_watch.py) and `metrics` (hhm_metrics.py)."""
 import argparse
 import importlib
 import os
@@ -104,14 +104,19 @@ def answer(hhm: Client, given: argparse.Namespace, text: bytes) -> bytes:
         return module_of("hhm_plot").plot(hhm, given).encode()
     if given.word == "put":
         return b"index %d total_after %d\n" % hhm.put_text(given.number, text)
-    if given.word == "export":
-        return b"".join(module_of("hhm_export").export(hhm, given))
     if given.word == "save":
         return b"saved %d\n" % hhm.save()
     if given.word == "fold":
         return b"folded %d\n" % hhm.fold()
     stop(hhm, given.discard)
     return b"stopping\n"
+
+
+def answers_of(word: str) -> Any:
+    """The function that answers a word piece by piece; None for a word that has one short answer."""
+    if word == "export":
+        return getattr(module_of("hhm_export"), "export", None)
+    return getattr(module_of("hhm_ask"), "ANSWERS", {}).get(word)
 
 
 def asked(given: argparse.Namespace) -> Iterable[bytes]:
@@ -123,8 +128,7 @@ def asked(given: argparse.Namespace) -> Iterable[bytes]:
         yield from module_of(f"hhm_{given.word}").run(given)
         return
     if getattr(given, "snapshot", None) is not None:
-        answers = module_of("hhm_export").export if given.word == "export" else module_of("hhm_ask").ANSWERS[given.word]
-        yield from answers(None, given)
+        yield from answers_of(given.word)(None, given)
         return
     text = text_to_put(given.file) if given.word == "put" else b""
     place = given.unix if given.tcp is None else given.tcp
@@ -143,7 +147,7 @@ def asked(given: argparse.Namespace) -> Iterable[bytes]:
     waits.start()
     try:
         with hhm:
-            if answers := getattr(module_of("hhm_ask"), "ANSWERS", {}).get(given.word):
+            if answers := answers_of(given.word):
                 yield from answers(hhm, given)
             else:
                 yield answer(hhm, given, text)
@@ -171,6 +175,8 @@ def main() -> int:
     places = given.tcp, given.unix, given.source, getattr(given, "snapshot", None)
     if all(place is None for place in places):
         words.error("one of the arguments --tcp --unix --from is required")
+    if places[-1] is not None and any(place is not None for place in places[:-1]):
+        words.error("--file is in place of a server: leave --tcp, --unix and --from out")
     if given.source is not None and given.word != "plot":
         words.error(f"--from is for plot: give --tcp or --unix for {given.word}")
     try:
