@@ -4,8 +4,9 @@
     python3 tests/analysis.py PATH-TO-HHM
 
 The commands are those that the document has, in its order and in one shell; what is wanted is worked out by a loop over
-the lines of the log. Without numpy and scipy the command that needs them isn't run, and a line says so. It prints a
-line for each check that fails and at the end `N passed, M failed`; the status is 1 where one fails.
+the lines of the log, and for the samples of flow tools by SQL. Without numpy and scipy the command that needs them
+isn't run, and a line says so. It prints a line for each check that fails and at the end `N passed, M failed`; the
+status is 1 where one fails.
 """
 import collections
 import csv
@@ -13,6 +14,7 @@ import ipaddress
 import os
 import re
 import shlex
+import sqlite3
 import subprocess
 import sys
 import xml.etree.ElementTree
@@ -145,13 +147,82 @@ def pictures_are_there(folder, document):
             check(os.path.basename(path), file.read(8), b"\x89PNG\r\n\x1a\n")
 
 
+def events_of_samples():
+    """The sources, destinations and packets of the samples of nfdump and Zeek, as a table of SQL."""
+    table = sqlite3.connect(":memory:")
+    table.execute("create table events (source text, destination text, packets integer)")
+    with open(os.path.join(TOP, "examples", "nfdump.csv"), newline="") as file:
+        # (the lines of the summary have six words, or one)
+        flows = [(it["sa"], it["da"], int(it["ipkt"])) for it in csv.DictReader(file) if it["ipkt"]]
+    with open(os.path.join(TOP, "examples", "conn.log")) as file:
+        words = [line.rstrip("\n").split("\t") for line in file]
+    [names] = [it[1:] for it in words if it[0] == "#fields"]
+    logged = [dict(zip(names, it)) for it in words if not it[0].startswith("#")]
+    flows += [(it["id.orig_h"], it["id.resp_h"], int(it["orig_pkts"])) for it in logged]
+    table.executemany("insert into events values (?, ?, ?)", flows)
+    table.execute("create view cells as select source, destination, sum(packets) as count from events group by 1, 2")
+    return table
+
+
+def order_of(cell):
+    """Where a cell of addresses comes: IPv4 before IPv6; those of IPv6 by no order that is looked at."""
+    addresses = map(ipaddress.ip_address, cell[:2])
+    return [(address.version, int(address) if address.version == 4 else 0) for address in addresses]
+
+
+# What each command is to write, as a query over the events of the samples, and how a line of it is written.
+QUERIES = {
+    "top rows 4": ("select source, count(*), sum(count) from cells group by 1 order by 3 desc limit 4", "%s %s %s"),
+    "row 10.1.2.0/24": ("select count(*), sum(count) from cells where source like '10.1.2.%'", "entries %s total %s"),
+    "list 10.1.2.0/24": ("select * from cells where source like '10.1.2.%'",
+                         '{"row": "%s", "column": "%s", "count": %s}'),
+    "list 2001:db8::/32": ("select * from cells where source like '2001:db8:%'", "%s %s %s"),
+    "range --rows": ("select * from cells where source like '10.%' and destination like '192.0.2.%'", "%s,%s,%s"),
+    "degrees rows": ("select case n when 1 then 1 else 2 end, case n when 1 then 1 else 3 end, count(*) from "
+                     "(select count(*) as n from cells group by source) where n < 4 group by 1, 2", "%s %s %s"),
+    "top --file": ("select destination, count(*), sum(count) from cells group by 1 order by 3 desc limit 2",
+                   "%s %s %s"),
+}
+
+
+def the_second_hour_is_right(folder, section):
+    """Each command writes what the document shows, and that is what SQL finds in the events of the samples."""
+    has_arrow = python_with("pyarrow") == sys.executable
+    told = [(command, shown) for command, shown in commands_of(section) if has_arrow or "parquet" not in command]
+    if not has_arrow:
+        print("not tried: the export as Parquet: there is no pyarrow")
+    os.remove(os.path.join(folder, "served"))
+    written, error, status = walked(folder, [command for command, _ in told])
+    notes = ["row sa, column da, count ipkt", "count orig_pkts", "4 of the names in six.names", "degrees come by"]
+    check("the second hour", (status, [it in error for it in notes], len(error.splitlines())), (0, [True] * 4, 4))
+    table, left = events_of_samples(), dict(QUERIES)
+    for (command, shown), got in zip(told, written):
+        check(f"as the document shows it: {command}", got, shown)
+        for words in [words for words in left if f" {words}" in command]:
+            query, form = left.pop(words)
+            rows = table.execute(query).fetchall()
+            found = sorted(rows, key=order_of) if query.startswith("select *") else rows
+            check(f"by SQL: {command}", sorted(got[-len(rows):]), sorted(form % row for row in found))
+    check("all are asked", left, {})
+    with open(os.path.join(folder, "two.csv")) as file:
+        cells = [tuple(row) for row in csv.reader(file)][1:]
+    wanted = [(source, destination, str(count)) for source, destination, count in table.execute("select * from cells")]
+    check("the CSV by SQL", sorted(cells), sorted(wanted))
+    program = "NR > 1 && NF > 40 && $4 ~ /^10\\.1\\.2\\./ {sum += $12} END {print sum}"
+    summed = subprocess.run(["awk", "-F,", program, os.path.join(TOP, "examples", "nfdump.csv")], capture_output=True,
+                            text=True).stdout
+    [of_zeek] = table.execute("select sum(packets) from events where source like '10.1.2.%'").fetchone()
+    check("by awk", int(summed) + 1204 + 1, of_zeek)
+
+
 def all_are_tried():
     folder = server.FOLDER
     own_commands(folder)
     os.symlink(os.path.join(TOP, "examples"), os.path.join(folder, "examples"))
-    document = content(DOCUMENT)
+    document, _, second = content(DOCUMENT).partition("## Networks, names and other tools")
     the_walk_is_right(folder, document)
     pictures_are_there(folder, document)
+    the_second_hour_is_right(folder, second)
 
 
 if __name__ == "__main__":

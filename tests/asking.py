@@ -7,7 +7,9 @@ What is wanted is worked out by hand, or by a loop over the cells that were put 
 never brought to say, a reply that is none above all, is said by a peer. It prints a line for each check that fails and
 at the end `N passed, M failed`; the status is 1 where one fails. Linux, and nothing but Python's own library.
 """
+import json
 import os
+import pty
 import random
 import re
 import shutil
@@ -15,6 +17,7 @@ import struct
 import sys
 
 import server
+import hhm_command  # (server.py has put the client's folder on the path)
 from hhm_client import Client
 from clients import build
 from peers import Driver, Liar, Proxy, run
@@ -158,8 +161,11 @@ def numbers_are_found_among_stats(command):
         check("C: numbers among stats", driver.ask("numbers"), wanted)
 
 
+PLAIN = [sys.executable, os.path.join(PYTHON, "hhm_client.py")]
+
+
 def hhmc(at, *words):
-    return run([sys.executable, os.path.join(PYTHON, "hhm_client.py"), "--unix", at.path, *words])
+    return run([*PLAIN, "--unix", at.path, *words])
 
 
 def the_command_line_asks():
@@ -180,14 +186,14 @@ def the_command_line_asks():
             ("list --ip 10.0.0.1 --limit 1",
              ("10.0.0.1 10.0.0.0 1\n", "row 10.0.0.1 has more cells: give a higher --limit\n", 0)),
             ("list --ip 9", ("0.0.0.9 128.0.0.0 1\n", "", 0)),
-            ("list 10.0.0.1", ("", "10.0.0.1 is an address: give --ip\n", 2)),
+            ("list 10.0.0.1", ("".join(f"10.0.0.1 10.0.0.{k} {k + 1}\n" for k in range(4)), "", 0)),
             (f"list {1 << 32}", ("", "refused: OutOfRange\n", 1)),
             ("top rows 1000001", ("", "refused: BadCount\n", 1)),
             ("fold", ("folded 1\n", "", 0)), ("top rows 1", ("7 1 50\n", "", 0)),
         ]:
             check(f"hhmc {words}", hhmc(at, *words.split()), wanted)
-        for words in ["top", "top both", "top rows 0", "top rows x", "list", "list 1.2.3", "list x", "list 7 --limit 0",
-                      "stats 1", "fold 1"]:
+        for words in ["top", "top both", "top rows 0", "top rows x", "list", "list 7 --limit 0", "stats 1", "fold 1",
+                      "cell 1", "row", "degrees both", "top rows --json --csv"]:
             output, error, status = hhmc(at, *words.split())
             check(f"hhmc {words}", (output, error.startswith("usage: "), status), ("", True, 2))
         with at.client() as hhm:
@@ -208,6 +214,136 @@ def the_command_line_asks():
             check("all cells of them", len(list(hhm.range(page=1))), min(size[1], 3))
 
 
+def lines_of(*cells):
+    return "".join("%s %s %d\n" % cell for cell in cells)
+
+
+def words_of_rows_are_one():
+    """Numbers, ranges, addresses and networks in each question, by hand; and what no word is."""
+    ten, other = 10 << 24, 192 << 24
+    told = "degrees come by a scan of all cells, which takes a while where there are many\n"
+    inside = [("10.0.0.1", "192.0.0.1", 5), ("10.0.0.1", "192.0.0.2", 2), ("10.0.1.44", "192.0.0.1", 1)]
+    bare = [(ten + 1, other + 1, 5), (ten + 1, other + 2, 2), (ten + 300, other + 1, 1)]
+    cells, more = [*bare, (other, ten + 1, 9), (7, 8, 4)], "has more cells: give a higher --limit\n"
+    with Server(LARGE, tcp=False) as at:
+        with at.client(8) as hhm:
+            hhm.put(1, cells)
+        for words, wanted in [
+            ("list 10.0.0.0/8", (lines_of(*inside), "", 0)), ("list 10.0.0.0/24", (lines_of(*inside[:2]), "", 0)),
+            ("list 10.0.1.44-10.0.1.45", (lines_of(inside[2]), "", 0)), ("list 10.1.0.0/16", ("", "", 0)),
+            (f"list {ten}-{ten + 300}", (lines_of(*bare), "", 0)),
+            ("list 10.0.0.0/8 --limit 2", (lines_of(*inside[:2]), f"10.0.0.0/8 {more}", 0)),
+            ("range --rows 0-9 --ip", (lines_of(("0.0.0.7", "0.0.0.8", 4)), "", 0)),
+            ("range --cols 192.0.0.0/31 --rows 10.0.0.0/8", (lines_of(inside[0], inside[2]), "", 0)),
+            ("range --cols 8", ("7 8 4\n", "", 0)), ("range --limit 1", ("7 8 4\n", f"the range {more}", 0)),
+            ("row 10.0.0.0/8", ("entries 3 total 8\n", "", 0)), ("row 10.0.0.1", ("entries 2 total 7\n", "", 0)),
+            ("row 7", ("entries 1 total 4\n", "", 0)), ("cell 10.0.0.1 192.0.0.2", ("2\n", "", 0)),
+            ("cell 10.0.0.1 7", ("none\n", "", 0)), ("cell 7 8", ("4\n", "", 0)),
+            ("degrees", ("1 1 3\n2 3 1\n", told, 0)), ("degrees cols", ("1 1 3\n2 3 1\n", told, 0)),
+            ("list x", ("", "'x' isn't a number, A-B, an address, a network or, by --names, a name\n", 2)),
+            ("list 9-7", ("", "9-7: the first is after the last\n", 2)),
+            ("cell 10.0.0.0/8 7", ("", "10.0.0.0/8: one row or column is wanted, and these are several\n", 2)),
+            ("row ::1", ("", "::1: IPv6 addresses have their numbers by a table: give --ip --names TABLE\n", 2)),
+            ("list 7 --names /nowhere/a", ("", "/nowhere/a: No such file or directory\n", 4)),
+        ]:
+            check(f"words: {words}", hhmc(at, *words.split()), wanted)
+
+
+def names_are_shown():
+    """Rows by a table of names, and addresses of IPv6 by a table, in questions and in answers."""
+    hosts, six = (os.path.join(server.FOLDER, name) for name in ("hosts.names", "six.names"))
+    with open(hosts, "w") as file:
+        file.write("www\nmail-1\n10.0.0.9\n2001:db8::9\nhalf")
+    with open(six, "w") as file:
+        file.write("2001:db8:1::7\nfe80::1\n2001:db8:2::53\n")
+    first, cells = 1 << 32, [(0, 1, 5), (2, 0, 1), (3, 3, 2), (9, 9, 7)]
+    with Server(["--rows", str(1 << 33), "--cols", str(1 << 33)], tcp=False) as at:
+        with at.client(8) as hhm:
+            hhm.put(1, [*cells, (first, first + 2, 30), (first + 2, first + 1, 20), (10 << 24, first, 10)])
+        for words, wanted in [
+            ("top rows 4", ("2001:db8:1::7 1 30\n2001:db8:2::53 1 20\n10.0.0.0 1 10\n0.0.0.9 1 7\n", "", 0)),
+            ("list 2001:db8::/32", ("2001:db8:1::7 2001:db8:2::53 30\n2001:db8:2::53 fe80::1 20\n",
+                                    f"2001:db8::/32: 2 of the names in {six}\n", 0)),
+            ("range --cols 2001:db8::/32", ("10.0.0.0 2001:db8:1::7 10\n2001:db8:1::7 2001:db8:2::53 30\n",
+                                            f"2001:db8::/32: 2 of the names in {six}\n", 0)),
+            ("cell 2001:DB8:1:0::7 2001:db8:2::53", ("30\n", "", 0)),
+            ("row 2001:db8::/32", ("entries 2 total 50\n", f"2001:db8::/32: 2 of the names in {six}\n", 0)),
+            ("row ff00::/8", ("entries 0 total 0\n", f"ff00::/8: 0 of the names in {six}\n", 0)),
+            ("row ::5", ("", f"{six} has no ::5\n", 2)),
+        ]:
+            check(f"IPv6: {words}", hhmc(at, *words.split(), "--ip", "--names", six), wanted)
+        for words, wanted in [
+            ("range --rows 0-9", ("www mail-1 5\n10.0.0.9 www 1\n2001:db8::9 2001:db8::9 2\n9 9 7\n", "", 0)),
+            ("list www", ("www mail-1 5\n", "", 0)), ("row mail-1", ("entries 0 total 0\n", "", 0)),
+            ("list 10.0.0.0/8", ("10.0.0.9 www 1\n", f"10.0.0.0/8: 1 of the names in {hosts}\n", 0)),
+            ("cell www mail-1", ("5\n", "", 0)), ("list half", ("", f"{hosts} has no 'half'\n", 2)),
+            ("cell www 1 --json", ('{"row": "www", "column": "mail-1", "count": 5}\n', "", 0)),
+            ("range --rows 3-9 --csv", ("row,column,count\n2001:db8::9,2001:db8::9,2\n9,9,7\n", "", 0)),
+        ]:
+            check(f"names: {words}", hhmc(at, *words.split(), "--names", hosts), wanted)
+
+
+def answers_have_forms():
+    """JSON, CSV and, on a terminal, aligned columns; of a server and of a snapshot; and a reader that goes early."""
+    snap, most = os.path.join(server.FOLDER, "forms.snap"), (1 << 64) - 1
+    rows = [{"row": 10 << 24, "entries": 1, "total": 1 << 60}, {"row": 7, "entries": 2, "total": 9}]
+    with Server([*LARGE, "--limit", str(most), "--snapshot", snap], tcp=False) as at:
+        with at.client(8) as hhm:
+            hhm.put(1, [(10 << 24, 1, 1 << 60), (7, 8, 4), (7, 9, 5)])
+            hhm.save()
+
+        def of_server(*words):
+            return hhmc(at, *words)
+
+        def of_file(*words):
+            return run([*PLAIN, *words, "--file", snap, "--program", server.PROGRAM])
+
+        for asked in (of_server, of_file):
+            output, error, status = asked("top", "rows", "--json")
+            check("JSON", ([json.loads(line) for line in output.splitlines()], error, status), (rows, "", 0))
+            check("CSV", asked("top", "rows", "--csv", "--ip"),
+                  (f"row,entries,total\n10.0.0.0,1,{1 << 60}\n0.0.0.7,2,9\n", "", 0))
+            check("range", asked("range", "--rows", "7", "--json")[0],
+                  '{"row": 7, "column": 8, "count": 4}\n{"row": 7, "column": 9, "count": 5}\n')
+            check("list", asked("list", "10.0.0.0/8"), (f"10.0.0.0 0.0.0.1 {1 << 60}\n", "", 0))
+            check("degrees", asked("degrees", "cols", "--json")[::2], ('{"from": 1, "to": 1, "cols": 3}\n', 0))
+        check("no columns by a file", of_file("top", "cols", "1"), (f"1 1 {1 << 60}\n", "", 0))
+        check("no server", run([*PLAIN, "top", "rows"])[2], 2)
+        check("a server and a file", of_file("--unix", at.path, "top", "rows")[2], 2)
+        check("a status", hhmc(at, "status", "--json"), ('{"batches": 1, "total": %d}\n' % ((1 << 60) + 9), "", 0))
+        check("stats", json.loads(hhmc(at, "stats", "--json")[0])["batches"], 1)
+        check("stats as CSV", "batches,1\n" in hhmc(at, "stats", "--csv")[0], True)
+        check("a terminal", on_terminal([*PLAIN, "--unix", at.path, "top", "rows", "--ip"]),
+              "row       entries                total\r\n10.0.0.0        1  1152921504606846976\r\n"
+              "0.0.0.7         2                    9\r\n")
+        with at.client(9) as hhm:
+            hhm.put(1, [(1, col, 1) for col in range(20_000)])
+        piped = ["bash", "-c", '"$@" | head -1; echo "${PIPESTATUS[0]}"', "-"]
+        check("a reader that goes", run([*piped, *PLAIN, "--unix", at.path, "list", "1"])[:2], ("1 0 1\n141\n", ""))
+
+
+def every_help_has_statuses():
+    words = hhm_command.parser()
+    for name, word in words._subparsers._group_actions[0].choices.items():
+        check(f"hhmc {name} --help", "Statuses: 0; 1 where the server refused;" in word.format_help(), True)
+
+
+def on_terminal(words):
+    """What a program writes on a terminal."""
+    process, terminal = pty.fork()
+    if process == 0:
+        os.execvp(words[0], words)
+    text = b""
+    try:
+        while more := os.read(terminal, 65536):
+            text += more
+    except OSError:
+        pass
+    os.waitpid(process, 0)
+    os.close(terminal)
+    return text.decode()
+
+
 def all_are_tried():
     commands = drivers()
     if "C" in commands:
@@ -217,6 +353,10 @@ def all_are_tried():
         drawn_answers(name, command)
         what_is_no_reply_is_told(name, command)
     the_command_line_asks()
+    words_of_rows_are_one()
+    names_are_shown()
+    answers_have_forms()
+    every_help_has_statuses()
 
 
 if __name__ == "__main__":

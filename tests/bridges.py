@@ -198,6 +198,94 @@ def scipy_has_the_sum(saved):
     check("from_scipy: other numbers", asked_of(python, "wrong"), [WRONG, TAKEN])
 
 
+def exported(it, form, *words, python=sys.executable):
+    """What `hhmc export` writes of a snapshot into a file."""
+    path = path_of(f"sum.{form}")
+    given = ["export", "--file", it.path, "--program", server.PROGRAM, "--format", form, *words]
+    with open(path, "wb") as file:
+        ended = subprocess.run([python, f"{PYTHON}/hhm_client.py", *given], stdout=file, stderr=subprocess.PIPE,
+                               text=True, timeout=WAIT)
+    check(f"export {form} of {it.path}", (ended.stderr, ended.returncode), ("", 0))
+    return path
+
+
+# What each library reads of an export, as lists of rows, columns and counts.
+READERS = {
+    "npz": (("numpy",), "import numpy, json, sys; it = numpy.load(sys.argv[1]); "
+                        "print(json.dumps([it[k].tolist() for k in ('row', 'col', 'data')]))"),
+    "parquet": (("pyarrow.parquet",), "import pyarrow.parquet as p, json, sys; it = p.read_table(sys.argv[1]); "
+                                      "print(json.dumps([it[k].to_pylist() for k in ('row', 'column', 'count')]))"),
+    "arrow": (("pyarrow",), "import pyarrow as p, json, sys; it = p.ipc.open_file(sys.argv[1]).read_all(); "
+                            "print(json.dumps([it[k].to_pylist() for k in ('row', 'column', 'count')]))"),
+}
+
+
+def exports_have_formats(saved):
+    """CSV, and what each library reads of the others; what says that a library isn't there."""
+    for it in saved.values():
+        with open(exported(it, "csv")) as file:
+            lines = [f"{row},{col},{count}\n" for (row, col), count in it.counts.items()]
+            check(f"csv: {it.path}", file.readlines(), ["row,column,count\n", *lines])
+        for form, (modules, reader) in READERS.items():
+            if python := python_with(*modules):
+                output, error, status = run([python, "-c", reader, exported(it, form, python=python)])
+                check(f"{form}: {it.path}: read", (error, status), ("", 0))
+                check(f"{form}: {it.path}", json.loads(output), [list(part) for part in arrays_of(it.counts)])
+    for form, (modules, _) in READERS.items():
+        if python_with(*modules) is None:
+            print(f"not tried: hhmc export --format {form}: there is no {modules[0]}")
+        module = modules[0].partition(".")[0]
+        without = f"import sys; sys.modules[{module!r}] = None; import hhm_command; sys.exit(hhm_command.main())"
+        words = ["export", "--file", saved["one"].path, "--program", server.PROGRAM, "--format", form]
+        output, error, status = run([sys.executable, "-c", without, *words])
+        told = error.startswith(f"export --format {form}: "), module in error
+        check(f"{form} without its library", (output, told, status), ("", (True, True), 4))
+    if python := python_with("scipy.sparse"):
+        asked = "import scipy.sparse as s, sys; it = s.load_npz(sys.argv[1]); print(it.nnz, *it.shape, it.dtype)"
+        counts = len(saved["small"].counts)
+        path = exported(saved["small"], "npz", python=python)
+        check("npz by scipy", run([python, "-c", asked, path]), (f"{counts} {FULL} {FULL} uint64\n", "", 0))
+
+
+NOTEBOOK = ["from hhm_client import Client\nfrom hhm_plot import picture\nhhm = Client(unix='SOCKET')", "hhm.top(2)",
+            "hhm.page((0, 9), (0, 9))", "picture(hhm)"]
+
+
+def table_of(head, *lines):
+    """The HTML of a table."""
+    heads = "".join(f"<th>{word}</th>" for word in head.split())
+    rows = ("".join(f"<td>{word}</td>" for word in line.split()) for line in lines)
+    body = "".join(f"<tr>{row}</tr>" for row in rows)
+    return f"<table><thead><tr>{heads}</tr></thead><tbody>{body}</tbody></table>"
+
+
+def a_notebook_shows_answers():
+    """Top rows and a page are tables in a notebook, and a picture is one."""
+    import hhm_plot
+
+    tables = [table_of("row entries total", "7 1 5", "1 2 3"), table_of("row column count", "1 2 1", "1 3 2", "7 7 5")]
+    with Server(LARGE, tcp=False) as at, at.client(2) as hhm:
+        hhm.put(1, [(1, 2, 1), (1, 3, 2), (7, 7, 5)])
+        check("tables", [hhm.top(2)._repr_html_(), hhm.page((0, 9), (0, 9))._repr_html_()], tables)
+        drawn = hhm_plot.picture(hhm)._repr_html_()
+        check("a picture", (drawn.startswith("<svg "), "Degrees of rows and columns: 3 cells" in drawn), (True, True))
+        python = python_with("nbconvert", "ipykernel")
+        if python is None:
+            print("not tried: a notebook: there is no nbconvert, or no ipykernel")
+            return
+        cells = [{"cell_type": "code", "metadata": {}, "execution_count": None, "outputs": [],
+                  "source": source.replace("SOCKET", at.path)} for source in NOTEBOOK]
+        path = path_of("asked.ipynb")
+        with open(path, "w") as file:
+            json.dump({"cells": cells, "metadata": {}, "nbformat": 4, "nbformat_minor": 5}, file)
+        output, error, status = run([python, "-m", "nbconvert", "--to", "notebook", "--execute", "--stdout", path])
+        check("a notebook", status, 0)
+        if status == 0:
+            shown = ["".join(out["data"].get("text/html", [])) for cell in json.loads(output)["cells"]
+                     for out in cell["outputs"]]
+            check("a notebook: its tables", (shown[:2], shown[2][:5]), (tables, "<svg "))
+
+
 def examples_find_the_top(saved):
     """Each example of examples/ tells the ten rows with the highest totals."""
     for module, name in [("numpy", "top_numpy.py"), ("scipy.sparse", "top_scipy.py")]:
@@ -234,6 +322,8 @@ def all_are_tried():
     cells_are_read(saved)
     faults_are_told()
     scipy_has_the_sum(saved)
+    exports_have_formats(saved)
+    a_notebook_shows_answers()
     examples_find_the_top(saved)
 
 

@@ -89,8 +89,16 @@ def a_file_counts_once():
         for name, given in [("another file", [second]), ("another order", [second, file])]:
             output, error, status = load(at, "--batch", 1000, 7, *given)
             check(name, (output, status, "batch 0 of client 7 has other events" in error), ("", 2, True))
-        _, error, status = load(at, "--batch", 500, 7, file)
-        check("another size", (status, "batch 0 of client 7 has other events" in error), (2, True))
+        for name, given, told in [
+            ("another size", ["--batch", 500], "--batch 1000, and this load has --batch 500"),
+            ("another map", ["--map", "name", "--names", path_of("7.names")],
+             "--map ip --batch 1000, and this load has --map name --batch 10000"),
+            ("other columns", ["--cols", "destination,source", "--batch", 1000],
+             "--cols source,destination,packets, and this load has --cols destination,source"),
+        ]:
+            _, error, status = load(at, *given, 7, file)
+            check(name, (status, f"client 7 was loaded with {told} (" in error), (2, True))
+        check("another map: no table was written", server.content(path_of("7.names")), b"")
         check("nothing of those was put", sum_of(at), before)
 
 
@@ -126,6 +134,7 @@ def each_form_is_read():
             names = path_of(f"{name}-{size}.names")
             given_here = [names if word == "NAMES" else word for word in given]
             with Server([*LARGE, "--limit", str((1 << 64) - 1)], tcp=False) as at:
+                given_here += ["--state", path_of(f"{name}-{size}.state")]
                 _, error, status = load(at, *given_here, "--batch", size, 100 + 2 * number + (size > 1), file)
                 check(f"{name} by {size}", (error, status), ("", 0))
                 check(f"{name} by {size}: the sum", sum_of(at), added(cells))
@@ -141,8 +150,10 @@ def other_ways_to_a_text():
         cut = written("cut.csv.gz", gzip.compress(text)[:-20])
         check("gzip that is cut short", load(at, 301, cut)[2], 4)
         with open(written("plain.csv", text)) as file:
-            check("standard input", load(at, "--format", "csv", 302, "-", stdin=file),
-                  ("new 1 repeats 0 events 300\n", "", 0))
+            told = ("standard input: its first 300 events were loaded as client 300 too: where that was into this "
+                    "server, they count twice\n")
+            check("standard input, the same events again", load(at, "--format", "csv", 302, "-", stdin=file),
+                  ("new 1 repeats 0 events 300\n", told, 0))
         check("both: the sum", sum_of(at), added(cells + cells))
         _, error, status = load(at, 303, "-")
         check("no format", (status, "give --format" in error), (2, True))
@@ -154,7 +165,7 @@ BAD = [
     ("0.0.0.1,0.0.0.2", "2 columns, and not 3"), ("0.0.0.1,0.0.0.2,5,6", "4 columns, and not 3"),
     ("0.0.0.1,0.0.0.256,5", "'0.0.0.256' is no address"), ("0.0.0.1,0.0.0.2,-5", "'-5' is no number"),
     ("0.0.0.1,0.0.0.2,5.5", "'5.5' is no number"), ("0.0.0.1,0.0.0.2,1_000", "'1_000' is no number"),
-    ("0.0.0.1,0.0.0.2,", "invalid literal"), ("0.0.0.1,0.0.0.2,\u0665", "is no number"),
+    ("0.0.0.1,0.0.0.2,", "'' is no number"), ("0.0.0.1,0.0.0.2,\u0665", "is no number"),
     ("0.0.0.1,0.0.0.2," + str(1 << 64), "too big"),
 ]
 
@@ -232,6 +243,88 @@ def names_keep_their_numbers():
         check("two loads, one client", (status, "another load uses client 602" in error), (4, True))
         check("the first goes on", (feed.communicate(timeout=WAIT)[0], feed.returncode),
               ("new 1 repeats 0 events 1\n", 0))
+
+
+def a_refused_load_writes_no_names():
+    """Names of other events under a used number aren't in the table; IPv6 that the server has no room for is told."""
+    names, given = path_of("kept.names"), ["--cols", "1,2", "--map", "name", "--names", path_of("kept.names")]
+    with Server(LARGE, tcp=False) as at:
+        check("names", load(at, *given, 610, written("kept.csv", "a,b\n"))[2], 0)
+        _, error, status = load(at, *given, 610, written("other.csv", "c,d\n"))
+        check("other names", (status, "has other events" in error, server.content(names)), (2, True, b"a\nb\n"))
+    with Server(["--rows", str(1 << 32), "--cols", str(1 << 32)], tcp=False) as at:
+        six = written("small.csv", "source,destination\n0.0.0.1,0.0.0.2\n0.0.0.1,::1\n")
+        _, error, status = load(at, "--names", path_of("small.names"), 611, six)
+        told = f"{six}: line 3: batch 0: refused: IndexOutOfRange at cell 1: addresses of IPv6 "
+        check("IPv6 in 2^32 rows", (status, told in error, "--rows 8589934592" in error), (1, True, True))
+
+
+def ctrl_c_says_how_to_go_on():
+    """What was put counts, and the same words go on."""
+    lines, cells = flows(9, 400)
+    text = "source,destination,packets\n" + "".join(lines)
+    with Server(LARGE, tcp=False) as at:
+        given = ["--batch", 100, "--format", "csv", 12, "-"]
+        run = subprocess.Popen(words(at, *given), stdin=subprocess.PIPE, stdout=subprocess.PIPE, stderr=subprocess.PIPE,
+                               text=True, env={**os.environ, "XDG_STATE_HOME": path_of("state")})
+        run.stdin.write("".join(text.splitlines(keepends=True)[:301]))
+        run.stdin.flush()
+        ends = time.monotonic() + WAIT
+        with Client(unix=at.path) as hhm:
+            while hhm.status().batches < 2 and time.monotonic() < ends:
+                time.sleep(0.01)
+        run.send_signal(signal.SIGINT)
+        output, error = run.communicate(timeout=WAIT)
+        told = error.startswith("interrupted: new "), "load again with the same words and the same input" in error
+        check("Ctrl-C", (output, run.returncode, told), ("", 130, (True, True)))
+        again = load(at, *given, input=text)
+        check("Ctrl-C, and again", (again[0].split()[5:], again[2]), (["400"], 0))
+        check("Ctrl-C: the sum", sum_of(at), added(cells))
+
+
+def several_values_go_to_servers():
+    """One pass over a file puts packets to one server and bytes to another; a question finds the server of a value."""
+    table = [(row, col, row + 1, 1000 * row + col) for row in range(50) for col in range(7)]
+    lines = [f"0.0.0.{row},0.0.1.{col},{packets},{size}\n" for row, col, packets, size in table]
+    file = written("both.csv", "src,dst,packets,bytes\n" + "".join(lines))
+    other = path_of("other.sock")
+    with Server(LARGE, tcp=False) as at:
+        os.rename(at.path, other)
+        with Server(LARGE, tcp=False) as of_bytes:
+            values = ["--value", f"packets=unix:{other}", "--value", f"bytes=unix:{of_bytes.path}"]
+            given = [*values, "--batch", 100, 620, file]
+            told = f"{file}: row src, column dst, count packets and bytes\n"
+            check("values", hhmc("load", *given), ("new 4 repeats 0 events 350\n", told, 0))
+            check("values again", hhmc("load", *given), ("new 0 repeats 4 events 350\n", told, 0))
+            with Client(unix=other) as hhm:
+                check("packets", hhm.status(), (4, sum(it[2] for it in table)))
+                check("packets of a cell", hhm.cell(49, 256 + 3), 50)
+            with Client(unix=of_bytes.path) as hhm:
+                check("bytes", hhm.status(), (4, sum(it[3] for it in table)))
+                check("bytes of a cell", hhm.cell(49, 256 + 3), 49003)
+            check("top by bytes", hhmc("top", "rows", 1, "--value", "bytes"), ("49 7 343021\n", "", 0))
+            check("top by packets", hhmc("top", "rows", 1, "--value", "packets"), ("49 7 350\n", "", 0))
+            one = [*values[2:], *values[:2], "--batch", 100, 620, file]
+            check("values in another order", hhmc("load", *one)[2], 2)
+            for words in [
+                ["top", "rows", "--value", "flows"], ["load", "--value", "a", "--value", "b", 1, file],
+                ["load", "--value", "packets=x:y", 1, file], ["--unix", other, "load", *given],
+                ["--unix", other, "top", "rows", "--value", "bytes"],
+            ]:
+                check(f"wrong values {words[:4]}", hhmc(*words)[::2], ("", 2))
+            of_bytes.process.kill()
+            of_bytes.process.wait()
+            output, error, status = hhmc("--attempts", 1, "load", *values, "--batch", 100, 621, file)
+            check("a server of two is gone", (output, status), ("", 4))
+        os.rename(other, at.path)
+
+
+def hhmc(*given):
+    """What hhmc writes to both outputs, and its status."""
+    environment = {**os.environ, "XDG_STATE_HOME": path_of("state")}
+    ended = subprocess.run([sys.executable, HHMC, *map(str, given)], capture_output=True, text=True, timeout=WAIT,
+                           env=environment)
+    return ended.stdout, ended.stderr, ended.returncode
 
 
 def killed_and_begun_again(by_names):
@@ -318,6 +411,9 @@ def all_are_tried():
     lines_that_are_no_events()
     refusals_tell_the_line()
     names_keep_their_numbers()
+    a_refused_load_writes_no_names()
+    ctrl_c_says_how_to_go_on()
+    several_values_go_to_servers()
     killed_and_begun_again(False)
     killed_and_begun_again(True)
     a_server_that_went_back()

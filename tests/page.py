@@ -94,6 +94,12 @@ def what_is_told_is_shown(page, metrics_of):
         for words in ["NumberReused 2, IndexOutOfRange 3,000", "1 waiting, 99 served, 4 workers",
                       "0 batches since, 2 saves, 1 failed", "12 pages, 4,096 ready, 8 syncs, 3 in the last group"]:
             check(f"shown: {words}", words in small, True)
+        bad = "[...document.querySelectorAll('#tiles .bad dt')].map((it) => it.textContent)"
+        check("shown: what is wrong", page.value(bad), ["Refused", "Sessions", "Last save"])
+        for number, words, title in [("895912345678", "895.9 G", "895,912,345,678"), ("999999999", "999,999,999", None),
+                                     ("'18446744073709551615'", "18.4 E", "18,446,744,073,709,551,615")]:
+            briefly = f"[brief({number}).textContent, brief({number}).getAttribute('title')]"
+            check(f"shown: {number}", page.value(briefly), [words, title])
         version = "version 1.2.3, up 1 h 2 min, 1,152,921,504,606,846,976 rows by 5 columns"
         check("shown: version", page.value("document.getElementById('version').textContent"), version)
         layers = [["All", "66,000", "66,012", "66,024"]]
@@ -179,6 +185,8 @@ def it_is_readable(page):
         time.sleep(0.3)
         wide = page.value("document.documentElement.scrollWidth")
         check(f"page: as wide as a phone of {width}: {wide}", wide <= width, True)
+        cut = "[...document.querySelectorAll('#top .scroll')].filter((it) => it.scrollWidth > it.clientWidth).length"
+        check(f"page: no row that leads is cut on a phone of {width}", page.value(cut), 0)
     page.look(1200, 1400)
 
 

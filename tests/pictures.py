@@ -458,8 +458,8 @@ def faults_are_told(packets):
     table = [
         ([*file, "spy", "out.gif"], 2, "ends neither with .svg nor with .png"),
         ([*file, "pie", out], 2, "invalid choice"),
-        ([*file, "spy", out, "--rows", "3-1"], 2, "'3-1' begins behind its end"),
-        ([*file, "spy", out, "--rows", "x-1"], 2, "'x-1' isn't FIRST-LAST"),
+        ([*file, "spy", out, "--rows", "3-1"], 2, "3-1: the first is after the last"),
+        ([*file, "spy", out, "--rows", "x-1"], 2, "'x-1' isn't a number, A-B, an address"),
         ([*file, "spy", out, "--cols", "0-5"], 2, "--cols 0-5: the last is 4"),
         ([*file, "degrees", out, "--whole"], 2, "are for the picture spy"),
         (["--from", packets.path, "cell", "0", "0"], 2, "--from is for plot"),

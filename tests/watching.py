@@ -36,7 +36,9 @@ ADDRESS = 10 << 24
 TOLD = {
     "version": "1.2.3", "rows": 1 << 60, "cols": 1 << 60, "batches": 5, "total": (1 << 64) - 1, "unheard_of": 7,
     "odd_seconds": "0.250", 'odd_family{a="b c",d="e\\"f"}': 9, 'odd_family{a="x"}': 8, "odd_total": (1 << 63) + 1,
+    'refused_total{code="30"}': 4,
 }
+REFUSALS = 'refused_total{code="30"}'
 LABEL = r'[a-z_]+="(?:[^"\\]|\\.)*"'
 SAMPLE = re.compile(r"([a-z_0-9]+)(\{" + LABEL + "(?:," + LABEL + r")*\})? ([0-9.e+-]+)")
 
@@ -100,8 +102,12 @@ def what_a_server_tells_is_told():
         # (the server in Python is a thread of this process)
         durable, memory, age, processor = (float(samples.pop(f"hhm_{name}")) for name in OTHERWISE)
         check("told: of the process", (durable, 1e7 < memory < 1e9, age > 0, 0 < processor < 60), (0, True, True, True))
-        wanted = {f"hhm_{name}": str(value) for name, value in TOLD.items() if name != "version"}
-        wanted.update({"hhm_up": "1", 'hhm_info{version="1.2.3"}': "1", "hhm_odd_seconds": "0.25"})
+        start = float(samples.pop("process_start_time_seconds"))
+        check("told: the start", abs(time.time() - age - start) < 10, True)
+        check("told: the start is one number", metrics.samples()["process_start_time_seconds"], f"{start:.2f}")
+        wanted = {f"hhm_{name}": str(value) for name, value in TOLD.items() if name not in ("version", REFUSALS)}
+        wanted.update({"hhm_up": "1", 'hhm_info{version="1.2.3"}': "1", "hhm_odd_seconds": "0.25",
+                       'hhm_build_info{version="1.2.3"}': "1", f'hhm_{REFUSALS[:-1]},name="NumberReused"}}': "4"})
         check("told: samples", samples, wanted)
         told = metrics.json()
         raw = {**{name: str(value) for name, value in TOLD.items()}, "odd_seconds": "0.25"}
@@ -166,20 +172,24 @@ def a_browser_is_answered():
 
 
 class Screen:
-    """A program on a terminal of 120 columns and 50 lines, and all that it has written."""
+    """A program on a terminal of 120 columns and 50 lines, and all that it has written. It is ended by Ctrl-C, or by
+    keys."""
 
-    def __init__(self, words):
+    def __init__(self, words, size=("120", "50"), keys=None):
         self.process, self.terminal = pty.fork()
         if self.process == 0:
-            os.environ.update({"COLUMNS": "120", "LINES": "50", "PYTHONIOENCODING": "utf-8"})
+            os.environ.update({"COLUMNS": size[0], "LINES": size[1], "PYTHONIOENCODING": "utf-8"})
             os.execvp(words[0], words)
-        self.text, self.status = "", None
+        self.text, self.status, self.keys = "", None, keys
 
     def __enter__(self):
         return self
 
     def __exit__(self, *_):
-        os.kill(self.process, signal.SIGINT)
+        if self.keys is None:
+            os.kill(self.process, signal.SIGINT)
+        else:
+            os.write(self.terminal, self.keys)
         self.until(None)
         self.status = os.waitstatus_to_exitcode(os.waitpid(self.process, 0)[1])
         os.close(self.terminal)
@@ -237,6 +247,26 @@ def a_server_is_watched():
     check("watch: gone", (output, status), ("", 4))
 
 
+def a_narrow_screen_is_told():
+    """At 60 columns lines are wrapped, and what is cut shows it; names are shown; `q` quits."""
+    names = os.path.join(server.FOLDER, "watched.names")
+    with open(names, "w") as file:
+        file.write("www\na-host-whose-name-is-longer-than-twenty-signs\n")
+    with Server(LARGE, tcp=False) as at:
+        with at.client(8) as hhm:
+            hhm.put(1, [(0, 0, 5), (1, 0, 3)])
+        words = [*HHMC, "--unix", at.path, "watch", "--every", "0.2", "--names", names]
+        with Screen(words, ("60", "50"), b"q") as screen:
+            check("narrow: a name", screen.until("  1                  www              1                    5"), True)
+            check("narrow: a long name", screen.until("  2 a-host-whose-name-i\u2026 "), True)
+        check("narrow: q", (screen.status, screen.text.endswith("\x1b[?25h\x1b[?1049l")), (0, True))
+        lines = [re.sub(r"\x1b\[[?0-9]*[A-Za-z]|\r", "", line) for line in re.split(r"\n|\x1b\[H", screen.text)]
+        check("narrow: no line is longer", [line for line in lines if len(line) > 60], [])
+        with Screen(words, ("60", "8"), b"q") as screen:
+            check("low: told", screen.until("more lines: the terminal is too low"), True)
+    check("low: q", screen.status, 0)
+
+
 def rates_are_drawn():
     """Rates of looks that are worked out by hand; and a picture of the built program, whose line says what was put."""
     told = [(5, 0), (6, 8), (8, 10), (9, 3)]
@@ -251,7 +281,7 @@ def rates_are_drawn():
             seen.look()
         count = len(TOLD) + len(OTHERWISE)
         check("rates: what is kept", (len(seen.moments), len(seen.moments[-1].stats)), (KEPT, count))
-        check("rates: without labels", {len(it.stats) for it in seen.moments[:-1]}, {count - 2})
+        check("rates: without labels", {len(it.stats) for it in seen.moments[:-1]}, {count - 3})
     with Server(LARGE, tcp=False) as at, at.client(8) as hhm:
         path = os.path.join(server.FOLDER, "rates.svg")
         words = [*HHMC, "--unix", at.path, "plot", "rates", "--seconds", "3", path]
@@ -278,6 +308,7 @@ def all_are_tried():
     an_earlier_server_is_told()
     a_browser_is_answered()
     a_server_is_watched()
+    a_narrow_screen_is_told()
     rates_are_drawn()
     page.is_tried(Metrics)
 

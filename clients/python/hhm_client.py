@@ -132,12 +132,31 @@ class Page(NamedTuple):
     has_more: bool
 
 
+    def _repr_html_(self) -> str:
+        """A table, for notebooks."""
+        return html_table(("row", "column", "count"), self.cells)
+
+
 class TopRow(NamedTuple):
     """A row, how many cells it has, stored zeros included, and the sum of their counts."""
 
     row: int
     entries: int
     total: int
+
+
+class Top(List[TopRow]):
+    """The rows that lead, in order."""
+
+    def _repr_html_(self) -> str:
+        """A table, for notebooks."""
+        return html_table(TopRow._fields, self)
+
+
+def html_table(names: Sequence[str], rows: Iterable[Sequence[Any]]) -> str:
+    from hhm_answers import html_table as table
+
+    return table(names, rows)
 
 
 class Refused(Exception):
@@ -228,11 +247,11 @@ def paged(ask: Callable[[Place], Page]) -> Iterator[Cell]:
         start = row, col + 1
 
 
-def top_of(body: bytes, most: int, by: str) -> List[TopRow]:
+def top_of(body: bytes, most: int, by: str) -> Top:
     """The rows that a reply to a Top has. A BadReply where it can't be one."""
     if len(body) % 24 != 0 or len(body) > 24 * most:
         raise BadReply(f"{len(body)} bytes are no {most} rows")
-    rows = [TopRow(*row) for row in struct.iter_unpack(">QQQ", body)]
+    rows = Top(TopRow(*row) for row in struct.iter_unpack(">QQQ", body))
     keys = [order_of(row, by) for row in rows]
     if any(one >= other for one, other in zip(keys, keys[1:])) or not all(row.entries for row in rows):
         raise BadReply("the rows don't stand in order")
@@ -655,7 +674,7 @@ class Client:
         frame = request(RANGE, *rows, *cols, *start, most)
         return self._ask_for(frame, CELLS, lambda body: page_of(body, rows, cols, start, most))
 
-    def top(self, most: int = 10, by: str = "total") -> List[TopRow]:
+    def top(self, most: int = 10, by: str = "total") -> Top:
         """The first `most` rows, at most 1,000,000, of those that have a cell: by total, or by the number of their
         cells (`by="entries"`), the highest first, and of equal ones the lowest row."""
         if by not in BY or not 0 <= most < 2**64:
@@ -682,6 +701,20 @@ class Client:
     def export(self) -> bytes:
         """The text of the sum of all accepted batches; `cells_of` reads it."""
         return self._ask(request(EXPORT), TEXT, None)
+
+    def to_scipy(self) -> Any:
+        """The sum as a sparse matrix, with the numbers of its rows and columns: `hhm_scipy.to_scipy`, which needs numpy
+        and scipy. An ImportError where they aren't there."""
+        from hhm_scipy import to_scipy
+
+        return to_scipy(self)
+
+    def to_arrow(self) -> Any:
+        """The sum as a table of Arrow: `hhm_arrow.to_arrow`, which needs pyarrow. An ImportError where that isn't
+        there."""
+        from hhm_arrow import to_arrow
+
+        return to_arrow(self)
 
     def save(self) -> int:
         """Saves a snapshot where the server was told to, and gives its number of batches. Where no answer comes in time

@@ -1,9 +1,10 @@
 """The command line of `hhm_client.py`, which is installed as `hhmc`: one word for each question, and more of modules
-beside it: `load` (hhm_load.py), `plot` (hhm_plot.py), `top`, `list` and `stats` (hhm_ask.py), `watch` (hhm_watch.py) and
-`metrics` (hhm_metrics.py)."""
+beside it: `load` (hhm_load.py), `plot` (hhm_plot.py), all questions (hhm_ask.py), `export` (hhm_export.py), `watch`
+(hhm_watch.py) and `metrics` (hhm_metrics.py)."""
 import argparse
 import importlib
 import os
+import signal
 import sys
 import threading
 from typing import Any, Iterable, Optional
@@ -17,8 +18,10 @@ SPLIT = "put it as several batches, as the word load does with files of events"
 TOO_LONG = "the text has more than 64 MiB: save, and take the snapshot (`hhm export`, `hhmc --from`)"
 UNKNOWN = "this server doesn't know the question"
 ADVICE = {"TooManyEntries": f": {SPLIT}", "ReplyTooLarge": f": {TOO_LONG}", "UnknownKind": f": {UNKNOWN}"}
+STATUSES = ("Statuses: 0; 1 where the server refused; 2 for wrong words; 3 for lines that are no events and files that "
+            "are no sum; 4 where the server can't be reached, or a file can't be read; 130 after Ctrl-C.")
 # The words that ask for long, and so don't say that they wait for an answer.
-LONG = ("load", "top", "list", "plot")
+LONG = ("load", "top", "list", "range", "degrees", "row", "export", "plot")
 # The variable with the server's address, and what the help says of it.
 SERVER = "HHM_SERVER"
 ENVIRONMENT = (
@@ -62,7 +65,7 @@ class Version(argparse.Action):
 
 def parser() -> argparse.ArgumentParser:
     about = "Asks a server of hhm. Rows and columns count from 0."
-    words = argparse.ArgumentParser(prog="hhmc", description=about, epilog=ENVIRONMENT)
+    words = argparse.ArgumentParser(prog="hhmc", description=about)
     version = "prints the package's file BUILD: version and proof, and whether the program hhm in use has its sum"
     words.add_argument("--version", action=Version, dest=argparse.SUPPRESS, help=version)
     where = words.add_mutually_exclusive_group()
@@ -90,28 +93,37 @@ def parser() -> argparse.ArgumentParser:
         module.add_words(asked.add_parser("watch", help="shows on a terminal what the server does"))
     if module := module_of("hhm_metrics"):
         module.add_words(asked.add_parser("metrics", help="tells it to Prometheus, and on a page for a browser"))
-    cell = asked.add_parser("cell", help="the count of a cell, or the line `none`")
-    cell.add_argument("row", type=number)
-    cell.add_argument("col", type=number)
-    row = asked.add_parser("row", help="a row's number of cells, and their sum")
-    row.add_argument("row", type=number)
-    asked.add_parser("status", help="the number of accepted batches, and their total")
-    asked.add_parser("stored", help="the number of durable batches, which no crash takes back, and their total")
-    asked.add_parser("export", help="writes the sum as a Matrix Market text")
+    export = asked.add_parser("export", help="writes the sum as a Matrix Market text, or in a format of other tools")
+    if module := module_of("hhm_export"):
+        module.add_words(export)
     asked.add_parser("save", help="saves a snapshot")
     asked.add_parser("fold", help="folds what was accepted, so that the server needs less memory for it")
-    stop = asked.add_parser("stop", help="saves, where the server has a place for snapshots, and stops the server")
-    stop.add_argument("--discard", action="store_true", help="stops it also where saving fails, without trying first")
+    add_stop(asked)
+    words.epilog = f"{ENVIRONMENT} {STATUSES}"
+    for word in asked.choices.values():
+        word.epilog = STATUSES
     return words
 
 
+def add_stop(asked: argparse._SubParsersAction) -> None:
+    stop = asked.add_parser("stop", help="saves, where the server has a place for snapshots, and stops the server")
+    stop.add_argument("--discard", action="store_true", help="stops it also where saving fails, without trying first")
+
+
 def given_words() -> argparse.Namespace:
-    """The words of the command line, with the address of the environment where they have none."""
+    """The words of the command line, with the address of a value, or of the environment, where they have none."""
     words = parser()
     given = words.parse_args()
+    if getattr(given, "value", None):
+        module_of("hhm_values").choose(given, words.error)
+    has_server = any(place is not None for place in (given.tcp, given.unix, given.source))
+    if getattr(given, "snapshot", None) is not None:
+        if has_server:
+            words.error("--file is in place of a server: leave --tcp, --unix and --from out")
+        return given
     if given.source is not None and given.word != "plot":
         words.error(f"--from is for plot: give --tcp or --unix for {given.word}")
-    if given.tcp is None and given.unix is None and given.source is None:
+    if not has_server:
         if not os.environ.get(SERVER):
             words.error(f"one of the arguments --tcp --unix --from is required, or {SERVER} in the environment")
         try:
@@ -150,23 +162,19 @@ def answer(hhm: Client, given: argparse.Namespace, text: bytes) -> bytes:
         return module_of("hhm_plot").plot(hhm, given).encode()
     if given.word == "put":
         return b"index %d total_after %d\n" % hhm.put_text(given.number, text)
-    if given.word == "cell":
-        count = hhm.cell(given.row, given.col)
-        return b"none\n" if count is None else b"%d\n" % count
-    if given.word == "row":
-        return b"entries %d total %d\n" % hhm.row(given.row)
-    if given.word == "status":
-        return b"batches %d total %d\n" % hhm.status()
-    if given.word == "stored":
-        return b"batches %d total %d\n" % hhm.stored()
-    if given.word == "export":
-        return hhm.export()
     if given.word == "save":
         return b"saved %d\n" % hhm.save()
     if given.word == "fold":
         return b"folded %d\n" % hhm.fold()
     stop(hhm, given.discard)
     return b"stopping\n"
+
+
+def answers_of(word: str) -> Any:
+    """The function that answers a word piece by piece; None for a word that has one short answer."""
+    if word == "export":
+        return getattr(module_of("hhm_export"), "export", None)
+    return getattr(module_of("hhm_ask"), "ANSWERS", {}).get(word)
 
 
 def asked(given: argparse.Namespace) -> Iterable[bytes]:
@@ -177,6 +185,9 @@ def asked(given: argparse.Namespace) -> Iterable[bytes]:
         return
     if given.word in ("watch", "metrics"):
         yield from module_of(f"hhm_{given.word}").run(given)
+        return
+    if getattr(given, "snapshot", None) is not None:
+        yield from answers_of(given.word)(None, given)
         return
     text = text_to_put(given.file) if given.word == "put" else b""
     place = given.unix if given.tcp is None else given.tcp
@@ -195,12 +206,22 @@ def asked(given: argparse.Namespace) -> Iterable[bytes]:
     waits.start()
     try:
         with hhm:
-            if answers := getattr(module_of("hhm_ask"), "ANSWERS", {}).get(given.word):
+            if answers := answers_of(given.word):
                 yield from answers(hhm, given)
             else:
                 yield answer(hhm, given, text)
     finally:
         waits.cancel()
+
+
+def show(piece: bytes) -> None:
+    """Writes on standard output. Where its reader has gone, as `head` does, SIGPIPE ends the program."""
+    try:
+        sys.stdout.buffer.write(piece)
+        sys.stdout.buffer.flush()
+    except BrokenPipeError:
+        signal.signal(signal.SIGPIPE, signal.SIG_DFL)
+        os.kill(os.getpid(), signal.SIGPIPE)
 
 
 def main() -> int:
@@ -209,8 +230,7 @@ def main() -> int:
     given = given_words()
     try:
         for piece in asked(given):
-            sys.stdout.buffer.write(piece)
-            sys.stdout.buffer.flush()
+            show(piece)
     except Ended as ended:
         print(ended, file=sys.stderr)
         return ended.status

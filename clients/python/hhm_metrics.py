@@ -19,9 +19,10 @@ from http.server import BaseHTTPRequestHandler, ThreadingHTTPServer
 from typing import Any, Dict, Iterable, List, Optional, Tuple
 from urllib.parse import parse_qs, urlsplit
 
-from hhm_client import Refused, TopRow
-from hhm_figures import LABELLED, Degrees, Moment, Watched, asking
+from hhm_client import CODES, Refused, TopRow
+from hhm_figures import LABELLED, Degrees, Moment, Watched, asking, labels_of
 from hhm_page import PAGE
+from hhm_words import Words, add_options
 from hhm_watch import (
     BACK, CELLS, DURABLE, FAILED, GROUP, MEMORY, OPEN, PAGES, PROCESSOR, RECEIVED, REPEATS, ROOM, SAVED, SAVES, SENT,
     SERVED, SINCE, SYNCS, UPTIME, WAITING, WORKERS, words_of, lacking, refusals_of, refused_of, seconds,
@@ -30,6 +31,8 @@ from hhm_watch import (
 # The looks for whose time nothing is said of the time between two of them, where so much lies between, and the seconds
 # for which the rows that lead are asked for behind the last page that asked.
 GAP, VIEWED = 3.5, 30.0
+# By how many seconds the start of a server may vary, as it is worked out of its age.
+JITTER = 2.0
 # Numbers from here on are no longer whole in a browser.
 EXACT = 1 << 53
 # What the page may load: nothing but its own script, styles and numbers.
@@ -40,6 +43,8 @@ HELP = {
     "status_seconds": "How long the last status took, as hhmc metrics measured it.",
     "cell_seconds": "How long the last cell took, as hhmc metrics measured it.",
     "batches": "Accepted batches.", "total": "The sum of all counts.", "info": "The version of the server.",
+    "build_info": "The version of the server.",
+    "process_start_time_seconds": "When the server began, in seconds since 1970.",
     "rows": "Rows of the matrix.", "cols": "Columns of the matrix.", "workers": "Connections that are served at once.",
     "cuts": "Cuts between the layers of a shard.", "layer_cut_entries": "Entries above which a layer goes on to the next.",
     "shards": "Shards of the matrix.", "limit": "The highest total that may be accepted.",
@@ -76,6 +81,8 @@ class Looker:
         self.top: Optional[List[TopRow]] = None
         self.degrees: Optional[Tuple[float, Degrees]] = None
         self.viewed = 0.0
+        # When the server began; the same number as long as its age says so but for some jitter.
+        self.start: Optional[float] = None
 
     def run(self) -> None:
         while True:
@@ -85,7 +92,10 @@ class Looker:
 
     def look(self) -> None:
         try:
-            self.seen.look()
+            moment = self.seen.look()
+            age = moment.number(*UPTIME)
+            if age is not None and (self.start is None or abs(moment.at - age - self.start) > JITTER):
+                self.start = moment.at - age
             if time.monotonic() - self.viewed < VIEWED:
                 self.top = self.seen.top()
                 degrees = self.seen.degrees()
@@ -125,13 +135,13 @@ def series_of(moments: List[Moment], since: float, gap: float) -> Dict[str, List
     return found
 
 
-def page_stats(looker: Looker, since: float, is_ip: bool) -> Dict[str, Any]:
+def page_stats(looker: Looker, since: float, words: Words) -> Dict[str, Any]:
     """What the page draws."""
     looker.viewed = time.monotonic()
     moments, seen = looker.seen.moments, looker.seen
     last = moments[-1] if moments else None
     told: Dict[str, Any] = {
-        "place": seen.place, "now": time.time(), "is_ip": is_ip, "fault": looker.fault,
+        "place": seen.place, "now": time.time(), "is_ip": words.is_ip, "fault": looker.fault,
         "answered": last.at if last else None, "series": series_of(moments, since, GAP * looker.every),
         "lacking": [it.partition(":")[0] for it in lacking(seen)],
     }
@@ -149,6 +159,7 @@ def page_stats(looker: Looker, since: float, is_ip: bool) -> Dict[str, Any]:
         "rates": {name: seen.rate(read, BACK) for name, read in rates.items()},
         "layers": [list(it) for it in last.layers()],
         "top": None if looker.top is None else [[whole(number) for number in it] for it in looker.top],
+        "names": [words.name(it.row) for it in looker.top or []],
         "degrees": None if degrees is None else {"at": degrees[0], **degrees[1]._asdict()},
         "stats": [[name, str(value)] for name, value in last.stats.items()],
     })
@@ -158,7 +169,7 @@ def page_stats(looker: Looker, since: float, is_ip: bool) -> Dict[str, Any]:
 def metrics_of(looker: Looker) -> str:
     """All that is told, in the text format of Prometheus. Of a server that is gone only that it is."""
     moments = looker.seen.moments
-    families: Dict[str, List[str]] = {"up": ["hhm_up " + ("1" if looker.fault is None else "0")]}
+    families: Dict[str, List[str]] = {"hhm_up": ["hhm_up " + ("1" if looker.fault is None else "0")]}
     if looker.fault is None and moments:
         last = moments[-1]
         told: Dict[str, Any] = {"batches": last.batches(), "total": last.total(), **last.stats}
@@ -166,26 +177,37 @@ def metrics_of(looker: Looker) -> str:
         for name, value in told.items():
             found = LABELLED.fullmatch(name)
             if name == "version":
-                families["info"] = [f'hhm_info{{version="{value}"}} 1']
+                families.update({it: [f'{it}{{version="{value}"}} 1'] for it in ("hhm_info", "hhm_build_info")})
             elif found and isinstance(value, (int, float)):
-                families.setdefault(found.group("name"), []).append(f"hhm_{name} {value}")
+                families.setdefault("hhm_" + found.group("name"), []).append(f"hhm_{named(name)} {value}")
+        if looker.start is not None:
+            families["process_start_time_seconds"] = [f"process_start_time_seconds {looker.start:.2f}"]
     lines = []
     for name, samples in families.items():
-        kind = "counter" if f"hhm_{name}".endswith("_total") else "gauge"
-        lines += [f"# HELP hhm_{name} {HELP.get(name, help_of(name))}", f"# TYPE hhm_{name} {kind}", *samples]
+        kind = "counter" if name.endswith("_total") else "gauge"
+        lines += [f"# HELP {name} {help_of(name)}", f"# TYPE {name} {kind}", *samples]
     return "\n".join(lines) + "\n"
 
 
+def named(name: str) -> str:
+    """A name of stats; a refusal's code gets its name beside it."""
+    labels = labels_of(name)
+    if not name.startswith("refused_total{") or not labels.get("code", "").isdigit():
+        return name
+    return f'{name[:-1]},name="{CODES.get(int(labels["code"]), "unknown")}"}}'
+
+
 def help_of(name: str) -> str:
-    """What is said of a name that only the server explains."""
-    return f"{name}, as the server tells it."
+    """The help of a metric; that of a name which only the server explains has the name alone."""
+    bare = name[len("hhm_"):] if name.startswith("hhm_") else name
+    return HELP.get(bare, f"{bare}, as the server tells it.")
 
 
 class Handler(BaseHTTPRequestHandler):
     """Answers a browser, or Prometheus."""
 
     looker: Looker
-    is_ip = False
+    words = Words()
     protocol_version = "HTTP/1.1"
     server_version, sys_version = "hhmc", ""
     timeout = 30
@@ -197,7 +219,7 @@ class Handler(BaseHTTPRequestHandler):
         elif asked.path == "/":
             self.answer(200, "text/html; charset=utf-8", PAGE)
         elif asked.path == "/stats.json":
-            told = page_stats(self.looker, since_of(asked.query), self.is_ip)
+            told = page_stats(self.looker, since_of(asked.query), self.words)
             self.answer(200, "application/json", json.dumps(told, separators=(",", ":")))
         elif asked.path == "/metrics":
             self.answer(200, "text/plain; version=0.0.4; charset=utf-8", metrics_of(self.looker))
@@ -249,7 +271,7 @@ class Web(ThreadingHTTPServer):
 def run(given: argparse.Namespace) -> Iterable[bytes]:
     """Listens, says where, and serves until it is ended."""
     looker = Looker(Watched(asking(given.tcp, given.unix, given.timeout)), given.every)
-    handler = type("Own", (Handler,), {"looker": looker, "is_ip": given.ip})
+    handler = type("Own", (Handler,), {"looker": looker, "words": Words.of(given)})
     host, port = given.listen
     try:
         web = Web((host, port), handler)
@@ -275,4 +297,4 @@ def add_words(metrics: argparse.ArgumentParser) -> None:
     listen = "where a browser, or Prometheus, asks (127.0.0.1:9100)"
     metrics.add_argument("--listen", type=listened, default=("127.0.0.1", 9100), metavar="HOST:PORT", help=listen)
     metrics.add_argument("--every", type=seconds, default=1.0, metavar="SECONDS", help="between two looks (1)")
-    metrics.add_argument("--ip", action="store_true", help="the page tells rows as IPv4 addresses")
+    add_options(metrics)

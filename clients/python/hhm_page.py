@@ -31,6 +31,8 @@ main.stale { opacity: .55; }
 .tiles div { background: var(--panel); border-radius: .3rem; padding: .5rem .6rem; }
 .tiles dt { color: var(--quiet); font-size: .85rem; }
 .tiles dd { margin: 0; font-size: 1.2rem; font-variant-numeric: tabular-nums; overflow-wrap: anywhere; }
+.tiles .bad { background: var(--bad-ground); color: var(--bad); }
+.tiles .bad dt, .tiles .bad dd small { color: inherit; }
 .tiles dd small { display: block; font-size: .8rem; color: var(--quiet); }
 .parts { display: grid; grid-template-columns: repeat(auto-fit, minmax(min(100%, 25rem), 1fr)); gap: .8rem; }
 section { background: var(--panel); border-radius: .3rem; padding: .7rem .8rem; min-width: 0; margin: 0; }
@@ -51,6 +53,9 @@ th { font-weight: 500; font-size: .85rem; }
 td.barred { background: linear-gradient(var(--bar), var(--bar)) left / var(--part) 100% no-repeat; }
 details { margin-top: .4rem; } summary { cursor: pointer; color: var(--quiet); font-size: .85rem; }
 label { font-size: .9rem; }
+@media (max-width: 30rem) {
+  th, td { padding: .12rem .3rem; font-size: .85rem; }
+  td:first-child { white-space: normal; overflow-wrap: anywhere; } }
 </style>
 </head>
 <body>
@@ -64,10 +69,10 @@ label { font-size: .9rem; }
 <div class="parts">
 <section id="batches"></section>
 <section id="total"></section>
-<section id="latency"></section>
-<section id="memory"></section>
 <section id="top"></section>
 <section id="degrees"></section>
+<section id="latency"></section>
+<section id="memory"></section>
 <section id="layers" class="wide"></section>
 <section id="told" class="wide"></section>
 </div>
@@ -97,6 +102,13 @@ function big(number) {
   if (number === null || number === undefined) return "?";
   if (typeof number === "string") return number.replace(/\B(?=(\d{3})+(?!\d))/g, ",");
   return number.toLocaleString("en", {maximumFractionDigits: Math.abs(number) < 10 ? 2 : 0});
+}
+// A long number by its unit, and whole where the pointer is at it.
+function brief(number) {
+  const value = Number(number);
+  if (!(value >= 1e9)) return el("span", {}, big(number));
+  const [unit, name] = [[1e18, "E"], [1e15, "P"], [1e12, "T"], [1e9, "G"]].find((it) => value >= it[0]);
+  return el("span", {title: big(number)}, (Math.floor(value / unit * 10) / 10).toFixed(1) + " " + name);
 }
 function bytes(number) {
   let unit = 0;
@@ -301,7 +313,9 @@ function drawDegrees(degrees) {
 function drawTop(top) {
   if (!top) { at("top").hidden = true; return; }
   const most = Math.max(...top.map((it) => Number(it[2])), 1);
-  const lines = top.map((it) => [cell(row(it[0])), cell(big(it[1])), barred(big(it[2]), Number(it[2]) / most)]);
+  const name = (it, place) => last.names[place] || row(it[0]);
+  const lines = top.map((it, place) => [cell(name(it, place)), cell(big(it[1])),
+    barred(brief(it[2]), Number(it[2]) / most)]);
   const box = el("input", {type: "checkbox", id: "ip"});
   box.checked = isIp;
   box.addEventListener("change", () => { isIp = box.checked; drawTop(last.top); at("ip").focus(); });
@@ -322,10 +336,12 @@ function drawLayers(layers) {
     if (!it) return cell("");
     return barred(big(it[2]) + (it[3] === null ? "" : " in " + big(it[3])), it[2] / most[index]);
   })]);
-  lines.unshift([cell("All"), ...sums.map((sum) => cell(big(sum)))]);
+  const all = [[cell("All"), ...sums.map((sum) => cell(big(sum)))]];
+  const heads = ["", ...levels.map((level) => "Layer " + level)];
   const runs = layers.some((it) => it[3] !== null) ? ", in so many runs" : "";
-  fill("layers", "Layers of each shard", el("p", {class: "quiet"}, "Entries at most" + runs +
-    "; a bar compares the shards of a layer."), table("", ["", ...levels.map((level) => "Layer " + level)], lines));
+  fill("layers", "Layers of all shards", el("p", {class: "quiet"}, "Entries at most" + runs +
+    "; a bar compares the shards of a layer."), table("", heads, all),
+    behind("layers", "Of each shard", table("", heads, lines)));
 }
 function drawTold(stats) {
   if (!stats.length) { at("told").hidden = true; return; }
@@ -334,24 +350,28 @@ function drawTold(stats) {
 }
 function drawTiles(now) {
   const found = [];
-  const tile = (name, value, more) => { if (value !== null && value !== undefined) found.push([name, value, more]); };
+  const tile = (name, value, more, isBad) => {
+    if (value !== null && value !== undefined) found.push([name, value, more, isBad]);
+  };
   const told = (key) => now.numbers[key];
   const number = (key) => told(key) === null ? null : big(told(key));
   tile("Batches", big(now.batches), now.rates.batches === null ? "" : big(now.rates.batches) + " a second");
-  tile("Total", big(now.total), now.rates.total === null ? "" : big(now.rates.total) + " a second");
+  const rise = now.rates.total === null ? "" : brief(now.rates.total).textContent + " a second";
+  tile("Total", brief(now.total), rise);
   if (now.rates.cells !== null) tile("Cells put", number("cells"), big(now.rates.cells) + " a second");
   tile("Repeats", number("repeats"));
-  tile("Refused", number("refused"), now.refused.map((it) => it[0] + " " + big(it[1])).join(", "));
+  tile("Refused", number("refused"), now.refused.map((it) => it[0] + " " + big(it[1])).join(", "),
+    told("refused") > 0);
   if (told("open") !== null) tile("Sessions", number("open") + " open",
     (told("waiting") === null ? "" : number("waiting") + " waiting, ") +
     (told("served") === null ? "" : number("served") + " served, ") +
-    (told("workers") === null ? "" : number("workers") + " workers"));
+    (told("workers") === null ? "" : number("workers") + " workers"), told("waiting") > 0);
   if (told("memory") !== null) tile("Memory", bytes(told("memory")),
     now.rates.processor === null ? "" : big(100 * now.rates.processor) + " % of a processor");
   if (told("saves") !== null) {
     const since = told("saved") === null ? "" : big(Math.max(0, now.batches - told("saved"))) + " batches since, ";
     tile("Last save", told("saves") === 0 || told("save_age") === null ? "none" : lasting(told("save_age")) + " ago",
-      since + number("saves") + " saves, " + (number("failed") || "0") + " failed");
+      since + number("saves") + " saves, " + (number("failed") || "0") + " failed", told("failed") > 0);
   }
   for (const [name, key] of [["Received", "received"], ["Sent", "sent"]]) {
     if (told(key) !== null) tile(name, bytes(Number(told(key))),
@@ -360,7 +380,7 @@ function drawTiles(now) {
   if (told("log_durable") !== null) tile("Durable", number("log_durable") + " batches",
     [["log_pages", "pages"], ["log_room", "ready"], ["log_syncs", "syncs"], ["log_group", "in the last group"]]
       .filter((it) => told(it[0]) !== null).map((it) => number(it[0]) + " " + it[1]).join(", "));
-  at("tiles").replaceChildren(...found.map((it) => el("div", {}, el("dt", {}, it[0]),
+  at("tiles").replaceChildren(...found.map((it) => el("div", it[3] ? {class: "bad"} : {}, el("dt", {}, it[0]),
     el("dd", {}, it[1], ...(it[2] ? [el("small", {}, it[2])] : [])))));
 }
 function say(words, isBad) {

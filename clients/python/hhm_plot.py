@@ -13,16 +13,16 @@ more than d / 2 and at most d. `spy` draws the occupied cells as at most 256 by 
 """
 import argparse
 import math
-import socket
-import struct
 from collections import Counter
 from typing import Callable, Dict, Iterable, List, NamedTuple, Optional, Sequence, Tuple
 
-from hhm_cells import NoSum, Sum, sum_of
+from hhm_cells import NoSum, Source, Sum, sum_of
 from hhm_client import Arrays, Client, Ended
 from hhm_figures import Moment
 from hhm_rates import looked_at, rates_page
 from hhm_sheet import Dots, Grid, Line, Marks, Page, Place, Shape, Words, width_of, write
+from hhm_words import Words as Meanings
+from hhm_words import add_options
 
 ENTRIES, TOTAL = "entries", "total"
 # The fields of a spy plot on each axis, and the width of one in units where there are so many.
@@ -226,11 +226,6 @@ def degrees_page(total: Sum, by: str) -> Page:
 # Numbers of rows and columns.
 
 
-def address_of(number: int) -> str:
-    """The IPv4 address of a number; others stay numbers."""
-    return socket.inet_ntoa(struct.pack(">I", number)) if number < 1 << 32 else f"{number:,}"
-
-
 def short_of(number: int) -> str:
     """A number by its digits, or by a power of ten where that is shorter and as exact."""
     digits = str(number)
@@ -266,10 +261,24 @@ class Scale(NamedTuple):
         return f"{name} {self.spelled(self.span.first)} to {self.spelled(self.span.last)}"
 
 
-def scale_of(span: Span, is_across: bool, is_ip: bool) -> Scale:
-    """As many labels as have room: those of columns stand side by side."""
-    spelled = address_of if is_ip else lambda number: f"{number:,}"
-    label = address_of if is_ip else short_of
+def spelled_by(meanings: Meanings) -> Callable[[int], str]:
+    """How a number is told: by its address or name, or by its digits with commas."""
+
+    def spelled(number: int) -> str:
+        shown = meanings.shown(number)
+        return shown if isinstance(shown, str) else f"{number:,}"
+
+    return spelled
+
+
+def label_by(meanings: Meanings) -> Callable[[int], str]:
+    """The same, but short."""
+    return short_of if meanings.is_bare() else spelled_by(meanings)
+
+
+def scale_of(span: Span, is_across: bool, meanings: Meanings) -> Scale:
+    """As many labels as have room: those of columns are side by side."""
+    spelled, label, is_ip = spelled_by(meanings), label_by(meanings), meanings.is_ip
     length = FIELDS * FIELD
     most = 9
     while most > 2 and is_across and most * (16 + max(map(width_of, map(label, ticks_of(span, most, is_ip))))) > length:
@@ -315,7 +324,7 @@ def labels_of(down: Scale, across: Scale, left: float, top: float, label: Callab
             Words((24, top + down.length / 2), down.told("rows"), "middle", is_turned=True)]
 
 
-def spy_page(total: Sum, rows: Span, cols: Span, by: str, is_ip: bool) -> Page:
+def spy_page(total: Sum, rows: Span, cols: Span, by: str, meanings: Meanings) -> Page:
     """The occupied cells of the rows and columns."""
     cells = total.cells
     fields = fields_of(cells, rows, cols, by)
@@ -323,8 +332,8 @@ def spy_page(total: Sum, rows: Span, cols: Span, by: str, is_ip: bool) -> Page:
     levels = [bytearray(cols.fields()) for _ in range(rows.fields())]
     for (row, col), value in fields.items():
         levels[row][col] = level_of(value, most)
-    down, across = scale_of(rows, False, is_ip), scale_of(cols, True, is_ip)
-    label = address_of if is_ip else short_of
+    down, across = scale_of(rows, False, meanings), scale_of(cols, True, meanings)
+    label = label_by(meanings)
     left, top, size = 56 + max(map(width_of, map(label, down.ticks))), 52.0, float(FIELDS * FIELD)
     title = f"Occupied cells: {len(cells.counts):,} in {len(fields):,} fields"
     shapes: List[Shape] = [Words((left, 30), title, is_strong=True), Grid((left, top), size, size, levels),
@@ -343,27 +352,6 @@ def spy_page(total: Sum, rows: Span, cols: Span, by: str, is_ip: bool) -> Page:
 # The command line.
 
 
-def place_of(word: str) -> int:
-    """A row or a column: a number from 0, or an IPv4 address. A ValueError for another word."""
-    if "." in word:
-        return struct.unpack(">I", socket.inet_pton(socket.AF_INET, word))[0]
-    if not (word.isascii() and word.isdigit()):
-        raise ValueError(word)
-    return int(word)
-
-
-def span_of(word: str) -> Span:
-    """A span of the command line, FIRST-LAST."""
-    first, _, last = word.partition("-")
-    try:
-        span = Span(place_of(first), place_of(last))
-    except (OSError, ValueError):
-        raise argparse.ArgumentTypeError(f"{word!r} isn't FIRST-LAST, two numbers or addresses") from None
-    if span.first > span.last:
-        raise argparse.ArgumentTypeError(f"{word!r} begins behind its end")
-    return span
-
-
 def seconds(word: str) -> float:
     """A time of the command line, from a second to a day."""
     value = float(word)
@@ -372,7 +360,7 @@ def seconds(word: str) -> float:
     return value
 
 
-def picture(word: str) -> str:
+def picture_path(word: str) -> str:
     """The path of a picture, which tells its form."""
     if not word.endswith((".svg", ".png")):
         raise argparse.ArgumentTypeError(f"{word!r} ends neither with .svg nor with .png")
@@ -383,14 +371,14 @@ def add_words(plot: argparse.ArgumentParser) -> None:
     """Adds the words of `plot` to those of the command line."""
     what = "the distribution of degrees, where cells are, or what a server accepts in a second"
     plot.add_argument("what", choices=("degrees", "spy", "rates"), help=what)
-    plot.add_argument("out", type=picture, metavar="OUT.svg|OUT.png", help="the picture, which is written anew")
+    plot.add_argument("out", type=picture_path, metavar="OUT.svg|OUT.png", help="the picture, which is written anew")
     by = "by numbers of cells, or by totals of counts (entries)"
     plot.add_argument("--by", choices=(ENTRIES, TOTAL), default=ENTRIES, help=by)
-    rows = "spy: these rows, numbers or addresses (from the first to the last with a cell)"
-    plot.add_argument("--rows", type=span_of, metavar="A-B", help=rows)
-    plot.add_argument("--cols", type=span_of, metavar="A-B", help="spy: these columns")
+    rows = "spy: these rows, numbers, addresses or a network (from the first to the last with a cell)"
+    plot.add_argument("--rows", metavar="A-B", help=rows)
+    plot.add_argument("--cols", metavar="A-B", help="spy: these columns")
     plot.add_argument("--whole", action="store_true", help="spy: all rows and columns, where none are given")
-    plot.add_argument("--ip", action="store_true", help="spy: tells rows and columns as IPv4 addresses")
+    add_options(plot)
     plot.add_argument("--seconds", type=seconds, metavar="N", help="rates: for how long the server is looked at (60)")
     plot.add_argument("--dark", action="store_true", help="on a dark ground (an SVG else follows its viewer)")
     plot.add_argument("--program", metavar="FILE", default="hhm", help="the hhm that reads the file of --from (hhm)")
@@ -409,12 +397,27 @@ def page_of(total: Sum, given: argparse.Namespace) -> Page:
     if given.what == "degrees":
         return degrees_page(total, given.by)
     all_rows, all_cols = Span(0, total.rows - 1), Span(0, total.cols - 1)
-    part = total
-    if given.rows or given.cols:
-        part = total._replace(cells=within(total.cells, given.rows or all_rows, given.cols or all_cols))
-    rows = spanned(given.rows, part.cells.rows, total.rows, given.whole, "rows")
-    cols = spanned(given.cols, part.cells.cols, total.cols, given.whole, "cols")
-    return spy_page(part, rows, cols, given.by, given.ip)
+    # (a picture shows addresses by --ip alone, whatever words ask for its rows)
+    part, meanings, asking = total, Meanings.of(given), Meanings.of(given)
+    asked = [Span(*asking.span(word)) if word else None for word in (given.rows, given.cols)]
+    if any(asked):
+        part = total._replace(cells=within(total.cells, asked[0] or all_rows, asked[1] or all_cols))
+    rows = spanned(asked[0], part.cells.rows, total.rows, given.whole, "rows")
+    cols = spanned(asked[1], part.cells.cols, total.cols, given.whole, "cols")
+    return spy_page(part, rows, cols, given.by, meanings)
+
+
+def picture(source: Source, what: str = "degrees", by: str = ENTRIES, ip: bool = False, program: str = "hhm") -> Page:
+    """The picture `degrees` or `spy` of a server or a file, for a notebook; `hhm_sheet.write` saves it. It raises what
+    `hhm_cells.sum_of` raises, and a ValueError for another picture."""
+    if what not in ("degrees", "spy") or by not in (ENTRIES, TOTAL):
+        raise ValueError(f"{what} by {by}: a picture is degrees or spy, by {ENTRIES} or {TOTAL}")
+    total = sum_of(source, program)
+    if what == "degrees":
+        return degrees_page(total, by)
+    rows = spanned(None, total.cells.rows, total.rows, False, "rows")
+    cols = spanned(None, total.cells.cols, total.cols, False, "cols")
+    return spy_page(total, rows, cols, by, Meanings(ip))
 
 
 def total_of(hhm: Optional[Client], given: argparse.Namespace) -> Sum:
@@ -447,7 +450,7 @@ def last_at(moments: Sequence[Moment]) -> int:
 def plot(hhm: Optional[Client], given: argparse.Namespace) -> str:
     """Does what the word `plot` asks, of a server or of the file that is given, and gives the line that is to be
     printed."""
-    if given.what != "spy" and (given.rows or given.cols or given.whole or given.ip):
+    if given.what != "spy" and (given.rows or given.cols or given.whole or given.ip or given.names):
         raise Ended(2, "--rows, --cols, --whole and --ip are for the picture spy")
     if given.seconds is not None and given.what != "rates":
         raise Ended(2, "--seconds is for the picture rates")

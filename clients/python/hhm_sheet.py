@@ -90,6 +90,10 @@ class Page(NamedTuple):
     told: str
     shapes: Sequence[Shape]
 
+    def _repr_html_(self) -> str:
+        """The picture, for notebooks."""
+        return svg(self, False)
+
 
 REACH, DOT = 4.5, 1.5
 

@@ -2,7 +2,7 @@
 
 This is the word `watch` of `hhm_client.py`:
 
-    hhmc --unix /run/hhm/hhm.sock watch             # a screen, until ^C
+    hhmc --unix /run/hhm/hhm.sock watch             # a screen, until q is pressed, or ^C
     hhmc --unix /run/hhm/hhm.sock watch --once      # lines `name value ..`, once
 
 Where standard output is no terminal, the lines come once a second. A server that is gone is waited for. What it doesn't
@@ -11,14 +11,18 @@ of accepted batches and cells rise in a second, and the total of their counts.
 """
 import argparse
 import contextlib
+import os
+import select
 import shutil
 import sys
+import termios
 import time
+import tty
 from typing import Iterable, Iterator, List, Optional
 
-from hhm_ask import address_of
 from hhm_client import CODES, Refused, TopRow
 from hhm_figures import Layer, Moment, Watched, asking
+from hhm_words import Words, add_options
 
 # The names of stats that are shown, each with what it may be called.
 CELLS = ("cells_total",)
@@ -130,13 +134,13 @@ def pairs(*found) -> List[str]:
     return [word for name, value in found if value is not None for word in (name, big(value))]
 
 
-def lines_of(seen: Watched, moment: Moment, top: Optional[List[TopRow]], is_ip: bool) -> List[str]:
+def lines_of(seen: Watched, moment: Moment, top: Optional[List[TopRow]], words: Words) -> List[str]:
     """All figures as plain lines."""
     lines = [" ".join(fact).replace(",", "") for fact in facts_of(seen, moment) if fact]
     for it in by_layer(moment.layers()):
         lines.append(f"layer {it.layer} entries {it.entries}" + ("" if it.runs is None else f" runs {it.runs}"))
     for place, it in enumerate(top or [], 1):
-        lines.append(f"top {place} {address_of(it.row) if is_ip else it.row} entries {it.entries} total {it.total}")
+        lines.append(f"top {place} {words.told(it.row)} entries {it.entries} total {it.total}")
     return lines + lacking(seen)
 
 
@@ -146,13 +150,13 @@ def lacking(seen: Watched) -> List[str]:
     return [words[name] for name in words if seen.unknown.get(name)]
 
 
-def screen_of(seen: Watched, moment: Moment, top: Optional[List[TopRow]], is_ip: bool, width: int) -> List[str]:
+def screen_of(seen: Watched, moment: Moment, top: Optional[List[TopRow]], words: Words, width: int) -> List[str]:
     """The lines of a screen."""
-    is_utf8 = "utf" in (sys.stdout.encoding or "").lower()
-    full = "\u2588" if is_utf8 else "#"
-    lines = ["   ".join(f"{name} {value}" for name, value in zip(fact[::2], fact[1::2])) if len(fact) % 2 == 0
-             else "   ".join(fact) for fact in facts_of(seen, moment) if fact]
-    lines[0] += "   " + time.strftime("%H:%M:%S", time.localtime(moment.at))
+    full = "\u2588" if is_utf8() else "#"
+    facts = [[f"{name} {value}" for name, value in zip(fact[::2], fact[1::2])] if len(fact) % 2 == 0 else fact
+             for fact in facts_of(seen, moment) if fact]
+    facts[0] += [time.strftime("%H:%M:%S", time.localtime(moment.at)), "q quits"]
+    lines = [line for fact in facts for line in wrapped(fact, width)]
     layers = by_layer(moment.layers())
     if layers:
         most = max(max(it.entries for it in layers), 1)
@@ -163,17 +167,42 @@ def screen_of(seen: Watched, moment: Moment, top: Optional[List[TopRow]], is_ip:
             runs = "" if it.runs is None else f"   {big(it.runs)} runs"
             lines.append(f" {it.layer} {full * length:<{room}} {big(it.entries):>14}{runs}")
     if top:
-        lines += ["", f"    {'row':>20} {'entries':>14} {'total':>20}"]
-        for place, it in enumerate(top, 1):
-            row = address_of(it.row) if is_ip else str(it.row)
-            lines.append(f" {place:2} {row:>20} {big(it.entries):>14} {big(it.total):>20}")
+        names = [words.told(it.row) for it in top]
+        room = max(20, min(max(map(len, names)), width - 40))
+        lines += ["", f"    {'row':>{room}} {'entries':>14} {'total':>20}"]
+        for place, (name, it) in enumerate(zip(names, top), 1):
+            lines.append(f" {place:2} {cut(name, room):>{room}} {big(it.entries):>14} {big(it.total):>20}")
     return lines + lacking(seen)
 
 
+def is_utf8() -> bool:
+    return "utf" in (sys.stdout.encoding or "").lower()
+
+
+def cut(line: str, width: int) -> str:
+    """A line of at most so many signs; the last shows where it was cut."""
+    return line if len(line) <= width else line[: width - 1] + ("\u2026" if is_utf8() else ">")
+
+
+def wrapped(facts: List[str], width: int) -> Iterator[str]:
+    """Facts side by side, on as many lines as they need."""
+    line = facts[0]
+    for fact in facts[1:]:
+        if len(line) + 3 + len(fact) > width:
+            yield line
+            line = "  " + fact
+        else:
+            line += "   " + fact
+    yield line
+
+
 def shown(lines: List[str]) -> bytes:
-    """A screen in place of the one before it, cut to the terminal."""
+    """A screen in place of the one before it, cut to the terminal. It says how many lines are cut."""
     size = shutil.get_terminal_size()
-    kept = [line[: size.columns] + "\x1b[K" for line in lines[: size.lines - 1]]
+    room = size.lines - 1
+    if len(lines) > room:
+        lines = [*lines[: room - 1], f"{len(lines) - room + 1} more lines: the terminal is too low"]
+    kept = [cut(line, size.columns) + "\x1b[K" for line in lines]
     return ("\x1b[H" + "\r\n".join(kept) + "\x1b[J").encode(errors="replace")
 
 
@@ -189,12 +218,47 @@ def own_screen() -> Iterator[None]:
         sys.stdout.flush()
 
 
+class Keys:
+    """The keys of a terminal, as they are pressed; none where standard input is no terminal."""
+
+    def __init__(self, terminal: Optional[int]):
+        self.terminal = terminal
+
+    def is_quit_within(self, seconds: float) -> bool:
+        """Waits for so long, or until `q` is pressed, and returns whether it was."""
+        ends = time.monotonic() + seconds
+        while (left := ends - time.monotonic()) > 0:
+            if self.terminal is None:
+                time.sleep(left)
+            elif select.select([self.terminal], [], [], left)[0]:
+                pressed = os.read(self.terminal, 64)
+                if b"q" in pressed.lower():
+                    return True
+                self.terminal = self.terminal if pressed else None
+        return False
+
+
+@contextlib.contextmanager
+def single_keys() -> Iterator[Keys]:
+    """Reads keys without waiting for the end of a line, and without showing them; signals stay as they are."""
+    if not sys.stdin.isatty():
+        yield Keys(None)
+        return
+    terminal = sys.stdin.fileno()
+    before = termios.tcgetattr(terminal)
+    tty.setcbreak(terminal)
+    try:
+        yield Keys(terminal)
+    finally:
+        termios.tcsetattr(terminal, termios.TCSADRAIN, before)
+
+
 def words_of(fault: Exception) -> str:
     """Why there is no answer."""
     return (isinstance(fault, OSError) and fault.strerror) or str(fault)
 
 
-def look(seen: Watched, given: argparse.Namespace, is_screen: bool) -> List[str]:
+def look(seen: Watched, given: argparse.Namespace, words: Words, is_screen: bool) -> List[str]:
     """The lines of a look at the server, or that it is gone."""
     try:
         moment = seen.look()
@@ -204,25 +268,29 @@ def look(seen: Watched, given: argparse.Namespace, is_screen: bool) -> List[str]
             raise
         return [f"server {seen.place}", f"no answer: {words_of(fault)}", time.strftime("%H:%M:%S")]
     if is_screen:
-        return screen_of(seen, moment, top, given.ip, shutil.get_terminal_size().columns)
-    return lines_of(seen, moment, top, given.ip)
+        return screen_of(seen, moment, top, words, shutil.get_terminal_size().columns)
+    return lines_of(seen, moment, top, words)
 
 
 def run(given: argparse.Namespace) -> Iterable[bytes]:
     """Looks once a second, and gives what is to be written."""
+    words = Words.of(given)
     seen = Watched(asking(given.tcp, given.unix, given.timeout))
     if given.once:
         # (a rate needs two looks)
         seen.look()
         time.sleep(given.every)
-        yield ("\n".join(look(seen, given, False)) + "\n").encode()
+        yield ("\n".join(look(seen, given, words, False)) + "\n").encode(errors="surrogateescape")
         return
-    is_screen = sys.stdout.isatty()
-    with own_screen() if is_screen else contextlib.nullcontext():
+    if not sys.stdout.isatty():
         while True:
-            lines = look(seen, given, is_screen)
-            yield shown(lines) if is_screen else ("\n".join(lines) + "\n\n").encode()
+            yield ("\n".join(look(seen, given, words, False)) + "\n\n").encode(errors="surrogateescape")
             time.sleep(given.every)
+    with own_screen(), single_keys() as keys:
+        while True:
+            yield shown(look(seen, given, words, True))
+            if keys.is_quit_within(given.every):
+                return
 
 
 def seconds(word: str) -> float:
@@ -237,4 +305,4 @@ def add_words(watch: argparse.ArgumentParser) -> None:
     """Adds the words of `watch` to those of the command line."""
     watch.add_argument("--once", action="store_true", help="writes plain lines once, and ends")
     watch.add_argument("--every", type=seconds, default=1.0, metavar="SECONDS", help="between two looks (1)")
-    watch.add_argument("--ip", action="store_true", help="tells rows as IPv4 addresses")
+    add_options(watch)
