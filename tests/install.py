@@ -191,6 +191,7 @@ def the_unit_is_right(prefix):
     unit = content(f"{prefix}/lib/systemd/system/hhm.service").decode().replace("\\\n", " ")
     started = re.search(r"^ExecStart=(.*)$", unit, re.M)[1].split()
     check("the unit: the program", started[0], f"{prefix}/bin/hhm-run")
+    started += re.search(r'^Environment="HHM_OPTIONS=(.*)"$', unit, re.M)[1].split()
     _, output, _ = ran(server.PROGRAM, "serve", "--help")
     for word in started[1:]:
         if word.startswith("--"):
