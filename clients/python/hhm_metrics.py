@@ -6,9 +6,9 @@ This is the word `metrics` of `hhm_client.py`:
 
 `/metrics` has everything that the server tells of itself in the text format of Prometheus, each name with `hhm_` in
 front, and `hhm_up`, which is 0 where the server doesn't answer. `/` is a page that draws itself of `/stats.json` once a
-second: rates over the last ten minutes, latencies as this program measures them, layers, the rows that lead and how many
-entries rows have. It loads nothing from anywhere else. Whoever can connect may look: keep to an address of this machine,
-or put something in front that knows who comes. The server needs a worker for this program.
+second: rates over ten minutes or, of `/day.json`, 24 hours, latencies as this program measures them, layers, the rows
+that lead and how many entries rows have. It loads nothing from anywhere else. Whoever can connect may look: keep to an
+address of this machine, or put something in front that knows who comes. The server needs a worker for this program.
 """
 import argparse
 import json
@@ -33,6 +33,8 @@ from hhm_watch import (
 GAP, VIEWED = 3.5, 30.0
 # By how many seconds the start of a server may vary, as it is worked out of its age.
 JITTER = 2.0
+# The history of a day: the seconds between two moments, and how many are kept.
+MINUTE, MINUTES = 60.0, 1440
 # Numbers from here on are no longer whole in a browser.
 EXACT = 1 << 53
 # What the page may load: nothing but its own script, styles and numbers.
@@ -83,6 +85,8 @@ class Looker:
         self.viewed = 0.0
         # When the server began; the same number as long as its age says so but for some jitter.
         self.start: Optional[float] = None
+        # A moment of each minute of a day. (a list that is replaced, and never changed: another thread may read it)
+        self.day: List[Moment] = []
 
     def run(self) -> None:
         while True:
@@ -90,12 +94,19 @@ class Looker:
             self.look()
             time.sleep(max(0.05, self.every - (time.monotonic() - begin)))
 
+    def keep(self, moment: Moment) -> None:
+        """Keeps a moment of each minute, with what the page draws."""
+        if not self.day or moment.at - self.day[-1].at >= MINUTE:
+            stats = {name: moment.stats[name] for name in MEMORY if name in moment.stats}
+            self.day = [*self.day[1 - MINUTES:], moment._replace(stats=stats)]
+
     def look(self) -> None:
         try:
             moment = self.seen.look()
             age = moment.number(*UPTIME)
             if age is not None and (self.start is None or abs(moment.at - age - self.start) > JITTER):
                 self.start = moment.at - age
+            self.keep(moment)
             if time.monotonic() - self.viewed < VIEWED:
                 self.top = self.seen.top()
                 degrees = self.seen.degrees()
@@ -221,10 +232,13 @@ class Handler(BaseHTTPRequestHandler):
         elif asked.path == "/stats.json":
             told = page_stats(self.looker, since_of(asked.query), self.words)
             self.answer(200, "application/json", json.dumps(told, separators=(",", ":")))
+        elif asked.path == "/day.json":
+            told = series_of(self.looker.day, 0.0, GAP * MINUTE)
+            self.answer(200, "application/json", json.dumps(told, separators=(",", ":")))
         elif asked.path == "/metrics":
             self.answer(200, "text/plain; version=0.0.4; charset=utf-8", metrics_of(self.looker))
         else:
-            self.answer(404, "text/plain; charset=utf-8", "There are /, /stats.json and /metrics.\n")
+            self.answer(404, "text/plain; charset=utf-8", "There are /, /stats.json, /day.json and /metrics.\n")
 
     do_HEAD = do_GET
 
