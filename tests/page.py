@@ -205,6 +205,20 @@ def a_day_can_be_chosen(page):
     check("page: ten minutes again", page.until("kept === recent && shown === RECENT"), True)
 
 
+def a_server_can_be_chosen(page, metrics_of):
+    """With two servers the page has a choice, and shows the one that is chosen."""
+    with StandIn(stats={"batches": 5}, name="one") as at, StandIn(stats={"batches": 6}, name="two") as other:
+        other.put([(0, 0, 77)])
+        with metrics_of(at.path, "--also", f"unix:{other.path}") as metrics:
+            page.open(metrics.url)
+            check("page: the first server", page.until(f"{TILES}['Total'] === '0'"), True)
+            check("page: a choice", page.value("document.getElementById('choice').hidden"), False)
+            page.value("(() => { const it = document.getElementById('servers'); it.selectedIndex = 1; "
+                       "it.dispatchEvent(new Event('change')); })()")
+            check("page: the second server", page.until(f"{TILES}['Total'] === '77'"), True)
+            check("page: its place", page.value("document.getElementById('place').textContent"), f"unix:{other.path}")
+
+
 def a_save_is_told(page, at):
     with at.client(8) as hhm:
         check("page: a save", hhm.save(), 40)
@@ -278,3 +292,4 @@ def is_tried(metrics_of):
         check("page: asks nobody else", asked, {metrics.url + path for path in ("", "stats.json", "day.json")})
         what_is_told_is_shown(page, metrics_of)
         check("shown: no error in its console", page.faults, [])
+        a_server_can_be_chosen(page, metrics_of)

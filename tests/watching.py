@@ -248,6 +248,26 @@ def a_server_is_watched():
     check("watch: gone", (output, status), ("", 4))
 
 
+def several_servers_are_told():
+    """One exporter of two servers: each sample has its server, and the page asks for one by its number."""
+    one, two = {"batches": 1, 'odd_family{a="b"}': 7}, {"batches": 2}
+    with StandIn(stats=one, name="one") as at, StandIn(stats=two, name="two") as other:
+        with Metrics(at.path, "--also", f"unix:{other.path}") as metrics:
+            other.put([(5, 5, 9)])
+            check("several: answers", until(lambda: metrics.json(0)["fault"], None), None)
+            check("several: places", metrics.json(0)["places"], [f"unix:{at.path}", f"unix:{other.path}"])
+            second = until(lambda: json.loads(metrics.text("stats.json?server=1")).get("total"), 9)
+            check("several: the second", second, 9)
+            samples = metrics.samples()
+            wanted = {f'hhm_up{{server="unix:{it.path}"}}': "1" for it in (at, other)}
+            wanted[f'hhm_odd_family{{a="b",server="unix:{at.path}"}}'] = "7"
+            wanted.update({f'hhm_total{{server="unix:{it.path}"}}': total for it, total in ((at, "0"), (other, "9"))})
+            check("several: samples", {name: samples.get(name) for name in wanted}, wanted)
+            third = json.loads(metrics.text("stats.json?server=7"))
+            check("several: no such server", third["place"], f"unix:{at.path}")
+    check("several: a bad one", run([*HHMC, "--unix", "x", "metrics", "--also", "nowhere"])[2], 2)
+
+
 def a_day_is_kept():
     """A moment a minute, at most 1,440 of them; rates by hand, and nothing over a time without answers."""
     looker = Looker(None, 1.0)
@@ -324,6 +344,7 @@ def all_are_tried():
     a_browser_is_answered()
     a_server_is_watched()
     a_narrow_screen_is_told()
+    several_servers_are_told()
     a_day_is_kept()
     rates_are_drawn()
     page.is_tried(Metrics)

@@ -62,6 +62,7 @@ label { font-size: .9rem; }
 <header>
 <h1>hhm <span id="place"></span></h1>
 <p class="quiet" id="version"></p>
+<p id="choice" hidden><label>Server <select id="servers"></select></label></p>
 <p id="state" role="status">Not asked yet.</p>
 </header>
 <main id="all">
@@ -84,8 +85,7 @@ const SVG = "http://www.w3.org/2000/svg";
 // What is drawn over time: the last ten minutes, or the history of a day, whose parts the tables have.
 const RECENT = {most: 600, part: 60, words: "ten minutes", heading: "By minutes, the last one first"};
 const DAY = {most: 86400, part: 3600, words: "24 hours", heading: "By hours, the last one first"};
-const recent = {at: []};
-let day = {at: []}, kept = recent, shown = RECENT;
+let recent = {at: []}, day = {at: []}, kept = recent, shown = RECENT, server = 0;
 const drawn = {};
 let last = null, isIp = null;
 
@@ -404,7 +404,7 @@ function keep(series) {
 }
 // A history that has just begun has nothing to draw, and the last ten minutes are shown.
 async function chooseSpan() {
-  if (at("day").checked) day = await (await fetch("day.json", {cache: "no-store"})).json();
+  if (at("day").checked) day = await (await fetch("day.json?server=" + server, {cache: "no-store"})).json();
   const isDay = at("day").checked && day.at.length > 2;
   [kept, shown] = isDay ? [day, DAY] : [recent, RECENT];
   for (const id of ["batches", "total", "latency", "memory"]) drawn[id] = -10000;
@@ -412,6 +412,9 @@ async function chooseSpan() {
 }
 function draw(now) {
   at("place").textContent = now.place;
+  at("choice").hidden = now.places.length < 2;
+  if (at("servers").options.length !== now.places.length)
+    at("servers").replaceChildren(...now.places.map((place) => el("option", {}, place)));
   document.title = (now.fault ? "(no answer) " : "") + "hhm " + now.place;
   if (isIp === null) isIp = now.is_ip;
   keep(now.series);
@@ -445,9 +448,10 @@ function redraw() {
 async function ask() {
   try {
     const since = recent.at.length ? recent.at[recent.at.length - 1] : 0;
-    const answer = await fetch("stats.json?since=" + since, {cache: "no-store"});
+    const asked = server, answer = await fetch("stats.json?server=" + server + "&since=" + since, {cache: "no-store"});
     if (!answer.ok) throw new Error("status " + answer.status);
-    draw(await answer.json());
+    const now = await answer.json();
+    if (asked === server) draw(now);
   } catch (fault) {
     say("The program behind this page, hhmc metrics, doesn't answer: " + fault.message, true);
     document.title = "(no answer) hhm";
@@ -456,6 +460,12 @@ async function ask() {
 }
 window.addEventListener("resize", redraw);
 at("day").addEventListener("change", chooseSpan);
+at("servers").addEventListener("change", () => {
+  server = at("servers").selectedIndex;
+  last = null;
+  recent = {at: []};
+  chooseSpan();
+});
 setInterval(() => { if (at("day").checked) chooseSpan(); }, 60000);
 ask();
 </script>
