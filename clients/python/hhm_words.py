@@ -94,9 +94,10 @@ class Words:
 
     def read(self, table: str) -> None:
         """Reads the table. An Ended where it can't be read."""
+        # (the size of before: what is added while it is read is read again)
+        self.size = os.path.getsize(table) if os.path.exists(table) else 0
         self.names = lines_of(table)
         self.numbers = {name: self.first + place for place, name in enumerate(self.names)}
-        self.size = os.path.getsize(table)
 
     def read_again(self, table: str) -> None:
         """Reads a table that has changed since: a load may add names while its rows are watched."""
