@@ -448,7 +448,7 @@ def add_words(load: argparse.ArgumentParser) -> None:
     value = ("what is counted: packets, bytes or flows by the names that flow tools give them, or a column's own name; "
              "several times with a server each, as packets=unix:a.sock")
     load.add_argument("--value", type=judged(Value.of), action="append", metavar="NAME[=SERVER]", help=value)
-    load.add_argument("--map", choices=MAPS, help="what rows and columns are (ip in csv and tsv, else int)")
+    load.add_argument("--map", choices=MAPS, help="what rows and columns are (int in pairs and mtx, else ip)")
     load.add_argument("--names", metavar="FILE", help="the table that gives names, and IPv6 addresses, their numbers")
     load.add_argument("--batch", type=judged(batch_size), default=10_000, metavar="N", help="events of a batch (10000)")
     skipped = load.add_mutually_exclusive_group()
