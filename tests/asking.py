@@ -19,6 +19,7 @@ import sys
 import server
 import hhm_command  # (server.py has put the client's folder on the path)
 from hhm_client import Client
+from hhm_words import Words
 from clients import build
 from peers import Driver, Liar, Proxy, run
 from server import Server, check
@@ -283,6 +284,20 @@ def names_are_shown():
             check(f"names: {words}", hhmc(at, *words.split(), "--names", hosts), wanted)
 
 
+def a_table_grows():
+    """Names that a load adds are shown without a new start; a table that is gone leaves those that were read."""
+    path = os.path.join(server.FOLDER, "growing.names")
+    with open(path, "w") as file:
+        file.write("a\n")
+    words = Words(False, path)
+    check("a table", [words.shown(number) for number in (0, 1)], ["a", 1])
+    with open(path, "a") as file:
+        file.write("b\nhalf")
+    check("a table that has grown", [words.shown(number) for number in (0, 1, 2)], ["a", "b", 2])
+    os.remove(path)
+    check("a table that is gone", [words.shown(number) for number in (0, 1, 2)], ["a", "b", 2])
+
+
 def answers_have_forms():
     """JSON, CSV and, on a terminal, aligned columns; of a server and of a snapshot; and a reader that goes early."""
     snap, most = os.path.join(server.FOLDER, "forms.snap"), (1 << 64) - 1
@@ -355,6 +370,7 @@ def all_are_tried():
     the_command_line_asks()
     words_of_rows_are_one()
     names_are_shown()
+    a_table_grows()
     answers_have_forms()
     every_help_has_statuses()
 

@@ -100,6 +100,16 @@ def a_file_counts_once():
             check(name, (status, f"client 7 was loaded with {told} (" in error), (2, True))
         check("another map: no table was written", server.content(path_of("7.names")), b"")
         check("nothing of those was put", sum_of(at), before)
+        with open(os.path.join(path_of("state"), "hhm", "client-7.batches"), "rb+") as state:
+            lines = state.read().split(b"\n", 1)
+            check("the state begins with its options", lines[0].startswith(b"options {"), True)
+            state.seek(0)
+            state.write(lines[1])
+            state.truncate()
+        check("a state of an earlier hhmc", load(at, "--batch", 1000, 7, file, second)[::2],
+              ("new 0 repeats 4 events 3200\n", 0))
+        _, error, status = load(at, "--batch", 500, 7, file)
+        check("a state of an earlier hhmc: another size", (status, "has other events" in error), (2, True))
 
 
 FORMS = [

@@ -190,6 +190,35 @@ def it_is_readable(page):
     page.look(1200, 1400)
 
 
+def a_day_can_be_chosen(page):
+    """A history that has just begun shows the last ten minutes; one of three minutes is drawn by hours."""
+    page.value("document.getElementById('day').click()")
+    check("page: a day that has just begun", page.until("day.at.length >= 1 && kept === recent"), True)
+    page.value("""(() => { const end = last.now, at = [end - 28800, end - 14400, end];
+        day = {at, batches: [1, 2, 3], total: [1, 2, 3], memory: [1, 1, 1], status_ms: [1, 1, 1], cell_ms: [1, 1, 1]};
+        [kept, shown] = [day, DAY]; drawn.batches = -10000; redraw(); })()""")
+    label = page.value("document.querySelector('#batches svg').getAttribute('aria-label')")
+    check("page: a day", label, "Batches a second, over 24 hours at most: last 3, least 1, most 3")
+    words = page.value("[...document.querySelectorAll('#batches svg text')].map((it) => it.textContent)")
+    check("page: hours", "\u22122 h" in words and "now" in words, True)
+    page.value("document.getElementById('day').click()")
+    check("page: ten minutes again", page.until("kept === recent && shown === RECENT"), True)
+
+
+def a_server_can_be_chosen(page, metrics_of):
+    """With two servers the page has a choice, and shows the one that is chosen."""
+    with StandIn(stats={"batches": 5}, name="one") as at, StandIn(stats={"batches": 6}, name="two") as other:
+        other.put([(0, 0, 77)])
+        with metrics_of(at.path, "--also", f"unix:{other.path}") as metrics:
+            page.open(metrics.url)
+            check("page: the first server", page.until(f"{TILES}['Total'] === '0'"), True)
+            check("page: a choice", page.value("document.getElementById('choice').hidden"), False)
+            page.value("(() => { const it = document.getElementById('servers'); it.selectedIndex = 1; "
+                       "it.dispatchEvent(new Event('change')); })()")
+            check("page: the second server", page.until(f"{TILES}['Total'] === '77'"), True)
+            check("page: its place", page.value("document.getElementById('place').textContent"), f"unix:{other.path}")
+
+
 def a_save_is_told(page, at):
     with at.client(8) as hhm:
         check("page: a save", hhm.save(), 40)
@@ -255,10 +284,12 @@ def is_tried(metrics_of):
         what_is_read_stays(page)
         a_picture_tells_what_is_pointed_at(page)
         it_is_readable(page)
+        a_day_can_be_chosen(page)
         a_save_is_told(page, at)
         it_says_that_a_server_is_gone(page, at, metrics, words)
         check("page: no error in its console", page.faults, [])
         asked = {it.partition("?")[0] for it in page.asked} - {"data:,"}
-        check("page: asks nobody else", asked, {metrics.url, metrics.url + "stats.json"})
+        check("page: asks nobody else", asked, {metrics.url + path for path in ("", "stats.json", "day.json")})
         what_is_told_is_shown(page, metrics_of)
         check("shown: no error in its console", page.faults, [])
+        a_server_can_be_chosen(page, metrics_of)

@@ -23,6 +23,7 @@ import page
 import server
 from hhm_client import Client, Status
 from hhm_figures import KEPT, Moment, Watched, rate_of
+from hhm_metrics import Looker, series_of
 from hhm_rates import rates_of
 from peers import WAIT, run, until
 from server import Server, check
@@ -247,6 +248,40 @@ def a_server_is_watched():
     check("watch: gone", (output, status), ("", 4))
 
 
+def several_servers_are_told():
+    """One exporter of two servers: each sample has its server, and the page asks for one by its number."""
+    one, two = {"batches": 1, 'odd_family{a="b"}': 7}, {"batches": 2}
+    with StandIn(stats=one, name="one") as at, StandIn(stats=two, name="two") as other:
+        with Metrics(at.path, "--also", f"unix:{other.path}") as metrics:
+            other.put([(5, 5, 9)])
+            check("several: answers", until(lambda: metrics.json(0)["fault"], None), None)
+            check("several: places", metrics.json(0)["places"], [f"unix:{at.path}", f"unix:{other.path}"])
+            second = until(lambda: json.loads(metrics.text("stats.json?server=1")).get("total"), 9)
+            check("several: the second", second, 9)
+            samples = metrics.samples()
+            wanted = {f'hhm_up{{server="unix:{it.path}"}}': "1" for it in (at, other)}
+            wanted[f'hhm_odd_family{{a="b",server="unix:{at.path}"}}'] = "7"
+            wanted.update({f'hhm_total{{server="unix:{it.path}"}}': total for it, total in ((at, "0"), (other, "9"))})
+            check("several: samples", {name: samples.get(name) for name in wanted}, wanted)
+            third = json.loads(metrics.text("stats.json?server=7"))
+            check("several: no such server", third["place"], f"unix:{at.path}")
+    check("several: a bad one", run([*HHMC, "--unix", "x", "metrics", "--also", "nowhere"])[2], 2)
+
+
+def a_day_is_kept():
+    """A moment a minute, at most 1,440 of them; rates by hand, and nothing over a time without answers."""
+    looker = Looker(None, 1.0)
+    times = [1000.0 + second for second in range(0, 1441 * 60, 20)]
+    for at in times:
+        looker.keep(Moment(at, Status(int(at), 3 * int(at)), {"resident_bytes": 5, "odd": 7}, 0.0, 0.0))
+    check("a day: moments", (len(looker.day), looker.day[0].at, looker.day[-1].at), (1440, 1060.0, 1000.0 + 1440 * 60))
+    check("a day: what is kept of one", looker.day[0].stats, {"resident_bytes": 5})
+    looker.keep(Moment(times[-1] + 600, Status(0, 0), {}, 0.0, 0.0))
+    series = series_of(looker.day[-4:], 0.0, 210.0)
+    rates = [None, 1.0, 1.0, None, None]
+    check("a day: rates", (series["batches"], series["total"]), (rates, [rate and 3 * rate for rate in rates]))
+
+
 def a_narrow_screen_is_told():
     """At 60 columns lines are wrapped, and what is cut shows it; names are shown; `q` quits."""
     names = os.path.join(server.FOLDER, "watched.names")
@@ -309,6 +344,8 @@ def all_are_tried():
     a_browser_is_answered()
     a_server_is_watched()
     a_narrow_screen_is_told()
+    several_servers_are_told()
+    a_day_is_kept()
     rates_are_drawn()
     page.is_tried(Metrics)
 

@@ -15,17 +15,17 @@ the order in which they come, by a table: a file with one name a line that only 
 before a batch with their numbers is sent. So a name keeps its number for ever.
 """
 import argparse
+import collections
 import contextlib
 import csv
 import fcntl
 import hashlib
-import itertools
 import json
 import os
 import re
 import sys
 from time import monotonic
-from typing import Any, Callable, Dict, Iterator, List, NamedTuple, Optional, Sequence
+from typing import Any, Callable, Deque, Dict, Iterator, List, NamedTuple, Optional, Sequence
 
 from hhm_client import MAX_CELLS, BookWentBack, Client, Ended, Refused
 from hhm_events import FORMATS, OF_ADDRESSES, Batch, Events, Limit, Source, Tally, format_of
@@ -246,6 +246,15 @@ class Options(NamedTuple):
     progress: bool
 
 
+def taken(batches: Iterator[Batch], queues: List[Deque[Batch]], own: Deque[Batch]) -> Iterator[Batch]:
+    """The batches by a queue of several, each of which gets all. (itertools.tee keeps 57 of them in memory)"""
+    while own or (batch := next(batches, None)) is not None:
+        if not own:
+            for queue in queues:
+                queue.append(batch)
+        yield own.popleft()
+
+
 class Load:
     """One load: it reads the files, and puts their events."""
 
@@ -345,10 +354,10 @@ class Load:
     def put_all(self) -> None:
         """Reads the files once, and puts each value to its server."""
         had = [hhm.status().batches for hhm in self.servers]
-        batches = itertools.tee(self.batches(), len(self.servers))
+        batches, queues = self.batches(), [collections.deque() for _ in self.servers]
         with contextlib.ExitStack() as puts:
-            ways = [puts.enter_context(contextlib.closing(self.puts(value, batches[value])))
-                    for value in range(len(self.servers))]
+            ways = [puts.enter_context(contextlib.closing(self.puts(value, taken(batches, queues, queue))))
+                    for value, queue in enumerate(queues)]
             for indexes in zip(*ways):
                 self.count(indexes, had)
 
@@ -448,7 +457,7 @@ def add_words(load: argparse.ArgumentParser) -> None:
     value = ("what is counted: packets, bytes or flows by the names that flow tools give them, or a column's own name; "
              "several times with a server each, as packets=unix:a.sock")
     load.add_argument("--value", type=judged(Value.of), action="append", metavar="NAME[=SERVER]", help=value)
-    load.add_argument("--map", choices=MAPS, help="what rows and columns are (ip in csv and tsv, else int)")
+    load.add_argument("--map", choices=MAPS, help="what rows and columns are (int in pairs and mtx, else ip)")
     load.add_argument("--names", metavar="FILE", help="the table that gives names, and IPv6 addresses, their numbers")
     load.add_argument("--batch", type=judged(batch_size), default=10_000, metavar="N", help="events of a batch (10000)")
     skipped = load.add_mutually_exclusive_group()

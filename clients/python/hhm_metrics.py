@@ -6,12 +6,13 @@ This is the word `metrics` of `hhm_client.py`:
 
 `/metrics` has everything that the server tells of itself in the text format of Prometheus, each name with `hhm_` in
 front, and `hhm_up`, which is 0 where the server doesn't answer. `/` is a page that draws itself of `/stats.json` once a
-second: rates over the last ten minutes, latencies as this program measures them, layers, the rows that lead and how many
-entries rows have. It loads nothing from anywhere else. Whoever can connect may look: keep to an address of this machine,
-or put something in front that knows who comes. The server needs a worker for this program.
+second: rates over ten minutes or, of `/day.json`, 24 hours, latencies as this program measures them, layers, the rows
+that lead and how many entries rows have. It loads nothing from anywhere else. Whoever can connect may look: keep to an
+address of this machine, or put something in front that knows who comes. The server needs a worker for this program.
 """
 import argparse
 import json
+import math
 import sys
 import threading
 import time
@@ -22,6 +23,7 @@ from urllib.parse import parse_qs, urlsplit
 from hhm_client import CODES, Refused, TopRow
 from hhm_figures import LABELLED, Degrees, Moment, Watched, asking, labels_of
 from hhm_page import PAGE
+from hhm_values import Value
 from hhm_words import Words, add_options
 from hhm_watch import (
     BACK, CELLS, DURABLE, FAILED, GROUP, MEMORY, OPEN, PAGES, PROCESSOR, RECEIVED, REPEATS, ROOM, SAVED, SAVES, SENT,
@@ -33,6 +35,8 @@ from hhm_watch import (
 GAP, VIEWED = 3.5, 30.0
 # By how many seconds the start of a server may vary, as it is worked out of its age.
 JITTER = 2.0
+# The history of a day: the seconds between two moments, and how many are kept.
+MINUTE, MINUTES = 60.0, 1440
 # Numbers from here on are no longer whole in a browser.
 EXACT = 1 << 53
 # What the page may load: nothing but its own script, styles and numbers.
@@ -83,6 +87,8 @@ class Looker:
         self.viewed = 0.0
         # When the server began; the same number as long as its age says so but for some jitter.
         self.start: Optional[float] = None
+        # A moment of each minute of a day. (a list that is replaced, and never changed: another thread may read it)
+        self.day: List[Moment] = []
 
     def run(self) -> None:
         while True:
@@ -90,12 +96,19 @@ class Looker:
             self.look()
             time.sleep(max(0.05, self.every - (time.monotonic() - begin)))
 
+    def keep(self, moment: Moment) -> None:
+        """Keeps a moment of each minute, with what the page draws."""
+        if not self.day or moment.at - self.day[-1].at >= MINUTE:
+            stats = {name: moment.stats[name] for name in MEMORY if name in moment.stats}
+            self.day = [*self.day[1 - MINUTES:], moment._replace(stats=stats)]
+
     def look(self) -> None:
         try:
             moment = self.seen.look()
             age = moment.number(*UPTIME)
             if age is not None and (self.start is None or abs(moment.at - age - self.start) > JITTER):
                 self.start = moment.at - age
+            self.keep(moment)
             if time.monotonic() - self.viewed < VIEWED:
                 self.top = self.seen.top()
                 degrees = self.seen.degrees()
@@ -166,8 +179,32 @@ def page_stats(looker: Looker, since: float, words: Words) -> Dict[str, Any]:
     return told
 
 
-def metrics_of(looker: Looker) -> str:
-    """All that is told, in the text format of Prometheus. Of a server that is gone only that it is."""
+def metrics_of(lookers: List[Looker]) -> str:
+    """All that servers report, in the text format of Prometheus. Of several each sample has the label `server`."""
+    families: Dict[str, List[str]] = {}
+    for looker in lookers:
+        for name, samples in families_of(looker).items():
+            place = looker.seen.place if len(lookers) > 1 else ""
+            families.setdefault(name, []).extend(labelled(sample, place) for sample in samples)
+    lines = []
+    for name, samples in families.items():
+        kind = "counter" if name.endswith("_total") else "gauge"
+        lines += [f"# HELP {name} {help_of(name)}", f"# TYPE {name} {kind}", *samples]
+    return "\n".join(lines) + "\n"
+
+
+def labelled(sample: str, place: str) -> str:
+    """A sample with the label of its server, where there is a place."""
+    name, _, value = sample.rpartition(" ")
+    if not place:
+        return sample
+    escaped = place.replace("\\", "\\\\").replace('"', '\\"')
+    front = f"{name[:-1]}," if name.endswith("}") else f"{name}{{"
+    return f'{front}server="{escaped}"}} {value}'
+
+
+def families_of(looker: Looker) -> Dict[str, List[str]]:
+    """The samples of a server by the names of their metrics. Of a server that is gone only that it is."""
     moments = looker.seen.moments
     families: Dict[str, List[str]] = {"hhm_up": ["hhm_up " + ("1" if looker.fault is None else "0")]}
     if looker.fault is None and moments:
@@ -182,11 +219,7 @@ def metrics_of(looker: Looker) -> str:
                 families.setdefault("hhm_" + found.group("name"), []).append(f"hhm_{named(name)} {value}")
         if looker.start is not None:
             families["process_start_time_seconds"] = [f"process_start_time_seconds {looker.start:.2f}"]
-    lines = []
-    for name, samples in families.items():
-        kind = "counter" if name.endswith("_total") else "gauge"
-        lines += [f"# HELP {name} {help_of(name)}", f"# TYPE {name} {kind}", *samples]
-    return "\n".join(lines) + "\n"
+    return families
 
 
 def named(name: str) -> str:
@@ -206,7 +239,7 @@ def help_of(name: str) -> str:
 class Handler(BaseHTTPRequestHandler):
     """Answers a browser, or Prometheus."""
 
-    looker: Looker
+    lookers: List[Looker]
     words = Words()
     protocol_version = "HTTP/1.1"
     server_version, sys_version = "hhmc", ""
@@ -219,14 +252,23 @@ class Handler(BaseHTTPRequestHandler):
         elif asked.path == "/":
             self.answer(200, "text/html; charset=utf-8", PAGE)
         elif asked.path == "/stats.json":
-            told = page_stats(self.looker, since_of(asked.query), self.words)
+            told = page_stats(self.looker(asked.query), number_of("since", asked.query), self.words)
+            told["places"] = [looker.seen.place for looker in self.lookers]
+            self.answer(200, "application/json", json.dumps(told, separators=(",", ":")))
+        elif asked.path == "/day.json":
+            told = series_of(self.looker(asked.query).day, 0.0, GAP * MINUTE)
             self.answer(200, "application/json", json.dumps(told, separators=(",", ":")))
         elif asked.path == "/metrics":
-            self.answer(200, "text/plain; version=0.0.4; charset=utf-8", metrics_of(self.looker))
+            self.answer(200, "text/plain; version=0.0.4; charset=utf-8", metrics_of(self.lookers))
         else:
-            self.answer(404, "text/plain; charset=utf-8", "There are /, /stats.json and /metrics.\n")
+            self.answer(404, "text/plain; charset=utf-8", "There are /, /stats.json, /day.json and /metrics.\n")
 
     do_HEAD = do_GET
+
+    def looker(self, query: str) -> Looker:
+        """The looker of the server that a query asks for, the first where there is none of that number."""
+        place = int(number_of("server", query))
+        return self.lookers[place if 0 <= place < len(self.lookers) else 0]
 
     def is_asked_here(self) -> bool:
         """Whether who asks named this machine, where it listens to this machine alone: a page from elsewhere, whose
@@ -251,12 +293,13 @@ class Handler(BaseHTTPRequestHandler):
         """(a line for each second would say nothing)"""
 
 
-def since_of(query: str) -> float:
-    """The time behind which a page wants to be told; 0 where it is none."""
+def number_of(name: str, query: str) -> float:
+    """A number of a query, as the time since which a page asks; 0 where it is none."""
     try:
-        return float(parse_qs(query).get("since", ["0"])[0])
+        found = float(parse_qs(query).get(name, ["0"])[0])
     except ValueError:
         return 0.0
+    return found if math.isfinite(found) else 0.0
 
 
 class Web(ThreadingHTTPServer):
@@ -270,15 +313,17 @@ class Web(ThreadingHTTPServer):
 
 def run(given: argparse.Namespace) -> Iterable[bytes]:
     """Listens, says where, and serves until it is ended."""
-    looker = Looker(Watched(asking(given.tcp, given.unix, given.timeout)), given.every)
-    handler = type("Own", (Handler,), {"looker": looker, "words": Words.of(given)})
+    places = [(given.tcp, given.unix), *((other.tcp, other.unix) for other in given.also)]
+    lookers = [Looker(Watched(asking(tcp, unix, given.timeout)), given.every) for tcp, unix in places]
+    handler = type("Own", (Handler,), {"lookers": lookers, "words": Words.of(given)})
     host, port = given.listen
     try:
         web = Web((host, port), handler)
     except OSError as fault:
         fault.filename = f"{host}:{port}"
         raise
-    threading.Thread(target=looker.run, daemon=True).start()
+    for looker in lookers:
+        threading.Thread(target=looker.run, daemon=True).start()
     with web:
         yield b"listening http://%b:%d/\n" % (host.encode(), web.server_address[1])
         web.serve_forever()
@@ -292,9 +337,19 @@ def listened(word: str) -> Tuple[str, int]:
     return host, int(port)
 
 
+def other_server(word: str) -> Value:
+    """Another server of the command line."""
+    try:
+        return Value.of(f"={word}")
+    except ValueError:
+        raise argparse.ArgumentTypeError(f"{word!r} isn't unix:PATH or tcp:HOST:PORT") from None
+
+
 def add_words(metrics: argparse.ArgumentParser) -> None:
     """Adds the words of `metrics` to those of the command line."""
     listen = "where a browser, or Prometheus, asks (127.0.0.1:9100)"
     metrics.add_argument("--listen", type=listened, default=("127.0.0.1", 9100), metavar="HOST:PORT", help=listen)
     metrics.add_argument("--every", type=seconds, default=1.0, metavar="SECONDS", help="between two looks (1)")
+    also = "another server beside the first, unix:PATH or tcp:HOST:PORT; may be given several times"
+    metrics.add_argument("--also", type=other_server, action="append", default=[], metavar="SERVER", help=also)
     add_options(metrics)

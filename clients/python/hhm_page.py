@@ -62,10 +62,12 @@ label { font-size: .9rem; }
 <header>
 <h1>hhm <span id="place"></span></h1>
 <p class="quiet" id="version"></p>
+<p id="choice" hidden><label>Server <select id="servers"></select></label></p>
 <p id="state" role="status">Not asked yet.</p>
 </header>
 <main id="all">
 <dl class="tiles" id="tiles"></dl>
+<p><label><input type="checkbox" id="day"> The last 24 hours, by minutes</label></p>
 <div class="parts">
 <section id="batches"></section>
 <section id="total"></section>
@@ -79,8 +81,11 @@ label { font-size: .9rem; }
 </main>
 <script>
 "use strict";
-const KEPT = 600, SVG = "http://www.w3.org/2000/svg";
-const kept = {at: []};
+const SVG = "http://www.w3.org/2000/svg";
+// What is drawn over time: the last ten minutes, or the history of a day, whose parts the tables have.
+const RECENT = {most: 600, part: 60, words: "ten minutes", heading: "By minutes, the last one first"};
+const DAY = {most: 86400, part: 3600, words: "24 hours", heading: "By hours, the last one first"};
+let recent = {at: []}, day = {at: []}, kept = recent, shown = RECENT, server = 0;
 const drawn = {};
 let last = null, isIp = null;
 
@@ -172,7 +177,7 @@ function fill(id, title, ...children) {
   if (open && at(id).querySelector("summary")) at(id).querySelector("summary").focus();
 }
 
-// Lines over the last ten minutes.
+// Lines over the last ten minutes, or over a day.
 
 function highest(numbers) {
   const most = Math.max(...numbers.filter((it) => it !== null), 0);
@@ -188,9 +193,9 @@ function summary(numbers, told) {
 }
 function minutes(series, told) {
   const lines = [], end = kept.at[kept.at.length - 1];
-  for (let minute = 0; minute < 10; minute += 1) {
+  for (let part = 0; part < shown.most / shown.part; part += 1) {
     const those = kept.at.map((time, index) => index)
-      .filter((index) => Math.floor((end - kept.at[index]) / 60) === minute);
+      .filter((index) => Math.floor((end - kept.at[index]) / shown.part) === part);
     if (!those.length) continue;
     const line = [cell(clock(kept.at[those[0]]) + " on")];
     for (const it of series) {
@@ -201,13 +206,13 @@ function minutes(series, told) {
     lines.push(line);
   }
   const heads = series.flatMap((it) => [it.name + ", mean", "highest"]);
-  return table("By minutes, the last one first", ["From", ...heads], lines);
+  return table(shown.heading, ["From", ...heads], lines);
 }
 // Where times and values lie in a picture, up to now and to the highest value.
 function planeOf(id, series) {
   const width = Math.max(260, at(id).clientWidth - 26), height = 190, left = 62, right = 10, top = 8, bottom = 22;
   const end = Math.max(last.now, kept.at[kept.at.length - 1]), most = highest(series.flatMap((it) => it.values));
-  const span = Math.min(KEPT, Math.max(60, end - kept.at[0]));
+  const span = Math.min(shown.most, Math.max(60, end - kept.at[0]));
   const x = (time) => left + (width - left - right) * (1 - (end - time) / span);
   const y = (value) => height - bottom - (height - top - bottom) * value / most;
   return {width, height, left, right: width - right, top, bottom: height - bottom, end, span, most, x, y};
@@ -218,9 +223,11 @@ function rule(picture, plane, told) {
     picture.append(shape("line", {class: part ? "grid" : "axis", x1: plane.left, x2: plane.right, y1: level, y2: level}),
       shape("text", {x: plane.left - 6, y: level + 4, "text-anchor": "end"}, told === big ? tick(value) : told(value)));
   }
-  const step = [15, 30, 60, 120, 300].find((it) => plane.span / it <= (plane.width < 420 ? 3 : 5)) || 300;
+  const steps = [15, 30, 60, 120, 300, 900, 1800, 3600, 7200, 10800, 21600, 28800];
+  const step = steps.find((it) => plane.span / it <= (plane.width < 420 ? 3 : 5)) || 28800;
   for (let back = 0; back <= plane.span; back += step) {
-    const words = back === 0 ? "now" : step < 60 ? "\u2212" + back + " s" : "\u2212" + back / 60 + " min";
+    const [unit, name] = step < 60 ? [1, " s"] : step < 3600 ? [60, " min"] : [3600, " h"];
+    const words = back === 0 ? "now" : "\u2212" + back / unit + name;
     picture.append(shape("text", {x: plane.x(plane.end - back), y: plane.height - 5,
       "text-anchor": back === 0 ? "end" : back > plane.span - 1 ? "start" : "middle"}, words));
   }
@@ -259,7 +266,7 @@ function legendOf(picture, plane, series, told) {
 function drawLines(id, title, series, told) {
   at(id).hidden = !kept.at.length || !series.some((it) => it.values.some((value) => value !== null));
   if (at(id).hidden) return;
-  const plane = planeOf(id, series), label = title + ", over ten minutes at most: " +
+  const plane = planeOf(id, series), label = title + `, over ${shown.words} at most: ` +
     series.map((it) => (series.length > 1 ? it.name + " " : "") + summary(it.values, told)).join("; ");
   const picture = shape("svg", {viewBox: `0 0 ${plane.width} ${plane.height}`, role: "img", "aria-label": label});
   rule(picture, plane, told);
@@ -390,13 +397,24 @@ function say(words, isBad) {
   at("all").className = isBad ? "stale" : "";
 }
 function keep(series) {
-  for (const key in series) kept[key] = (kept[key] || []).concat(series[key]);
-  const end = kept.at[kept.at.length - 1];
-  const from = kept.at.findIndex((time) => end - time <= KEPT);
-  if (from > 0) for (const key in kept) kept[key] = kept[key].slice(from);
+  for (const key in series) recent[key] = (recent[key] || []).concat(series[key]);
+  const end = recent.at[recent.at.length - 1];
+  const from = recent.at.findIndex((time) => end - time <= RECENT.most);
+  if (from > 0) for (const key in recent) recent[key] = recent[key].slice(from);
+}
+// A history that has just begun has nothing to draw, and the last ten minutes are shown.
+async function chooseSpan() {
+  if (at("day").checked) day = await (await fetch("day.json?server=" + server, {cache: "no-store"})).json();
+  const isDay = at("day").checked && day.at.length > 2;
+  [kept, shown] = isDay ? [day, DAY] : [recent, RECENT];
+  for (const id of ["batches", "total", "latency", "memory"]) drawn[id] = -10000;
+  redraw();
 }
 function draw(now) {
   at("place").textContent = now.place;
+  at("choice").hidden = now.places.length < 2;
+  if (at("servers").options.length !== now.places.length)
+    at("servers").replaceChildren(...now.places.map((place) => el("option", {}, place)));
   document.title = (now.fault ? "(no answer) " : "") + "hhm " + now.place;
   if (isIp === null) isIp = now.is_ip;
   keep(now.series);
@@ -429,10 +447,11 @@ function redraw() {
 }
 async function ask() {
   try {
-    const since = kept.at.length ? kept.at[kept.at.length - 1] : 0;
-    const answer = await fetch("stats.json?since=" + since, {cache: "no-store"});
+    const since = recent.at.length ? recent.at[recent.at.length - 1] : 0;
+    const asked = server, answer = await fetch("stats.json?server=" + server + "&since=" + since, {cache: "no-store"});
     if (!answer.ok) throw new Error("status " + answer.status);
-    draw(await answer.json());
+    const now = await answer.json();
+    if (asked === server) draw(now);
   } catch (fault) {
     say("The program behind this page, hhmc metrics, doesn't answer: " + fault.message, true);
     document.title = "(no answer) hhm";
@@ -440,6 +459,14 @@ async function ask() {
   setTimeout(ask, document.hidden ? 5000 : 1000);
 }
 window.addEventListener("resize", redraw);
+at("day").addEventListener("change", chooseSpan);
+at("servers").addEventListener("change", () => {
+  server = at("servers").selectedIndex;
+  last = null;
+  recent = {at: []};
+  chooseSpan();
+});
+setInterval(() => { if (at("day").checked) chooseSpan(); }, 60000);
 ask();
 </script>
 </body>

@@ -12,7 +12,9 @@ IPv4 have their numbers, and the table has those of IPv6, from 2^32 on. Without 
 0 on; then a network is the names in it that are addresses. A name of the table comes before other meanings of a word.
 """
 import argparse
+import contextlib
 import ipaddress
+import os
 import socket
 from typing import Any, Dict, Iterable, List, NamedTuple, Optional, Tuple, Union
 
@@ -84,9 +86,24 @@ class Words:
 
     def __init__(self, is_ip: bool = False, table: Optional[str] = None):
         self.is_ip, self.table = is_ip, table
-        self.first = IPV4 if is_ip else 0
-        self.names: List[str] = lines_of(table) if table is not None else []
-        self.numbers: Dict[str, int] = {name: self.first + place for place, name in enumerate(self.names)}
+        self.first, self.size = IPV4 if is_ip else 0, 0
+        self.names: List[str] = []
+        self.numbers: Dict[str, int] = {}
+        if table is not None:
+            self.read(table)
+
+    def read(self, table: str) -> None:
+        """Reads the table. An Ended where it can't be read."""
+        # (the size of before: what is added while it is read is read again)
+        self.size = os.path.getsize(table) if os.path.exists(table) else 0
+        self.names = lines_of(table)
+        self.numbers = {name: self.first + place for place, name in enumerate(self.names)}
+
+    def read_again(self, table: str) -> None:
+        """Reads a table that has changed since: a load may add names while its rows are watched."""
+        with contextlib.suppress(OSError, Ended):
+            if os.path.getsize(table) != self.size:
+                self.read(table)
 
     @classmethod
     def of(cls, given: argparse.Namespace) -> "Words":
@@ -99,6 +116,8 @@ class Words:
     def name(self, number: int) -> Optional[str]:
         """The name that the table has for a row or a column."""
         place = number - self.first
+        if place >= len(self.names) and self.table is not None:
+            self.read_again(self.table)
         return self.names[place] if 0 <= place < len(self.names) else None
 
     def told(self, number: int) -> str:
